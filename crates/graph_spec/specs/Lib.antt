@@ -1,0 +1,4 @@
+pub mod DataGraph
+pub mod Orders
+pub mod Walk
+pub mod Steps

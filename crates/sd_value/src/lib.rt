@@ -1,0 +1,205 @@
+//! Values, and their total order.
+#![tactic(auto)]
+
+ghost use Rattle.std.specs.Prelude.{◌≡◌, IfOk, List, Contains};
+ghost use Rattle.std.specs.declared.cmp.Ordering.TheVariants.{Less, Equal};
+ghost use Rattle.std.specs.Cmp.{IsTotalOrder};
+ghost use Rattle.std.specs.List.Sorted.{IsStrictlySortedBy};
+ghost use Rattle.sd_value.specs.declared.Value.{Value as AnyValue};
+ghost use Rattle.sd_value.specs.Order.{value_cmp};
+
+use std::alloc::{AllocError, AllocFailed, Global};
+use std::cmp::Ordering;
+use std::marker::Model;
+use std::rc::Rc;
+
+mod ascending;
+mod hashes;
+mod orders;
+
+pub use ascending::{ExactOrd, sort_and_dedup};
+
+/// Memory ran out.
+#[derive(Clone, Copy, Debug, PartialEq, Eq)]
+pub struct NoMemory;
+
+impl From<AllocError> for NoMemory {
+    fn from(_error: AllocError) -> NoMemory {
+        NoMemory
+    }
+}
+
+impl<T: Drop> From<AllocFailed<T>> for NoMemory {
+    fn from(_error: AllocFailed<T>) -> NoMemory {
+        NoMemory
+    }
+}
+
+/// A name or a text: any bytes, UTF-8 or not. Copies share the bytes, so a copy is a count.
+#[derive(Debug, Drop)]
+pub struct Str {
+    bytes: Rc<Vec<u8>>,
+}
+
+impl Model for Str {
+    ghost use Rattle.std.specs.Prelude.{ℕ, List};
+
+    ghost Value = { List ℕ };
+
+    ghost view = { λ s. s.bytes.value.items };
+}
+
+impl Str {
+    /// The text of these bytes.
+    pub fn new(alloc: Global, bytes: &[u8]) -> Result<Str, NoMemory>
+        ensures { IfOk result (λ s. s ≡ bytes.now) }
+    {
+        let bytes = Vec::from_slice(alloc, bytes)?;
+        Str::of(alloc, bytes)
+    }
+
+    /// The text of these bytes, which are not copied.
+    pub fn of(alloc: Global, bytes: Vec<u8>) -> Result<Str, NoMemory>
+        ensures { IfOk result (λ s. s ≡ bytes.items) }
+    {
+        let bytes = Rc::new(alloc, bytes)?;
+        Ok(Str { bytes })
+    }
+
+    /// Its bytes.
+    pub fn bytes(&self) -> &[u8]
+        ensures { result.now ≡ self.now }
+    {
+        self.bytes.as_slice()
+    }
+
+    /// An equal text. The bytes are shared, so only a count rises; a caller can't rest on it.
+    pub fn copy(&self, _alloc: Global) -> Result<Str, NoMemory>
+        ensures { IfOk result (λ s. s ≡ self.now) }
+    {
+        let bytes = self.bytes.clone()?;
+        Ok(Str { bytes })
+    }
+}
+
+/// What data is made of: an atom or the name of a node.
+#[derive(Debug, Drop)]
+pub enum Datum {
+    Int(i64),
+    Text(Str),
+    Url(Str),
+    File(Str),
+    Node(Str),
+}
+
+impl Datum {
+    /// An equal datum.
+    pub fn copy(&self, alloc: Global) -> Result<Datum, NoMemory>
+        ensures { IfOk result (λ d. d ≡ self.now) }
+    {
+        match self {
+            Datum::Int(n) => Ok(Datum::Int(*n)),
+            Datum::Text(s) => Ok(Datum::Text(s.copy(alloc)?)),
+            Datum::Url(s) => Ok(Datum::Url(s.copy(alloc)?)),
+            Datum::File(s) => Ok(Datum::File(s.copy(alloc)?)),
+            Datum::Node(s) => Ok(Datum::Node(s.copy(alloc)?)),
+        }
+    }
+}
+
+/// The arguments of a term, none of which is a page.
+#[derive(Debug, Drop)]
+pub struct Args {
+    items: Vec<Datum>,
+}
+
+impl Model for Args {
+    ghost use Rattle.std.specs.Prelude.{List};
+    ghost use Rattle.sd_value.specs.declared.Datum.{Datum};
+
+    ghost Value = { List Datum };
+
+    ghost view = { λ a. a.items.items };
+}
+
+impl Args {
+    pub fn new(items: Vec<Datum>) -> Args
+        ensures { result ≡ items.items }
+    {
+        Args { items }
+    }
+
+    pub fn items(&self) -> &[Datum]
+        ensures { result.now ≡ self.now }
+    {
+        self.items.as_slice()
+    }
+
+    /// Equal arguments.
+    pub fn copy(&self, alloc: Global) -> Result<Args, NoMemory>
+        ensures { IfOk result (λ a. a ≡ self.now) }
+    {
+        let mut items = Vec::new(alloc);
+        for item in self.items() {
+            items.push(item.copy(alloc)?)?;
+        }
+        Ok(Args { items })
+    }
+}
+
+/// A page: a function's name and its arguments.
+#[derive(Debug, Drop)]
+pub struct Term {
+    pub function: Str,
+    pub args: Args,
+}
+
+impl Term {
+    /// An equal term.
+    pub fn copy(&self, alloc: Global) -> Result<Term, NoMemory>
+        ensures { IfOk result (λ t. t ≡ self.now) }
+    {
+        let function = self.function.copy(alloc)?;
+        let args = self.args.copy(alloc)?;
+        Ok(Term { function, args })
+    }
+}
+
+/// What a graph or a site has at an edge's end.
+#[derive(Debug, Drop)]
+pub enum Value {
+    Data(Datum),
+    Page(Term),
+}
+
+/// The order of values: by kind, as the kinds stand in `Datum` with `Page` last, then by number,
+/// by bytes, or by function name and then arguments.
+pub fn compare(a: &Value, b: &Value) -> Ordering
+    ensures { result ≡ value_cmp a.now b.now }
+{
+    a.cmp(b)
+}
+
+/// An equal value.
+pub fn copy(alloc: Global, v: &Value) -> Result<Value, NoMemory>
+    ensures { IfOk result (λ w. w ≡ v.now) }
+{
+    match v {
+        Value::Data(datum) => Ok(Value::Data(datum.copy(alloc)?)),
+        Value::Page(term) => Ok(Value::Page(term.copy(alloc)?)),
+    }
+}
+
+/// The order is total, and ties only equal values.
+pub fn order_is_total_and_exact()
+    ensures total { IsTotalOrder value_cmp }
+    ensures reflexive { (x : AnyValue) → value_cmp x x ≡ Equal }
+    ensures exact { (x y : AnyValue) → value_cmp x y ≡ Equal → x ≡ y }
+    ensures transitive { (x y z : AnyValue) → value_cmp x y ≡ Less → value_cmp y z ≡ Less → value_cmp x z ≡ Less }
+{}
+
+/// A strictly ascending list is determined by its members.
+pub fn members_determine_the_list()
+    ensures { (xs ys : List AnyValue) → IsStrictlySortedBy value_cmp xs → IsStrictlySortedBy value_cmp ys
+        → ((z : AnyValue) → Contains xs z → Contains ys z) → ((z : AnyValue) → Contains ys z → Contains xs z) → xs ≡ ys }
+{}

@@ -1,0 +1,183 @@
+//! Templates: what a file of templates says, after it was read.
+#![tactic(auto)]
+
+ghost use Rattle.std.specs.Prelude.{All, ◌≡◌, ◌<◌, length};
+
+use sd_value::{Str, Value};
+use std::marker::Model;
+
+/// The labels of a path, in order.
+#[derive(Drop)]
+pub struct Word {
+    pub labels: Vec<Str>,
+}
+
+impl Model for Word {
+    ghost use Rattle.std.specs.Prelude.{ℕ, List};
+
+    ghost Value = { List (List ℕ) };
+
+    ghost view = { λ w. w.labels.items };
+}
+
+impl Word {
+    pub fn labels(&self) -> &[Str]
+        ensures { result.now ≡ self.now }
+    {
+        self.labels.as_slice()
+    }
+}
+
+/// Where an expression's words begin: at the value that the template presents, at a loop's value, the
+/// loops of a template being numbered from 0 in the order of the text, or at each value of a collection.
+#[derive(Drop)]
+pub enum WordRoot {
+    Here,
+    Loop(u32),
+    Collection(Str),
+}
+
+#[derive(Drop)]
+pub struct Expr {
+    pub root: WordRoot,
+    pub word: Word,
+}
+
+#[derive(Drop)]
+pub struct Order {
+    pub key: Option<Word>,
+    pub descend: bool,
+    pub delimiter: Option<Str>,
+}
+
+#[derive(Drop)]
+pub enum Mode {
+    Plain,
+    Embed,
+    Link(Option<Word>),
+}
+
+#[derive(Drop)]
+pub struct Format {
+    pub values: Expr,
+    pub mode: Mode,
+    pub order: Order,
+}
+
+#[derive(Drop)]
+pub enum Cmp {
+    Eq,
+    Ne,
+    Lt,
+    Le,
+    Gt,
+    Ge,
+}
+
+#[derive(Drop)]
+pub struct Against {
+    pub compare: Cmp,
+    pub constant: Value,
+}
+
+/// A stretch of text, a value shown, a choice of two bodies, or a body for each value.
+#[cycle(part)]
+#[derive(Drop)]
+pub enum Part {
+    Text(Str),
+    Format(Format),
+    Choice(Choice),
+    Repeat(Repeat),
+}
+
+#[cycle(part)]
+#[derive(Drop)]
+pub struct Choice {
+    pub negated: bool,
+    pub values: Expr,
+    pub against: Option<Against>,
+    pub taken: Vec<Part>,
+    pub other: Vec<Part>,
+}
+
+#[cycle(part)]
+#[derive(Drop)]
+pub struct Repeat {
+    pub number: u32,
+    pub values: Expr,
+    pub order: Order,
+    pub body: Vec<Part>,
+}
+
+#[derive(Drop)]
+pub struct Template {
+    pub parts: Vec<Part>,
+}
+
+/// A name, and the number of its template.
+#[derive(Drop)]
+pub struct NamedTemplate {
+    pub name: Str,
+    pub template: u32,
+}
+
+/// A file of templates, its function templates and its collection templates each in the order of the file.
+#[derive(Drop)]
+pub struct Templates {
+    functions: Vec<NamedTemplate>,
+    collections: Vec<NamedTemplate>,
+    bodies: Vec<Template>,
+    pub ghost functions_in_range: { All (λ n. n.template < length bodies.items) functions.items },
+    pub ghost collections_in_range: { All (λ n. n.template < length bodies.items) collections.items },
+}
+
+impl Templates {
+    ghost use Rattle.std.specs.Prelude.{All, ◌<◌, ◌≡◌, length, map, get_or};
+    ghost use Rattle.tmpl.specs.Body.{done};
+    ghost use Rattle.tmpl.specs.Reading.{file_of, named_of, template_body};
+
+    /// The file with these templates, each named by the number of its body.
+    pub fn of(
+        functions: Vec<NamedTemplate>,
+        collections: Vec<NamedTemplate>,
+        bodies: Vec<Template>,
+    ) -> Templates
+        requires functions { All (λ n. n.template < length bodies.items) functions.items }
+        requires collections { All (λ n. n.template < length bodies.items) collections.items }
+        ensures functions { (file_of result).functions ≡ map named_of functions.items }
+        ensures collections { (file_of result).collections ≡ map named_of collections.items }
+        ensures bodies { (file_of result).bodies ≡ map template_body bodies.items }
+    {
+        Templates {
+            functions,
+            collections,
+            bodies,
+        }
+    }
+
+    /// How many templates there are; they are numbered from 0.
+    pub fn count(&self) -> usize
+        ensures { result ≡ length (file_of self.now).bodies }
+    {
+        self.bodies.len()
+    }
+
+    pub fn functions(&self) -> &[NamedTemplate]
+        ensures { map named_of result.now ≡ (file_of self.now).functions }
+    {
+        self.functions.as_slice()
+    }
+
+    pub fn collections(&self) -> &[NamedTemplate]
+        ensures { map named_of result.now ≡ (file_of self.now).collections }
+    {
+        self.collections.as_slice()
+    }
+
+    pub fn template(&self, number: u32) -> &Template
+        requires { number < length (file_of self.now).bodies }
+        ensures { template_body result.now ≡ get_or (file_of self.now).bodies number done }
+    {
+        &self.bodies[number as usize]
+    }
+}
