@@ -2,7 +2,7 @@
 use Rattle.std.specs.Prelude.{◌≡◌, ◌⊎◌, Option, ℕ, zero, suc, ◌≤◌, ◌<◌, List, [], ◌∷◌, ◌++◌, length, Contains}
 use Rattle.sd_value.specs.declared.Term.{Term}
 use Rattle.sd_value.specs.declared.Value.{Value}
-use Rattle.sd_value.specs.declared.Value.TheVariants.{Data, Page}
+use Rattle.sd_value.specs.declared.Value.TheVariants.{Page}
 use Rattle.tmpl.specs.Body.{TemplateFile}
 use Rattle.page_spec.specs.declared.Outcome.{Outcome}
 use Rattle.page_spec.specs.declared.Outcome.TheVariants.{Page as Whole, Missing, Cyclic, TooLong}

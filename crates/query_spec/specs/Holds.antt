@@ -1,13 +1,13 @@
 -- When a condition holds in a data graph, under an assignment of values to variables.
 use Rattle.std.specs.Prelude.{◌≡◌, ◌⊎◌, ℕ, ◌^◌, ◌-◌, ℤ, pos, negsuc, ◌≤ℤ◌, Contains}
 use Rattle.std.specs.Fmt.{signed_decimal}
-use Rattle.std.specs.Prelude.{Option, Some, None}
+use Rattle.std.specs.Prelude.{Option, Some}
 use Rattle.std.specs.declared.cmp.Ordering.{Ordering}
 use Rattle.std.specs.declared.cmp.Ordering.TheVariants.{Less, Equal, Greater}
 use Rattle.std.specs.Ordering.{int_cmp}
 use Rattle.sd_value.specs.declared.Datum.TheVariants.{Int, Text, Url, File, Node}
 use Rattle.sd_value.specs.declared.Value.{Value}
-use Rattle.sd_value.specs.declared.Value.TheVariants.{Data, Page}
+use Rattle.sd_value.specs.declared.Value.TheVariants.{Data}
 use Rattle.sd_value.specs.Order.{bytes_cmp}
 use Rattle.path_spec.specs.Regex.{Word}
 use Rattle.path_spec.specs.Language.{InLanguage}

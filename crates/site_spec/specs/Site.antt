@@ -6,7 +6,7 @@ use Rattle.sd_value.specs.declared.Value.TheVariants.{Data, Page}
 use Rattle.sd_value.specs.declared.Term.{Term}
 use Rattle.graph_spec.specs.DataGraph.{DataGraph, Name, node, text, HasEdge, HasMember}
 use Rattle.query_spec.specs.Query.{SkolemTerm, Target, plain, made, LinkLabel, quoted, label_variable, Link, Collect, Body, Chain, Query, blocks_in_scope}
-use Rattle.query_spec.specs.Mentions.{variables_of, chain_of}
+use Rattle.query_spec.specs.Mentions.{chain_of}
 use Rattle.query_spec.specs.Holds.{Assignment, operand_value}
 use Rattle.query_spec.specs.Rows.{value_in, IsRow}
 
