@@ -1,0 +1,18 @@
+use Rattle.std.proofs.Common.{◌≡◌, ◌≤◌, ◌+◌, Ok, arith, ap, length, refl, sym, ◌∙◌, false}
+use Rattle.std.specs.Result.{is_err}
+use Rattle.sd_graph.specs.Statement.{Building, a_member, with_name, with_member, Fits, IsWithin, building_with}
+use Rattle.sd_graph.specs.Built.{IsBuilt-from_added, same_building, at_ok, fits_at_ok}
+use Rattle.sd_graph.proofs.builder.GraphBuilder.add_member.Goals as goal
+
+pub invariant_of-self-else-is_err : goal.invariant_of-self-else-is_err
+invariant_of-self-else-is_err c =
+    let before : Building = record { limits = c.self.inside.limits; graph = record { nodes = c.self.inside.nodes.keys; edges = c.self.inside.edges.keys; members = c.self.inside.members.keys } } in
+    let ok : is_err c.put-result.result ≡ false = sym c.is_err.ensures.value ∙ c.if-is_err.false in
+    let names : c.declare.new.names.keys ≡ with_name c.args.node.now c.self.inside.nodes.keys = c.in_ok-added.ensures.names in
+    let put : c.put-result.new.set.keys ≡ with_member c.in_ok-member.member c.self.inside.members.keys = at_ok c.put-result.result _ _ _ ok c.put-result.ensures.keys in
+    let keys : c.put-result.new.set.keys ≡ with_member (record { collection = c.args.collection.now; node = c.args.node.now }) c.self.inside.members.keys = put ∙ ap (λ x. with_member x c.self.inside.members.keys) c.in_ok-member.ensures in
+    let fits : Fits c.self.inside.limits c.len.result (length (with_member c.in_ok-member.member c.self.inside.members.keys) + c.len-edges.result) c.put-result.result = c.put-result.ensures.fits in
+    let room : (c.len.result ≤ c.self.inside.limits.nodes) × (length (with_member c.in_ok-member.member c.self.inside.members.keys) + c.len-edges.result ≤ c.self.inside.limits.edges) = fits_at_ok _ _ _ c.put-result.result ok fits in
+    let within : IsWithin (building_with (a_member c.args.collection.now c.args.node.now) before) =
+    (omega (arith, ap length names, c.len.ensures.len, room.0), omega (arith, ap length put, ap length keys, c.len-edges.ensures.len, room.1)) in
+    IsBuilt-from_added (a_member c.args.collection.now c.args.node.now) before _ (Ok tt) tt (same_building _ _ refl names refl keys, within) c.self.invariant

@@ -1,0 +1,6 @@
+pub mod Statement
+pub mod Inserted
+pub mod Undone
+pub mod Built
+pub mod Stating
+pub mod StatingLaws
