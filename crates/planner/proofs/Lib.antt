@@ -1,0 +1,5 @@
+pub mod Best
+pub mod Done
+pub mod Unique
+pub mod Ranges
+pub mod Counting

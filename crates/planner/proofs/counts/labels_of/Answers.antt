@@ -1,0 +1,12 @@
+use Rattle.std.proofs.Common.{refl}
+use Rattle.std.proofs.lemmas.Option.{slice_get_read}
+use Rattle.planner.specs.Shape.{priced_label, LabelCount}
+use Rattle.planner.proofs.Counting.{counts-none, counts-step}
+use Rattle.planner.proofs.counts.labels_of.Goals as goal
+
+pub loop-condition-init : goal.loop-condition-init
+loop-condition-init g c = rw c.new-counted.ensures.items (counts-none priced_label (LabelCount (g.S.Store.graph c.args.store.now)))
+
+pub loop-condition-preserved : goal.loop-condition-preserved
+loop-condition-preserved g c =
+    counts-step priced_label (LabelCount (g.S.Store.graph c.args.store.now)) _ _ _ _ _ (slice_get_read _ _ _ _ refl c.loop-condition-test.true c.condition-item.is) c.loop-condition.invariant c.in_ok-add_label.ensures

@@ -1,0 +1,105 @@
+//! What it costs to use a condition next.
+ghost use Rattle.std.specs.Prelude.{◌≡◌, ◌<◌, length, Option, IsTrue, ◌↔◌};
+ghost use Rattle.planner.specs.Cost.{side_bound, all_bound, end_bound, edges_cost_of, walk_cost_of, free_cost_of, cost_of, SideInRange, ShapeInRange};
+
+use store::Sizes;
+
+/// What the cost of a condition depends on, apart from its variables.
+#[derive(Clone, Copy, Debug)]
+pub enum Kind {
+    /// It can only be used when all its variables are bound.
+    Test,
+    /// An equation, with its cost where one side is bound.
+    Equal(u128),
+    /// A list of values for one variable, with its length.
+    Listed(u128),
+    /// Edges of one label or of all labels, with their number.
+    Edges(u64),
+    /// Any other path.
+    Walk,
+}
+
+/// A condition's kind and its variables, by number. What is no variable counts as bound.
+#[derive(Clone, Copy, Debug)]
+pub struct Shape {
+    pub kind: Kind,
+    pub from: Option<u32>,
+    pub arc: Option<u32>,
+    pub to: Option<u32>,
+}
+
+pub(crate) fn is_bound(side: Option<u32>, bound: &[bool]) -> bool
+    requires { SideInRange (length bound.now) side }
+    ensures { result ≡ side_bound bound.now side }
+{
+    match side {
+        Some(variable) => bound[variable as usize],
+        None => true,
+    }
+}
+
+fn are_bound(shape: &Shape, bound: &[bool]) -> bool
+    requires { ShapeInRange (length bound.now) shape.now }
+    ensures { result ≡ all_bound bound.now shape.now }
+{
+    let from = is_bound(shape.from, bound);
+    let arc = is_bound(shape.arc, bound);
+    let to = is_bound(shape.to, bound);
+    from && arc && to
+}
+
+fn an_end_bound(shape: &Shape, bound: &[bool]) -> bool
+    requires { ShapeInRange (length bound.now) shape.now }
+    ensures { result ≡ end_bound bound.now shape.now }
+{
+    let from = is_bound(shape.from, bound);
+    let to = is_bound(shape.to, bound);
+    from || to
+}
+
+fn edges_cost(sizes: Sizes, count: u64, end: bool) -> u128
+    ensures { result ≡ edges_cost_of sizes.nodes count end }
+{
+    if end {
+        (count / sizes.nodes.max(1)) as u128 + 1
+    } else {
+        count as u128
+    }
+}
+
+// The product never overflows: it is at most 2^64 times 2^64 - 1.
+fn walk_cost(sizes: Sizes, end: bool) -> u128
+    ensures { result ≡ walk_cost_of sizes.edges sizes.values end }
+{
+    let steps = sizes.edges as u128 + 1;
+    if end {
+        steps
+    } else {
+        steps * sizes.values as u128
+    }
+}
+
+fn free_cost(shape: &Shape, sizes: Sizes, end: bool) -> Option<u128>
+    ensures { result ≡ free_cost_of sizes shape.now.kind end }
+{
+    match shape.kind {
+        Kind::Test => None,
+        Kind::Equal(cost) => if end { Some(cost) } else { None },
+        Kind::Listed(cost) => Some(cost),
+        Kind::Edges(count) => Some(edges_cost(sizes, count, end)),
+        Kind::Walk => Some(walk_cost(sizes, end)),
+    }
+}
+
+/// The cost of using the condition next, or none where it can't be used yet.
+pub fn cost(shape: &Shape, sizes: Sizes, bound: &[bool]) -> Option<u128>
+    requires { ShapeInRange (length bound.now) shape.now }
+    ensures { result ≡ cost_of sizes bound.now shape.now }
+{
+    if are_bound(shape, bound) {
+        Some(0)
+    } else {
+        let end = an_end_bound(shape, bound);
+        free_cost(shape, sizes, end)
+    }
+}

@@ -1,0 +1,248 @@
+//! Plans.
+ghost use Rattle.std.specs.Prelude.{◌≡◌, ◌<◌, ◌^◌, ℕ, length, IfOk, MatchOption, Option, None, Some, slice_get, slice_set, true, false, if◌then◌else◌};
+ghost use Rattle.planner.specs.Cost.{cost_of, SideInRange, ShapeInRange, ShapesInRange};
+ghost use Rattle.planner.specs.Plan.{CanUse, IsBest, IsBetter, IsFirstFree, BindsShape, TakesDomain, IsNext, AllFalse, Uses, IsPlan, bind, bind_all};
+ghost use Rattle.std.specs.Prelude.{List, Bool};
+ghost use Rattle.store.specs.declared.Sizes.{Sizes as PlainSizes};
+ghost use Rattle.planner.specs.declared.cost.Shape.{Shape as PlainShape};
+ghost use Rattle.query_spec.specs.Mentions.{IsWellMade};
+ghost use Rattle.planner.specs.Plan.{NoneTwice, AreStepsOver, IsTheOnlyPlan};
+ghost use Rattle.planner.specs.Shape.{IsPlanOf};
+
+use crate::cost::{Shape, cost};
+use crate::counts::Counts;
+use crate::shape::{arcs_from, shapes_of_chain};
+use sd_value::NoMemory;
+use std::alloc::{AllocError, Global};
+use std::marker::Model;
+use store::Sizes;
+use struql_ast::Chain;
+
+/// A step of a plan, with its cost.
+#[derive(Clone, Copy, Debug)]
+pub enum PlanStep {
+    Use { condition: u32, cost: u128 },
+    Domain { variable: u32, cost: u128 },
+}
+
+/// A condition, by its number, and its cost.
+#[derive(Clone, Copy, Debug)]
+pub(crate) struct Candidate {
+    pub(crate) condition: usize,
+    pub(crate) cost: u128,
+}
+
+// The cost of a condition that isn't used yet.
+fn open_cost(shape: &Shape, used: bool, sizes: Sizes, bound: &[bool]) -> Option<u128>
+    requires { ShapeInRange (length bound.now) shape.now }
+    ensures { result ≡ (if used then None else cost_of sizes bound.now shape.now) }
+{
+    if used {
+        None
+    } else {
+        cost(shape, sizes, bound)
+    }
+}
+
+// The better one of the best so far and the next condition.
+fn better(best: Option<Candidate>, condition: usize, cost: Option<u128>) -> Option<Candidate>
+    ensures { IsBetter best condition cost result }
+{
+    match (best, cost) {
+        (None, Some(cost)) => Some(Candidate { condition, cost }),
+        (Some(old), Some(cost)) if cost < old.cost => Some(Candidate { condition, cost }),
+        _ => best,
+    }
+}
+
+// The condition to use next.
+fn best(shapes: &[Shape], sizes: Sizes, used: &[bool], bound: &[bool]) -> Option<Candidate>
+    requires as_long { length used.now ≡ length shapes.now }
+    requires in_range { ShapesInRange (length bound.now) shapes.now }
+    ensures { MatchOption result ((i cost : ℕ) → CanUse sizes shapes.now used.now bound.now i cost → ⊥) (λ c. IsBest sizes shapes.now used.now bound.now c.condition c.cost) }
+{
+    let mut best = None;
+    for i in 0..shapes.len() {
+        let cost = open_cost(&shapes[i], used[i], sizes, bound);
+        best = better(best, i, cost);
+    }
+    best
+}
+
+fn first_free(bound: &[bool]) -> Option<usize>
+    ensures { MatchOption result ((x : ℕ) → slice_get bound.now x ≡ Some false → ⊥) (λ x. IsFirstFree bound.now x) }
+{
+    for x in 0..bound.len() {
+        if !bound[x] {
+            return Some(x);
+        }
+    }
+    None
+}
+
+fn bind_side(side: Option<u32>, bound: &mut Vec<bool>)
+    requires { SideInRange (length bound.old.items) side }
+    ensures { bound.new.items ≡ bind side bound.old.items }
+{
+    if let Some(variable) = side {
+        bound[variable as usize] = true;
+    }
+}
+
+fn bind_shape(shape: &Shape, bound: &mut Vec<bool>)
+    requires { ShapeInRange (length bound.old.items) shape.now }
+    ensures { bound.new.items ≡ bind_all shape.now bound.old.items }
+{
+    bind_side(shape.from, bound);
+    bind_side(shape.arc, bound);
+    bind_side(shape.to, bound);
+}
+
+fn domain_size(sizes: Sizes, arc: bool) -> u128
+    ensures { result ≡ (if arc then sizes.labels else sizes.values) }
+{
+    if arc {
+        sizes.labels as u128
+    } else {
+        sizes.values as u128
+    }
+}
+
+// Uses the condition.
+fn use_condition(shapes: &[Shape], condition: usize, used: &mut Vec<bool>, bound: &mut Vec<bool>)
+    requires in_range { ShapesInRange (length bound.old.items) shapes.now }
+    requires within { condition < length shapes.now }
+    requires as_long { length used.old.items ≡ length shapes.now }
+    ensures used { used.new.items ≡ slice_set used.old.items condition true }
+    ensures bound { BindsShape shapes.now condition bound.old.items bound.new.items }
+{
+    used[condition] = true;
+    bind_shape(&shapes[condition], bound);
+}
+
+// Gives the first free variable its domain, if there is one.
+fn take_domain(arcs: &[bool], sizes: Sizes, bound: &mut Vec<bool>) -> Option<PlanStep>
+    requires one_each { length arcs.now ≡ length bound.old.items }
+    requires few_variables { length bound.old.items < 2 ^ 32 }
+    ensures lengths { length bound.new.items ≡ length bound.old.items }
+    ensures step { TakesDomain sizes arcs.now bound.old.items result bound.new.items }
+{
+    let variable = first_free(bound.as_slice())?;
+    let cost = domain_size(sizes, arcs[variable]);
+    bound[variable] = true;
+    Some(PlanStep::Domain {
+        variable: variable as u32,
+        cost,
+    })
+}
+
+// Takes the next step of the plan, or none where all conditions are used and all variables bound.
+fn advance(
+    shapes: &[Shape],
+    arcs: &[bool],
+    sizes: Sizes,
+    used: &mut Vec<bool>,
+    bound: &mut Vec<bool>,
+) -> Option<PlanStep>
+    requires in_range { ShapesInRange (length bound.old.items) shapes.now }
+    requires as_long { length used.old.items ≡ length shapes.now }
+    requires one_each { length arcs.now ≡ length bound.old.items }
+    requires few_conditions { length shapes.now < 2 ^ 32 }
+    requires few_variables { length bound.old.items < 2 ^ 32 }
+    ensures lengths { (length used.new.items ≡ length used.old.items) × (length bound.new.items ≡ length bound.old.items) }
+    ensures step { IsNext sizes arcs.now shapes.now used.old.items bound.old.items result used.new.items bound.new.items }
+{
+    if let Some(next) = best(shapes, sizes, used.as_slice(), bound.as_slice()) {
+        use_condition(shapes, next.condition, used, bound);
+        return Some(PlanStep::Use {
+            condition: next.condition as u32,
+            cost: next.cost,
+        });
+    }
+    take_domain(arcs, sizes, bound)
+}
+
+/// The steps of a plan.
+#[derive(Debug, Drop)]
+pub struct StepList {
+    pub steps: Vec<PlanStep>,
+}
+
+impl Model for StepList {
+    ghost use Rattle.std.specs.Prelude.{List};
+    ghost use Rattle.planner.specs.declared.steps.PlanStep.{PlanStep};
+
+    ghost Value = { List PlanStep };
+
+    ghost view = { λ s. s.steps.items };
+}
+
+fn none_used(alloc: Global, count: usize) -> Result<Vec<bool>, AllocError>
+    ensures { IfOk result (λ used. (length used.items ≡ count) × AllFalse used.items) }
+{
+    let mut used = Vec::new(alloc);
+    for _ in 0..count {
+        used.push(false)?;
+    }
+    Ok(used)
+}
+
+// The plan for the conditions, where some variables are bound at first.
+pub(crate) fn make_plan(
+    alloc: Global,
+    shapes: &[Shape],
+    arcs: &[bool],
+    sizes: Sizes,
+    bound: &[bool],
+) -> Result<StepList, AllocError>
+    requires in_range { ShapesInRange (length bound.now) shapes.now }
+    requires one_each { length arcs.now ≡ length bound.now }
+    requires few_conditions { length shapes.now < 2 ^ 32 }
+    requires few_variables { length bound.now < 2 ^ 32 }
+    ensures plan { IfOk result (λ steps. IsPlan sizes arcs.now shapes.now bound.now steps) }
+    ensures uses_all { IfOk result (λ steps. (i : ℕ) → i < length shapes.now → Uses steps i) }
+    ensures none_twice { IfOk result NoneTwice }
+    ensures in_range { IfOk result (AreStepsOver (length shapes.now) (length bound.now)) }
+{
+    let mut used = none_used(alloc, shapes.len())?;
+    let mut bound = bound.to_vec(alloc)?;
+    let mut steps = Vec::new(alloc);
+    while let Some(step) = advance(shapes, arcs, sizes, &mut used, &mut bound) {
+        steps.push(step)?;
+    }
+    Ok(StepList { steps })
+}
+
+/// The plan for a chain, where the variables that `bound` marks have values at first. At each step it uses the condition
+/// of least cost, the first of them in the chain's order; where none can be used the first free variable takes its whole
+/// domain. It ends when all conditions are used and all variables bound. There is one such plan, which uses each
+/// condition once.
+pub fn plan(
+    alloc: Global,
+    chain: &Chain,
+    bound: &[bool],
+    counts: &Counts,
+) -> Result<StepList, NoMemory>
+    requires well_made { IsWellMade chain.now }
+    requires one_each { length bound.now ≡ length chain.now.variables }
+    ensures plan { IfOk result (IsPlanOf counts.now chain.now bound.now) }
+    ensures uses_all { IfOk result (λ steps. (i : ℕ) → i < length chain.now.conditions → Uses steps i) }
+    ensures none_twice { IfOk result NoneTwice }
+    ensures in_range { IfOk result (AreStepsOver (length chain.now.conditions) (length chain.now.variables)) }
+{
+    let shapes = shapes_of_chain(alloc, counts, chain)?;
+    let arcs = arcs_from(alloc, chain.variables())?;
+    let steps = make_plan(
+        alloc,
+        shapes.as_slice(),
+        arcs.as_slice(),
+        counts.sizes,
+        bound,
+    )?;
+    Ok(steps)
+}
+
+/// Where it begins decides a plan.
+pub fn a_plan_is_the_only_one()
+    ensures { (sizes : PlainSizes) (arcs : List Bool) (shapes : List PlainShape) (bound : List Bool) → IsTheOnlyPlan sizes arcs shapes bound }
+{}
