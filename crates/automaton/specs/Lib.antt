@@ -1,0 +1,4 @@
+pub mod PositionSet
+pub mod Positions
+pub mod Table
+pub mod Building

@@ -1,0 +1,13 @@
+//! Automata of path expressions: one state for each position at which a label or a wildcard stands.
+//!
+//! An automaton's meaning is its table: what stands at each position, where a word may begin and end, and which position
+//! may stand right after which. `Automaton::of` alone speaks of the expression; what searches, speaks of the table.
+#![tactic(auto)]
+
+mod build;
+mod position_set;
+mod tables;
+
+pub use position_set::{MAX_POSITIONS, PositionSet};
+pub use rpe::Rpe;
+pub use tables::{Automaton, RpeRefusal};

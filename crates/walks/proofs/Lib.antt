@@ -1,0 +1,5 @@
+pub mod Visits
+pub mod Explored
+pub mod Searched
+pub mod Joined
+pub mod Selected
