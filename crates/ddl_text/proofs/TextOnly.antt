@@ -1,0 +1,24 @@
+-- A refused text spells no statements.
+use Rattle.std.proofs.Common.{List, Ok, Err}
+use Rattle.sd_lex.specs.declared.token.Token.{Token}
+use Rattle.sd_lex.specs.declared.refusal.LexRefusal.{LexRefusal}
+use Rattle.sd_lex.specs.declared.refusal.LexRefusal.TheVariants as lexer
+use Rattle.sd_lex.specs.Lexing.{Answers}
+use Rattle.ddl_text.specs.declared.tree.Statement.{Statement}
+use Rattle.ddl_text.specs.declared.refusal.Refusal.{Refusal}
+use Rattle.ddl_text.specs.declared.refusal.Refusal.TheVariants as grammar
+use Rattle.ddl_text.specs.DataText.{file}
+use Rattle.ddl_text.specs.Refused.{of_lexer, of_grammar}
+use Rattle.ddl_text.specs.Stated.{IsOnly}
+use Rattle.ddl_text.specs.Text.{TextGives}
+
+pub no_tokens : (e : LexRefusal) (tokens : List Token) (found : List Statement) → Answers {A = List Token} (Ok tokens) (Err e) → TextGives found (Err (of_lexer e))
+no_tokens (lexer.TooLong at) tokens found h = absurd cc
+no_tokens (lexer.BadByte at) tokens found h = absurd cc
+no_tokens (lexer.OpenString at) tokens found h = absurd cc
+no_tokens (lexer.IntOutOfRange at) tokens found h = absurd cc
+no_tokens lexer.NoMemory tokens found h = tt
+
+pub not_spelled : (e : Refusal) (tokens : List Token) (found : List Statement) → IsOnly tokens (Err e) → file tokens found → TextGives found (Err (of_grammar e))
+not_spelled (grammar.Expected at) tokens found only f = only found f
+not_spelled grammar.NoMemory tokens found only f = tt

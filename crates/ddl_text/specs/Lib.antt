@@ -1,0 +1,6 @@
+pub mod Terminals
+pub mod DataText
+pub mod Reading
+pub mod Stated
+pub mod Refused
+pub mod Text
