@@ -1,0 +1,6 @@
+pub mod TokenParts
+pub mod ExpressionParts
+pub mod Loops
+pub mod ListParts
+pub mod TermParts
+pub mod ConditionParts

@@ -1,0 +1,202 @@
+-- The grammar of queries over tokens, block by block from its parts. It says which lists of tokens spell which tree, and
+-- nothing of how they are read.
+--
+--   term    := name "(" [ operand { "," operand } ] ")"
+--   link    := ( name | term ) "->" ( Quoted | name ) "->" ( operand | term )
+--   coll    := name "(" ( name | term ) ")"
+--   operand := name | Int | Quoted
+--   cond    := plain | "not" "(" plain ")"
+--   plain   := name "(" name ")" | operand "->" step "->" operand
+--            | operand op operand | operand "in" "{" const { "," const } "}"
+--   step    := name | expression
+--
+-- What begins alike is said once: a name, and then either what stands in parentheses or not.
+use Rattle.std.specs.Prelude.{List, [], ◌∷◌, ◌++◌, Option, Some, None}
+use Rattle.sd_lex.specs.declared.token.Span.{Span}
+use Rattle.sd_lex.specs.declared.token.Token.{Token}
+use Rattle.sd_lex.specs.declared.token.Sign.TheVariants as signs
+use Rattle.query_spec.specs.declared.Test.{Test}
+use Rattle.struql_ast.specs.declared.Operand.{Operand}
+use Rattle.struql_ast.specs.declared.Operand.TheVariants.{Variable, Constant}
+use Rattle.struql_ast.specs.Written as tree
+use Rattle.struql_ast.specs.Written.{Step, Condition, Term, Target, Link, Collect}
+use Rattle.grammar.specs.Grammar.{nothing, one, ◌>>=◌, ◌>>◌, either, iterated}
+use Rattle.struql_text.specs.declared.keyword.Keyword.TheVariants as words
+use Rattle.struql_text.specs.declared.keyword.Word.{Word}
+use Rattle.struql_text.specs.Terminals.{from_to, name_value, operand_value, operand_span, constant_value, label_value, op_value, test_of}
+use Rattle.struql_text.specs.Expression.{sign, keyword, Counted}
+
+-- ---- lists
+
+-- a comma, and one more
+abbrev pub further : {A : Type 0} → (List Token → A → Type 0) → List A → List Token → List A → Type 0
+further P items = do
+  sign signs.Comma
+  item ← P
+  nothing (items ++ item ∷ [])
+
+-- one or more, with commas between
+abbrev pub listed : {A : Type 0} → (List Token → A → Type 0) → List Token → List A → Type 0
+listed P = do
+  first ← P
+  iterated (further P) (first ∷ [])
+
+-- ---- terms, links and collections
+
+abbrev pub name : List Token → Word → Type 0
+name = one name_value
+
+abbrev pub operand : List Token → Operand → Type 0
+operand = one operand_value
+
+abbrev pub term_of : Word → List Operand → Span → Term
+term_of f args close = record { function = f.text; args = args; span = from_to f.span close }
+
+abbrev pub no_arguments : Word → List Token → Term → Type 0
+no_arguments f = do
+  close ← sign signs.CloseParen
+  nothing (term_of f [] close)
+
+abbrev pub some_arguments : Word → List Token → Term → Type 0
+some_arguments f = do
+  args ← listed operand
+  close ← sign signs.CloseParen
+  nothing (term_of f args close)
+
+-- a function's arguments, which make its name a term
+abbrev pub arguments : Word → List Token → Term → Type 0
+arguments f = do
+  sign signs.OpenParen
+  either (no_arguments f) (some_arguments f)
+
+abbrev pub term : List Token → Term → Type 0
+term = do
+  f ← name
+  arguments f
+
+abbrev pub made : Word → List Token → Target → Type 0
+made f = do
+  t ← arguments f
+  nothing (tree.made t)
+
+abbrev pub variable_of : Word → Operand
+variable_of x = Variable x.text x.span
+
+-- behind a name: arguments, or nothing
+abbrev pub named_target : Word → List Token → Target → Type 0
+named_target x = either (made x) (nothing (tree.plain (variable_of x)))
+
+-- a name or a term
+abbrev pub source : List Token → Target → Type 0
+source = do
+  x ← name
+  named_target x
+
+abbrev pub operand_target : Operand → List Token → Target → Type 0
+operand_target (Variable x span) = named_target (record { text = x; span = span })
+operand_target (Constant v span) = nothing (tree.plain (Constant v span))
+
+-- an operand or a term
+abbrev pub target : List Token → Target → Type 0
+target = do
+  o ← operand
+  operand_target o
+
+abbrev pub target_span : Target → Span
+target_span (tree.plain o) = operand_span o
+target_span (tree.made t) = t.span
+
+abbrev pub link : List Token → Link → Type 0
+link = do
+  s ← source
+  sign signs.Arrow
+  l ← one label_value
+  sign signs.Arrow
+  t ← target
+  nothing (record { source = s; label = l; target = t; span = from_to (target_span s) (target_span t) })
+
+abbrev pub collect : List Token → Collect → Type 0
+collect = do
+  c ← name
+  sign signs.OpenParen
+  t ← source
+  close ← sign signs.CloseParen
+  nothing (record { collection = c.text; target = t; span = from_to c.span close })
+
+-- ---- conditions
+
+-- `isInt(x)` and its like where the name is a test's, else `C(x)`
+abbrev pub call_with : Option Test → Word → Word → Span → Condition
+call_with None c x close = tree.member c.text x.text x.span (from_to c.span close)
+call_with (Some test) c x close = tree.kind test x.text x.span (from_to c.span close)
+
+abbrev pub call : Word → List Token → Condition → Type 0
+call c = do
+  sign signs.OpenParen
+  x ← name
+  close ← sign signs.CloseParen
+  nothing (call_with (test_of c.text) c x close)
+
+abbrev pub between : Operand → Operand → Span
+between t u = from_to (operand_span t) (operand_span u)
+
+abbrev pub comparison : Operand → List Token → Condition → Type 0
+comparison t = do
+  o ← one op_value
+  u ← operand
+  nothing (tree.compare t o u (between t u))
+
+abbrev pub membership : Operand → List Token → Condition → Type 0
+membership t = do
+  keyword words.In
+  sign signs.OpenBrace
+  vs ← listed (one constant_value)
+  close ← sign signs.CloseBrace
+  nothing (tree.one_of t vs (from_to (operand_span t) close))
+
+abbrev pub arc_step : List Token → Step → Type 0
+arc_step = do
+  x ← name
+  nothing (tree.arc_variable x.text x.span)
+
+-- conditions, by what an expression is
+module _ (expression : List Token → Counted → Type 0) where
+  abbrev pub expression_step : List Token → Step → Type 0
+  expression_step = do
+    e ← expression
+    nothing (tree.expression e.tree e.span)
+
+  abbrev pub step : List Token → Step → Type 0
+  step = either arc_step expression_step
+
+  abbrev pub path : Operand → List Token → Condition → Type 0
+  path t = do
+    sign signs.Arrow
+    s ← step
+    sign signs.Arrow
+    u ← operand
+    nothing (tree.path t s u (between t u))
+
+  -- behind the operand that begins a condition
+  abbrev pub relation : Operand → List Token → Condition → Type 0
+  relation t = either (path t) (either (membership t) (comparison t))
+
+  abbrev pub behind : Operand → List Token → Condition → Type 0
+  behind (Variable x span) = either (call (record { text = x; span = span })) (relation (Variable x span))
+  behind (Constant v span) = relation (Constant v span)
+
+  abbrev pub plain : List Token → Condition → Type 0
+  plain = do
+    t ← operand
+    behind t
+
+  abbrev pub negated : List Token → Condition → Type 0
+  negated = do
+    n ← keyword words.Not
+    sign signs.OpenParen
+    c ← plain
+    close ← sign signs.CloseParen
+    nothing (tree.negation c (from_to n close))
+
+  abbrev pub condition : List Token → Condition → Type 0
+  condition = either negated plain

@@ -1,0 +1,5 @@
+pub mod Terminals
+pub mod Expression
+pub mod Grammar
+pub mod Reading
+pub mod Found

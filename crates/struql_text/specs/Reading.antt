@@ -1,0 +1,243 @@
+-- Reading the parts of a clause from left to right.
+use Rattle.std.specs.Prelude.{ℕ, zero, suc, ◌+◌, true, List, [], ◌∷◌, ◌++◌}
+use Rattle.sd_lex.specs.declared.token.Span.{Span}
+use Rattle.sd_lex.specs.declared.token.Token.{Token}
+use Rattle.sd_lex.specs.declared.token.Sign.{Sign}
+use Rattle.sd_lex.specs.declared.token.Sign.TheVariants as signs
+use Rattle.path_spec.specs.Regex.{empty, seq as seq_of, alt as alt_of, star as star_of}
+use Rattle.struql_ast.specs.declared.Operand.{Operand}
+use Rattle.struql_ast.specs.declared.Operand.TheVariants.{Variable, Constant}
+use Rattle.struql_ast.specs.Written as tree
+use Rattle.struql_ast.specs.Written.{Step, Condition, Term, Target, Link, Collect, Blocks, no_blocks, Query}
+use Rattle.grammar.specs.Reading.{Outcome, Past, ◌>>=◌, ◌>>◌, give, take_one, choose, iterate, guard}
+use Rattle.struql_text.specs.declared.keyword.Keyword.{Keyword}
+use Rattle.struql_text.specs.declared.keyword.Keyword.TheVariants as words
+use Rattle.struql_text.specs.declared.keyword.Word.{Word}
+use Rattle.struql_text.specs.Terminals.{from_to, sign_value, keyword_value, is_keyword, is_name, name_value, operand_value, operand_span, constant_value, label_value, op_value, test_of}
+use Rattle.token_reader.specs.Terminals.{is_sign}
+use Rattle.struql_text.specs.Expression.{leaf_value, Counted, bounded}
+use Rattle.struql_text.specs.Grammar.{term_of, variable_of, target_span, call_with, between}
+
+abbrev pub read_sign : Sign → List Token → Outcome Token Span
+read_sign s = take_one true (sign_value s)
+
+abbrev pub read_keyword : Keyword → List Token → Outcome Token Span
+read_keyword k = take_one true (keyword_value k)
+
+-- ---- expressions
+
+unfoldable pub read_leaf : ℕ → List Token → Outcome Token Counted
+read_leaf n = do
+  l ← take_one true leaf_value
+  give (record { tree = l.tree; span = l.span; signs = n })
+
+unfoldable pub read_empty_close : Span → ℕ → List Token → Outcome Token Counted
+read_empty_close opening n = do
+  close ← read_sign signs.CloseParen
+  give (record { tree = empty; span = from_to opening close; signs = n })
+
+unfoldable pub read_inner_close : (ℕ → List Token → Outcome Token Counted) → Span → ℕ → List Token → Outcome Token Counted
+read_inner_close inner opening n = do
+  e ← inner n
+  close ← read_sign signs.CloseParen
+  give (record { tree = e.tree; span = from_to opening close; signs = e.signs })
+
+unfoldable pub read_paren : (ℕ → List Token → Outcome Token Counted) → ℕ → List Token → Outcome Token Counted
+read_paren inner n = do
+  opening ← read_sign signs.OpenParen
+  choose (is_sign signs.CloseParen) (read_empty_close opening n) (read_inner_close inner opening n)
+
+unfoldable pub read_star_step : Counted → List Token → Outcome Token Counted
+read_star_step e = do
+  star ← read_sign signs.Star
+  give (record { tree = star_of e.tree; span = from_to e.span star; signs = e.signs })
+
+module _ (atom : ℕ → List Token → Outcome Token Counted) where
+  unfoldable pub read_post : ℕ → List Token → Outcome Token Counted
+  read_post n = do
+    a ← atom n
+    iterate (is_sign signs.Star) (λ e. guard (bounded.star e.tree) (read_star_step e)) a
+
+  unfoldable pub read_dot_step : Counted → List Token → Outcome Token Counted
+  read_dot_step e = do
+    read_sign signs.Dot
+    right ← read_post (e.signs + 1)
+    give (record { tree = seq_of e.tree right.tree; span = from_to e.span right.span; signs = right.signs })
+
+  unfoldable pub read_seq : ℕ → List Token → Outcome Token Counted
+  read_seq n = do
+    a ← read_post n
+    iterate (is_sign signs.Dot) (λ e. guard (bounded.sign e.signs) (read_dot_step e)) a
+
+  unfoldable pub read_bar_step : Counted → List Token → Outcome Token Counted
+  read_bar_step e = do
+    read_sign signs.Bar
+    right ← read_seq (e.signs + 1)
+    give (record { tree = alt_of e.tree right.tree; span = from_to e.span right.span; signs = right.signs })
+
+  unfoldable pub read_alt : ℕ → List Token → Outcome Token Counted
+  read_alt n = do
+    a ← read_seq n
+    iterate (is_sign signs.Bar) (λ e. guard (bounded.sign e.signs) (read_bar_step e)) a
+
+-- with so many parentheses still to open
+unfoldable pub read_atom : ℕ → ℕ → List Token → Outcome Token Counted
+read_atom zero = λ n. choose (is_sign signs.OpenParen) Past (read_leaf n)
+read_atom (suc depth) = λ n. choose (is_sign signs.OpenParen) (read_paren (read_alt (read_atom depth)) n) (read_leaf n)
+
+abbrev pub read_expression : ℕ → ℕ → List Token → Outcome Token Counted
+read_expression depth = read_alt (read_atom depth)
+
+-- ---- lists
+
+-- a comma, and what stands behind it
+unfoldable pub read_next : {A : Type 0} → (List Token → Outcome Token A) → List Token → Outcome Token A
+read_next p = do
+  read_sign signs.Comma
+  p
+
+unfoldable pub read_further : {A : Type 0} → (List Token → Outcome Token A) → List A → List Token → Outcome Token (List A)
+read_further p items = do
+  read_sign signs.Comma
+  item ← p
+  give (items ++ item ∷ [])
+
+unfoldable pub read_listed : {A : Type 0} → (List Token → Outcome Token A) → List Token → Outcome Token (List A)
+read_listed p = do
+  first ← p
+  iterate (is_sign signs.Comma) (read_further p) (first ∷ [])
+
+-- ---- terms, links and collections
+
+abbrev pub read_name : List Token → Outcome Token Word
+read_name = take_one true name_value
+
+abbrev pub read_operand : List Token → Outcome Token Operand
+read_operand = take_one true operand_value
+
+unfoldable pub read_no_arguments : Word → List Token → Outcome Token Term
+read_no_arguments f = do
+  close ← read_sign signs.CloseParen
+  give (term_of f [] close)
+
+unfoldable pub read_some_arguments : Word → List Token → Outcome Token Term
+read_some_arguments f = do
+  args ← read_listed read_operand
+  close ← read_sign signs.CloseParen
+  give (term_of f args close)
+
+unfoldable pub read_arguments : Word → List Token → Outcome Token Term
+read_arguments f = do
+  read_sign signs.OpenParen
+  choose (is_sign signs.CloseParen) (read_no_arguments f) (read_some_arguments f)
+
+unfoldable pub read_term : List Token → Outcome Token Term
+read_term = do
+  f ← read_name
+  read_arguments f
+
+unfoldable pub read_made : Word → List Token → Outcome Token Target
+read_made f = do
+  t ← read_arguments f
+  give (tree.made t)
+
+unfoldable pub read_named_target : Word → List Token → Outcome Token Target
+read_named_target x = choose (is_sign signs.OpenParen) (read_made x) (give (tree.plain (variable_of x)))
+
+unfoldable pub read_source : List Token → Outcome Token Target
+read_source = do
+  x ← read_name
+  read_named_target x
+
+unfoldable pub read_operand_target : Operand → List Token → Outcome Token Target
+read_operand_target (Variable x span) = read_named_target (record { text = x; span = span })
+read_operand_target (Constant v span) = give (tree.plain (Constant v span))
+
+unfoldable pub read_target : List Token → Outcome Token Target
+read_target = do
+  o ← read_operand
+  read_operand_target o
+
+unfoldable pub read_link : List Token → Outcome Token Link
+read_link = do
+  s ← read_source
+  read_sign signs.Arrow
+  l ← take_one true label_value
+  read_sign signs.Arrow
+  t ← read_target
+  give (record { source = s; label = l; target = t; span = from_to (target_span s) (target_span t) })
+
+unfoldable pub read_collect : List Token → Outcome Token Collect
+read_collect = do
+  c ← read_name
+  read_sign signs.OpenParen
+  t ← read_source
+  close ← read_sign signs.CloseParen
+  give (record { collection = c.text; target = t; span = from_to c.span close })
+
+-- ---- conditions
+
+unfoldable pub read_call : Word → List Token → Outcome Token Condition
+read_call c = do
+  read_sign signs.OpenParen
+  x ← read_name
+  close ← read_sign signs.CloseParen
+  give (call_with (test_of c.text) c x close)
+
+unfoldable pub read_comparison : Operand → List Token → Outcome Token Condition
+read_comparison t = do
+  o ← take_one true op_value
+  u ← read_operand
+  give (tree.compare t o u (between t u))
+
+unfoldable pub read_membership : Operand → List Token → Outcome Token Condition
+read_membership t = do
+  read_keyword words.In
+  read_sign signs.OpenBrace
+  vs ← read_listed (take_one true constant_value)
+  close ← read_sign signs.CloseBrace
+  give (tree.one_of t vs (from_to (operand_span t) close))
+
+unfoldable pub read_arc_step : List Token → Outcome Token Step
+read_arc_step = do
+  x ← read_name
+  give (tree.arc_variable x.text x.span)
+
+unfoldable pub read_expression_step : List Token → Outcome Token Step
+read_expression_step = do
+  e ← read_expression 64 0
+  give (tree.expression e.tree e.span)
+
+unfoldable pub read_step : List Token → Outcome Token Step
+read_step = choose is_name read_arc_step read_expression_step
+
+unfoldable pub read_path : Operand → List Token → Outcome Token Condition
+read_path t = do
+  read_sign signs.Arrow
+  s ← read_step
+  read_sign signs.Arrow
+  u ← read_operand
+  give (tree.path t s u (between t u))
+
+unfoldable pub read_relation : Operand → List Token → Outcome Token Condition
+read_relation t = choose (is_sign signs.Arrow) (read_path t) (choose (is_keyword words.In) (read_membership t) (read_comparison t))
+
+unfoldable pub read_behind : Operand → List Token → Outcome Token Condition
+read_behind (Variable x span) = choose (is_sign signs.OpenParen) (read_call (record { text = x; span = span })) (read_relation (Variable x span))
+read_behind (Constant v span) = read_relation (Constant v span)
+
+unfoldable pub read_plain : List Token → Outcome Token Condition
+read_plain = do
+  t ← read_operand
+  read_behind t
+
+unfoldable pub read_negated : List Token → Outcome Token Condition
+read_negated = do
+  n ← read_keyword words.Not
+  read_sign signs.OpenParen
+  c ← read_plain
+  close ← read_sign signs.CloseParen
+  give (tree.negation c (from_to n close))
+
+unfoldable pub read_condition : List Token → Outcome Token Condition
+read_condition = choose (is_keyword words.Not) read_negated read_plain

@@ -1,0 +1,201 @@
+-- Single tokens.
+use Rattle.std.specs.Prelude.{ℕ, Bool, true, false, ◌||◌, List, Option, Some, None, if◌then◌else◌, nat_eq, pos, codes}
+use Rattle.std.specs.Str.{bytes_eq}
+use Rattle.std.specs.Ordering.{int_eq}
+use Rattle.sd_value.specs.declared.Datum.TheVariants as datum
+use Rattle.sd_value.specs.declared.Value.{Value}
+use Rattle.sd_value.specs.declared.Value.TheVariants.{Data}
+use Rattle.sd_lex.specs.declared.token.Span.{Span}
+use Rattle.sd_lex.specs.declared.token.Token.{Token}
+use Rattle.sd_lex.specs.declared.token.TokenKind.{TokenKind}
+use Rattle.sd_lex.specs.declared.token.TokenKind.TheVariants as kinds
+use Rattle.sd_lex.specs.declared.token.Sign.{Sign}
+use Rattle.sd_lex.specs.declared.token.Sign.TheVariants as signs
+use Rattle.query_spec.specs.declared.Op.{Op}
+use Rattle.query_spec.specs.declared.Op.TheVariants as op
+use Rattle.query_spec.specs.declared.Test.{Test}
+use Rattle.query_spec.specs.declared.Test.TheVariants as test
+use Rattle.struql_ast.specs.declared.Operand.{Operand}
+use Rattle.struql_ast.specs.declared.Operand.TheVariants.{Variable, Constant}
+use Rattle.struql_ast.specs.declared.LinkLabel.{LinkLabel}
+use Rattle.struql_ast.specs.declared.LinkLabel.TheVariants as label
+use Rattle.struql_text.specs.declared.keyword.Keyword.{Keyword}
+use Rattle.struql_text.specs.declared.keyword.Keyword.TheVariants as words
+use Rattle.struql_text.specs.declared.keyword.Word.{Word}
+use Rattle.token_reader.specs.Terminals.{is_sign_kind}
+
+-- from the beginning of the one to the end of the other
+abbrev pub from_to : Span → Span → Span
+from_to a b = record { start = a.start; «end» = b.«end» }
+
+-- the sign, whose value is its place
+abbrev pub sign_value : Sign → Token → Option Span
+sign_value s t = if is_sign_kind s t.kind then Some t.span else None
+
+-- the keyword that a word is, in all upper or all lower case
+unfoldable pub keyword_of : List ℕ → Option Keyword
+keyword_of w =
+    if bytes_eq w (codes "INPUT") || bytes_eq w (codes "input") then Some words.Input
+    else (if bytes_eq w (codes "OUTPUT") || bytes_eq w (codes "output") then Some words.Output
+    else (if bytes_eq w (codes "WHERE") || bytes_eq w (codes "where") then Some words.Where
+    else (if bytes_eq w (codes "CREATE") || bytes_eq w (codes "create") then Some words.Create
+    else (if bytes_eq w (codes "LINK") || bytes_eq w (codes "link") then Some words.Link
+    else (if bytes_eq w (codes "COLLECT") || bytes_eq w (codes "collect") then Some words.Collect
+    else (if bytes_eq w (codes "NOT") || bytes_eq w (codes "not") then Some words.Not
+    else (if bytes_eq w (codes "IN") || bytes_eq w (codes "in") then Some words.In
+    else (if bytes_eq w (codes "TRUE") || bytes_eq w (codes "true") then Some words.True
+    else None))))))))
+
+-- a number for each keyword
+abbrev pub rank : Keyword → ℕ
+rank words.Input = 0
+rank words.Output = 1
+rank words.Where = 2
+rank words.Create = 3
+rank words.Link = 4
+rank words.Collect = 5
+rank words.Not = 6
+rank words.In = 7
+rank words.True = 8
+
+abbrev pub is_found : Keyword → Option Keyword → Bool
+is_found k None = false
+is_found k (Some j) = nat_eq (rank j) (rank k)
+
+abbrev pub is_keyword_kind : Keyword → TokenKind → Bool
+is_keyword_kind k (kinds.Name n) = is_found k (keyword_of n)
+is_keyword_kind k (kinds.Quoted q) = false
+is_keyword_kind k (kinds.Int i) = false
+is_keyword_kind k (kinds.Sign r) = false
+
+abbrev pub is_keyword : Keyword → Token → Bool
+is_keyword k t = is_keyword_kind k t.kind
+
+-- the keyword, whose value is its place
+abbrev pub keyword_value : Keyword → Token → Option Span
+keyword_value k t = if is_keyword_kind k t.kind then Some t.span else None
+
+-- a word that is no keyword
+abbrev pub is_free : Option Keyword → Bool
+is_free None = true
+is_free (Some k) = false
+
+abbrev pub is_name_kind : TokenKind → Bool
+is_name_kind (kinds.Name n) = is_free (keyword_of n)
+is_name_kind (kinds.Quoted q) = false
+is_name_kind (kinds.Int i) = false
+is_name_kind (kinds.Sign r) = false
+
+abbrev pub is_name : Token → Bool
+is_name t = is_name_kind t.kind
+
+abbrev pub named : {A : Type 0} → A → Option Keyword → Option A
+named v None = Some v
+named v (Some k) = None
+
+abbrev pub name_kind_value : Span → TokenKind → Option Word
+name_kind_value span (kinds.Name n) = named (record { text = n; span = span }) (keyword_of n)
+name_kind_value span (kinds.Quoted q) = None
+name_kind_value span (kinds.Int i) = None
+name_kind_value span (kinds.Sign r) = None
+
+abbrev pub name_value : Token → Option Word
+name_value t = name_kind_value t.span t.kind
+
+-- a variable or a constant
+abbrev pub operand_kind_value : Span → TokenKind → Option Operand
+operand_kind_value span (kinds.Name n) = named (Variable n span) (keyword_of n)
+operand_kind_value span (kinds.Quoted q) = Some (Constant (Data (datum.Text q)) span)
+operand_kind_value span (kinds.Int i) = Some (Constant (Data (datum.Int i)) span)
+operand_kind_value span (kinds.Sign r) = None
+
+abbrev pub operand_value : Token → Option Operand
+operand_value t = operand_kind_value t.span t.kind
+
+abbrev pub operand_span : Operand → Span
+operand_span (Variable x span) = span
+operand_span (Constant v span) = span
+
+abbrev pub constant_kind_value : TokenKind → Option Value
+constant_kind_value (kinds.Name n) = None
+constant_kind_value (kinds.Quoted q) = Some (Data (datum.Text q))
+constant_kind_value (kinds.Int i) = Some (Data (datum.Int i))
+constant_kind_value (kinds.Sign r) = None
+
+abbrev pub constant_value : Token → Option Value
+constant_value t = constant_kind_value t.kind
+
+-- a link's label
+abbrev pub label_kind_value : Span → TokenKind → Option LinkLabel
+label_kind_value span (kinds.Name n) = named (label.Variable n span) (keyword_of n)
+label_kind_value span (kinds.Quoted q) = Some (label.Quoted q)
+label_kind_value span (kinds.Int i) = None
+label_kind_value span (kinds.Sign r) = None
+
+abbrev pub label_value : Token → Option LinkLabel
+label_value t = label_kind_value t.span t.kind
+
+abbrev pub op_sign : Sign → Option Op
+op_sign signs.Eq = Some op.Eq
+op_sign signs.Ne = Some op.Ne
+op_sign signs.Lt = Some op.Lt
+op_sign signs.Le = Some op.Le
+op_sign signs.Gt = Some op.Gt
+op_sign signs.Ge = Some op.Ge
+op_sign s = None
+
+abbrev pub op_kind_value : TokenKind → Option Op
+op_kind_value (kinds.Name n) = None
+op_kind_value (kinds.Quoted q) = None
+op_kind_value (kinds.Int i) = None
+op_kind_value (kinds.Sign s) = op_sign s
+
+abbrev pub op_value : Token → Option Op
+op_value t = op_kind_value t.kind
+
+-- the test that a name is
+unfoldable pub test_of : List ℕ → Option Test
+test_of w =
+    if bytes_eq w (codes "isInt") then Some test.IsInt
+    else (if bytes_eq w (codes "isText") then Some test.IsText
+    else (if bytes_eq w (codes "isUrl") then Some test.IsUrl
+    else (if bytes_eq w (codes "isFile") then Some test.IsFile
+    else (if bytes_eq w (codes "isNode") then Some test.IsNode
+    else None))))
+
+-- `STRUQL`, in all upper or all lower case
+abbrev pub is_head_kind : TokenKind → Bool
+is_head_kind (kinds.Name n) = bytes_eq n (codes "STRUQL") || bytes_eq n (codes "struql")
+is_head_kind (kinds.Quoted q) = false
+is_head_kind (kinds.Int i) = false
+is_head_kind (kinds.Sign s) = false
+
+abbrev pub is_head : Token → Bool
+is_head t = is_head_kind t.kind
+
+abbrev pub head_value : Token → Option Span
+head_value t = if is_head_kind t.kind then Some t.span else None
+
+-- 1 or 2
+abbrev pub version_kind_value : TokenKind → Option ℕ
+version_kind_value (kinds.Name n) = None
+version_kind_value (kinds.Quoted q) = None
+version_kind_value (kinds.Int i) = if int_eq i (pos 1) then Some 1 else (if int_eq i (pos 2) then Some 2 else None)
+version_kind_value (kinds.Sign s) = None
+
+abbrev pub version_value : Token → Option ℕ
+version_value t = version_kind_value t.kind
+
+abbrev pub is_other_kind : TokenKind → Bool
+is_other_kind (kinds.Name n) = false
+is_other_kind (kinds.Quoted q) = false
+is_other_kind (kinds.Int i) = if int_eq i (pos 1) then false else (if int_eq i (pos 2) then false else true)
+is_other_kind (kinds.Sign s) = false
+
+-- an integer that is no version
+abbrev pub is_other_version : Token → Bool
+is_other_version t = is_other_kind t.kind
+
+-- any other integer, for which 0 stands
+abbrev pub other_version_value : Token → Option ℕ
+other_version_value t = if is_other_kind t.kind then Some 0 else None

@@ -1,0 +1,268 @@
+//! The readers of conditions.
+
+ghost use Rattle.std.specs.Prelude.{◌≡◌, true, [], ◌∷◌};
+ghost use Rattle.grammar.specs.Reading.{iterate, take_one};
+ghost use Rattle.sd_lex.specs.declared.token.Sign.TheVariants as sign_kinds;
+ghost use Rattle.struql_ast.specs.Written.{step_written, condition_written};
+ghost use Rattle.token_reader.specs.Terminals.{is_sign};
+ghost use Rattle.struql_text.specs.Terminals.{test_of, constant_value, operand_span};
+ghost use Rattle.token_reader.specs.Gives.{Gives};
+ghost use Rattle.struql_text.specs.Reading.{read_further, read_next, read_listed, read_call, read_comparison, read_membership, read_arc_step, read_expression_step, read_step, read_path, read_relation, read_behind, read_plain, read_negated, read_condition};
+
+use crate::expression::{alt_at, from_to};
+use crate::keyword::{Keyword, Word};
+use crate::tokens::{
+    constant_at, has_keyword, has_name, keyword_at, name_at, op_at, operand_at, sign_at,
+};
+use query_spec::Test;
+use sd_lex::{Sign, Span, Token};
+use sd_value::Value;
+use std::alloc::Global;
+use struql_ast::{Condition, Constants, Operand, PathStep};
+use token_reader::{Halt, has_sign};
+
+/// The test that a name is.
+#[tactic(auto, unfolding(crate::specs::Terminals::test_of))]
+pub fn test_of(word: &[u8]) -> Option<Test>
+    ensures { result ≡ test_of word.now }
+{
+    if word == b"isInt".as_slice() {
+        Some(Test::IsInt)
+    } else if word == b"isText".as_slice() {
+        Some(Test::IsText)
+    } else if word == b"isUrl".as_slice() {
+        Some(Test::IsUrl)
+    } else if word == b"isFile".as_slice() {
+        Some(Test::IsFile)
+    } else if word == b"isNode".as_slice() {
+        Some(Test::IsNode)
+    } else {
+        None
+    }
+}
+
+fn span_of(operand: &Operand) -> Span
+    ensures { result ≡ operand_span operand.now }
+{
+    match operand {
+        Operand::Variable(_, span) => *span,
+        Operand::Constant(_, span) => *span,
+    }
+}
+
+/// A comma and a constant.
+#[tactic(auto, unfolding(crate::specs::Reading::read_next))]
+fn next_constant_at(alloc: Global, tokens: &[Token]) -> Result<(Value, &[Token]), Halt>
+    ensures { Gives (λ x. x.0) (λ x. x.1.now) result (read_next (take_one true constant_value) tokens.now) }
+{
+    let (_, rest) = sign_at(tokens, Sign::Comma)?;
+    constant_at(alloc, rest)
+}
+
+/// This constant, and those behind it.
+fn constants_from(
+    alloc: Global,
+    first: Value,
+    tokens: &[Token],
+) -> Result<(Vec<Value>, &[Token]), Halt>
+    ensures { Gives (λ x. x.0.items) (λ x. x.1.now) result (iterate (is_sign sign_kinds.Comma) (read_further (take_one true constant_value)) (first ∷ []) tokens.now) }
+{
+    let mut items = Vec::new(alloc);
+    items.push(first)?;
+    let mut rest = tokens;
+    'list: while has_sign(rest, Sign::Comma) {
+        let (item, after) = next_constant_at(alloc, rest)?;
+        items.push(item)?;
+        rest = after;
+    }
+    Ok((items, rest))
+}
+
+#[tactic(auto, unfolding(crate::specs::Reading::read_listed))]
+fn constants_at(alloc: Global, tokens: &[Token]) -> Result<(Vec<Value>, &[Token]), Halt>
+    ensures { Gives (λ x. x.0.items) (λ x. x.1.now) result (read_listed (take_one true constant_value) tokens.now) }
+{
+    let (first, rest) = constant_at(alloc, tokens)?;
+    constants_from(alloc, first, rest)
+}
+
+/// `C(x)` or a test, behind its name.
+#[tactic(auto, unfolding(crate::specs::Reading::read_call))]
+fn call_at(alloc: Global, name: Word, tokens: &[Token]) -> Result<(Condition, &[Token]), Halt>
+    ensures { Gives (λ x. condition_written x.0) (λ x. x.1.now) result (read_call name tokens.now) }
+{
+    let (_, rest) = sign_at(tokens, Sign::OpenParen)?;
+    let (x, rest) = name_at(alloc, rest)?;
+    let (close, rest) = sign_at(rest, Sign::CloseParen)?;
+    let span = from_to(name.span, close);
+    let variable_span = x.span;
+    let variable = x.text;
+    let condition = match test_of(name.text.bytes()) {
+        Some(test) => Condition::Kind {
+            test,
+            variable,
+            variable_span,
+            span,
+        },
+        None => Condition::Member {
+            collection: name.text,
+            variable,
+            variable_span,
+            span,
+        },
+    };
+    Ok((condition, rest))
+}
+
+/// A comparison, behind its first operand.
+#[tactic(auto, unfolding(crate::specs::Reading::read_comparison))]
+fn comparison_at(
+    alloc: Global,
+    left: Operand,
+    tokens: &[Token],
+) -> Result<(Condition, &[Token]), Halt>
+    ensures { Gives (λ x. condition_written x.0) (λ x. x.1.now) result (read_comparison left tokens.now) }
+{
+    let (op, rest) = op_at(tokens)?;
+    let (right, rest) = operand_at(alloc, rest)?;
+    let span = from_to(span_of(&left), span_of(&right));
+    Ok((
+        Condition::Compare {
+            left,
+            op,
+            right,
+            span,
+        },
+        rest,
+    ))
+}
+
+/// `in` and its constants, behind the operand.
+#[tactic(auto, unfolding(crate::specs::Reading::read_membership))]
+fn membership_at(
+    alloc: Global,
+    operand: Operand,
+    tokens: &[Token],
+) -> Result<(Condition, &[Token]), Halt>
+    ensures { Gives (λ x. condition_written x.0) (λ x. x.1.now) result (read_membership operand tokens.now) }
+{
+    let (_, rest) = keyword_at(tokens, Keyword::In)?;
+    let (_, rest) = sign_at(rest, Sign::OpenBrace)?;
+    let (items, rest) = constants_at(alloc, rest)?;
+    let (close, rest) = sign_at(rest, Sign::CloseBrace)?;
+    let span = from_to(span_of(&operand), close);
+    let constants = Constants::new(items);
+    Ok((
+        Condition::OneOf {
+            operand,
+            constants,
+            span,
+        },
+        rest,
+    ))
+}
+
+/// What stands between the arrows of a path.
+#[tactic(auto, unfolding(crate::specs::Reading::read_step, crate::specs::Reading::read_arc_step, crate::specs::Reading::read_expression_step))]
+fn step_at(alloc: Global, tokens: &[Token]) -> Result<(PathStep, &[Token]), Halt>
+    ensures { Gives (λ x. step_written x.0) (λ x. x.1.now) result (read_step tokens.now) }
+{
+    if has_name(tokens) {
+        let (name, rest) = name_at(alloc, tokens)?;
+        return Ok((PathStep::ArcVariable(name.text, name.span), rest));
+    }
+    let (found, rest) = alt_at(alloc, 64, 0, tokens)?;
+    Ok((PathStep::Expression(found.tree, found.span), rest))
+}
+
+/// A path, behind its first operand.
+#[tactic(auto, unfolding(crate::specs::Reading::read_path))]
+fn path_at(alloc: Global, from: Operand, tokens: &[Token]) -> Result<(Condition, &[Token]), Halt>
+    ensures { Gives (λ x. condition_written x.0) (λ x. x.1.now) result (read_path from tokens.now) }
+{
+    let (_, rest) = sign_at(tokens, Sign::Arrow)?;
+    let (step, rest) = step_at(alloc, rest)?;
+    let (_, rest) = sign_at(rest, Sign::Arrow)?;
+    let (to, rest) = operand_at(alloc, rest)?;
+    let span = from_to(span_of(&from), span_of(&to));
+    Ok((
+        Condition::Path {
+            from,
+            step,
+            to,
+            span,
+        },
+        rest,
+    ))
+}
+
+/// What relates an operand to others, behind it.
+#[tactic(auto, unfolding(crate::specs::Reading::read_relation))]
+fn relation_at(
+    alloc: Global,
+    first: Operand,
+    tokens: &[Token],
+) -> Result<(Condition, &[Token]), Halt>
+    ensures { Gives (λ x. condition_written x.0) (λ x. x.1.now) result (read_relation first tokens.now) }
+{
+    if has_sign(tokens, Sign::Arrow) {
+        path_at(alloc, first, tokens)
+    } else if has_keyword(tokens, Keyword::In) {
+        membership_at(alloc, first, tokens)
+    } else {
+        comparison_at(alloc, first, tokens)
+    }
+}
+
+/// What stands behind the operand that begins a condition.
+#[tactic(auto, unfolding(crate::specs::Reading::read_behind))]
+fn behind_at(alloc: Global, first: Operand, tokens: &[Token]) -> Result<(Condition, &[Token]), Halt>
+    ensures { Gives (λ x. condition_written x.0) (λ x. x.1.now) result (read_behind first tokens.now) }
+{
+    match first {
+        Operand::Variable(text, span) => {
+            if has_sign(tokens, Sign::OpenParen) {
+                call_at(alloc, Word { text, span }, tokens)
+            } else {
+                relation_at(alloc, Operand::Variable(text, span), tokens)
+            }
+        }
+        Operand::Constant(value, span) => {
+            relation_at(alloc, Operand::Constant(value, span), tokens)
+        }
+    }
+}
+
+/// A condition that is no negation.
+#[tactic(auto, unfolding(crate::specs::Reading::read_plain))]
+fn plain_at(alloc: Global, tokens: &[Token]) -> Result<(Condition, &[Token]), Halt>
+    ensures { Gives (λ x. condition_written x.0) (λ x. x.1.now) result (read_plain tokens.now) }
+{
+    let (first, rest) = operand_at(alloc, tokens)?;
+    behind_at(alloc, first, rest)
+}
+
+/// A negation.
+#[tactic(auto, unfolding(crate::specs::Reading::read_negated))]
+fn negated_at(alloc: Global, tokens: &[Token]) -> Result<(Condition, &[Token]), Halt>
+    ensures { Gives (λ x. condition_written x.0) (λ x. x.1.now) result (read_negated tokens.now) }
+{
+    let (not, rest) = keyword_at(tokens, Keyword::Not)?;
+    let (_, rest) = sign_at(rest, Sign::OpenParen)?;
+    let (inner, rest) = plain_at(alloc, rest)?;
+    let (close, rest) = sign_at(rest, Sign::CloseParen)?;
+    let span = from_to(not, close);
+    Ok((Condition::Not(Box::new(alloc, inner)?, span), rest))
+}
+
+/// A condition.
+#[tactic(auto, unfolding(crate::specs::Reading::read_condition))]
+pub fn condition_at(alloc: Global, tokens: &[Token]) -> Result<(Condition, &[Token]), Halt>
+    ensures { Gives (λ x. condition_written x.0) (λ x. x.1.now) result (read_condition tokens.now) }
+{
+    if has_keyword(tokens, Keyword::Not) {
+        negated_at(alloc, tokens)
+    } else {
+        plain_at(alloc, tokens)
+    }
+}

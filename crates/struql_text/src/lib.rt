@@ -1,0 +1,14 @@
+//! The readers of a query's terms, links, collections and conditions.
+#![tactic(auto)]
+
+mod conditions;
+mod expression;
+mod keyword;
+mod terms;
+mod tokens;
+
+pub use conditions::condition_at;
+pub use expression::from_to;
+pub use keyword::{Keyword, Word, keyword_of};
+pub use terms::{collect_at, link_at, term_at};
+pub use tokens::{has_keyword, keyword_at, name_at, sign_at};

@@ -1,0 +1,177 @@
+//! The readers of terms, links and collections.
+
+ghost use Rattle.std.specs.Prelude.{◌≡◌, [], ◌∷◌, map};
+ghost use Rattle.grammar.specs.Reading.{iterate};
+ghost use Rattle.sd_lex.specs.declared.token.Sign.TheVariants as sign_kinds;
+ghost use Rattle.struql_ast.specs.Written.{term_written, target_written, link_written, collect_written};
+ghost use Rattle.token_reader.specs.Terminals.{is_sign};
+ghost use Rattle.struql_text.specs.Grammar.{target_span as span_of_target};
+ghost use Rattle.token_reader.specs.Gives.{Gives};
+ghost use Rattle.struql_text.specs.Reading.{read_operand, read_further, read_next, read_listed, read_arguments, read_term, read_made, read_named_target, read_source, read_operand_target, read_target, read_link, read_collect};
+
+use crate::expression::from_to;
+use crate::keyword::Word;
+use crate::tokens::{label_at, name_at, operand_at, sign_at};
+use sd_lex::{Sign, Span, Token};
+use std::alloc::Global;
+use struql_ast::{Collect, Link, Operand, Target, Term0};
+use token_reader::{Halt, has_sign};
+
+/// A comma and an operand.
+#[tactic(auto, unfolding(crate::specs::Reading::read_next))]
+fn next_operand_at(alloc: Global, tokens: &[Token]) -> Result<(Operand, &[Token]), Halt>
+    ensures { Gives (λ x. x.0) (λ x. x.1.now) result (read_next read_operand tokens.now) }
+{
+    let (_, rest) = sign_at(tokens, Sign::Comma)?;
+    operand_at(alloc, rest)
+}
+
+/// This operand, and those behind it.
+fn operands_from(
+    alloc: Global,
+    first: Operand,
+    tokens: &[Token],
+) -> Result<(Vec<Operand>, &[Token]), Halt>
+    ensures { Gives (λ x. x.0.items) (λ x. x.1.now) result (iterate (is_sign sign_kinds.Comma) (read_further read_operand) (first ∷ []) tokens.now) }
+{
+    let mut items = Vec::new(alloc);
+    items.push(first)?;
+    let mut rest = tokens;
+    'list: while has_sign(rest, Sign::Comma) {
+        let (item, after) = next_operand_at(alloc, rest)?;
+        items.push(item)?;
+        rest = after;
+    }
+    Ok((items, rest))
+}
+
+#[tactic(auto, unfolding(crate::specs::Reading::read_listed))]
+fn operands_at(alloc: Global, tokens: &[Token]) -> Result<(Vec<Operand>, &[Token]), Halt>
+    ensures { Gives (λ x. x.0.items) (λ x. x.1.now) result (read_listed read_operand tokens.now) }
+{
+    let (first, rest) = operand_at(alloc, tokens)?;
+    operands_from(alloc, first, rest)
+}
+
+/// The arguments of a function, which make its name a term.
+#[tactic(auto, unfolding(crate::specs::Reading::read_arguments, crate::specs::Reading::read_no_arguments, crate::specs::Reading::read_some_arguments))]
+fn arguments_at(alloc: Global, function: Word, tokens: &[Token]) -> Result<(Term0, &[Token]), Halt>
+    ensures { Gives (λ x. term_written x.0) (λ x. x.1.now) result (read_arguments function tokens.now) }
+{
+    let (_, rest) = sign_at(tokens, Sign::OpenParen)?;
+    let (args, rest) = if has_sign(rest, Sign::CloseParen) {
+        (Vec::new(alloc), rest)
+    } else {
+        operands_at(alloc, rest)?
+    };
+    let (close, rest) = sign_at(rest, Sign::CloseParen)?;
+    let span = from_to(function.span, close);
+    let function = function.text;
+    Ok((
+        Term0 {
+            function,
+            args,
+            span,
+        },
+        rest,
+    ))
+}
+
+/// A term.
+#[tactic(auto, unfolding(crate::specs::Reading::read_term))]
+pub fn term_at(alloc: Global, tokens: &[Token]) -> Result<(Term0, &[Token]), Halt>
+    ensures { Gives (λ x. term_written x.0) (λ x. x.1.now) result (read_term tokens.now) }
+{
+    let (function, rest) = name_at(alloc, tokens)?;
+    arguments_at(alloc, function, rest)
+}
+
+/// What a name is by what stands behind it: a term or a variable.
+#[tactic(auto, unfolding(crate::specs::Reading::read_named_target, crate::specs::Reading::read_made))]
+fn named_target_at(alloc: Global, name: Word, tokens: &[Token]) -> Result<(Target, &[Token]), Halt>
+    ensures { Gives (λ x. target_written x.0) (λ x. x.1.now) result (read_named_target name tokens.now) }
+{
+    if has_sign(tokens, Sign::OpenParen) {
+        let (term, rest) = arguments_at(alloc, name, tokens)?;
+        Ok((Target::Made(term), rest))
+    } else {
+        let variable = Operand::Variable(name.text, name.span);
+        Ok((Target::Plain(variable), tokens))
+    }
+}
+
+/// A name or a term.
+#[tactic(auto, unfolding(crate::specs::Reading::read_source))]
+fn source_at(alloc: Global, tokens: &[Token]) -> Result<(Target, &[Token]), Halt>
+    ensures { Gives (λ x. target_written x.0) (λ x. x.1.now) result (read_source tokens.now) }
+{
+    let (name, rest) = name_at(alloc, tokens)?;
+    named_target_at(alloc, name, rest)
+}
+
+/// An operand or a term.
+#[tactic(auto, unfolding(crate::specs::Reading::read_target, crate::specs::Reading::read_operand_target))]
+fn target_at(alloc: Global, tokens: &[Token]) -> Result<(Target, &[Token]), Halt>
+    ensures { Gives (λ x. target_written x.0) (λ x. x.1.now) result (read_target tokens.now) }
+{
+    let (operand, rest) = operand_at(alloc, tokens)?;
+    match operand {
+        Operand::Variable(text, span) => named_target_at(alloc, Word { text, span }, rest),
+        Operand::Constant(value, span) => {
+            Ok((Target::Plain(Operand::Constant(value, span)), rest))
+        }
+    }
+}
+
+fn span_of(target: &Target) -> Span
+    ensures { result ≡ span_of_target (target_written target.now) }
+{
+    match target {
+        Target::Plain(Operand::Variable(_, span)) => *span,
+        Target::Plain(Operand::Constant(_, span)) => *span,
+        Target::Made(term) => term.span,
+    }
+}
+
+/// A link.
+#[tactic(auto, unfolding(crate::specs::Reading::read_link))]
+pub fn link_at(alloc: Global, tokens: &[Token]) -> Result<(Link, &[Token]), Halt>
+    ensures { Gives (λ x. link_written x.0) (λ x. x.1.now) result (read_link tokens.now) }
+{
+    let (source, rest) = source_at(alloc, tokens)?;
+    let (_, rest) = sign_at(rest, Sign::Arrow)?;
+    let (label, rest) = label_at(alloc, rest)?;
+    let (_, rest) = sign_at(rest, Sign::Arrow)?;
+    let (target, rest) = target_at(alloc, rest)?;
+    let span = from_to(span_of(&source), span_of(&target));
+    Ok((
+        Link {
+            source,
+            label,
+            target,
+            span,
+        },
+        rest,
+    ))
+}
+
+/// A value for a collection.
+#[tactic(auto, unfolding(crate::specs::Reading::read_collect))]
+pub fn collect_at(alloc: Global, tokens: &[Token]) -> Result<(Collect, &[Token]), Halt>
+    ensures { Gives (λ x. collect_written x.0) (λ x. x.1.now) result (read_collect tokens.now) }
+{
+    let (collection, rest) = name_at(alloc, tokens)?;
+    let (_, rest) = sign_at(rest, Sign::OpenParen)?;
+    let (target, rest) = source_at(alloc, rest)?;
+    let (close, rest) = sign_at(rest, Sign::CloseParen)?;
+    let span = from_to(collection.span, close);
+    let collection = collection.text;
+    Ok((
+        Collect {
+            collection,
+            target,
+            span,
+        },
+        rest,
+    ))
+}
