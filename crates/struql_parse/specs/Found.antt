@@ -1,0 +1,43 @@
+-- What the program's blocks and their parts are.
+use Rattle.std.specs.Prelude.{map, Option, Some, None}
+use Rattle.struql_ast.specs.Written.{condition_written, term_written, link_written, collect_written, blocks_written}
+use Rattle.struql_parse.specs.declared.query.Bare.{Bare}
+use Rattle.struql_parse.specs.declared.query.Groups.{Groups}
+use Rattle.struql_parse.specs.declared.query.Item.{Item}
+use Rattle.struql_parse.specs.declared.query.Item.TheVariants.{Conditions, Creates, Links, Collects}
+use Rattle.struql_parse.specs.Blocks as plain
+use Rattle.struql_ast.specs.declared.Block.{Block}
+use Rattle.struql_ast.specs.Written.{block_clauses, block_inner, block_span}
+use Rattle.struql_parse.specs.declared.clauses.Inner.{Inner}
+use Rattle.struql_parse.specs.Blocks.{Body, Placed}
+
+-- what stands between a block's braces
+abbrev pub body_found : Inner → Body
+body_found b = record {
+  clauses = record {
+    conditions = map condition_written b.conditions.items;
+    creates = map term_written b.creates.items;
+    links = map link_written b.links.items;
+    collects = map collect_written b.collects.items;
+  };
+  blocks = blocks_written b.blocks.items;
+}
+
+abbrev pub placed_found : Block → Placed
+placed_found b = record { body = record { clauses = block_clauses b; blocks = block_inner b }; span = block_span b }
+
+abbrev pub bare_found : Bare → plain.Bare
+bare_found b = record { clauses = (body_found b.inner).clauses; blocks = (body_found b.inner).blocks; span = b.span; stage = b.stage }
+
+abbrev pub maybe_found : Option Bare → Option plain.Bare
+maybe_found None = None
+maybe_found (Some b) = Some (bare_found b)
+
+abbrev pub groups_found : Groups → plain.Groups
+groups_found g = record { closed = blocks_written g.closed.items; bare = maybe_found g.bare }
+
+abbrev pub item_found : Item → plain.Item
+item_found (Conditions cs) = plain.conditions_item (map condition_written cs.items)
+item_found (Creates ts) = plain.creates_item (map term_written ts.items)
+item_found (Links ks) = plain.links_item (map link_written ks.items)
+item_found (Collects os) = plain.collects_item (map collect_written os.items)
