@@ -1,0 +1,233 @@
+// The line that tells a status.
+ghost use Rattle.std.specs.Prelude.{◌≡◌, ◌≤◌, ◌⊎◌, ◌++◌, OnOk, IfOk, IfSome, IsSome, codes};
+ghost use Rattle.std.specs.Fmt.{decimal};
+ghost use Rattle.edge_io.specs.Counts.{Rose};
+ghost use Rattle.edge_io.specs.Sink.{Gains, GainsPart};
+ghost use Rattle.page_spec.specs.Show.{show as show_value, address as address_of};
+ghost use Rattle.run_report.specs.Report.{line, message, shown, page_fault, IsFixed};
+ghost use Rattle.run_report.specs.Report as specs;
+
+use crate::status::{PageKind, Place, Status};
+use address::{address, show};
+use edge_io::Sink;
+use sd_value::{NoMemory, Str};
+use std::alloc::Global;
+
+fn source_refusal_name(number: u32) -> &'static [u8]
+    ensures { result.now ≡ specs.source_refusal_name number }
+{
+    match number {
+        11 => b"TooManyEdges",
+        12 => b"TooManyNodes",
+        21 => b"BadByte",
+        22 => b"OpenString",
+        23 => b"IntOutOfRange",
+        24 => b"TooLong",
+        31 => b"Expected",
+        32 => b"KindConflict",
+        41 => b"NotUtf8",
+        42 => b"EmptyLabel",
+        43 => b"Ragged",
+        44 => b"NotJson",
+        45 => b"NotInteger",
+        46 => b"NotRecords",
+        _ => b"",
+    }
+}
+
+fn site_refusal_name(number: u32) -> &'static [u8]
+    ensures { result.now ≡ specs.site_refusal_name number }
+{
+    match number {
+        51 => b"TooManyPositions",
+        61 => b"Unbound",
+        62 => b"NeverCreated",
+        63 => b"Arity",
+        64 => b"LinkFromData",
+        65 => b"ArcAsNode",
+        66 => b"NotLabel",
+        67 => b"Reserved",
+        68 => b"TooManyVariables",
+        71 => b"Expected",
+        72 => b"TooDeep",
+        73 => b"BadVersion",
+        81 => b"Expected",
+        82 => b"Unclosed",
+        83 => b"Twice",
+        84 => b"TooDeep",
+        85 => b"UnknownVariable",
+        _ => b"",
+    }
+}
+
+fn add(text: &mut Vec<u8>, piece: &[u8]) -> Result<(), NoMemory>
+    ensures { OnOk result (text.new.items ≡ text.old.items ++ piece.now) }
+{
+    text.extend_from_slice(piece)?;
+    Ok(())
+}
+
+fn add_number(alloc: Global, text: &mut Vec<u8>, number: u64) -> Result<(), NoMemory>
+    ensures { OnOk result (text.new.items ≡ text.old.items ++ decimal number) }
+{
+    let digits = number.to_string(alloc)?;
+    add(text, digits.as_bytes())
+}
+
+fn add_place(alloc: Global, text: &mut Vec<u8>, place: &Place) -> Result<(), NoMemory>
+    ensures { OnOk result (text.new.items ≡ text.old.items ++ shown place.now) }
+{
+    match place {
+        Place::At(at) => add_number(alloc, text, *at),
+        Place::Row(row) => {
+            add(text, b"row ")?;
+            add_number(alloc, text, *row)
+        }
+        Place::Column(column) => {
+            add(text, b"column ")?;
+            add_number(alloc, text, *column)
+        }
+        Place::Path(path) => {
+            add(text, b"#")?;
+            add(text, path.bytes())
+        }
+    }
+}
+
+fn add_page_fault(alloc: Global, text: &mut Vec<u8>, kind: &PageKind) -> Result<(), NoMemory>
+    ensures { OnOk result (text.new.items ≡ text.old.items ++ page_fault kind.now) }
+{
+    match kind {
+        PageKind::Cyclic(value) => {
+            add(text, b"cyclic embedding at ")?;
+            show(alloc, value, text)?;
+            Ok(())
+        }
+        PageKind::TooLong => add(text, b"too long"),
+        PageKind::LongName => add(text, b"name too long"),
+    }
+}
+
+fn add_unread(text: &mut Vec<u8>, path: &Str) -> Result<(), NoMemory>
+    ensures { OnOk result (text.new.items ≡ text.old.items ++ (codes "cannot read " ++ path.now)) }
+{
+    add(text, b"cannot read ")?;
+    add(text, path.bytes())?;
+    Ok(())
+}
+
+fn add_refusal_name(text: &mut Vec<u8>, number: u32) -> Result<(), NoMemory>
+    ensures { OnOk result (text.new.items ≡ text.old.items ++ specs.refusal_name number) }
+{
+    add(text, source_refusal_name(number))?;
+    add(text, site_refusal_name(number))?;
+    Ok(())
+}
+
+fn add_refusal(
+    alloc: Global,
+    text: &mut Vec<u8>,
+    file: &Str,
+    number: u32,
+    place: &Place,
+) -> Result<(), NoMemory>
+    ensures { OnOk result (text.new.items ≡ text.old.items ++ file.now ++ codes ": " ++ decimal number ++ codes " " ++ specs.refusal_name number ++ codes " at " ++ shown place.now) }
+{
+    add(text, file.bytes())?;
+    add(text, b": ")?;
+    add_number(alloc, text, u64::from(number))?;
+    add(text, b" ")?;
+    add_refusal_name(text, number)?;
+    add(text, b" at ")?;
+    add_place(alloc, text, place)
+}
+
+fn add_message(alloc: Global, text: &mut Vec<u8>, status: &Status) -> Result<(), NoMemory>
+    ensures { OnOk result (text.new.items ≡ text.old.items ++ message status.now) }
+{
+    match status {
+        Status::Ok | Status::NotAllYes => Ok(()),
+        Status::Usage => add(text, b"bad command line"),
+        Status::Refused {
+            file,
+            number,
+            place,
+        } => add_refusal(alloc, text, file, *number, place),
+        Status::ReadFault { path } => add_unread(text, path),
+        Status::WriteFault => add(text, b"cannot write"),
+        Status::WireFault => add(text, b"connection source failed"),
+        Status::PageFault { term, kind } => {
+            add(text, b"page ")?;
+            address(alloc, term, text)?;
+            add(text, b": ")?;
+            add_page_fault(alloc, text, kind)
+        }
+        Status::NoMemory => add(text, b"out of memory"),
+        Status::NotFound => add(text, b"not found"),
+        Status::TurnsSpent => add(text, b"turns spent"),
+    }
+}
+
+fn status_line(alloc: Global, status: &Status) -> Result<Vec<u8>, NoMemory>
+    ensures { IfOk result (λ text. text.items ≡ codes "strudel: " ++ message status.now ++ codes "\n") }
+{
+    let mut text = Vec::new(alloc);
+    add(&mut text, b"strudel: ")?;
+    add_message(alloc, &mut text, status)?;
+    add(&mut text, b"\n")?;
+    Ok(text)
+}
+
+const OUT_OF_MEMORY: &[u8] = b"strudel: out of memory\n";
+
+// The line of a status that has no part of its own: it needs no memory.
+fn fixed_line(status: &Status) -> Option<&'static [u8]>
+    ensures line { IfSome result (λ text. text.now ≡ line status.now) }
+    ensures fixed { IsFixed status.now → IsSome result }
+{
+    match status {
+        Status::Ok | Status::NotAllYes => Some(b""),
+        Status::Usage => Some(b"strudel: bad command line\n"),
+        Status::WriteFault => Some(b"strudel: cannot write\n"),
+        Status::WireFault => Some(b"strudel: connection source failed\n"),
+        Status::NoMemory => Some(OUT_OF_MEMORY),
+        Status::NotFound => Some(b"strudel: not found\n"),
+        Status::TurnsSpent => Some(b"strudel: turns spent\n"),
+        Status::Refused { .. } | Status::ReadFault { .. } | Status::PageFault { .. } => None,
+    }
+}
+
+// Nothing is put where there is no line.
+fn put_line<E: Sink>(text: &[u8], err: &mut E)
+    ensures whole { ¬ Rose (E.failed err.old) (E.failed err.new) → Gains (E.text err.old) (E.text err.new) text.now }
+    ensures part { GainsPart (E.text err.old) (E.text err.new) text.now }
+    ensures later { E.failed err.old ≤ E.failed err.new }
+{
+    if !text.is_empty() {
+        let _ = err.put(text);
+    }
+}
+
+/// Writes the line of a status. Where memory is missing for it, the status is want of memory.
+pub fn report<E: Sink>(alloc: Global, status: Status, err: &mut E) -> Status
+    ensures status { (result ≡ status) ⊎ (result ≡ Status.NoMemory) }
+    ensures fixed { IsFixed status → result ≡ status }
+    ensures whole { ¬ Rose (E.failed err.old) (E.failed err.new) → Gains (E.text err.old) (E.text err.new) (line result) }
+    ensures part { GainsPart (E.text err.old) (E.text err.new) (line result) }
+    ensures later { E.failed err.old ≤ E.failed err.new }
+{
+    if let Some(text) = fixed_line(&status) {
+        put_line(text, err);
+        return status;
+    }
+    match status_line(alloc, &status) {
+        Ok(text) => {
+            let _ = err.put(&text);
+            status
+        }
+        Err(NoMemory) => {
+            let _ = err.put(OUT_OF_MEMORY);
+            Status::NoMemory
+        }
+    }
+}
