@@ -1,8 +1,10 @@
 //! How a run ends, and the line that tells it on the standard error.
 #![tactic(auto)]
 
-mod report;
+mod lines;
 mod status;
+#[cfg(test)]
+mod tests;
 
-pub use report::report;
+pub use lines::report;
 pub use status::{PageKind, Place, Status};
