@@ -1,3 +1,4 @@
 pub mod Joins
+pub mod JoinsLaws
 pub mod Directions
 pub mod Search
