@@ -233,6 +233,21 @@ impl GraphBuilder {
         result
     }
 
+    /// An equal builder. Its texts share their bytes with this one's.
+    pub fn copy(&self, alloc: Global) -> Result<GraphBuilder, NoMemory>
+        ensures { IfOk result (λ b. b ≡ self.now) }
+    {
+        let nodes = copied_names(alloc, &self.nodes)?;
+        let edges = copied_edges(alloc, &self.edges)?;
+        let members = copied_members(alloc, &self.members)?;
+        Ok(GraphBuilder {
+            limits: self.limits,
+            nodes,
+            edges,
+            members,
+        })
+    }
+
     /// The graph that was built.
     pub fn finish(self, alloc: Global) -> Result<Graph, NoMemory>
         ensures { IfOk result (λ graph. graph ≡ self.graph) }
@@ -248,6 +263,36 @@ impl GraphBuilder {
         let members = listed(alloc, members)?;
         Ok(Graph::of(nodes, edges, members))
     }
+}
+
+fn copied_names(alloc: Global, names: &BTreeSet<Str>) -> Result<BTreeSet<Str>, NoMemory>
+    ensures { IfOk result (λ copied. copied.keys ≡ names.now.keys) }
+{
+    let mut copied = BTreeSet::new(alloc);
+    for name in names.iter() {
+        copied.insert(name.copy(alloc)?)?;
+    }
+    Ok(copied)
+}
+
+fn copied_edges(alloc: Global, edges: &BTreeSet<Edge>) -> Result<BTreeSet<Edge>, NoMemory>
+    ensures { IfOk result (λ copied. copied.keys ≡ edges.now.keys) }
+{
+    let mut copied = BTreeSet::new(alloc);
+    for edge in edges.iter() {
+        copied.insert(edge_of(alloc, &edge.from, &edge.label, &edge.to)?)?;
+    }
+    Ok(copied)
+}
+
+fn copied_members(alloc: Global, members: &BTreeSet<Member>) -> Result<BTreeSet<Member>, NoMemory>
+    ensures { IfOk result (λ copied. copied.keys ≡ members.now.keys) }
+{
+    let mut copied = BTreeSet::new(alloc);
+    for member in members.iter() {
+        copied.insert(member_of(alloc, &member.collection, &member.node)?)?;
+    }
+    Ok(copied)
 }
 
 // The elements of a set, ascending.
