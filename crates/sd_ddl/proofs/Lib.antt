@@ -1,0 +1,4 @@
+pub mod Told
+pub mod Maps
+pub mod Conflicts
+pub mod Grouped

@@ -1,0 +1,151 @@
+-- The tables, one part after another.
+use Rattle.std.proofs.Common.{◌≡◌, ◌⊎◌, refl, sym, ap, subst, ◌∙◌, inl, inr, Bool, true, false, ◌&&◌, cond, List, [], ◌∷◌, ◌++◌, if◌then◌else◌, Option, Some, None, Contains, ℕ, Result, Ok, Err}
+use Rattle.std.specs.Result.{OnOk}
+use Rattle.sd_value.specs.declared.NoMemory.{NoMemory}
+use Rattle.std.specs.declared.cmp.Ordering.{Ordering}
+use Rattle.std.specs.declared.cmp.Ordering.TheVariants.{Less, Equal, Greater}
+use Rattle.std.specs.Ordering.{is_eq, ordering_then}
+use Rattle.std.specs.BTreeMap.{BTreeMap, get, is_at}
+use Rattle.std.specs.BTreeSet.{insert_key}
+use Rattle.std.proofs.lemmas.List.{append-nil}
+use Rattle.std.proofs.lemmas.Grind.{flat_map-append}
+use Rattle.sd_value.specs.Order.{bytes_cmp}
+use Rattle.sd_value.specs.OrderLaws.{bytes_cmp-exact, both_tie}
+use Rattle.sd_value.specs.Members.{IsOneOf, Contains-nil, Contains-cons_cases, Contains-here, Contains-there, Contains-flat_map, Contains-flat_mapped, Contains-from_IsOneOf, IsOneOf-from_Contains}
+use Rattle.sd_graph.specs.Inserted.{inserted-there, inserted-cases, inserted-here}
+use Rattle.token_reader.specs.declared.reading.Word.{Word}
+use Rattle.ddl_text.specs.declared.tree.Kind.{Kind}
+use Rattle.sd_ddl.specs.declared.part.Part.{Part}
+use Rattle.sd_ddl.specs.declared.part.Giving.{Giving}
+use Rattle.sd_ddl.specs.declared.part.Part.TheVariants.{Gives, Node, Member, Edge}
+use Rattle.sd_ddl.specs.declared.kinds.Told.{Told}
+use Rattle.sd_ddl.specs.declared.kinds.Told.TheVariants.{Nothing, One, Several}
+use Rattle.sd_ddl.specs.declared.kinds.Givings.{Givings}
+use Rattle.sd_ddl.specs.declared.kinds.Kinds.{Kinds}
+use Rattle.sd_ddl.specs.declared.collections.Collections.{Collections}
+use Rattle.sd_ddl.specs.Kinds.{Name, same_name, same_kind, given, given_by, collections, collection_by, kinds_of, told}
+use Rattle.sd_ddl.specs.Tables.{both, pair_cmp, or_nothing, told_in, names_of, insert_all, HasGivings, HasCollections, Knows, tell, told_of}
+use Rattle.sd_ddl.proofs.Told.{both-nothing, told-more, told-perhaps, Tells, Tells-as, Tells-one, Tells-told, Tells-tell}
+
+eq_then : (p q : Ordering) → is_eq (ordering_then p q) ≡ (is_eq p && is_eq q)
+eq_then Less q = refl
+eq_then Equal q = refl
+eq_then Greater q = refl
+
+is_equal : (r : Ordering) → is_eq r ≡ true → r ≡ Equal
+is_equal Less h = cc
+is_equal Equal h = refl
+is_equal Greater h = cc
+
+pub same_name-is : (x y : Name) → is_eq (bytes_cmp x y) ≡ true → x ≡ y
+same_name-is x y h = bytes_cmp-exact x y (is_equal (bytes_cmp x y) h)
+
+-- what an attribute is told after one giving more
+pub told-added : (m n : BTreeMap (List ℕ × List ℕ) Told) (x y c a : Name) (t : Told) (k : Kind) → x ≡ c → y ≡ a
+    → t ≡ both (or_nothing (get pair_cmp m (c, a))) (One k)
+    → ((q : List ℕ × List ℕ) → get pair_cmp n q ≡ cond (is_at (pair_cmp (x, y)) q) (Some t) (get pair_cmp m q))
+    → (d b : Name) → or_nothing (get pair_cmp n (d, b)) ≡ both (or_nothing (get pair_cmp m (d, b))) (told (if same_name c d && same_name a b then k ∷ [] else []))
+told-added m n x y c a t k ex ey et up d b = by (same_name c d) (same_name a b) refl refl
+  where
+    at : or_nothing (get pair_cmp n (d, b)) ≡ or_nothing (cond (same_name c d && same_name a b) (Some t) (get pair_cmp m (d, b)))
+    at = ap or_nothing (up (d, b)) ∙ (λ i. or_nothing (cond (is_eq (pair_cmp (ex i, ey i) (d, b))) (Some t) (get pair_cmp m (d, b))))
+        ∙ ap (λ o. or_nothing (cond o (Some t) (get pair_cmp m (d, b)))) (eq_then (bytes_cmp c d) (bytes_cmp a b))
+
+    by : (p q : Bool) → same_name c d ≡ p → same_name a b ≡ q
+        → or_nothing (get pair_cmp n (d, b)) ≡ both (or_nothing (get pair_cmp m (d, b))) (told (if p && q then k ∷ [] else []))
+    by true true p q =
+        at ∙ (λ i. or_nothing (cond (p i && q i) (Some t) (get pair_cmp m (d, b)))) ∙ et
+        ∙ (λ i. both (or_nothing (get pair_cmp m (same_name-is c d p i, same_name-is a b q i))) (One k))
+    by true false p q = at ∙ (λ i. or_nothing (cond (p i && q i) (Some t) (get pair_cmp m (d, b)))) ∙ sym (both-nothing _)
+    by false q p e = at ∙ (λ i. or_nothing (cond (p i && e i) (Some t) (get pair_cmp m (d, b)))) ∙ sym (both-nothing _)
+
+-- the givings of one part more
+pub given-more : (front : List Part) (p : Part) (c a : Name) → given (front ++ p ∷ []) c a ≡ given front c a ++ (given_by c a p ++ [])
+given-more front p c a = flat_map-append (given_by c a) front (p ∷ [])
+
+pub givings-more : (front : List Part) (g : Giving) (old new : Givings) → ((c a : Name) → told_in new c a ≡ both (told_in old c a) (told (given_by c a (Gives g))))
+    → HasGivings front old → HasGivings (front ++ Gives g ∷ []) new
+givings-more front g old new add has c a =
+    add c a ∙ ap (λ t. both t (told (given_by c a (Gives g)))) (has c a)
+    ∙ sym (told-perhaps (given front c a) (same_name g.collection c && same_name g.attribute a) g.kind.kind) ∙ sym (ap told (given-more front (Gives g) c a))
+
+-- a part that gives nothing
+pub givings-same : (front : List Part) (p : Part) (table : Givings) → ((c a : Name) → given_by c a p ≡ []) → HasGivings front table → HasGivings (front ++ p ∷ []) table
+givings-same front p table none has c a =
+    has c a ∙ sym (ap told (given-more front p c a ∙ ap (λ ks. given front c a ++ (ks ++ [])) (none c a) ∙ append-nil (given front c a)))
+
+pub insert_all-more : (names ns : List Name) (here : Bool) (n : Name)
+    → insert_all names (ns ++ ((if here then n ∷ [] else []) ++ [])) ≡ (if here then insert_key bytes_cmp (insert_all names ns) n else insert_all names ns)
+insert_all-more names [] true n = refl
+insert_all-more names [] false n = refl
+insert_all-more names (m ∷ ns) here n = insert_all-more (insert_key bytes_cmp names m) ns here n
+
+collections-more : (front : List Part) (p : Part) (o : Name) → collections (front ++ p ∷ []) o ≡ collections front o ++ (collection_by o p ++ [])
+collections-more front p o = flat_map-append (collection_by o) front (p ∷ [])
+
+pub collections-added : (front : List Part) (c : Word) (object : Name) (old new : Collections)
+    → names_of new object ≡ insert_key bytes_cmp (names_of old object) c.text
+    → ((o : Name) → same_name object o ≡ false → names_of new o ≡ names_of old o)
+    → HasCollections front old → HasCollections (front ++ Member c object ∷ []) new
+collections-added front c object old new here others has o =
+    by (same_name object o) refl ∙ sym (insert_all-more [] (collections front o) (same_name object o) c.text) ∙ sym (ap (insert_all []) (collections-more front (Member c object) o))
+  where
+    by : (b : Bool) → same_name object o ≡ b → names_of new o ≡ (if b then insert_key bytes_cmp (insert_all [] (collections front o)) c.text else insert_all [] (collections front o))
+    by true e = subst (λ x. names_of new x ≡ insert_key bytes_cmp (insert_all [] (collections front x)) c.text) (same_name-is object o e) (here ∙ ap (λ ns. insert_key bytes_cmp ns c.text) (has object))
+    by false e = others o e ∙ has o
+
+pub collections-same : (front : List Part) (p : Part) (table : Collections) → ((o : Name) → collection_by o p ≡ []) → HasCollections front table → HasCollections (front ++ p ∷ []) table
+collections-same front p table none has o =
+    has o ∙ sym (ap (insert_all []) (collections-more front p o ∙ ap (λ ns. collections front o ++ (ns ++ [])) (none o) ∙ append-nil (collections front o)))
+
+insert_all-there : (names ns : List Name) (n : Name) → Contains names n → Contains (insert_all names ns) n
+insert_all-there names [] n h = h
+insert_all-there names (m ∷ ns) n h = insert_all-there (insert_key bytes_cmp names m) ns n (inserted-there bytes_cmp m names n h)
+
+insert_all-here : (names ns : List Name) (n : Name) → Contains ns n → Contains (insert_all names ns) n
+insert_all-here names [] n h = absurd (Contains-nil n h)
+insert_all-here names (m ∷ ns) n h =
+    elim (Contains-cons_cases m ns n h) [
+      | inl e ↦ subst (Contains (insert_all names (m ∷ ns))) e (insert_all-there (insert_key bytes_cmp names m) ns m (inserted-here bytes_cmp bytes_cmp-exact m names))
+      | inr rest ↦ insert_all-here (insert_key bytes_cmp names m) ns n rest
+    ]
+
+insert_all-cases : (names ns : List Name) (n : Name) → Contains (insert_all names ns) n → Contains names n ⊎ Contains ns n
+insert_all-cases names [] n h = inl h
+insert_all-cases names (m ∷ ns) n h =
+    elim (insert_all-cases (insert_key bytes_cmp names m) ns n h) [
+      | inl was ↦ elim (inserted-cases bytes_cmp m names n was) [ inl e ↦ inr (subst (Contains (m ∷ ns)) e (Contains-here m ns)) | inr old ↦ inl old ]
+      | inr rest ↦ inr (Contains-there m ns n rest)
+    ]
+
+-- the tables tell what the parts tell
+pub told-known : (parts : List Part) (kinds : Kinds) → Knows parts kinds → (o a : Name) → told_of kinds o a ≡ told (kinds_of parts o a)
+told-known parts kinds knows o a =
+    ap (tell (λ c. told_in kinds.givings c a) Nothing) (knows.1 o)
+    ∙ Tells-one (Contains (kinds_of parts o a)) _ (told (kinds_of parts o a))
+    (Tells-as (λ k. ⊥ ⊎ ((c : Name) × IsOneOf (insert_all [] (collections parts o)) c × Contains (given parts c a) k)) (Contains (kinds_of parts o a)) _ to from
+    (Tells-tell (λ c. Contains (given parts c a)) (λ c. told_in kinds.givings c a) each (λ k. ⊥) Nothing (λ k p. p) (insert_all [] (collections parts o))))
+    (Tells-told (kinds_of parts o a))
+  where
+    each : (c : Name) → Tells (Contains (given parts c a)) (told_in kinds.givings c a)
+    each c = subst (Tells (Contains (given parts c a))) (sym (knows.0 c a)) (Tells-told (given parts c a))
+
+    to : (k : Kind) → ⊥ ⊎ ((c : Name) × IsOneOf (insert_all [] (collections parts o)) c × Contains (given parts c a) k) → Contains (kinds_of parts o a) k
+    to k (inl p) = absurd p
+    to k (inr (c, at, h)) =
+        elim (insert_all-cases [] (collections parts o) c (Contains-from_IsOneOf _ c at)) [
+          | inl none ↦ absurd (Contains-nil c none)
+          | inr is ↦ Contains-flat_mapped (λ n. given parts n a) (collections parts o) c k is h
+        ]
+
+    from : (k : Kind) → Contains (kinds_of parts o a) k → ⊥ ⊎ ((c : Name) × IsOneOf (insert_all [] (collections parts o)) c × Contains (given parts c a) k)
+    from k h =
+        let found = Contains-flat_map (λ n. given parts n a) (collections parts o) k h in
+        inr (found.0, IsOneOf-from_Contains _ found.0 (insert_all-here [] (collections parts o) found.0 found.1), found.2)
+
+pub collections-member : (c : Word) (object : Name) (old new : Collections) (r : Result (Unit {0}) NoMemory)
+    → OnOk r (names_of new object ≡ insert_key bytes_cmp (names_of old object) c.text)
+    → OnOk r ((o : Name) → same_name object o ≡ false → names_of new o ≡ names_of old o)
+    → OnOk r ((front : List Part) → HasCollections front old → HasCollections (front ++ Member c object ∷ []) new)
+collections-member c object old new (Ok u) here others = λ front has. collections-added front c object old new here others has
+collections-member c object old new (Err e) here others = tt

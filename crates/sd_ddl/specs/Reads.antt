@@ -1,0 +1,54 @@
+-- What reading a data text into a graph answers, and what the graph holds afterwards.
+use Rattle.std.specs.Prelude.{◌≡◌, ◌⊎◌, ℕ, List, Result, Ok, Err, ⊤}
+use Rattle.sd_lex.specs.declared.token.Token.{Token}
+use Rattle.sd_lex.specs.Lexing.{IsTextOrFault}
+use Rattle.sd_graph.specs.Statement.{Building}
+use Rattle.ddl_text.specs.declared.tree.Statement.{Statement}
+use Rattle.ddl_text.specs.declared.refusal.TextRefusal.{TextRefusal}
+use Rattle.ddl_text.specs.declared.refusal.TextRefusal.TheVariants as text
+use Rattle.ddl_text.specs.DataText.{file}
+use Rattle.ddl_text.specs.Text.{TextStates}
+use Rattle.sd_ddl.specs.declared.conflict.Stop.{Stop}
+use Rattle.sd_ddl.specs.declared.conflict.Stop.TheVariants as stops
+use Rattle.sd_ddl.specs.declared.refusal.DdlRefusal.{DdlRefusal}
+use Rattle.sd_ddl.specs.declared.refusal.DdlRefusal.TheVariants.{TooLong, BadByte, OpenString, IntOutOfRange, Expected, KindConflict, TooManyEdges, TooManyNodes, NoMemory}
+use Rattle.sd_ddl.specs.Parts.{parts}
+use Rattle.sd_ddl.specs.Stops.{Takes}
+
+-- the text's tokens spell these statements
+abbrev pub Spells : ℕ → List ℕ → List Statement → Type 0
+Spells limit bytes statements = (tokens : List Token) × IsTextOrFault limit bytes (Ok tokens) × file tokens statements
+
+-- the text spells statements, and taking them ends so
+abbrev pub Follows : ℕ → List ℕ → Building → Building → Result ⊤ Stop → Type 0
+Follows limit bytes b c r = (statements : List Statement) × Spells limit bytes statements × Takes (parts statements) b c r
+
+-- a text that spells no statements leaves the graph as it was
+abbrev pub IsNoText : ℕ → List ℕ → Building → Building → TextRefusal → Type 0
+IsNoText limit bytes b c e = (c ≡ b) × TextStates limit bytes (Err e)
+
+abbrev pub Reads : ℕ → List ℕ → Building → Building → Result ⊤ DdlRefusal → Type 0
+Reads limit bytes b c (Ok u) = Follows limit bytes b c (Ok u)
+Reads limit bytes b c (Err (TooLong at)) = IsNoText limit bytes b c (text.TooLong at)
+Reads limit bytes b c (Err (BadByte at)) = IsNoText limit bytes b c (text.BadByte at)
+Reads limit bytes b c (Err (OpenString at)) = IsNoText limit bytes b c (text.OpenString at)
+Reads limit bytes b c (Err (IntOutOfRange at)) = IsNoText limit bytes b c (text.IntOutOfRange at)
+Reads limit bytes b c (Err (Expected at)) = IsNoText limit bytes b c (text.Expected at)
+Reads limit bytes b c (Err (KindConflict at)) = Follows limit bytes b c (Err (stops.KindConflict at))
+Reads limit bytes b c (Err (TooManyEdges at)) = Follows limit bytes b c (Err (stops.TooManyEdges at))
+Reads limit bytes b c (Err (TooManyNodes at)) = Follows limit bytes b c (Err (stops.TooManyNodes at))
+Reads limit bytes b c (Err NoMemory) = (c ≡ b) ⊎ Follows limit bytes b c (Err stops.NoMemory)
+
+abbrev pub of_text : TextRefusal → DdlRefusal
+of_text (text.TooLong at) = TooLong at
+of_text (text.BadByte at) = BadByte at
+of_text (text.OpenString at) = OpenString at
+of_text (text.IntOutOfRange at) = IntOutOfRange at
+of_text (text.Expected at) = Expected at
+of_text text.NoMemory = NoMemory
+
+abbrev pub of_stop : Stop → DdlRefusal
+of_stop (stops.KindConflict at) = KindConflict at
+of_stop (stops.TooManyEdges at) = TooManyEdges at
+of_stop (stops.TooManyNodes at) = TooManyNodes at
+of_stop stops.NoMemory = NoMemory

@@ -1,0 +1,85 @@
+-- The tables in which kinds and collections are looked up.
+use Rattle.std.specs.Prelude.{◌≡◌, Bool, true, false, List, [], ◌∷◌, Option, Some, None, if◌then◌else◌, ℕ}
+use Rattle.std.specs.declared.cmp.Ordering.{Ordering}
+use Rattle.std.specs.Ordering.{ordering_then}
+use Rattle.std.specs.BTreeMap.{get}
+use Rattle.std.specs.BTreeSet.{BTreeSet, insert_key}
+use Rattle.sd_value.specs.Order.{bytes_cmp}
+use Rattle.ddl_text.specs.declared.tree.Kind.{Kind}
+use Rattle.ddl_text.specs.declared.tree.Content.{Content}
+use Rattle.ddl_text.specs.declared.tree.Content.TheVariants as contents
+use Rattle.sd_ddl.specs.declared.part.Part.{Part}
+use Rattle.sd_ddl.specs.declared.part.Part.TheVariants.{Gives, Node, Member, Edge}
+use Rattle.sd_ddl.specs.declared.kinds.Told.{Told}
+use Rattle.sd_ddl.specs.declared.kinds.Told.TheVariants.{Nothing, One, Several}
+use Rattle.sd_ddl.specs.declared.kinds.Givings.{Givings}
+use Rattle.sd_ddl.specs.declared.kinds.Kinds.{Kinds}
+use Rattle.sd_ddl.specs.declared.collections.Collections.{Collections}
+use Rattle.sd_ddl.specs.Kinds.{Name, same_kind, given_by, given, collections, told}
+
+-- what two tell together
+abbrev pub both : Told → Told → Told
+both Nothing t = t
+both (One k) Nothing = One k
+both (One k) (One j) = if same_kind k j then One k else Several
+both (One k) Several = Several
+both Several t = Several
+
+abbrev pub is_several : Told → Bool
+is_several Nothing = false
+is_several (One k) = false
+is_several Several = true
+
+abbrev pub pair_cmp : (List ℕ × List ℕ) → (List ℕ × List ℕ) → Ordering
+pair_cmp x y = ordering_then (bytes_cmp x.0 y.0) (bytes_cmp x.1 y.1)
+
+abbrev pub or_nothing : Option Told → Told
+or_nothing (Some t) = t
+or_nothing None = Nothing
+
+abbrev pub told_in : Givings → Name → Name → Told
+told_in givings collection attribute = or_nothing (get pair_cmp givings.told (collection, attribute))
+
+abbrev pub names_in : Option (BTreeSet (List ℕ)) → List Name
+names_in (Some names) = names.keys
+names_in None = []
+
+-- the collections of an object
+abbrev pub names_of : Collections → Name → List Name
+names_of table object = names_in (get bytes_cmp table.of object)
+
+abbrev pub insert_all : List Name → List Name → List Name
+insert_all names [] = names
+insert_all names (n ∷ ns) = insert_all (insert_key bytes_cmp names n) ns
+
+-- the table has what these parts give
+abbrev pub HasGivings : List Part → Givings → Type 0
+HasGivings parts table = (c a : Name) → told_in table c a ≡ told (given parts c a)
+
+-- the table has the collections that these parts tell
+abbrev pub HasCollections : List Part → Collections → Type 0
+HasCollections parts table = (o : Name) → names_of table o ≡ insert_all [] (collections parts o)
+
+abbrev pub Knows : List Part → Kinds → Type 0
+Knows parts kinds = HasGivings parts kinds.givings × HasCollections parts kinds.collections
+
+-- what is told of each of the names, one after another
+abbrev pub tell : (Name → Told) → Told → List Name → Told
+tell f t [] = t
+tell f t (n ∷ ns) = tell f (both t (f n)) ns
+
+abbrev pub told_of : Kinds → Name → Name → Told
+told_of kinds object attribute = tell (λ c. told_in kinds.givings c attribute) Nothing (names_of kinds.collections object)
+
+abbrev pub has_two_kinds : Told → Content → Bool
+has_two_kinds t (contents.Number n) = false
+has_two_kinds t (contents.Plain s) = is_several t
+has_two_kinds t (contents.Kinded k s) = false
+has_two_kinds t (contents.Node n) = false
+
+-- whether the part is a conflict, by the tables
+abbrev pub is_conflict : Givings → Kinds → Part → Bool
+is_conflict seen kinds (Gives g) = is_several (both (told_in seen g.collection g.attribute) (One g.kind.kind))
+is_conflict seen kinds (Node n) = false
+is_conflict seen kinds (Member c n) = false
+is_conflict seen kinds (Edge o l v) = has_two_kinds (told_of kinds o l) v.content

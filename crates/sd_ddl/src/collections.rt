@@ -1,0 +1,66 @@
+// The collections of objects.
+ghost use Rattle.std.specs.Prelude.{◌≡◌, ◌∷◌, ◌++◌, OnOk, IfSome, IfNone, List, [], false};
+ghost use Rattle.std.specs.BTreeSet.{insert_key};
+ghost use Rattle.sd_value.specs.Order.{bytes_cmp};
+ghost use Rattle.sd_ddl.specs.declared.part.Part.{Part as AnyPart};
+ghost use Rattle.sd_ddl.specs.Kinds.{Name, same_name};
+ghost use Rattle.sd_ddl.specs.Tables.{names_of, HasCollections};
+
+use crate::part::Part;
+use sd_value::{NoMemory, Str};
+use std::alloc::Global;
+use std::collections::{BTreeMap, BTreeSet};
+
+/// The collections of each object, as far as they were told.
+#[derive(Drop)]
+pub(crate) struct Collections {
+    of: BTreeMap<Str, BTreeSet<Str>>,
+}
+
+impl Collections {
+    /// No object is in a collection.
+    pub(crate) fn new(alloc: Global) -> Collections
+        ensures { (object : Name) → names_of result object ≡ [] }
+    {
+        Collections {
+            of: BTreeMap::new(alloc),
+        }
+    }
+
+    /// One more collection of an object.
+    pub(crate) fn add(
+        &mut self,
+        alloc: Global,
+        object: &Str,
+        collection: &Str,
+    ) -> Result<(), NoMemory>
+        ensures here { OnOk result (names_of self.new object.now ≡ insert_key bytes_cmp (names_of self.old object.now) collection.now) }
+        ensures others { OnOk result ((o : Name) → same_name object.now o ≡ false → names_of self.new o ≡ names_of self.old o) }
+    {
+        let mut names = match self.of.remove(object) {
+            Some(names) => names,
+            None => BTreeSet::new(alloc),
+        };
+        names.insert(collection.copy(alloc)?)?;
+        self.of.insert(object.copy(alloc)?, names)?;
+        Ok(())
+    }
+
+    /// Adds the collection that a part tells.
+    pub(crate) fn add_part(&mut self, alloc: Global, part: &Part) -> Result<(), NoMemory>
+        ensures { OnOk result ((front : List AnyPart) → HasCollections front self.old → HasCollections (front ++ part.now ∷ []) self.new) }
+    {
+        match part {
+            Part::Member(collection, object) => self.add(alloc, object, &collection.text),
+            Part::Gives(_) | Part::Node(_) | Part::Edge(_, _, _) => Ok(()),
+        }
+    }
+
+    /// The collections of an object.
+    pub(crate) fn names(&self, object: &Str) -> Option<&BTreeSet<Str>>
+        ensures some { IfSome result (λ names. names.now.keys ≡ names_of self.now object.now) }
+        ensures none { IfNone result (names_of self.now object.now ≡ []) }
+    {
+        self.of.get(object)
+    }
+}

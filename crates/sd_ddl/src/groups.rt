@@ -1,0 +1,75 @@
+// Items by the node that they belong to.
+ghost use Rattle.std.specs.Prelude.{◌≡◌, ◌∷◌, ◌++◌, [], OnOk, IfOk, false};
+ghost use Rattle.sd_ddl.specs.Kinds.{Name, same_name};
+ghost use Rattle.sd_ddl.specs.Groups.{items_of};
+ghost use Rattle.sd_ddl.specs.Written.{collections_of, steps_out};
+
+use sd_graph::{Edge, Member, Step};
+use sd_value::{NoMemory, Str, copy};
+use std::alloc::Global;
+use std::collections::BTreeMap;
+
+/// Items by the node that they belong to, each node's in the order in which they came.
+#[derive(Drop)]
+pub(crate) struct Groups<T> {
+    of: BTreeMap<Str, Vec<T>>,
+}
+
+impl<T: Drop> Groups<T> {
+    /// No items.
+    pub(crate) fn new(alloc: Global) -> Groups<T>
+        ensures { (n : Name) → items_of result n ≡ [] }
+    {
+        Groups {
+            of: BTreeMap::new(alloc),
+        }
+    }
+
+    /// One more item of a node.
+    pub(crate) fn add(&mut self, alloc: Global, node: &Str, item: T) -> Result<(), NoMemory>
+        ensures here { OnOk result (items_of self.new node.now ≡ items_of self.old node.now ++ item ∷ []) }
+        ensures others { OnOk result ((n : Name) → same_name node.now n ≡ false → items_of self.new n ≡ items_of self.old n) }
+    {
+        let mut items = match self.of.remove(node) {
+            Some(items) => items,
+            None => Vec::new(alloc),
+        };
+        items.push(item)?;
+        self.of.insert(node.copy(alloc)?, items)?;
+        Ok(())
+    }
+
+    /// The items of a node.
+    pub(crate) fn at(&self, node: &Str) -> &[T]
+        ensures { result.now ≡ items_of self.now node.now }
+    {
+        match self.of.get(node) {
+            Some(items) => items.as_slice(),
+            None => &[],
+        }
+    }
+}
+
+/// The collections of each node.
+pub(crate) fn group_members(alloc: Global, members: &[Member]) -> Result<Groups<Str>, NoMemory>
+    ensures { IfOk result (λ groups. (n : Name) → items_of groups n ≡ collections_of members.now n) }
+{
+    let mut groups = Groups::new(alloc);
+    for member in members {
+        groups.add(alloc, &member.node, member.collection.copy(alloc)?)?;
+    }
+    Ok(groups)
+}
+
+/// The labels and ends of each node's edges.
+pub(crate) fn group_edges(alloc: Global, edges: &[Edge]) -> Result<Groups<Step>, NoMemory>
+    ensures { IfOk result (λ groups. (n : Name) → items_of groups n ≡ steps_out edges.now n) }
+{
+    let mut groups = Groups::new(alloc);
+    for edge in edges {
+        let label = edge.label.copy(alloc)?;
+        let end = copy(alloc, &edge.to)?;
+        groups.add(alloc, &edge.from, Step { label, end })?;
+    }
+    Ok(groups)
+}

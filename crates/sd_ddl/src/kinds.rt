@@ -1,0 +1,165 @@
+// The kinds that directives give.
+ghost use Rattle.std.specs.Prelude.{◌≡◌, ◌∷◌, ◌++◌, [], List, IfOk, OnOk, true};
+ghost use Rattle.sd_ddl.specs.declared.part.Part.{Part as AnyPart};
+ghost use Rattle.sd_ddl.specs.declared.part.Part.TheVariants.{Gives};
+ghost use Rattle.sd_ddl.specs.declared.kinds.Told.TheVariants.{Nothing as NothingTold, One as OneTold};
+ghost use Rattle.sd_ddl.specs.Kinds.{Name, given_by, told};
+ghost use Rattle.sd_ddl.specs.Tables.{told_in, told_of, both, is_several, tell, HasGivings, Knows, names_of, is_conflict};
+
+use crate::collections::Collections;
+use crate::part::{Giving, Part};
+use ddl_text::{Content, Kind};
+use sd_value::{NoMemory, Str};
+use std::alloc::Global;
+use std::collections::BTreeMap;
+
+/// Which kinds are told.
+#[derive(Clone, Copy, PartialEq, Eq)]
+pub enum Told {
+    Nothing,
+    One(Kind),
+    Several,
+}
+
+impl Told {
+    /// What both tell together.
+    pub(crate) fn and(self, other: Told) -> Told
+        ensures { result ≡ both self other }
+    {
+        match (self, other) {
+            (Told::Nothing, told) => told,
+            (told, Told::Nothing) => told,
+            (Told::One(kind), Told::One(same)) if kind == same => Told::One(kind),
+            (_, _) => Told::Several,
+        }
+    }
+
+    fn is_several(self) -> bool
+        ensures { result ≡ is_several self }
+    {
+        matches!(self, Told::Several)
+    }
+}
+
+/// The kinds that were given so far, by collection and attribute.
+#[derive(Drop)]
+pub(crate) struct Givings {
+    told: BTreeMap<(Str, Str), Told>,
+}
+
+impl Givings {
+    /// Nothing is given.
+    pub(crate) fn new(alloc: Global) -> Givings
+        ensures { (collection attribute : Name) → told_in result collection attribute ≡ NothingTold }
+    {
+        Givings {
+            told: BTreeMap::new(alloc),
+        }
+    }
+
+    /// The kinds that were given to an attribute.
+    pub(crate) fn told(
+        &self,
+        alloc: Global,
+        collection: &Str,
+        attribute: &Str,
+    ) -> Result<Told, NoMemory>
+        ensures { IfOk result (λ told. told ≡ told_in self.now collection.now attribute.now) }
+    {
+        let key = (collection.copy(alloc)?, attribute.copy(alloc)?);
+        match self.told.get(&key) {
+            Some(told) => Ok(*told),
+            None => Ok(Told::Nothing),
+        }
+    }
+
+    /// One more giving.
+    pub(crate) fn add(&mut self, alloc: Global, giving: &Giving) -> Result<(), NoMemory>
+        ensures { OnOk result ((c a : Name) → told_in self.new c a ≡ both (told_in self.old c a) (told (given_by c a (Gives giving.now)))) }
+    {
+        let kind = giving.kind.kind;
+        let told = self.told(alloc, &giving.collection, &giving.attribute)?;
+        let key = (
+            giving.collection.copy(alloc)?,
+            giving.attribute.copy(alloc)?,
+        );
+        self.told.insert(key, told.and(Told::One(kind)))?;
+        Ok(())
+    }
+
+    /// Adds what a part gives. After the parts of a front, the table has what these and this part give.
+    pub(crate) fn add_part(&mut self, alloc: Global, part: &Part) -> Result<(), NoMemory>
+        ensures { OnOk result ((front : List AnyPart) → HasGivings front self.old → HasGivings (front ++ part.now ∷ []) self.new) }
+    {
+        match part {
+            Part::Gives(giving) => self.add(alloc, giving),
+            Part::Node(_) | Part::Member(_, _) | Part::Edge(_, _, _) => Ok(()),
+        }
+    }
+}
+
+/// The kinds and the collections that a text tells.
+#[derive(Drop)]
+pub(crate) struct Kinds {
+    givings: Givings,
+    collections: Collections,
+}
+
+impl Kinds {
+    /// What these parts tell.
+    pub(crate) fn of(alloc: Global, parts: &[Part]) -> Result<Kinds, NoMemory>
+        ensures { IfOk result (λ kinds. Knows parts.now kinds) }
+    {
+        let mut givings = Givings::new(alloc);
+        let mut collections = Collections::new(alloc);
+        for part in parts {
+            givings.add_part(alloc, part)?;
+            collections.add_part(alloc, part)?;
+        }
+        Ok(Kinds {
+            givings,
+            collections,
+        })
+    }
+
+    /// The kinds that directives of the object's collections give the attribute.
+    pub(crate) fn told(
+        &self,
+        alloc: Global,
+        object: &Str,
+        attribute: &Str,
+    ) -> Result<Told, NoMemory>
+        ensures { IfOk result (λ t. t ≡ told_of self.now object.now attribute.now) }
+    {
+        let mut told = Told::Nothing;
+        let Some(names) = self.collections.names(object) else {
+            return Ok(told);
+        };
+        for name in names.iter() {
+            told = told.and(self.givings.told(alloc, name, attribute)?);
+        }
+        Ok(told)
+    }
+
+    /// Whether the part is a conflict of kinds, where `seen` has what the parts before it give.
+    pub(crate) fn conflicts(
+        &self,
+        alloc: Global,
+        seen: &Givings,
+        part: &Part,
+    ) -> Result<bool, NoMemory>
+        ensures { IfOk result (λ found. found ≡ is_conflict seen.now self.now part.now) }
+    {
+        match part {
+            Part::Gives(giving) => {
+                let told = seen.told(alloc, &giving.collection, &giving.attribute)?;
+                Ok(told.and(Told::One(giving.kind.kind)).is_several())
+            }
+            Part::Edge(object, attribute, given) => match &given.content {
+                Content::Plain(_) => Ok(self.told(alloc, object, attribute)?.is_several()),
+                Content::Number(_) | Content::Kinded(_, _) | Content::Node(_) => Ok(false),
+            },
+            Part::Node(_) | Part::Member(_, _) => Ok(false),
+        }
+    }
+}

@@ -1,0 +1,19 @@
+//! The data text: what it says of a data graph, and how a data graph is written.
+#![tactic(auto)]
+
+mod collections;
+mod conflict;
+mod groups;
+mod kinds;
+mod part;
+mod reading;
+mod refusal;
+mod writing;
+
+pub use ddl_text::Kind;
+pub use reading::read_ddl;
+pub use refusal::DdlRefusal;
+pub use writing::write_ddl;
+
+#[cfg(test)]
+mod tests;
