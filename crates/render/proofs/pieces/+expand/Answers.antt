@@ -1,0 +1,73 @@
+use Rattle.std.proofs.Common.{◌≡◌, ◌++◌, List, ℕ, ap, ◌∙◌, sym, refl, arith, subst, take, drop, length}
+use Rattle.std.proofs.lemmas.List.{take_all}
+use Rattle.sd_value.specs.declared.Value.{Value}
+use Rattle.page_spec.specs.declared.Bound.{Bound}
+use Rattle.tmpl.specs.declared.Part.{Part}
+use Rattle.tmpl.specs.Body.{body_of}
+use Rattle.page_spec.specs.Site.{Scene}
+use Rattle.page_spec.specs.Pieces.{Item, Expands, Joined, Formatted, Holds, binding, items_of, delimiter}
+use Rattle.render.specs.Rows.{PartExpands}
+use Rattle.render.proofs.Joins.{joined_more, expands_more, expands_all, taken_by, not_taken_by, choice_taken, choice_other, repeated}
+use Rattle.render.proofs.pieces.+expand.Goals as goal
+
+pub expand-returns-clause-answer : goal.expand-returns-clause-answer
+expand-returns-clause-answer g t c =
+    let fixed = g.V.SiteView.fixed c.args.view.now in
+    expands_all (g.V.SiteView.site fixed) (g.V.SiteView.templates fixed) record { here = c.args.here.now; loops = c.args.loops.now } c.args.parts.now c.loop-part.part-index c.loop-part.pieces.items (omega arith) c.loop-part.invariant.so_far
+
+pub expand_part-returns-in_ok-pieces-in-Format-clause-answer : goal.expand_part-returns-in_ok-pieces-in-Format-clause-answer
+expand_part-returns-in_ok-pieces-in-Format-clause-answer g t c =
+    let fixed = g.V.SiteView.fixed c.args.view.now in
+    let j = subst (λ x. Joined (Formatted (g.V.SiteView.site x) (g.V.SiteView.templates x) c.in-Format.format.mode) (delimiter c.in-Format.format.order.delimiter) c.as_slice.result.now (items_of c.in_ok-pieces-in-Format.pieces.items)) c.arranged.ensures.fixed c.in_ok-pieces-in-Format.ensures.answer in
+    let j' = subst (λ (l : List Value). Joined (Formatted (g.V.SiteView.site fixed) (g.V.SiteView.templates fixed) c.in-Format.format.mode) (delimiter c.in-Format.format.order.delimiter) l (items_of c.in_ok-pieces-in-Format.pieces.items)) c.as_slice.ensures.value j in
+    λ rest b h. rw c.in-Format.is (c.in_ok-values-in-Format.values.items, items_of c.in_ok-pieces-in-Format.pieces.items, b, c.in_ok-values-in-Format.ensures.answer, j', h, refl)
+
+pub expand_part-returns-in_ok-pieces-in-Choice-clause-answer : goal.expand_part-returns-in_ok-pieces-in-Choice-clause-answer
+expand_part-returns-in_ok-pieces-in-Choice-clause-answer g t c =
+    let fixed = g.V.SiteView.fixed c.args.view.now in
+    let sc : Scene = record { here = c.args.here.now; loops = c.args.loops.now } in
+    let x = c.in-Choice.choice in
+    let ps = items_of c.in_ok-pieces-in-Choice.pieces.items in
+    let h = c.in_ok-holds-in-Choice.ensures.answer in
+    let taken = taken_by x.negated c.in_ok-holds-in-Choice.holds (Holds (g.V.SiteView.site fixed) sc x.values x.against) h.0 h.1 (sym c.is_taken.ensures ∙ c.if-is_taken.true) in
+    let e = subst (λ y. Expands (g.V.SiteView.site y) (g.V.SiteView.templates y) sc (body_of c.as_slice-then-is_taken.result.now) ps) c.holds.ensures.fixed c.in_ok-pieces-in-Choice.ensures.answer in
+    let e' = subst (λ (l : List Part). Expands (g.V.SiteView.site fixed) (g.V.SiteView.templates fixed) sc (body_of l) ps) c.as_slice-then-is_taken.ensures.value e in
+    choice_taken (g.V.SiteView.site fixed) (g.V.SiteView.templates fixed) sc c.args.part.now x ps c.in-Choice.is taken e'
+
+pub expand_part-returns-in_ok-pieces-in-Choice-2-clause-answer : goal.expand_part-returns-in_ok-pieces-in-Choice-2-clause-answer
+expand_part-returns-in_ok-pieces-in-Choice-2-clause-answer g t c =
+    let fixed = g.V.SiteView.fixed c.args.view.now in
+    let sc : Scene = record { here = c.args.here.now; loops = c.args.loops.now } in
+    let x = c.in-Choice.choice in
+    let ps = items_of c.in_ok-pieces-in-Choice-2.pieces.items in
+    let h = c.in_ok-holds-in-Choice.ensures.answer in
+    let not_taken = not_taken_by x.negated c.in_ok-holds-in-Choice.holds (Holds (g.V.SiteView.site fixed) sc x.values x.against) h.0 h.1 (sym c.is_taken.ensures ∙ c.if-is_taken.false) in
+    let e = subst (λ y. Expands (g.V.SiteView.site y) (g.V.SiteView.templates y) sc (body_of c.as_slice-else-is_taken.result.now) ps) c.holds.ensures.fixed c.in_ok-pieces-in-Choice-2.ensures.answer in
+    let e' = subst (λ (l : List Part). Expands (g.V.SiteView.site fixed) (g.V.SiteView.templates fixed) sc (body_of l) ps) c.as_slice-else-is_taken.ensures.value e in
+    choice_other (g.V.SiteView.site fixed) (g.V.SiteView.templates fixed) sc c.args.part.now x ps c.in-Choice.is not_taken e'
+
+pub expand_part-loop-number-preserved : goal.expand_part-loop-number-preserved
+expand_part-loop-number-preserved g t c =
+    let fixed = g.V.SiteView.fixed c.args.view.now in
+    let sc : Scene = record { here = c.args.here.now; loops = c.args.loops.now } in
+    let x = c.in-Repeat.repeat in
+    let v = c.value-item.result in
+    let more = items_of c.in_ok-more-in-Repeat.more.items in
+    let e = subst (λ y. Expands (g.V.SiteView.site y) (g.V.SiteView.templates y) record { here = c.args.here.now; loops = c.as_slice-in-loop-number.result.now } (body_of c.as_slice-in-loop-number-2.result.now) more) c.loop-number.invariant.fixed c.in_ok-more-in-Repeat.ensures.answer in
+    let e' = subst (λ (l : List Part). Expands (g.V.SiteView.site fixed) (g.V.SiteView.templates fixed) record { here = c.args.here.now; loops = c.as_slice-in-loop-number.result.now } (body_of l) more) c.as_slice-in-loop-number-2.ensures.value e in
+    let e'3 = subst (λ (l : List Bound). Expands (g.V.SiteView.site fixed) (g.V.SiteView.templates fixed) record { here = c.args.here.now; loops = l } (body_of x.body.items) more) (c.as_slice-in-loop-number.ensures.value ∙ c.in_ok-inner-in-Repeat.ensures) e' in
+    record {
+      own = c.expand-in-loop-number.ensures.own;
+      fixed = c.expand-in-loop-number.ensures.fixed ∙ c.loop-number.invariant.fixed;
+      joined = rw (c.in_ok-append-in-Repeat-2.ensures.items, c.in_ok-append-in-Repeat.ensures.items) (joined_more (λ w. Expands (g.V.SiteView.site fixed) (g.V.SiteView.templates fixed) (binding sc x.number w) (body_of x.body.items)) (delimiter x.order.delimiter) c.deref-value-items.result.now c.loop-number.number v c.loop-number.pieces.items c.in_ok-before-in-Repeat.before.items c.in_ok-more-in-Repeat.more.items (omega arith) c.value-item.is c.loop-number.invariant.joined c.in_ok-before-in-Repeat.ensures e'3);
+    }
+
+pub expand_part-returns-after-loop-number-clause-answer : goal.expand_part-returns-after-loop-number-clause-answer
+expand_part-returns-after-loop-number-clause-answer g t c =
+    let fixed = g.V.SiteView.fixed c.args.view.now in
+    let sc : Scene = record { here = c.args.here.now; loops = c.args.loops.now } in
+    let x = c.in-Repeat.repeat in
+    let P = λ (w : Value) (is : List Item). Expands (g.V.SiteView.site fixed) (g.V.SiteView.templates fixed) (binding sc x.number w) (body_of x.body.items) is in
+    let ps = items_of c.loop-number.pieces.items in
+    let all = take_all c.loop-number.number c.deref-value-items.result.now (omega arith) ∙ c.deref-value-items.ensures.value in
+    repeated (g.V.SiteView.site fixed) (g.V.SiteView.templates fixed) sc c.args.part.now x c.in_ok-values-in-Repeat.values.items ps c.in-Repeat.is c.in_ok-values-in-Repeat.ensures.answer (subst (λ (l : List Value). Joined P (delimiter x.order.delimiter) l ps) all c.loop-number.invariant.joined)

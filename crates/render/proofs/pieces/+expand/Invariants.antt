@@ -1,0 +1,18 @@
+use Rattle.std.proofs.Common.{◌≡◌, ◌++◌, List, take, drop}
+use Rattle.tmpl.specs.Body.{body_of}
+use Rattle.page_spec.specs.Pieces.{Item, Expands, Joined, binding, items_of, delimiter}
+use Rattle.render.proofs.pieces.+expand.Given as goal
+
+abbrev pub invariant-expand-loop-part : goal.invariant-expand-loop-part
+invariant-expand-loop-part g l = record {
+  own : g.V.SiteView.Own l.view;
+  fixed : g.V.SiteView.fixed l.view ≡ g.V.SiteView.fixed l.fn.view;
+  so_far : (b : List Item) → Expands (g.V.SiteView.site (g.V.SiteView.fixed l.fn.view)) (g.V.SiteView.templates (g.V.SiteView.fixed l.fn.view)) record { here = l.here; loops = l.loops } (body_of (drop l.part-index l.parts)) b → Expands (g.V.SiteView.site (g.V.SiteView.fixed l.fn.view)) (g.V.SiteView.templates (g.V.SiteView.fixed l.fn.view)) record { here = l.here; loops = l.loops } (body_of l.parts) (items_of l.pieces.items ++ b);
+}
+
+abbrev pub invariant-expand_part-loop-number : goal.invariant-expand_part-loop-number
+invariant-expand_part-loop-number g l = record {
+  own : g.V.SiteView.Own l.view;
+  fixed : g.V.SiteView.fixed l.view ≡ g.V.SiteView.fixed l.fn.view;
+  joined : Joined (λ v. Expands (g.V.SiteView.site (g.V.SiteView.fixed l.fn.view)) (g.V.SiteView.templates (g.V.SiteView.fixed l.fn.view)) (binding record { here = l.here; loops = l.loops } l.repeat.number v) (body_of l.repeat.body.items)) (delimiter l.repeat.order.delimiter) (take l.number l.value-items) (items_of l.pieces.items);
+}

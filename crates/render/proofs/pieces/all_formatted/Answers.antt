@@ -1,0 +1,15 @@
+use Rattle.std.proofs.Common.{◌≡◌, ◌++◌, ap, ◌∙◌, sym, arith, subst}
+use Rattle.page_spec.specs.Pieces.{Formatted, Joined, items_of, delimiter}
+use Rattle.render.proofs.Joins.{joined_more}
+use Rattle.render.proofs.pieces.all_formatted.Goals as goal
+
+pub loop-number-preserved : goal.loop-number-preserved
+loop-number-preserved g c =
+    let fixed = g.V.SiteView.fixed c.args.view.now in
+    let d = delimiter c.args.delimiter.now in
+    let more = subst (λ x. Formatted (g.V.SiteView.site x) (g.V.SiteView.templates x) c.args.mode.now c.index-values-number.result (items_of c.in_ok-more.more.items)) c.loop-number.invariant.fixed c.in_ok-more.ensures.answer in
+    record {
+      own = c.formatted.ensures.own;
+      fixed = c.formatted.ensures.fixed ∙ c.loop-number.invariant.fixed;
+      joined = rw (c.in_ok-append-2.ensures.items, c.in_ok-append.ensures.items) (joined_more (Formatted (g.V.SiteView.site fixed) (g.V.SiteView.templates fixed) c.args.mode.now) d c.args.values.now c.loop-number.number c.index-values-number.result c.loop-number.pieces.items c.in_ok-before.before.items c.in_ok-more.more.items (omega arith) c.index-values-number.is c.loop-number.invariant.joined c.in_ok-before.ensures more);
+    }

@@ -1,0 +1,10 @@
+use Rattle.std.proofs.Common.{◌≡◌, take}
+use Rattle.page_spec.specs.Pieces.{Formatted, Joined, items_of, delimiter}
+use Rattle.render.proofs.pieces.all_formatted.Given as goal
+
+abbrev pub invariant-loop-number : goal.invariant-loop-number
+invariant-loop-number g l = record {
+  own : g.V.SiteView.Own l.view;
+  fixed : g.V.SiteView.fixed l.view ≡ g.V.SiteView.fixed l.initial.view;
+  joined : Joined (Formatted (g.V.SiteView.site (g.V.SiteView.fixed l.initial.view)) (g.V.SiteView.templates (g.V.SiteView.fixed l.initial.view)) l.mode) (delimiter l.delimiter) (take l.number l.values) (items_of l.pieces.items);
+}

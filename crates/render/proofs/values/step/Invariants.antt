@@ -1,0 +1,10 @@
+use Rattle.std.proofs.Common.{◌≡◌, take}
+use Rattle.render.proofs.Gather.{Gathered}
+use Rattle.render.proofs.values.step.Given as goal
+
+abbrev pub invariant-loop-value : goal.invariant-loop-value
+invariant-loop-value g l = record {
+  own : g.V.SiteView.Own l.view;
+  fixed : g.V.SiteView.fixed l.view ≡ g.V.SiteView.fixed l.initial.view;
+  gathered : Gathered (λ m v. (g.V.SiteView.site (g.V.SiteView.fixed l.initial.view)).edge m l.label v) (take l.value-index l.from) l.ends.items;
+}
