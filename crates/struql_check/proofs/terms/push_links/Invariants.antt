@@ -1,0 +1,9 @@
+use Rattle.std.proofs.Common.{◌≡◌, ◌++◌, take}
+use Rattle.std.specs.Prelude.{map}
+use Rattle.std.specs.List.{flat_map}
+use Rattle.struql_ast.specs.Written.{link_written}
+use Rattle.struql_check.specs.Scope.{link_terms}
+use Rattle.struql_check.proofs.terms.push_links.Given as goal
+
+abbrev pub invariant-loop-link : goal.invariant-loop-link
+invariant-loop-link l = l.found.items ≡ l.initial.found.items ++ flat_map link_terms (map link_written (take l.link-index l.links))

@@ -1,0 +1,34 @@
+-- What a check answers.
+use Rattle.std.specs.Prelude.{◌≡◌, ℕ, Result, Ok, Err}
+use Rattle.query_spec.specs.Query as plain
+use Rattle.struql_ast.specs.declared.Query.{Query}
+use Rattle.struql_ast.specs.Reading.{query_of}
+use Rattle.struql_ast.specs.Written as written
+use Rattle.struql_ast.specs.Written.{query_written}
+use Rattle.struql_check.specs.declared.faults.Check.TheVariants as checks
+use Rattle.struql_check.specs.declared.faults.Check.{Check}
+use Rattle.struql_check.specs.declared.faults.Fault.{Fault}
+use Rattle.struql_check.specs.declared.refusal.CheckRefusal.{CheckRefusal}
+use Rattle.struql_check.specs.declared.refusal.CheckRefusal.TheVariants.{TooManyPositions, Unbound, NeverCreated, Arity, LinkFromData, ArcAsNode, NotLabel, Reserved, TooManyVariables, NoMemory}
+use Rattle.struql_check.specs.Faults.{Faulty, IsLeastFault, IsFaultless}
+
+abbrev pub told : Check → ℕ → CheckRefusal
+told checks.TooManyPositions at = TooManyPositions at
+told checks.Unbound at = Unbound at
+told checks.NeverCreated at = NeverCreated at
+told checks.Arity at = Arity at
+told checks.LinkFromData at = LinkFromData at
+told checks.ArcAsNode at = ArcAsNode at
+told checks.NotLabel at = NotLabel at
+told checks.Reserved at = Reserved at
+told checks.TooManyVariables at = TooManyVariables at
+
+-- the refusal tells the query's first fault
+abbrev pub TellsFirst : written.Query → CheckRefusal → Type 0
+TellsFirst q NoMemory = Unit {0}
+TellsFirst q refusal = (check : Check) × (at : ℕ) × IsLeastFault (Faulty q) check at × (refusal ≡ told check at)
+
+-- Ok exactly where the query has no fault, with that query; else its first fault, unless memory ran out
+abbrev pub Answers : Query → Result plain.Query CheckRefusal → Type 0
+Answers query (Ok checked) = IsFaultless (query_written query) × (checked ≡ query_of query)
+Answers query (Err refusal) = TellsFirst (query_written query) refusal

@@ -1,0 +1,134 @@
+-- What a query that is spelled has to keep besides, and where it stands if it doesn't.
+use Rattle.std.specs.Prelude.{◌≡◌, ◌≢◌, ◌⊎◌, ℕ, ◌<◌, ◌≤◌, Bool, true, false, not, ◌&&◌, ◌||◌, List, [], ◌∷◌, ◌++◌, length, map, find, Contains, if◌then◌else◌, nat_lt, Option, Some, None, option_map, codes}
+use Rattle.std.specs.List.{list_any}
+use Rattle.std.specs.Str.{bytes_eq}
+use Rattle.path_spec.specs.Language.{positions}
+use Rattle.query_spec.specs.Mentions.{same_name, first_mentions}
+use Rattle.struql_ast.specs.Written.{Name, expression, Condition, path, negation, Target, plain, made, Link, Collect, Query}
+use Rattle.struql_check.specs.declared.faults.Check.{Check}
+use Rattle.struql_check.specs.declared.faults.Check.TheVariants.{TooManyPositions, Unbound, NeverCreated, Arity, LinkFromData, ArcAsNode, NotLabel, Reserved, TooManyVariables}
+use Rattle.struql_check.specs.declared.mentions.Mention.{Mention}
+use Rattle.struql_check.specs.declared.mentions.Role.{Role}
+use Rattle.struql_check.specs.declared.mentions.Role.TheVariants.{Arc, End, Label, Other}
+use Rattle.struql_check.specs.declared.terms.SeenTerm.{SeenTerm}
+use Rattle.struql_check.specs.Scope.{is_in, sort_of, Scoped, scoped, chain_mentions, block_mentions, terms}
+
+-- one of the items has the fault
+abbrev pub SomeIn : {X : Type 0} → (X → Check → ℕ → Type 0) → List X → Check → ℕ → Type 0
+SomeIn F items check at = (x : _) × Contains items x × F x check at
+
+-- ---- variables
+
+abbrev pub IsLabelRole : Role → Type 0
+IsLabelRole Arc = Unit {0}
+IsLabelRole End = ⊥
+IsLabelRole Label = Unit {0}
+IsLabelRole Other = ⊥
+
+-- Unbound: no condition of the chain mentions the variable. ArcAsNode: an arc variable as an end of a path or as the
+-- variable of `C(x)`. NotLabel: a node variable between arrows in a condition, or as a link's label.
+abbrev pub RoleFault : Option Bool → Role → ℕ → Check → ℕ → Type 0
+RoleFault is_arc role here Unbound at = (is_arc ≡ None) × (at ≡ here)
+RoleFault is_arc role here ArcAsNode at = (role ≡ End) × (is_arc ≡ Some true) × (at ≡ here)
+RoleFault is_arc role here NotLabel at = IsLabelRole role × (is_arc ≡ Some false) × (at ≡ here)
+RoleFault is_arc role here check at = ⊥
+
+abbrev pub MentionFault : List (List Mention) → Mention → Check → ℕ → Type 0
+MentionFault round x check at = RoleFault (sort_of round x.name) x.role x.at check at
+
+-- the place where a list of mentions first has a variable more than 32
+abbrev pub IsPast : List Mention → ℕ → Type 0
+IsPast ms at =
+    (before : List Mention) × (x : Mention) × (after : List Mention) × (ms ≡ before ++ x ∷ after)
+    × (is_in before x.name ≡ false) × (length (first_mentions (map (λ m. m.name) before)) ≡ 32) × (at ≡ x.at)
+
+-- TooManyVariables: the first mention of the 33rd variable of a chain
+abbrev pub ChainFault : List Mention → Check → ℕ → Type 0
+ChainFault ms TooManyVariables at = IsPast ms at
+ChainFault ms check at = ⊥
+
+-- ---- the other clauses of a block
+
+-- the place of an expression with more than 256 positions
+abbrev pub large_place : Condition → Option ℕ
+large_place (path t (expression r place) u span) = if nat_lt 256 (positions r) then Some place.start else None
+large_place (negation c span) = large_place c
+large_place c = None
+
+-- TooManyPositions: an expression with more than 256 positions
+abbrev pub ConditionFault : Condition → Check → ℕ → Type 0
+ConditionFault c TooManyPositions at = large_place c ≡ Some at
+ConditionFault c check at = ⊥
+
+abbrev pub is_plain : Target → Bool
+is_plain (plain o) = true
+is_plain (made t) = false
+
+-- LinkFromData: a link's source that isn't a term
+abbrev pub LinkFault : Link → Check → ℕ → Type 0
+LinkFault k LinkFromData at = (is_plain k.source ≡ true) × (at ≡ k.span.start)
+LinkFault k check at = ⊥
+
+-- the names of the tests of kinds
+unfoldable pub is_test : Name → Bool
+is_test n = bytes_eq n (codes "isInt") || bytes_eq n (codes "isText") || bytes_eq n (codes "isUrl") || bytes_eq n (codes "isFile") || bytes_eq n (codes "isNode")
+
+-- Reserved: a collected collection with a test's name
+abbrev pub CollectFault : Collect → Check → ℕ → Type 0
+CollectFault o Reserved at = (is_test o.collection ≡ true) × (at ≡ o.span.start)
+CollectFault o check at = ⊥
+
+-- a fault of a block, given the blocks round it
+abbrev pub BlockFault : Scoped → Check → ℕ → Type 0
+BlockFault b check at =
+    SomeIn (MentionFault b.round) (block_mentions b.clauses) check at
+    ⊎ ChainFault (chain_mentions b) check at
+    ⊎ SomeIn ConditionFault b.clauses.conditions check at
+    ⊎ SomeIn LinkFault b.clauses.links check at
+    ⊎ SomeIn CollectFault b.clauses.collects check at
+
+-- ---- terms
+
+-- whether the function stands in a CREATE
+abbrev pub is_created : List SeenTerm → Name → Bool
+is_created all f = list_any (λ t. same_name f t.function && not t.linked) all
+
+-- how many arguments the function's first term has
+abbrev pub first_arity : List SeenTerm → Name → Option ℕ
+first_arity all f = option_map (λ t. t.arity) (find (λ t. same_name f t.function) all)
+
+unfoldable pub is_index : Name → Bool
+is_index n = bytes_eq n (codes "index")
+
+-- NeverCreated: a function in LINK or COLLECT that stands in no CREATE of the query. Arity: another number of arguments
+-- than the function's first term in the text. Reserved: a function named `index`, or with a test's name.
+abbrev pub TermFault : List SeenTerm → SeenTerm → Check → ℕ → Type 0
+TermFault all t NeverCreated at = (t.linked ≡ true) × (is_created all t.function ≡ false) × (at ≡ t.at)
+TermFault all t Arity at = (n : ℕ) × (first_arity all t.function ≡ Some n) × (n ≢ t.arity) × (at ≡ t.at)
+TermFault all t Reserved at = ((is_index t.function || is_test t.function) ≡ true) × (at ≡ t.at)
+TermFault all t check at = ⊥
+
+-- ---- the faults of a query, and the first of them
+
+abbrev pub Faulty : Query → Check → ℕ → Type 0
+Faulty q check at = SomeIn BlockFault (scoped q) check at ⊎ SomeIn (TermFault (terms q)) (terms q) check at
+
+-- the checks' numbers
+abbrev pub number : Check → ℕ
+number TooManyPositions = 51
+number Unbound = 61
+number NeverCreated = 62
+number Arity = 63
+number LinkFromData = 64
+number ArcAsNode = 65
+number NotLabel = 66
+number Reserved = 67
+number TooManyVariables = 68
+
+-- the fault at the least place, and there the one of the least number
+pub record IsLeastFault (P : Check → ℕ → Type 0) (check : Check) (at : ℕ) : Type 0 where
+  pub is : P check at
+  pub least : (other : Check) (place : ℕ) → P other place → (at < place) ⊎ ((at ≡ place) × (number check ≤ number other))
+
+abbrev pub IsFaultless : Query → Type 0
+IsFaultless q = (check : Check) (at : ℕ) → Faulty q check at → ⊥

@@ -1,0 +1,38 @@
+-- The first fault of several, as the passes tell it.
+use Rattle.std.specs.Prelude.{ℕ, Bool, true, false, ◌&&◌, ◌||◌, nat_lt, nat_eq, if◌then◌else◌, Option, Some, None}
+use Rattle.struql_check.specs.declared.faults.Check.{Check}
+use Rattle.struql_check.specs.declared.faults.Check.TheVariants.{Unbound, ArcAsNode, NotLabel}
+use Rattle.struql_check.specs.declared.faults.Fault.{Fault}
+use Rattle.struql_check.specs.declared.mentions.Role.{Role}
+use Rattle.struql_check.specs.declared.mentions.Role.TheVariants.{Arc, End, Label, Other}
+use Rattle.struql_check.specs.Faults.{number, IsLeastFault}
+
+-- the first fault with P, or none where nothing has P
+abbrev pub IsFirst : (Check → ℕ → Type 0) → Option Fault → Type 0
+IsFirst P None = (check : Check) (at : ℕ) → P check at → ⊥
+IsFirst P (Some f) = IsLeastFault P f.check f.at
+
+abbrev pub comes_before : Fault → Fault → Bool
+comes_before g f = nat_lt g.at f.at || (nat_eq g.at f.at && nat_lt (number g.check) (number f.check))
+
+-- the first of two faults
+unfoldable pub earlier : Option Fault → Option Fault → Option Fault
+earlier None g = g
+earlier (Some f) None = Some f
+earlier (Some f) (Some g) = if comes_before g f then Some g else Some f
+
+abbrev pub fault_at : Option Check → ℕ → Option Fault
+fault_at None at = None
+fault_at (Some check) at = Some (record { check = check; at = at })
+
+-- the check that fails where a variable of the sort has the role
+abbrev pub broken_role : Option Bool → Role → Option Check
+broken_role None role = Some Unbound
+broken_role (Some true) Arc = None
+broken_role (Some true) End = Some ArcAsNode
+broken_role (Some true) Label = None
+broken_role (Some true) Other = None
+broken_role (Some false) Arc = Some NotLabel
+broken_role (Some false) End = None
+broken_role (Some false) Label = Some NotLabel
+broken_role (Some false) Other = None

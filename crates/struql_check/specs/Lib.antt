@@ -1,0 +1,5 @@
+pub mod Scope
+pub mod Faults
+pub mod First
+pub mod Known
+pub mod Checked

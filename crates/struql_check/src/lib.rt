@@ -1,0 +1,92 @@
+//! The checks of a query: its variables, functions and names.
+#![tactic(auto)]
+
+ghost use Rattle.std.specs.Prelude.{◌≡◌, IfOk};
+ghost use Rattle.struql_ast.specs.Reading.{query_of};
+ghost use Rattle.struql_ast.specs.Written.{query_written};
+ghost use Rattle.struql_check.specs.Faults.{Faulty};
+ghost use Rattle.struql_check.specs.First.{IsFirst};
+ghost use Rattle.struql_check.specs.Checked.{Answers};
+
+use sd_value::NoMemory;
+use std::alloc::Global;
+use std::marker::Model;
+use struql_ast::Query;
+
+mod faults;
+mod functions;
+mod mentions;
+mod names;
+mod passes;
+mod refusal;
+mod scope;
+mod terms;
+mod walk;
+
+pub use faults::{Check, Fault};
+pub use mentions::{Mention, Role};
+pub use names::Names;
+pub use refusal::CheckRefusal;
+pub use terms::SeenTerm;
+
+use faults::earlier;
+use functions::first_of_terms;
+use names::no_names;
+use refusal::refusal_of;
+use terms::push_terms;
+use walk::first_of_blocks;
+
+/// A query that passed all checks.
+#[derive(Drop)]
+pub struct Checked {
+    query: Query,
+}
+
+impl Model for Checked {
+    ghost use Rattle.query_spec.specs.Query.{Query as PlainQuery};
+    ghost use Rattle.query_spec.specs.Codes.{query_code};
+
+    ghost Value = { PlainQuery };
+
+    ghost coded = { query_code };
+
+    ghost use Rattle.struql_ast.specs.Reading.{query_of};
+
+    ghost view = { λ c. query_of c.query };
+}
+
+impl Checked {
+    /// The query.
+    pub fn query(&self) -> &Query
+        ensures { query_of result.now ≡ self.now }
+    {
+        &self.query
+    }
+}
+
+/// The first fault of a query, by place and then by number.
+fn first_fault(alloc: Global, query: &Query) -> Result<Option<Fault>, NoMemory>
+    ensures { IfOk result (λ first. IsFirst (Faulty (query_written query.now)) first) }
+{
+    let mut levels = Vec::new(alloc);
+    let names = no_names(alloc);
+    let by_block = first_of_blocks(alloc, &query.blocks, &mut levels, &names)?;
+    let mut terms = Vec::new(alloc);
+    push_terms(alloc, &mut terms, &query.blocks)?;
+    let by_term = first_of_terms(alloc, &terms)?;
+    Ok(earlier(by_block, by_term))
+}
+
+/// Checks a query: each variable that a clause uses is mentioned by a condition, and is used as a
+/// label exactly where it stands for one; functions are created, and have one number of arguments;
+/// links start at terms; no name is reserved; expressions and chains are within their limits. The
+/// query is dropped on a refusal, which is the fault at the least place, and there the one of the
+/// least number.
+pub fn check(alloc: Global, query: Query) -> Result<Checked, CheckRefusal>
+    ensures { Answers query result }
+{
+    match first_fault(alloc, &query)? {
+        None => Ok(Checked { query }),
+        Some(fault) => Err(refusal_of(fault)),
+    }
+}

@@ -1,0 +1,202 @@
+//! The variables of a query, where they stand.
+
+ghost use Rattle.std.specs.Prelude.{◌≡◌, [], ◌∷◌, ◌++◌, IfOk, map};
+ghost use Rattle.std.specs.List.{flat_map};
+ghost use Rattle.struql_ast.specs.Written.{condition_written, step_written, target_written, term_written, link_written, collect_written};
+ghost use Rattle.struql_check.specs.Scope.{operand_mentions, step_mentions, mentions, term_mentions, target_mentions, label_mentions, link_mentions, collect_mentions};
+ghost use Rattle.struql_check.specs.declared.mentions.Role.TheVariants.{Other};
+
+use sd_value::{NoMemory, Str};
+use std::alloc::Global;
+use struql_ast::{Collect, Condition, Link, LinkLabel, Operand, PathStep, Target, Term0};
+
+/// The part that a variable plays where it stands.
+#[derive(Clone, Copy, Debug, PartialEq, Eq)]
+pub enum Role {
+    /// Between the arrows of a path.
+    Arc,
+    /// At an end of a path, or as the variable of a collection.
+    End,
+    /// As a link's label.
+    Label,
+    /// Anywhere else.
+    Other,
+}
+
+/// A variable where it stands.
+#[derive(Debug, Drop)]
+pub struct Mention {
+    pub name: Str,
+    pub role: Role,
+    /// The place of its first byte.
+    pub at: u64,
+}
+
+fn push_mention(
+    alloc: Global,
+    found: &mut Vec<Mention>,
+    name: &Str,
+    role: Role,
+    at: u64,
+) -> Result<(), NoMemory>
+    ensures { IfOk result (λ _. found.new.items ≡ found.old.items ++ record { name = name.now; role = role; at = at } ∷ []) }
+{
+    let name = name.copy(alloc)?;
+    found.push(Mention { name, role, at })?;
+    Ok(())
+}
+
+fn push_operand(
+    alloc: Global,
+    found: &mut Vec<Mention>,
+    operand: &Operand,
+    role: Role,
+) -> Result<(), NoMemory>
+    ensures { IfOk result (λ _. found.new.items ≡ found.old.items ++ operand_mentions role operand.now) }
+{
+    match operand {
+        Operand::Variable(name, span) => push_mention(alloc, found, name, role, span.start),
+        Operand::Constant(_, _) => Ok(()),
+    }
+}
+
+fn push_step(alloc: Global, found: &mut Vec<Mention>, step: &PathStep) -> Result<(), NoMemory>
+    ensures { IfOk result (λ _. found.new.items ≡ found.old.items ++ step_mentions (step_written step.now)) }
+{
+    match step {
+        PathStep::ArcVariable(name, span) => {
+            push_mention(alloc, found, name, Role::Arc, span.start)
+        }
+        PathStep::Expression(_, _) => Ok(()),
+    }
+}
+
+fn push_condition(
+    alloc: Global,
+    found: &mut Vec<Mention>,
+    condition: &Condition,
+) -> Result<(), NoMemory>
+    ensures { IfOk result (λ _. found.new.items ≡ found.old.items ++ mentions (condition_written condition.now)) }
+{
+    match condition {
+        Condition::Member {
+            variable,
+            variable_span,
+            ..
+        } => push_mention(alloc, found, variable, Role::End, variable_span.start),
+        Condition::Path { from, step, to, .. } => {
+            push_operand(alloc, found, from, Role::End)?;
+            push_step(alloc, found, step)?;
+            push_operand(alloc, found, to, Role::End)
+        }
+        Condition::Compare { left, right, .. } => {
+            push_operand(alloc, found, left, Role::Other)?;
+            push_operand(alloc, found, right, Role::Other)
+        }
+        Condition::OneOf { operand, .. } => push_operand(alloc, found, operand, Role::Other),
+        Condition::Kind {
+            variable,
+            variable_span,
+            ..
+        } => push_mention(alloc, found, variable, Role::Other, variable_span.start),
+        Condition::Not(inner, _) => push_condition(alloc, found, inner),
+    }
+}
+
+/// The variables of conditions, in the text's order.
+pub(crate) fn mentions_of(
+    alloc: Global,
+    conditions: &[Condition],
+) -> Result<Vec<Mention>, NoMemory>
+    ensures { IfOk result (λ ms. ms.items ≡ flat_map mentions (map condition_written conditions.now)) }
+{
+    let mut found = Vec::new(alloc);
+    for condition in conditions {
+        push_condition(alloc, &mut found, condition)?;
+    }
+    Ok(found)
+}
+
+fn push_term(alloc: Global, found: &mut Vec<Mention>, term: &Term0) -> Result<(), NoMemory>
+    ensures { IfOk result (λ _. found.new.items ≡ found.old.items ++ term_mentions (term_written term.now)) }
+{
+    for operand in &term.args {
+        push_operand(alloc, found, operand, Role::Other)?;
+    }
+    Ok(())
+}
+
+fn push_target(alloc: Global, found: &mut Vec<Mention>, target: &Target) -> Result<(), NoMemory>
+    ensures { IfOk result (λ _. found.new.items ≡ found.old.items ++ target_mentions (target_written target.now)) }
+{
+    match target {
+        Target::Plain(operand) => push_operand(alloc, found, operand, Role::Other),
+        Target::Made(term) => push_term(alloc, found, term),
+    }
+}
+
+fn push_label(alloc: Global, found: &mut Vec<Mention>, label: &LinkLabel) -> Result<(), NoMemory>
+    ensures { IfOk result (λ _. found.new.items ≡ found.old.items ++ label_mentions label.now) }
+{
+    match label {
+        LinkLabel::Quoted(_) => Ok(()),
+        LinkLabel::Variable(name, span) => {
+            push_mention(alloc, found, name, Role::Label, span.start)
+        }
+    }
+}
+
+fn push_link(alloc: Global, found: &mut Vec<Mention>, link: &Link) -> Result<(), NoMemory>
+    ensures { IfOk result (λ _. found.new.items ≡ found.old.items ++ link_mentions (link_written link.now)) }
+{
+    push_target(alloc, found, &link.source)?;
+    push_label(alloc, found, &link.label)?;
+    push_target(alloc, found, &link.target)
+}
+
+fn push_creates(alloc: Global, found: &mut Vec<Mention>, terms: &[Term0]) -> Result<(), NoMemory>
+    ensures { IfOk result (λ _. found.new.items ≡ found.old.items ++ flat_map term_mentions (map term_written terms.now)) }
+{
+    for term in terms {
+        push_term(alloc, found, term)?;
+    }
+    Ok(())
+}
+
+fn push_links(alloc: Global, found: &mut Vec<Mention>, links: &[Link]) -> Result<(), NoMemory>
+    ensures { IfOk result (λ _. found.new.items ≡ found.old.items ++ flat_map link_mentions (map link_written links.now)) }
+{
+    for link in links {
+        push_link(alloc, found, link)?;
+    }
+    Ok(())
+}
+
+fn push_collects(
+    alloc: Global,
+    found: &mut Vec<Mention>,
+    collects: &[Collect],
+) -> Result<(), NoMemory>
+    ensures { IfOk result (λ _. found.new.items ≡ found.old.items ++ flat_map collect_mentions (map collect_written collects.now)) }
+{
+    for collect in collects {
+        push_target(alloc, found, &collect.target)?;
+    }
+    Ok(())
+}
+
+/// The variables that CREATE, LINK and COLLECT use, in the text's order.
+pub(crate) fn uses_of(
+    alloc: Global,
+    creates: &[Term0],
+    links: &[Link],
+    collects: &[Collect],
+) -> Result<Vec<Mention>, NoMemory>
+    ensures { IfOk result (λ ms. ms.items ≡ flat_map term_mentions (map term_written creates.now) ++ flat_map link_mentions (map link_written links.now) ++ flat_map collect_mentions (map collect_written collects.now)) }
+{
+    let mut found = Vec::new(alloc);
+    push_creates(alloc, &mut found, creates)?;
+    push_links(alloc, &mut found, links)?;
+    push_collects(alloc, &mut found, collects)?;
+    Ok(found)
+}

@@ -1,0 +1,215 @@
+//! The checks of one block.
+
+ghost use Rattle.std.specs.Prelude.{◌≡◌, ◌||◌, List, if◌then◌else◌, min, map};
+ghost use Rattle.path_spec.specs.Language.{positions};
+ghost use Rattle.rpe.specs.Reading.{regex_of};
+ghost use Rattle.struql_ast.specs.Written.{condition_written, link_written, collect_written, target_written};
+ghost use Rattle.struql_check.specs.Scope.{sort_of};
+ghost use Rattle.struql_check.specs.Faults.{SomeIn, MentionFault, ChainFault, ConditionFault, LinkFault, CollectFault, large_place, is_plain, is_test, is_index};
+ghost use Rattle.struql_check.specs.First.{IsFirst, fault_at, broken_role};
+ghost use Rattle.struql_check.specs.Known.{AreNames};
+ghost use Rattle.struql_check.specs.declared.mentions.Mention.{Mention as Seen};
+
+use crate::faults::{Check, Fault, earlier};
+use crate::mentions::{Mention, Role};
+use crate::names::Names;
+use crate::scope::{Level, sort_of};
+use rpe::Rpe;
+use sd_value::Str;
+use struql_ast::{Collect, Condition, Link, PathStep, Target};
+
+/// The most positions that an expression may have.
+const MOST_POSITIONS: u16 = 256;
+
+pub(crate) fn fault_at(check: Option<Check>, at: u64) -> Option<Fault>
+    ensures { result ≡ fault_at check at }
+{
+    match check {
+        Some(check) => Some(Fault { check, at }),
+        None => None,
+    }
+}
+
+/// The check that fails where an arc variable, or else a node variable, has this part.
+fn broken_sort(is_arc: bool, role: Role) -> Option<Check>
+    ensures { result ≡ broken_role (Some is_arc) role }
+{
+    if is_arc {
+        match role {
+            Role::End => Some(Check::ArcAsNode),
+            Role::Arc | Role::Label | Role::Other => None,
+        }
+    } else {
+        match role {
+            Role::Arc | Role::Label => Some(Check::NotLabel),
+            Role::End | Role::Other => None,
+        }
+    }
+}
+
+/// The check that fails where a variable of this sort has this part.
+fn broken_role(is_arc: Option<bool>, role: Role) -> Option<Check>
+    ensures { result ≡ broken_role is_arc role }
+{
+    match is_arc {
+        None => Some(Check::Unbound),
+        Some(is_arc) => broken_sort(is_arc, role),
+    }
+}
+
+fn mention_fault(levels: &[Level], mention: &Mention) -> Option<Fault>
+    ensures { IsFirst (MentionFault levels.now mention.now) result }
+{
+    let is_arc = sort_of(levels, &mention.name);
+    let check = broken_role(is_arc, mention.role);
+    fault_at(check, mention.at)
+}
+
+/// The first fault of these mentions, under the conditions of all levels.
+pub(crate) fn first_of_mentions(levels: &[Level], mentions: &[Mention]) -> Option<Fault>
+    ensures { IsFirst (SomeIn (MentionFault levels.now) mentions.now) result }
+{
+    let mut first = None;
+    for mention in mentions {
+        first = earlier(first, mention_fault(levels, mention));
+    }
+    first
+}
+
+/// How many positions an expression has, up to one more than the limit.
+fn counted(rpe: &Rpe) -> u16
+    ensures { result ≡ min (positions (regex_of rpe.now)) 257 }
+{
+    match rpe {
+        Rpe::Label(_) | Rpe::Any => 1,
+        Rpe::Empty => 0,
+        Rpe::Seq(one, other) | Rpe::Alt(one, other) => {
+            (counted(one) + counted(other)).min(MOST_POSITIONS + 1)
+        }
+        Rpe::Star(inner) => counted(inner),
+    }
+}
+
+fn large_place(condition: &Condition) -> Option<u64>
+    ensures { result ≡ large_place (condition_written condition.now) }
+{
+    match condition {
+        Condition::Path {
+            step: PathStep::Expression(rpe, span),
+            ..
+        } => {
+            if counted(rpe) > MOST_POSITIONS {
+                Some(span.start)
+            } else {
+                None
+            }
+        }
+        Condition::Not(inner, _) => large_place(inner),
+        _ => None,
+    }
+}
+
+fn condition_fault(condition: &Condition) -> Option<Fault>
+    ensures { IsFirst (ConditionFault (condition_written condition.now)) result }
+{
+    match large_place(condition) {
+        Some(at) => Some(Fault {
+            check: Check::TooManyPositions,
+            at,
+        }),
+        None => None,
+    }
+}
+
+/// The first fault of these conditions' expressions.
+pub(crate) fn first_of_conditions(conditions: &[Condition]) -> Option<Fault>
+    ensures { IsFirst (SomeIn ConditionFault (map condition_written conditions.now)) result }
+{
+    let mut first = None;
+    for condition in conditions {
+        first = earlier(first, condition_fault(condition));
+    }
+    first
+}
+
+fn is_plain(target: &Target) -> bool
+    ensures { result ≡ is_plain (target_written target.now) }
+{
+    matches!(target, Target::Plain(_))
+}
+
+fn fault_if(broken: bool, check: Check, at: u64) -> Option<Fault>
+    ensures { result ≡ fault_at (if broken then Some check else None) at }
+{
+    if broken { Some(Fault { check, at }) } else { None }
+}
+
+fn link_fault(link: &Link) -> Option<Fault>
+    ensures { IsFirst (LinkFault (link_written link.now)) result }
+{
+    let broken = is_plain(&link.source);
+    fault_if(broken, Check::LinkFromData, link.span.start)
+}
+
+/// The first fault of these links' sources.
+pub(crate) fn first_of_links(links: &[Link]) -> Option<Fault>
+    ensures { IsFirst (SomeIn LinkFault (map link_written links.now)) result }
+{
+    let mut first = None;
+    for link in links {
+        first = earlier(first, link_fault(link));
+    }
+    first
+}
+
+/// Whether the name is that of a test of kinds.
+#[tactic(auto, unfolding(crate::specs::Faults::is_test))]
+pub(crate) fn is_test(name: &Str) -> bool
+    ensures { result ≡ is_test name.now }
+{
+    let bytes = name.bytes();
+    bytes == b"isInt".as_slice()
+        || bytes == b"isText".as_slice()
+        || bytes == b"isUrl".as_slice()
+        || bytes == b"isFile".as_slice()
+        || bytes == b"isNode".as_slice()
+}
+
+/// Whether the name is that of the root page's address.
+#[tactic(auto, unfolding(crate::specs::Faults::is_index))]
+pub(crate) fn is_index(name: &Str) -> bool
+    ensures { result ≡ is_index name.now }
+{
+    name.bytes() == b"index".as_slice()
+}
+
+fn collect_fault(collect: &Collect) -> Option<Fault>
+    ensures { IsFirst (CollectFault (collect_written collect.now)) result }
+{
+    let broken = is_test(&collect.collection);
+    fault_if(broken, Check::Reserved, collect.span.start)
+}
+
+/// The first fault of these collections' names.
+pub(crate) fn first_of_collects(collects: &[Collect]) -> Option<Fault>
+    ensures { IsFirst (SomeIn CollectFault (map collect_written collects.now)) result }
+{
+    let mut first = None;
+    for collect in collects {
+        first = earlier(first, collect_fault(collect));
+    }
+    first
+}
+
+/// Where a chain's variables pass the limit.
+pub(crate) fn first_of_chain(names: &Names) -> Option<Fault>
+    ensures { (ms : List Seen) → AreNames ms names.now → IsFirst (ChainFault ms) result }
+{
+    match names {
+        Names::Few(_) => None,
+        Names::Many(at) => Some(Fault {
+            check: Check::TooManyVariables,
+            at: *at,
+        }),
+    }
+}
