@@ -27,7 +27,7 @@ more_than : (before after : List Mention) (x : Mention) → list_any (same_name 
 more_than before after x new =
     let one : length (names_of (before ++ x ∷ [])) ≡ length (names_of before ++ x.name ∷ []) = ap length (names_new before x new) in
     let grows : length (names_of (before ++ x ∷ [])) ≤ length (names_of (before ++ x ∷ after)) =
-        subst (λ (l : List Mention). length (names_of (before ++ x ∷ [])) ≤ length (names_of l)) (append_assoc before (x ∷ []) after) (names_grow (before ++ x ∷ []) after) in
+    subst (λ (l : List Mention). length (names_of (before ++ x ∷ [])) ≤ length (names_of l)) (append_assoc before (x ∷ []) after) (names_grow (before ++ x ∷ []) after) in
     omega (arith, length-append (names_of before) (x.name ∷ []))
 
 -- where the variables are few, no mention is past them

@@ -69,9 +69,9 @@ first_known (y ∷ ys) x e =
     by_test (list_any (same_name x) ys) (first_mentions ((y ∷ ys) ++ x ∷ []) ≡ first_mentions (y ∷ ys))
     (λ t. rw (first_known ys x t) refl)
     (λ f.
-        let b : same_name x y ≡ true = by_test (same_name x y) (same_name x y ≡ true) (λ t. t) (λ n. absurd (let z : (false || list_any (same_name x) ys) ≡ true = subst (λ v. (v || list_any (same_name x) ys) ≡ true) n e in cc)) in
-        let turned : same_name y x ≡ true = same_turned y x ∙ b in
-        rw (first_new ys x f, filter-append (λ z. not (same_name y z)) (first_mentions ys) (x ∷ []), turned) (ap (λ l. y ∷ l) (append-nil _)))
+    let b : same_name x y ≡ true = by_test (same_name x y) (same_name x y ≡ true) (λ t. t) (λ n. absurd (let z : (false || list_any (same_name x) ys) ≡ true = subst (λ v. (v || list_any (same_name x) ys) ≡ true) n e in cc)) in
+    let turned : same_name y x ≡ true = same_turned y x ∙ b in
+    rw (first_new ys x f, filter-append (λ z. not (same_name y z)) (first_mentions ys) (x ∷ []), turned) (ap (λ l. y ∷ l) (append-nil _)))
 
 grows_by_one : (xs : List Name) (x : Name) → length (first_mentions xs) ≤ length (first_mentions (xs ++ x ∷ []))
 grows_by_one xs x =

@@ -128,13 +128,13 @@ term_first all t =
       least = λ other place p. (let e = term_at all t other place p in inr (e.0, e.1));
     })
     (λ u. term_test d (λ b. IsFirst (TermFault all t) (fault_at (broken_term false b r) t.at))
-      (λ e. record {
-        is = (let parts = differ_true (first_arity all t.function) t.arity e in (parts.0, parts.1, parts.2, refl));
-        least = λ other place p. inr ((term_at all t other place p).0, term_but_created all t u other place p);
-      })
-      (λ n. term_test r (λ b. IsFirst (TermFault all t) (fault_at (broken_term false false b) t.at))
-        (λ y. record {
-          is = (y, refl);
-          least = λ other place p. inr ((term_at all t other place p).0, (term_reserved all t u n other place p).0);
-        })
-        (λ z. λ other place p. (let y = (term_reserved all t u n other place p).1 in let c : true ≡ false = sym y ∙ z in cc))))
+    (λ e. record {
+      is = (let parts = differ_true (first_arity all t.function) t.arity e in (parts.0, parts.1, parts.2, refl));
+      least = λ other place p. inr ((term_at all t other place p).0, term_but_created all t u other place p);
+    })
+    (λ n. term_test r (λ b. IsFirst (TermFault all t) (fault_at (broken_term false false b) t.at))
+    (λ y. record {
+      is = (y, refl);
+      least = λ other place p. inr ((term_at all t other place p).0, (term_reserved all t u n other place p).0);
+    })
+    (λ z. λ other place p. (let y = (term_reserved all t u n other place p).1 in let c : true ≡ false = sym y ∙ z in cc))))

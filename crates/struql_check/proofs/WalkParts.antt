@@ -20,9 +20,9 @@ pub block_first : (round : List (List Mention)) (c : Clauses) (own used : List M
     → IsFirst (BlockFault (record { round = round; clauses = c })) (earlier (earlier a b) (earlier d (earlier e (earlier f g))))
 block_first round c own used a b d e f g is_own is_used pa pb pd pe pf pg =
     let by_mention : IsFirst (SomeIn (MentionFault round) (flat_map mentions c.conditions ++ uses c)) (earlier a b) =
-        subst (λ (ms : List Mention). IsFirst (SomeIn (MentionFault round) (ms ++ uses c)) (earlier a b)) is_own
-        (subst (λ (ms : List Mention). IsFirst (SomeIn (MentionFault round) (own ++ ms)) (earlier a b)) is_used
-         (first_append (MentionFault round) own used a b pa pb)) in
+    subst (λ (ms : List Mention). IsFirst (SomeIn (MentionFault round) (ms ++ uses c)) (earlier a b)) is_own
+    (subst (λ (ms : List Mention). IsFirst (SomeIn (MentionFault round) (own ++ ms)) (earlier a b)) is_used
+    (first_append (MentionFault round) own used a b pa pb)) in
     let by_link = first_both (SomeIn LinkFault c.links) (SomeIn CollectFault c.collects) f g pf pg in
     let by_condition = first_both (SomeIn ConditionFault c.conditions) _ e (earlier f g) pe by_link in
     let by_chain = first_both (ChainFault (flat_map (λ ms. ms) round)) _ d (earlier e (earlier f g)) pd by_condition in

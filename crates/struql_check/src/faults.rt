@@ -44,8 +44,7 @@ fn number(check: Check) -> u8
 fn comes_before(other: Fault, fault: Fault) -> bool
     ensures { result ≡ comes_before other fault }
 {
-    other.at < fault.at
-        || (other.at == fault.at && number(other.check) < number(fault.check))
+    other.at < fault.at || (other.at == fault.at && number(other.check) < number(fault.check))
 }
 
 /// The fault at the lesser place, and at one place that of the lesser number.

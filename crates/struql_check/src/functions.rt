@@ -17,11 +17,7 @@ use sd_value::{NoMemory, Str};
 use std::alloc::Global;
 use std::collections::{BTreeMap, BTreeSet};
 
-fn add_created(
-    alloc: Global,
-    created: &mut BTreeSet<Str>,
-    term: &SeenTerm,
-) -> Result<(), NoMemory>
+fn add_created(alloc: Global, created: &mut BTreeSet<Str>, term: &SeenTerm) -> Result<(), NoMemory>
     ensures { IfOk result (λ _. (f : List ℕ) → set.contains bytes_cmp created.new f ≡ (set.contains bytes_cmp created.old f || (same_name f term.now.function && not term.now.linked))) }
 {
     if !term.linked {
@@ -118,10 +114,7 @@ fn term_fault(
 }
 
 /// The first fault of the functions of these terms, which are all terms of a query.
-pub(crate) fn first_of_terms(
-    alloc: Global,
-    terms: &[SeenTerm],
-) -> Result<Option<Fault>, NoMemory>
+pub(crate) fn first_of_terms(alloc: Global, terms: &[SeenTerm]) -> Result<Option<Fault>, NoMemory>
     ensures { IfOk result (λ first. IsFirst (SomeIn (TermFault terms.now) terms.now) first) }
 {
     let created = created_of(alloc, terms)?;

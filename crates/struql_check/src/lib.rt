@@ -6,6 +6,7 @@ ghost use Rattle.struql_ast.specs.Reading.{query_of};
 ghost use Rattle.struql_ast.specs.Written.{query_written};
 ghost use Rattle.struql_check.specs.Faults.{Faulty};
 ghost use Rattle.struql_check.specs.First.{IsFirst};
+ghost use Rattle.struql_check.specs.Parsed.{IsParsed};
 ghost use Rattle.struql_check.specs.Checked.{Answers};
 
 use sd_value::NoMemory;
@@ -21,18 +22,19 @@ mod passes;
 mod refusal;
 mod scope;
 mod terms;
+#[cfg(test)]
+mod tests;
 mod walk;
 
+use faults::earlier;
 pub use faults::{Check, Fault};
+use functions::first_of_terms;
 pub use mentions::{Mention, Role};
 pub use names::Names;
-pub use refusal::CheckRefusal;
-pub use terms::SeenTerm;
-
-use faults::earlier;
-use functions::first_of_terms;
 use names::no_names;
+pub use refusal::CheckRefusal;
 use refusal::refusal_of;
+pub use terms::SeenTerm;
 use terms::push_terms;
 use walk::first_of_blocks;
 
@@ -77,12 +79,13 @@ fn first_fault(alloc: Global, query: &Query) -> Result<Option<Fault>, NoMemory>
     Ok(earlier(by_block, by_term))
 }
 
-/// Checks a query: each variable that a clause uses is mentioned by a condition, and is used as a
+/// Checks a query that a text gives: each variable that a clause uses is mentioned by a condition, and is used as a
 /// label exactly where it stands for one; functions are created, and have one number of arguments;
 /// links start at terms; no name is reserved; expressions and chains are within their limits. The
 /// query is dropped on a refusal, which is the fault at the least place, and there the one of the
 /// least number.
 pub fn check(alloc: Global, query: Query) -> Result<Checked, CheckRefusal>
+    requires { IsParsed (query_of query) }
     ensures { Answers query result }
 {
     match first_fault(alloc, &query)? {

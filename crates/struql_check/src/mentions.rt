@@ -104,10 +104,7 @@ fn push_condition(
 }
 
 /// The variables of conditions, in the text's order.
-pub(crate) fn mentions_of(
-    alloc: Global,
-    conditions: &[Condition],
-) -> Result<Vec<Mention>, NoMemory>
+pub(crate) fn mentions_of(alloc: Global, conditions: &[Condition]) -> Result<Vec<Mention>, NoMemory>
     ensures { IfOk result (λ ms. ms.items ≡ flat_map mentions (map condition_written conditions.now)) }
 {
     let mut found = Vec::new(alloc);

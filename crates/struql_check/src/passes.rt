@@ -141,7 +141,11 @@ fn is_plain(target: &Target) -> bool
 fn fault_if(broken: bool, check: Check, at: u64) -> Option<Fault>
     ensures { result ≡ fault_at (if broken then Some check else None) at }
 {
-    if broken { Some(Fault { check, at }) } else { None }
+    if broken {
+        Some(Fault { check, at })
+    } else {
+        None
+    }
 }
 
 fn link_fault(link: &Link) -> Option<Fault>

@@ -11,7 +11,9 @@ ghost use Rattle.struql_check.specs.Known.{AreNames, here};
 use crate::faults::{Fault, earlier};
 use crate::mentions::{mentions_of, uses_of};
 use crate::names::{Names, with_mentions};
-use crate::passes::{first_of_chain, first_of_collects, first_of_conditions, first_of_links, first_of_mentions};
+use crate::passes::{
+    first_of_chain, first_of_collects, first_of_conditions, first_of_links, first_of_mentions,
+};
 use crate::scope::Level;
 use sd_value::NoMemory;
 use std::alloc::Global;

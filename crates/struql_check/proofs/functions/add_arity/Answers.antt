@@ -16,7 +16,7 @@ returns-in_ok-insert c = λ f.
     let none : tree.get bytes_cmp c.args.arities.now g ≡ None = copied_none c.get.result _ c.is_none.result c.get.ensures.value c.is_none.ensures c.if-is_none.true in
     c.in_ok-insert.ensures.updates.0 f
     ∙ (ap (λ (h : Name). cond (same_name h f) (Some c.args.term.now.arity) old) name
-       ∙ arity_new g f old c.args.term.now.arity (λ e. ap (tree.get bytes_cmp c.args.arities.now) e ∙ none))
+    ∙ arity_new g f old c.args.term.now.arity (λ e. ap (tree.get bytes_cmp c.args.arities.now) e ∙ none))
 
 pub returns-else-is_none : goal.returns-else-is_none
 returns-else-is_none c = λ f.

@@ -10,7 +10,7 @@ pub loop-term-preserved : goal.loop-term-preserved
 loop-term-preserved c =
     rw c.earlier-first.ensures
     (first_step (TermFault c.args.terms.now) c.args.terms.now c.loop-term.term-index c.term-item.result c.loop-term.first _ (omega arith) c.term-item.is c.loop-term.invariant
-     (c.term_fault.ensures c.args.terms.now c.in_ok-created.ensures c.in_ok-arities.ensures))
+    (c.term_fault.ensures c.args.terms.now c.in_ok-created.ensures c.in_ok-arities.ensures))
 
 pub returns : goal.returns
 returns c = first_end (TermFault c.args.terms.now) c.args.terms.now c.loop-term.term-index c.loop-term.first c.loop-term-test.false c.loop-term.invariant

@@ -17,9 +17,10 @@ returns-then-is_known c = λ ms are.
 pub returns-in_ok-push-in-Few : goal.returns-in_ok-push-in-Few
 returns-in_ok-push-in-Few c = λ ms are.
     let few = rw c.in-Few.is at are in
-    let new : list_any (same_name c.args.mention.now.name) c.in-Few.known.items ≡ false = rw (← c.deref.ensures.value) (sym c.is_known.ensures ∙ c.if-is_known.false) in
-    (rw (c.in_ok-push-in-Few.ensures.items, c.in_ok-copy-in-Few.ensures) (new_more ms c.args.mention.now c.in-Few.known.items few.0 new),
-     rw (c.in_ok-push-in-Few.ensures.items, length-append c.in-Few.known.items (c.in_ok-copy-in-Few.field-0 ∷ [])) (omega arith))
+    let new : list_any (same_name c.args.mention.now.name) c.in-Few.known.items ≡ false = rw (← c.deref.ensures.value) (sym c.is_known.ensures ∙ c.if-is_known.false) in (
+      rw (c.in_ok-push-in-Few.ensures.items, c.in_ok-copy-in-Few.ensures) (new_more ms c.args.mention.now c.in-Few.known.items few.0 new),
+      rw (c.in_ok-push-in-Few.ensures.items, length-append c.in-Few.known.items (c.in_ok-copy-in-Few.field-0 ∷ [])) (omega arith),
+    )
 
 pub returns-else-len-lt-MOST_VARIABLES : goal.returns-else-len-lt-MOST_VARIABLES
 returns-else-len-lt-MOST_VARIABLES c = λ ms are.

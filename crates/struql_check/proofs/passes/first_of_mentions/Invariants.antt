@@ -1,5 +1,4 @@
 use Rattle.std.proofs.Common.{take}
-
 use Rattle.struql_check.specs.Faults.{SomeIn, MentionFault}
 use Rattle.struql_check.specs.First.{IsFirst}
 use Rattle.struql_check.proofs.passes.first_of_mentions.Given as goal

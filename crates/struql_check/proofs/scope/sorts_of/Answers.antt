@@ -22,7 +22,7 @@ loop-mention-preserved c = λ x.
     let value : c.or_arc.result ≡ (c.unwrap_or-before.result || is_arc_role m.role) = c.or_arc.ensures in
     rw e
     (c.in_ok-insert.ensures.updates.0 x
-     ∙ (ap (λ (n : Name). if same_name n x then Some c.or_arc.result else tree.get bytes_cmp c.loop-mention.sorts x) name
-     ∙ (ap (λ (b : Bool). if same_name m.name x then Some b else tree.get bytes_cmp c.loop-mention.sorts x) value
-     ∙ (ap (λ (o : Option Bool). if same_name m.name x then Some (c.unwrap_or-before.result || is_arc_role m.role) else o) (c.loop-mention.invariant x)
-     ∙ step))))
+    ∙ (ap (λ (n : Name). if same_name n x then Some c.or_arc.result else tree.get bytes_cmp c.loop-mention.sorts x) name
+    ∙ (ap (λ (b : Bool). if same_name m.name x then Some b else tree.get bytes_cmp c.loop-mention.sorts x) value
+    ∙ (ap (λ (o : Option Bool). if same_name m.name x then Some (c.unwrap_or-before.result || is_arc_role m.role) else o) (c.loop-mention.invariant x)
+    ∙ step))))
