@@ -1,10 +1,9 @@
 -- A block's parts as its fields have them, and one block more.
-use Rattle.std.proofs.Common.{◌≡◌, ℕ, false, List, [], ◌∷◌, ◌++◌, length, get_or, take, ◌<◌, refl, sym, ap, ◌∙◌, append_assoc}
+use Rattle.std.proofs.Common.{◌≡◌, List, [], ◌∷◌, ◌++◌, refl, sym, ap, ◌∙◌, append_assoc}
 use Rattle.std.specs.Prelude.{map}
-use Rattle.std.specs.List.{flat_map}
-use Rattle.std.proofs.lemmas.List.{append-nil, take_more}
+use Rattle.std.proofs.lemmas.List.{append-nil}
 use Rattle.struql_ast.specs.declared.Block.{Block, Block'}
-use Rattle.struql_ast.specs.declared.Block.TheViews.{out-Block, roll-Block, roll-out-Block}
+use Rattle.struql_ast.specs.declared.Block.TheViews.{out-Block, roll-out-Block}
 use Rattle.struql_ast.specs.Written.{Blocks, block, condition_written, term_written, link_written, collect_written, block_written, blocks_written, block_clauses, block_inner, block_span, inner_made, clauses_made}
 use Rattle.struql_check.specs.Scope.{terms_within, clause_terms, within, Scoped}
 use Rattle.struql_check.specs.Known.{here}

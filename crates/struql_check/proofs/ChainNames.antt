@@ -1,6 +1,6 @@
 -- The variables of a chain, one mention more.
 use Rattle.std.proofs.Common.{◌≡◌, ℕ, ◌<◌, ◌≤◌, List, [], ◌∷◌, ◌++◌, length, arith, refl, sym, ap, ◌∙◌, subst, append_assoc, length-append}
-use Rattle.std.specs.Prelude.{Bool, true, false}
+use Rattle.std.specs.Prelude.{true, false}
 use Rattle.std.specs.List.{list_any}
 use Rattle.query_spec.specs.Mentions.{same_name}
 use Rattle.struql_ast.specs.Written.{Name}

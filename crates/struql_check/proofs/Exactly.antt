@@ -1,8 +1,8 @@
 -- The faults of one item, each told exactly.
-use Rattle.std.proofs.Common.{◌≡◌, ◌⊎◌, ℕ, ◌<◌, ◌≤◌, List, length, arith, refl, sym, ap, ◌∙◌, subst}
+use Rattle.std.proofs.Common.{◌≡◌, ℕ, ◌≤◌, List, length, refl, subst}
 use Rattle.std.specs.Prelude.{Bool, true, false, Option, Some, None}
 use Rattle.struql_check.specs.declared.faults.Check.{Check}
-use Rattle.struql_check.specs.declared.faults.Check.TheVariants.{TooManyPositions, Unbound, NeverCreated, Arity, LinkFromData, ArcAsNode, NotLabel, Reserved, TooManyVariables}
+use Rattle.struql_check.specs.declared.faults.Check.TheVariants.{Unbound, ArcAsNode, NotLabel, TooManyVariables}
 use Rattle.struql_check.specs.declared.faults.Fault.{Fault}
 use Rattle.struql_check.specs.declared.mentions.Mention.{Mention}
 use Rattle.struql_check.specs.declared.mentions.Role.{Role}

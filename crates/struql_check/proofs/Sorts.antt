@@ -1,14 +1,12 @@
 -- The sorts of a block's variables, one mention more.
-use Rattle.std.proofs.Common.{◌≡◌, ℕ, List, [], ◌∷◌, ◌++◌, refl, sym, ap, ◌∙◌, subst}
-use Rattle.std.specs.Prelude.{Bool, true, false, ◌||◌, ◌&&◌, if◌then◌else◌, Option, Some, None, unwrap_or}
-use Rattle.std.specs.List.{list_any}
+use Rattle.std.proofs.Common.{◌≡◌, List, [], ◌∷◌, ◌++◌, refl, sym, ◌∙◌, subst}
+use Rattle.std.specs.Prelude.{Bool, true, false, ◌||◌, ◌&&◌, if◌then◌else◌, Some, None, unwrap_or}
 use Rattle.std.proofs.lemmas.List.Folds.{list_any-append}
 use Rattle.query_spec.specs.Mentions.{same_name}
 use Rattle.struql_ast.specs.Written.{Name}
 use Rattle.struql_check.specs.declared.mentions.Mention.{Mention}
-use Rattle.struql_check.specs.declared.mentions.Role.{Role}
 use Rattle.struql_check.specs.Scope.{is_in, is_between_arrows, is_arc_role, sort_of}
-use Rattle.struql_check.proofs.NameLists.{same_is, same_itself, same_turned}
+use Rattle.struql_check.proofs.NameLists.{same_is, same_turned}
 
 or_nil : (a b : Bool) → (a || (b || false)) ≡ (a || b)
 or_nil true b = refl

@@ -1,7 +1,6 @@
 -- The functions of terms, one term more; and the faults of a term, each told exactly.
-use Rattle.std.proofs.Common.{◌≡◌, ◌≢◌, ◌⊎◌, ℕ, ◌+◌, ◌<◌, ◌≤◌, List, [], ◌∷◌, ◌++◌, length, arith, refl, sym, ap, ◌∙◌, subst, inl, inr}
+use Rattle.std.proofs.Common.{◌≡◌, ◌≢◌, ℕ, ◌≤◌, List, [], ◌∷◌, ◌++◌, arith, refl, sym, ap, ◌∙◌, subst, inr}
 use Rattle.std.specs.Prelude.{Bool, true, false, not, ◌||◌, ◌&&◌, nat_eq, Option, Some, None, option_map, find, if◌then◌else◌, cond}
-use Rattle.std.specs.List.{list_any}
 use Rattle.std.specs.Option.{is_some, option_copied}
 use denote.Bor.{Bor}
 use Rattle.std.proofs.lemmas.Bool.Decides.{nat_tests}
@@ -9,13 +8,12 @@ use Rattle.std.proofs.lemmas.List.Folds.{list_any-append}
 use Rattle.query_spec.specs.Mentions.{same_name}
 use Rattle.struql_ast.specs.Written.{Name}
 use Rattle.struql_check.specs.declared.faults.Check.{Check}
-use Rattle.struql_check.specs.declared.faults.Check.TheVariants.{TooManyPositions, Unbound, NeverCreated, Arity, LinkFromData, ArcAsNode, NotLabel, Reserved, TooManyVariables}
-use Rattle.struql_check.specs.declared.faults.Fault.{Fault}
+use Rattle.struql_check.specs.declared.faults.Check.TheVariants.{NeverCreated, Arity, Reserved}
 use Rattle.struql_check.specs.declared.terms.SeenTerm.{SeenTerm}
 use Rattle.struql_check.specs.Faults.{is_created, first_arity, TermFault, number, is_index, is_test}
 use Rattle.struql_check.specs.First.{IsFirst, fault_at}
 use Rattle.struql_check.specs.Known.{or_else, differs, broken_term}
-use Rattle.struql_check.proofs.NameLists.{same_is, same_itself, same_turned}
+use Rattle.struql_check.proofs.NameLists.{same_is, same_turned}
 
 or_nil : (a b : Bool) → (a || (b || false)) ≡ (a || b)
 or_nil true b = refl

@@ -1,13 +1,13 @@
 -- The faults of a block, and of the blocks in it.
-use Rattle.std.proofs.Common.{◌≡◌, ◌⊎◌, ℕ, List, [], ◌∷◌, ◌++◌, refl, sym, ap, ◌∙◌, subst, inl, inr, append_assoc}
-use Rattle.std.specs.Prelude.{Option, Contains}
+use Rattle.std.proofs.Common.{◌≡◌, ℕ, List, [], ◌∷◌, ◌++◌, sym, ap, ◌∙◌, subst, append_assoc}
+use Rattle.std.specs.Prelude.{Option}
 use Rattle.std.specs.List.{flat_map}
-use Rattle.std.proofs.lemmas.List.{append-nil, flat_map_more}
+use Rattle.std.proofs.lemmas.List.{append-nil}
 use Rattle.struql_ast.specs.Written.{Clauses}
 use Rattle.struql_check.specs.declared.faults.Check.{Check}
 use Rattle.struql_check.specs.declared.faults.Fault.{Fault}
 use Rattle.struql_check.specs.declared.mentions.Mention.{Mention}
-use Rattle.struql_check.specs.Scope.{Scoped, mentions, uses}
+use Rattle.struql_check.specs.Scope.{mentions, uses}
 use Rattle.struql_check.specs.Faults.{SomeIn, MentionFault, ChainFault, ConditionFault, LinkFault, CollectFault, BlockFault}
 use Rattle.struql_check.specs.First.{IsFirst, earlier}
 use Rattle.struql_check.proofs.Firsts.{first_both, first_append, first_one}

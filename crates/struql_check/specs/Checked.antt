@@ -7,7 +7,6 @@ use Rattle.struql_ast.specs.Written as written
 use Rattle.struql_ast.specs.Written.{query_written}
 use Rattle.struql_check.specs.declared.faults.Check.TheVariants as checks
 use Rattle.struql_check.specs.declared.faults.Check.{Check}
-use Rattle.struql_check.specs.declared.faults.Fault.{Fault}
 use Rattle.struql_check.specs.declared.refusal.CheckRefusal.{CheckRefusal}
 use Rattle.struql_check.specs.declared.refusal.CheckRefusal.TheVariants.{TooManyPositions, Unbound, NeverCreated, Arity, LinkFromData, ArcAsNode, NotLabel, Reserved, TooManyVariables, NoMemory}
 use Rattle.struql_check.specs.Faults.{Faulty, IsLeastFault, IsFaultless}

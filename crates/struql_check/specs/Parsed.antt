@@ -1,10 +1,10 @@
 -- What a check asks of a query besides: what each text gives.
-use Rattle.std.specs.Prelude.{◌≡◌, ◌⊎◌, ℕ, ◌<◌, ◌^◌, List, [], ◌∷◌, ◌++◌, length, All}
+use Rattle.std.specs.Prelude.{◌≡◌, ◌⊎◌, ◌<◌, ◌^◌, List, [], ◌∷◌, ◌++◌, length, All}
 use Rattle.std.specs.List.{flat_map}
-use Rattle.sd_value.specs.declared.Datum.TheVariants.{Int, Text, Url, File, Node}
+use Rattle.sd_value.specs.declared.Datum.TheVariants.{Int, Text}
 use Rattle.sd_value.specs.declared.Value.{Value}
-use Rattle.sd_value.specs.declared.Value.TheVariants.{Data, Page}
-use Rattle.query_spec.specs.Query.{Operand, variable, constant, Condition, member, path, compare, one_of, kind, negation, SkolemTerm, Target, plain, made, Link, Collect, Body, Blocks, no_blocks, block, Query}
+use Rattle.sd_value.specs.declared.Value.TheVariants.{Data}
+use Rattle.query_spec.specs.Query.{Operand, variable, constant, Condition, member, path, compare, one_of, kind, negation, SkolemTerm, Target, plain, made, Link, Body, Blocks, no_blocks, block, Query}
 use Rattle.query_spec.specs.Mentions.{IsFlat}
 
 abbrev pub operand_constants : Operand → List Value

@@ -1,5 +1,5 @@
 -- The variables of a query where they stand, and the blocks in scope.
-use Rattle.std.specs.Prelude.{ℕ, Bool, true, false, ◌&&◌, List, [], ◌∷◌, ◌++◌, length, map, if◌then◌else◌, Option, Some, None}
+use Rattle.std.specs.Prelude.{Bool, true, false, ◌&&◌, List, [], ◌∷◌, ◌++◌, length, map, if◌then◌else◌, Option, Some, None}
 use Rattle.std.specs.List.{flat_map, list_any}
 use Rattle.query_spec.specs.Mentions.{same_name}
 use Rattle.struql_ast.specs.declared.Operand.{Operand}

@@ -4,7 +4,7 @@
 ghost use Rattle.std.specs.Prelude.{◌≡◌, IfOk};
 ghost use Rattle.struql_ast.specs.Reading.{query_of};
 ghost use Rattle.struql_ast.specs.Written.{query_written};
-ghost use Rattle.struql_check.specs.Faults.{Faulty};
+ghost use Rattle.struql_check.specs.Faults.{Faulty, IsFaultless};
 ghost use Rattle.struql_check.specs.First.{IsFirst};
 ghost use Rattle.struql_check.specs.Parsed.{IsParsed};
 ghost use Rattle.struql_check.specs.Checked.{Answers};
@@ -53,14 +53,21 @@ impl Model for Checked {
     ghost coded = { query_code };
 
     ghost use Rattle.struql_ast.specs.Reading.{query_of};
+    ghost use Rattle.struql_ast.specs.Written.{query_written};
+    ghost use Rattle.struql_check.specs.Faults.{IsFaultless};
+    ghost use Rattle.struql_check.specs.Parsed.{IsParsed};
 
     ghost view = { λ c. query_of c.query };
+
+    ghost invariant = { λ c. IsFaultless (query_written c.query) × IsParsed (query_of c.query) };
 }
 
 impl Checked {
-    /// The query.
+    /// The query, which has no fault.
     pub fn query(&self) -> &Query
-        ensures { query_of result.now ≡ self.now }
+        ensures same { query_of result.now ≡ self.now }
+        ensures faultless { IsFaultless (query_written result.now) }
+        ensures parsed { IsParsed (query_of result.now) }
     {
         &self.query
     }

@@ -1,11 +1,11 @@
-use Rattle.std.proofs.Common.{◌≡◌, List, [], ◌++◌, refl, sym, ap, ◌∙◌, subst}
+use Rattle.std.proofs.Common.{◌≡◌, List, [], ◌++◌, ap, ◌∙◌, subst}
 use Rattle.struql_ast.specs.declared.Block.{Block}
 use Rattle.struql_ast.specs.Written.{blocks_written, query_written}
 use Rattle.struql_check.specs.declared.mentions.Mention.{Mention}
 use Rattle.struql_check.specs.declared.terms.SeenTerm.{SeenTerm}
 use Rattle.struql_check.specs.Scope.{within, terms, scoped, terms_within}
 use Rattle.struql_check.specs.Faults.{SomeIn, BlockFault, TermFault}
-use Rattle.struql_check.specs.First.{IsFirst, earlier}
+use Rattle.struql_check.specs.First.{IsFirst}
 use Rattle.struql_check.proofs.Firsts.{first_both}
 use Rattle.struql_check.proofs.first_fault.Goals as goal
 

@@ -1,6 +1,5 @@
-use Rattle.std.proofs.Common.{◌≡◌, ℕ, refl, sym, ap, ◌∙◌, subst}
-use Rattle.std.specs.Prelude.{Bool, true, false, not, cond, Option, Some, None}
-use Rattle.std.specs.Option.{is_some, option_copied}
+use Rattle.std.proofs.Common.{◌≡◌, sym, ap, ◌∙◌}
+use Rattle.std.specs.Prelude.{cond, Some, None}
 use Rattle.std.specs.BTreeMap as tree
 use Rattle.sd_value.specs.Order.{bytes_cmp}
 use Rattle.query_spec.specs.Mentions.{same_name}

@@ -1,5 +1,5 @@
-use Rattle.std.proofs.Common.{◌≡◌, refl, sym, ap, ◌∙◌, subst}
-use Rattle.std.specs.Prelude.{Bool, true, cond}
+use Rattle.std.proofs.Common.{◌≡◌, ap, ◌∙◌}
+use Rattle.std.specs.Prelude.{true, cond}
 use Rattle.std.specs.BTreeSet as set
 use Rattle.sd_value.specs.Order.{bytes_cmp}
 use Rattle.query_spec.specs.Mentions.{same_name}

@@ -1,11 +1,11 @@
-use Rattle.std.proofs.Common.{◌≡◌, ℕ, List, [], ◌∷◌, ◌++◌, ◌+◌, take, refl, sym, ap, ◌∙◌, subst, arith}
-use Rattle.std.specs.Prelude.{Bool, not, ◌||◌, ◌&&◌, Option, Some, None, if◌then◌else◌}
+use Rattle.std.proofs.Common.{◌≡◌, List, [], ◌∷◌, ◌++◌, ◌+◌, take, sym, ap, ◌∙◌, subst, arith}
+use Rattle.std.specs.Prelude.{Bool, not, ◌||◌, ◌&&◌}
 use Rattle.std.proofs.lemmas.List.{take_more, take_all}
 use Rattle.std.specs.BTreeSet as set
 use Rattle.sd_value.specs.Order.{bytes_cmp}
 use Rattle.query_spec.specs.Mentions.{same_name}
 use Rattle.struql_check.specs.declared.terms.SeenTerm.{SeenTerm}
-use Rattle.struql_check.specs.Known.{AreCreated, or_else}
+use Rattle.struql_check.specs.Known.{AreCreated}
 use Rattle.struql_check.proofs.Tables.{created_push}
 use Rattle.struql_check.proofs.functions.created_of.Goals as goal
 

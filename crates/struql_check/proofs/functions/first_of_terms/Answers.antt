@@ -1,5 +1,5 @@
 use Rattle.std.proofs.Common.{arith}
-use Rattle.struql_check.specs.Faults.{SomeIn, TermFault}
+use Rattle.struql_check.specs.Faults.{TermFault}
 use Rattle.struql_check.proofs.Firsts.{first_nil, first_step, first_end}
 use Rattle.struql_check.proofs.functions.first_of_terms.Goals as goal
 

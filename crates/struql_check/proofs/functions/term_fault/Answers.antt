@@ -1,4 +1,4 @@
-use Rattle.std.proofs.Common.{◌≡◌, ℕ, refl, sym, ap, ◌∙◌, subst}
+use Rattle.std.proofs.Common.{◌≡◌, ℕ, ap, ◌∙◌}
 use Rattle.std.specs.Prelude.{Bool, not, ◌||◌, ◌&&◌, Option}
 use Rattle.struql_check.specs.Faults.{is_created, first_arity, is_index, is_test}
 use Rattle.struql_check.specs.Known.{differs}

@@ -1,10 +1,7 @@
-use Rattle.std.proofs.Common.{◌≡◌, ◌≤◌, List, [], ◌∷◌, ◌++◌, length, arith, refl, sym, ap, ◌∙◌, subst, length-append}
+use Rattle.std.proofs.Common.{◌≡◌, [], ◌∷◌, arith, sym, ◌∙◌, length-append}
 use Rattle.std.specs.Prelude.{true, false}
 use Rattle.std.specs.List.{list_any}
 use Rattle.query_spec.specs.Mentions.{same_name}
-use Rattle.struql_ast.specs.Written.{Name}
-use Rattle.struql_check.specs.declared.mentions.Mention.{Mention}
-use Rattle.struql_check.specs.Known.{names_of}
 use Rattle.struql_check.proofs.ChainNames.{known_more, new_more, past_here, past_more}
 use Rattle.struql_check.proofs.names.one_more.Goals as goal
 

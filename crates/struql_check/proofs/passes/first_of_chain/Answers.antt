@@ -1,5 +1,4 @@
-use Rattle.std.proofs.Common.{◌≡◌, ◌≤◌, length, ap, subst, refl}
-use Rattle.struql_check.specs.Known.{names_of}
+use Rattle.std.proofs.Common.{◌≤◌, length, subst}
 use Rattle.struql_check.proofs.Exactly.{chain_few, chain_past}
 use Rattle.struql_check.proofs.passes.first_of_chain.Goals as goal
 

@@ -1,6 +1,6 @@
 use Rattle.std.proofs.Common.{arith}
 use Rattle.struql_ast.specs.Written.{condition_written}
-use Rattle.struql_check.specs.Faults.{SomeIn, ConditionFault}
+use Rattle.struql_check.specs.Faults.{ConditionFault}
 use Rattle.struql_check.proofs.Firsts.{first_nil, first_step, first_end, first_map}
 use Rattle.struql_check.proofs.passes.first_of_conditions.Goals as goal
 

@@ -1,6 +1,6 @@
 use Rattle.std.proofs.Common.{arith}
 use Rattle.struql_ast.specs.Written.{link_written}
-use Rattle.struql_check.specs.Faults.{SomeIn, LinkFault}
+use Rattle.struql_check.specs.Faults.{LinkFault}
 use Rattle.struql_check.proofs.Firsts.{first_nil, first_step, first_end, first_map}
 use Rattle.struql_check.proofs.passes.first_of_links.Goals as goal
 

@@ -1,6 +1,6 @@
 use Rattle.std.proofs.Common.{arith}
-use Rattle.struql_check.specs.Faults.{SomeIn, MentionFault}
-use Rattle.struql_check.proofs.Firsts.{first_nil, first_step, first_end, first_map}
+use Rattle.struql_check.specs.Faults.{MentionFault}
+use Rattle.struql_check.proofs.Firsts.{first_nil, first_step, first_end}
 use Rattle.struql_check.proofs.passes.first_of_mentions.Goals as goal
 
 pub loop-mention-init : goal.loop-mention-init

@@ -1,5 +1,3 @@
-use Rattle.std.proofs.Common.{◌≡◌, ap, subst, refl, sym, ◌∙◌}
-use Rattle.struql_check.specs.Scope.{sort_of}
 use Rattle.struql_check.proofs.Exactly.{role_first}
 use Rattle.struql_check.proofs.passes.mention_fault.Goals as goal
 

@@ -1,4 +1,4 @@
-use Rattle.std.proofs.Common.{◌≡◌, ◌++◌, ◌∷◌, [], ◌<◌, List, take, length, refl, sym, ap, ◌∙◌, arith, ◌+◌}
+use Rattle.std.proofs.Common.{◌≡◌, ◌++◌, ◌∷◌, [], take, sym, ap, ◌∙◌, arith, ◌+◌}
 use Rattle.std.proofs.lemmas.List.{take_more}
 use Rattle.struql_ast.specs.declared.Block.{Block}
 use Rattle.struql_check.proofs.BlockParts.{clauses_of, inner_of, terms_push, parts_joined}

@@ -1,13 +1,12 @@
-use Rattle.std.proofs.Common.{◌≡◌, List, [], ◌∷◌, ◌++◌, ◌+◌, take, refl, sym, ap, ◌∙◌, subst, arith}
-use Rattle.std.specs.Prelude.{Option}
+use Rattle.std.proofs.Common.{◌≡◌, List, [], ◌∷◌, ◌++◌, ◌+◌, take, sym, ap, ◌∙◌, subst, arith}
 use Rattle.std.proofs.lemmas.List.{take_more, take_all}
 use Rattle.struql_ast.specs.declared.Block.{Block}
 use Rattle.struql_ast.specs.declared.Block.TheViews.{out-Block}
 use Rattle.struql_ast.specs.Written.{blocks_written, block_clauses, block_inner}
 use Rattle.struql_check.specs.declared.mentions.Mention.{Mention}
-use Rattle.struql_check.specs.Scope.{within, Scoped}
+use Rattle.struql_check.specs.Scope.{within}
 use Rattle.struql_check.specs.Faults.{SomeIn, BlockFault}
-use Rattle.struql_check.specs.First.{IsFirst, earlier}
+use Rattle.struql_check.specs.First.{IsFirst}
 use Rattle.struql_check.specs.Known.{here}
 use Rattle.struql_check.proofs.BlockParts.{within_push, inner_of}
 use Rattle.struql_check.proofs.Firsts.{first_append}

@@ -1,10 +1,7 @@
-use Rattle.std.proofs.Common.{◌≡◌, List, refl, sym, ap, ◌∙◌, subst}
-use Rattle.std.specs.Prelude.{map}
+use Rattle.std.proofs.Common.{◌≡◌}
 use Rattle.std.specs.List.{flat_map}
-use Rattle.struql_ast.specs.Written.{Clauses, Condition, Link, Collect, block_clauses, link_written, collect_written, condition_written}
+use Rattle.struql_ast.specs.Written.{block_clauses}
 use Rattle.struql_check.specs.Scope.{mentions, uses}
-use Rattle.struql_check.specs.Faults.{SomeIn, MentionFault, ConditionFault, LinkFault, CollectFault}
-use Rattle.struql_check.specs.First.{IsFirst}
 use Rattle.struql_check.proofs.BlockParts.{clauses_of}
 use Rattle.struql_check.proofs.WalkParts.{block_first}
 use Rattle.struql_check.proofs.walk.first_of_clauses.Goals as goal
