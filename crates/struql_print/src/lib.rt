@@ -1,0 +1,14 @@
+//! The canonical text of queries, conditions and links.
+#![tactic(auto)]
+
+mod conditions;
+mod listed;
+mod query;
+mod regex;
+mod terms;
+#[cfg(test)]
+mod tests;
+
+pub use conditions::print_condition;
+pub use query::print;
+pub use terms::print_link;

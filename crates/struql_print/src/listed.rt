@@ -1,0 +1,40 @@
+//! Lists with commas between their items.
+
+ghost use Rattle.std.specs.Prelude.{◌≡◌, ◌++◌, IfOk, ℕ, List, map};
+ghost use Rattle.struql_print.specs.Texts.{joined, further};
+
+use sd_value::NoMemory;
+use token_writer::put;
+
+/// What has a text of its own.
+pub trait Print {
+    ghost text: { Self → List ℕ };
+
+    /// Appends its text.
+    fn print(&self, out: &mut Vec<u8>) -> Result<(), NoMemory>
+        ensures { IfOk result (λ _. out.new.items ≡ out.old.items ++ text self.now) };
+}
+
+/// Appends the items' texts, with commas between them.
+pub fn print_listed<T: Print>(items: &[T], out: &mut Vec<u8>) -> Result<(), NoMemory>
+    ensures { IfOk result (λ _. out.new.items ≡ out.old.items ++ joined (map T.text items.now)) }
+{
+    match items {
+        [] => Ok(()),
+        [first, later @ ..] => {
+            first.print(out)?;
+            print_further(later, out)
+        }
+    }
+}
+
+/// Appends each item's text behind a comma.
+fn print_further<T: Print>(items: &[T], out: &mut Vec<u8>) -> Result<(), NoMemory>
+    ensures { IfOk result (λ _. out.new.items ≡ out.old.items ++ further (map T.text items.now)) }
+{
+    for item in items {
+        put(b", ", out)?;
+        item.print(out)?;
+    }
+    Ok(())
+}

@@ -1,0 +1,88 @@
+//! Blocks and queries.
+
+ghost use Rattle.std.specs.Prelude.{◌≡◌, ◌++◌, IfOk, ℕ, List, [], map, codes};
+ghost use Rattle.std.specs.List.{flat_map};
+ghost use Rattle.struql_ast.specs.declared.Block.{Block as AnyBlock};
+ghost use Rattle.struql_ast.specs.Reading.{blocks_of, query_of};
+ghost use Rattle.struql_print.specs.Texts.{clause_text, block_texts, query_text};
+ghost use Rattle.struql_print.specs.Block.{block_text, clauses_text};
+
+use crate::listed::{Print, print_listed};
+use sd_value::NoMemory;
+use struql_ast::{Block, Query};
+use token_writer::put;
+
+/// Appends a clause behind a blank, or nothing where it has no items.
+fn print_clause<T: Print>(word: &[u8], items: &[T], out: &mut Vec<u8>) -> Result<(), NoMemory>
+    ensures { IfOk result (λ _. out.new.items ≡ out.old.items ++ clause_text word.now (map T.text items.now)) }
+{
+    if items.is_empty() {
+        return Ok(());
+    }
+    put(b" ", out)?;
+    put(word, out)?;
+    put(b" ", out)?;
+    print_listed(items, out)
+}
+
+fn print_clauses(block: &Block, out: &mut Vec<u8>) -> Result<(), NoMemory>
+    ensures { IfOk result (λ _. out.new.items ≡ out.old.items ++ clauses_text block.now) }
+{
+    print_clause(b"WHERE", block.conditions.as_slice(), out)?;
+    print_clause(b"CREATE", block.creates.as_slice(), out)?;
+    print_clause(b"LINK", block.links.as_slice(), out)?;
+    print_clause(b"COLLECT", block.collects.as_slice(), out)
+}
+
+/// Appends a block in braces, with the blocks in it.
+#[cycle(block)]
+fn print_block(block: &Block, out: &mut Vec<u8>) -> Result<(), NoMemory>
+    ensures { IfOk result (λ _. out.new.items ≡ out.old.items ++ block_text block.now) }
+{
+    put(b"{", out)?;
+    print_clauses(block, out)?;
+    print_inner(block.blocks.as_slice(), out)?;
+    put(b" }", out)
+}
+
+/// Appends each block behind a blank.
+#[cycle(block)]
+fn print_inner(blocks: &[Block], out: &mut Vec<u8>) -> Result<(), NoMemory>
+    ensures { IfOk result (λ _. out.new.items ≡ out.old.items ++ flat_map (λ text. codes " " ++ text) (block_texts (blocks_of blocks.now))) }
+{
+    for block in blocks {
+        put(b" ", out)?;
+        print_block(block, out)?;
+    }
+    Ok(())
+}
+
+/// Appends each block, and a line feed behind it.
+fn print_lines(blocks: &[Block], out: &mut Vec<u8>) -> Result<(), NoMemory>
+    ensures { IfOk result (λ _. out.new.items ≡ out.old.items ++ flat_map (λ text. text ++ codes "\n") (block_texts (blocks_of blocks.now))) }
+{
+    for block in blocks {
+        print_block(block, out)?;
+        put(b"\n", out)?;
+    }
+    Ok(())
+}
+
+/// Appends a query's canonical text: a line `STRUQL 2` where that is its version, a line for the
+/// input, one for each block and one for the output. Reading it gives the query again, places
+/// aside, where the grammar can spell the query at all. After `NoMemory` what `out` holds is not
+/// said.
+pub fn print(query: &Query, out: &mut Vec<u8>) -> Result<(), NoMemory>
+    ensures { IfOk result (λ _. out.new.items ≡ out.old.items ++ query_text (query_of query.now)) }
+{
+    if query.version == 2 {
+        put(b"STRUQL 2\n", out)?;
+    }
+    put(b"INPUT ", out)?;
+    put(query.input.bytes(), out)?;
+    put(b"\n", out)?;
+    print_lines(query.blocks.as_slice(), out)?;
+    put(b"OUTPUT ", out)?;
+    put(query.output.bytes(), out)?;
+    put(b"\n", out)
+}

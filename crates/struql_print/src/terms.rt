@@ -1,0 +1,96 @@
+//! Operands, terms, links and collections.
+
+ghost use Rattle.std.specs.Prelude.{◌≡◌, ◌++◌, IfOk, ℕ, List};
+ghost use Rattle.struql_ast.specs.Reading.{operand_of, term_of, target_of, label_of, link_of, collect_of};
+ghost use Rattle.struql_print.specs.Texts.{value_text, operand_text, term_text, target_text, label_text, link_text, collect_text};
+
+use crate::listed::{Print, print_listed};
+use sd_value::{Datum, NoMemory, Value};
+use struql_ast::{Collect, Link, LinkLabel, Operand, Target, Term0};
+use token_writer::{put, put_int, put_quoted};
+
+impl Print for Value {
+    ghost text = { value_text };
+
+    fn print(&self, out: &mut Vec<u8>) -> Result<(), NoMemory> {
+        match self {
+            Value::Data(Datum::Int(n)) => put_int(*n, out),
+            Value::Data(Datum::Text(text)) => put_quoted(text.bytes(), out),
+            Value::Data(Datum::Url(text)) => put_quoted(text.bytes(), out),
+            Value::Data(Datum::File(text)) => put_quoted(text.bytes(), out),
+            Value::Data(Datum::Node(text)) => put_quoted(text.bytes(), out),
+            Value::Page(term) => put_quoted(term.function.bytes(), out),
+        }
+    }
+}
+
+impl Print for Operand {
+    ghost text = { λ t. operand_text (operand_of t) };
+
+    fn print(&self, out: &mut Vec<u8>) -> Result<(), NoMemory> {
+        match self {
+            Operand::Variable(name, _) => put(name.bytes(), out),
+            Operand::Constant(value, _) => value.print(out),
+        }
+    }
+}
+
+impl Print for Term0 {
+    ghost text = { λ t. term_text (term_of t) };
+
+    fn print(&self, out: &mut Vec<u8>) -> Result<(), NoMemory> {
+        put(self.function.bytes(), out)?;
+        put(b"(", out)?;
+        print_listed(self.args.as_slice(), out)?;
+        put(b")", out)
+    }
+}
+
+fn print_target(target: &Target, out: &mut Vec<u8>) -> Result<(), NoMemory>
+    ensures { IfOk result (λ _. out.new.items ≡ out.old.items ++ target_text (target_of target.now)) }
+{
+    match target {
+        Target::Plain(operand) => operand.print(out),
+        Target::Made(term) => term.print(out),
+    }
+}
+
+fn print_label(label: &LinkLabel, out: &mut Vec<u8>) -> Result<(), NoMemory>
+    ensures { IfOk result (λ _. out.new.items ≡ out.old.items ++ label_text (label_of label.now)) }
+{
+    match label {
+        LinkLabel::Quoted(text) => put_quoted(text.bytes(), out),
+        LinkLabel::Variable(name, _) => put(name.bytes(), out),
+    }
+}
+
+/// Appends a link's canonical text, as `F(x) -> "l" -> y`. After `NoMemory` what `out` holds is
+/// not said.
+pub fn print_link(link: &Link, out: &mut Vec<u8>) -> Result<(), NoMemory>
+    ensures { IfOk result (λ _. out.new.items ≡ out.old.items ++ link_text (link_of link.now)) }
+{
+    print_target(&link.source, out)?;
+    put(b" -> ", out)?;
+    print_label(&link.label, out)?;
+    put(b" -> ", out)?;
+    print_target(&link.target, out)
+}
+
+impl Print for Link {
+    ghost text = { λ k. link_text (link_of k) };
+
+    fn print(&self, out: &mut Vec<u8>) -> Result<(), NoMemory> {
+        print_link(self, out)
+    }
+}
+
+impl Print for Collect {
+    ghost text = { λ c. collect_text (collect_of c) };
+
+    fn print(&self, out: &mut Vec<u8>) -> Result<(), NoMemory> {
+        put(self.collection.bytes(), out)?;
+        put(b"(", out)?;
+        print_target(&self.target, out)?;
+        put(b")", out)
+    }
+}

@@ -1,0 +1,78 @@
+//! Writers of single tokens, as the text formats write them back.
+#![tactic(auto)]
+
+ghost use Rattle.std.specs.Prelude.{◌≡◌, ◌++◌, IfOk};
+ghost use Rattle.std.specs.Fmt.{signed_decimal};
+ghost use Rattle.std.specs.List.{flat_map};
+ghost use Rattle.token_writer.specs.Writing.{quoted_text, escaped_byte};
+
+use itoa::Buffer;
+use sd_value::NoMemory;
+
+/// Appends bytes as they are. After `NoMemory` what `out` holds is not said, here as in all writers.
+pub fn put(bytes: &[u8], out: &mut Vec<u8>) -> Result<(), NoMemory>
+    ensures { IfOk result (λ _. out.new.items ≡ out.old.items ++ bytes.now) }
+{
+    out.extend_from_slice(bytes)?;
+    Ok(())
+}
+
+/// Appends a number in decimal digits, behind a minus where it is negative.
+pub fn put_int(n: i64, out: &mut Vec<u8>) -> Result<(), NoMemory>
+    ensures { IfOk result (λ _. out.new.items ≡ out.old.items ++ signed_decimal n) }
+{
+    let mut buffer = Buffer::new();
+    out.extend_from_slice(buffer.format(n).as_bytes())?;
+    Ok(())
+}
+
+/// Appends a text in quotes. A quote, a backslash, a line feed, a carriage return and a tab are
+/// escaped, and every other byte stands as it is.
+pub fn put_quoted(text: &[u8], out: &mut Vec<u8>) -> Result<(), NoMemory>
+    ensures { IfOk result (λ _. out.new.items ≡ out.old.items ++ quoted_text text.now) }
+{
+    out.push(b'"')?;
+    put_escaped(text, out)?;
+    out.push(b'"')?;
+    Ok(())
+}
+
+/// The bytes of a text as they stand between quotes.
+fn put_escaped(text: &[u8], out: &mut Vec<u8>) -> Result<(), NoMemory>
+    ensures { IfOk result (λ _. out.new.items ≡ out.old.items ++ flat_map escaped_byte text.now) }
+{
+    for byte in text {
+        put_escaped_byte(*byte, out)?;
+    }
+    Ok(())
+}
+
+fn put_escaped_byte(byte: u8, out: &mut Vec<u8>) -> Result<(), NoMemory>
+    ensures { IfOk result (λ _. out.new.items ≡ out.old.items ++ escaped_byte byte) }
+{
+    match byte {
+        b'"' => put(b"\\\"", out),
+        b'\\' => put(b"\\\\", out),
+        b'\n' => put(b"\\n", out),
+        b'\r' => put(b"\\r", out),
+        b'\t' => put(b"\\t", out),
+        _ => {
+            out.push(byte)?;
+            Ok(())
+        }
+    }
+}
+
+#[cfg(test)]
+mod tests {
+    use super::*;
+
+    #[test]
+    fn writes_tokens(rt: HostRuntime) {
+        let mut out = Vec::new(rt.alloc());
+        let _ = put(b"x ", &mut out);
+        let _ = put_int(-9223372036854775808, &mut out);
+        let _ = put_quoted(b"a\"\\\n\r\t\xff", &mut out);
+        assert!(rt; out.as_slice() == b"x -9223372036854775808\"a\\\"\\\\\\n\\r\\t\xff\"".as_slice());
+    }
+}
