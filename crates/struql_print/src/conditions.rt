@@ -69,7 +69,10 @@ pub fn print_condition(condition: &Condition, out: &mut Vec<u8>) -> Result<(), N
             to.print(out)
         }
         Condition::Compare {
-            left, op, right, ..
+            left,
+            op,
+            right,
+            ..
         } => {
             left.print(out)?;
             put(b" ", out)?;
@@ -78,7 +81,9 @@ pub fn print_condition(condition: &Condition, out: &mut Vec<u8>) -> Result<(), N
             right.print(out)
         }
         Condition::OneOf {
-            operand, constants, ..
+            operand,
+            constants,
+            ..
         } => {
             operand.print(out)?;
             put(b" in {", out)?;

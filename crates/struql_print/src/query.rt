@@ -1,6 +1,6 @@
 //! Blocks and queries.
 
-ghost use Rattle.std.specs.Prelude.{◌≡◌, ◌++◌, IfOk, ℕ, List, [], map, codes};
+ghost use Rattle.std.specs.Prelude.{◌≡◌, ◌++◌, IfOk, ℕ, List, [], map, codes, nat_eq, if◌then◌else◌};
 ghost use Rattle.std.specs.List.{flat_map};
 ghost use Rattle.struql_ast.specs.declared.Block.{Block as AnyBlock};
 ghost use Rattle.struql_ast.specs.Reading.{blocks_of, query_of};
@@ -8,7 +8,7 @@ ghost use Rattle.struql_print.specs.Texts.{clause_text, block_texts, query_text}
 ghost use Rattle.struql_print.specs.Block.{block_text, clauses_text};
 
 use crate::listed::{Print, print_listed};
-use sd_value::NoMemory;
+use sd_value::{NoMemory, Str};
 use struql_ast::{Block, Query};
 use token_writer::put;
 
@@ -68,6 +68,25 @@ fn print_lines(blocks: &[Block], out: &mut Vec<u8>) -> Result<(), NoMemory>
     Ok(())
 }
 
+fn print_version(version: u8, out: &mut Vec<u8>) -> Result<(), NoMemory>
+    ensures { IfOk result (λ _. out.new.items ≡ out.old.items ++ (if nat_eq version 2 then codes "STRUQL 2\n" else [])) }
+{
+    if version == 2 {
+        put(b"STRUQL 2\n", out)
+    } else {
+        Ok(())
+    }
+}
+
+/// Appends a line of a word and a name.
+fn print_line(word: &[u8], name: &Str, out: &mut Vec<u8>) -> Result<(), NoMemory>
+    ensures { IfOk result (λ _. out.new.items ≡ out.old.items ++ (word.now ++ (name.now ++ codes "\n"))) }
+{
+    put(word, out)?;
+    put(name.bytes(), out)?;
+    put(b"\n", out)
+}
+
 /// Appends a query's canonical text: a line `STRUQL 2` where that is its version, a line for the
 /// input, one for each block and one for the output. Reading it gives the query again, places
 /// aside, where the grammar can spell the query at all. After `NoMemory` what `out` holds is not
@@ -75,14 +94,8 @@ fn print_lines(blocks: &[Block], out: &mut Vec<u8>) -> Result<(), NoMemory>
 pub fn print(query: &Query, out: &mut Vec<u8>) -> Result<(), NoMemory>
     ensures { IfOk result (λ _. out.new.items ≡ out.old.items ++ query_text (query_of query.now)) }
 {
-    if query.version == 2 {
-        put(b"STRUQL 2\n", out)?;
-    }
-    put(b"INPUT ", out)?;
-    put(query.input.bytes(), out)?;
-    put(b"\n", out)?;
+    print_version(query.version, out)?;
+    print_line(b"INPUT ", &query.input, out)?;
     print_lines(query.blocks.as_slice(), out)?;
-    put(b"OUTPUT ", out)?;
-    put(query.output.bytes(), out)?;
-    put(b"\n", out)
+    print_line(b"OUTPUT ", &query.output, out)
 }

@@ -1,8 +1,8 @@
 //! Operands, terms, links and collections.
 
-ghost use Rattle.std.specs.Prelude.{◌≡◌, ◌++◌, IfOk, ℕ, List};
+ghost use Rattle.std.specs.Prelude.{◌≡◌, ◌++◌, IfOk, ℕ, List, map};
 ghost use Rattle.struql_ast.specs.Reading.{operand_of, term_of, target_of, label_of, link_of, collect_of};
-ghost use Rattle.struql_print.specs.Texts.{value_text, operand_text, term_text, target_text, label_text, link_text, collect_text};
+ghost use Rattle.struql_print.specs.Texts.{joined, value_text, operand_text, term_text, target_text, label_text, link_text, collect_text};
 
 use crate::listed::{Print, print_listed};
 use sd_value::{Datum, NoMemory, Value};
@@ -35,13 +35,20 @@ impl Print for Operand {
     }
 }
 
+/// Appends the arguments of a term.
+fn print_arguments(args: &[Operand], out: &mut Vec<u8>) -> Result<(), NoMemory>
+    ensures { IfOk result (λ _. out.new.items ≡ out.old.items ++ joined (map operand_text (map operand_of args.now))) }
+{
+    print_listed(args, out)
+}
+
 impl Print for Term0 {
     ghost text = { λ t. term_text (term_of t) };
 
     fn print(&self, out: &mut Vec<u8>) -> Result<(), NoMemory> {
         put(self.function.bytes(), out)?;
         put(b"(", out)?;
-        print_listed(self.args.as_slice(), out)?;
+        print_arguments(self.args.as_slice(), out)?;
         put(b")", out)
     }
 }

@@ -73,6 +73,8 @@ mod tests {
         let _ = put(b"x ", &mut out);
         let _ = put_int(-9223372036854775808, &mut out);
         let _ = put_quoted(b"a\"\\\n\r\t\xff", &mut out);
-        assert!(rt; out.as_slice() == b"x -9223372036854775808\"a\\\"\\\\\\n\\r\\t\xff\"".as_slice());
+        assert!(rt;
+            out.as_slice() == b"x -9223372036854775808\"a\\\"\\\\\\n\\r\\t\xff\"".as_slice()
+        );
     }
 }

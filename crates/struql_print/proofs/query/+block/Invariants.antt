@@ -1,0 +1,9 @@
+use Rattle.std.proofs.Common.{◌≡◌, ◌++◌, take}
+use Rattle.std.specs.Prelude.{codes}
+use Rattle.std.specs.List.{flat_map}
+use Rattle.struql_ast.specs.Reading.{blocks_of}
+use Rattle.struql_print.specs.Texts.{block_texts}
+use Rattle.struql_print.proofs.query.+block.Given as goal
+
+abbrev pub invariant-print_inner-loop-block : goal.invariant-print_inner-loop-block
+invariant-print_inner-loop-block l = l.out.items ≡ l.initial.out.items ++ flat_map (λ text. codes " " ++ text) (block_texts (blocks_of (take l.block-index l.blocks)))
