@@ -1,8 +1,8 @@
 -- The program's blocks as plain blocks, by way of the trees that keep the places.
-use Rattle.std.proofs.Common.{◌≡◌, ℕ, List, [], ◌∷◌, ◌++◌, refl, sym, ap, ◌∙◌}
+use Rattle.std.proofs.Common.{◌≡◌, List, [], ◌∷◌, refl, sym, ap, ◌∙◌}
 use Rattle.std.specs.Prelude.{map}
 use Rattle.struql_ast.specs.declared.Block.{Block, Block', Row_of-Block, end_of-Block, more_of-Block}
-use Rattle.struql_ast.specs.declared.Block.TheViews.{out-Block, roll-Block, roll-out-Block}
+use Rattle.struql_ast.specs.declared.Block.TheViews.{out-Block, roll-out-Block}
 use Rattle.struql_ast.specs.declared.Condition as declared
 use Rattle.struql_ast.specs.declared.PathStep.{PathStep}
 use Rattle.struql_ast.specs.declared.PathStep.TheVariants as step
