@@ -1,0 +1,125 @@
+//! The plain store: a look through the graph's lists for each question.
+#![tactic(auto)]
+
+ghost use Rattle.std.specs.Prelude.{◌≡◌, IfOk};
+
+mod contents;
+
+pub use contents::{labels_of, values_of};
+use edge_queries::{
+    EdgeAt, Incoming, IncomingBy, Labelled, MemberAt, Members, NameAt, Out, OutAll, ValueAt,
+    copy_names, copy_values,
+};
+use picks::{any, count, has, scan};
+use sd_graph::{Edge, Graph, Sizes, Step, Store};
+use sd_value::{NoMemory, Str, Value, sort_and_dedup};
+use std::alloc::Global;
+use std::marker::Model;
+
+/// The plain store of a graph. It looks through all edges or members for each question, so it is for small graphs and
+/// for comparison.
+#[derive(Debug, Drop)]
+pub struct ListStore {
+    graph: Graph,
+    values: Vec<Value>,
+    labels: Vec<Str>,
+}
+
+impl Model for ListStore {
+    ghost use Rattle.graph_spec.specs.DataGraph.{DataGraph};
+    ghost use Rattle.list_store.specs.Contents.{IsStored};
+
+    ghost Value = { DataGraph };
+
+    ghost view = { λ s. s.graph };
+
+    ghost invariant = { λ s. IsStored s.graph s.values.items s.labels.items };
+}
+
+impl ListStore {
+    /// The store of the graph.
+    pub fn of(alloc: Global, graph: Graph) -> Result<ListStore, NoMemory>
+        ensures { IfOk result (λ store. store ≡ graph) }
+    {
+        let values = values_of(alloc, &graph)?;
+        let labels = labels_of(alloc, &graph)?;
+        Ok(ListStore {
+            graph,
+            values,
+            labels,
+        })
+    }
+}
+
+impl Store for ListStore {
+    ghost graph = { λ s. s };
+
+    fn out(&self, alloc: Global, from: &Value, label: &Str) -> Result<Vec<Value>, NoMemory> {
+        scan(alloc, self.graph.edges(), &Out { from, label })
+    }
+
+    fn out_all(&self, alloc: Global, from: &Value) -> Result<Vec<Step>, NoMemory> {
+        scan(alloc, self.graph.edges(), &OutAll { from })
+    }
+
+    fn incoming(&self, alloc: Global, to: &Value) -> Result<Vec<Step>, NoMemory> {
+        let mut steps = scan(alloc, self.graph.edges(), &Incoming { to })?;
+        sort_and_dedup(&mut steps);
+        Ok(steps)
+    }
+
+    fn incoming_by(&self, alloc: Global, to: &Value, label: &Str) -> Result<Vec<Value>, NoMemory> {
+        let mut starts = scan(alloc, self.graph.edges(), &IncomingBy { to, label })?;
+        sort_and_dedup(&mut starts);
+        Ok(starts)
+    }
+
+    fn edges_by(&self, alloc: Global, label: &Str) -> Result<Vec<Edge>, NoMemory> {
+        scan(alloc, self.graph.edges(), &Labelled { label })
+    }
+
+    fn members(&self, alloc: Global, collection: &Str) -> Result<Vec<Value>, NoMemory> {
+        scan(alloc, self.graph.member_pairs(), &Members { collection })
+    }
+
+    fn values(&self, alloc: Global) -> Result<Vec<Value>, NoMemory> {
+        copy_values(alloc, self.values.as_slice())
+    }
+
+    fn labels(&self, alloc: Global) -> Result<Vec<Str>, NoMemory> {
+        copy_names(alloc, self.labels.as_slice())
+    }
+
+    fn has_edge(&self, from: &Value, label: &Str, to: &Value) -> bool {
+        any(self.graph.edges(), &EdgeAt { from, label, to })
+    }
+
+    fn is_member(&self, collection: &Str, value: &Value) -> bool {
+        any(self.graph.member_pairs(), &MemberAt { collection, value })
+    }
+
+    fn is_value(&self, value: &Value) -> bool {
+        has(self.values.as_slice(), &ValueAt { value })
+    }
+
+    fn is_label(&self, label: &Str) -> bool {
+        has(self.labels.as_slice(), &NameAt { name: label })
+    }
+
+    fn sizes(&self) -> Sizes {
+        Sizes {
+            nodes: self.graph.nodes().len() as u64,
+            edges: self.graph.edges().len() as u64,
+            values: self.values.len() as u64,
+            labels: self.labels.len() as u64,
+        }
+    }
+
+    fn edges_of(&self, label: &Str) -> u64 {
+        count(self.graph.edges(), &Labelled { label })
+    }
+
+    fn members_of(&self, collection: &Str) -> u64 {
+        count(self.graph.member_pairs(), &Members { collection })
+    }
+}
