@@ -1,6 +1,7 @@
 //! Texts with the reader's answers, worked out by hand from the grammar.
 
 use crate::{ParseRefusal, parse};
+use std::alloc::{AllocError, Global};
 
 fn refusal(rt: HostRuntime, bytes: &[u8]) -> Option<ParseRefusal> {
     match parse(rt.alloc(), bytes, 10_000) {
@@ -21,6 +22,31 @@ fn refuses_what_goes_too_deep(rt: HostRuntime) {
     assert!(rt; refusal(rt, nested) == Some(ParseRefusal::Expected(24)));
     let bare = b"INPUT D CREATE F() {{{{{{{{{{{{{{{";
     assert!(rt; refusal(rt, bare) == Some(ParseRefusal::Expected(34)));
+}
+
+/// An expression of 1,024 empty words, each with a dot behind it.
+fn many_dots(alloc: Global) -> Result<Vec<u8>, AllocError> {
+    let mut text = Vec::from_slice(alloc, b"INPUT D WHERE x -> ")?;
+    for _ in 0..1024 {
+        text.extend_from_slice(b"().")?;
+    }
+    Ok(text)
+}
+
+#[test]
+fn refuses_what_an_expression_cannot_hold(rt: HostRuntime) {
+    // 65 stars one within another, and 65 open parentheses
+    let stars =
+        b"INPUT D WHERE x -> true*****************************************************************";
+    assert!(rt; refusal(rt, stars) == Some(ParseRefusal::TooDeep(87)));
+    let parentheses =
+        b"INPUT D WHERE x -> (((((((((((((((((((((((((((((((((((((((((((((((((((((((((((((((((";
+    assert!(rt; refusal(rt, parentheses) == Some(ParseRefusal::TooDeep(83)));
+    // the 1,024th dot
+    match many_dots(rt.alloc()) {
+        Ok(text) => assert!(rt; refusal(rt, &text) == Some(ParseRefusal::TooDeep(3090))),
+        Err(_) => assert!(rt; false),
+    }
 }
 
 #[test]
