@@ -1,0 +1,17 @@
+use Rattle.std.proofs.Common.{◌≡◌, ℕ, List, drop}
+use Rattle.std.specs.Prelude.{Result, Some}
+use Rattle.graph_spec.specs.DataGraph.{DataGraph}
+use Rattle.edge_io.specs.Files.{FileMap}
+use Rattle.edge_io.specs.Counts.{NoneFell}
+use Rattle.strudel.specs.Sources.{GraphEnds, empty_building}
+use Rattle.strudel.specs.declared.fault.Fault.{Fault}
+use Rattle.strudel.proofs.inputs.load_graph.Given as goal
+
+-- the end of the files that are left is the end of all
+abbrev pub invariant-loop-path : goal.invariant-loop-path
+invariant-loop-path g l = record {
+  same : g.F.Files.contents l.files ≡ g.F.Files.contents l.initial.files;
+  later : NoneFell (g.F.Files.failed_reads l.initial.files) (g.F.Files.failed_reads l.files);
+  rest : (map : FileMap) → g.F.Files.contents l.initial.files ≡ Some map → (result : Result DataGraph Fault)
+      → GraphEnds map l.graph (drop l.path-index l.sources) result → GraphEnds map empty_building l.sources result;
+}

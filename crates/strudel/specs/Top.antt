@@ -1,0 +1,68 @@
+-- What a whole run has done.
+use Rattle.std.specs.Prelude.{◌≡◌, ◌⊎◌, ℕ, List, [], Option, Result, ⊤}
+use Rattle.std.specs.Prelude as prelude
+use Rattle.edge_io.specs.Files.{FileMap}
+use Rattle.edge_io.specs.Sink.{Gains, GainsPart}
+use Rattle.edge_io.specs.Counts.{Rose}
+use Rattle.strudel.specs.Sources.{DataEnds}
+use Rattle.strudel.specs.declared.fault.Fault.{Fault}
+use Rattle.strudel.specs.declared.fault.Fault.TheVariants as fault
+use Rattle.run_report.specs.declared.status.Status.{Status}
+use Rattle.run_report.specs.declared.status.Status.TheVariants.{Ok, NotAllYes, Usage, Refused, ReadFault, WriteFault, WireFault, PageFault, NoMemory, NotFound, TurnsSpent}
+use Rattle.command_words.specs.declared.Command.{Command}
+use Rattle.command_words.specs.declared.Command.TheVariants.{Data}
+
+-- the status of a command that ends with this fault
+abbrev pub status_of : Fault → Status
+status_of (fault.Refused refusal) = Refused refusal.file refusal.number refusal.place
+status_of (fault.Unread path) = ReadFault path
+status_of (fault.Faulty term kind) = PageFault term kind
+status_of fault.NotFound = NotFound
+status_of fault.NoMemory = NoMemory
+
+-- the answer of a command: the text that it writes, or the fault that it ends with
+abbrev pub Answers : FileMap → Command → Result (List ℕ) Fault → Type 0
+Answers map (Data command) = DataEnds map command.sources
+
+-- the command's text was put
+pub record Puts (map : FileMap) (command : Command) (old new : Option (List ℕ)) : Type 0 where
+  pub text : List ℕ
+  pub answer : Answers map command (prelude.Ok text)
+  pub gained : Gains old new text
+
+-- a prefix of the command's text was put
+pub record PutsPart (map : FileMap) (command : Command) (old new : Option (List ℕ)) : Type 0 where
+  pub text : List ℕ
+  pub answer : Answers map command (prelude.Ok text)
+  pub gained : GainsPart old new text
+
+-- What the run of a command has put, and why it has this status.
+abbrev pub Ends : FileMap → Command → Option (List ℕ) → Option (List ℕ) → Status → Type 0
+Ends map command old new Ok = Puts map command old new
+Ends map command old new WriteFault = PutsPart map command old new
+Ends map command old new NoMemory = new ≡ old
+Ends map command old new Usage = ⊥
+Ends map command old new NotAllYes = ⊥
+Ends map command old new WireFault = ⊥
+Ends map command old new TurnsSpent = ⊥
+Ends map command old new (Refused file number place) = Answers map command (prelude.Err (fault.Refused (record { file = file; number = number; place = place })))
+Ends map command old new (ReadFault path) = Answers map command (prelude.Err (fault.Unread path))
+Ends map command old new (PageFault term kind) = Answers map command (prelude.Err (fault.Faulty term kind))
+Ends map command old new NotFound = Answers map command (prelude.Err fault.NotFound)
+
+-- how a run ends: no command, or a command's end
+abbrev pub RunEnds : FileMap → Option Command → Option (List ℕ) → Option (List ℕ) → Status → Type 0
+RunEnds map prelude.None old new status = (status ≡ Usage) ⊎ (status ≡ NoMemory)
+RunEnds map (prelude.Some command) old new status = Ends map command old new status
+
+-- a fault of reading comes only where the count of that path rose
+abbrev pub ReadRose : (List ℕ → ℕ) → (List ℕ → ℕ) → Status → Type 0
+ReadRose before now (ReadFault path) = Rose (before path) (now path)
+ReadRose before now status = ⊤
+
+-- a status at which nothing was put
+abbrev pub IsSilent : Status → Type 0
+IsSilent Ok = ⊥
+IsSilent WriteFault = ⊥
+IsSilent NoMemory = ⊥
+IsSilent status = ⊤

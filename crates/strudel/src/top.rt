@@ -1,0 +1,84 @@
+// The whole run.
+ghost use Rattle.std.specs.Prelude.{◌≡◌, ◌⊎◌, None};
+ghost use Rattle.std.specs.Option.{ForSome};
+ghost use Rattle.edge_io.specs.Counts.{Rose};
+ghost use Rattle.edge_io.specs.Sink.{Gains, GainsPart};
+ghost use Rattle.command_words.specs.Words.{command};
+ghost use Rattle.run_report.specs.Report.{line};
+ghost use Rattle.strudel.specs.Runs.{ReadsHaveCause};
+ghost use Rattle.strudel.specs.Top.{Answers, RunEnds, ReadRose, IsSilent};
+
+use crate::data::data;
+use crate::fault::Fault;
+use command_words::{Command, read_command};
+use edge_io::{Files, Sink};
+use run_report::{Status, report};
+use sd_value::{NoMemory, Str};
+use std::alloc::Global;
+
+// The text that a command writes.
+fn answer<F: Files>(alloc: Global, files: &mut F, command: &Command) -> Result<Str, Fault>
+    ensures ends { ForSome (F.contents files.old) (λ map. Answers map command.now result) }
+    ensures same { F.contents files.new ≡ F.contents files.old }
+    ensures cause { ReadsHaveCause (F.failed_reads files.old) (F.failed_reads files.new) result }
+{
+    match command {
+        Command::Data(command) => data(alloc, files, command),
+    }
+}
+
+// Runs the command of the words.
+fn run<F: Files, O: Sink>(alloc: Global, words: &[Str], files: &mut F, out: &mut O) -> Status
+    ensures usage { result ≡ Status.Usage → command words.now ≡ None }
+    ensures no_command { command words.now ≡ None → (result ≡ Status.Usage) ⊎ (result ≡ Status.NoMemory) }
+    ensures no_words { command words.now ≡ None → out.new ≡ out.old }
+    ensures ends { ForSome (F.contents files.old) (λ map. RunEnds map (command words.now) (O.text out.old) (O.text out.new) result) }
+    ensures silent { IsSilent result → out.new ≡ out.old }
+    ensures files { F.contents files.new ≡ F.contents files.old }
+    ensures read_cause { ReadRose (F.failed_reads files.old) (F.failed_reads files.new) result }
+    ensures write_cause { result ≡ Status.WriteFault → Rose (O.failed out.old) (O.failed out.new) }
+{
+    let command = match read_command(alloc, words) {
+        Ok(Some(command)) => command,
+        Ok(None) => return Status::Usage,
+        Err(NoMemory) => return Status::NoMemory,
+    };
+    match answer(alloc, files, &command) {
+        Ok(text) => match out.put(text.bytes()) {
+            Ok(()) => Status::Ok,
+            Err(_) => Status::WriteFault,
+        },
+        Err(fault) => Status::from(fault),
+    }
+}
+
+/// Does all that the program does. `words` are those after the program's name. The answer is put on `out`, and a line
+/// on `err` tells any other end; the status has the exit code.
+pub fn strudel<F: Files, O: Sink, E: Sink>(
+    alloc: Global,
+    words: &[Str],
+    files: &mut F,
+    out: &mut O,
+    err: &mut E,
+) -> Status
+    // Wrong words are told, and nothing else is told as wrong words.
+    ensures usage { result ≡ Status.Usage → command words.now ≡ None }
+    ensures no_command { command words.now ≡ None → (result ≡ Status.Usage) ⊎ (result ≡ Status.NoMemory) }
+    ensures no_words { command words.now ≡ None → out.new ≡ out.old }
+
+    // Why the run has this status, and what it has put.
+    ensures ends { ForSome (F.contents files.old) (λ map. RunEnds map (command words.now) (O.text out.old) (O.text out.new) result) }
+    ensures silent { IsSilent result → out.new ≡ out.old }
+    ensures files { F.contents files.new ≡ F.contents files.old }
+
+    // A fault of the outside comes only where its count rose.
+    ensures read_cause { ReadRose (F.failed_reads files.old) (F.failed_reads files.new) result }
+    ensures write_cause { result ≡ Status.WriteFault → Rose (O.failed out.old) (O.failed out.new) }
+
+    // The line on `err`.
+    ensures line { ¬ Rose (E.failed err.old) (E.failed err.new) → Gains (E.text err.old) (E.text err.new) (line result) }
+    ensures part { GainsPart (E.text err.old) (E.text err.new) (line result) }
+{
+    let status = run(alloc, words, files, out);
+    report(alloc, status, err)
+}
