@@ -165,7 +165,7 @@ fn advance(
 /// The steps of a plan.
 #[derive(Debug, Drop)]
 pub struct StepList {
-    pub steps: Vec<PlanStep>,
+    steps: Vec<PlanStep>,
 }
 
 impl Model for StepList {
@@ -175,6 +175,15 @@ impl Model for StepList {
     ghost Value = { List PlanStep };
 
     ghost view = { λ s. s.steps.items };
+}
+
+impl StepList {
+    /// The steps, first to last.
+    pub fn steps(&self) -> &[PlanStep]
+        ensures { result.now ≡ self.now }
+    {
+        self.steps.as_slice()
+    }
 }
 
 fn none_used(alloc: Global, count: usize) -> Result<Vec<bool>, AllocError>

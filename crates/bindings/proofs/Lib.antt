@@ -1,0 +1,7 @@
+pub mod Known
+pub mod Found
+pub mod Parts
+pub mod Offers
+pub mod Steps
+pub mod Rows
+pub mod Made

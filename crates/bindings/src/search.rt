@@ -1,0 +1,379 @@
+// A search, depth first, for all rows that meet a list of goals.
+ghost use Rattle.std.specs.Prelude.{◌≡◌, ◌↔◌, IsTrue, false, ◌≤◌, ℕ, IfOk, MatchOption, IfSome, length, Some, None, ◌<◌, ◌+◌, slice_set, slice_get, if◌then◌else◌};
+ghost use Rattle.sd_value.specs.Ascending.{ListsExactly};
+ghost use Rattle.query_spec.specs.Rows.{row_cmp, IsAnswer, SomeAnswer};
+ghost use Rattle.goals.specs.Resolved.{arcs_of, AreGoalsOf};
+ghost use Rattle.goals.specs.Meaning.{LiteralHolds};
+ghost use Rattle.goals.specs.Places.{AtomInRange, GoalInRange, GoalsInRange};
+ghost use Rattle.goals.specs.Known.{KnownInDomains};
+ghost use Rattle.bindings.specs.Fits.{Fits, SomeFits, Adds, HasFree, IsTold, IsStopped, IsPassed, IsOpening, IsChoice, IsComplete};
+
+use crate::domain::in_domain;
+use crate::offer::{Offer, any, offer_values};
+use crate::row::row_of;
+use goals::{Goal, Literal, free_slot, test_atom, value_of};
+use query_spec::Row;
+use sd_value::{NoMemory, Value, sort_and_dedup};
+use std::alloc::Global;
+use store::Store;
+use struql_ast::Chain;
+
+#[derive(Drop)]
+pub(crate) struct Search<'a, S> {
+    pub(crate) store: &'a S,
+    pub(crate) version: u8,
+    pub(crate) arcs: &'a [bool],
+    pub(crate) goals: &'a [Goal],
+}
+
+// The values that a variable may take next, and the first goal that is open then.
+#[derive(Drop)]
+pub(crate) struct Choice {
+    pub(crate) slot: usize,
+    pub(crate) values: Vec<Value>,
+    pub(crate) next: usize,
+}
+
+// Whether the goal holds, where its variables all have values.
+fn tested<S: Store>(
+    alloc: Global,
+    search: &Search<S>,
+    goal: &Goal,
+    current: &[Option<Value>],
+) -> Result<Option<bool>, NoMemory>
+    requires { GoalInRange (length current.now) goal.now }
+    ensures { IfOk result (IsTold (S.graph search.now.store.now) search.now.version goal.now current.now) }
+{
+    match goal {
+        Goal::Domain(slot) => match value_of(*slot, current) {
+            Some(_) => Ok(Some(true)),
+            None => Ok(None),
+        },
+        Goal::Holds(literal) => match free_slot(&literal.atom, current) {
+            Some(_) => Ok(None),
+            None => {
+                let holds = test_atom(alloc, search.store, search.version, &literal.atom, current)?;
+                Ok(Some(holds != literal.negated))
+            }
+        },
+    }
+}
+
+// The first goal from `at` on that has a variable with no value yet, or none where a goal before it fails.
+fn passed<S: Store>(
+    alloc: Global,
+    search: &Search<S>,
+    at: usize,
+    current: &[Option<Value>],
+) -> Result<Option<usize>, NoMemory>
+    requires { GoalsInRange (length current.now) search.now.goals.now }
+    ensures { IfOk result (λ r. IsPassed (S.graph search.now.store.now) search.now.version search.now.arcs.now search.now.goals.now at current.now r) }
+{
+    let mut next = at;
+    while next < search.goals.len() {
+        match tested(alloc, search, &search.goals[next], current)? {
+            Some(true) => next += 1,
+            Some(false) => return Ok(None),
+            None => return Ok(Some(next)),
+        }
+    }
+    Ok(Some(next))
+}
+
+fn first_free(current: &[Option<Value>]) -> Option<usize>
+    ensures { MatchOption result (HasFree current.now → ⊥) (λ k. slice_get current.now k ≡ Some None) }
+{
+    for slot in 0..current.len() {
+        if current[slot].is_none() {
+            return Some(slot);
+        }
+    }
+    None
+}
+
+// Values for a variable of the literal.
+fn offer_literal<S: Store>(
+    alloc: Global,
+    search: &Search<S>,
+    literal: &Literal,
+    slot: usize,
+    current: &[Option<Value>],
+) -> Result<Offer, NoMemory>
+    requires as_long { length search.now.arcs.now ≡ length current.now }
+    requires in_range { AtomInRange (length current.now) literal.now.atom }
+    requires free { slice_get current.now slot ≡ Some None }
+    ensures { IfOk result (λ o. IsOpening (S.graph search.now.store.now) search.now.arcs.now (LiteralHolds (S.graph search.now.store.now) search.now.version literal.now) current.now o.slot o.values.items o.settled) }
+{
+    if literal.negated {
+        let offer = any(alloc, search, slot)?;
+        Ok(offer)
+    } else {
+        let offer = offer_values(alloc, search, &literal.atom, slot, current)?;
+        Ok(offer)
+    }
+}
+
+// The first goal that is open once a goal's variable has a value that was offered.
+fn next_goal(at: usize, settled: bool) -> usize
+    requires { at < usize.MAX }
+    ensures { result ≡ (if settled then at + 1 else at) }
+{
+    if settled { at + 1 } else { at }
+}
+
+// Values for a variable of the goal, if it has a free one.
+fn choose_for<S: Store>(
+    alloc: Global,
+    search: &Search<S>,
+    at: usize,
+    current: &[Option<Value>],
+) -> Result<Option<Choice>, NoMemory>
+    requires as_long { length search.now.arcs.now ≡ length current.now }
+    requires in_range { GoalsInRange (length current.now) search.now.goals.now }
+    requires within { at < length search.now.goals.now }
+    ensures { IfOk result (λ r. IfSome r (λ c. IsChoice (S.graph search.now.store.now) search.now.version search.now.arcs.now search.now.goals.now at current.now c.slot c.values.items c.next)) }
+{
+    let Goal::Holds(literal) = &search.goals[at] else {
+        return Ok(None);
+    };
+    let Some(slot) = free_slot(&literal.atom, current) else {
+        return Ok(None);
+    };
+    let offer = offer_literal(alloc, search, literal, slot, current)?;
+    let next = next_goal(at, offer.settled);
+    Ok(Some(Choice {
+        slot: offer.slot,
+        values: offer.values,
+        next,
+    }))
+}
+
+fn choose_any<S: Store>(
+    alloc: Global,
+    search: &Search<S>,
+    at: usize,
+    current: &[Option<Value>],
+) -> Result<Option<Choice>, NoMemory>
+    requires as_long { length search.now.arcs.now ≡ length current.now }
+    requires stopped { IsStopped search.now.goals.now at current.now }
+    ensures { IfOk result (λ r. MatchOption r (IsComplete search.now.goals.now at current.now) (λ c. IsChoice (S.graph search.now.store.now) search.now.version search.now.arcs.now search.now.goals.now at current.now c.slot c.values.items c.next)) }
+{
+    let Some(slot) = first_free(current) else {
+        return Ok(None);
+    };
+    let offer = any(alloc, search, slot)?;
+    Ok(Some(Choice {
+        slot: offer.slot,
+        values: offer.values,
+        next: at,
+    }))
+}
+
+fn choose<S: Store>(
+    alloc: Global,
+    search: &Search<S>,
+    at: usize,
+    current: &[Option<Value>],
+) -> Result<Option<Choice>, NoMemory>
+    requires as_long { length search.now.arcs.now ≡ length current.now }
+    requires in_range { GoalsInRange (length current.now) search.now.goals.now }
+    requires stopped { IsStopped search.now.goals.now at current.now }
+    ensures { IfOk result (λ r. MatchOption r (IsComplete search.now.goals.now at current.now) (λ c. IsChoice (S.graph search.now.store.now) search.now.version search.now.arcs.now search.now.goals.now at current.now c.slot c.values.items c.next)) }
+{
+    if at < search.goals.len() {
+        let choice = choose_for(alloc, search, at, current)?;
+        if choice.is_some() {
+            return Ok(choice);
+        }
+    }
+    choose_any(alloc, search, at, current)
+}
+
+fn put(current: &mut [Option<Value>], slot: usize, value: Value)
+    requires { slot < length current.old }
+    ensures { current.new ≡ slice_set current.old slot (Some value) }
+{
+    current[slot] = Some(value);
+}
+
+fn clear(current: &mut [Option<Value>], slot: usize)
+    requires { slot < length current.old }
+    ensures { current.new ≡ slice_set current.old slot None }
+{
+    current[slot] = None;
+}
+
+// Adds all rows that agree with what is known and meet the goals from `at` on.
+pub(crate) fn rows<S: Store>(
+    alloc: Global,
+    search: &Search<S>,
+    at: usize,
+    current: &mut [Option<Value>],
+    found: &mut Vec<Row>,
+) -> Result<(), NoMemory>
+    requires known { KnownInDomains (S.graph search.now.store.now) search.now.arcs.now current.old }
+    requires as_long { length search.now.arcs.now ≡ length current.old }
+    requires in_range { GoalsInRange (length current.old) search.now.goals.now }
+    ensures restored { IfOk result (λ _. current.new ≡ current.old) }
+    ensures exact { IfOk result (λ _. Adds (Fits (S.graph search.now.store.now) search.now.version search.now.arcs.now search.now.goals.now at current.old) found.old.items found.new.items) }
+{
+    let Some(at) = passed(alloc, search, at, current)? else {
+        return Ok(());
+    };
+    let Some(choice) = choose(alloc, search, at, current)? else {
+        found.push(row_of(alloc, current)?)?;
+        return Ok(());
+    };
+    let Choice {
+        slot,
+        mut values,
+        next,
+    } = choice;
+    while let Some(value) = values.pop() {
+        put(current, slot, value);
+        rows(alloc, search, next, current, found)?;
+        clear(current, slot);
+    }
+    Ok(())
+}
+
+// Whether some row agrees with what is known and meets the goals from `at` on.
+pub(crate) fn finds<S: Store>(
+    alloc: Global,
+    search: &Search<S>,
+    at: usize,
+    current: &mut [Option<Value>],
+) -> Result<bool, NoMemory>
+    requires known { KnownInDomains (S.graph search.now.store.now) search.now.arcs.now current.old }
+    requires as_long { length search.now.arcs.now ≡ length current.old }
+    requires in_range { GoalsInRange (length current.old) search.now.goals.now }
+    ensures restored { IfOk result (λ b. b ≡ false → current.new ≡ current.old) }
+    ensures exact { IfOk result (λ b. IsTrue b ↔ SomeFits (S.graph search.now.store.now) search.now.version search.now.arcs.now search.now.goals.now at current.old) }
+{
+    let Some(at) = passed(alloc, search, at, current)? else {
+        return Ok(false);
+    };
+    let Some(choice) = choose(alloc, search, at, current)? else {
+        return Ok(true);
+    };
+    let Choice {
+        slot,
+        mut values,
+        next,
+    } = choice;
+    while let Some(value) = values.pop() {
+        put(current, slot, value);
+        if finds(alloc, search, next, current)? {
+            return Ok(true);
+        }
+        clear(current, slot);
+    }
+    Ok(false)
+}
+
+// All rows that agree with what is bound and meet the goals.
+pub(crate) fn all_rows<S: Store>(
+    alloc: Global,
+    search: &Search<S>,
+    current: &mut [Option<Value>],
+) -> Result<Vec<Row>, NoMemory>
+    requires known { KnownInDomains (S.graph search.now.store.now) search.now.arcs.now current.old }
+    requires as_long { length search.now.arcs.now ≡ length current.old }
+    requires in_range { GoalsInRange (length current.old) search.now.goals.now }
+    ensures { IfOk result (λ found. ListsExactly row_cmp (Fits (S.graph search.now.store.now) search.now.version search.now.arcs.now search.now.goals.now 0 current.old) found.items) }
+{
+    let mut found = Vec::new(alloc);
+    rows(alloc, search, 0, current, &mut found)?;
+    sort_and_dedup(&mut found);
+    Ok(found)
+}
+
+// Whether each value that is bound is one that its variable may take.
+pub(crate) fn are_in_domains<S: Store>(store: &S, arcs: &[bool], current: &[Option<Value>]) -> bool
+    requires { length arcs.now ≡ length current.now }
+    ensures { IsTrue result ↔ KnownInDomains (S.graph store.now) arcs.now current.now }
+{
+    for slot in 0..current.len() {
+        if let Some(value) = value_of(slot, current) {
+            if !in_domain(store, arcs[slot], value) {
+                return false;
+            }
+        }
+    }
+    true
+}
+
+/// The rows that agree with what is bound and meet the goals, strictly ascending.
+pub fn answers<S: Store>(
+    alloc: Global,
+    store: &S,
+    version: u8,
+    arcs: &[bool],
+    goals: &[Goal],
+    bound: Vec<Option<Value>>,
+) -> Result<Vec<Row>, NoMemory>
+    requires as_long { length arcs.now ≡ length bound.items }
+    requires in_range { GoalsInRange (length bound.items) goals.now }
+    ensures { IfOk result (λ found. ListsExactly row_cmp (Fits (S.graph store.now) version arcs.now goals.now 0 bound.items) found.items) }
+{
+    let mut current = bound;
+    if !are_in_domains(store, arcs, current.as_slice()) {
+        return Ok(Vec::new(alloc));
+    }
+    let search = Search {
+        store,
+        version,
+        arcs,
+        goals,
+    };
+    let found = all_rows(alloc, &search, current.as_mut_slice())?;
+    Ok(found)
+}
+
+/// The rows of a chain that agree with what is bound, by goals that stand for its conditions.
+pub fn chain_answers<S: Store>(
+    alloc: Global,
+    store: &S,
+    chain: &Chain,
+    arcs: &[bool],
+    goals: &[Goal],
+    bound: Vec<Option<Value>>,
+) -> Result<Vec<Row>, NoMemory>
+    requires as_long { length chain.now.variables ≡ length bound.items }
+    requires arcs { arcs.now ≡ arcs_of chain.now.variables }
+    requires in_range { GoalsInRange (length bound.items) goals.now }
+    requires resolved { AreGoalsOf chain.now goals.now }
+    ensures { IfOk result (λ found. ListsExactly row_cmp (IsAnswer (S.graph store.now) chain.now bound.items) found.items) }
+{
+    let found = answers(alloc, store, chain.version(), arcs, goals, bound)?;
+    Ok(found)
+}
+
+/// Whether some row of the chain agrees with what is bound, by goals that stand for its conditions.
+pub fn chain_finds<S: Store>(
+    alloc: Global,
+    store: &S,
+    chain: &Chain,
+    arcs: &[bool],
+    goals: &[Goal],
+    bound: Vec<Option<Value>>,
+) -> Result<bool, NoMemory>
+    requires as_long { length chain.now.variables ≡ length bound.items }
+    requires arcs { arcs.now ≡ arcs_of chain.now.variables }
+    requires in_range { GoalsInRange (length bound.items) goals.now }
+    requires resolved { AreGoalsOf chain.now goals.now }
+    ensures { IfOk result (λ b. IsTrue b ↔ SomeAnswer (S.graph store.now) chain.now bound.items) }
+{
+    let mut current = bound;
+    if !are_in_domains(store, arcs, current.as_slice()) {
+        return Ok(false);
+    }
+    let search = Search {
+        store,
+        version: chain.version(),
+        arcs,
+        goals,
+    };
+    let found = finds(alloc, &search, 0, current.as_mut_slice())?;
+    Ok(found)
+}

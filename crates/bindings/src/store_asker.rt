@@ -1,0 +1,131 @@
+// An asker over any store.
+ghost use Rattle.std.specs.Prelude.{◌≡◌, ◌↔◌, length, IfOk, IsTrue};
+ghost use Rattle.sd_value.specs.Ascending.{ListsExactly};
+ghost use Rattle.query_spec.specs.Mentions.{IsWellMade};
+ghost use Rattle.query_spec.specs.Rows.{row_cmp, IsAnswer, SomeAnswer};
+
+use crate::follow::goals_of;
+use crate::search::{chain_answers, chain_finds};
+use asker::Asker;
+use goals::arcs_of_variables;
+use query_spec::{Bound, Row};
+use sd_value::{NoMemory, Str, Value, copy};
+use std::alloc::Global;
+use store::Store;
+use struql_ast::Chain;
+
+/// An asker over any store. Its graph is the store's, and its count begins at 0.
+pub struct StoreAsker<S> {
+    store: S,
+    given: u128,
+}
+
+impl<S: Store> StoreAsker<S> {
+    /// An asker over the store. It takes no memory.
+    pub fn of(store: S) -> StoreAsker<S>
+        ensures store { result.store ≡ store }
+        ensures given { result.given ≡ 0 }
+    {
+        StoreAsker { store, given: 0 }
+    }
+}
+
+fn copy_of(alloc: Global, value: &Option<Value>) -> Result<Option<Value>, NoMemory>
+    ensures { IfOk result (λ v. v ≡ value.now) }
+{
+    match value {
+        Some(value) => {
+            let value = copy(alloc, value)?;
+            Ok(Some(value))
+        }
+        None => Ok(None),
+    }
+}
+
+fn copy_bound(alloc: Global, bound: &[Option<Value>]) -> Result<Vec<Option<Value>>, NoMemory>
+    ensures { IfOk result (λ values. values.items ≡ bound.now) }
+{
+    let mut values = Vec::new(alloc);
+    for value in bound {
+        let value = copy_of(alloc, value)?;
+        values.push(value)?;
+    }
+    Ok(values)
+}
+
+fn rows_of<S: Store>(
+    alloc: Global,
+    store: &S,
+    chain: &Chain,
+    bound: &Bound,
+) -> Result<Vec<Row>, NoMemory>
+    requires well_made { IsWellMade chain.now }
+    requires one_each { length bound.now ≡ length chain.now.variables }
+    ensures { IfOk result (λ rows. ListsExactly row_cmp (IsAnswer (S.graph store.now) chain.now bound.now) rows.items) }
+{
+    let goals = goals_of(alloc, store, chain, bound)?;
+    let arcs = arcs_of_variables(alloc, chain.variables())?;
+    let values = copy_bound(alloc, bound.values())?;
+    let rows = chain_answers(
+        alloc,
+        store,
+        chain,
+        arcs.as_slice(),
+        goals.as_slice(),
+        values,
+    )?;
+    Ok(rows)
+}
+
+fn some_row<S: Store>(
+    alloc: Global,
+    store: &S,
+    chain: &Chain,
+    bound: &Bound,
+) -> Result<bool, NoMemory>
+    requires well_made { IsWellMade chain.now }
+    requires one_each { length bound.now ≡ length chain.now.variables }
+    ensures { IfOk result (λ b. IsTrue b ↔ SomeAnswer (S.graph store.now) chain.now bound.now) }
+{
+    let goals = goals_of(alloc, store, chain, bound)?;
+    let arcs = arcs_of_variables(alloc, chain.variables())?;
+    let values = copy_bound(alloc, bound.values())?;
+    let found = chain_finds(
+        alloc,
+        store,
+        chain,
+        arcs.as_slice(),
+        goals.as_slice(),
+        values,
+    )?;
+    Ok(found)
+}
+
+impl<S: Store> Asker for StoreAsker<S> {
+    ghost graph = { λ a. S.graph a.store };
+
+    ghost count = { λ a. a.given };
+
+    fn ask(&mut self, alloc: Global, chain: &Chain, bound: &Bound) -> Result<Vec<Row>, NoMemory> {
+        let rows = rows_of(alloc, &self.store, chain, bound)?;
+        self.given = self.given.saturating_add(rows.len() as u128);
+        Ok(rows)
+    }
+
+    fn exists(&mut self, alloc: Global, chain: &Chain, bound: &Bound) -> Result<bool, NoMemory> {
+        let found = some_row(alloc, &self.store, chain, bound)?;
+        self.given = self.given.saturating_add(1);
+        Ok(found)
+    }
+
+    fn out(&mut self, alloc: Global, node: &Value, label: &Str) -> Result<Vec<Value>, NoMemory> {
+        let ends = self.store.out(alloc, node, label)?;
+        self.given = self.given.saturating_add(ends.len() as u128);
+        Ok(ends)
+    }
+
+    fn given(&self) -> u128 {
+        let _sizes = self.store.sizes();
+        self.given
+    }
+}

@@ -1,0 +1,5 @@
+pub mod Names
+pub mod Atoms
+pub mod Equal
+pub mod Decided
+pub mod Numbers

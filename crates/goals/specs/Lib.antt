@@ -1,0 +1,5 @@
+pub mod Known
+pub mod Places
+pub mod Meaning
+pub mod Resolved
+pub mod Comparing

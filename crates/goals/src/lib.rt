@@ -1,0 +1,14 @@
+//! Conditions with variables by number, and tests of them: what a search for rows works on.
+#![tactic(auto)]
+
+mod compare;
+mod literal;
+mod place;
+mod resolve;
+mod test;
+
+pub use compare::{equals_of, equals_of_any};
+pub use literal::{Atom, Goal, Literal, Place, Property, Relation};
+pub use place::{free_at, free_slot, known, value_of};
+pub use resolve::{arcs_of_variables, goal_of};
+pub use test::test as test_atom;
