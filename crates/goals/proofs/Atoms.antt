@@ -1,29 +1,24 @@
 -- The atoms that stand for conditions.
 use Rattle.std.proofs.Common.{◌≡◌, ℕ, List, [], ◌∷◌, length, refl, ap, sym, ◌∙◌, subst}
-use Rattle.std.specs.Prelude.{◌↔◌, Option, None, Some, slice_get, Bool, true, false}
-use Rattle.sd_value.specs.declared.Datum.{Datum}
-use Rattle.sd_value.specs.declared.Datum.TheVariants.{Int, Text, Url, File, Node}
+use Rattle.std.specs.Prelude.{◌↔◌, Some, true, false}
+use Rattle.sd_value.specs.declared.Datum.TheVariants.{Text}
 use Rattle.sd_value.specs.declared.Value.{Value}
-use Rattle.sd_value.specs.declared.Value.TheVariants.{Data, Page}
+use Rattle.sd_value.specs.declared.Value.TheVariants.{Data}
 use Rattle.path_spec.specs.Regex.{Regex, Word, label}
 use Rattle.graph_spec.specs.DataGraph.{DataGraph, text, node, HasEdge}
 use Rattle.graph_spec.specs.Walk.{Walk as WalkOf}
 use Rattle.query_spec.specs.declared.Op.{Op}
 use Rattle.query_spec.specs.declared.Test.{Test}
 use Rattle.query_spec.specs.declared.Variable.{Variable}
-use Rattle.query_spec.specs.Query.{Operand, variable, constant, arc_variable, expression, Condition, member, path, compare, one_of, kind, negation}
-use Rattle.query_spec.specs.Holds.{Holds, operand_value}
-use Rattle.query_spec.specs.Rows.{value_in}
+use Rattle.query_spec.specs.Query.{Operand, arc_variable, expression, Condition, member, path, compare, one_of, kind, negation}
 use Rattle.goals.specs.declared.literal.Place.{Place}
-use Rattle.goals.specs.declared.literal.Place.TheVariants.{Variable as Numbered, Fixed}
+use Rattle.goals.specs.declared.literal.Place.TheVariants.{Variable as Numbered}
 use Rattle.goals.specs.declared.literal.Property.TheVariants.{Member, OneOf, Kind}
 use Rattle.goals.specs.declared.literal.Relation.TheVariants.{Edge, Walk, Compare}
 use Rattle.goals.specs.declared.literal.Atom.{Atom}
 use Rattle.goals.specs.declared.literal.Atom.TheVariants.{One, Two, Arc}
-use Rattle.goals.specs.declared.literal.Literal.{Literal}
-use Rattle.goals.specs.declared.literal.Goal.{Goal}
-use Rattle.goals.specs.declared.literal.Goal.TheVariants.{Holds as HoldsGoal, Domain}
-use Rattle.goals.specs.Meaning.{Stands, HasArc, AtomHolds, LiteralHolds, GoalHolds}
+use Rattle.goals.specs.declared.literal.Goal.TheVariants.{Holds as HoldsGoal}
+use Rattle.goals.specs.Meaning.{HasArc}
 use Rattle.path_spec.specs.Language.{InLanguage}
 use Rattle.automaton.specs.Table.{Table, HasWord}
 use Rattle.goals.specs.declared.literal.Relation.{Relation}

@@ -1,17 +1,16 @@
 -- What a test of an atom tells of all rows that agree with what is known.
 use Rattle.std.proofs.Common.{◌≡◌, ℕ, List, subst}
-use Rattle.std.specs.Prelude.{◌↔◌, Bool, IsTrue, Option, None, Some, slice_get}
+use Rattle.std.specs.Prelude.{◌↔◌, Bool, IsTrue, Option, Some, slice_get}
 use Rattle.sd_value.specs.declared.Value.{Value}
 use Rattle.graph_spec.specs.DataGraph.{DataGraph}
 use Rattle.goals.specs.declared.literal.Place.{Place}
 use Rattle.goals.specs.declared.literal.Place.TheVariants.{Variable, Fixed}
 use Rattle.goals.specs.declared.literal.Property.{Property}
 use Rattle.goals.specs.declared.literal.Relation.{Relation}
-use Rattle.goals.specs.declared.literal.Atom.{Atom}
 use Rattle.goals.specs.declared.literal.Atom.TheVariants.{One, Two, Arc}
 use Rattle.goals.specs.Known.{Agrees}
 use Rattle.goals.specs.Places.{IsKnown, IsFree, IsWhole, Decides}
-use Rattle.goals.specs.Meaning.{Stands, Has, HasArc, Relates, AtomHolds}
+use Rattle.goals.specs.Meaning.{Stands, Has, HasArc, Relates}
 
 -- what is known at a place stands there in each row that agrees
 pub known_stands : (p : Place) (t : List Value) (s : List (Option Value)) (v : Value) → Agrees t s → IsKnown p s v → Stands p t v

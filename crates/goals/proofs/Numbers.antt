@@ -1,23 +1,19 @@
 -- Numbers, and the texts that spell them.
-use Rattle.std.proofs.Common.{◌≡◌, ℕ, ℤ, pos, negsuc, ◌≤ℤ◌, ◌<◌, ◌^◌, ◌-◌, List, arith, refl, ap, sym, ◌∙◌, subst, FitsSigned, w64, to_z, of_z, inl, inr}
+use Rattle.std.proofs.Common.{◌≡◌, ℕ, ℤ, pos, negsuc, ◌<◌, ◌^◌, List, arith, refl, ap, sym, ◌∙◌, subst, FitsSigned, w64, to_z, of_z}
 use Rattle.std.proofs.Math.Facts.{leb_yes}
 use Rattle.std.proofs.lemmas.Int.{to_z-of_z}
-use Rattle.std.specs.Prelude.{◌↔◌, ◌⊎◌, Option, None, Some, Bool, true, false}
+use Rattle.std.specs.Prelude.{◌↔◌, Some}
 use Rattle.std.specs.Fmt.{signed_decimal}
 use Rattle.std.specs.Str.{IsUtf8}
 use Rattle.std.specs.Str.Parse.{ParsesSigned}
 use Rattle.std.specs.declared.result.Result.{Result}
 use Rattle.std.specs.declared.result.Result.TheVariants.{Ok}
 use Rattle.std.specs.declared.cmp.Ordering.{Ordering}
-use Rattle.std.specs.declared.cmp.Ordering.TheVariants.{Less, Equal, Greater}
 use Rattle.std.specs.Ordering.{int_cmp}
 use Rattle.std.proofs.lemmas.Fmt.{IsAscii-signed, parse-signed_decimal}
 use Rattle.std.proofs.lemmas.Str.{IsUtf8-from_ascii}
 use Rattle.std.specs.Int.Signed.{mag}
-use Rattle.sd_value.specs.declared.Value.{Value}
-use Rattle.sd_value.specs.declared.Value.TheVariants.{Data, Page}
-use Rattle.sd_value.specs.declared.Datum.TheVariants.{Int, Text, Url, File, Node}
-use Rattle.query_spec.specs.Holds.{AreTwins, IsTwinOf, IsEqual}
+use Rattle.query_spec.specs.Holds.{AreTwins}
 use Rattle.goals.specs.Comparing.{IsInRange}
 
 small : (n : ℤ) → IsInRange n → mag n < 2 ^ 63

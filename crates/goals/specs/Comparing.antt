@@ -1,9 +1,9 @@
 -- What tests of comparisons tell.
-use Rattle.std.specs.Prelude.{◌≡◌, ◌⊎◌, ℕ, ℤ, pos, negsuc, ◌≤ℤ◌, ◌^◌, ◌-◌, Option, Some}
+use Rattle.std.specs.Prelude.{◌≡◌, ◌⊎◌, ℤ, pos, negsuc, ◌≤ℤ◌, ◌^◌, ◌-◌, Option, Some}
 use Rattle.std.specs.declared.cmp.Ordering.{Ordering}
 use Rattle.std.specs.declared.cmp.Ordering.TheVariants.{Less, Equal, Greater}
 use Rattle.query_spec.specs.declared.Op.{Op}
-use Rattle.query_spec.specs.declared.Op.TheVariants.{Eq, Ne, Lt, Le, Gt, Ge}
+use Rattle.query_spec.specs.declared.Op.TheVariants.{Lt, Le, Gt, Ge}
 
 -- a number of 64 bits
 abbrev pub IsInRange : ℤ → Type 0

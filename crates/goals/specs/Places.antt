@@ -1,5 +1,5 @@
 -- What is known of the ends of conditions.
-use Rattle.std.specs.Prelude.{◌≡◌, ◌<◌, ◌↔◌, ℕ, List, length, Option, None, Some, Bool, IsTrue, slice_get, ⊤}
+use Rattle.std.specs.Prelude.{◌≡◌, ◌<◌, ◌↔◌, ℕ, List, Option, None, Some, Bool, IsTrue, slice_get, ⊤}
 use Rattle.sd_value.specs.declared.Value.{Value}
 use Rattle.goals.specs.declared.literal.Place.{Place}
 use Rattle.goals.specs.declared.literal.Place.TheVariants.{Variable, Fixed}

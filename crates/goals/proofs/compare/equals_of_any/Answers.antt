@@ -1,4 +1,4 @@
-use Rattle.std.proofs.Common.{◌≡◌, sym, refl}
+use Rattle.std.proofs.Common.{refl}
 use Rattle.std.proofs.lemmas.Option.{slice_get_read}
 use Rattle.goals.proofs.Equal.{equals-none, equals-more, equals-all}
 use Rattle.goals.proofs.compare.equals_of_any.Goals as goal

@@ -1,4 +1,3 @@
-use Rattle.std.proofs.Common.{◌≡◌, sym, ◌∙◌, refl}
 use Rattle.std.proofs.lemmas.Option.{slice_get-get_or}
 use Rattle.goals.proofs.Names.{number_here, not_before-more, name_never, names_equal, names_differ}
 use Rattle.goals.proofs.resolve.index_of.Goals as goal

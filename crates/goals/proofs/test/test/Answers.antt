@@ -1,4 +1,4 @@
-use Rattle.goals.proofs.Decided.{decides_one, decides_two, decides_arc, not_free}
+use Rattle.goals.proofs.Decided.{decides_one, decides_two}
 use Rattle.goals.proofs.test.test.Goals as goal
 
 pub returns-in_ok-has-in-Some : goal.returns-in_ok-has-in-Some
