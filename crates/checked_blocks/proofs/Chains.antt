@@ -1,23 +1,22 @@
 -- The chain of a block in a query without faults.
-use Rattle.std.proofs.Common.{◌≡◌, ◌≢◌, ℕ, ◌<◌, ◌≤◌, ◌^◌, ◌⊎◌, List, [], ◌∷◌, ◌++◌, length, refl, sym, ap, ◌∙◌, subst, append_assoc, ⊎_elim, inl, inr, arith}
-use Rattle.std.specs.Prelude.{Bool, true, false, not, ◌||◌, map, filter, Contains, All, AllPairs, IsTrue, Option, Some, None, if◌then◌else◌}
+use Rattle.std.proofs.Common.{◌≡◌, ℕ, List, [], ◌∷◌, ◌++◌, refl, sym, ap, ◌∙◌, subst, append_assoc, ⊎_elim}
+use Rattle.std.specs.Prelude.{true, false, map, Contains, Some}
 use Rattle.std.specs.List.{flat_map, list_any}
-use Rattle.std.proofs.lemmas.List.{append-nil, map-append}
+use Rattle.std.proofs.lemmas.List.{map-append}
 use Rattle.std.proofs.lemmas.List.Elements.{Contains-append_left, Contains-append_right, Contains-append_cases}
-use Rattle.sd_value.specs.Members.{Contains-nil, Contains-cons_cases, Contains-here, Contains-there, Contains-map, Contains-mapped, Contains-flat_map, Contains-flat_mapped}
-use Rattle.query_spec.specs.declared.Variable.{Variable}
+use Rattle.sd_value.specs.Members.{Contains-nil, Contains-cons_cases, Contains-here, Contains-there}
 use Rattle.query_spec.specs.Query as plain
-use Rattle.query_spec.specs.Mentions.{same_name, operand_names, step_names, names, arc_names, node_names, first_mentions, variables_of}
+use Rattle.query_spec.specs.Mentions.{same_name, operand_names, names, arc_names, node_names, first_mentions}
 use Rattle.struql_ast.specs.declared.Operand.{Operand}
 use Rattle.struql_ast.specs.declared.Operand.TheVariants as operands
 use Rattle.struql_ast.specs.Reading.{operand_of}
 use Rattle.struql_ast.specs.Written.{Name, Condition, arc_variable, expression, member, path, compare, one_of, kind, negation}
 use Rattle.struql_check.specs.declared.mentions.Mention.{Mention}
 use Rattle.struql_check.specs.declared.mentions.Role.{Role}
-use Rattle.struql_check.specs.declared.mentions.Role.TheVariants.{Arc, End, Label, Other}
-use Rattle.struql_check.specs.Scope.{operand_mentions, step_mentions, mentions, sort_of, is_in}
-use Rattle.checked_blocks.proofs.Names.{same_is, same_itself, same_turned, by_test, any_first}
-use Rattle.checked_blocks.proofs.Plain.{step_plain, condition_plain}
+use Rattle.struql_check.specs.declared.mentions.Role.TheVariants.{Arc, End, Other}
+use Rattle.struql_check.specs.Scope.{operand_mentions, step_mentions, mentions, sort_of}
+use Rattle.checked_blocks.proofs.Names.{same_is, same_itself, by_test, any_first}
+use Rattle.checked_blocks.proofs.Plain.{condition_plain}
 use Rattle.checked_blocks.proofs.Placed.{joined, round_of}
 use Rattle.checked_blocks.proofs.Sorts.{IsSound}
 

@@ -1,11 +1,10 @@
 -- The blocks of a query with the conditions round them, level by level.
-use Rattle.std.proofs.Common.{◌≡◌, ℕ, ◌⊎◌, List, [], ◌∷◌, ◌++◌, refl, sym, ap, ◌∙◌, subst, append_assoc, ⊎_elim}
+use Rattle.std.proofs.Common.{◌≡◌, List, [], ◌∷◌, ◌++◌, refl, sym, ap, ◌∙◌, subst, append_assoc, ⊎_elim}
 use Rattle.std.specs.Prelude.{map, Contains}
 use Rattle.std.specs.List.{flat_map}
 use Rattle.std.proofs.lemmas.List.{append-nil, map-append}
 use Rattle.std.proofs.lemmas.List.Elements.{Contains-append_left, Contains-append_right, Contains-append_cases}
-use Rattle.sd_value.specs.Members.{Contains-nil, Contains-cons_cases, Contains-here, Contains-there, Contains-map, Contains-mapped}
-use Rattle.query_spec.specs.Query as plain
+use Rattle.sd_value.specs.Members.{Contains-nil, Contains-cons_cases, Contains-here, Contains-there}
 use Rattle.query_spec.specs.Query.{with_outer, Body}
 use Rattle.struql_ast.specs.Written.{Condition, Clauses, Blocks, no_blocks, block}
 use Rattle.struql_check.specs.declared.mentions.Mention.{Mention}
@@ -52,7 +51,7 @@ bodies_same levels no_blocks = refl
 bodies_same levels (block c inner span after) =
     let here = levels ++ c.conditions ∷ [] in
     let e : map condition_plain (joined levels) ++ map condition_plain c.conditions ≡ map condition_plain (joined here) =
-        sym (map-append condition_plain (joined levels) c.conditions) ∙ ap (map condition_plain) (sym (joined_push levels c.conditions)) in
+    sym (map-append condition_plain (joined levels) c.conditions) ∙ ap (map condition_plain) (sym (joined_push levels c.conditions)) in
     let i = bodies_same here inner in
     let a = bodies_same levels after in
     rw (e, i, a) (ap (λ (xs : List Body). body_at (record { levels = here; clauses = c }) ∷ xs) (sym (map-append body_at (placed_within here inner) (placed_within levels after))))
@@ -71,7 +70,7 @@ walk_keeps Q N step levels (block c inner span after) q n p h =
     ⊎_elim
     (λ e. subst (λ (r : Placed). Q r.levels) e q_here)
     (λ k. ⊎_elim
-      (λ i. walk_keeps Q N step here inner q_here (λ r m. n r (Contains-there first rest r (Contains-append_left (placed_within here inner) (placed_within levels after) r m))) p i)
-      (λ a. walk_keeps Q N step levels after q (λ r m. n r (Contains-there first rest r (Contains-append_right (placed_within here inner) (placed_within levels after) r m))) p a)
-      (Contains-append_cases (placed_within here inner) (placed_within levels after) p k))
+    (λ i. walk_keeps Q N step here inner q_here (λ r m. n r (Contains-there first rest r (Contains-append_left (placed_within here inner) (placed_within levels after) r m))) p i)
+    (λ a. walk_keeps Q N step levels after q (λ r m. n r (Contains-there first rest r (Contains-append_right (placed_within here inner) (placed_within levels after) r m))) p a)
+    (Contains-append_cases (placed_within here inner) (placed_within levels after) p k))
     (Contains-cons_cases first rest p h)

@@ -1,5 +1,5 @@
 -- A query as it is written, and its plain tree.
-use Rattle.std.proofs.Common.{◌≡◌, ℕ, List, [], ◌∷◌, ◌++◌, refl, sym, ap, ◌∙◌, subst}
+use Rattle.std.proofs.Common.{◌≡◌, List, [], ◌∷◌, refl, ap, ◌∙◌}
 use Rattle.std.specs.Prelude.{map}
 use Rattle.query_spec.specs.Query as plain
 use Rattle.struql_ast.specs.declared.Condition as declared

@@ -1,15 +1,15 @@
 -- Each block of a query without faults is safe.
-use Rattle.std.proofs.Common.{◌≡◌, ◌≢◌, ℕ, ◌+◌, ◌<◌, ◌≤◌, ◌^◌, ◌⊎◌, List, [], ◌∷◌, ◌++◌, length, refl, sym, ap, ◌∙◌, subst, length-append, ⊎_elim, inl, inr, arith}
-use Rattle.std.specs.Prelude.{Bool, true, false, nat_lt, map, Contains, All, Option, Some, None, if◌then◌else◌}
+use Rattle.std.proofs.Common.{◌≡◌, ℕ, ◌<◌, ◌≤◌, ◌^◌, ◌⊎◌, List, [], ◌∷◌, ◌++◌, length, refl, sym, ap, ◌∙◌, subst, ⊎_elim, inl, inr, arith}
+use Rattle.std.specs.Prelude.{true, nat_lt, map, Contains, All, Some, None, if◌then◌else◌}
 use Rattle.std.specs.List.{flat_map, list_any}
 use Rattle.std.proofs.lemmas.Bool.Decides.{nat_tests}
-use Rattle.std.proofs.lemmas.List.{map-append, length-map}
-use Rattle.std.proofs.lemmas.List.Elements.{All-nil, All-cons, All-append, All-map, All-contains, Contains-append_left, Contains-append_right, Contains-append_cases}
-use Rattle.sd_value.specs.Members.{Contains-nil, Contains-cons_cases, Contains-here, Contains-there, Contains-map, Contains-mapped, Contains-flat_map, Contains-flat_mapped}
+use Rattle.std.proofs.lemmas.List.{map-append}
+use Rattle.std.proofs.lemmas.List.Elements.{All-nil, All-cons, All-append, All-map, Contains-append_left, Contains-append_right, Contains-append_cases}
+use Rattle.sd_value.specs.Members.{Contains-nil, Contains-cons_cases, Contains-here, Contains-there, Contains-map, Contains-flat_map, Contains-flat_mapped}
 use Rattle.path_spec.specs.Language.{positions}
 use Rattle.query_spec.specs.declared.Variable.{Variable}
 use Rattle.query_spec.specs.Query as plain
-use Rattle.query_spec.specs.Mentions.{same_name, names, variables_of, chain_of, IsFlat, condition_positions, IsWellMade}
+use Rattle.query_spec.specs.Mentions.{same_name, names, variables_of, IsFlat, condition_positions}
 use Rattle.site_spec.specs.Site as site
 use Rattle.struql_ast.specs.declared.Operand.{Operand}
 use Rattle.struql_ast.specs.declared.Operand.TheVariants as operands
@@ -20,12 +20,12 @@ use Rattle.struql_check.specs.declared.faults.Check.{Check}
 use Rattle.struql_check.specs.declared.faults.Check.TheVariants.{TooManyPositions, Unbound, LinkFromData, TooManyVariables}
 use Rattle.struql_check.specs.declared.mentions.Mention.{Mention}
 use Rattle.struql_check.specs.declared.mentions.Role.TheVariants.{Other}
-use Rattle.struql_check.specs.Scope.{operand_mentions, mentions, term_mentions, target_mentions, label_mentions, link_mentions, collect_mentions, uses, sort_of, is_in}
-use Rattle.struql_check.specs.Faults.{SomeIn, MentionFault, BlockFault, large_place}
+use Rattle.struql_check.specs.Scope.{operand_mentions, mentions, term_mentions, target_mentions, label_mentions, link_mentions, collect_mentions, uses}
+use Rattle.struql_check.specs.Faults.{SomeIn, MentionFault, large_place}
 use Rattle.checked_blocks.specs.Blocks.{IsDeclared, IsMade, IsSafe}
 use Rattle.checked_blocks.proofs.Names.{by_test, in_names}
 use Rattle.checked_blocks.proofs.Plain.{condition_plain, term_plain, target_plain, link_plain, collect_plain, clauses_plain}
-use Rattle.checked_blocks.proofs.Placed.{Placed, joined, round_of, scoped_of, body_at, joined_push}
+use Rattle.checked_blocks.proofs.Placed.{Placed, joined, round_of, body_at, joined_push}
 use Rattle.checked_blocks.proofs.Sorts.{IsSound, NoFault, sound_step, sorted_in}
 use Rattle.checked_blocks.proofs.Chains.{name_of, all_names_same, round_joined, any_contains}
 use Rattle.checked_blocks.proofs.WellMade.{all_of, chain_conditions, well_made}
@@ -65,12 +65,12 @@ kept_step levels c k n =
     let own = flat_map mentions c.conditions in
     let e : round_of here ≡ round_of levels ++ own ∷ [] = map-append (flat_map mentions) levels (c.conditions ∷ []) in
     let never : (check : Check) (at : ℕ) → SomeIn (MentionFault (round_of levels ++ own ∷ [])) own check at → ⊥ = λ check at h.
-        n.faultless check at (inl (h.0, Contains-append_left own (uses c) h.0 h.1, subst (λ (r : List (List Mention)). MentionFault r h.0 check at) (sym e) h.2)) in
+    n.faultless check at (inl (h.0, Contains-append_left own (uses c) h.0 h.1, subst (λ (r : List (List Mention)). MentionFault r h.0 check at) (sym e) h.2)) in
     record {
       sound = subst IsSound (sym e) (sound_step (round_of levels) own k.sound never);
       small = rw (chain_push levels c.conditions) (All-append (λ q. condition_positions q ≤ 256) (chain_conditions levels) (map condition_plain c.conditions) k.small
-        (All-map (λ q. condition_positions q ≤ 256) condition_plain c.conditions
-         (all_of (λ q. condition_positions (condition_plain q) ≤ 256) c.conditions (λ q h. small_condition q (λ at l. n.faultless TooManyPositions at (inr (inr (inl (q, h, l)))))))));
+          (All-map (λ q. condition_positions q ≤ 256) condition_plain c.conditions
+          (all_of (λ q. condition_positions (condition_plain q) ≤ 256) c.conditions (λ q h. small_condition q (λ at l. n.faultless TooManyPositions at (inr (inr (inl (q, h, l)))))))));
       flat = rw (chain_push levels c.conditions) (All-append IsFlat (chain_conditions levels) (map condition_plain c.conditions) k.flat n.flat);
     }
 
@@ -114,19 +114,19 @@ terms_declared vs c ks t h u =
     let b = flat_map link_mentions c.links in
     let d = flat_map collect_mentions c.collects in
     let by_create : Contains (map term_plain c.creates) t → All (IsDeclared vs) t.args = λ i.
-        (let o = Contains-map term_plain c.creates t i in
-         subst (λ (s : plain.SkolemTerm). All (IsDeclared vs) s.args) o.1
-         (args_declared vs o.0.args (λ m n. u m (Contains-append_left (a ++ b) d m (Contains-append_left a b m (Contains-flat_mapped term_mentions c.creates o.0 m o.2 n)))))) in
+    (let o = Contains-map term_plain c.creates t i in
+    subst (λ (s : plain.SkolemTerm). All (IsDeclared vs) s.args) o.1
+    (args_declared vs o.0.args (λ m n. u m (Contains-append_left (a ++ b) d m (Contains-append_left a b m (Contains-flat_mapped term_mentions c.creates o.0 m o.2 n)))))) in
     let by_link : Contains (flat_map site.ends_of (map link_plain c.links)) t → All (IsDeclared vs) t.args = λ i.
-        (let f = Contains-flat_map site.ends_of (map link_plain c.links) t i in
-         let o = Contains-map link_plain c.links f.0 f.1 in
-         link_declared vs o.0 t (subst (λ (k : plain.Link). Contains (site.ends_of k) t) (sym o.1) f.2)
-         (λ m n. u m (Contains-append_left (a ++ b) d m (Contains-append_right a b m (Contains-flat_mapped link_mentions c.links o.0 m o.2 n))))) in
+    (let f = Contains-flat_map site.ends_of (map link_plain c.links) t i in
+    let o = Contains-map link_plain c.links f.0 f.1 in
+    link_declared vs o.0 t (subst (λ (k : plain.Link). Contains (site.ends_of k) t) (sym o.1) f.2)
+    (λ m n. u m (Contains-append_left (a ++ b) d m (Contains-append_right a b m (Contains-flat_mapped link_mentions c.links o.0 m o.2 n))))) in
     let by_collect : Contains (flat_map (λ (o : plain.Collect). site.target_terms o.target) (map collect_plain c.collects)) t → All (IsDeclared vs) t.args = λ i.
-        (let f = Contains-flat_map (λ (o : plain.Collect). site.target_terms o.target) (map collect_plain c.collects) t i in
-         let o = Contains-map collect_plain c.collects f.0 f.1 in
-         target_declared vs o.0.target t (subst (λ (k : plain.Collect). Contains (site.target_terms k.target) t) (sym o.1) f.2)
-         (λ m n. u m (Contains-append_right (a ++ b) d m (Contains-flat_mapped collect_mentions c.collects o.0 m o.2 n)))) in
+    (let f = Contains-flat_map (λ (o : plain.Collect). site.target_terms o.target) (map collect_plain c.collects) t i in
+    let o = Contains-map collect_plain c.collects f.0 f.1 in
+    target_declared vs o.0.target t (subst (λ (k : plain.Collect). Contains (site.target_terms k.target) t) (sym o.1) f.2)
+    (λ m n. u m (Contains-append_right (a ++ b) d m (Contains-flat_mapped collect_mentions c.collects o.0 m o.2 n)))) in
     ⊎_elim
     (λ i. ⊎_elim by_create by_link (Contains-append_cases (map term_plain c.creates) (flat_map site.ends_of (map link_plain c.links)) t i))
     by_collect

@@ -1,20 +1,19 @@
 -- In a query without faults a variable has one sort, wherever it stands in a chain.
-use Rattle.std.proofs.Common.{◌≡◌, ℕ, ◌⊎◌, List, [], ◌∷◌, ◌++◌, refl, sym, ap, ◌∙◌, subst, append_assoc, ⊎_elim, inl, inr}
-use Rattle.std.specs.Prelude.{Bool, true, false, ◌||◌, map, Contains, Option, Some, None, if◌then◌else◌}
-use Rattle.std.specs.List.{flat_map, list_any}
-use Rattle.std.proofs.lemmas.List.{append-nil, map-append}
-use Rattle.std.proofs.lemmas.List.Elements.{Contains-append_left, Contains-append_right, Contains-append_cases}
+use Rattle.std.proofs.Common.{◌≡◌, ℕ, List, [], ◌∷◌, ◌++◌, refl, sym, ap, ◌∙◌, subst, append_assoc, ⊎_elim}
+use Rattle.std.specs.Prelude.{Bool, true, false, ◌||◌, Contains, Option, Some, None}
+use Rattle.std.proofs.lemmas.List.{append-nil}
+use Rattle.std.proofs.lemmas.List.Elements.{Contains-append_cases}
 use Rattle.sd_value.specs.Members.{Contains-nil, Contains-cons_cases}
 use Rattle.query_spec.specs.Mentions.{same_name}
-use Rattle.struql_ast.specs.Written.{Name, Condition, Clauses}
+use Rattle.struql_ast.specs.Written.{Name}
 use Rattle.struql_check.specs.declared.faults.Check.{Check}
-use Rattle.struql_check.specs.declared.faults.Check.TheVariants.{Unbound, ArcAsNode, NotLabel}
+use Rattle.struql_check.specs.declared.faults.Check.TheVariants.{ArcAsNode, NotLabel}
 use Rattle.struql_check.specs.declared.mentions.Mention.{Mention}
-use Rattle.struql_check.specs.declared.mentions.Role.TheVariants.{Arc, End, Label}
-use Rattle.struql_check.specs.Scope.{mentions, is_in, is_between_arrows, sort_of, block_mentions, uses}
+use Rattle.struql_check.specs.declared.mentions.Role.TheVariants.{Arc, End}
+use Rattle.struql_check.specs.Scope.{is_in, sort_of}
 use Rattle.struql_check.specs.Faults.{SomeIn, MentionFault, BlockFault}
 use Rattle.checked_blocks.proofs.Names.{same_itself, by_test}
-use Rattle.checked_blocks.proofs.Placed.{Placed, joined, round_of, scoped_of}
+use Rattle.checked_blocks.proofs.Placed.{Placed, joined, scoped_of}
 
 -- a block's own mention is in it
 pub mentioned : (ms : List Mention) (m : Mention) → Contains ms m → is_in ms m.name ≡ true
@@ -24,9 +23,9 @@ mentioned (n ∷ ms) m h =
     (λ e. (let s : same_name m.name n.name ≡ true = subst (λ (k : Mention). same_name m.name k.name ≡ true) (sym e) (same_itself m.name) in rw s refl))
     (λ k. (let r = mentioned ms m k in rw r (or_true (same_name m.name n.name))))
     (Contains-cons_cases n ms m h) where
-  or_true : (b : Bool) → (b || true) ≡ true
-  or_true true = refl
-  or_true false = refl
+      or_true : (b : Bool) → (b || true) ≡ true
+      or_true true = refl
+      or_true false = refl
 
 -- the sort that outer blocks give stays
 pub sort_kept : (round more : List (List Mention)) (x : Name) (b : Bool) → sort_of round x ≡ Some b → sort_of (round ++ more) x ≡ Some b
@@ -65,19 +64,19 @@ pub sound_step : (round : List (List Mention)) (own : List Mention) → IsSound 
     → ((check : Check) (at : ℕ) → SomeIn (MentionFault (round ++ own ∷ [])) own check at → ⊥) → IsSound (round ++ own ∷ [])
 sound_step round own s never = record {
   ends = λ m h role. ⊎_elim
-    (λ k. sort_kept round (own ∷ []) m.name false (s.ends m k role))
-    (λ k. option_cases (sort_of (round ++ own ∷ []) m.name) (sort_of (round ++ own ∷ []) m.name ≡ Some false)
+      (λ k. sort_kept round (own ∷ []) m.name false (s.ends m k role))
+      (λ k. option_cases (sort_of (round ++ own ∷ []) m.name) (sort_of (round ++ own ∷ []) m.name ≡ Some false)
       (λ n. absurd (sort_some round own m.name (mentioned own m k) n))
       (λ t. absurd (never ArcAsNode m.at (m, k, (role, t, refl))))
       (λ f. f))
-    (Contains-append_cases (joined round) own m (subst (λ (ms : List Mention). Contains ms m) (joined_push round own) h));
+      (Contains-append_cases (joined round) own m (subst (λ (ms : List Mention). Contains ms m) (joined_push round own) h));
   arcs = λ m h role. ⊎_elim
-    (λ k. sort_kept round (own ∷ []) m.name true (s.arcs m k role))
-    (λ k. option_cases (sort_of (round ++ own ∷ []) m.name) (sort_of (round ++ own ∷ []) m.name ≡ Some true)
+      (λ k. sort_kept round (own ∷ []) m.name true (s.arcs m k role))
+      (λ k. option_cases (sort_of (round ++ own ∷ []) m.name) (sort_of (round ++ own ∷ []) m.name ≡ Some true)
       (λ n. absurd (sort_some round own m.name (mentioned own m k) n))
       (λ t. t)
       (λ f. absurd (never NotLabel m.at (m, k, (rw role tt, f, refl)))))
-    (Contains-append_cases (joined round) own m (subst (λ (ms : List Mention). Contains ms m) (joined_push round own) h));
+      (Contains-append_cases (joined round) own m (subst (λ (ms : List Mention). Contains ms m) (joined_push round own) h));
 }
 
 pub sound_none : IsSound []
@@ -90,9 +89,10 @@ sorted_in (here ∷ deeper) x n =
     by_test (is_in here x) (is_in (joined (here ∷ deeper)) x ≡ true)
     (λ t. in_left here (joined deeper) x t)
     (λ f. in_right here (joined deeper) x (sorted_in deeper x (λ e. n (rw f e)))) where
-  in_left : (ms ns : List Mention) (x : Name) → is_in ms x ≡ true → is_in (ms ++ ns) x ≡ true
-  in_left [] ns x t = absurd cc
-  in_left (m ∷ ms) ns x t = by_test (same_name x m.name) (is_in ((m ∷ ms) ++ ns) x ≡ true) (λ y. rw y refl) (λ z. rw z (in_left ms ns x (rw z at t)))
-  in_right : (ms ns : List Mention) (x : Name) → is_in ns x ≡ true → is_in (ms ++ ns) x ≡ true
-  in_right [] ns x t = t
-  in_right (m ∷ ms) ns x t = (let r = in_right ms ns x t in by_test (same_name x m.name) (is_in ((m ∷ ms) ++ ns) x ≡ true) (λ y. rw y refl) (λ z. rw (z, r) refl))
+      in_left : (ms ns : List Mention) (x : Name) → is_in ms x ≡ true → is_in (ms ++ ns) x ≡ true
+      in_left [] ns x t = absurd cc
+      in_left (m ∷ ms) ns x t = by_test (same_name x m.name) (is_in ((m ∷ ms) ++ ns) x ≡ true) (λ y. rw y refl) (λ z. rw z (in_left ms ns x (rw z at t)))
+
+      in_right : (ms ns : List Mention) (x : Name) → is_in ns x ≡ true → is_in (ms ++ ns) x ≡ true
+      in_right [] ns x t = t
+      in_right (m ∷ ms) ns x t = (let r = in_right ms ns x t in by_test (same_name x m.name) (is_in ((m ∷ ms) ++ ns) x ≡ true) (λ y. rw y refl) (λ z. rw (z, r) refl))

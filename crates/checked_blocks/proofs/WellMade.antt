@@ -1,17 +1,16 @@
 -- The chain of each block of a query without faults is well made.
-use Rattle.std.proofs.Common.{◌≡◌, ◌≢◌, ℕ, ◌+◌, ◌<◌, ◌≤◌, ◌^◌, ◌⊎◌, List, [], ◌∷◌, ◌++◌, length, get_or, refl, sym, ap, ◌∙◌, subst, append_assoc, length-append, ⊎_elim, inl, inr, arith}
-use Rattle.std.specs.Prelude.{Bool, true, false, not, map, filter, Contains, All, AllPairs, IsTrue}
+use Rattle.std.proofs.Common.{◌≡◌, ◌≢◌, ℕ, ◌<◌, ◌≤◌, ◌^◌, ◌⊎◌, List, [], ◌∷◌, ◌++◌, length, get_or, refl, sym, ap, ◌∙◌, subst, append_assoc, length-append, arith}
+use Rattle.std.specs.Prelude.{true, false, not, map, filter, Contains, All, AllPairs, IsTrue}
 use Rattle.std.specs.List.{flat_map, list_any}
-use Rattle.std.proofs.lemmas.List.{append-nil, map-append, length-map, get_or-map}
+use Rattle.std.proofs.lemmas.List.{append-nil, length-map, get_or-map}
 use Rattle.std.proofs.lemmas.List.Elements.{All-nil, All-cons, All-weaker, All-contains_itself}
 use Rattle.std.proofs.lemmas.List.Kept.{AllPairs-cons, AllPairs-filter}
-use Rattle.sd_value.specs.Members.{Contains-nil, Contains-map, Contains-mapped}
+use Rattle.sd_value.specs.Members.{Contains-map, Contains-mapped}
 use Rattle.query_spec.specs.declared.Variable.{Variable}
 use Rattle.query_spec.specs.Query as plain
-use Rattle.query_spec.specs.Mentions.{same_name, names, arc_names, node_names, first_mentions, variables_of, chain_of, IsFlat, condition_positions, IsWellMade}
+use Rattle.query_spec.specs.Mentions.{same_name, names, arc_names, node_names, first_mentions, chain_of, IsFlat, condition_positions, IsWellMade}
 use Rattle.struql_ast.specs.Written.{Name, Condition}
 use Rattle.struql_check.specs.declared.mentions.Mention.{Mention}
-use Rattle.struql_check.specs.Scope.{mentions}
 use Rattle.struql_check.specs.Faults.{IsPast}
 use Rattle.struql_check.specs.Known.{names_of}
 use Rattle.checked_blocks.proofs.Names.{by_test, same_itself, names_new, names_known, unknown_names}
@@ -48,14 +47,14 @@ few_unless before [] l n = rw (append-nil before) l
 few_unless before (m ∷ after) l n =
     let e : (before ++ m ∷ []) ++ after ≡ before ++ m ∷ after = append_assoc before (m ∷ []) after in
     let onward : length (names_of (before ++ m ∷ [])) ≤ 32 → length (names_of (before ++ m ∷ after)) ≤ 32 = λ k.
-        subst (λ (ms : List Mention). length (names_of ms) ≤ 32) e (few_unless (before ++ m ∷ []) after k (λ at p. n at (subst (λ (ms : List Mention). IsPast ms at) e p))) in
+    subst (λ (ms : List Mention). length (names_of ms) ≤ 32) e (few_unless (before ++ m ∷ []) after k (λ at p. n at (subst (λ (ms : List Mention). IsPast ms at) e p))) in
     by_test (list_any (same_name m.name) (names_of before)) (length (names_of (before ++ m ∷ after)) ≤ 32)
     (λ t. onward (rw (names_known before m t) l))
     (λ f. by_size (length (names_of before)) (length (names_of (before ++ m ∷ after)) ≤ 32) l
-      (λ less. onward (rw (names_new before m f, length-append (names_of before) (m.name ∷ [])) (omega arith)))
-      (λ full. absurd (n m.at (before, m, after, refl, unknown_names before m.name f, full, refl)))) where
-  by_size : (n : ℕ) (P : Type 0) → n ≤ 32 → (n < 32 → P) → (n ≡ 32 → P) → P
-  by_size n P l less full = grind arith
+    (λ less. onward (rw (names_new before m f, length-append (names_of before) (m.name ∷ [])) (omega arith)))
+    (λ full. absurd (n m.at (before, m, after, refl, unknown_names before m.name f, full, refl)))) where
+      by_size : (n : ℕ) (P : Type 0) → n ≤ 32 → (n < 32 → P) → (n ≡ 32 → P) → P
+      by_size n P l less full = grind arith
 
 abbrev pub chain_conditions : List (List Condition) → List plain.Condition
 chain_conditions levels = map condition_plain (joined levels)
@@ -77,14 +76,14 @@ well_made version levels v s never flat small few =
       declared = λ x h. Contains-mapped (λ (w : Variable). w.name) (map f (first_mentions ns)) (f x) (Contains-mapped f (first_mentions ns) x (first_to ns x h));
       arcs = λ w h k. (let o = Contains-map f (first_mentions ns) w h in subst (λ (u : Variable). IsTrue u.arc) o.1 (contains_any o.0 (flat_map arc_names ks) (subst (λ (u : Variable). Contains (flat_map arc_names ks) u.name) (sym o.1) k)));
       nodes = λ w h k. (let o = Contains-map f (first_mentions ns) w h in
-        subst (λ (u : Variable). u.arc ≡ false) o.1
-        (by_test (list_any (same_name o.0) (flat_map arc_names ks)) (list_any (same_name o.0) (flat_map arc_names ks) ≡ false)
-         (λ t. absurd (never_both levels o.0 s (subst (λ (u : Variable). Contains (flat_map node_names ks) u.name) (sym o.1) k) (any_contains o.0 (flat_map arc_names ks) t)))
-         (λ g. g)));
+          subst (λ (u : Variable). u.arc ≡ false) o.1
+          (by_test (list_any (same_name o.0) (flat_map arc_names ks)) (list_any (same_name o.0) (flat_map arc_names ks) ≡ false)
+          (λ t. absurd (never_both levels o.0 s (subst (λ (u : Variable). Contains (flat_map node_names ks) u.name) (sym o.1) k) (any_contains o.0 (flat_map arc_names ks) t)))
+          (λ g. g)));
       flat = flat;
       small = small;
       few_variables = (let n : length (names_of (joined (round_of levels))) ≤ 32 = few_unless [] (joined (round_of levels)) (omega arith) never in
-        let m : length (map f (first_mentions ns)) ≡ length (names_of (joined (round_of levels))) = length-map (first_mentions ns) f ∙ ap length (chain_names levels) in
-        omega arith);
+          let m : length (map f (first_mentions ns)) ≡ length (names_of (joined (round_of levels))) = length-map (first_mentions ns) f ∙ ap length (chain_names levels) in
+          omega arith);
       few_conditions = few;
     }

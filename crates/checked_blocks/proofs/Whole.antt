@@ -1,8 +1,8 @@
 -- All blocks of a query without faults are safe.
-use Rattle.std.proofs.Common.{◌≡◌, ℕ, ◌+◌, ◌<◌, ◌≤◌, ◌^◌, ◌⊎◌, List, [], ◌∷◌, ◌++◌, length, refl, sym, ap, ◌∙◌, subst, length-append, ⊎_elim, inl, inr, arith}
+use Rattle.std.proofs.Common.{◌≡◌, ℕ, ◌+◌, ◌<◌, ◌≤◌, ◌^◌, List, [], ◌∷◌, ◌++◌, length, sym, ap, ◌∙◌, subst, length-append, ⊎_elim, inl, arith}
 use Rattle.std.specs.Prelude.{map, Contains, All}
 use Rattle.std.specs.List.{flat_map}
-use Rattle.std.proofs.lemmas.List.{length-map, append_assoc}
+use Rattle.std.proofs.lemmas.List.{length-map}
 use Rattle.std.proofs.lemmas.List.Elements.{All-contains, Contains-append_left, Contains-append_right, Contains-append_cases}
 use Rattle.sd_value.specs.Members.{Contains-nil, Contains-cons_cases, Contains-here, Contains-there, Contains-map, Contains-mapped}
 use Rattle.query_spec.specs.Query as plain
@@ -10,14 +10,13 @@ use Rattle.query_spec.specs.Query.{Body, blocks_in_scope}
 use Rattle.query_spec.specs.Mentions.{IsFlat}
 use Rattle.struql_ast.specs.declared.Query as declared_query
 use Rattle.struql_ast.specs.Reading.{query_of}
-use Rattle.struql_ast.specs.Written.{Condition, Clauses, Blocks, no_blocks, block, query_written}
+use Rattle.struql_ast.specs.Written.{Condition, Blocks, no_blocks, block, query_written}
 use Rattle.struql_check.specs.Scope.{Scoped}
 use Rattle.struql_check.specs.Faults.{IsFaultless}
 use Rattle.struql_check.specs.Parsed.{IsParsed, bodies, bodies_within}
 use Rattle.checked_blocks.specs.Blocks.{IsSafe}
 use Rattle.checked_blocks.proofs.Plain.{condition_plain, clauses_plain, blocks_plain, query_plain, query_same}
-use Rattle.checked_blocks.proofs.Placed.{Placed, joined, joined_push, placed_within, round_of, scoped_of, body_at, scoped_same, bodies_same, walk_keeps}
-use Rattle.checked_blocks.proofs.Sorts.{NoFault}
+use Rattle.checked_blocks.proofs.Placed.{Placed, joined, joined_push, placed_within, scoped_of, body_at, scoped_same, bodies_same, walk_keeps}
 use Rattle.checked_blocks.proofs.WellMade.{chain_conditions}
 use Rattle.checked_blocks.proofs.Safe.{IsKept, IsFine, kept_step, kept_none, placed_safe}
 
@@ -31,9 +30,9 @@ placed_body levels (block c inner span after) p h =
     ⊎_elim
     (λ e. subst (λ (r : Placed). Contains (clauses_plain c ∷ (i ++ a)) (clauses_plain r.clauses)) e (Contains-here (clauses_plain c) (i ++ a)))
     (λ k. ⊎_elim
-      (λ m. Contains-there (clauses_plain c) (i ++ a) (clauses_plain p.clauses) (Contains-append_left i a (clauses_plain p.clauses) (placed_body here inner p m)))
-      (λ m. Contains-there (clauses_plain c) (i ++ a) (clauses_plain p.clauses) (Contains-append_right i a (clauses_plain p.clauses) (placed_body levels after p m)))
-      (Contains-append_cases (placed_within here inner) (placed_within levels after) p k))
+    (λ m. Contains-there (clauses_plain c) (i ++ a) (clauses_plain p.clauses) (Contains-append_left i a (clauses_plain p.clauses) (placed_body here inner p m)))
+    (λ m. Contains-there (clauses_plain c) (i ++ a) (clauses_plain p.clauses) (Contains-append_right i a (clauses_plain p.clauses) (placed_body levels after p m)))
+    (Contains-append_cases (placed_within here inner) (placed_within levels after) p k))
     (Contains-cons_cases first (placed_within here inner ++ placed_within levels after) p h)
 
 abbrev all_conditions : List Body → List plain.Condition
@@ -57,14 +56,14 @@ counted levels (block c inner span after) p h =
     let a = bodies_within (blocks_plain after) in
     let own : length (joined here) ≡ length (joined levels) + length c.conditions = ap length (joined_push levels c.conditions) ∙ length-append (joined levels) c.conditions in
     let whole : length (all_conditions (clauses_plain c ∷ (i ++ a))) ≡ length c.conditions + length (all_conditions (i ++ a)) =
-        length-append (map condition_plain c.conditions) (all_conditions (i ++ a)) ∙ ap (λ (n : ℕ). n + length (all_conditions (i ++ a))) (length-map c.conditions condition_plain) in
+    length-append (map condition_plain c.conditions) (all_conditions (i ++ a)) ∙ ap (λ (n : ℕ). n + length (all_conditions (i ++ a))) (length-map c.conditions condition_plain) in
     let parts = all_append i a in
     ⊎_elim
     (λ e. (let n : length (joined p.levels) ≡ length (joined here) = ap (λ (r : Placed). length (joined r.levels)) (sym e) in omega arith))
     (λ k. ⊎_elim
-      (λ m. (let n = counted here inner p m in omega arith))
-      (λ m. (let n = counted levels after p m in omega arith))
-      (Contains-append_cases (placed_within here inner) (placed_within levels after) p k))
+    (λ m. (let n = counted here inner p m in omega arith))
+    (λ m. (let n = counted levels after p m in omega arith))
+    (Contains-append_cases (placed_within here inner) (placed_within levels after) p k))
     (Contains-cons_cases first (placed_within here inner ++ placed_within levels after) p h)
 
 pub all_safe : (q : declared_query.Query) → IsFaultless (query_written q) → IsParsed (query_of q) → (b : Body) → Contains (blocks_in_scope (query_of q)) b → IsSafe (query_of q).version b

@@ -1,9 +1,8 @@
 -- The blocks of a checked query, each with its whole chain.
 use Rattle.std.specs.Prelude.{◌≡◌, ℕ, List, map, All, Contains}
 use Rattle.query_spec.specs.declared.Variable.{Variable}
-use Rattle.query_spec.specs.Query.{Operand, variable, constant, SkolemTerm, Target, made, Link, Body, Query, blocks_in_scope}
+use Rattle.query_spec.specs.Query.{Operand, variable, constant, SkolemTerm, Target, made, Link, Body}
 use Rattle.query_spec.specs.Mentions.{IsWellMade, chain_of, variables_of}
-use Rattle.struql_ast.specs.Written.{Name}
 use Rattle.site_spec.specs.Site.{terms_of}
 
 -- the variable is one of these
