@@ -1,15 +1,14 @@
 -- Pieces of a printed text, each with its tokens and what they spell.
-use Rattle.std.proofs.Common.{◌≡◌, ◌⊎◌, refl, sym, ap, subst, ◌∙◌, inl, inr, ℕ, Bool, true, false, List, [], ◌∷◌, ◌++◌, ◌+◌, length, arith, append_assoc, length-append, Some}
-use Rattle.std.specs.Prelude.{nat_eq, codes}
+use Rattle.std.proofs.Common.{◌≡◌, refl, sym, ap, subst, ◌∙◌, ℕ, Bool, true, false, List, [], ◌∷◌, ◌++◌, ◌+◌, length, arith, append_assoc, length-append}
+use Rattle.std.specs.Prelude.{nat_eq}
 use Rattle.std.specs.List.{flat_map}
-use Rattle.std.proofs.lemmas.List.{append-nil}
 use Rattle.std.proofs.lemmas.Bool.{eqb-true}
 use Rattle.sd_lex.specs.declared.token.Token.{Token}
 use Rattle.sd_lex.specs.declared.token.TokenKind.{TokenKind}
 use Rattle.sd_lex.specs.declared.token.TokenKind.TheVariants as kinds
-use Rattle.sd_lex.specs.Bytes.{is_blank, is_name_byte, Stops}
-use Rattle.sd_lex.specs.Lexing.{Spells, Ends, Lexes, blank, token, Spelling, spells_nothing, spells_plain, spells_escape, is_plain, IsName}
-use Rattle.grammar.specs.Grammar.{nothing, one, many, ◌>>=◌}
+use Rattle.sd_lex.specs.Bytes.{is_blank}
+use Rattle.sd_lex.specs.Lexing.{Spells, Ends, Lexes, blank, token, Spelling, spells_nothing, spells_plain, spells_escape}
+use Rattle.grammar.specs.Grammar.{nothing, many, ◌>>=◌}
 use Rattle.sd_ddl.specs.Written.{quoted_byte, quoted}
 
 -- the text, before any bytes, is these tokens
@@ -76,12 +75,12 @@ prints_as P Q at text other e h = subst (Prints P Q at) e h
 -- blanks before
 pub prints_behind : {A : Type 0} (P : List Token → A → Type 0) (Q : A → Type 0) (at : ℕ) (gap text : List ℕ) → Splits at gap [] → Prints P Q (at + length gap) text → Prints P Q at (gap ++ text)
 prints_behind P Q at gap text g h = record {
-    tokens = h.tokens;
-    value = h.value;
-    spelled = h.spelled;
-    is = h.is;
-    splits = splits_both at gap text [] h.tokens g h.splits;
-  }
+  tokens = h.tokens;
+  value = h.value;
+  spelled = h.spelled;
+  is = h.is;
+  splits = splits_both at gap text [] h.tokens g h.splits;
+}
 
 -- each value with the property that belongs to its item
 abbrev pub Matches : {X A : Type 0} → (X → A → Type 0) → List X → List A → Type 0
@@ -90,18 +89,27 @@ Matches Q [] (v ∷ vs) = ⊥
 Matches Q (x ∷ xs) [] = ⊥
 Matches Q (x ∷ xs) (v ∷ vs) = Q x v × Matches Q xs vs
 
-pub prints_many : {X A : Type 0} (P : List Token → A → Type 0) (Q : X → A → Type 0) (f : X → List ℕ) → ((x : X) (at : ℕ) → Prints P (Q x) at (f x))
-    → (xs : List X) (at : ℕ) → Prints (many P) (Matches Q xs) at (flat_map f xs)
-prints_many P Q f each [] at = record { tokens = []; value = []; spelled = refl; is = tt; splits = splits_nothing at }
-prints_many P Q f each (x ∷ xs) at =
-    let first = each x at in
-    let rest = prints_many P Q f each xs (at + length (f x)) in record {
+-- each item has the property
+abbrev pub Holds : {X : Type 0} → (X → Type 0) → List X → Type 0
+Holds W [] = Unit {0}
+Holds W (x ∷ xs) = W x × Holds W xs
+
+pub prints_many : {X A : Type 0} (P : List Token → A → Type 0) (Q : X → A → Type 0) (f : X → List ℕ) (W : X → Type 0) → ((x : X) (at : ℕ) → W x → Prints P (Q x) at (f x))
+    → (xs : List X) (at : ℕ) → Holds W xs → Prints (many P) (Matches Q xs) at (flat_map f xs)
+prints_many P Q f W each [] at h = record { tokens = []; value = []; spelled = refl; is = tt; splits = splits_nothing at }
+prints_many P Q f W each (x ∷ xs) at h =
+    let first = each x at h.0 in
+    let rest = prints_many P Q f W each xs (at + length (f x)) h.1 in record {
       tokens = first.tokens ++ rest.tokens;
       value = first.value ∷ rest.value;
       spelled = (first.tokens, rest.tokens, refl, first.spelled, rest.spelled);
       is = (first.is, rest.is);
       splits = splits_both at (f x) (flat_map f xs) first.tokens rest.tokens first.splits rest.splits;
     }
+
+pub holds_any : {X : Type 0} (xs : List X) → Holds (λ x. Unit {0}) xs
+holds_any [] = tt
+holds_any (x ∷ xs) = (tt, holds_any xs)
 
 -- a text in quotes spells the text
 byte_spelled : (b : ℕ) (raw text : List ℕ) → Spelling raw text → Spelling (quoted_byte b ++ raw) (b ∷ text)

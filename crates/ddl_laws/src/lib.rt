@@ -1,14 +1,12 @@
 //! Laws of the data text: what is written is read again.
 #![tactic(auto)]
 
-ghost use Rattle.std.specs.Prelude.{List, ℕ};
-ghost use Rattle.sd_lex.specs.Lexing.{Spells};
-ghost use Rattle.sd_lex.specs.declared.token.TokenKind.TheVariants.{Quoted};
-ghost use Rattle.sd_ddl.specs.Written.{quoted};
+ghost use Rattle.graph_spec.specs.DataGraph.{DataGraph, IsWellFormed};
+ghost use Rattle.ddl_laws.specs.RoundTrip.{HasI64s, IsReadAgain};
 
-/// A text in quotes, as it is written, is a token that has this text.
-#[tactic(auto, using(crate::proofs::Pieces::quoted_spelled))]
-pub fn quoted_texts_are_read_again()
-    ensures { (s : List ℕ) → Spells (quoted s) (Quoted s) }
-{
-}
+/// The canonical text of a well-formed graph, read into an empty builder with room, gives the graph again: this is an
+/// answer that the contract of `sd_ddl::read_ddl` admits.
+#[tactic(auto, using(crate::proofs::Again::is_read_again))]
+pub fn a_written_graph_is_read_again()
+    ensures { (G : DataGraph) → IsWellFormed G → HasI64s G → IsReadAgain G }
+{}

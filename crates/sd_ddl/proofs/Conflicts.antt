@@ -1,13 +1,11 @@
 -- Conflicts, one part after another.
-use Rattle.std.proofs.Common.{◌≡◌, refl, sym, ap, subst, ◌∙◌, Bool, true, false, ℕ, List, [], ◌∷◌, ◌++◌, take, drop, length, get_or, ◌<◌, ◌≤◌, ◌+◌, arith, if◌then◌else◌, Result, Ok, Err, Option, Some, None, append_assoc}
-use Rattle.std.specs.List.{flat_map}
+use Rattle.std.proofs.Common.{◌≡◌, refl, sym, ap, subst, ◌∙◌, true, false, ℕ, List, [], ◌∷◌, ◌++◌, take, drop, length, get_or, ◌<◌, ◌≤◌, ◌+◌, arith, if◌then◌else◌, Result, Ok, Err, Some, None, append_assoc}
 use Rattle.std.proofs.lemmas.List.{append-nil, drop_more, at_drop_all}
 use Rattle.std.proofs.lemmas.Grind.{flat_map-append, take_at_read}
-use Rattle.sd_graph.specs.Statement.{Statement, Building, Adds, an_edge}
-use Rattle.sd_graph.specs.Stating.{Step, says, fails, Ending, done, fault, too_many_nodes, too_many_edges, no_memory, Ends, Leads}
+use Rattle.sd_graph.specs.Statement.{Statement, Building, Adds}
+use Rattle.sd_graph.specs.Stating.{Step, says, fails, done, too_many_nodes, too_many_edges, no_memory, Ends, Leads}
 use Rattle.sd_graph.specs.StatingLaws.{Ends-before, Ends-one, ending_at, IsCut, Continues, Continues-step, Continues-stop, Continues-end}
 use Rattle.sd_graph.specs.declared.GraphRefusal.{GraphRefusal}
-use Rattle.sd_value.specs.declared.Value.{Value}
 use Rattle.ddl_text.specs.declared.tree.Given.{Given}
 use Rattle.ddl_text.specs.declared.tree.Content.{Content}
 use Rattle.ddl_text.specs.declared.tree.Content.TheVariants as contents
@@ -20,9 +18,9 @@ use Rattle.sd_ddl.specs.declared.kinds.Givings.{Givings}
 use Rattle.sd_ddl.specs.declared.kinds.Kinds.{Kinds}
 use Rattle.sd_ddl.specs.declared.conflict.Stop.{Stop}
 use Rattle.sd_ddl.specs.declared.conflict.Stop.TheVariants.{KindConflict, TooManyNodes, TooManyEdges, NoMemory}
-use Rattle.sd_ddl.specs.Kinds.{Name, given, kinds_of, told, differs}
-use Rattle.sd_ddl.specs.Tables.{both, is_several, told_in, told_of, HasGivings, Knows, has_two_kinds, is_conflict}
-use Rattle.sd_ddl.specs.Steps.{plain_value, value_of, edge_steps, said, steps_of, steps_from, steps, kinds_told, place_of}
+use Rattle.sd_ddl.specs.Kinds.{Name, given, differs}
+use Rattle.sd_ddl.specs.Tables.{both, is_several, told_of, HasGivings, Knows, has_two_kinds, is_conflict}
+use Rattle.sd_ddl.specs.Steps.{value_of, edge_steps, said, steps_of, steps_from, steps, kinds_told, place_of}
 use Rattle.sd_ddl.specs.declared.conflict.Conflict.{Conflict}
 use Rattle.sd_ddl.specs.Stops.{all_said, NoFails, stop_ending, IsFirst, Takes}
 use Rattle.sd_ddl.proofs.Told.{several-differs}

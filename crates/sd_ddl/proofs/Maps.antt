@@ -1,5 +1,5 @@
 -- The tables, one part after another.
-use Rattle.std.proofs.Common.{◌≡◌, ◌⊎◌, refl, sym, ap, subst, ◌∙◌, inl, inr, Bool, true, false, ◌&&◌, cond, List, [], ◌∷◌, ◌++◌, if◌then◌else◌, Option, Some, None, Contains, ℕ, Result, Ok, Err}
+use Rattle.std.proofs.Common.{◌≡◌, ◌⊎◌, refl, sym, ap, subst, ◌∙◌, inl, inr, Bool, true, false, ◌&&◌, cond, List, [], ◌∷◌, ◌++◌, if◌then◌else◌, Some, Contains, ℕ, Result, Ok, Err}
 use Rattle.std.specs.Result.{OnOk}
 use Rattle.sd_value.specs.declared.NoMemory.{NoMemory}
 use Rattle.std.specs.declared.cmp.Ordering.{Ordering}
@@ -10,22 +10,22 @@ use Rattle.std.specs.BTreeSet.{insert_key}
 use Rattle.std.proofs.lemmas.List.{append-nil}
 use Rattle.std.proofs.lemmas.Grind.{flat_map-append}
 use Rattle.sd_value.specs.Order.{bytes_cmp}
-use Rattle.sd_value.specs.OrderLaws.{bytes_cmp-exact, both_tie}
+use Rattle.sd_value.specs.OrderLaws.{bytes_cmp-exact}
 use Rattle.sd_value.specs.Members.{IsOneOf, Contains-nil, Contains-cons_cases, Contains-here, Contains-there, Contains-flat_map, Contains-flat_mapped, Contains-from_IsOneOf, IsOneOf-from_Contains}
 use Rattle.sd_graph.specs.Inserted.{inserted-there, inserted-cases, inserted-here}
 use Rattle.token_reader.specs.declared.reading.Word.{Word}
 use Rattle.ddl_text.specs.declared.tree.Kind.{Kind}
 use Rattle.sd_ddl.specs.declared.part.Part.{Part}
 use Rattle.sd_ddl.specs.declared.part.Giving.{Giving}
-use Rattle.sd_ddl.specs.declared.part.Part.TheVariants.{Gives, Node, Member, Edge}
+use Rattle.sd_ddl.specs.declared.part.Part.TheVariants.{Gives, Member}
 use Rattle.sd_ddl.specs.declared.kinds.Told.{Told}
-use Rattle.sd_ddl.specs.declared.kinds.Told.TheVariants.{Nothing, One, Several}
+use Rattle.sd_ddl.specs.declared.kinds.Told.TheVariants.{Nothing, One}
 use Rattle.sd_ddl.specs.declared.kinds.Givings.{Givings}
 use Rattle.sd_ddl.specs.declared.kinds.Kinds.{Kinds}
 use Rattle.sd_ddl.specs.declared.collections.Collections.{Collections}
-use Rattle.sd_ddl.specs.Kinds.{Name, same_name, same_kind, given, given_by, collections, collection_by, kinds_of, told}
+use Rattle.sd_ddl.specs.Kinds.{Name, same_name, given, given_by, collections, collection_by, kinds_of, told}
 use Rattle.sd_ddl.specs.Tables.{both, pair_cmp, or_nothing, told_in, names_of, insert_all, HasGivings, HasCollections, Knows, tell, told_of}
-use Rattle.sd_ddl.proofs.Told.{both-nothing, told-more, told-perhaps, Tells, Tells-as, Tells-one, Tells-told, Tells-tell}
+use Rattle.sd_ddl.proofs.Told.{both-nothing, told-perhaps, Tells, Tells-as, Tells-one, Tells-told, Tells-tell}
 
 eq_then : (p q : Ordering) → is_eq (ordering_then p q) ≡ (is_eq p && is_eq q)
 eq_then Less q = refl

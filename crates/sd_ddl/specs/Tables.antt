@@ -5,7 +5,6 @@ use Rattle.std.specs.Ordering.{ordering_then}
 use Rattle.std.specs.BTreeMap.{get}
 use Rattle.std.specs.BTreeSet.{BTreeSet, insert_key}
 use Rattle.sd_value.specs.Order.{bytes_cmp}
-use Rattle.ddl_text.specs.declared.tree.Kind.{Kind}
 use Rattle.ddl_text.specs.declared.tree.Content.{Content}
 use Rattle.ddl_text.specs.declared.tree.Content.TheVariants as contents
 use Rattle.sd_ddl.specs.declared.part.Part.{Part}
@@ -15,7 +14,7 @@ use Rattle.sd_ddl.specs.declared.kinds.Told.TheVariants.{Nothing, One, Several}
 use Rattle.sd_ddl.specs.declared.kinds.Givings.{Givings}
 use Rattle.sd_ddl.specs.declared.kinds.Kinds.{Kinds}
 use Rattle.sd_ddl.specs.declared.collections.Collections.{Collections}
-use Rattle.sd_ddl.specs.Kinds.{Name, same_kind, given_by, given, collections, told}
+use Rattle.sd_ddl.specs.Kinds.{Name, same_kind, given, collections, told}
 
 -- what two tell together
 abbrev pub both : Told → Told → Told

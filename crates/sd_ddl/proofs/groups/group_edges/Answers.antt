@@ -1,5 +1,4 @@
 use Rattle.graph_spec.specs.declared.Edge.{Edge}
-use Rattle.graph_spec.specs.declared.Step.{Step}
 use Rattle.sd_ddl.proofs.Grouped.{grouped_more}
 use Rattle.sd_ddl.proofs.groups.group_edges.Goals as goal
 

@@ -1,8 +1,6 @@
 use Rattle.std.proofs.Common.{◌≡◌, ◌++◌, take}
 use Rattle.std.specs.List.{flat_map}
-use Rattle.sd_ddl.specs.Kinds.{Name}
-use Rattle.sd_ddl.specs.Groups.{items_of}
-use Rattle.sd_ddl.specs.Written.{node_text, collections_of, steps_out}
+use Rattle.sd_ddl.specs.Written.{node_text}
 use Rattle.sd_ddl.proofs.writing.write_ddl.Given as goal
 
 abbrev pub invariant-loop-node : goal.invariant-loop-node
