@@ -1,0 +1,78 @@
+//! What an item is.
+
+use sd_lex::TokenKind;
+use sd_value::Str;
+
+/// An item that has no text of its own.
+#[derive(Clone, Copy, Debug, PartialEq, Eq)]
+pub enum Mark {
+    /// `<TEMPLATE`, `<SFMT`, `<SIF` and `<SFOR`, each before a blank.
+    OpenTemplate,
+    OpenFormat,
+    OpenChoice,
+    OpenRepeat,
+    /// The `>` of an opening tag.
+    Close,
+    /// `<SELSE>`, `</SIF>`, `</SFOR>` and `</TEMPLATE>`.
+    Otherwise,
+    EndChoice,
+    EndRepeat,
+    EndTemplate,
+    /// An `@` that no label follows at once.
+    Here,
+    /// An `@` right before a label.
+    HereOf,
+    /// `#`.
+    Hash,
+    /// What can't stand here: no token, no opening tag, or the end of the text within an opening tag.
+    Fault,
+}
+
+#[derive(Debug, Drop)]
+pub enum ItemKind {
+    Mark(Mark),
+    /// A longest run of text of a body.
+    Text(Str),
+    /// A token within an opening tag.
+    Token(TokenKind),
+}
+
+#[derive(Debug, Drop)]
+pub struct Item {
+    pub kind: ItemKind,
+    /// The byte at which it begins, or that of the fault.
+    pub place: u64,
+    /// Whether a blank stands before it, within an opening tag.
+    pub apart: bool,
+    /// How many `<SFOR` stand before it in its template.
+    pub loops: u32,
+}
+
+/// Where bytes are read: between templates, in a body, or within an opening tag.
+#[derive(Clone, Copy, Debug, PartialEq, Eq)]
+pub enum Mode {
+    Between,
+    Body,
+    Inside,
+}
+
+/// What was read before a place.
+#[derive(Clone, Copy, Debug, PartialEq, Eq)]
+pub struct State {
+    pub mode: Mode,
+    pub place: u64,
+    /// Whether the byte before is a blank of an opening tag.
+    pub apart: bool,
+    /// How many `<SFOR` the template had so far.
+    pub loops: u32,
+}
+
+/// What stands at a place.
+#[derive(Debug, Drop)]
+pub enum Front {
+    /// A blank, and then what the state says.
+    Passes(State),
+    Finds(Item, State),
+    /// The text ends, with this fault if there is one.
+    Ends(Option<Item>),
+}

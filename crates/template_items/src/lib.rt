@@ -1,0 +1,8 @@
+//! The items that a file of templates is made of: text, tags and the tokens within opening tags.
+#![tactic(auto)]
+
+mod item;
+mod scanning;
+
+pub use item::{Item, ItemKind, Mark};
+pub use scanning::items;
