@@ -1,14 +1,24 @@
-//! What is printed of an expression is read again.
+//! What is printed of expressions and conditions is read again, over tokens.
 #![tactic(auto)]
 
-ghost use Rattle.std.specs.Prelude.{List};
+ghost use Rattle.std.specs.Prelude.{◌≡◌, List};
 ghost use Rattle.sd_lex.specs.declared.token.Token.{Token};
 ghost use Rattle.sd_lex.specs.declared.token.Span.{Span};
 ghost use Rattle.path_spec.specs.Regex.{Regex};
+ghost use Rattle.query_spec.specs.Query.{Condition};
+ghost use Rattle.struql_ast.specs.Written.{Condition as Written};
 ghost use Rattle.struql_text.specs.Expression.{expression_within};
+ghost use Rattle.struql_text.specs.Grammar.{condition};
 ghost use Rattle.struql_round.specs.Shown.{Shows, Fits, signs_after};
+ghost use Rattle.struql_round.specs.ShownParts.{ShowsCondition, condition_kept};
 
 /// Tokens that show an expression within the limits spell it, wherever they stand.
 pub fn expressions_are_read_again()
     ensures { (tree : Regex) (tokens : List Token) → Fits tree 0 64 → Shows tree tokens → (span : Span) × expression_within tokens (record { tree = tree; span = span; signs = signs_after 0 tree }) }
+{}
+
+/// Tokens that show a condition spell it, wherever they stand: the tree that they spell is the
+/// condition, places aside.
+pub fn conditions_are_read_again()
+    ensures { (k : Condition) (tokens : List Token) → ShowsCondition k tokens → (w : Written) × condition expression_within tokens w × (condition_kept w ≡ k) }
 {}

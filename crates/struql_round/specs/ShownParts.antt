@@ -1,0 +1,82 @@
+-- The tokens of the canonical texts of terms, links and conditions, wherever they stand, and these parts without their
+-- places.
+use Rattle.std.specs.Prelude.{◌≡◌, ℕ, true, Some, None, List, [], ◌∷◌, ◌++◌}
+use Rattle.sd_value.specs.declared.Datum.TheVariants as datum
+use Rattle.sd_value.specs.declared.Value.{Value}
+use Rattle.sd_value.specs.declared.Value.TheVariants.{Data, Page}
+use Rattle.sd_lex.specs.declared.token.Token.{Token}
+use Rattle.sd_lex.specs.declared.token.TokenKind.TheVariants as kinds
+use Rattle.sd_lex.specs.declared.token.Sign.TheVariants as signs
+use Rattle.query_spec.specs.Query.{Operand, variable, constant, PathStep, arc_variable, expression, Condition, member, path, compare, one_of, kind, negation}
+use Rattle.token_reader.specs.Terminals.{is_sign}
+use Rattle.struql_ast.specs.Reading.{operand_of}
+use Rattle.struql_ast.specs.Written as tree
+use Rattle.struql_text.specs.declared.keyword.Keyword.TheVariants as words
+use Rattle.struql_text.specs.Terminals.{is_keyword, keyword_of, op_value, test_of}
+use Rattle.struql_round.specs.Shown.{Shows, Fits}
+
+-- the parts without their places
+
+abbrev pub step_kept : tree.Step → PathStep
+step_kept (tree.arc_variable x span) = arc_variable x
+step_kept (tree.expression r span) = expression r
+
+abbrev pub condition_kept : tree.Condition → Condition
+condition_kept (tree.member c x x_span span) = member c x
+condition_kept (tree.path t s u span) = path (operand_of t) (step_kept s) (operand_of u)
+condition_kept (tree.compare t o u span) = compare (operand_of t) o (operand_of u)
+condition_kept (tree.one_of t vs span) = one_of (operand_of t) vs
+condition_kept (tree.kind k x x_span span) = kind k x
+condition_kept (tree.negation c span) = negation (condition_kept c)
+
+-- a word that is no keyword
+abbrev pub ShowsName : List ℕ → Token → Type 0
+ShowsName x t = (t.kind ≡ kinds.Name x) × (keyword_of x ≡ None)
+
+abbrev pub ShowsValue : Value → Token → Type 0
+ShowsValue (Data (datum.Int n)) t = t.kind ≡ kinds.Int n
+ShowsValue (Data (datum.Text s)) t = t.kind ≡ kinds.Quoted s
+ShowsValue (Data (datum.Url s)) t = ⊥
+ShowsValue (Data (datum.File s)) t = ⊥
+ShowsValue (Data (datum.Node s)) t = ⊥
+ShowsValue (Page p) t = ⊥
+
+abbrev pub ShowsOperand : Operand → Token → Type 0
+ShowsOperand (variable x) t = ShowsName x t
+ShowsOperand (constant v) t = ShowsValue v t
+
+abbrev pub ShowsStep : PathStep → List Token → Type 0
+ShowsStep (arc_variable x) tokens = (t : Token) × (tokens ≡ t ∷ []) × ShowsName x t
+ShowsStep (expression r) tokens = Shows r tokens × Fits r 0 64
+
+-- values behind each other, each behind a comma
+abbrev pub ShowsMore : List Value → List Token → Type 0
+ShowsMore [] tokens = tokens ≡ []
+ShowsMore (v ∷ values) tokens = (comma : Token) × (t : Token) × (rest : List Token) × (tokens ≡ comma ∷ t ∷ rest) × (is_sign signs.Comma comma ≡ true) × ShowsValue v t × ShowsMore values rest
+
+-- one value or more, with commas between them
+abbrev pub ShowsListed : List Value → List Token → Type 0
+ShowsListed [] tokens = ⊥
+ShowsListed (v ∷ values) tokens = (t : Token) × (rest : List Token) × (tokens ≡ t ∷ rest) × ShowsValue v t × ShowsMore values rest
+
+-- a condition that is no negation
+abbrev pub ShowsPlain : Condition → List Token → Type 0
+ShowsPlain (member c x) tokens =
+    (name : Token) × (opening : Token) × (inner : Token) × (close : Token) × (tokens ≡ name ∷ opening ∷ inner ∷ close ∷ []) × ShowsName c name × (test_of c ≡ None) × (is_sign signs.OpenParen opening ≡ true) × ShowsName x inner × (is_sign signs.CloseParen close ≡ true)
+ShowsPlain (kind k x) tokens =
+    (w : List ℕ) × (name : Token) × (opening : Token) × (inner : Token) × (close : Token) × (tokens ≡ name ∷ opening ∷ inner ∷ close ∷ []) × ShowsName w name × (test_of w ≡ Some k) × (is_sign signs.OpenParen opening ≡ true) × ShowsName x inner × (is_sign signs.CloseParen close ≡ true)
+ShowsPlain (compare t o u) tokens = (a : Token) × (b : Token) × (c : Token) × (tokens ≡ a ∷ b ∷ c ∷ []) × ShowsOperand t a × (op_value b ≡ Some o) × ShowsOperand u c
+ShowsPlain (path t s u) tokens =
+    (a : Token) × (first : Token) × (inner : List Token) × (second : Token) × (c : Token) × (tokens ≡ a ∷ first ∷ (inner ++ second ∷ c ∷ [])) × ShowsOperand t a × (is_sign signs.Arrow first ≡ true) × ShowsStep s inner × (is_sign signs.Arrow second ≡ true) × ShowsOperand u c
+ShowsPlain (one_of t values) tokens =
+    (a : Token) × (word : Token) × (opening : Token) × (inner : List Token) × (close : Token) × (tokens ≡ a ∷ word ∷ opening ∷ (inner ++ close ∷ [])) × ShowsOperand t a × (is_keyword words.In word ≡ true) × (is_sign signs.OpenBrace opening ≡ true) × ShowsListed values inner × (is_sign signs.CloseBrace close ≡ true)
+ShowsPlain (negation c) tokens = ⊥
+
+abbrev pub ShowsCondition : Condition → List Token → Type 0
+ShowsCondition (negation c) tokens =
+    (word : Token) × (opening : Token) × (inner : List Token) × (close : Token) × (tokens ≡ word ∷ opening ∷ (inner ++ close ∷ [])) × (is_keyword words.Not word ≡ true) × (is_sign signs.OpenParen opening ≡ true) × ShowsPlain c inner × (is_sign signs.CloseParen close ≡ true)
+ShowsCondition (member c x) tokens = ShowsPlain (member c x) tokens
+ShowsCondition (path t s u) tokens = ShowsPlain (path t s u) tokens
+ShowsCondition (compare t o u) tokens = ShowsPlain (compare t o u) tokens
+ShowsCondition (one_of t values) tokens = ShowsPlain (one_of t values) tokens
+ShowsCondition (kind k x) tokens = ShowsPlain (kind k x) tokens
