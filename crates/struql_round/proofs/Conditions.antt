@@ -22,15 +22,15 @@ use Rattle.struql_text.proofs.TokenParts.{is_that}
 use Rattle.struql_round.specs.ShownParts.{step_kept, condition_kept, ShowsName, ShowsValue, ShowsOperand, ShowsStep, ShowsMore, ShowsListed, ShowsPlain, ShowsCondition}
 use Rattle.struql_round.proofs.Spelled.{spelt_within}
 
-name_is : (x : List ℕ) (t : Token) → ShowsName x t → name_value t ≡ Some (record { text = x; span = t.span })
+pub name_is : (x : List ℕ) (t : Token) → ShowsName x t → name_value t ≡ Some (record { text = x; span = t.span })
 name_is x t h = rw (h.0, h.1) refl
 
 -- the operand that a token shows, with its place
-abbrev placed : Operand → Span → declared.Operand
+abbrev pub placed : Operand → Span → declared.Operand
 placed (variable x) span = operand_kinds.Variable x span
 placed (constant v) span = operand_kinds.Constant v span
 
-operand_is : (o : Operand) (t : Token) → ShowsOperand o t → operand_value t ≡ Some (placed o t.span)
+pub operand_is : (o : Operand) (t : Token) → ShowsOperand o t → operand_value t ≡ Some (placed o t.span)
 operand_is (variable x) t h = rw (h.0, h.1) refl
 operand_is (constant (Data (datum.Int n))) t h = rw h refl
 operand_is (constant (Data (datum.Text s))) t h = rw h refl
@@ -39,7 +39,7 @@ operand_is (constant (Data (datum.File s))) t h = absurd h
 operand_is (constant (Data (datum.Node s))) t h = absurd h
 operand_is (constant (Page p)) t h = absurd h
 
-placed_kept : (o : Operand) (span : Span) → operand_of (placed o span) ≡ o
+pub placed_kept : (o : Operand) (span : Span) → operand_of (placed o span) ≡ o
 placed_kept (variable x) span = refl
 placed_kept (constant v) span = refl
 

@@ -1,13 +1,13 @@
 -- The tokens of the canonical texts of terms, links and conditions, wherever they stand, and these parts without their
 -- places.
-use Rattle.std.specs.Prelude.{◌≡◌, ℕ, true, Some, None, List, [], ◌∷◌, ◌++◌}
+use Rattle.std.specs.Prelude.{◌≡◌, ℕ, true, Some, None, List, [], ◌∷◌, ◌++◌, map}
 use Rattle.sd_value.specs.declared.Datum.TheVariants as datum
 use Rattle.sd_value.specs.declared.Value.{Value}
 use Rattle.sd_value.specs.declared.Value.TheVariants.{Data, Page}
 use Rattle.sd_lex.specs.declared.token.Token.{Token}
 use Rattle.sd_lex.specs.declared.token.TokenKind.TheVariants as kinds
 use Rattle.sd_lex.specs.declared.token.Sign.TheVariants as signs
-use Rattle.query_spec.specs.Query.{Operand, variable, constant, PathStep, arc_variable, expression, Condition, member, path, compare, one_of, kind, negation}
+use Rattle.query_spec.specs.Query.{Operand, variable, constant, PathStep, arc_variable, expression, Condition, member, path, compare, one_of, kind, negation, SkolemTerm}
 use Rattle.token_reader.specs.Terminals.{is_sign}
 use Rattle.struql_ast.specs.Reading.{operand_of}
 use Rattle.struql_ast.specs.Written as tree
@@ -80,3 +80,20 @@ ShowsCondition (path t s u) tokens = ShowsPlain (path t s u) tokens
 ShowsCondition (compare t o u) tokens = ShowsPlain (compare t o u) tokens
 ShowsCondition (one_of t values) tokens = ShowsPlain (one_of t values) tokens
 ShowsCondition (kind k x) tokens = ShowsPlain (kind k x) tokens
+
+-- operands behind each other, each behind a comma
+abbrev pub ShowsMoreOperands : List Operand → List Token → Type 0
+ShowsMoreOperands [] tokens = tokens ≡ []
+ShowsMoreOperands (o ∷ operands) tokens = (comma : Token) × (t : Token) × (rest : List Token) × (tokens ≡ comma ∷ t ∷ rest) × (is_sign signs.Comma comma ≡ true) × ShowsOperand o t × ShowsMoreOperands operands rest
+
+-- operands with commas between them, or none
+abbrev pub ShowsArguments : List Operand → List Token → Type 0
+ShowsArguments [] tokens = tokens ≡ []
+ShowsArguments (o ∷ operands) tokens = (t : Token) × (rest : List Token) × (tokens ≡ t ∷ rest) × ShowsOperand o t × ShowsMoreOperands operands rest
+
+abbrev pub ShowsTerm : SkolemTerm → List Token → Type 0
+ShowsTerm f tokens =
+    (name : Token) × (opening : Token) × (inner : List Token) × (close : Token) × (tokens ≡ name ∷ opening ∷ (inner ++ close ∷ [])) × ShowsName f.function name × (is_sign signs.OpenParen opening ≡ true) × ShowsArguments f.args inner × (is_sign signs.CloseParen close ≡ true)
+
+abbrev pub term_kept : tree.Term → SkolemTerm
+term_kept t = record { function = t.function; args = map operand_of t.args }

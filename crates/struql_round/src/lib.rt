@@ -1,16 +1,16 @@
-//! What is printed of expressions and conditions is read again, over tokens.
+//! What is printed of expressions, conditions and terms is read again, over tokens.
 #![tactic(auto)]
 
 ghost use Rattle.std.specs.Prelude.{◌≡◌, List};
 ghost use Rattle.sd_lex.specs.declared.token.Token.{Token};
 ghost use Rattle.sd_lex.specs.declared.token.Span.{Span};
 ghost use Rattle.path_spec.specs.Regex.{Regex};
-ghost use Rattle.query_spec.specs.Query.{Condition};
-ghost use Rattle.struql_ast.specs.Written.{Condition as Written};
+ghost use Rattle.query_spec.specs.Query.{Condition, SkolemTerm};
+ghost use Rattle.struql_ast.specs.Written.{Condition as Written, Term as WrittenTerm};
 ghost use Rattle.struql_text.specs.Expression.{expression_within};
-ghost use Rattle.struql_text.specs.Grammar.{condition};
+ghost use Rattle.struql_text.specs.Grammar.{condition, term};
 ghost use Rattle.struql_round.specs.Shown.{Shows, Fits, signs_after};
-ghost use Rattle.struql_round.specs.ShownParts.{ShowsCondition, condition_kept};
+ghost use Rattle.struql_round.specs.ShownParts.{ShowsCondition, ShowsTerm, condition_kept, term_kept};
 
 /// Tokens that show an expression within the limits spell it, wherever they stand.
 pub fn expressions_are_read_again()
@@ -21,4 +21,9 @@ pub fn expressions_are_read_again()
 /// condition, places aside.
 pub fn conditions_are_read_again()
     ensures { (k : Condition) (tokens : List Token) → ShowsCondition k tokens → (w : Written) × condition expression_within tokens w × (condition_kept w ≡ k) }
+{}
+
+/// Tokens that show a term spell it, wherever they stand.
+pub fn terms_are_read_again()
+    ensures { (f : SkolemTerm) (tokens : List Token) → ShowsTerm f tokens → (w : WrittenTerm) × term tokens w × (term_kept w ≡ f) }
 {}
