@@ -1,0 +1,24 @@
+-- Comparisons of numbers and texts under version 1, which converts nothing.
+use Rattle.std.specs.Prelude.{codes}
+use Rattle.std.proofs.Common.{refl, inl, inr}
+use Rattle.graph_spec.specs.DataGraph.{text}
+use Rattle.query_spec.specs.declared.Op.TheVariants.{Eq, Ne, Lt, Ge}
+use Rattle.query_spec.specs.Holds.{Compares}
+use Rattle.definition_examples.specs.Bibliography.{int}
+
+-- the Int 1 and the Text `1` are different
+pub differ : Compares 1 Ne (int 1) (text (codes "1"))
+differ = elim [ inl h ↦ cc | inr h ↦ let v = h.0 in cc ]
+
+-- and neither is below the other
+pub not_below : Compares 1 Lt (int 1) (text (codes "1")) → ⊥
+not_below (n, twins, order) = let v = twins.0 in cc
+
+pub not_above : Compares 1 Ge (int 1) (text (codes "1")) → ⊥
+not_above = elim [ inl h ↦ let v = h.1.0 in cc | inr h ↦ let v = h.1.0 in cc ]
+
+pub by_number : Compares 1 Lt (int 9) (int 10)
+by_number = refl
+
+pub by_bytes : Compares 1 Lt (text (codes "10")) (text (codes "9"))
+by_bytes = refl
