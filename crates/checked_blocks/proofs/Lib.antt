@@ -6,3 +6,4 @@ pub mod Chains
 pub mod WellMade
 pub mod Safe
 pub mod Whole
+pub mod Parts

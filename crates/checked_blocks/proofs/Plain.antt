@@ -53,7 +53,7 @@ abbrev pub blocks_plain : Blocks → plain.Blocks
 blocks_plain no_blocks = plain.no_blocks
 blocks_plain (block c inner span after) = plain.block (clauses_plain c) (blocks_plain inner) (blocks_plain after)
 
-map_through : {X Y Z : Type 0} (f : Y → Z) (g : X → Y) (h : X → Z) → ((x : X) → f (g x) ≡ h x) → (xs : List X) → map f (map g xs) ≡ map h xs
+pub map_through : {X Y Z : Type 0} (f : Y → Z) (g : X → Y) (h : X → Z) → ((x : X) → f (g x) ≡ h x) → (xs : List X) → map f (map g xs) ≡ map h xs
 map_through f g h e [] = refl
 map_through f g h e (x ∷ xs) = let here = e x in let rest = map_through f g h e xs in cc
 
@@ -61,7 +61,7 @@ step_same : (s : PathStep) → step_plain (step_written s) ≡ step_of s
 step_same (ArcVariable x span) = refl
 step_same (Expression r span) = refl
 
-condition_same : (c : declared.Condition) → condition_plain (condition_written c) ≡ condition_of c
+pub condition_same : (c : declared.Condition) → condition_plain (condition_written c) ≡ condition_of c
 condition_same (declared.Member collection x x_span span) = refl
 condition_same (declared.Path from step to span) = ap (λ s. plain.path (operand_of from) s (operand_of to)) (step_same step)
 condition_same (declared.Compare left op right span) = refl
@@ -73,13 +73,13 @@ target_same : (t : declared_target.Target) → target_plain (target_written t) �
 target_same (Plain o) = refl
 target_same (Made t) = refl
 
-link_same : (k : declared_link.Link) → link_plain (link_written k) ≡ link_of k
+pub link_same : (k : declared_link.Link) → link_plain (link_written k) ≡ link_of k
 link_same k = let s = target_same k.source in let t = target_same k.target in cc
 
-collect_same : (o : declared_collect.Collect) → collect_plain (collect_written o) ≡ collect_of o
+pub collect_same : (o : declared_collect.Collect) → collect_plain (collect_written o) ≡ collect_of o
 collect_same o = let t = target_same o.target in cc
 
-term_same : (t : Term0) → term_plain (term_written t) ≡ term_of t
+pub term_same : (t : Term0) → term_plain (term_written t) ≡ term_of t
 term_same t = refl
 
 mutual
@@ -92,11 +92,11 @@ mutual
       let r = row_same _ inner in
       rw (k, t, l, o, r) refl
 
-  row_same : (n : _) (row : Row_of-Block n) → blocks_plain (row_written row) ≡ row_of_blocks row
+  pub row_same : (n : _) (row : Row_of-Block n) → blocks_plain (row_written row) ≡ row_of_blocks row
   row_same n end_of-Block = refl
   row_same n (more_of-Block b rest) = block_same b (row_written rest) ∙ ap (block_onto b) (row_same _ rest)
 
-blocks_same : (bs : List Block) → blocks_plain (blocks_written bs) ≡ blocks_of bs
+pub blocks_same : (bs : List Block) → blocks_plain (blocks_written bs) ≡ blocks_of bs
 blocks_same [] = refl
 blocks_same (b ∷ bs) = block_same b (blocks_written bs) ∙ ap (block_onto b) (blocks_same bs)
 
