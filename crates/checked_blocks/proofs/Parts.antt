@@ -5,9 +5,9 @@ use Rattle.std.proofs.lemmas.List.{append-nil}
 use Rattle.query_spec.specs.Query as plain
 use Rattle.query_spec.specs.Query.{Body, with_outer}
 use Rattle.struql_ast.specs.declared.Block.{Block, Block'}
-use Rattle.struql_ast.specs.declared.Block.TheViews.{out-Block, roll-Block, roll-out-Block}
+use Rattle.struql_ast.specs.declared.Block.TheViews.{out-Block, roll-out-Block}
 use Rattle.struql_ast.specs.Reading.{condition_of, term_of, link_of, collect_of, block_onto, blocks_of}
-use Rattle.struql_ast.specs.Written.{block_clauses, block_inner, blocks_written, clauses_made, inner_made, condition_written, term_written, link_written, collect_written}
+use Rattle.struql_ast.specs.Written.{block_clauses, block_inner, clauses_made, inner_made, condition_written, term_written, link_written, collect_written}
 use Rattle.checked_blocks.specs.Scopes.{own_body, inner_blocks}
 use Rattle.checked_blocks.proofs.Plain.{condition_plain, term_plain, link_plain, collect_plain, clauses_plain, blocks_plain, map_through, condition_same, term_same, link_same, collect_same, row_same, blocks_same}
 

@@ -1,4 +1,4 @@
-use Rattle.std.proofs.Common.{◌≡◌, List, [], ◌∷◌, ◌++◌, ◌+◌, take, refl, sym, ap, ◌∙◌, subst, arith}
+use Rattle.std.proofs.Common.{◌≡◌, List, [], ◌∷◌, ◌++◌, ◌+◌, take, refl, sym, ap, ◌∙◌, arith}
 use Rattle.std.specs.Prelude.{map}
 use Rattle.std.proofs.lemmas.List.{take_more, map-append}
 use Rattle.std.proofs.lemmas.List.Elements.{All-push}
@@ -8,8 +8,8 @@ use Rattle.query_spec.specs.Mentions.{chain_of}
 use Rattle.struql_ast.specs.declared.Block.{Block}
 use Rattle.struql_ast.specs.Reading.{condition_of, blocks_of}
 use Rattle.checked_blocks.specs.declared.blocks.Scoped.{Scoped}
-use Rattle.checked_blocks.specs.Scopes.{body_of, own_body, inner_blocks, HaveChains}
-use Rattle.checked_blocks.proofs.Parts.{outer_push, own_is, inner_is, joined_blocks}
+use Rattle.checked_blocks.specs.Scopes.{body_of, own_body, inner_blocks}
+use Rattle.checked_blocks.proofs.Parts.{outer_push, inner_is, joined_blocks}
 use Rattle.checked_blocks.proofs.blocks.+push_blocks.Goals as goal
 
 pub loop-block-preserved : goal.loop-block-preserved

@@ -1,4 +1,4 @@
-use Rattle.std.proofs.Common.{◌≡◌, List, [], ◌++◌, refl, sym, ap, ◌∙◌}
+use Rattle.std.proofs.Common.{◌≡◌, List, ◌++◌, sym, ap, ◌∙◌}
 use Rattle.std.specs.Prelude.{map}
 use Rattle.query_spec.specs.Mentions.{variables_of}
 use Rattle.struql_ast.specs.declared.Condition as declared

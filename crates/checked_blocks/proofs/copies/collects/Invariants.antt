@@ -1,4 +1,4 @@
-use Rattle.std.proofs.Common.{◌≡◌, ◌++◌, take}
+use Rattle.std.proofs.Common.{◌≡◌, take}
 use Rattle.std.specs.Prelude.{map}
 use Rattle.struql_ast.specs.Reading.{collect_of}
 use Rattle.checked_blocks.proofs.copies.collects.Given as goal

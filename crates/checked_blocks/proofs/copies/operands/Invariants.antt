@@ -1,4 +1,4 @@
-use Rattle.std.proofs.Common.{◌≡◌, ◌++◌, take}
+use Rattle.std.proofs.Common.{◌≡◌, take}
 use Rattle.std.specs.Prelude.{map}
 use Rattle.struql_ast.specs.Reading.{operand_of}
 use Rattle.checked_blocks.proofs.copies.operands.Given as goal

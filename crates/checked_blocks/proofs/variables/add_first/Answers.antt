@@ -1,7 +1,7 @@
-use Rattle.std.proofs.Common.{◌≡◌, List, [], ◌∷◌, ◌++◌, refl, sym, ap, ◌∙◌, subst}
+use Rattle.std.proofs.Common.{◌≡◌, List, [], ◌∷◌, ◌++◌, sym, ap, ◌∙◌, subst}
 use Rattle.std.specs.Prelude.{true, false}
 use Rattle.std.specs.List.{list_any}
-use Rattle.query_spec.specs.Mentions.{same_name, first_mentions}
+use Rattle.query_spec.specs.Mentions.{same_name}
 use Rattle.struql_ast.specs.Written.{Name}
 use Rattle.checked_blocks.proofs.Names.{any_first, first_new, first_known}
 use Rattle.checked_blocks.proofs.variables.add_first.Goals as goal
