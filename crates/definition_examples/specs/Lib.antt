@@ -4,3 +4,6 @@ pub mod NegationRows
 pub mod StarRows
 pub mod Bibliography
 pub mod Comparisons
+pub mod RepeatedArguments
+pub mod BibliographySite
+pub mod WellFormed

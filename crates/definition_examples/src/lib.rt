@@ -1,17 +1,23 @@
 //! Small graphs and queries, and what the definitions say of them, so that a wrong definition is noticed.
 #![tactic(auto)]
 
-ghost use Rattle.std.specs.Prelude.{[], ◌∷◌, List, codes};
+ghost use Rattle.std.specs.Prelude.{◌≡◌, [], ◌∷◌, List, Some, codes};
 ghost use Rattle.sd_value.specs.declared.Value.{Value};
+ghost use Rattle.sd_value.specs.declared.Value.TheVariants.{Page};
 ghost use Rattle.sd_value.specs.Ascending.{ListsExactly};
 ghost use Rattle.query_spec.specs.Rows.{IsRow, row_cmp};
-ghost use Rattle.graph_spec.specs.DataGraph.{text};
+ghost use Rattle.graph_spec.specs.DataGraph.{IsWellFormed, text};
+ghost use Rattle.query_spec.specs.Mentions.{IsWellMade};
 ghost use Rattle.query_spec.specs.Holds.{Compares};
 ghost use Rattle.query_spec.specs.declared.Op.TheVariants.{Ne, Lt, Ge};
+ghost use Rattle.site_spec.specs.Site.{InSite, Linked, scope_of};
+ghost use Rattle.site_spec.specs.Root.{root_function};
 ghost use Rattle.definition_examples.specs.LoopRow as one_loop;
 ghost use Rattle.definition_examples.specs.NegationRows as negation;
 ghost use Rattle.definition_examples.specs.StarRows as repetition;
 ghost use Rattle.definition_examples.specs.Bibliography as papers;
+ghost use Rattle.definition_examples.specs.RepeatedArguments as repeated;
+ghost use Rattle.definition_examples.specs.BibliographySite as site;
 
 /// `object a { e &a }`, `x -> * -> y`: exactly (a, a).
 pub fn loop_row()
@@ -32,6 +38,27 @@ pub fn repetition_rows()
 pub fn constant_start()
     ensures papers { ListsExactly row_cmp (IsRow papers.graph papers.from_1997) ((papers.int 1997 ∷ []) ∷ []) }
     ensures nothing { (row : List Value) → IsRow papers.empty_graph papers.from_1997 row → ⊥ }
+{}
+
+/// `object o { v 1 v 2 }`, `WHERE y -> "v" -> x CREATE F(x, x)`: F(1, 1) is a page, and F(1, 2) is not.
+pub fn repeated_arguments()
+    ensures equal { InSite repeated.graph (scope_of repeated.query) (repeated.page 1 1) }
+    ensures different { InSite repeated.graph (scope_of repeated.query) (repeated.page 1 2) → ⊥ }
+{}
+
+/// A home page, and a page for each paper and for each year: the nested block has the conditions of the block round it.
+pub fn bibliography_site()
+    ensures root { root_function site.query ≡ Some (codes "RootPage") }
+    ensures years { ListsExactly row_cmp (IsRow papers.graph site.chain) site.rows }
+    ensures year_1998 { InSite papers.graph site.scope (site.year_term 1998) }
+    ensures year_1996 { InSite papers.graph site.scope (site.year_term 1996) → ⊥ }
+    ensures its_paper { Linked papers.graph site.scope (Page (site.year_term 1998)) (codes "Paper") (Page (site.paper_term papers.pub1)) }
+{}
+
+/// The papers' graph and the nested block's chain are what the definitions ask of every graph and chain.
+pub fn well_formed_and_well_made()
+    ensures graph { IsWellFormed papers.graph }
+    ensures chain { IsWellMade site.chain }
 {}
 
 /// Version 1 converts nothing: the Int 1 isn't the Text `1`, and is neither below nor above it.
