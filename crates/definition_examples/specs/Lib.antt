@@ -7,3 +7,4 @@ pub mod Comparisons
 pub mod RepeatedArguments
 pub mod BibliographySite
 pub mod WellFormed
+pub mod Twins

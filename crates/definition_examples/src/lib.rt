@@ -9,7 +9,7 @@ ghost use Rattle.query_spec.specs.Rows.{IsRow, row_cmp};
 ghost use Rattle.graph_spec.specs.DataGraph.{IsWellFormed, text};
 ghost use Rattle.query_spec.specs.Mentions.{IsWellMade};
 ghost use Rattle.query_spec.specs.Holds.{Compares};
-ghost use Rattle.query_spec.specs.declared.Op.TheVariants.{Ne, Lt, Ge};
+ghost use Rattle.query_spec.specs.declared.Op.TheVariants.{Eq, Ne, Lt, Ge};
 ghost use Rattle.site_spec.specs.Site.{InSite, Linked, scope_of};
 ghost use Rattle.site_spec.specs.Root.{root_function};
 ghost use Rattle.definition_examples.specs.LoopRow as one_loop;
@@ -68,4 +68,15 @@ pub fn comparisons_of_kinds()
     ensures not_above { Compares 1 Ge (papers.int 1) (text (codes "1")) → ⊥ }
     ensures by_number { Compares 1 Lt (papers.int 9) (papers.int 10) }
     ensures by_bytes { Compares 1 Lt (text (codes "10")) (text (codes "9")) }
+{}
+
+/// Version 2 takes a number and the text that spells it for equal, and puts them in the order of numbers; two texts
+/// keep the order of their bytes.
+pub fn twins_of_version_2()
+    ensures equal { Compares 2 Eq (papers.int 7) (text (codes "7")) }
+    ensures turned { Compares 2 Eq (text (codes "7")) (papers.int 7) }
+    ensures zero_in_front { Compares 2 Ne (papers.int 7) (text (codes "07")) }
+    ensures version_1 { Compares 1 Ne (papers.int 7) (text (codes "7")) }
+    ensures below { Compares 2 Lt (papers.int 9) (text (codes "10")) }
+    ensures texts { Compares 2 Lt (text (codes "10")) (text (codes "9")) }
 {}
