@@ -8,3 +8,4 @@ pub mod RepeatedArguments
 pub mod BibliographySite
 pub mod WellFormed
 pub mod Twins
+pub mod Agreement

@@ -19,6 +19,10 @@ ghost use Rattle.definition_examples.specs.Bibliography as papers;
 ghost use Rattle.definition_examples.specs.RepeatedArguments as repeated;
 ghost use Rattle.definition_examples.specs.BibliographySite as site;
 
+mod laws;
+
+pub use laws::{AnySite, comparisons_agree, one_answer};
+
 /// `object a { e &a }`, `x -> * -> y`: exactly (a, a).
 pub fn loop_row()
     ensures { ListsExactly row_cmp (IsRow one_loop.graph one_loop.chain) one_loop.rows }

@@ -1,0 +1,5 @@
+use Rattle.definition_examples.specs.Agreement.{agree}
+use Rattle.definition_examples.proofs.laws.comparisons_agree.Goals as goal
+
+pub returns : goal.returns
+returns c = agree
