@@ -9,3 +9,5 @@ pub mod BibliographySite
 pub mod WellFormed
 pub mod Twins
 pub mod Agreement
+pub mod Keys
+pub mod Cycle

@@ -20,8 +20,10 @@ ghost use Rattle.definition_examples.specs.RepeatedArguments as repeated;
 ghost use Rattle.definition_examples.specs.BibliographySite as site;
 
 mod laws;
+mod pages;
 
 pub use laws::{AnySite, comparisons_agree, one_answer};
+pub use pages::{cycle_of_pages, missing_keys};
 
 /// `object a { e &a }`, `x -> * -> y`: exactly (a, a).
 pub fn loop_row()

@@ -1,0 +1,94 @@
+-- A value without a key stands after those that have one.
+use Rattle.std.specs.Prelude.{◌≡◌, ◌⊎◌, List, [], ◌∷◌, Option, Some, None, Contains}
+use Rattle.std.specs.List.Sorted.{IsStrictlySortedBy}
+use Rattle.std.specs.declared.cmp.Ordering.TheVariants.{Greater}
+use Rattle.std.proofs.Common.{refl, sym, ap, subst, inl, inr, lit<, ◌∙◌}
+use Rattle.sd_value.specs.declared.Datum.TheVariants.{Node}
+use Rattle.sd_value.specs.declared.Value.{Value}
+use Rattle.sd_value.specs.declared.Value.TheVariants.{Data, Page}
+use Rattle.sd_value.specs.Order.{value_cmp}
+use Rattle.sd_value.specs.OrderLaws.{value_cmp-total}
+use Rattle.std.proofs.lemmas.Cmp.{tied_itself}
+use Rattle.sd_value.specs.Members.{IsOneOf, IsOneOf-from_Contains}
+use Rattle.sd_value.specs.Ascending.{ListsExactly}
+use Rattle.graph_spec.specs.declared.Edge.{Edge}
+use Rattle.graph_spec.specs.DataGraph.{Name, node, HasEdge}
+use Rattle.page_spec.specs.declared.Keyed.{Keyed}
+use Rattle.page_spec.specs.Site.{InRange, HasKey, keyed_cmp, Arranged}
+use Rattle.page_spec.proofs.Unique.{key_unique}
+use Rattle.definition_examples.specs.Tools.{edge, listed, names_differ}
+use Rattle.definition_examples.specs.Bibliography.{int}
+use Rattle.definition_examples.specs.Keys.{a, b, c, e, k, graph, site, at_a, ends, ascending, descending}
+
+edges_are : (u : Value) (l : Name) (v : Value) → HasEdge graph u l v
+    → ((u ≡ node a) × (l ≡ e) × (v ≡ node b)) ⊎ (((u ≡ node a) × (l ≡ e) × (v ≡ node c)) ⊎ ((u ≡ node c) × (l ≡ k) × (v ≡ int 5)))
+edges_are (Data (Node n)) l v h =
+    elim (IsOneOf-from_Contains graph.edges (edge n l v) h) [
+      | inl h ↦ inl (ap (λ (z : Edge). node z.from) (sym h), ap (λ (z : Edge). z.label) (sym h), ap (λ (z : Edge). z.to) (sym h))
+      | inr (inl h) ↦ inr (inl (ap (λ (z : Edge). node z.from) (sym h), ap (λ (z : Edge). z.label) (sym h), ap (λ (z : Edge). z.to) (sym h)))
+      | inr (inr (inl h)) ↦ inr (inr (ap (λ (z : Edge). node z.from) (sym h), ap (λ (z : Edge). z.label) (sym h), ap (λ (z : Edge). z.to) (sym h)))
+      | inr (inr (inr h)) ↦ absurd h
+    ]
+edges_are (Data d) l v h = absurd h
+edges_are (Page t) l v h = absurd h
+
+by_k : (u v : Value) → HasEdge graph u k v → (u ≡ node c) × (v ≡ int 5)
+by_k u v h =
+    elim (edges_are u k v h) [
+      | inl h ↦ absurd (names_differ k e refl h.1)
+      | inr (inl h) ↦ absurd (names_differ k e refl h.1)
+      | inr (inr h) ↦ (h.0, h.2)
+    ]
+
+abbrev name_of : Value → Name
+name_of (Data (Node n)) = n
+name_of v = []
+
+b_has_none : HasKey site (Some (k ∷ [])) (node b) None
+b_has_none u h = names_differ b c refl (ap name_of ((by_k (node b) h.0 h.1).0))
+
+c_has_5 : HasKey site (Some (k ∷ [])) (node c) (Some (int 5))
+c_has_5 = (
+  (int 5, (2, lit< tt, refl), refl),
+  λ u h above. let is : u ≡ int 5 = sym h.2 ∙ (by_k (node c) h.0 h.1).1 in
+      let same = tied_itself value_cmp-total (int 5) in
+      let order : value_cmp (int 5) (int 5) ≡ Greater = subst (λ z. value_cmp (int 5) z ≡ Greater) is above in
+      cc,
+)
+
+abbrev Fits : Keyed → Type 0
+Fits r = InRange site at_a ends r.value × HasKey site (Some (k ∷ [])) r.value r.key
+
+abbrev with_key : Keyed
+with_key = record { key = Some (int 5); value = node c }
+
+abbrev without : Keyed
+without = record { key = None; value = node b }
+
+abbrev rows : List Keyed
+rows = with_key ∷ without ∷ []
+
+is_row : (r s : Keyed) → r.key ≡ s.key → r.value ≡ s.value → r ≡ s
+is_row r s h g = λ i. record { key = h i; value = g i }
+
+only : (r : Keyed) → Fits r → IsOneOf rows r
+only r ((u, starts, (m, step, is)), key) =
+    elim (edges_are u e m step) [
+      | inl h ↦ let value : r.value ≡ node b = sym is ∙ h.2 in
+          inr (inl (is_row without r (sym (key_unique site (Some (k ∷ [])) (node b) r.key None (subst (λ z. HasKey site (Some (k ∷ [])) z r.key) value key) b_has_none)) (sym value)))
+      | inr (inl h) ↦ let value : r.value ≡ node c = sym is ∙ h.2 in
+          inl (is_row with_key r (sym (key_unique site (Some (k ∷ [])) (node c) r.key (Some (int 5)) (subst (λ z. HasKey site (Some (k ∷ [])) z r.key) value key) c_has_5)) (sym value))
+      | inr (inr h) ↦ absurd (names_differ e k refl h.1)
+    ]
+
+rows_are : ListsExactly keyed_cmp Fits rows
+unfolding IsStrictlySortedBy
+rows_are =
+    listed keyed_cmp Fits rows ((refl, tt), (tt, tt))
+    (((node a, refl, (node c, (1, lit< tt, refl), refl)), c_has_5), (((node a, refl, (node b, (0, lit< tt, refl), refl)), b_has_none), tt)) only
+
+pub last_ascending : Arranged site at_a ends ascending (node c ∷ node b ∷ [])
+last_ascending = (rows, rows_are, refl)
+
+pub first_descending : Arranged site at_a ends descending (node b ∷ node c ∷ [])
+first_descending = (rows, rows_are, refl)
