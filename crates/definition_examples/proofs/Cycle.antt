@@ -1,5 +1,5 @@
 -- The cycle that P() runs into is named by Q(), the first page that comes again.
-use Rattle.std.specs.Prelude.{◌≡◌, ◌⊎◌, List, [], ◌∷◌, Option, Some, None, Contains}
+use Rattle.std.specs.Prelude.{◌≡◌, [], ◌∷◌, None, Contains}
 use Rattle.std.specs.List.Sorted.{IsStrictlySortedBy}
 use Rattle.std.proofs.Common.{refl, sym, ap, subst, inl, inr, lit<, ◌∙◌}
 use Rattle.sd_value.specs.declared.Value.{Value}
@@ -10,8 +10,8 @@ use Rattle.graph_spec.specs.DataGraph.{Name}
 use Rattle.page_spec.specs.declared.Keyed.{Keyed}
 use Rattle.page_spec.specs.declared.Outcome.TheVariants.{Cyclic}
 use Rattle.page_spec.specs.Site.{InRange, HasKey, keyed_cmp}
-use Rattle.page_spec.specs.Pieces.{Item, embed, HasTemplate, Pieces}
-use Rattle.page_spec.specs.Page.{Embeds, Leads, nowhere, on, Loops, Next, again, later, IsCyclicAt, IsOutcome}
+use Rattle.page_spec.specs.Pieces.{embed, HasTemplate, Pieces}
+use Rattle.page_spec.specs.Page.{Embeds, nowhere, on, Loops, Next, again, later, IsCyclicAt, IsOutcome}
 use Rattle.page_spec.proofs.Texts.{cyclic_unique}
 use Rattle.definition_examples.specs.Tools.{listed, names_differ}
 use Rattle.definition_examples.specs.Cycle.{p, q, r, e, term, page, edges, site, ends, templates}

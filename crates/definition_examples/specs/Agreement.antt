@@ -1,12 +1,12 @@
 -- What a template's comparison says is what a query's says under version 1.
-use Rattle.std.specs.Prelude.{◌≡◌, ◌⊎◌, ◌↔◌, ℤ, List, ℕ}
-use Rattle.std.proofs.Common.{refl, sym, ◌∙◌, ap, inl, inr}
+use Rattle.std.specs.Prelude.{◌≡◌, ◌⊎◌, ◌↔◌, ℤ}
+use Rattle.std.proofs.Common.{refl, sym, ◌∙◌, inl, inr}
 use Rattle.std.specs.Ordering.{int_cmp, ordering_then}
 use Rattle.std.specs.declared.cmp.Ordering.{Ordering}
 use Rattle.std.specs.declared.cmp.Ordering.TheVariants.{Less, Equal, Greater}
-use Rattle.sd_value.specs.declared.Datum.TheVariants.{Int, Text, Url, File, Node}
+use Rattle.sd_value.specs.declared.Datum.TheVariants.{Int, Text}
 use Rattle.sd_value.specs.declared.Value.{Value}
-use Rattle.sd_value.specs.declared.Value.TheVariants.{Data, Page}
+use Rattle.sd_value.specs.declared.Value.TheVariants.{Data}
 use Rattle.sd_value.specs.Order.{value_cmp, datum_cmp}
 use Rattle.query_spec.specs.declared.Op.{Op}
 use Rattle.query_spec.specs.declared.Op.TheVariants as op

@@ -2,7 +2,7 @@
 use Rattle.std.specs.Prelude.{codes}
 use Rattle.std.proofs.Common.{refl, inl, inr}
 use Rattle.graph_spec.specs.DataGraph.{text}
-use Rattle.query_spec.specs.declared.Op.TheVariants.{Eq, Ne, Lt, Ge}
+use Rattle.query_spec.specs.declared.Op.TheVariants.{Ne, Lt, Ge}
 use Rattle.query_spec.specs.Holds.{Compares}
 use Rattle.definition_examples.specs.Bibliography.{int}
 

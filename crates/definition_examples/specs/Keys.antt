@@ -1,6 +1,5 @@
 -- `&a` has an edge `e` to `&b` and to `&c`, and of these `&c` alone has a key, an edge `k` to 5.
-use Rattle.std.specs.Prelude.{List, [], ◌∷◌, Option, Some, None, true, false, codes}
-use Rattle.sd_value.specs.declared.Value.{Value}
+use Rattle.std.specs.Prelude.{[], ◌∷◌, Some, None, true, false, codes}
 use Rattle.tmpl.specs.declared.Expr.{Expr}
 use Rattle.tmpl.specs.declared.Order as orders
 use Rattle.tmpl.specs.declared.WordRoot.TheVariants.{Here}

@@ -1,5 +1,5 @@
 -- `object o { v 1 v 2 }` and `WHERE y -> "v" -> x CREATE F(x, x)`: F(1, 1) is in the site, and F(1, 2) is not.
-use Rattle.std.specs.Prelude.{ℕ, List, [], ◌∷◌, Contains, pos}
+use Rattle.std.specs.Prelude.{ℕ, List, [], ◌∷◌, pos}
 use Rattle.std.proofs.Common.{refl, sym, subst, inl, inr, lit<}
 use Rattle.sd_value.specs.declared.Datum.TheVariants.{Int}
 use Rattle.sd_value.specs.declared.Value.{Value}

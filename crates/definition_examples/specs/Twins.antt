@@ -1,13 +1,11 @@
 -- Under version 2 a number and the text that spells it are equal, and no other text is equal to a number.
-use Rattle.std.specs.Prelude.{◌≡◌, pos, negsuc, ◌≤ℤ◌, ◌^◌, ◌-◌, List, [], ◌∷◌, Contains, codes}
-use Rattle.std.specs.Fmt.{digits, signed_decimal}
-use Rattle.std.proofs.Common.{refl, inl, inr, lit<, arith}
-use Rattle.sd_value.specs.declared.Value.{Value}
+use Rattle.std.specs.Prelude.{pos, codes}
+use Rattle.std.specs.Fmt.{digits}
+use Rattle.std.proofs.Common.{refl, inl, inr, arith}
 use Rattle.graph_spec.specs.DataGraph.{text}
 use Rattle.query_spec.specs.declared.Op.TheVariants.{Eq, Ne, Lt}
-use Rattle.query_spec.specs.Query.{constant, one_of}
-use Rattle.query_spec.specs.Holds.{Compares, AreTwins, Holds}
-use Rattle.definition_examples.specs.Bibliography.{int, graph}
+use Rattle.query_spec.specs.Holds.{Compares, AreTwins}
+use Rattle.definition_examples.specs.Bibliography.{int}
 
 are_twins : AreTwins 2 (pos 7) (codes "7")
 unfolding digits

@@ -1,23 +1,19 @@
 -- The two papers are a well-formed graph, and the years' chain is well made.
-use Rattle.std.specs.Prelude.{◌≡◌, ◌⊎◌, ◌≢◌, ◌≤◌, ℕ, List, [], ◌∷◌, Contains, All, AllPairs, IsTrue, map, pos, codes, true, false, Some, None}
+use Rattle.std.specs.Prelude.{◌≡◌, ◌≢◌, ◌≤◌, List, [], ◌∷◌, Contains, AllPairs, IsTrue, map, true, false}
 use Rattle.std.specs.List.{flat_map}
 use Rattle.std.specs.List.Sorted.{IsStrictlySortedBy}
-use Rattle.std.proofs.Common.{refl, sym, ap, subst, inl, inr, lit<, lit≤, arith}
-use Rattle.std.proofs.lemmas.List.Elements.{All-nil, All-cons}
+use Rattle.std.proofs.Common.{refl, inl, inr, lit<, lit≤, arith}
+use Rattle.std.proofs.lemmas.List.Elements.{All-nil}
 use Rattle.std.proofs.lemmas.List.Kept.{AllPairs-cons}
-use Rattle.sd_value.specs.declared.Datum.TheVariants.{Int, Text}
-use Rattle.sd_value.specs.declared.Value.TheVariants.{Data}
 use Rattle.sd_value.specs.Order.{value_cmp, datum_cmp}
-use Rattle.sd_value.specs.Members.{IsOneOf, IsOneOf-from_Contains}
+use Rattle.sd_value.specs.Members.{IsOneOf-from_Contains}
 use Rattle.graph_spec.specs.declared.Edge.{Edge}
 use Rattle.graph_spec.specs.declared.Member.{Member}
 use Rattle.graph_spec.specs.DataGraph.{IsWellFormed, IsEnd, Name}
-use Rattle.query_spec.specs.declared.Op.TheVariants.{Eq, Ne, Lt, Le, Gt, Ge}
 use Rattle.query_spec.specs.declared.Variable.{Variable}
 use Rattle.query_spec.specs.Mentions.{IsWellMade, IsFlat, names, arc_names, node_names, condition_positions}
-use Rattle.query_spec.specs.Holds.{Compares}
 use Rattle.definition_examples.specs.Tools.{Each, each-at, all, names_differ}
-use Rattle.definition_examples.specs.Bibliography.{graph, year, int}
+use Rattle.definition_examples.specs.Bibliography.{graph}
 use Rattle.definition_examples.specs.BibliographySite.{chain, x, l, v}
 
 -- what holds of each element of a list that is written out
