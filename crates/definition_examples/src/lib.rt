@@ -23,7 +23,7 @@ mod laws;
 mod pages;
 
 pub use laws::{AnySite, comparisons_agree, one_answer};
-pub use pages::{cycle_of_pages, missing_keys};
+pub use pages::{cycle_of_pages, missing_keys, worked_addresses};
 
 /// `object a { e &a }`, `x -> * -> y`: exactly (a, a).
 pub fn loop_row()
