@@ -1,0 +1,73 @@
+-- Rows and targets when nothing is bound.
+use Rattle.std.proofs.Common.{◌≡◌, ◌∙◌, ℕ, zero, suc, ◌+◌, List, [], ◌∷◌, ◌++◌, length, length-append, arith, ap, refl, subst, sym, ⊎_elim}
+use Rattle.std.specs.Prelude.{Option, None, Some, Contains, ◌↔◌, IsTrue, Bool, true, false}
+use Rattle.std.specs.Option.{MatchOption}
+use Rattle.std.specs.Ordering.{eq_by_cmp}
+use Rattle.sd_value.specs.declared.Value.{Value}
+use Rattle.sd_value.specs.declared.Value.TheVariants.{Data}
+use Rattle.sd_value.specs.declared.Datum.TheVariants.{Text}
+use Rattle.sd_value.specs.Order.{bytes_cmp}
+use Rattle.sd_value.specs.Members.{Contains-nil, Contains-cons_cases, Contains-here}
+use Rattle.sd_value.specs.Ascending.{ListsExactly}
+use Rattle.graph_spec.specs.DataGraph.{DataGraph, Name}
+use Rattle.query_spec.specs.Query.{Target, Chain, Collect}
+use Rattle.query_spec.specs.declared.Variable.{Variable}
+use Rattle.query_spec.specs.Holds.{Assignment}
+use Rattle.query_spec.specs.Rows.{value_in, row_cmp, IsRow, Agrees, IsAnswer}
+use Rattle.skolem.specs.Solved.{AllFree}
+use Rattle.site_spec.specs.Site.{IsTargetUnder, IsPut, SomeRow}
+use Rattle.site_asks.specs.Ends.{Gathered}
+use Rattle.site_asks.proofs.Rows.{row_long}
+use Rattle.site_asks.proofs.Targets.{target_same, name_is}
+
+-- a row of that length
+abbrev bound_row : ℕ → List Value
+bound_row zero = []
+bound_row (suc n) = Data (Text []) ∷ bound_row n
+
+bound_row_long : (n : ℕ) → length (bound_row n) ≡ n
+bound_row_long zero = refl
+bound_row_long (suc n) = ap suc (bound_row_long n)
+
+free_more : (row : List Value) (bound : List (Option Value)) (n : ℕ) → ((row : List Value) → length row ≡ n → Agrees row bound) → length bound ≡ n → length row ≡ n + 1 → Agrees row (bound ++ None ∷ [])
+free_more [] bound n f e l = absurd (omega (arith, l))
+free_more (x ∷ row) [] zero f e l = f row (omega (arith, l))
+free_more (x ∷ row) [] (suc n) f e l = absurd (omega (arith, e))
+free_more (x ∷ row) (o ∷ bound) zero f e l = absurd (omega (arith, e))
+free_more (x ∷ row) (None ∷ bound) (suc n) f e l = free_more row bound n (λ r k. f (x ∷ r) (ap suc k)) (omega (arith, e)) (omega (arith, l))
+free_more (x ∷ row) (Some w ∷ bound) (suc n) f e l =
+    ((f (x ∷ bound_row n) (ap suc (bound_row_long n))).0, free_more row bound n (λ r k. (f (x ∷ r) (ap suc k)).1) (omega (arith, e)) (omega (arith, l)))
+
+pub all_free_more : (n : ℕ) (bound : List (Option Value)) → AllFree n bound → AllFree (n + 1) (bound ++ None ∷ [])
+all_free_more n bound a = record { one_each = length-append bound (None ∷ []) ∙ ap (λ k. k + 1) a.one_each; free = λ row l. free_more row bound n a.free a.one_each l }
+
+pub targets_listed : (G : DataGraph) (c : Chain) (target : Target) (bound : List (Option Value)) (rows : List (List Value)) (vs : List Value)
+    → ((row : List Value) → length row ≡ length c.variables → Agrees row bound) → ListsExactly row_cmp (IsAnswer G c bound) rows
+    → Gathered (λ (row : List Value) (v : Value). IsTargetUnder (value_in c.variables row) target v) rows vs → (v : Value) → Contains vs v ↔ SomeRow G c (λ s. IsTargetUnder s target v)
+targets_listed G c target bound rows vs free exact g v =
+    (λ h. let r = g.sound v h in record { row = r.0; is_row = (exact.sound r.0 r.1).is_row; holds = r.2 },
+    λ s. g.complete s.row v (exact.complete s.row record { is_row = s.is_row; agrees = free s.row (row_long G c s.row s.is_row) }) s.holds)
+
+pub target_some : (t : Target) (s : Assignment) (o : Option Value) (v : Value) → o ≡ Some v → MatchOption o ((w : Value) → IsTargetUnder s t w → ⊥) (λ w. IsTargetUnder s t w) → IsTargetUnder s t v
+target_some t s o v e m = subst (λ (x : Option Value). MatchOption x ((w : Value) → IsTargetUnder s t w → ⊥) (λ w. IsTargetUnder s t w)) e m
+
+pub target_none : (t : Target) (s : Assignment) (o : Option Value) → o ≡ None → MatchOption o ((w : Value) → IsTargetUnder s t w → ⊥) (λ w. IsTargetUnder s t w) → (w : Value) → IsTargetUnder s t w → ⊥
+target_none t s o e m = subst (λ (x : Option Value). MatchOption x ((w : Value) → IsTargetUnder s t w → ⊥) (λ w. IsTargetUnder s t w)) e m
+
+pub only_target : (t : Target) (s : Assignment) (v w : Value) → IsTargetUnder s t v → Contains (v ∷ []) w → IsTargetUnder s t w
+only_target t s v w h i = ⊎_elim (λ e. subst (IsTargetUnder s t) e h) (λ n. absurd (Contains-nil w n)) (Contains-cons_cases v [] w i)
+
+pub is_only_target : (t : Target) (s : Assignment) (v w : Value) → IsTargetUnder s t v → IsTargetUnder s t w → Contains (v ∷ []) w
+is_only_target t s v w h i = subst (Contains (v ∷ [])) (target_same s t v w h i) (Contains-here v [])
+
+-- a COLLECT of this name
+pub put_same : (G : DataGraph) (c : Chain) (k : Collect) (name : Name) (b : Bool) (vs : List Value) → b ≡ eq_by_cmp bytes_cmp k.collection name → b ≡ true
+    → ((v : Value) → Contains vs v ↔ SomeRow G c (λ s. IsTargetUnder s k.target v)) → (v : Value) → Contains vs v ↔ IsPut G c name v k
+put_same G c k name b vs e t listed v = (λ h. ((name_is k.collection name b e).0 t, (listed v).0 h), λ p. (listed v).1 p.1)
+
+-- a COLLECT of another name
+pub put_other : (G : DataGraph) (c : Chain) (k : Collect) (name : Name) (b : Bool) (vs : List Value) → b ≡ eq_by_cmp bytes_cmp k.collection name → b ≡ false → vs ≡ [] → (v : Value) → Contains vs v ↔ IsPut G c name v k
+put_other G c k name b vs e t none v = (λ h. absurd (Contains-nil v (subst (λ (xs : List Value). Contains xs v) none h)), λ p. let yes = (name_is k.collection name b e).1 p.0 in absurd cc)
+
+pub free_at : (xs ys : List Variable) (values bound : List (Option Value)) → xs ≡ ys → bound ≡ values → ((row : List Value) → length row ≡ length xs → Agrees row values) → (row : List Value) → length row ≡ length ys → Agrees row bound
+free_at xs ys values bound e f free row l = subst (Agrees row) (sym f) (free row (l ∙ ap length (sym e)))

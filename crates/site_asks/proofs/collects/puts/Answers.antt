@@ -1,0 +1,27 @@
+use Rattle.std.proofs.Common.{◌≡◌, ◌∙◌, List, subst}
+use Rattle.std.specs.Prelude.{Contains}
+use Rattle.sd_value.specs.declared.Value.{Value}
+use Rattle.struql_ast.specs.declared.Collect.{Collect}
+use Rattle.struql_ast.specs.Reading.{collect_of}
+use Rattle.site_spec.specs.Site.{IsPut}
+use Rattle.query_site.specs.declared.Scoped.{Scoped}
+use Rattle.site_asks.specs.Ends.{Gathered, BlockPuts}
+use Rattle.site_asks.proofs.Some.{item_in}
+use Rattle.site_asks.proofs.Gather.{gathered_next, gathered_end}
+use Rattle.site_asks.proofs.Puts.{block_puts}
+use Rattle.site_asks.proofs.collects.puts.Goals as goal
+
+pub puts_of_block-requires : goal.puts_of_block-requires
+puts_of_block-requires g c = record { scoped = (c.args.scopes.now.version, c.requires.scoped c.block-item.result (subst (λ (bs : List Scoped). Contains bs c.block-item.result) c.as_slice-blocks.ensures.value (item_in _ _ _ c.loop-block-test.true c.block-item.is))) }
+
+pub loop-block-preserved : goal.loop-block-preserved
+loop-block-preserved g c =
+    let more = subst (λ G. Gathered (λ (k : Collect) (v : Value). IsPut G c.block-item.result.chain c.args.name.now v (collect_of k)) c.block-item.result.collects.items c.in_ok-more.more.items) c.loop-block.invariant.graph c.in_ok-more.ensures.values in
+    let here = block_puts (g.A.Asker.graph c.args.asker.now) c.args.name.now c.block-item.result c.in_ok-more.more.items more in
+    record {
+      graph = c.in_ok-more.ensures.graph ∙ c.loop-block.invariant.graph;
+      gathered = rw c.in_ok-append.ensures.items (gathered_next (BlockPuts (g.A.Asker.graph c.args.asker.now) c.args.name.now) c.as_slice-blocks.result.now c.loop-block.block-index c.block-item.result c.loop-block.values.items c.in_ok-more.more.items c.loop-block-test.true c.block-item.is c.loop-block.invariant.gathered (λ v h. (here v).0 h) (λ v h. (here v).1 h));
+    }
+
+pub returns-clause-values : goal.returns-clause-values
+returns-clause-values g c = subst (λ (bs : List Scoped). Gathered (BlockPuts (g.A.Asker.graph c.args.asker.now) c.args.name.now) bs c.loop-block.values.items) c.as_slice-blocks.ensures.value (gathered_end (BlockPuts (g.A.Asker.graph c.args.asker.now) c.args.name.now) c.as_slice-blocks.result.now c.loop-block.block-index c.loop-block.values.items c.loop-block-test.false c.loop-block.invariant.gathered)

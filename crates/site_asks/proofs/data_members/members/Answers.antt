@@ -1,0 +1,18 @@
+use Rattle.std.proofs.Common.{◌≡◌, List, subst}
+use Rattle.std.specs.Prelude.{Contains, ◌↔◌}
+use Rattle.sd_value.specs.declared.Value.{Value}
+use Rattle.graph_spec.specs.DataGraph.{Name}
+use Rattle.query_spec.specs.Query.{Chain, variable, plain}
+use Rattle.site_spec.specs.Site.{SomeRow, IsTargetUnder}
+use Rattle.site_asks.specs.MemberChain.{member_chain}
+use Rattle.site_asks.proofs.MemberRows.{member_chain_well_made, members_listed}
+use Rattle.site_asks.proofs.data_members.members.Goals as goal
+
+pub targets_of-requires : goal.targets_of-requires
+targets_of-requires g c = record { well_made = rw c.in_ok-chain.ensures (member_chain_well_made c.args.collection.now) }
+
+pub returns-clause-values : goal.returns-clause-values
+returns-clause-values g c =
+    let one = subst (λ (k : Chain). (v : Value) → Contains c.in_ok-values.values.items v ↔ SomeRow (g.A.Asker.graph c.args.asker.now) k (λ s. IsTargetUnder s (plain (variable c.in_ok-new.field-0)) v)) c.in_ok-chain.ensures c.in_ok-values.ensures.values in
+    let both = subst (λ (x : Name). (v : Value) → Contains c.in_ok-values.values.items v ↔ SomeRow (g.A.Asker.graph c.args.asker.now) (member_chain c.args.collection.now) (λ s. IsTargetUnder s (plain (variable x)) v)) c.in_ok-new.ensures one in
+    members_listed (g.A.Asker.graph c.args.asker.now) c.args.collection.now c.in_ok-values.values.items c.requires both

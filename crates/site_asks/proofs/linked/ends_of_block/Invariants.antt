@@ -1,0 +1,12 @@
+use Rattle.std.proofs.Common.{◌≡◌, take}
+use Rattle.sd_value.specs.declared.Value.TheVariants.{Page}
+use Rattle.struql_ast.specs.Reading.{link_of}
+use Rattle.site_spec.specs.Site.{IsJoined}
+use Rattle.site_asks.specs.Ends.{Gathered}
+use Rattle.site_asks.proofs.linked.ends_of_block.Given as goal
+
+abbrev pub invariant-loop-link : goal.invariant-loop-link
+invariant-loop-link g l = record {
+  graph : g.A.Asker.graph l.asker ≡ g.A.Asker.graph l.initial.asker;
+  gathered : Gathered (λ k v. IsJoined (g.A.Asker.graph l.initial.asker) l.block.chain (Page l.term) l.label v (link_of k)) (take l.link-index l.links) l.ends.items;
+}

@@ -1,0 +1,11 @@
+use Rattle.std.proofs.Common.{◌≡◌, take}
+use Rattle.struql_ast.specs.Reading.{term_of, link_of, collect_of}
+use Rattle.site_spec.specs.Site.{SomeOf, IsNamed, ends_of, target_terms}
+use Rattle.site_asks.proofs.Some.{NoneOf}
+use Rattle.site_asks.proofs.named.any_collect_named.Given as goal
+
+abbrev pub invariant-loop-collect : goal.invariant-loop-collect
+invariant-loop-collect g l = record {
+  graph : g.A.Asker.graph l.asker ≡ g.A.Asker.graph l.initial.asker;
+  none : NoneOf (λ k. SomeOf (IsNamed (g.A.Asker.graph l.initial.asker) l.chain l.term) (target_terms (collect_of k).target)) (take l.collect-index l.collects);
+}

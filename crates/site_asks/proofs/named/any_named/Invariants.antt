@@ -1,0 +1,11 @@
+use Rattle.std.proofs.Common.{◌≡◌, take}
+use Rattle.struql_ast.specs.Reading.{term_of, link_of, collect_of}
+use Rattle.site_spec.specs.Site.{SomeOf, IsNamed, ends_of, target_terms}
+use Rattle.site_asks.proofs.Some.{NoneOf}
+use Rattle.site_asks.proofs.named.any_named.Given as goal
+
+abbrev pub invariant-loop-written : goal.invariant-loop-written
+invariant-loop-written g l = record {
+  graph : g.A.Asker.graph l.asker ≡ g.A.Asker.graph l.initial.asker;
+  none : NoneOf (λ w. IsNamed (g.A.Asker.graph l.initial.asker) l.chain l.term (term_of w)) (take l.written-index l.terms);
+}

@@ -1,0 +1,36 @@
+use Rattle.std.proofs.Common.{◌≡◌, ◌∙◌, subst}
+use Rattle.std.specs.Prelude.{◌↔◌, IsTrue, List}
+use Rattle.struql_ast.specs.declared.Term0.{Term0}
+use Rattle.struql_ast.specs.declared.Link.{Link}
+use Rattle.struql_ast.specs.declared.Collect.{Collect}
+use Rattle.struql_ast.specs.Reading.{term_of, link_of, collect_of}
+use Rattle.site_spec.specs.Site.{IsNamed, SomeOf, terms_of, ends_of, target_terms}
+use Rattle.query_site.specs.Blocks.{body_of}
+use Rattle.site_asks.proofs.Some.{true_is}
+use Rattle.site_asks.proofs.Blocks.{from_creates, from_links, last_is, contains_create, contains_link, contains_collect, InCreates, InLinks, InCollects}
+use Rattle.site_asks.proofs.named.block_named.Goals as goal
+use Rattle.std.specs.Prelude.{Contains}
+
+pub any_named-requires-clause-declared : goal.any_named-requires-clause-declared
+any_named-requires-clause-declared g c = λ w h. c.requires.scoped.1.terms (term_of w) (contains_create c.args.block.now w (subst (λ (ws : List Term0). Contains ws w) c.as_slice.ensures.value h))
+
+pub any_link_named-requires-clause-declared : goal.any_link_named-requires-clause-declared
+any_link_named-requires-clause-declared g c = λ k t h i. c.requires.scoped.1.terms t (contains_link c.args.block.now k t (subst (λ (ks : List Link). Contains ks k) c.as_slice-2.ensures.value h) i)
+
+pub any_collect_named-requires-clause-declared : goal.any_collect_named-requires-clause-declared
+any_collect_named-requires-clause-declared g c = λ k t h i. c.requires.scoped.1.terms t (contains_collect c.args.block.now k t (subst (λ (ks : List Collect). Contains ks k) c.as_slice-3.ensures.value h) i)
+
+pub returns-then-branch-clause-answer : goal.returns-then-branch-clause-answer
+returns-then-branch-clause-answer g c =
+    true_is (SomeOf (IsNamed (g.A.Asker.graph c.args.asker.now) c.args.block.now.chain c.args.term.now) (terms_of (body_of c.args.block.now))) (from_creates (IsNamed (g.A.Asker.graph c.args.asker.now) c.args.block.now.chain c.args.term.now) c.args.block.now ((subst (λ (ws : List Term0). IsTrue c.in_ok-any_named.field-0 ↔ SomeOf (λ w. IsNamed (g.A.Asker.graph c.args.asker.now) c.args.block.now.chain c.args.term.now (term_of w)) ws) c.as_slice.ensures.value c.in_ok-any_named.ensures.answer).0 c.if-branch.true))
+
+pub returns-then-branch-2-clause-answer : goal.returns-then-branch-2-clause-answer
+returns-then-branch-2-clause-answer g c =
+    true_is (SomeOf (IsNamed (g.A.Asker.graph c.args.asker.now) c.args.block.now.chain c.args.term.now) (terms_of (body_of c.args.block.now))) (from_links (IsNamed (g.A.Asker.graph c.args.asker.now) c.args.block.now.chain c.args.term.now) c.args.block.now ((subst (λ (ks : List Link). IsTrue c.in_ok-any_link_named.field-0 ↔ SomeOf (λ k. SomeOf (IsNamed (g.A.Asker.graph c.args.asker.now) c.args.block.now.chain c.args.term.now) (ends_of (link_of k))) ks) c.as_slice-2.ensures.value (subst (λ G. IsTrue c.in_ok-any_link_named.field-0 ↔ SomeOf (λ k. SomeOf (IsNamed G c.args.block.now.chain c.args.term.now) (ends_of (link_of k))) c.as_slice-2.result.now) c.in_ok-any_named.ensures.graph c.in_ok-any_link_named.ensures.answer)).0 c.if-branch-2.true))
+
+pub returns-clause-answer : goal.returns-clause-answer
+returns-clause-answer g c =
+    last_is (IsNamed (g.A.Asker.graph c.args.asker.now) c.args.block.now.chain c.args.term.now) c.args.block.now c.in_ok-any_named.field-0 c.in_ok-any_link_named.field-0 c.in_ok-found.found c.if-branch.false c.if-branch-2.false
+    (subst (λ (ws : List Term0). IsTrue c.in_ok-any_named.field-0 ↔ SomeOf (λ w. IsNamed (g.A.Asker.graph c.args.asker.now) c.args.block.now.chain c.args.term.now (term_of w)) ws) c.as_slice.ensures.value c.in_ok-any_named.ensures.answer)
+    (subst (λ (ks : List Link). IsTrue c.in_ok-any_link_named.field-0 ↔ SomeOf (λ k. SomeOf (IsNamed (g.A.Asker.graph c.args.asker.now) c.args.block.now.chain c.args.term.now) (ends_of (link_of k))) ks) c.as_slice-2.ensures.value (subst (λ G. IsTrue c.in_ok-any_link_named.field-0 ↔ SomeOf (λ k. SomeOf (IsNamed G c.args.block.now.chain c.args.term.now) (ends_of (link_of k))) c.as_slice-2.result.now) c.in_ok-any_named.ensures.graph c.in_ok-any_link_named.ensures.answer))
+    (subst (λ (ks : List Collect). IsTrue c.in_ok-found.found ↔ SomeOf (λ k. SomeOf (IsNamed (g.A.Asker.graph c.args.asker.now) c.args.block.now.chain c.args.term.now) (target_terms (collect_of k).target)) ks) c.as_slice-3.ensures.value (subst (λ G. IsTrue c.in_ok-found.found ↔ SomeOf (λ k. SomeOf (IsNamed G c.args.block.now.chain c.args.term.now) (target_terms (collect_of k).target)) c.as_slice-3.result.now) (c.in_ok-any_link_named.ensures.graph ∙ c.in_ok-any_named.ensures.graph) c.in_ok-found.ensures.answer))

@@ -1,0 +1,29 @@
+use Rattle.std.proofs.Common.{◌≡◌, ◌∙◌, subst, refl, map}
+use Rattle.std.specs.Prelude.{◌↔◌, IsTrue, List, true, false, Contains}
+use Rattle.query_spec.specs.Query.{Body, Chain}
+use Rattle.site_spec.specs.Site.{IsNamed, SomeOf, terms_of}
+use Rattle.query_site.specs.declared.Scoped.{Scoped}
+use Rattle.query_site.specs.Blocks.{body_of}
+use Rattle.query_site.specs.Blocks.{scope_of}
+use Rattle.site_asks.proofs.Some.{test_true, test_false, test_end, item_in}
+use Rattle.site_asks.proofs.Blocks.{bodies_iff}
+use Rattle.site_asks.proofs.named.in_site.Goals as goal
+
+pub block_named-requires : goal.block_named-requires
+block_named-requires g c = record { scoped = (c.args.scopes.now.version, c.requires.scoped c.block-item.result (subst (λ (bs : List Scoped). Contains bs c.block-item.result) c.as_slice-blocks.ensures.value (item_in _ _ _ c.loop-block-test.true c.block-item.is))) }
+
+pub returns-then-branch-clause-answer : goal.returns-then-branch-clause-answer
+returns-then-branch-clause-answer g c =
+    bodies_iff (λ (k : Chain) (b : Body). SomeOf (IsNamed (g.A.Asker.graph c.args.asker.now) k c.args.term.now) (terms_of b)) (scope_of c.args.scopes.now) c.args.scopes.now.blocks.items true c.requires.scoped refl
+    (subst (λ (bs : List Scoped). IsTrue true ↔ SomeOf (λ (b : Scoped). SomeOf (IsNamed (g.A.Asker.graph c.args.asker.now) b.chain c.args.term.now) (terms_of (body_of b))) bs) c.as_slice-blocks.ensures.value (test_true (λ (b : Scoped). SomeOf (IsNamed (g.A.Asker.graph c.args.asker.now) b.chain c.args.term.now) (terms_of (body_of b))) c.as_slice-blocks.result.now c.in_ok-block_named.field-0 c.loop-block.block-index c.block-item.result c.if-branch.true (subst (λ G. IsTrue c.in_ok-block_named.field-0 ↔ SomeOf (IsNamed G c.block-item.result.chain c.args.term.now) (terms_of (body_of c.block-item.result))) c.loop-block.invariant.graph c.in_ok-block_named.ensures.answer) c.loop-block-test.true c.block-item.is))
+
+pub loop-block-preserved : goal.loop-block-preserved
+loop-block-preserved g c = record {
+  graph = c.in_ok-block_named.ensures.graph ∙ c.loop-block.invariant.graph;
+  none = test_false (λ (b : Scoped). SomeOf (IsNamed (g.A.Asker.graph c.args.asker.now) b.chain c.args.term.now) (terms_of (body_of b))) c.as_slice-blocks.result.now c.in_ok-block_named.field-0 c.loop-block.block-index c.block-item.result c.if-branch.false (subst (λ G. IsTrue c.in_ok-block_named.field-0 ↔ SomeOf (IsNamed G c.block-item.result.chain c.args.term.now) (terms_of (body_of c.block-item.result))) c.loop-block.invariant.graph c.in_ok-block_named.ensures.answer) c.loop-block-test.true c.block-item.is c.loop-block.invariant.none;
+}
+
+pub returns-clause-answer : goal.returns-clause-answer
+returns-clause-answer g c =
+    bodies_iff (λ (k : Chain) (b : Body). SomeOf (IsNamed (g.A.Asker.graph c.args.asker.now) k c.args.term.now) (terms_of b)) (scope_of c.args.scopes.now) c.args.scopes.now.blocks.items false c.requires.scoped refl
+    (subst (λ (bs : List Scoped). IsTrue false ↔ SomeOf (λ (b : Scoped). SomeOf (IsNamed (g.A.Asker.graph c.args.asker.now) b.chain c.args.term.now) (terms_of (body_of b))) bs) c.as_slice-blocks.ensures.value (test_end (λ (b : Scoped). SomeOf (IsNamed (g.A.Asker.graph c.args.asker.now) b.chain c.args.term.now) (terms_of (body_of b))) c.as_slice-blocks.result.now c.loop-block.block-index c.loop-block-test.false c.loop-block.invariant.none))

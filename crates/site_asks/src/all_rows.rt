@@ -1,0 +1,63 @@
+//! Targets under all rows of a chain.
+ghost use Rattle.std.specs.Prelude.{◌≡◌, ◌↔◌, List, length, Contains, IfOk};
+ghost use Rattle.sd_value.specs.declared.Value.{Value as AnyValue};
+ghost use Rattle.query_spec.specs.Mentions.{IsWellMade};
+ghost use Rattle.query_spec.specs.Rows.{value_in, Agrees};
+ghost use Rattle.struql_ast.specs.Reading.{target_of};
+ghost use Rattle.site_spec.specs.Site.{IsTargetUnder, SomeRow};
+ghost use Rattle.site_asks.specs.Ends.{Gathered};
+
+use crate::under::target_under;
+use asker::Asker;
+use query_spec::{Bound, Row, Variable};
+use sd_value::{NoMemory, Value};
+use std::alloc::Global;
+use struql_ast::{Chain, Target};
+
+// No value for any of so many variables.
+fn all_free(alloc: Global, count: usize) -> Result<Vec<Option<Value>>, NoMemory>
+    ensures long { IfOk result (λ values. length values.items ≡ count) }
+    ensures free { IfOk result (λ values. (row : List AnyValue) → length row ≡ count → Agrees row values.items) }
+{
+    let mut values = Vec::new(alloc);
+    for _number in 0..count {
+        values.push(None)?;
+    }
+    Ok(values)
+}
+
+// What the target is under each of the rows.
+fn targets_under(
+    alloc: Global,
+    variables: &[Variable],
+    rows: &[Row],
+    target: &Target,
+) -> Result<Vec<Value>, NoMemory>
+    ensures { IfOk result (λ vs. Gathered (λ row v. IsTargetUnder (value_in variables.now row) (target_of target.now) v) rows.now vs.items) }
+{
+    let mut values = Vec::new(alloc);
+    for row in rows {
+        if let Some(value) = target_under(alloc, variables, row.values(), target)? {
+            values.push(value)?;
+        }
+    }
+    Ok(values)
+}
+
+/// What the target is under the rows of the chain.
+pub fn targets_of<A: Asker>(
+    alloc: Global,
+    asker: &mut A,
+    chain: &Chain,
+    target: &Target,
+) -> Result<Vec<Value>, NoMemory>
+    requires well_made { IsWellMade chain.now }
+    ensures graph { A.graph asker.new ≡ A.graph asker.old }
+    ensures values { IfOk result (λ vs. (v : AnyValue) → Contains vs.items v ↔ SomeRow (A.graph asker.old) chain.now (λ s. IsTargetUnder s (target_of target.now) v)) }
+{
+    let free = all_free(alloc, chain.variables().len())?;
+    let bound = Bound::new(free);
+    let rows = asker.ask(alloc, chain, &bound)?;
+    let values = targets_under(alloc, chain.variables(), rows.as_slice(), target)?;
+    Ok(values)
+}

@@ -1,0 +1,99 @@
+//! The values collected under a name.
+ghost use Rattle.std.specs.Prelude.{◌≡◌, ◌↔◌, ℕ, List, length, Contains, IfOk};
+ghost use Rattle.sd_value.specs.declared.Value.{Value as AnyValue};
+ghost use Rattle.sd_value.specs.Order.{value_cmp};
+ghost use Rattle.sd_value.specs.Ascending.{ListsExactly};
+ghost use Rattle.graph_spec.specs.DataGraph.{IsWellFormed};
+ghost use Rattle.query_spec.specs.Mentions.{IsWellMade};
+ghost use Rattle.query_spec.specs.Rows.{value_in, Agrees};
+ghost use Rattle.struql_ast.specs.Reading.{target_of, collect_of};
+ghost use Rattle.site_spec.specs.Site.{IsTargetUnder, IsPut, Collected, SomeRow};
+ghost use Rattle.query_site.specs.Blocks.{IsScoped, AreScoped, scope_of};
+ghost use Rattle.site_asks.specs.Ends.{Gathered, BlockPuts};
+
+use crate::data_members::members;
+use crate::all_rows::targets_of;
+use asker::Asker;
+use query_site::{Scoped, Scopes};
+use sd_value::{NoMemory, Str, Value, sort_and_dedup};
+use std::alloc::Global;
+use struql_ast::{Chain, Collect};
+
+// What the COLLECT puts under the name.
+fn puts_of_collect<A: Asker>(
+    alloc: Global,
+    asker: &mut A,
+    chain: &Chain,
+    collect: &Collect,
+    name: &Str,
+) -> Result<Vec<Value>, NoMemory>
+    requires well_made { IsWellMade chain.now }
+    ensures graph { A.graph asker.new ≡ A.graph asker.old }
+    ensures values { IfOk result (λ vs. (v : AnyValue) → Contains vs.items v ↔ IsPut (A.graph asker.old) chain.now name.now v (collect_of collect.now)) }
+{
+    if collect.collection == *name {
+        let values = targets_of(alloc, asker, chain, &collect.target)?;
+        Ok(values)
+    } else {
+        Ok(Vec::new(alloc))
+    }
+}
+
+// What the COLLECTs of a block put under the name.
+fn puts_of_block<A: Asker>(
+    alloc: Global,
+    asker: &mut A,
+    block: &Scoped,
+    name: &Str,
+) -> Result<Vec<Value>, NoMemory>
+    requires scoped { (version : ℕ) × IsScoped version block.now }
+    ensures graph { A.graph asker.new ≡ A.graph asker.old }
+    ensures values { IfOk result (λ vs. Gathered (λ k v. IsPut (A.graph asker.old) block.now.chain name.now v (collect_of k)) block.now.collects.items vs.items) }
+{
+    let collects = block.collects.as_slice();
+    let mut values = Vec::new(alloc);
+    for collect in collects {
+        let mut more = puts_of_collect(alloc, asker, &block.chain, collect, name)?;
+        values.append(&mut more)?;
+    }
+    Ok(values)
+}
+
+// What the COLLECTs of the blocks put under the name.
+fn puts<A: Asker>(
+    alloc: Global,
+    asker: &mut A,
+    scopes: &Scopes,
+    name: &Str,
+) -> Result<Vec<Value>, NoMemory>
+    requires scoped { AreScoped scopes.now.version scopes.now.blocks.items }
+    ensures graph { A.graph asker.new ≡ A.graph asker.old }
+    ensures values { IfOk result (λ vs. Gathered (BlockPuts (A.graph asker.old) name.now) scopes.now.blocks.items vs.items) }
+{
+    let blocks = scopes.blocks.as_slice();
+    let mut values = Vec::new(alloc);
+    for block in blocks {
+        let mut more = puts_of_block(alloc, asker, block, name)?;
+        values.append(&mut more)?;
+    }
+    Ok(values)
+}
+
+/// The values collected under the name, ascending: by a COLLECT, or as members in the data.
+pub fn collected<A: Asker>(
+    alloc: Global,
+    asker: &mut A,
+    scopes: &Scopes,
+    name: &Str,
+) -> Result<Vec<Value>, NoMemory>
+    requires scoped { AreScoped scopes.now.version scopes.now.blocks.items }
+    requires well_formed { IsWellFormed (A.graph asker.old) }
+    ensures graph { A.graph asker.new ≡ A.graph asker.old }
+    ensures values { IfOk result (λ vs. ListsExactly value_cmp (Collected (A.graph asker.old) (scope_of scopes.now) name.now) vs.items) }
+{
+    let mut values = members(alloc, asker, name)?;
+    let mut more = puts(alloc, asker, scopes, name)?;
+    values.append(&mut more)?;
+    sort_and_dedup(&mut values);
+    Ok(values)
+}

@@ -1,0 +1,14 @@
+//! A query's site, asked of its data block by block.
+#![tactic(auto)]
+
+mod all_rows;
+mod collects;
+mod data_members;
+mod linked;
+mod named;
+mod under;
+
+pub use collects::collected;
+pub use data_members::{is_member, members, members_chain};
+pub use linked::{edges_out, links_out};
+pub use named::in_site;
