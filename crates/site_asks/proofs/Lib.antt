@@ -1,8 +1,8 @@
-mod Some
-mod Rows
-mod Blocks
-mod Gather
-mod Targets
-mod Free
-mod MemberRows
-mod Puts
+pub mod Some
+pub mod Rows
+pub mod Blocks
+pub mod Gather
+pub mod Targets
+pub mod Free
+pub mod MemberRows
+pub mod Puts

@@ -1,0 +1,3 @@
+pub mod Firsts
+pub mod Stays
+pub mod TemplateOf

@@ -1,0 +1,27 @@
+use Rattle.std.proofs.Common.{◌≡◌, ◌∙◌, sym, subst}
+use Rattle.std.specs.Prelude.{◌↔◌, IsTrue}
+use Rattle.graph_spec.specs.DataGraph.{IsWellFormed, HasMember}
+use Rattle.tmpl.specs.declared.NamedTemplate.{NamedTemplate}
+use Rattle.site_asks.proofs.Some.{test_false}
+use Rattle.click_time.proofs.Firsts.{first_at, first_end}
+use Rattle.click_time.proofs.named_templates.collection_template.Goals as goal
+
+pub is_member-requires : goal.is_member-requires
+is_member-requires g c = subst IsWellFormed (sym c.loop-named.invariant.graph) c.requires
+
+pub returns-then-branch-clause-answer : goal.returns-then-branch-clause-answer
+returns-then-branch-clause-answer g c =
+    first_at (λ name. HasMember (g.A.Asker.graph c.args.asker.now) name c.args.node.now) c.args.names.now c.loop-named.named-index c.named-item.result c.loop-named-test.true c.named-item.is c.loop-named.invariant.none
+    ((subst (λ G. IsTrue c.in_ok-is_member.field-0 ↔ HasMember G c.named-item.result.name c.args.node.now) c.loop-named.invariant.graph c.in_ok-is_member.ensures.answer).0 c.if-branch.true)
+
+pub loop-named-preserved : goal.loop-named-preserved
+loop-named-preserved g c = record {
+  graph = c.in_ok-is_member.ensures.graph ∙ c.loop-named.invariant.graph;
+  none =
+    test_false (λ (n : NamedTemplate). HasMember (g.A.Asker.graph c.args.asker.now) n.name c.args.node.now) c.args.names.now c.in_ok-is_member.field-0 c.loop-named.named-index c.named-item.result c.if-branch.false
+    (subst (λ G. IsTrue c.in_ok-is_member.field-0 ↔ HasMember G c.named-item.result.name c.args.node.now) c.loop-named.invariant.graph c.in_ok-is_member.ensures.answer)
+    c.loop-named-test.true c.named-item.is c.loop-named.invariant.none;
+}
+
+pub returns-clause-answer : goal.returns-clause-answer
+returns-clause-answer g c = first_end (λ name. HasMember (g.A.Asker.graph c.args.asker.now) name c.args.node.now) c.args.names.now c.loop-named.named-index c.loop-named-test.false c.loop-named.invariant.none

@@ -1,0 +1,10 @@
+use Rattle.std.proofs.Common.{◌≡◌, take}
+use Rattle.graph_spec.specs.DataGraph.{HasMember}
+use Rattle.click_time.proofs.Firsts.{NoneNamed}
+use Rattle.click_time.proofs.named_templates.collection_template.Given as goal
+
+abbrev pub invariant-loop-named : goal.invariant-loop-named
+invariant-loop-named g l = record {
+  graph : g.A.Asker.graph l.asker ≡ g.A.Asker.graph l.initial.asker;
+  none : NoneNamed (λ name. HasMember (g.A.Asker.graph l.initial.asker) name l.node) (take l.named-index l.names);
+}
