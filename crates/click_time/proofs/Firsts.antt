@@ -1,7 +1,6 @@
 -- The first template of which something holds.
-use Rattle.std.proofs.Common.{◌≡◌, ◌⊎◌, ℕ, zero, suc, ◌+◌, ◌<◌, ◌≤◌, List, [], ◌∷◌, length, get_or, take, map, inl, inr, ⊎_elim, sym, ap, ◌∙◌, subst, arith}
-use Rattle.std.specs.Prelude.{Contains, Option, Some, None, Bool, true, false, IsTrue, ◌↔◌}
-use Rattle.std.specs.Option.{MatchOption}
+use Rattle.std.proofs.Common.{◌≡◌, ℕ, zero, suc, ◌<◌, ◌≤◌, List, [], ◌∷◌, length, get_or, take, map, inl, inr, ⊎_elim, sym, ap, subst, arith}
+use Rattle.std.specs.Prelude.{Bool, false}
 use Rattle.std.proofs.lemmas.List.{take_all}
 use Rattle.sd_value.specs.Members.{Contains-here, Contains-there}
 use Rattle.tmpl.specs.declared.NamedTemplate.{NamedTemplate}

@@ -9,15 +9,15 @@ use Rattle.sd_value.specs.declared.Datum.TheVariants.{Int, Text, Url, File, Node
 use Rattle.sd_value.specs.declared.Value.{Value}
 use Rattle.sd_value.specs.declared.Value.TheVariants.{Data, Page}
 use Rattle.sd_value.specs.declared.Term.{Term}
-use Rattle.sd_value.specs.Members.{Contains-nil, Contains-here}
-use Rattle.graph_spec.specs.DataGraph.{DataGraph, Name, node, HasEdge, IsWellFormed, IsValueOf, IsLabelValueOf}
+use Rattle.sd_value.specs.Members.{Contains-here}
+use Rattle.graph_spec.specs.DataGraph.{DataGraph, Name, HasEdge, IsWellFormed, IsValueOf, IsLabelValueOf}
 use Rattle.query_spec.specs.declared.Variable.{Variable}
 use Rattle.query_spec.specs.Query.{Operand, variable, constant, SkolemTerm, Target, plain, made, Link, Collect, Body}
 use Rattle.query_spec.specs.Mentions.{same_name}
 use Rattle.query_spec.specs.Holds.{operand_value}
 use Rattle.query_spec.specs.Rows.{value_in, IsInDomain}
 use Rattle.page_spec.specs.Site.{MayStart}
-use Rattle.site_spec.specs.Site.{Scope, IsTermUnder, IsTargetUnder, IsNamed, InSite, IsJoined, Linked, IsPut, CollectedBy, Collected, SiteEdge, SomeOf, SomeRow, terms_of, ends_of, target_terms}
+use Rattle.site_spec.specs.Site.{Scope, IsTermUnder, IsTargetUnder, IsNamed, InSite, IsJoined, Linked, IsPut, CollectedBy, Collected, SiteEdge, SomeOf, terms_of, ends_of, target_terms}
 use Rattle.query_site.specs.declared.Scoped.{Scoped}
 use Rattle.query_site.specs.Blocks.{body_of, IsScoped, IsOfData}
 use Rattle.site_asks.proofs.Some.{some_from, some_left, some_right, flat_from}
@@ -69,17 +69,17 @@ collect_terms c = target_terms c.target
 link_term : (b : Body) (k : Link) (t : SkolemTerm) → Contains b.links k → Contains (target_terms k.target) t → Contains (terms_of b) t
 link_term b k t h i =
     let s =
-        some_left (λ u. u ≡ t) (b.creates ++ flat_map ends_of b.links) (flat_map collect_terms b.collects)
-        (some_right (λ u. u ≡ t) b.creates (flat_map ends_of b.links)
-        (flat_from (λ u. u ≡ t) ends_of b.links (some_from (λ k. SomeOf (λ u. u ≡ t) (ends_of k)) b.links k h
-        (some_from (λ u. u ≡ t) (ends_of k) t (Contains-append_right (target_terms k.source) (target_terms k.target) t i) refl)))) in
+    some_left (λ u. u ≡ t) (b.creates ++ flat_map ends_of b.links) (flat_map collect_terms b.collects)
+    (some_right (λ u. u ≡ t) b.creates (flat_map ends_of b.links)
+    (flat_from (λ u. u ≡ t) ends_of b.links (some_from (λ k. SomeOf (λ u. u ≡ t) (ends_of k)) b.links k h
+    (some_from (λ u. u ≡ t) (ends_of k) t (Contains-append_right (target_terms k.source) (target_terms k.target) t i) refl)))) in
     subst (Contains (terms_of b)) s.holds s.within
 
 collect_term : (b : Body) (k : Collect) (t : SkolemTerm) → Contains b.collects k → Contains (target_terms k.target) t → Contains (terms_of b) t
 collect_term b k t h i =
     let s =
-        some_right (λ u. u ≡ t) (b.creates ++ flat_map ends_of b.links) (flat_map collect_terms b.collects)
-        (flat_from (λ u. u ≡ t) collect_terms b.collects (some_from (λ k. SomeOf (λ u. u ≡ t) (collect_terms k)) b.collects k h (some_from (λ u. u ≡ t) (collect_terms k) t i refl))) in
+    some_right (λ u. u ≡ t) (b.creates ++ flat_map ends_of b.links) (flat_map collect_terms b.collects)
+    (flat_from (λ u. u ≡ t) collect_terms b.collects (some_from (λ k. SomeOf (λ u. u ≡ t) (collect_terms k)) b.collects k h (some_from (λ u. u ≡ t) (collect_terms k) t i refl))) in
     subst (Contains (terms_of b)) s.holds s.within
 
 named_in : (G : DataGraph) (q : Scope) (blocks : List Scoped) (b : Scoped) (t : SkolemTerm) (p : Term) → ((b : Scoped) → Contains blocks b → IsScoped q.version b) → q.bodies ≡ map body_of blocks

@@ -1,9 +1,8 @@
 -- The terms of a block, clause by clause.
 use Rattle.std.proofs.Common.{◌≡◌, ◌⊎◌, ◌++◌, List, map, inl, inr, ⊎_elim, refl, subst, sym}
-use Rattle.std.specs.Prelude.{Contains, Bool, true, false, IsTrue, ◌↔◌}
+use Rattle.std.specs.Prelude.{Contains, Bool, false, IsTrue, ◌↔◌}
 use Rattle.std.specs.List.{flat_map}
 use Rattle.query_spec.specs.Query.{SkolemTerm, Collect, Body, Chain}
-use Rattle.query_spec.specs.Mentions.{chain_of}
 use Rattle.struql_ast.specs.declared.Term0.{Term0}
 use Rattle.struql_ast.specs.declared.Link.{Link}
 use Rattle.struql_ast.specs.declared.Collect.{Collect as Written}
@@ -11,7 +10,7 @@ use Rattle.struql_ast.specs.Reading.{term_of, link_of, collect_of}
 use Rattle.site_spec.specs.Site.{Scope, SomeOf, terms_of, ends_of, target_terms, chain}
 use Rattle.query_site.specs.declared.Scoped.{Scoped}
 use Rattle.query_site.specs.Blocks.{body_of, IsScoped}
-use Rattle.site_asks.proofs.Some.{some_left, some_right, some_either, map_to, map_from, flat_to, flat_from, some_from, true_is}
+use Rattle.site_asks.proofs.Some.{some_left, some_right, some_either, map_to, map_from, flat_to, flat_from, some_from}
 
 abbrev pub InCreates : (SkolemTerm → Type 0) → Scoped → Type 0
 InCreates P b = SomeOf (λ w. P (term_of w)) b.creates.items
@@ -48,9 +47,10 @@ in_clauses P b s =
 
 -- the last clause decides where the first two have none
 pub last_is : (P : SkolemTerm → Type 0) (b : Scoped) (x y z : Bool) → x ≡ false → y ≡ false → IsTrue x ↔ InCreates P b → IsTrue y ↔ InLinks P b → IsTrue z ↔ InCollects P b → IsTrue z ↔ SomeOf P (terms_of (body_of b))
-last_is P b x y z ex ey hx hy hz =
-    (λ t. from_collects P b (hz.0 t),
-    λ s. ⊎_elim (λ k. let yes = hx.1 k in cc) (λ r. ⊎_elim (λ k. let yes = hy.1 k in cc) (λ k. hz.1 k) r) (in_clauses P b s))
+last_is P b x y z ex ey hx hy hz = (
+  λ t. from_collects P b (hz.0 t),
+  λ s. ⊎_elim (λ k. let yes = hx.1 k in cc) (λ r. ⊎_elim (λ k. let yes = hy.1 k in cc) (λ k. hz.1 k) r) (in_clauses P b s),
+)
 
 contains_of : (x : SkolemTerm) (xs : List SkolemTerm) → SomeOf (λ t. t ≡ x) xs → Contains xs x
 contains_of x xs s = subst (Contains xs) s.holds s.within

@@ -1,6 +1,6 @@
 -- Rows and targets when nothing is bound.
 use Rattle.std.proofs.Common.{◌≡◌, ◌∙◌, ℕ, zero, suc, ◌+◌, List, [], ◌∷◌, ◌++◌, length, length-append, arith, ap, refl, subst, sym, ⊎_elim}
-use Rattle.std.specs.Prelude.{Option, None, Some, Contains, ◌↔◌, IsTrue, Bool, true, false}
+use Rattle.std.specs.Prelude.{Option, None, Some, Contains, ◌↔◌, Bool, true, false}
 use Rattle.std.specs.Option.{MatchOption}
 use Rattle.std.specs.Ordering.{eq_by_cmp}
 use Rattle.sd_value.specs.declared.Value.{Value}
@@ -13,7 +13,7 @@ use Rattle.graph_spec.specs.DataGraph.{DataGraph, Name}
 use Rattle.query_spec.specs.Query.{Target, Chain, Collect}
 use Rattle.query_spec.specs.declared.Variable.{Variable}
 use Rattle.query_spec.specs.Holds.{Assignment}
-use Rattle.query_spec.specs.Rows.{value_in, row_cmp, IsRow, Agrees, IsAnswer}
+use Rattle.query_spec.specs.Rows.{value_in, row_cmp, Agrees, IsAnswer}
 use Rattle.skolem.specs.Solved.{AllFree}
 use Rattle.site_spec.specs.Site.{IsTargetUnder, IsPut, SomeRow}
 use Rattle.site_asks.specs.Ends.{Gathered}
@@ -44,9 +44,10 @@ all_free_more n bound a = record { one_each = length-append bound (None ∷ []) 
 pub targets_listed : (G : DataGraph) (c : Chain) (target : Target) (bound : List (Option Value)) (rows : List (List Value)) (vs : List Value)
     → ((row : List Value) → length row ≡ length c.variables → Agrees row bound) → ListsExactly row_cmp (IsAnswer G c bound) rows
     → Gathered (λ (row : List Value) (v : Value). IsTargetUnder (value_in c.variables row) target v) rows vs → (v : Value) → Contains vs v ↔ SomeRow G c (λ s. IsTargetUnder s target v)
-targets_listed G c target bound rows vs free exact g v =
-    (λ h. let r = g.sound v h in record { row = r.0; is_row = (exact.sound r.0 r.1).is_row; holds = r.2 },
-    λ s. g.complete s.row v (exact.complete s.row record { is_row = s.is_row; agrees = free s.row (row_long G c s.row s.is_row) }) s.holds)
+targets_listed G c target bound rows vs free exact g v = (
+  λ h. let r = g.sound v h in record { row = r.0; is_row = (exact.sound r.0 r.1).is_row; holds = r.2 },
+  λ s. g.complete s.row v (exact.complete s.row record { is_row = s.is_row; agrees = free s.row (row_long G c s.row s.is_row) }) s.holds,
+)
 
 pub target_some : (t : Target) (s : Assignment) (o : Option Value) (v : Value) → o ≡ Some v → MatchOption o ((w : Value) → IsTargetUnder s t w → ⊥) (λ w. IsTargetUnder s t w) → IsTargetUnder s t v
 target_some t s o v e m = subst (λ (x : Option Value). MatchOption x ((w : Value) → IsTargetUnder s t w → ⊥) (λ w. IsTargetUnder s t w)) e m

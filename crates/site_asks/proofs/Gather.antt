@@ -1,5 +1,5 @@
 -- Lists that are gathered item by item.
-use Rattle.std.proofs.Common.{◌≡◌, ◌⊎◌, ℕ, zero, suc, ◌+◌, ◌<◌, ◌≤◌, List, [], ◌∷◌, ◌++◌, length, get_or, take, inl, inr, ⊎_elim, sym, ap, ◌∙◌, refl, subst, arith}
+use Rattle.std.proofs.Common.{◌≡◌, ℕ, ◌+◌, ◌<◌, ◌≤◌, List, [], ◌∷◌, ◌++◌, length, get_or, take, ⊎_elim, sym, ap, ◌∙◌, subst, arith}
 use Rattle.std.specs.Prelude.{Contains}
 use Rattle.std.specs.declared.cmp.Ordering.{Ordering}
 use Rattle.std.proofs.lemmas.List.{take_more, take_all}
@@ -29,7 +29,6 @@ gathered_all cmp E from ends out g exact = record {
   sound = λ y h. g.sound y (exact.sound y h);
   complete = λ y (x, h, e). exact.complete y (g.complete x y h e);
 }
-
 
 -- an item that gives nothing
 pub gathered_skip : {X Y : Type 0} (E : X → Y → Type 0) (from : List X) (i : ℕ) (x : X) (ends : List Y) → i < length from → x ≡ get_or from i x → Gathered E (take i from) ends → ((y : Y) → E x y → ⊥) → Gathered E (take (i + 1) from) ends

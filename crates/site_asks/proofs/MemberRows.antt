@@ -1,10 +1,10 @@
 -- The rows of the chain of a collection's members.
-use Rattle.std.proofs.Common.{◌≡◌, ◌∙◌, ℕ, ◌<◌, List, [], ◌∷◌, length, refl, sym, ap, subst, arith, lit<, inl, ⊎_elim, ◌≢◌, ◌≤◌}
+use Rattle.std.proofs.Common.{◌≡◌, ◌∙◌, List, [], ◌∷◌, refl, sym, ap, subst, arith, lit<, inl, ⊎_elim, ◌≢◌, ◌≤◌}
 use Rattle.std.specs.Prelude.{AllPairs, false}
 use Rattle.sd_value.specs.Members.{Contains-nil, Contains-cons_cases, Contains-here}
 use Rattle.query_spec.specs.declared.Variable.{Variable}
 use Rattle.query_spec.specs.Mentions.{IsWellMade, IsFlat, condition_positions}
-use Rattle.std.specs.Prelude.{Some, Option, All, Contains}
+use Rattle.std.specs.Prelude.{Some, All, Contains}
 use Rattle.std.proofs.lemmas.List.Elements.{All-cons}
 use Rattle.sd_value.specs.declared.Value.{Value}
 use Rattle.graph_spec.specs.DataGraph.{DataGraph, Name, node, HasMember, IsWellFormed, IsValueOf}
@@ -66,19 +66,21 @@ node_same : (m n : Name) → node m ≡ node n → m ≡ n
 node_same m n e = cc
 
 pub member_asked : (G : DataGraph) (c n : Name) (b : Bool) → IsWellFormed G → IsTrue b ↔ SomeAnswer G (member_chain c) (Some (node n) ∷ []) → IsTrue b ↔ HasMember G c n
-member_asked G c n b w h =
-    (λ t.
-        let a = h.0 t in
-        let r = member_row G c a.row a.is_answer.is_row in
-        let agrees : Agrees (node r.0 ∷ []) (Some (node n) ∷ []) = subst (λ (row : List Value). Agrees row (Some (node n) ∷ [])) r.2 a.is_answer.agrees in
-        subst (HasMember G c) (node_same r.0 n agrees.0) r.1,
-    λ m. h.1 record { row = node n ∷ []; is_answer = record { is_row = row_member G c n (w.members_are_nodes record { collection = c; node = n } m) m; agrees = (refl, tt) } })
+member_asked G c n b w h = (
+  λ t.
+      let a = h.0 t in
+      let r = member_row G c a.row a.is_answer.is_row in
+      let agrees : Agrees (node r.0 ∷ []) (Some (node n) ∷ []) = subst (λ (row : List Value). Agrees row (Some (node n) ∷ [])) r.2 a.is_answer.agrees in
+      subst (HasMember G c) (node_same r.0 n agrees.0) r.1,
+  λ m. h.1 record { row = node n ∷ []; is_answer = record { is_row = row_member G c n (w.members_are_nodes record { collection = c; node = n } m) m; agrees = (refl, tt) } },
+)
 
 pub members_listed : (G : DataGraph) (c : Name) (vs : List Value) → IsWellFormed G → ((v : Value) → Contains vs v ↔ SomeRow G (member_chain c) (λ s. IsTargetUnder s (plain (variable only_name)) v)) → (v : Value) → Contains vs v ↔ ((n : Name) × HasMember G c n × (v ≡ node n))
-members_listed G c vs w listed v =
-    (λ h.
-        let s = (listed v).0 h in
-        let r = member_row G c s.row s.is_row in
-        let at : value_in (only_variable ∷ []) (node r.0 ∷ []) only_name ≡ Some v = subst (λ (row : List Value). value_in (only_variable ∷ []) row only_name ≡ Some v) r.2 s.holds in
-        (r.0, r.1, some_same v (node r.0) (sym at ∙ value_is (node r.0))),
-    λ (n, m, e). (listed v).1 record { row = node n ∷ []; is_row = row_member G c n (w.members_are_nodes record { collection = c; node = n } m) m; holds = value_is (node n) ∙ ap Some (sym e) })
+members_listed G c vs w listed v = (
+  λ h.
+      let s = (listed v).0 h in
+      let r = member_row G c s.row s.is_row in
+      let at : value_in (only_variable ∷ []) (node r.0 ∷ []) only_name ≡ Some v = subst (λ (row : List Value). value_in (only_variable ∷ []) row only_name ≡ Some v) r.2 s.holds in
+      (r.0, r.1, some_same v (node r.0) (sym at ∙ value_is (node r.0))),
+  λ (n, m, e). (listed v).1 record { row = node n ∷ []; is_row = row_member G c n (w.members_are_nodes record { collection = c; node = n } m) m; holds = value_is (node n) ∙ ap Some (sym e) },
+)

@@ -1,15 +1,14 @@
 -- Rows of a chain that are asked for by bound values.
-use Rattle.std.proofs.Common.{◌≡◌, ℕ, List, length, sym, subst}
+use Rattle.std.proofs.Common.{◌≡◌, List, length, subst}
 use Rattle.std.specs.Prelude.{Option, Some, None, ◌↔◌, IsTrue, Bool}
 use Rattle.std.specs.Option.{MatchOption}
 use Rattle.std.proofs.lemmas.Slice.Zip.{AllZip-long}
-use Rattle.std.specs.List.{AllZip}
 use Rattle.sd_value.specs.declared.Value.{Value}
 use Rattle.graph_spec.specs.DataGraph.{DataGraph}
 use Rattle.query_spec.specs.declared.Variable.{Variable}
 use Rattle.query_spec.specs.Query.{Chain}
 use Rattle.query_spec.specs.Holds.{Assignment}
-use Rattle.query_spec.specs.Rows.{IsRow, IsInDomain, IsAnswer, SomeAnswer}
+use Rattle.query_spec.specs.Rows.{IsRow, IsInDomain, SomeAnswer}
 use Rattle.skolem.specs.Solved.{Solves, HasNone}
 use Rattle.site_spec.specs.Site.{SomeRow}
 

@@ -1,6 +1,6 @@
 -- What a target is under a row is one value at most.
-use Rattle.std.proofs.Common.{◌≡◌, ◌∙◌, ◌⊎◌, List, [], ◌∷◌, map, refl, sym, ap, subst, ⊎_elim, inl, inr}
-use Rattle.std.specs.Prelude.{Option, Some, None, Bool, true, false, IsTrue, ◌↔◌, Contains}
+use Rattle.std.proofs.Common.{◌≡◌, ◌∙◌, List, [], ◌∷◌, map, refl, sym, ap, subst, ⊎_elim, inl, inr}
+use Rattle.std.specs.Prelude.{Option, Some, None, Bool, true, IsTrue, ◌↔◌, Contains}
 use Rattle.std.specs.Option.{MatchOption}
 use Rattle.std.specs.Ordering.{eq_by_cmp, is_eq}
 use Rattle.std.specs.declared.cmp.Ordering.{Ordering}
@@ -84,19 +84,20 @@ joined_source G c k t p label v e j = record { row = j.row; is_row = j.is_row; h
 pub joined_ends : (G : DataGraph) (c : Chain) (k : Link) (t : SkolemTerm) (p : Term) (label : Name) (bound : List (Option Value)) (rows : List (List Value)) (ends : List Value)
     → k.source ≡ made t → Solves c.variables (λ s. IsTermUnder s t p) bound → ListsExactly row_cmp (IsAnswer G c bound) rows
     → Gathered (λ (row : List Value) (v : Value). HasEnd k label (value_in c.variables row) v) rows ends → (v : Value) → Contains ends v ↔ IsJoined G c (Page p) label v k
-joined_ends G c k t p label bound rows ends e s exact g v =
-    (λ h.
-        let r = g.sound v h in
-        let a = exact.sound r.0 r.1 in
-        record {
-          row = r.0;
-          is_row = a.is_row;
-          holds = record { from = source_from (value_in c.variables r.0) t p k.source e (s.to r.0 (row_long G c r.0 a.is_row) a.agrees); by = r.2.0; to = r.2.1 };
-        },
-    λ j.
-        let under = source_to (value_in c.variables j.row) t p k.source e j.holds.from in
-        let listed = exact.complete j.row (record { is_row = j.is_row; agrees = s.from j.row (row_long G c j.row j.is_row) under }) in
-        g.complete j.row v listed (j.holds.by, j.holds.to))
+joined_ends G c k t p label bound rows ends e s exact g v = (
+  λ h.
+      let r = g.sound v h in
+      let a = exact.sound r.0 r.1 in
+      record {
+        row = r.0;
+        is_row = a.is_row;
+        holds = record { from = source_from (value_in c.variables r.0) t p k.source e (s.to r.0 (row_long G c r.0 a.is_row) a.agrees); by = r.2.0; to = r.2.1 };
+      },
+  λ j.
+      let under = source_to (value_in c.variables j.row) t p k.source e j.holds.from in
+      let listed = exact.complete j.row (record { is_row = j.is_row; agrees = s.from j.row (row_long G c j.row j.is_row) under }) in
+      g.complete j.row v listed (j.holds.by, j.holds.to),
+)
 
 pub end_some : (k : Link) (label : Name) (s : Assignment) (o : Option Value) (v : Value) → o ≡ Some v → MatchOption o ((w : Value) → HasEnd k label s w → ⊥) (λ w. HasEnd k label s w) → HasEnd k label s v
 end_some k label s o v e m = subst (λ (x : Option Value). MatchOption x ((w : Value) → HasEnd k label s w → ⊥) (λ w. HasEnd k label s w)) e m

@@ -11,8 +11,8 @@ ghost use Rattle.site_spec.specs.Site.{IsTargetUnder, IsPut, Collected, SomeRow}
 ghost use Rattle.query_site.specs.Blocks.{IsScoped, AreScoped, scope_of};
 ghost use Rattle.site_asks.specs.Ends.{Gathered, BlockPuts};
 
-use crate::data_members::members;
 use crate::all_rows::targets_of;
+use crate::data_members::members;
 use asker::Asker;
 use query_site::{Scoped, Scopes};
 use sd_value::{NoMemory, Str, Value, sort_and_dedup};

@@ -13,12 +13,12 @@ ghost use Rattle.site_spec.specs.Site.{terms_of};
 ghost use Rattle.query_site.specs.Blocks.{AllDeclared, IsScoped, AreScoped, body_of};
 ghost use Rattle.query_site.specs.Blocks.{scope_of};
 
-use query_site::{Scoped, Scopes};
 use asker::Asker;
+use query_site::{Scoped, Scopes};
 use sd_value::{NoMemory, Term};
 use skolem::matches;
 use std::alloc::Global;
-use struql_ast::{Chain, Term0, Target, Link, Collect};
+use struql_ast::{Chain, Collect, Link, Target, Term0};
 
 // Whether some row of the chain makes the written term name the page.
 fn is_named<A: Asker>(

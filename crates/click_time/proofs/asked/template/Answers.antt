@@ -1,4 +1,4 @@
-use Rattle.std.proofs.Common.{◌≡◌, ◌∙◌, ap}
+use Rattle.std.proofs.Common.{◌∙◌, ap}
 use Rattle.sd_value.specs.declared.Value.TheVariants.{Data}
 use Rattle.tmpl.specs.Reading.{file_of}
 use Rattle.click_time.proofs.TemplateOf.{of_page, of_node}

@@ -1,4 +1,4 @@
-use Rattle.std.proofs.Common.{◌≡◌, ◌∙◌, sym, subst}
+use Rattle.std.proofs.Common.{◌∙◌, sym, subst}
 use Rattle.std.specs.Prelude.{◌↔◌, IsTrue}
 use Rattle.graph_spec.specs.DataGraph.{IsWellFormed, HasMember}
 use Rattle.tmpl.specs.declared.NamedTemplate.{NamedTemplate}
@@ -18,9 +18,9 @@ pub loop-named-preserved : goal.loop-named-preserved
 loop-named-preserved g c = record {
   graph = c.in_ok-is_member.ensures.graph ∙ c.loop-named.invariant.graph;
   none =
-    test_false (λ (n : NamedTemplate). HasMember (g.A.Asker.graph c.args.asker.now) n.name c.args.node.now) c.args.names.now c.in_ok-is_member.field-0 c.loop-named.named-index c.named-item.result c.if-branch.false
-    (subst (λ G. IsTrue c.in_ok-is_member.field-0 ↔ HasMember G c.named-item.result.name c.args.node.now) c.loop-named.invariant.graph c.in_ok-is_member.ensures.answer)
-    c.loop-named-test.true c.named-item.is c.loop-named.invariant.none;
+      test_false (λ (n : NamedTemplate). HasMember (g.A.Asker.graph c.args.asker.now) n.name c.args.node.now) c.args.names.now c.in_ok-is_member.field-0 c.loop-named.named-index c.named-item.result c.if-branch.false
+      (subst (λ G. IsTrue c.in_ok-is_member.field-0 ↔ HasMember G c.named-item.result.name c.args.node.now) c.loop-named.invariant.graph c.in_ok-is_member.ensures.answer)
+      c.loop-named-test.true c.named-item.is c.loop-named.invariant.none;
 }
 
 pub returns-clause-answer : goal.returns-clause-answer

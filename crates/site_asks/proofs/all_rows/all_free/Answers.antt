@@ -1,4 +1,3 @@
-use Rattle.std.proofs.Common.{◌≡◌}
 use Rattle.site_asks.proofs.Free.{all_free_more}
 use Rattle.site_asks.proofs.all_rows.all_free.Goals as goal
 

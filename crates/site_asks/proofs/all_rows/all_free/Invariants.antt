@@ -1,4 +1,3 @@
-use Rattle.std.proofs.Common.{◌≡◌, length}
 use Rattle.skolem.specs.Solved.{AllFree}
 use Rattle.site_asks.proofs.all_rows.all_free.Given as goal
 

@@ -1,7 +1,7 @@
-use Rattle.std.proofs.Common.{◌≡◌, List, length, subst, ◌∙◌, ap}
+use Rattle.std.proofs.Common.{List, subst}
 use Rattle.sd_value.specs.declared.Value.{Value}
 use Rattle.query_spec.specs.declared.Variable.{Variable}
-use Rattle.query_spec.specs.Rows.{value_in, Agrees}
+use Rattle.query_spec.specs.Rows.{value_in}
 use Rattle.struql_ast.specs.Reading.{target_of}
 use Rattle.site_spec.specs.Site.{IsTargetUnder}
 use Rattle.site_asks.specs.Ends.{Gathered}

@@ -1,11 +1,10 @@
 use Rattle.std.proofs.Common.{◌≡◌, ◌++◌, ◌∷◌, [], List, arith, subst}
-use Rattle.std.specs.Prelude.{Option, MatchOption}
+use Rattle.std.specs.Prelude.{MatchOption}
 use Rattle.std.proofs.lemmas.Grind.{common_steps}
 use Rattle.sd_value.specs.declared.Value.{Value}
 use Rattle.query_spec.specs.Rows.{value_in}
 use Rattle.struql_ast.specs.Reading.{target_of}
 use Rattle.site_spec.specs.Site.{IsTargetUnder}
-use Rattle.site_asks.specs.Ends.{Gathered}
 use Rattle.site_asks.proofs.Gather.{gathered_next, gathered_skip, gathered_end}
 use Rattle.site_asks.proofs.Free.{target_some, target_none, only_target, is_only_target}
 use Rattle.site_asks.proofs.all_rows.targets_under.Goals as goal

@@ -1,4 +1,4 @@
-use Rattle.std.proofs.Common.{◌≡◌, refl, subst}
+use Rattle.std.proofs.Common.{refl, subst}
 use Rattle.query_site.specs.Blocks.{scope_of}
 use Rattle.site_asks.specs.Ends.{Gathered, BlockPuts}
 use Rattle.site_asks.proofs.Puts.{collected_lists}

@@ -1,4 +1,4 @@
-use Rattle.std.proofs.Common.{◌≡◌, ◌∙◌, List, subst}
+use Rattle.std.proofs.Common.{◌∙◌, List, subst}
 use Rattle.std.specs.Prelude.{Contains, ◌↔◌}
 use Rattle.sd_value.specs.declared.Value.{Value}
 use Rattle.struql_ast.specs.declared.Collect.{Collect}

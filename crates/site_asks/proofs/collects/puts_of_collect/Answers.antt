@@ -1,4 +1,3 @@
-use Rattle.std.proofs.Common.{◌≡◌}
 use Rattle.struql_ast.specs.Reading.{collect_of}
 use Rattle.site_asks.proofs.Free.{put_same, put_other}
 use Rattle.site_asks.proofs.collects.puts_of_collect.Goals as goal

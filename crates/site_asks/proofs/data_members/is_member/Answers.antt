@@ -1,9 +1,8 @@
-use Rattle.std.proofs.Common.{◌≡◌, ◌∷◌, [], List, Some, length, sym, subst, refl, ap, ◌∙◌, ◌++◌}
+use Rattle.std.proofs.Common.{◌≡◌, ◌∷◌, [], List, Some, subst, ap, ◌∙◌, ◌++◌}
 use Rattle.std.specs.Prelude.{◌↔◌, IsTrue, Option}
 use Rattle.sd_value.specs.declared.Value.{Value}
 use Rattle.graph_spec.specs.DataGraph.{node, Name}
 use Rattle.query_spec.specs.Query.{Chain}
-use Rattle.query_spec.specs.Mentions.{IsWellMade}
 use Rattle.query_spec.specs.Rows.{SomeAnswer}
 use Rattle.site_asks.specs.MemberChain.{member_chain}
 use Rattle.site_asks.proofs.MemberRows.{member_chain_well_made, member_asked}
@@ -15,8 +14,8 @@ exists-requires-clause-well_made g c = rw c.in_ok-chain.ensures (member_chain_we
 pub returns-clause-answer : goal.returns-clause-answer
 returns-clause-answer g c =
     let bound : c.new-bound.result ≡ Some (node c.args.name.now) ∷ [] =
-        c.new-bound.ensures ∙ c.in_ok-push.ensures.items ∙ ap (λ (xs : List (Option Value)). xs ++ Some (node c.in_ok-copy.field-0) ∷ []) c.new-values.ensures.items
-        ∙ ap (λ (n : Name). Some (node n) ∷ []) c.in_ok-copy.ensures in
+    c.new-bound.ensures ∙ c.in_ok-push.ensures.items ∙ ap (λ (xs : List (Option Value)). xs ++ Some (node c.in_ok-copy.field-0) ∷ []) c.new-values.ensures.items
+    ∙ ap (λ (n : Name). Some (node n) ∷ []) c.in_ok-copy.ensures in
     let one = subst (λ (k : Chain). IsTrue c.in_ok-found.found ↔ SomeAnswer (g.A.Asker.graph c.args.asker.now) k c.new-bound.result) c.in_ok-chain.ensures c.in_ok-found.ensures.answer in
     let both = subst (λ (b : List (Option Value)). IsTrue c.in_ok-found.found ↔ SomeAnswer (g.A.Asker.graph c.args.asker.now) (member_chain c.args.collection.now) b) bound one in
     member_asked (g.A.Asker.graph c.args.asker.now) c.args.collection.now c.args.name.now c.in_ok-found.found c.requires both

@@ -1,4 +1,3 @@
-use Rattle.std.proofs.Common.{◌≡◌}
 use Rattle.site_asks.proofs.Targets.{name_is}
 use Rattle.site_asks.proofs.linked.carries.Goals as goal
 

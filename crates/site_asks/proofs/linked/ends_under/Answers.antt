@@ -1,10 +1,10 @@
 use Rattle.std.proofs.Common.{◌≡◌, ◌++◌, ◌∷◌, [], List, arith, subst}
-use Rattle.std.specs.Prelude.{Option, MatchOption}
+use Rattle.std.specs.Prelude.{MatchOption}
 use Rattle.std.proofs.lemmas.Grind.{common_steps}
 use Rattle.sd_value.specs.declared.Value.{Value}
 use Rattle.query_spec.specs.Rows.{value_in}
 use Rattle.struql_ast.specs.Reading.{link_of}
-use Rattle.site_asks.specs.Ends.{HasEnd, Gathered}
+use Rattle.site_asks.specs.Ends.{HasEnd}
 use Rattle.site_asks.proofs.Gather.{gathered_next, gathered_skip, gathered_end}
 use Rattle.site_asks.proofs.Targets.{end_some, end_none, only_end, is_only_end}
 use Rattle.site_asks.proofs.linked.ends_under.Goals as goal

@@ -1,4 +1,4 @@
-use Rattle.std.proofs.Common.{◌≡◌, ◌∙◌, ap}
+use Rattle.std.proofs.Common.{◌∙◌, ap}
 use Rattle.sd_value.specs.declared.Value.TheVariants.{Data}
 use Rattle.site_asks.proofs.Targets.{text_is}
 use Rattle.site_asks.proofs.linked.is_text.Goals as goal

@@ -1,6 +1,6 @@
 use Rattle.std.proofs.Common.{◌≡◌, take}
-use Rattle.struql_ast.specs.Reading.{term_of, link_of, collect_of}
-use Rattle.site_spec.specs.Site.{SomeOf, IsNamed, ends_of, target_terms}
+use Rattle.struql_ast.specs.Reading.{collect_of}
+use Rattle.site_spec.specs.Site.{SomeOf, IsNamed, target_terms}
 use Rattle.site_asks.proofs.Some.{NoneOf}
 use Rattle.site_asks.proofs.named.any_collect_named.Given as goal
 

@@ -1,9 +1,8 @@
-use Rattle.std.proofs.Common.{◌≡◌, ◌∙◌, subst, refl}
+use Rattle.std.proofs.Common.{◌∙◌, subst}
 use Rattle.std.specs.Prelude.{◌↔◌, IsTrue}
-use Rattle.graph_spec.specs.DataGraph.{DataGraph}
 use Rattle.struql_ast.specs.declared.Link.{Link as Written}
-use Rattle.struql_ast.specs.Reading.{term_of, link_of, collect_of}
-use Rattle.site_spec.specs.Site.{SomeOf, IsNamed, ends_of, target_terms}
+use Rattle.struql_ast.specs.Reading.{link_of}
+use Rattle.site_spec.specs.Site.{SomeOf, IsNamed, ends_of}
 use Rattle.site_asks.proofs.Some.{test_true, test_false, test_end, item_in}
 use Rattle.site_asks.proofs.named.any_link_named.Goals as goal
 
@@ -20,9 +19,9 @@ pub loop-link-preserved : goal.loop-link-preserved
 loop-link-preserved g c = record {
   graph = c.in_ok-link_named.ensures.graph ∙ c.loop-link.invariant.graph;
   none =
-    test_false (λ (w : Written). SomeOf (IsNamed (g.A.Asker.graph c.args.asker.now) c.args.chain.now c.args.term.now) (ends_of (link_of w))) c.args.links.now c.in_ok-link_named.field-0 c.loop-link.link-index c.link-item.result c.if-branch.false
-    (subst (λ G. IsTrue c.in_ok-link_named.field-0 ↔ SomeOf (IsNamed G c.args.chain.now c.args.term.now) (ends_of (link_of c.link-item.result))) c.loop-link.invariant.graph c.in_ok-link_named.ensures.answer)
-    c.loop-link-test.true c.link-item.is c.loop-link.invariant.none;
+      test_false (λ (w : Written). SomeOf (IsNamed (g.A.Asker.graph c.args.asker.now) c.args.chain.now c.args.term.now) (ends_of (link_of w))) c.args.links.now c.in_ok-link_named.field-0 c.loop-link.link-index c.link-item.result c.if-branch.false
+      (subst (λ G. IsTrue c.in_ok-link_named.field-0 ↔ SomeOf (IsNamed G c.args.chain.now c.args.term.now) (ends_of (link_of c.link-item.result))) c.loop-link.invariant.graph c.in_ok-link_named.ensures.answer)
+      c.loop-link-test.true c.link-item.is c.loop-link.invariant.none;
 }
 
 pub returns-clause-answer : goal.returns-clause-answer

@@ -1,12 +1,10 @@
-use Rattle.std.proofs.Common.{◌≡◌, ◌∙◌, subst, refl}
+use Rattle.std.proofs.Common.{◌∙◌, subst}
 use Rattle.std.specs.Prelude.{◌↔◌, IsTrue}
-use Rattle.graph_spec.specs.DataGraph.{DataGraph}
 use Rattle.struql_ast.specs.declared.Term0.{Term0 as Written}
-use Rattle.struql_ast.specs.Reading.{term_of, link_of, collect_of}
-use Rattle.site_spec.specs.Site.{SomeOf, IsNamed, ends_of, target_terms}
-use Rattle.site_asks.proofs.Some.{test_true, test_false, test_end, item_in}
+use Rattle.struql_ast.specs.Reading.{term_of}
+use Rattle.site_spec.specs.Site.{IsNamed}
+use Rattle.site_asks.proofs.Some.{test_true, test_false, test_end}
 use Rattle.site_asks.proofs.named.any_named.Goals as goal
-
 
 pub returns-then-branch-clause-answer : goal.returns-then-branch-clause-answer
 returns-then-branch-clause-answer g c =
@@ -18,9 +16,9 @@ pub loop-written-preserved : goal.loop-written-preserved
 loop-written-preserved g c = record {
   graph = c.in_ok-is_named.ensures.graph ∙ c.loop-written.invariant.graph;
   none =
-    test_false (λ (w : Written). IsNamed (g.A.Asker.graph c.args.asker.now) c.args.chain.now c.args.term.now (term_of w)) c.args.terms.now c.in_ok-is_named.field-0 c.loop-written.written-index c.written-item.result c.if-branch.false
-    (subst (λ G. IsTrue c.in_ok-is_named.field-0 ↔ IsNamed G c.args.chain.now c.args.term.now (term_of c.written-item.result)) c.loop-written.invariant.graph c.in_ok-is_named.ensures.answer)
-    c.loop-written-test.true c.written-item.is c.loop-written.invariant.none;
+      test_false (λ (w : Written). IsNamed (g.A.Asker.graph c.args.asker.now) c.args.chain.now c.args.term.now (term_of w)) c.args.terms.now c.in_ok-is_named.field-0 c.loop-written.written-index c.written-item.result c.if-branch.false
+      (subst (λ G. IsTrue c.in_ok-is_named.field-0 ↔ IsNamed G c.args.chain.now c.args.term.now (term_of c.written-item.result)) c.loop-written.invariant.graph c.in_ok-is_named.ensures.answer)
+      c.loop-written-test.true c.written-item.is c.loop-written.invariant.none;
 }
 
 pub returns-clause-answer : goal.returns-clause-answer

@@ -1,4 +1,4 @@
-use Rattle.std.proofs.Common.{◌≡◌, ◌∙◌, subst}
+use Rattle.std.proofs.Common.{◌∙◌, subst}
 use Rattle.std.specs.Prelude.{◌↔◌, IsTrue, List}
 use Rattle.struql_ast.specs.declared.Term0.{Term0}
 use Rattle.struql_ast.specs.declared.Link.{Link}
@@ -7,7 +7,7 @@ use Rattle.struql_ast.specs.Reading.{term_of, link_of, collect_of}
 use Rattle.site_spec.specs.Site.{IsNamed, SomeOf, terms_of, ends_of, target_terms}
 use Rattle.query_site.specs.Blocks.{body_of}
 use Rattle.site_asks.proofs.Some.{true_is}
-use Rattle.site_asks.proofs.Blocks.{from_creates, from_links, last_is, contains_create, contains_link, contains_collect, InCreates, InLinks, InCollects}
+use Rattle.site_asks.proofs.Blocks.{from_creates, from_links, last_is, contains_create, contains_link, contains_collect}
 use Rattle.site_asks.proofs.named.block_named.Goals as goal
 use Rattle.std.specs.Prelude.{Contains}
 

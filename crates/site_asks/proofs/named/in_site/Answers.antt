@@ -1,4 +1,4 @@
-use Rattle.std.proofs.Common.{◌≡◌, ◌∙◌, subst, refl, map}
+use Rattle.std.proofs.Common.{◌∙◌, subst, refl}
 use Rattle.std.specs.Prelude.{◌↔◌, IsTrue, List, true, false, Contains}
 use Rattle.query_spec.specs.Query.{Body, Chain}
 use Rattle.site_spec.specs.Site.{IsNamed, SomeOf, terms_of}

@@ -1,5 +1,3 @@
-use Rattle.std.proofs.Common.{◌≡◌, subst}
-use Rattle.std.specs.Prelude.{◌↔◌, IsTrue}
 use Rattle.struql_ast.specs.Reading.{term_of}
 use Rattle.site_spec.specs.Site.{IsTermUnder, IsNamed}
 use Rattle.site_asks.proofs.Some.{false_is}

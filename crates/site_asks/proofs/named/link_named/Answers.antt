@@ -1,7 +1,7 @@
-use Rattle.std.proofs.Common.{◌≡◌, subst}
+use Rattle.std.proofs.Common.{subst}
 use Rattle.std.specs.Prelude.{◌↔◌, IsTrue}
-use Rattle.std.proofs.lemmas.List.Elements.{Contains-append_left, Contains-append_right}
-use Rattle.struql_ast.specs.Reading.{link_of, target_of}
+use Rattle.std.proofs.lemmas.List.Elements.{Contains-append_right}
+use Rattle.struql_ast.specs.Reading.{target_of}
 use Rattle.site_spec.specs.Site.{IsNamed, SomeOf, target_terms}
 use Rattle.site_asks.proofs.Some.{either_is}
 use Rattle.site_asks.proofs.named.link_named.Goals as goal
