@@ -13,7 +13,7 @@ use Rattle.page_spec.specs.Site.{InRange, HasKey, keyed_cmp}
 use Rattle.page_spec.specs.Pieces.{embed, HasTemplate, Pieces}
 use Rattle.page_spec.specs.Page.{Embeds, nowhere, on, Loops, Next, again, later, IsCyclicAt, IsOutcome}
 use Rattle.page_spec.proofs.Texts.{cyclic_unique}
-use Rattle.definition_examples.specs.Tools.{listed, names_differ}
+use Rattle.definition_examples.proofs.Tools.{listed, names_differ}
 use Rattle.definition_examples.specs.Cycle.{p, q, r, e, term, page, edges, site, ends, templates}
 
 abbrev function_of : Value → Name

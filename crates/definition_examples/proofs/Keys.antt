@@ -16,7 +16,8 @@ use Rattle.graph_spec.specs.DataGraph.{Name, node, HasEdge}
 use Rattle.page_spec.specs.declared.Keyed.{Keyed}
 use Rattle.page_spec.specs.Site.{InRange, HasKey, keyed_cmp, Arranged}
 use Rattle.page_spec.proofs.Unique.{key_unique}
-use Rattle.definition_examples.specs.Tools.{edge, listed, names_differ}
+use Rattle.definition_examples.specs.Tools.{edge}
+use Rattle.definition_examples.proofs.Tools.{listed, names_differ}
 use Rattle.definition_examples.specs.Bibliography.{int}
 use Rattle.definition_examples.specs.Keys.{a, b, c, e, k, graph, site, at_a, ends, ascending, descending}
 

@@ -1,2 +1,13 @@
+pub mod Tools
+pub mod LoopRow
+pub mod NegationRows
+pub mod StarRows
+pub mod Bibliography
+pub mod BibliographySite
+pub mod RepeatedArguments
+pub mod Agreement
+pub mod Comparisons
+pub mod Twins
+pub mod WellFormed
 pub mod Keys
 pub mod Cycle

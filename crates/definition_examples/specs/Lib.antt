@@ -3,11 +3,8 @@ pub mod LoopRow
 pub mod NegationRows
 pub mod StarRows
 pub mod Bibliography
-pub mod Comparisons
 pub mod RepeatedArguments
 pub mod BibliographySite
-pub mod WellFormed
-pub mod Twins
 pub mod Agreement
 pub mod Keys
 pub mod Cycle

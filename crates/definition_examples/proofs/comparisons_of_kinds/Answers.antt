@@ -1,4 +1,4 @@
-use Rattle.definition_examples.specs.Comparisons.{differ, not_below, not_above, by_number, by_bytes}
+use Rattle.definition_examples.proofs.Comparisons.{differ, not_below, not_above, by_number, by_bytes}
 use Rattle.definition_examples.proofs.comparisons_of_kinds.Goals as goal
 
 pub returns : goal.returns

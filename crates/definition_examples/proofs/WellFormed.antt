@@ -12,7 +12,7 @@ use Rattle.graph_spec.specs.declared.Member.{Member}
 use Rattle.graph_spec.specs.DataGraph.{IsWellFormed, IsEnd, Name}
 use Rattle.query_spec.specs.declared.Variable.{Variable}
 use Rattle.query_spec.specs.Mentions.{IsWellMade, IsFlat, names, arc_names, node_names, condition_positions}
-use Rattle.definition_examples.specs.Tools.{Each, each-at, all, names_differ}
+use Rattle.definition_examples.proofs.Tools.{Each, each-at, all, names_differ}
 use Rattle.definition_examples.specs.Bibliography.{graph}
 use Rattle.definition_examples.specs.BibliographySite.{chain, x, l, v}
 
