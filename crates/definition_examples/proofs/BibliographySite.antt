@@ -1,7 +1,7 @@
 -- The site of the two papers: a home page, a page for each paper, and a page for each year.
 use Rattle.std.specs.Prelude.{◌≡◌, ◌⊎◌, ℕ, List, [], ◌∷◌, Contains, Option, Some, pos, codes}
 use Rattle.std.specs.List.Sorted.{IsStrictlySortedBy}
-use Rattle.std.proofs.Common.{refl, sym, ap, subst, inl, inr, lit<, arith, true, false}
+use Rattle.std.proofs.Common.{refl, sym, ap, subst, inl, inr, lit<, arith}
 use Rattle.sd_value.specs.declared.Datum.TheVariants.{Int, Node}
 use Rattle.sd_value.specs.declared.Value.{Value}
 use Rattle.sd_value.specs.declared.Value.TheVariants.{Data, Page}
@@ -20,17 +20,17 @@ use Rattle.site_spec.specs.Root.{root_function}
 use Rattle.definition_examples.specs.Tools.{edge}
 use Rattle.definition_examples.proofs.Tools.{listed, all, each, names_differ, HasEdge-at}
 use Rattle.definition_examples.specs.Bibliography.{graph, pub1, pub2, author, title, year, int}
-use Rattle.definition_examples.specs.BibliographySite.{x, l, v, root_page, paper_page, year_page, home, papers, years, query, in_scope, chain, row, rows, year_term, paper_term, scope}
+use Rattle.definition_examples.specs.BibliographySite.{x, l, v, root_page, paper_page, year_page, home, papers, query, in_scope, chain, row, rows, year_term, paper_term, scope, scoped_years, variables}
 
 pub root_is_the_home_page : root_function query ≡ Some (codes "RootPage")
 root_is_the_home_page = refl
 
 -- a nested block has the conditions of the block round it
-pub three_blocks : blocks_in_scope query ≡ home ∷ papers ∷ record years { conditions = in_scope } ∷ []
+pub three_blocks : blocks_in_scope query ≡ home ∷ papers ∷ scoped_years ∷ []
 three_blocks = refl
 
 -- the nested block's variables: l is an arc variable, since the block round it has it between arrows
-pub three_variables : variables_of in_scope ≡ record { name = x; arc = false } ∷ record { name = l; arc = true } ∷ record { name = v; arc = false } ∷ []
+pub three_variables : variables_of in_scope ≡ variables
 three_variables = refl
 
 has_1998 : IsRow graph chain (row pub1 1998)
@@ -91,9 +91,6 @@ only_rows (a ∷ b ∷ c ∷ d ∷ rest) s = absurd s.in_domain.1.1.1
 pub exactly_two_years : ListsExactly row_cmp (IsRow graph chain) rows
 unfolding IsStrictlySortedBy value_cmp datum_cmp
 exactly_two_years = listed row_cmp (IsRow graph chain) rows ((refl, tt), (tt, tt)) (has_1998, (has_1997, tt)) only_rows
-
-abbrev scoped_years : Body
-scoped_years = record years { conditions = in_scope }
 
 pub year_1998_is_a_page : InSite graph scope (year_term 1998)
 year_1998_is_a_page = record {

@@ -6,12 +6,13 @@
 --       { WHERE l = "year"
 --         CREATE YearPage(v)
 --         LINK YearPage(v) -> "Year" -> v, YearPage(v) -> "Paper" -> PaperPage(x), RootPage() -> "Year" -> YearPage(v) } }
-use Rattle.std.specs.Prelude.{ℕ, List, [], ◌∷◌, pos, codes}
+use Rattle.std.specs.Prelude.{ℕ, List, [], ◌∷◌, pos, codes, true, false}
 use Rattle.sd_value.specs.declared.Datum.TheVariants.{Int, Node}
 use Rattle.sd_value.specs.declared.Value.{Value}
 use Rattle.sd_value.specs.declared.Term.{Term}
 use Rattle.graph_spec.specs.DataGraph.{Name, node, text}
 use Rattle.query_spec.specs.declared.Op.TheVariants.{Eq}
+use Rattle.query_spec.specs.declared.Variable.{Variable}
 use Rattle.query_spec.specs.Query.{variable, constant, arc_variable, member, path, compare, Condition, SkolemTerm, plain, made, quoted, label_variable, Body, Query, no_blocks, block, Chain}
 use Rattle.query_spec.specs.Mentions.{chain_of}
 use Rattle.site_spec.specs.Site.{Scope, scope_of}
@@ -64,6 +65,14 @@ query = record { version = 1; input = codes "Bib"; blocks = block home no_blocks
 
 abbrev pub in_scope : List Condition
 in_scope = member publications x ∷ path (variable x) (arc_variable l) (variable v) ∷ compare (variable l) Eq (constant (text year)) ∷ []
+
+-- the nested block has the conditions of the block round it
+abbrev pub scoped_years : Body
+scoped_years = record years { conditions = in_scope }
+
+-- its variables: l is an arc variable, since the block round it has it between arrows
+abbrev pub variables : List Variable
+variables = record { name = x; arc = false } ∷ record { name = l; arc = true } ∷ record { name = v; arc = false } ∷ []
 
 abbrev pub chain : Chain
 chain = chain_of 1 in_scope

@@ -7,7 +7,8 @@ ghost use Rattle.sd_value.specs.declared.Value.TheVariants.{Page};
 ghost use Rattle.sd_value.specs.Ascending.{ListsExactly};
 ghost use Rattle.query_spec.specs.Rows.{IsRow, row_cmp};
 ghost use Rattle.graph_spec.specs.DataGraph.{IsWellFormed, text};
-ghost use Rattle.query_spec.specs.Mentions.{IsWellMade};
+ghost use Rattle.query_spec.specs.Mentions.{IsWellMade, variables_of};
+ghost use Rattle.query_spec.specs.Query.{blocks_in_scope};
 ghost use Rattle.query_spec.specs.Holds.{Compares};
 ghost use Rattle.query_spec.specs.declared.Op.TheVariants.{Eq, Ne, Lt, Ge};
 ghost use Rattle.site_spec.specs.Site.{InSite, Linked, scope_of};
@@ -54,6 +55,8 @@ pub fn repeated_arguments()
 
 /// A home page, and a page for each paper and for each year: the nested block has the conditions of the block round it.
 pub fn bibliography_site()
+    ensures blocks { blocks_in_scope site.query ≡ site.home ∷ site.papers ∷ site.scoped_years ∷ [] }
+    ensures variables { variables_of site.in_scope ≡ site.variables }
     ensures root { root_function site.query ≡ Some (codes "RootPage") }
     ensures years { ListsExactly row_cmp (IsRow papers.graph site.chain) site.rows }
     ensures year_1998 { InSite papers.graph site.scope (site.year_term 1998) }
