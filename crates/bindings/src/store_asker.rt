@@ -15,6 +15,7 @@ use store::Store;
 use struql_ast::Chain;
 
 /// An asker over any store. Its graph is the store's, and its count begins at 0.
+#[derive(Drop)]
 pub struct StoreAsker<S> {
     store: S,
     given: u128,

@@ -17,6 +17,7 @@ use std::alloc::Global;
 use tmpl::Templates;
 
 /// The site of a query's blocks over the data that an asker answers for, with a file of templates.
+#[derive(Drop)]
 pub struct Click<'q, A> {
     asker: A,
     scopes: &'q Scopes,
