@@ -3,7 +3,7 @@ use Rattle.std.specs.Prelude.{ℕ, List, [], ◌∷◌, Bool, true, false, ◌&&
 use Rattle.std.specs.List.{list_all}
 use Rattle.std.specs.Str.{bytes_eq, is_utf8}
 use Rattle.command_words.specs.declared.Command.{Command}
-use Rattle.command_words.specs.declared.Command.TheVariants.{Data}
+use Rattle.command_words.specs.declared.Command.TheVariants.{Page, Data}
 
 -- a word of two bytes or more that begins with a dash
 abbrev pub is_option : List ℕ → Bool
@@ -27,6 +27,11 @@ positionals (word ∷ words) =
     else if is_option word then None
     else option_map (λ rest. word ∷ rest) (positionals words)
 
+-- the words after `page`
+abbrev pub page_command : List (List ℕ) → Option Command
+page_command (query ∷ templates ∷ address ∷ source ∷ sources) = Some (Page (record { query = query; templates = templates; address = address; sources = source ∷ sources }))
+page_command words = None
+
 -- the words after `data`
 abbrev pub data_command : List (List ℕ) → Option Command
 data_command (source ∷ sources) = Some (Data (record { sources = source ∷ sources }))
@@ -36,7 +41,8 @@ data_command [] = None
 abbrev pub named_command : List ℕ → Option (List (List ℕ)) → Option Command
 named_command name None = None
 named_command name (Some words) =
-    if bytes_eq name (codes "data") then data_command words
+    if bytes_eq name (codes "page") then page_command words
+    else if bytes_eq name (codes "data") then data_command words
     else None
 
 abbrev pub word_command : List (List ℕ) → Option Command

@@ -45,6 +45,15 @@ impl Paths {
     }
 }
 
+/// `page QUERY TEMPLATES ADDRESS DATA..`: one page is printed.
+#[derive(Debug, Drop)]
+pub struct PageCommand {
+    pub query: Str,
+    pub templates: Str,
+    pub address: Str,
+    pub sources: Paths,
+}
+
 /// `data DATA..`: the union of the data is printed.
 #[derive(Debug, Drop)]
 pub struct DataCommand {
@@ -54,6 +63,7 @@ pub struct DataCommand {
 /// What the program is asked to do.
 #[derive(Debug, Drop)]
 pub enum Command {
+    Page(PageCommand),
     Data(DataCommand),
 }
 
@@ -84,6 +94,23 @@ fn are_words(words: &[Str]) -> bool
     words.iter().all(|word| is_word(word.bytes()))
 }
 
+fn page_command(alloc: Global, words: &[Str]) -> Result<Option<Command>, NoMemory>
+    ensures { IfOk result (λ given. given ≡ specs.page_command words.now) }
+{
+    let [query, templates, address, sources @ ..] = words else {
+        return Ok(None);
+    };
+    if sources.is_empty() {
+        return Ok(None);
+    }
+    Ok(Some(Command::Page(PageCommand {
+        query: query.copy(alloc)?,
+        templates: templates.copy(alloc)?,
+        address: address.copy(alloc)?,
+        sources: Paths::of(alloc, sources)?,
+    })))
+}
+
 fn data_command(alloc: Global, words: &[Str]) -> Result<Option<Command>, NoMemory>
     ensures { IfOk result (λ given. given ≡ specs.data_command words.now) }
 {
@@ -99,6 +126,7 @@ fn named_command(alloc: Global, name: &[u8], words: &Paths) -> Result<Option<Com
     ensures { IfOk result (λ given. given ≡ specs.named_command name.now (Some words.now)) }
 {
     match name {
+        b"page" => page_command(alloc, words.items()),
         b"data" => data_command(alloc, words.items()),
         _ => Ok(None),
     }

@@ -1,3 +1,6 @@
 pub mod Runs
 pub mod Sources
+pub mod Sites
+pub mod Values
+pub mod Pages
 pub mod Top

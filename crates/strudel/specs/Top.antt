@@ -4,13 +4,14 @@ use Rattle.std.specs.Prelude as prelude
 use Rattle.edge_io.specs.Files.{FileMap}
 use Rattle.edge_io.specs.Sink.{Gains, GainsPart}
 use Rattle.edge_io.specs.Counts.{Rose}
+use Rattle.strudel.specs.Pages.{PageEnds}
 use Rattle.strudel.specs.Sources.{DataEnds}
 use Rattle.strudel.specs.declared.fault.Fault.{Fault}
 use Rattle.strudel.specs.declared.fault.Fault.TheVariants as fault
 use Rattle.run_report.specs.declared.status.Status.{Status}
 use Rattle.run_report.specs.declared.status.Status.TheVariants.{Ok, NotAllYes, Usage, Refused, ReadFault, WriteFault, WireFault, PageFault, NoMemory, NotFound, TurnsSpent}
 use Rattle.command_words.specs.declared.Command.{Command}
-use Rattle.command_words.specs.declared.Command.TheVariants.{Data}
+use Rattle.command_words.specs.declared.Command.TheVariants.{Page, Data}
 
 -- the status of a command that ends with this fault
 abbrev pub status_of : Fault → Status
@@ -22,6 +23,7 @@ status_of fault.NoMemory = NoMemory
 
 -- the answer of a command: the text that it writes, or the fault that it ends with
 abbrev pub Answers : FileMap → Command → Result (List ℕ) Fault → Type 0
+Answers map (Page command) = PageEnds map command
 Answers map (Data command) = DataEnds map command.sources
 
 -- the command's text was put

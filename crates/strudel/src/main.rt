@@ -4,6 +4,8 @@
 mod data;
 mod fault;
 mod inputs;
+mod page;
+mod site;
 #[cfg(test)]
 mod tests;
 mod told;

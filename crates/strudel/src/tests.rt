@@ -20,6 +20,15 @@ const A: &str = "object a in C { n 1 }";
 
 const OPEN: &str = "object a {";
 
+const BIB: &str =
+    "object pub1 in Publications { title \"Strudel\" year 1998 author \"Mary\" author \"Dan\" }\nobject pub2 in Publications { title \"Lorel <1>\" year 1997 author \"Dan\" }\n";
+
+const QUERY: &str =
+    "INPUT Bib { CREATE RootPage() } { WHERE Publications(x), x -> l -> v CREATE PaperPage(x) LINK PaperPage(x) -> l -> v, RootPage() -> \"Paper\" -> PaperPage(x) } OUTPUT Home";
+
+const TEMPLATES: &str =
+    "<TEMPLATE RootPage><h1>Home</h1><SFMT @Paper LINK=title DELIM=\", \"></TEMPLATE><TEMPLATE PaperPage><h1><SFMT @title></h1><SFMT @author DELIM=\" and \"></TEMPLATE>";
+
 const CONFLICT: &str =
     "collection A { u url } collection B { u file } object o in A, B { u \"x\" }";
 
@@ -44,7 +53,14 @@ fn texts(alloc: Global, words: &[&str]) -> Result<Vec<Str>, NoMemory> {
 
 fn files(alloc: Global, failing: &[u64]) -> Result<MemFiles, NoMemory> {
     let mut files = Vec::new(alloc);
-    for (path, bytes) in [("a", A), ("open", OPEN), ("conflict", CONFLICT)] {
+    for (path, bytes) in [
+        ("a", A),
+        ("open", OPEN),
+        ("conflict", CONFLICT),
+        ("bib", BIB),
+        ("q", QUERY),
+        ("t", TEMPLATES),
+    ] {
         files.push(MemFile {
             path: Str::new(alloc, path.as_bytes())?,
             bytes: Str::new(alloc, bytes.as_bytes())?,
@@ -74,6 +90,26 @@ fn data_is_printed(rt: HostRuntime) -> Result<(), Fail> {
 }
 
 #[test]
+fn pages_are_printed(rt: HostRuntime) -> Result<(), Fail> {
+    let paper = "<h1>Lorel &lt;1&gt;</h1>Dan";
+    let words: &'static [&'static str] = &["page", "q", "t", "/PaperPage/npub2.html", "bib"];
+    check_row(&rt, &expects(words, 0, paper, ""))?;
+    let home =
+        "<h1>Home</h1><a href=\"/PaperPage/npub2.html\">Lorel &lt;1&gt;</a>, <a href=\"/PaperPage/npub1.html\">Strudel</a>";
+    check_row(&rt, &expects(&["page", "q", "t", "/", "bib"], 0, home, ""))?;
+    let missing = "strudel: not found\n";
+    check_row(
+        &rt,
+        &expects(
+            &["page", "q", "t", "/PaperPage/npub3.html", "bib"],
+            9,
+            "",
+            missing,
+        ),
+    )
+}
+
+#[test]
 fn words_are_wrong(rt: HostRuntime) -> Result<(), Fail> {
     let line = "strudel: bad command line\n";
     check_row(&rt, &expects(&[], 2, "", line))?;
@@ -85,7 +121,7 @@ fn words_are_wrong(rt: HostRuntime) -> Result<(), Fail> {
 fn inputs_are_refused(rt: HostRuntime) -> Result<(), Fail> {
     check_row(
         &rt,
-        &row(
+        &expects(
             &["data", "a", "open"],
             3,
             "",
@@ -94,7 +130,7 @@ fn inputs_are_refused(rt: HostRuntime) -> Result<(), Fail> {
     )?;
     check_row(
         &rt,
-        &row(
+        &expects(
             &["data", "conflict"],
             3,
             "",

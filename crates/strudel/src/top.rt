@@ -10,6 +10,7 @@ ghost use Rattle.strudel.specs.Top.{Answers, RunEnds, ReadRose, IsSilent};
 
 use crate::data::data;
 use crate::fault::Fault;
+use crate::page::page;
 use command_words::{Command, read_command};
 use edge_io::{Files, Sink};
 use run_report::{Status, report};
@@ -23,6 +24,7 @@ fn answer<F: Files>(alloc: Global, files: &mut F, command: &Command) -> Result<S
     ensures cause { ReadsHaveCause (F.failed_reads files.old) (F.failed_reads files.new) result }
 {
     match command {
+        Command::Page(command) => page(alloc, files, command),
         Command::Data(command) => data(alloc, files, command),
     }
 }
