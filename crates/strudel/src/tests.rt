@@ -95,7 +95,7 @@ fn pages_are_printed(rt: HostRuntime) -> Result<(), Fail> {
     let words: &'static [&'static str] = &["page", "q", "t", "/PaperPage/npub2.html", "bib"];
     check_row(&rt, &expects(words, 0, paper, ""))?;
     let home =
-        "<h1>Home</h1><a href=\"/PaperPage/npub2.html\">Lorel &lt;1&gt;</a>, <a href=\"/PaperPage/npub1.html\">Strudel</a>";
+        "<h1>Home</h1><a href=\"/PaperPage/npub1.html\">Strudel</a>, <a href=\"/PaperPage/npub2.html\">Lorel &lt;1&gt;</a>";
     check_row(&rt, &expects(&["page", "q", "t", "/", "bib"], 0, home, ""))?;
     let missing = "strudel: not found\n";
     check_row(
