@@ -1,0 +1,41 @@
+-- What a whole head asks for.
+use Rattle.std.specs.Prelude.{ℕ, Bool, true, false, ◌||◌, not, List, if◌then◌else◌, ◌==◌, codes}
+use Rattle.std.specs.List.{list_any}
+use Rattle.std.specs.Str.{bytes_eq}
+use Rattle.httparse.specs.Grammar.{RequestHead}
+use Rattle.http_spec.specs.declared.AskKind.{AskKind}
+use Rattle.http_spec.specs.declared.AskKind.TheVariants.{Get, Head, BadRequest, WrongMethod}
+use Rattle.http_spec.specs.declared.Ask.{Ask}
+use Rattle.http_spec.specs.Words.{Line, header_lines, has_wrong_host, announces_body, is_close_line}
+
+-- the case of a head: the first that applies
+abbrev pub kind_of : List ℕ → ℕ → List Line → AskKind
+kind_of method minor lines =
+    if has_wrong_host minor lines then BadRequest
+    else if not (bytes_eq method (codes "GET") || bytes_eq method (codes "HEAD")) then WrongMethod
+    else if list_any announces_body lines then BadRequest
+    else if bytes_eq method (codes "HEAD") then Head
+    else Get
+
+-- the connection closes after the reply to an ask of this kind
+abbrev pub is_fault : AskKind → Bool
+is_fault Get = false
+is_fault Head = false
+is_fault BadRequest = true
+is_fault WrongMethod = true
+
+-- what a head with this method, minor version and header lines asks for
+abbrev pub ask_with : List ℕ → ℕ → List Line → Ask
+ask_with method minor lines = record {
+  kind = kind_of method minor lines;
+  no_body = bytes_eq method (codes "HEAD");
+  close = is_fault (kind_of method minor lines) || (minor == 0 || list_any is_close_line lines);
+}
+
+-- what the head asks for
+abbrev pub ask_of : RequestHead → Ask
+ask_of h = ask_with h.method h.minor (header_lines h)
+
+-- the ask of bytes that are no head
+abbrev pub bad_request : Ask
+bad_request = record { kind = BadRequest; no_body = false; close = true }

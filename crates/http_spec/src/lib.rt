@@ -1,0 +1,44 @@
+//! What a server of HTTP/1.1 answers on one connection: heads of requests, replies, sessions.
+#![tactic(auto)]
+
+mod laws;
+
+pub use laws::{
+    SomePages, closed_stays_closed, one_answer, one_cut, one_cut_of_a_stream, one_front,
+};
+
+/// What a request asks for.
+#[derive(Clone, Copy, Debug, PartialEq, Eq)]
+pub enum AskKind {
+    /// A page, with its text.
+    Get,
+    /// A page, without its text.
+    Head,
+    /// Nothing that the server understands.
+    BadRequest,
+    /// Something by another method.
+    WrongMethod,
+}
+
+/// What a request asks for, and how its reply is sent.
+#[derive(Clone, Copy, Debug, PartialEq, Eq)]
+pub struct Ask {
+    pub kind: AskKind,
+    /// The reply has no body: the request is a whole head whose method is HEAD.
+    pub no_body: bool,
+    /// The connection closes after the reply, whatever else holds.
+    pub close: bool,
+}
+
+/// How a connection stands.
+#[derive(Clone, Copy, Debug, PartialEq, Eq)]
+pub enum Standing {
+    /// More may be sent.
+    Open,
+    /// The last reply has closed it, or its input has ended.
+    Closed,
+    /// Memory was missing for a reply, and a 503 stands in its place.
+    Short,
+    /// A send has failed, or the connection was lost.
+    Lost,
+}
