@@ -1,0 +1,4 @@
+pub mod Tokens
+pub mod Real
+pub mod Faults
+pub mod TextFaults
