@@ -1,24 +1,19 @@
 //! A view's answers over any asker.
-ghost use Rattle.std.specs.Prelude.{◌≡◌, ℕ, [], Contains, IfOk, MatchOption};
+ghost use Rattle.std.specs.Prelude.{◌≡◌, [], Contains, IfOk};
 ghost use Rattle.sd_value.specs.declared.Term.{Term};
 ghost use Rattle.sd_value.specs.declared.Value.TheVariants.{Page};
 ghost use Rattle.sd_value.specs.Order.{value_cmp};
 ghost use Rattle.sd_value.specs.Ascending.{ListsExactly};
 ghost use Rattle.graph_spec.specs.DataGraph.{IsWellFormed};
-ghost use Rattle.tmpl.specs.Reading.{file_of};
 ghost use Rattle.page_spec.specs.Site.{MayStart};
-ghost use Rattle.page_spec.specs.Pieces.{HasTemplate};
-ghost use Rattle.site_spec.specs.Site.{Scope, InSite, SiteEdge, Collected};
+ghost use Rattle.site_spec.specs.Site.{InSite, SiteEdge, Collected};
 ghost use Rattle.query_site.specs.Blocks.{AreScoped, scope_of};
-ghost use Rattle.query_site.specs.Site.{site_of};
 
-use crate::named_templates::{collection_template, function_template};
 use asker::Asker;
 use query_site::Scopes;
-use sd_value::{Datum, NoMemory, Str, Value};
+use sd_value::{NoMemory, Str, Value};
 use site_asks::{collected, edges_out};
 use std::alloc::Global;
-use tmpl::Templates;
 
 /// The ends of the value's edges by the label, ascending.
 pub fn ends<A: Asker>(
@@ -54,29 +49,4 @@ pub fn gathered<A: Asker>(
 {
     let values = collected(alloc, asker, scopes, name)?;
     Ok(values)
-}
-
-/// The number of the value's template, where it has one.
-pub fn template<A: Asker>(
-    alloc: Global,
-    asker: &mut A,
-    templates: &Templates,
-    value: &Value,
-) -> Result<Option<u32>, NoMemory>
-    requires well_formed { IsWellFormed (A.graph asker.old) }
-    ensures graph { A.graph asker.new ≡ A.graph asker.old }
-    ensures answer { IfOk result (λ r. MatchOption r
-        ((k : ℕ) (q : Scope) → HasTemplate (site_of (A.graph asker.old) q) (file_of templates.now) value.now k → ⊥)
-        (λ k. (q : Scope) → HasTemplate (site_of (A.graph asker.old) q) (file_of templates.now) value.now k)) }
-{
-    match value {
-        Value::Page(term) => Ok(function_template(templates.functions(), &term.function)),
-        Value::Data(datum) => match datum {
-            Datum::Node(name) => {
-                let number = collection_template(alloc, asker, templates.collections(), name)?;
-                Ok(number)
-            }
-            _ => Ok(None),
-        },
-    }
 }

@@ -5,13 +5,13 @@ ghost use Rattle.tmpl.specs.Reading.{file_of};
 ghost use Rattle.query_site.specs.Blocks.{AreScoped, scope_of};
 ghost use Rattle.click_time.specs.Fixed.{Fixed as AnyFixed, fixed_site};
 
-use crate::asked::{ends, gathered, template};
+use crate::asked::{ends, gathered};
 use asker::Asker;
 use page_spec::Outcome;
 use query_site::Scopes;
 use render::render;
 use sd_value::{NoMemory, Str, Term, Value};
-use site_asks::in_site;
+use site_asks::{in_site, template};
 use site_view::{Pages, SiteView};
 use std::alloc::Global;
 use tmpl::Templates;

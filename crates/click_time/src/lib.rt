@@ -3,6 +3,5 @@
 
 mod asked;
 mod click;
-mod named_templates;
 
 pub use click::Click;

@@ -9,11 +9,12 @@ use Rattle.sd_value.specs.declared.Datum.TheVariants.{Text}
 use Rattle.sd_value.specs.Order.{bytes_cmp}
 use Rattle.sd_value.specs.Members.{Contains-nil, Contains-cons_cases, Contains-here}
 use Rattle.sd_value.specs.Ascending.{ListsExactly}
+use Rattle.sd_value.specs.AscendingLaws.{listed_as}
 use Rattle.graph_spec.specs.DataGraph.{DataGraph, Name}
 use Rattle.query_spec.specs.Query.{Target, Chain, Collect}
 use Rattle.query_spec.specs.declared.Variable.{Variable}
 use Rattle.query_spec.specs.Holds.{Assignment}
-use Rattle.query_spec.specs.Rows.{value_in, row_cmp, Agrees, IsAnswer}
+use Rattle.query_spec.specs.Rows.{value_in, row_cmp, Agrees, IsRow, IsAnswer}
 use Rattle.skolem.specs.Solved.{AllFree}
 use Rattle.site_spec.specs.Site.{IsTargetUnder, IsPut, SomeRow}
 use Rattle.site_asks.specs.Ends.{Gathered}
@@ -41,12 +42,16 @@ free_more (x ∷ row) (Some w ∷ bound) (suc n) f e l =
 pub all_free_more : (n : ℕ) (bound : List (Option Value)) → AllFree n bound → AllFree (n + 1) (bound ++ None ∷ [])
 all_free_more n bound a = record { one_each = length-append bound (None ∷ []) ∙ ap (λ k. k + 1) a.one_each; free = λ row l. free_more row bound n a.free a.one_each l }
 
-pub targets_listed : (G : DataGraph) (c : Chain) (target : Target) (bound : List (Option Value)) (rows : List (List Value)) (vs : List Value)
-    → ((row : List Value) → length row ≡ length c.variables → Agrees row bound) → ListsExactly row_cmp (IsAnswer G c bound) rows
+-- where nothing is bound, all rows are asked for
+pub all_rows : (G : DataGraph) (c : Chain) (bound : List (Option Value)) (rows : List (List Value)) → ((row : List Value) → length row ≡ length c.variables → Agrees row bound)
+    → ListsExactly row_cmp (IsAnswer G c bound) rows → ListsExactly row_cmp (IsRow G c) rows
+all_rows G c bound rows free exact = listed_as exact (λ row a. a.is_row) (λ row r. record { is_row = r; agrees = free row (row_long G c row r) })
+
+pub targets_listed : (G : DataGraph) (c : Chain) (target : Target) (rows : List (List Value)) (vs : List Value) → ListsExactly row_cmp (IsRow G c) rows
     → Gathered (λ (row : List Value) (v : Value). IsTargetUnder (value_in c.variables row) target v) rows vs → (v : Value) → Contains vs v ↔ SomeRow G c (λ s. IsTargetUnder s target v)
-targets_listed G c target bound rows vs free exact g v = (
-  λ h. let r = g.sound v h in record { row = r.0; is_row = (exact.sound r.0 r.1).is_row; holds = r.2 },
-  λ s. g.complete s.row v (exact.complete s.row record { is_row = s.is_row; agrees = free s.row (row_long G c s.row s.is_row) }) s.holds,
+targets_listed G c target rows vs exact g v = (
+  λ h. let r = g.sound v h in record { row = r.0; is_row = exact.sound r.0 r.1; holds = r.2 },
+  λ s. g.complete s.row v (exact.complete s.row s.is_row) s.holds,
 )
 
 pub target_some : (t : Target) (s : Assignment) (o : Option Value) (v : Value) → o ≡ Some v → MatchOption o ((w : Value) → IsTargetUnder s t w → ⊥) (λ w. IsTargetUnder s t w) → IsTargetUnder s t v

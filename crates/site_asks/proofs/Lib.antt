@@ -6,3 +6,6 @@ pub mod Targets
 pub mod Free
 pub mod MemberRows
 pub mod Puts
+pub mod Firsts
+pub mod Stays
+pub mod TemplateOf

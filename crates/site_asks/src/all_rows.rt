@@ -2,7 +2,8 @@
 ghost use Rattle.std.specs.Prelude.{◌≡◌, ◌↔◌, List, length, Contains, IfOk};
 ghost use Rattle.sd_value.specs.declared.Value.{Value as AnyValue};
 ghost use Rattle.query_spec.specs.Mentions.{IsWellMade};
-ghost use Rattle.query_spec.specs.Rows.{value_in, Agrees};
+ghost use Rattle.sd_value.specs.Ascending.{ListsExactly};
+ghost use Rattle.query_spec.specs.Rows.{value_in, row_cmp, Agrees, IsRow};
 ghost use Rattle.struql_ast.specs.Reading.{target_of};
 ghost use Rattle.site_spec.specs.Site.{IsTargetUnder, SomeRow};
 ghost use Rattle.site_asks.specs.Ends.{Gathered};
@@ -44,6 +45,18 @@ fn targets_under(
     Ok(values)
 }
 
+/// All rows of the chain, strictly ascending.
+pub fn rows_of<A: Asker>(alloc: Global, asker: &mut A, chain: &Chain) -> Result<Vec<Row>, NoMemory>
+    requires well_made { IsWellMade chain.now }
+    ensures graph { A.graph asker.new ≡ A.graph asker.old }
+    ensures rows { IfOk result (λ rows. ListsExactly row_cmp (IsRow (A.graph asker.old) chain.now) rows.items) }
+{
+    let free = all_free(alloc, chain.variables().len())?;
+    let bound = Bound::new(free);
+    let rows = asker.ask(alloc, chain, &bound)?;
+    Ok(rows)
+}
+
 /// What the target is under the rows of the chain.
 pub fn targets_of<A: Asker>(
     alloc: Global,
@@ -55,9 +68,7 @@ pub fn targets_of<A: Asker>(
     ensures graph { A.graph asker.new ≡ A.graph asker.old }
     ensures values { IfOk result (λ vs. (v : AnyValue) → Contains vs.items v ↔ SomeRow (A.graph asker.old) chain.now (λ s. IsTargetUnder s (target_of target.now) v)) }
 {
-    let free = all_free(alloc, chain.variables().len())?;
-    let bound = Bound::new(free);
-    let rows = asker.ask(alloc, chain, &bound)?;
+    let rows = rows_of(alloc, asker, chain)?;
     let values = targets_under(alloc, chain.variables(), rows.as_slice(), target)?;
     Ok(values)
 }

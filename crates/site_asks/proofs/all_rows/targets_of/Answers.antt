@@ -5,13 +5,11 @@ use Rattle.query_spec.specs.Rows.{value_in}
 use Rattle.struql_ast.specs.Reading.{target_of}
 use Rattle.site_spec.specs.Site.{IsTargetUnder}
 use Rattle.site_asks.specs.Ends.{Gathered}
-use Rattle.site_asks.proofs.Free.{targets_listed, free_at}
+use Rattle.site_asks.proofs.Free.{targets_listed}
 use Rattle.site_asks.proofs.all_rows.targets_of.Goals as goal
 
 pub returns-clause-values : goal.returns-clause-values
 returns-clause-values g c =
-    let one = subst (λ (vs : List Variable). Gathered (λ (row : List Value) (v : Value). IsTargetUnder (value_in vs row) (target_of c.args.target.now) v) c.as_slice.result.now c.in_ok-values.values.items) c.variables-2.ensures c.in_ok-values.ensures in
+    let one = subst (λ (vs : List Variable). Gathered (λ (row : List Value) (v : Value). IsTargetUnder (value_in vs row) (target_of c.args.target.now) v) c.as_slice.result.now c.in_ok-values.values.items) c.variables.ensures c.in_ok-values.ensures in
     let both = subst (λ (rs : List (List Value)). Gathered (λ (row : List Value) (v : Value). IsTargetUnder (value_in c.args.chain.now.variables row) (target_of c.args.target.now) v) rs c.in_ok-values.values.items) c.as_slice.ensures.value one in
-    targets_listed (g.A.Asker.graph c.args.asker.now) c.args.chain.now (target_of c.args.target.now) c.new-bound.result c.in_ok-rows.rows.items c.in_ok-values.values.items
-    (free_at c.variables.result.now c.args.chain.now.variables c.in_ok-free.free.items c.new-bound.result c.variables.ensures c.new-bound.ensures c.in_ok-free.ensures.free)
-    c.in_ok-rows.ensures.rows both
+    targets_listed (g.A.Asker.graph c.args.asker.now) c.args.chain.now (target_of c.args.target.now) c.in_ok-rows.rows.items c.in_ok-values.values.items c.in_ok-rows.ensures.rows both

@@ -2,8 +2,8 @@ use Rattle.std.proofs.Common.{◌≡◌}
 use Rattle.tmpl.specs.declared.NamedTemplate.{NamedTemplate}
 use Rattle.site_asks.proofs.Some.{none_more}
 use Rattle.site_asks.proofs.Targets.{name_is}
-use Rattle.click_time.proofs.Firsts.{first_at, first_end, differs}
-use Rattle.click_time.proofs.named_templates.function_template.Goals as goal
+use Rattle.site_asks.proofs.Firsts.{first_at, first_end, differs}
+use Rattle.site_asks.proofs.named_templates.function_template.Goals as goal
 
 pub returns-then-eq : goal.returns-then-eq
 returns-then-eq c =

@@ -1,8 +1,8 @@
 use Rattle.std.proofs.Common.{◌∙◌, ap}
 use Rattle.sd_value.specs.declared.Value.TheVariants.{Data}
 use Rattle.tmpl.specs.Reading.{file_of}
-use Rattle.click_time.proofs.TemplateOf.{of_page, of_node}
-use Rattle.click_time.proofs.asked.template.Goals as goal
+use Rattle.site_asks.proofs.TemplateOf.{of_page, of_node}
+use Rattle.site_asks.proofs.named_templates.template.Goals as goal
 
 pub returns-in-Page-clause-answer : goal.returns-in-Page-clause-answer
 returns-in-Page-clause-answer g c = of_page (g.A.Asker.graph c.args.asker.now) (file_of c.args.templates.now) c.functions.result.now c.in-Page.term c.args.value.now c.function_template.result c.in-Page.is c.functions.ensures c.function_template.ensures

@@ -1,7 +1,7 @@
 use Rattle.std.proofs.Common.{◌≡◌, take}
 use Rattle.graph_spec.specs.DataGraph.{HasMember}
-use Rattle.click_time.proofs.Firsts.{NoneNamed}
-use Rattle.click_time.proofs.named_templates.collection_template.Given as goal
+use Rattle.site_asks.proofs.Firsts.{NoneNamed}
+use Rattle.site_asks.proofs.named_templates.collection_template.Given as goal
 
 abbrev pub invariant-loop-named : goal.invariant-loop-named
 invariant-loop-named g l = record {

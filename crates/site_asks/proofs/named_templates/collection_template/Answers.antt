@@ -3,8 +3,8 @@ use Rattle.std.specs.Prelude.{◌↔◌, IsTrue}
 use Rattle.graph_spec.specs.DataGraph.{IsWellFormed, HasMember}
 use Rattle.tmpl.specs.declared.NamedTemplate.{NamedTemplate}
 use Rattle.site_asks.proofs.Some.{test_false}
-use Rattle.click_time.proofs.Firsts.{first_at, first_end}
-use Rattle.click_time.proofs.named_templates.collection_template.Goals as goal
+use Rattle.site_asks.proofs.Firsts.{first_at, first_end}
+use Rattle.site_asks.proofs.named_templates.collection_template.Goals as goal
 
 pub is_member-requires : goal.is_member-requires
 is_member-requires g c = subst IsWellFormed (sym c.loop-named.invariant.graph) c.requires
