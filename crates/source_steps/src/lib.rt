@@ -1,0 +1,34 @@
+//! What readers of data sources share: names with a number, and the mark at a text's start.
+#![tactic(auto)]
+
+ghost use Rattle.std.specs.Prelude.{◌≡◌, IfOk};
+ghost use Rattle.source_steps.specs.Names.{numbered, without_mark as unmarked};
+
+use itoa::Buffer;
+use sd_value::{NoMemory, Str};
+use std::alloc::Global;
+
+/// The name with `_` and a number behind it.
+pub fn numbered_name(alloc: Global, name: &Str, number: u64) -> Result<Str, NoMemory>
+    ensures { IfOk result (λ s. s ≡ numbered name.now number) }
+{
+    let mut text = Vec::from_slice(alloc, name.bytes())?;
+    text.extend_from_slice(b"_")?;
+    let mut buffer = Buffer::new();
+    text.extend_from_slice(buffer.format(number).as_bytes())?;
+    Str::of(alloc, text)
+}
+
+/// The bytes behind a UTF-8 byte order mark, where one stands at the start.
+#[tactic(auto, unfolding(crate::specs::Names::without_mark))]
+pub fn without_mark(bytes: &[u8]) -> &[u8]
+    ensures { result.now ≡ unmarked bytes.now }
+{
+    match bytes {
+        [0xEF, 0xBB, 0xBF, rest @ ..] => rest,
+        _ => bytes,
+    }
+}
+
+#[cfg(test)]
+mod tests;
