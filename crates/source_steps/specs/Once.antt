@@ -1,6 +1,6 @@
 -- Taking the steps of a text has one end, beside want of memory.
-use Rattle.std.specs.Prelude.{◌≡◌, ◌⊎◌, ◌≤◌, ◌<◌, ◌+◌, List, [], ◌∷◌, ◌++◌, length, ⊤}
-use Rattle.std.proofs.Common.{refl, sym, ◌∙◌, ap, subst, inl, inr, arith}
+use Rattle.std.specs.Prelude.{◌≡◌, ◌⊎◌, ◌≤◌, List, [], ◌∷◌, ◌++◌, length, ⊤}
+use Rattle.std.proofs.Common.{refl, sym, ◌∙◌, subst, inl, inr, arith}
 use Rattle.sd_graph.specs.Statement.{Statement, Building, building_with, IsWithin, HasTooMany_nodes, HasTooMany_edges}
 use Rattle.sd_graph.specs.Stating.{Step, says, fails, Ending, done, fault, too_many_nodes, too_many_edges, no_memory, Leads, Ends}
 
@@ -50,10 +50,13 @@ no_room : {P F : Type 0} (b c : Building) (p : P) (s : Statement) (e : Ending P 
 no_room b c p s e within h = elim h.1 [ inl nodes ↦ omega (arith, within.0, nodes.1) | inr edges ↦ omega (arith, within.1, edges.2) ]
 
 one_refusal : {P F : Type 0} (b c d : Building) (p : P) (s : Statement) (e f : Ending P F) → HasNoRoom b c p s e → HasNoRoom b d p s f → Same c d e f
-one_refusal b c d p s e f h k = (sym h.0 ∙ k.0, elim h.1 [
-  | inl x ↦ elim k.1 [ inl y ↦ x.0 ∙ sym y.0 | inr y ↦ absurd (omega (arith, x.1, y.1)) ]
-  | inr x ↦ elim k.1 [ inl y ↦ absurd (omega (arith, x.1, y.1)) | inr y ↦ x.0 ∙ sym y.0 ]
-])
+one_refusal b c d p s e f h k = (
+  sym h.0 ∙ k.0,
+  elim h.1 [
+    | inl x ↦ elim k.1 [ inl y ↦ x.0 ∙ sym y.0 | inr y ↦ absurd (omega (arith, x.1, y.1)) ]
+    | inr x ↦ elim k.1 [ inl y ↦ absurd (omega (arith, x.1, y.1)) | inr y ↦ x.0 ∙ sym y.0 ]
+  ],
+)
 
 comes_once : {P F : Type 0} (b c d : Building) (steps : List (Step P F)) (e f : Ending P F) → Comes b steps c e → Comes b steps d f → Same c d e f
 comes_once b c d [] e f h k = (sym h.0 ∙ k.0, h.1 ∙ sym k.1)

@@ -1,0 +1,93 @@
+-- A field that is an integer's decimal form.
+use Rattle.std.specs.Prelude.{◌≡◌, ◌^◌, ◌&&◌, ℕ, ℤ, Bool, true, false, nat_lt, nat_eq, List, Result, Ok, Err, ⊤}
+use Rattle.std.proofs.Common.{refl, sym, ◌∙◌, ap, subst, inl, inr, FitsSigned, w64}
+use Rattle.std.specs.Cmp.Lexicographic.{pointwise, same_text, other_text}
+use Rattle.std.specs.Cmp.Derive.{both_true}
+use Rattle.std.specs.Fmt.{signed_decimal}
+use Rattle.std.specs.Int.Signed.{mag}
+use Rattle.std.specs.Ordering.{int_eq}
+use Rattle.std.specs.Str.{IsUtf8}
+use Rattle.std.specs.Str.Parse.{ParsesSigned, IsNumeral, without_leading_sign}
+use Rattle.std.proofs.lemmas.Bool.{cases_Bool, ltb-true, lt-ltb}
+use Rattle.std.proofs.lemmas.Bool.Decides.{Decides-int_eq}
+use Rattle.std.proofs.lemmas.Fmt.{IsAscii-signed, parse-signed_decimal}
+use Rattle.std.proofs.lemmas.Str.{IsUtf8-from_ascii}
+use Rattle.csv_source.specs.Fields.{Field, IsI64, number_of, is_integer, value_of, IsFieldValue}
+
+both : (s t : Bool) → (s && t) ≡ true → (s ≡ true) × (t ≡ true)
+both true t h = (refl, h)
+both false t h = cc
+
+-- what the test has told
+integer_is : (f : Field) → is_integer f ≡ true → IsI64 (number_of f) × (f ≡ signed_decimal (number_of f))
+integer_is f h =
+    let p = both (pointwise nat_eq f (signed_decimal (number_of f))) (nat_lt (mag (number_of f)) (2 ^ 63)) h in
+    (ltb-true (mag (number_of f)) (2 ^ 63) p.1, same_text f (signed_decimal (number_of f)) (sym p.0))
+
+same_bytes : (xs ys : List ℕ) → xs ≡ ys → pointwise nat_eq xs ys ≡ true
+same_bytes xs ys e = elim (cases_Bool (pointwise nat_eq xs ys)) [ inl is ↦ is | inr other ↦ absurd (other_text xs ys (sym other) e) ]
+
+is_an_integer : (f : Field) → IsI64 (number_of f) → f ≡ signed_decimal (number_of f) → is_integer f ≡ true
+is_an_integer f small e = both_true (same_bytes f (signed_decimal (number_of f)) e) (lt-ltb (mag (number_of f)) (2 ^ 63) small)
+
+-- a decimal form reads as its number
+number_back : (z : ℤ) → IsI64 z → number_of (signed_decimal z) ≡ z
+number_back z small = elim (cases_Bool (int_eq v z)) [
+  | inl is ↦ (Decides-int_eq v z).0 is
+  | inr other ↦ absurd (none (λ p. differ other (numeral p)))
+]
+  where
+    v : ℤ
+    v = number_of (signed_decimal z)
+
+    Reads : Type 0
+    Reads = IsNumeral 10 (without_leading_sign (signed_decimal z)) × FitsSigned w64 v
+
+    numeral : Reads → v ≡ z
+    numeral p = let e : ◌≡◌ {A = Result ℤ ⊤} (Ok v) (Ok z) = parse-signed_decimal w64 z (signed_decimal z) (Ok v) (record { sfits = small }) small refl (p, refl) in cc
+
+    none : (Reads → ⊥) → ⊥
+    none h = let e : ◌≡◌ {A = Result ℤ ⊤} (Err tt) (Ok z) = parse-signed_decimal w64 z (signed_decimal z) (Err tt) (record { sfits = small }) small refl h in cc
+
+    differ : int_eq v z ≡ false → v ≡ z → ⊥
+    differ other e = let is = (Decides-int_eq v z).1 e in cc
+
+-- a field that is no UTF-8, or that parses as no number, is no integer
+pub not_text : (f : Field) → (IsUtf8 f → ⊥) → is_integer f ≡ false
+not_text f none = elim (cases_Bool (is_integer f)) [
+  | inl is ↦
+      let p = integer_is f is in
+      absurd (none (subst IsUtf8 (sym p.1) (IsUtf8-from_ascii (signed_decimal (number_of f)) (IsAscii-signed (number_of f) p.0))))
+  | inr other ↦ other
+]
+
+pub not_parsed : {E : Type 0} (f : Field) (e : E) → ParsesSigned w64 10 f (Err e) → is_integer f ≡ false
+not_parsed {E} f e h = elim (cases_Bool (is_integer f)) [
+  | inl is ↦
+      let p = integer_is f is in
+      let wrong : ◌≡◌ {A = Result ℤ E} (Err e) (Ok (number_of f)) = parse-signed_decimal w64 (number_of f) f (Err e) (record { sfits = p.0 }) p.0 p.1 h in
+      cc
+  | inr other ↦ other
+]
+
+-- a field that parses is an integer exactly where it is how its number is written
+pub written : (f : Field) → FitsSigned w64 (number_of f) → true ≡ pointwise nat_eq (signed_decimal (number_of f)) f → is_integer f ≡ true
+written f fits same = is_an_integer f fits.sfits (sym (same_text (signed_decimal (number_of f)) f same))
+
+pub not_written : (f : Field) → false ≡ pointwise nat_eq (signed_decimal (number_of f)) f → is_integer f ≡ false
+not_written f other = elim (cases_Bool (is_integer f)) [
+  | inl is ↦ absurd (other_text (signed_decimal (number_of f)) f other (sym (integer_is f is).1))
+  | inr no_ ↦ no_
+]
+
+pub has_value : (f : Field) → IsFieldValue f (value_of f)
+has_value f = elim (cases_Bool (is_integer f)) [
+  | inl is ↦ let p = integer_is f is in inl (number_of f, p.0, p.1, rw is refl)
+  | inr other ↦ inr (none other, rw other refl)
+]
+  where
+    none : is_integer f ≡ false → (z : ℤ) → IsI64 z → f ≡ signed_decimal z → ⊥
+    none other z small e =
+        let n : number_of f ≡ z = ap number_of e ∙ number_back z small in
+        let is = is_an_integer f (subst IsI64 (sym n) small) (e ∙ ap signed_decimal (sym n)) in
+        cc

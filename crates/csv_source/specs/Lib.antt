@@ -1,0 +1,6 @@
+pub mod Fields
+pub mod Text
+pub mod Reads
+pub mod Once
+pub mod Records
+pub mod Reader

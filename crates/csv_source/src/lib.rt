@@ -1,0 +1,53 @@
+//! Reading CSV texts into data graphs.
+#![tactic(auto)]
+
+ghost use Rattle.std.specs.Prelude.{◌≡◌, List, ℕ};
+ghost use Rattle.sd_graph.specs.Statement.{Building};
+ghost use Rattle.csv_source.specs.Fields.{IsFieldValue, value_of};
+ghost use Rattle.csv_source.specs.Reads.{Reads, HasOneAnswer};
+
+mod reader;
+mod refusal;
+mod rows;
+mod value;
+
+use reader::{next_fields, reader_of};
+pub use refusal::CsvRefusal;
+use rows::{add_rows, check_labels};
+use sd_graph::GraphBuilder;
+use sd_value::Str;
+use source_steps::without_mark;
+use std::alloc::Global;
+
+/// Adds what a CSV text states. The first record is the header, and record k from 1 is the node
+/// `STEM_k`, a member of STEM, with an edge for each field that isn't empty. After a refusal the
+/// graph has what stood before its place. The records are those of the crate `csv`, which follows
+/// RFC 4180.
+pub fn read_csv(
+    alloc: Global,
+    stem: &Str,
+    bytes: &[u8],
+    graph: &mut GraphBuilder,
+) -> Result<(), CsvRefusal>
+    ensures { Reads stem.now bytes.now graph.old graph.new result }
+{
+    let mut reader = reader_of(alloc, without_mark(bytes));
+    let Some(labels) = next_fields(alloc, &mut reader)? else {
+        return Ok(());
+    };
+    check_labels(labels.as_slice())?;
+    add_rows(alloc, graph, stem, labels.as_slice(), &mut reader)
+}
+
+/// A text read into a graph has one answer, beside want of memory, and leaves one graph with it.
+pub fn texts_have_one_answer()
+    ensures { (stem bytes : List ℕ) (b : Building) → HasOneAnswer stem bytes b }
+{}
+
+/// A field is the integer whose decimal form it is, where there is one of 64 bits, and else a text.
+pub fn fields_have_values()
+    ensures { (field : List ℕ) → IsFieldValue field (value_of field) }
+{}
+
+#[cfg(test)]
+mod tests;
