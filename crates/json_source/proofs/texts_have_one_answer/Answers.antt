@@ -1,0 +1,5 @@
+use Rattle.json_source.specs.Once.{has_one_answer}
+use Rattle.json_source.proofs.texts_have_one_answer.Goals as goal
+
+pub returns : goal.returns
+returns c = has_one_answer
