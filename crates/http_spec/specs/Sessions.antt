@@ -13,22 +13,22 @@ use Rattle.http_spec.specs.Replies.{reply_bytes, no_memory_bytes}
 use Rattle.http_spec.specs.Streams.{Dated, Request, bytes_in, IsCutTo}
 
 -- which outcome each target has
-abbrev pub PageAt : Type 1
-PageAt = List ℕ → Outcome → Type 0
+abbrev pub OutcomeAt : Type 1
+OutcomeAt = List ℕ → Outcome → Type 0
 
 -- each target has at most one outcome
-abbrev pub HasOneOutcome : PageAt → Type 0
+abbrev pub HasOneOutcome : OutcomeAt → Type 0
 HasOneOutcome page = (target : List ℕ) (o p : Outcome) → page target o → page target p → o ≡ p
 
 -- the outcome that the reply shows; where no page is looked up it may be any
-abbrev pub IsLookedUp : PageAt → AskKind → List ℕ → Outcome → Type 0
+abbrev pub IsLookedUp : OutcomeAt → AskKind → List ℕ → Outcome → Type 0
 IsLookedUp page Get target outcome = page target outcome
 IsLookedUp page Head target outcome = page target outcome
 IsLookedUp page BadRequest target outcome = ⊤
 IsLookedUp page WrongMethod target outcome = ⊤
 
 -- the bytes are the reply to this head; last says that the connection may have no further one
-abbrev pub IsReply : PageAt → RequestHead → Bool → List ℕ → Type 0
+abbrev pub IsReply : OutcomeAt → RequestHead → Bool → List ℕ → Type 0
 IsReply page h last bytes =
     (outcome : Outcome) × IsLookedUp page (ask_of h).kind h.target outcome
     × (bytes ≡ reply_bytes (ask_of h) outcome (last || (ask_of h).close))
@@ -39,7 +39,7 @@ closes_after left h = (left == 1) || (ask_of h).close
 
 -- The replies to these requests, one each, in order, where the connection may still have so many. Only the last
 -- reply may close it, and closed says whether it does. Each page is that of the data of its request.
-abbrev pub HasReplies : {D : Type 0} → (D → PageAt) → ℕ → List (Request D) → List (List ℕ) → Bool → Type 0
+abbrev pub HasReplies : {D : Type 0} → (D → OutcomeAt) → ℕ → List (Request D) → List (List ℕ) → Bool → Type 0
 HasReplies page left [] [] closed = closed ≡ false
 HasReplies page left [] (reply ∷ replies) closed = ⊥
 HasReplies page left (request ∷ requests) [] closed = ⊥
@@ -50,7 +50,7 @@ HasReplies page left (request ∷ requests) (reply ∷ replies) closed =
     (HasReplies page (left - 1) requests replies closed)
 
 -- the heads at the front of the stream have these replies
-pub record Session {D : Type 0} (page : D → PageAt) (limit : ℕ) (stream : List (Dated D)) (requests : List (Request D)) (rest : List (Dated D)) (replies : List (List ℕ)) (closed : Bool) : Type 0 where
+pub record Session {D : Type 0} (page : D → OutcomeAt) (limit : ℕ) (stream : List (Dated D)) (requests : List (Request D)) (rest : List (Dated D)) (replies : List (List ℕ)) (closed : Bool) : Type 0 where
   pub cut : IsCutTo stream requests rest
   pub answered : HasReplies page limit requests replies closed
 
@@ -85,7 +85,7 @@ Ends ended Lost rest closed last = ⊥
 
 -- These are the replies to a connection's bytes, and the connection stands so after them. ended says that no more
 -- bytes come; limit is how many replies a connection may have.
-pub record Answers {D : Type 0} (page : D → PageAt) (limit : ℕ) (stream : List (Dated D)) (ended : Bool) (standing : Standing) (replies : List (List ℕ)) : Type 0 where
+pub record Answers {D : Type 0} (page : D → OutcomeAt) (limit : ℕ) (stream : List (Dated D)) (ended : Bool) (standing : Standing) (replies : List (List ℕ)) : Type 0 where
   pub requests : List (Request D)
   pub rest : List (Dated D)
   pub answered : List (List ℕ)
@@ -96,7 +96,7 @@ pub record Answers {D : Type 0} (page : D → PageAt) (limit : ℕ) (stream : Li
   pub whole : replies ≡ answered ++ last
 
 -- the same, or memory was missing for the connection itself
-abbrev pub HasAnswer : {D : Type 0} → (D → PageAt) → ℕ → List (Dated D) → Bool → Standing → List (List ℕ) → Type 0
+abbrev pub HasAnswer : {D : Type 0} → (D → OutcomeAt) → ℕ → List (Dated D) → Bool → Standing → List (List ℕ) → Type 0
 HasAnswer page limit stream ended standing replies =
     Answers page limit stream ended standing replies ⊎ ((standing ≡ Short) × (replies ≡ no_memory_bytes ∷ []))
 

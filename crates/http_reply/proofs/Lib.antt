@@ -1,0 +1,4 @@
+mod ParserLemmas
+mod ReadingLemmas
+mod FeedLemmas
+mod LineEndLemmas

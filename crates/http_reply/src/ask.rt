@@ -1,0 +1,152 @@
+// What a whole head asks for.
+ghost use Rattle.std.specs.Prelude.{◌≡◌, ◌+◌, ◌<◌, ◌≤◌, length, take, map, codes, All, count_by};
+ghost use Rattle.std.specs.List.{list_any};
+ghost use Rattle.httparse.specs.Grammar.{trim_ows, is_ows};
+ghost use Rattle.httparse.specs.Spans.{IsRequestWithin, IsHeaderWithin, header_bytes, span_bytes};
+ghost use Rattle.http_spec.specs.Asks.{ask_with, is_fault};
+ghost use Rattle.http_spec.specs.Words.{is_named, same_word, has_close_word, host_count, announces_body, is_close_line};
+
+use http_spec::{Ask, AskKind};
+use httparse::spans::{HeaderSpan, RequestSpans};
+
+/// The ask of bytes that are no head.
+pub(crate) const BAD_REQUEST: Ask = Ask {
+    kind: AskKind::BadRequest,
+    no_body: false,
+    close: true,
+};
+
+/// What a head asks for, whose parts lie at these places.
+pub(crate) fn ask_at(bytes: &[u8], spans: &RequestSpans, headers: &[HeaderSpan]) -> Ask
+    requires within { IsRequestWithin bytes.now headers.now spans.now }
+    ensures { result ≡ ask_with (span_bytes bytes.now spans.now.method) spans.now.version (map (header_bytes bytes.now) (take spans.now.headers headers.now)) }
+{
+    let headers = &headers[..spans.headers];
+    let method = spans.method.of(bytes);
+    let hosts = count_hosts(bytes, headers);
+    let is_head = method == b"HEAD".as_slice();
+    let kind = if hosts > 1 || (spans.version == 1 && hosts == 0) {
+        AskKind::BadRequest
+    } else if !is_head && method != b"GET".as_slice() {
+        AskKind::WrongMethod
+    } else if some_announces_body(bytes, headers) {
+        AskKind::BadRequest
+    } else if is_head {
+        AskKind::Head
+    } else {
+        AskKind::Get
+    };
+    Ask {
+        kind,
+        no_body: is_head,
+        close: is_fault(kind) || spans.version == 0 || some_is_close_line(bytes, headers),
+    }
+}
+
+/// Whether a request of this kind is refused.
+fn is_fault(kind: AskKind) -> bool
+    ensures { result ≡ is_fault kind }
+{
+    matches!(kind, AskKind::BadRequest | AskKind::WrongMethod)
+}
+
+/// Whether the header line has this name, in any case.
+fn is_named(bytes: &[u8], header: &HeaderSpan, name: &[u8]) -> bool
+    requires { IsHeaderWithin (length bytes.now) header.now }
+    ensures { result ≡ is_named name.now (header_bytes bytes.now header.now) }
+{
+    header.name.of(bytes).eq_ignore_ascii_case(name)
+}
+
+/// How many Host lines there are.
+fn count_hosts(bytes: &[u8], headers: &[HeaderSpan]) -> usize
+    requires { All (IsHeaderWithin (length bytes.now)) headers.now }
+    ensures { result ≡ host_count (map (header_bytes bytes.now) headers.now) }
+{
+    let mut count = 0;
+    for header in headers {
+        if is_named(bytes, header, b"host") {
+            count += 1;
+        }
+    }
+    count
+}
+
+/// Whether the line announces a body.
+fn announces_body(bytes: &[u8], header: &HeaderSpan) -> bool
+    requires { IsHeaderWithin (length bytes.now) header.now }
+    ensures { result ≡ announces_body (header_bytes bytes.now header.now) }
+{
+    is_named(bytes, header, b"transfer-encoding")
+        || (is_named(bytes, header, b"content-length") && header.value.of(bytes) != b"0".as_slice())
+}
+
+/// Whether a line announces a body.
+fn some_announces_body(bytes: &[u8], headers: &[HeaderSpan]) -> bool
+    requires { All (IsHeaderWithin (length bytes.now)) headers.now }
+    ensures { result ≡ list_any announces_body (map (header_bytes bytes.now) headers.now) }
+{
+    for header in headers {
+        if announces_body(bytes, header) {
+            return true;
+        }
+    }
+    false
+}
+
+/// Whether the line asks that the connection be closed.
+fn is_close_line(bytes: &[u8], header: &HeaderSpan) -> bool
+    requires { IsHeaderWithin (length bytes.now) header.now }
+    ensures { result ≡ is_close_line (header_bytes bytes.now header.now) }
+{
+    is_named(bytes, header, b"connection") && has_close_word(header.value.of(bytes))
+}
+
+/// Whether a line asks that the connection be closed.
+fn some_is_close_line(bytes: &[u8], headers: &[HeaderSpan]) -> bool
+    requires { All (IsHeaderWithin (length bytes.now)) headers.now }
+    ensures { result ≡ list_any is_close_line (map (header_bytes bytes.now) headers.now) }
+{
+    for header in headers {
+        if is_close_line(bytes, header) {
+            return true;
+        }
+    }
+    false
+}
+
+/// Whether one of the words between the commas is `close`.
+fn has_close_word(value: &[u8]) -> bool
+    ensures { result ≡ has_close_word value.now }
+{
+    value.split(|b| *b == b',').any(|word| is_close(word))
+}
+
+/// Whether the word is `close` in any case, the spaces and tabs round it aside.
+fn is_close(word: &[u8]) -> bool
+    ensures { result ≡ same_word (trim_ows word.now) (codes "close") }
+{
+    trim_blanks(word).eq_ignore_ascii_case(b"close")
+}
+
+/// The word without the spaces and tabs at both ends.
+fn trim_blanks(word: &[u8]) -> &[u8]
+    ensures { result.now ≡ trim_ows word.now }
+{
+    let mut start = 0;
+    let mut end = word.len();
+    while start < end && is_blank(word[start]) {
+        start += 1;
+    }
+    while start < end && is_blank(word[end - 1]) {
+        end -= 1;
+    }
+    &word[start..end]
+}
+
+/// Whether the byte is a space or a tab.
+fn is_blank(byte: u8) -> bool
+    ensures { result ≡ is_ows byte }
+{
+    byte == b' ' || byte == b'\t'
+}

@@ -1,0 +1,99 @@
+// The bytes of one head, as they come.
+ghost use Rattle.std.specs.Prelude.{◌≡◌, ◌<◌, ◌≤◌, [], ◌∷◌, ◌++◌, false, None, length, vec_capacity, IsTrue, ◌↔◌};
+ghost use Rattle.http_spec.specs.Asks.{bad_request};
+ghost use Rattle.http_reply.specs.Parsing.{Parses};
+ghost use Rattle.http_spec.specs.Heads.{max_head, AreLineEnds, is_line_end_byte};
+ghost use Rattle.http_reply.specs.Kept.{AllLineEndBytes, IsOpen, held_in};
+
+use crate::ask::BAD_REQUEST;
+use crate::parsing::{Parsed, parse_head};
+use crate::reading::Fed;
+use httparse::spans::Span;
+
+/// The bytes of a head that is not whole yet, or a whole head.
+#[derive(Drop)]
+pub(crate) struct Buffer {
+    /// They never grow past their first room.
+    pub(crate) bytes: Vec<u8>,
+    /// Whether a byte came that stands in no line end.
+    pub(crate) started: bool,
+    /// Where the target of the whole head is.
+    pub(crate) target: Option<Span>,
+}
+
+impl Buffer {
+    /// Forgets the bytes.
+    pub(crate) fn clear(&mut self)
+        ensures bytes { self.new.bytes.items ≡ [] }
+        ensures room { vec_capacity self.new.bytes ≡ vec_capacity self.old.bytes }
+        ensures started { self.new.started ≡ false }
+        ensures target { self.new.target ≡ None }
+    {
+        self.bytes.clear();
+        self.started = false;
+        self.target = None;
+    }
+
+    /// Whether the bytes after the last whole head are line ends alone.
+    pub(crate) fn is_clean(&self) -> bool
+        ensures { IsTrue result ↔ AreLineEnds (held_in self.now.bytes.items self.now.target).rest }
+    {
+        self.target.is_some() || are_line_ends(self.bytes.as_slice())
+    }
+
+    /// Forgets the bytes, which are no head, and says that so many of a piece were taken.
+    pub(crate) fn refuse(&mut self, taken: usize) -> Fed
+        ensures fed { result ≡ record { taken = taken; ask = Some bad_request } }
+        ensures bytes { self.new.bytes.items ≡ [] }
+        ensures room { vec_capacity self.new.bytes ≡ vec_capacity self.old.bytes }
+        ensures started { self.new.started ≡ false }
+        ensures target { self.new.target ≡ None }
+    {
+        self.clear();
+        Fed {
+            taken,
+            ask: Some(BAD_REQUEST),
+        }
+    }
+
+    /// Adds a byte to a head that is not whole, and tells what the bytes are then.
+    pub(crate) fn add(&mut self, byte: u8) -> Parsed
+        requires room { max_head ≤ vec_capacity self.old.bytes }
+        requires open { IsOpen self.old.bytes.items self.old.started }
+        ensures bytes { self.new.bytes.items ≡ self.old.bytes.items ++ byte ∷ [] }
+        ensures room { max_head ≤ vec_capacity self.new.bytes }
+        ensures target { self.new.target ≡ self.old.target }
+        ensures unstarted { self.new.started ≡ false → AllLineEndBytes self.new.bytes.items }
+        ensures parsed { Parses self.new.bytes.items result }
+    {
+        if self.bytes.push(byte).is_err() {
+            unreachable!()
+        }
+        self.started = self.started || !is_line_end_byte(byte);
+        parse_head(self.bytes.as_slice(), self.started)
+    }
+}
+
+/// Whether the byte may stand in a line end.
+fn is_line_end_byte(byte: u8) -> bool
+    ensures { result ≡ is_line_end_byte byte }
+{
+    byte == b'\r' || byte == b'\n'
+}
+
+/// Whether the bytes are line ends and nothing else.
+fn are_line_ends(bytes: &[u8]) -> bool
+    ensures { IsTrue result ↔ AreLineEnds bytes.now }
+{
+    let mut at = 0;
+    while at < bytes.len() {
+        if bytes[at] == b'\n' {
+            at += 1;
+        } else if bytes[at] == b'\r' && at + 1 < bytes.len() && bytes[at + 1] == b'\n' {
+            at += 2;
+        } else {
+            return false;
+        }
+    }
+    true
+}
