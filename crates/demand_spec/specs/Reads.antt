@@ -115,5 +115,5 @@ abbrev pub MayAsk : Site → TemplateFile → Term → Question → Type 0
 MayAsk s f p q = ((q ≡ in_site p) ⊎ (q ≡ template (Page p))) ⊎ IsAsked s f p q
 
 -- what is kept after a call and wasn't before is what P admits
-abbrev pub KeepsOnly : (Question → Type 0) → List Question → List Question → Type 0
-KeepsOnly P before after = (q : Question) → Contains after q → Contains before q ⊎ P q
+pub record KeepsOnly (P : Question → Type 0) (before after : List Question) : Type 0 where
+  pub only : (q : Question) → Contains after q → Contains before q ⊎ P q

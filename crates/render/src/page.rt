@@ -4,6 +4,8 @@ ghost use Rattle.sd_value.specs.declared.Value.TheVariants as values;
 ghost use Rattle.tmpl.specs.Reading.{file_of};
 ghost use Rattle.page_spec.specs.Pieces.{HasTemplate, Pieces, items_of};
 ghost use Rattle.page_spec.specs.Page.{IsOutcome};
+ghost use Rattle.demand_spec.specs.Reads.{KeepsOnly, MayAsk};
+ghost use Rattle.render.specs.Asks.{FrameAsks, LedAsks};
 ghost use Rattle.render.specs.Frames.{IsKept, IsFrame, IsStep, IsFinal, IsText, frame_values};
 
 use crate::pieces::expand;
@@ -170,6 +172,7 @@ fn frame_of<V: SiteView>(
     requires own { V.Own view.old }
     ensures own { V.Own view.new }
     ensures fixed { V.fixed view.new ≡ V.fixed view.old }
+    ensures kept { KeepsOnly (FrameAsks (V.site (V.fixed view.old)) (V.templates (V.fixed view.old)) value) (V.kept view.old) (V.kept view.new) }
     ensures answer { IfOk result (λ r. MatchOption r
         ((k : ℕ) → HasTemplate (V.site (V.fixed view.old)) (V.templates (V.fixed view.old)) value k → ⊥)
         (λ r. IsFrame (V.site (V.fixed view.old)) (V.templates (V.fixed view.old)) r × (r.value ≡ value))) }
@@ -206,6 +209,7 @@ fn run<V: SiteView>(
     requires own { V.Own view.old }
     ensures own { V.Own view.new }
     ensures fixed { V.fixed view.new ≡ V.fixed view.old }
+    ensures kept { KeepsOnly (LedAsks (V.site (V.fixed view.old)) (V.templates (V.fixed view.old)) frame.value) (V.kept view.old) (V.kept view.new) }
     ensures answer { IfOk result (λ o. IsFinal (V.site (V.fixed view.old)) (V.templates (V.fixed view.old)) frame.value o) }
 {
     let mut top = frame;
@@ -260,7 +264,8 @@ fn whole(alloc: Global, frame: Frame) -> Result<Outcome, NoMemory>
     }
 }
 
-/// What asking for the page of the term gives.
+/// What asking for the page of the term gives. Whatever it gives, the view keeps no new question but such as the page
+/// may ask.
 pub fn render<V: SiteView>(
     alloc: Global,
     view: &mut V,
@@ -271,6 +276,7 @@ pub fn render<V: SiteView>(
     requires own { V.Own view.old }
     ensures own { V.Own view.new }
     ensures fixed { V.fixed view.new ≡ V.fixed view.old }
+    ensures kept { KeepsOnly (MayAsk (V.site (V.fixed view.old)) (V.templates (V.fixed view.old)) term.now) (V.kept view.old) (V.kept view.new) }
     ensures answer { IfOk result (λ o. IsOutcome (V.site (V.fixed view.old)) (V.templates (V.fixed view.old)) term.now o) }
 {
     if !view.in_site(alloc, term)? {

@@ -1,8 +1,11 @@
 // What a template makes of a value.
-ghost use Rattle.std.specs.Prelude.{◌≡◌, ◌∷◌, [], IfOk, if◌then◌else◌, nat_lt, not};
+ghost use Rattle.std.specs.Prelude.{◌≡◌, ◌∷◌, [], Contains, IfOk, if◌then◌else◌, nat_lt, not};
 ghost use Rattle.page_spec.specs.Show.{escaped, show, link};
 ghost use Rattle.page_spec.specs.Pieces.{Formatted, Joined, Expands, bytes, embed, items_of, delimiter as delimiter_items};
-ghost use Rattle.tmpl.specs.Body.{body_of};
+ghost use Rattle.tmpl.specs.Body.{body_of, done, part_before};
+ghost use Rattle.sd_value.specs.declared.Value.{Value};
+ghost use Rattle.demand_spec.specs.Reads.{KeepsOnly};
+ghost use Rattle.render.specs.Asks.{ModeAsks, SceneAsks};
 ghost use Rattle.render.specs.Rows.{PartExpands};
 
 use crate::html::{push_escaped_value, push_link};
@@ -63,6 +66,7 @@ fn formatted<V: SiteView>(
     requires own { V.Own view.old }
     ensures own { V.Own view.new }
     ensures fixed { V.fixed view.new ≡ V.fixed view.old }
+    ensures kept { KeepsOnly (ModeAsks (V.site (V.fixed view.old)) mode.now value.now) (V.kept view.old) (V.kept view.new) }
     ensures answer { IfOk result (λ ps. Formatted (V.site (V.fixed view.old)) (V.templates (V.fixed view.old)) mode.now value.now (items_of ps.items)) }
 {
     match mode {
@@ -100,6 +104,7 @@ fn all_formatted<V: SiteView>(
     requires own { V.Own view.old }
     ensures own { V.Own view.new }
     ensures fixed { V.fixed view.new ≡ V.fixed view.old }
+    ensures kept { KeepsOnly (λ q. (v : Value) × Contains values.now v × ModeAsks (V.site (V.fixed view.old)) mode.now v q) (V.kept view.old) (V.kept view.new) }
     ensures answer { IfOk result (λ ps. Joined
         (Formatted (V.site (V.fixed view.old)) (V.templates (V.fixed view.old)) mode.now) (delimiter_items delimiter.now) values.now (items_of ps.items)) }
 {
@@ -153,6 +158,7 @@ pub fn expand<V: SiteView>(
     requires own { V.Own view.old }
     ensures own { V.Own view.new }
     ensures fixed { V.fixed view.new ≡ V.fixed view.old }
+    ensures kept { KeepsOnly (SceneAsks (V.site (V.fixed view.old)) record { here = here.now; loops = loops.now } (body_of parts.now)) (V.kept view.old) (V.kept view.new) }
     ensures answer { IfOk result (λ ps. Expands (V.site (V.fixed view.old)) (V.templates (V.fixed view.old))
         record { here = here.now; loops = loops.now } (body_of parts.now) (items_of ps.items)) }
 {
@@ -175,6 +181,7 @@ fn expand_part<V: SiteView>(
     requires own { V.Own view.old }
     ensures own { V.Own view.new }
     ensures fixed { V.fixed view.new ≡ V.fixed view.old }
+    ensures kept { KeepsOnly (SceneAsks (V.site (V.fixed view.old)) record { here = here.now; loops = loops.now } (part_before part.now done)) (V.kept view.old) (V.kept view.new) }
     ensures answer { IfOk result (λ ps. PartExpands (V.site (V.fixed view.old)) (V.templates (V.fixed view.old))
         record { here = here.now; loops = loops.now } part.now (items_of ps.items)) }
 {

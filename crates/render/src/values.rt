@@ -5,6 +5,9 @@ ghost use Rattle.sd_value.specs.Order.{value_cmp};
 ghost use Rattle.sd_value.specs.Ascending.{ListsExactly};
 ghost use Rattle.page_spec.specs.Site.{Reaches, InRange, HasKey, Starts, IsBound, keyed_cmp, Arranged};
 ghost use Rattle.page_spec.specs.Pieces.{Compares, Holds};
+ghost use Rattle.page_spec.specs.Question.{out as asks_out};
+ghost use Rattle.demand_spec.specs.Reads.{KeepsOnly};
+ghost use Rattle.render.specs.Asks.{WordAsks, RootAsks, RangeAsks, KeyAsks, ArrangedAsks};
 ghost use Rattle.render.specs.Rows.{HasRow};
 
 use crate::compares::compares;
@@ -24,6 +27,7 @@ fn step<V: SiteView>(
     requires own { V.Own view.old }
     ensures own { V.Own view.new }
     ensures fixed { V.fixed view.new ≡ V.fixed view.old }
+    ensures kept { KeepsOnly (λ q. (u : Value) × Contains from.now u × (q ≡ asks_out u label.now)) (V.kept view.old) (V.kept view.new) }
     ensures answer { IfOk result (λ vs. ListsExactly value_cmp
         (λ v. (m : Value) × Contains from.now m × (V.site (V.fixed view.old)).edge m label.now v) vs.items) }
 {
@@ -46,6 +50,7 @@ pub fn reached<V: SiteView>(
     requires own { V.Own view.old }
     ensures own { V.Own view.new }
     ensures fixed { V.fixed view.new ≡ V.fixed view.old }
+    ensures kept { KeepsOnly (WordAsks (V.site (V.fixed view.old)) (Contains from.items) word.now) (V.kept view.old) (V.kept view.new) }
     ensures answer { IfOk result (λ vs. ListsExactly value_cmp
         (λ v. (u : Value) × Contains from.items u × Reaches (V.site (V.fixed view.old)) u word.now v) vs.items) }
 {
@@ -68,6 +73,7 @@ fn starts<V: SiteView>(
     requires own { V.Own view.old }
     ensures own { V.Own view.new }
     ensures fixed { V.fixed view.new ≡ V.fixed view.old }
+    ensures kept { KeepsOnly (RootAsks root.now) (V.kept view.old) (V.kept view.new) }
     ensures answer { IfOk result (λ us. (v : Value) → Contains us.items v
         ↔ Starts (V.site (V.fixed view.old)) record { here = here.now; loops = loops.now } root.now v) }
 {
@@ -115,6 +121,7 @@ pub fn range<V: SiteView>(
     requires own { V.Own view.old }
     ensures own { V.Own view.new }
     ensures fixed { V.fixed view.new ≡ V.fixed view.old }
+    ensures kept { KeepsOnly (RangeAsks (V.site (V.fixed view.old)) record { here = here.now; loops = loops.now } expr.now) (V.kept view.old) (V.kept view.new) }
     ensures answer { IfOk result (λ vs. ListsExactly value_cmp
         (InRange (V.site (V.fixed view.old)) record { here = here.now; loops = loops.now } expr.now) vs.items) }
 {
@@ -133,6 +140,7 @@ pub fn key<V: SiteView>(
     requires own { V.Own view.old }
     ensures own { V.Own view.new }
     ensures fixed { V.fixed view.new ≡ V.fixed view.old }
+    ensures kept { KeepsOnly (KeyAsks (V.site (V.fixed view.old)) word.now value.now) (V.kept view.old) (V.kept view.new) }
     ensures answer { IfOk result (λ k. HasKey (V.site (V.fixed view.old)) word.now value.now k) }
 {
     match word {
@@ -167,6 +175,7 @@ pub fn holds<V: SiteView>(
     requires own { V.Own view.old }
     ensures own { V.Own view.new }
     ensures fixed { V.fixed view.new ≡ V.fixed view.old }
+    ensures kept { KeepsOnly (RangeAsks (V.site (V.fixed view.old)) record { here = here.now; loops = loops.now } expr.now) (V.kept view.old) (V.kept view.new) }
     ensures answer { IfOk result (λ r. IsTrue r
         ↔ Holds (V.site (V.fixed view.old)) record { here = here.now; loops = loops.now } expr.now against.now) }
 {
@@ -209,6 +218,7 @@ pub fn arranged<V: SiteView>(
     requires own { V.Own view.old }
     ensures own { V.Own view.new }
     ensures fixed { V.fixed view.new ≡ V.fixed view.old }
+    ensures kept { KeepsOnly (ArrangedAsks (V.site (V.fixed view.old)) record { here = here.now; loops = loops.now } expr.now order.now) (V.kept view.old) (V.kept view.new) }
     ensures answer { IfOk result (λ vs. Arranged (V.site (V.fixed view.old)) record { here = here.now; loops = loops.now } expr.now order.now vs.items) }
 {
     let values = range(alloc, view, here, loops, expr)?;
@@ -236,6 +246,7 @@ fn with_keys<V: SiteView>(
     requires own { V.Own view.old }
     ensures own { V.Own view.new }
     ensures fixed { V.fixed view.new ≡ V.fixed view.old }
+    ensures kept { KeepsOnly (λ q. (v : Value) × Contains values.now v × KeyAsks (V.site (V.fixed view.old)) word.now v q) (V.kept view.old) (V.kept view.new) }
     ensures answer { IfOk result (λ rows. ListsExactly keyed_cmp
         (λ r. (v : Value) × Contains values.now v × HasRow (V.site (V.fixed view.old)) word.now v r) rows.items) }
 {

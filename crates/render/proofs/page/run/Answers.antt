@@ -1,14 +1,18 @@
-use Rattle.std.proofs.Common.{◌≡◌, ◌⊎◌, ◌≤◌, ◌+◌, ◌-◌, ℕ, List, [], ◌∷◌, ◌++◌, length, sym, ap, ◌∙◌, subst, arith, refl}
+use Rattle.std.proofs.Common.{◌≡◌, ◌⊎◌, ◌≤◌, ◌+◌, ◌-◌, ℕ, List, [], ◌∷◌, ◌++◌, length, sym, ap, ◌∙◌, subst, arith}
 use Rattle.std.specs.Prelude.{Contains, All}
 use Rattle.std.proofs.lemmas.List.Elements.{All-push}
-use Rattle.sd_value.specs.declared.Value.{Value}
 use Rattle.page_spec.specs.Pieces.{HasTemplate}
 use Rattle.page_spec.specs.Page.{HasText}
 use Rattle.render.specs.declared.page.Done.{Done}
 use Rattle.render.specs.declared.page.Frame.{Frame}
-use Rattle.render.specs.Frames.{IsKept, IsDone, IsFrame, IsStep, Chain, frame_values, work}
+use Rattle.render.specs.Frames.{IsKept, IsDone, IsFrame, Chain, frame_values, work}
 use Rattle.render.proofs.Gather.{nothing_in}
 use Rattle.render.proofs.Frames.{frame_appended, frame_whole, final_from_text, chain_push, chain_pop, cyclic_at, empty_list, frame_templated, work_push}
+use Rattle.page_spec.specs.Page.{nowhere, on}
+use Rattle.render.specs.Asks.{FrameAsks}
+use Rattle.render.proofs.Frames.{frame_embeds, chain_leads, leads_trans}
+use Rattle.render.proofs.Asked.{keeps_then}
+use Rattle.render.proofs.Scenes.{led_asks}
 use Rattle.render.proofs.page.run.Goals as goal
 
 pub returns-in-Again-clause-answer : goal.returns-in-Again-clause-answer
@@ -44,6 +48,7 @@ taking-preserved-in-Append g c =
       top = frame_appended s f c.taking.top q c.as_slice.result.now c.as_slice-then-top-len.result.now c.in-Append.more c.taking.invariant.top st ds e.value e.pieces e.at e.text;
       done = c.taking.invariant.done;
       count = c.taking.invariant.count;
+      kept = c.taking.invariant.kept;
     }
 
 pub entering-preserved : goal.entering-preserved
@@ -66,6 +71,13 @@ entering-preserved g c =
       chain = rw c.in_ok-push-in-Some.ensures.items (subst (Chain s f [] c.args.frame.value (rs ++ r ∷ [])) (sym a.1) ch);
       top = fr;
       done = c.taking.invariant.done;
+      kept = keeps_then c.taking.invariant.kept
+          (λ q h. let emb = frame_embeds (g.V.SiteView.site (g.V.SiteView.fixed c.args.view.now)) (g.V.SiteView.templates (g.V.SiteView.fixed c.args.view.now)) c.taking.top c.in-Enter.value c.taking.invariant.top (rw c.in-Enter.is at c.in_ok-more.ensures).0 in
+          let way = chain_leads (g.V.SiteView.site (g.V.SiteView.fixed c.args.view.now)) (g.V.SiteView.templates (g.V.SiteView.fixed c.args.view.now)) c.taking.stack.items [] c.args.frame.value c.taking.top.value c.taking.invariant.chain in
+          led_asks (g.V.SiteView.site (g.V.SiteView.fixed c.args.view.now)) (g.V.SiteView.templates (g.V.SiteView.fixed c.args.view.now)) c.args.frame.value c.taking.top.value c.in-Enter.value q way
+          (leads_trans (g.V.SiteView.site (g.V.SiteView.fixed c.args.view.now)) (g.V.SiteView.templates (g.V.SiteView.fixed c.args.view.now)) c.args.frame.value c.taking.top.value c.in-Enter.value way (on emb nowhere))
+          emb (subst (λ x. FrameAsks (g.V.SiteView.site x) (g.V.SiteView.templates x) c.in-Enter.value q) c.taking.invariant.fixed h))
+          c.in_ok-frame_of-in-Enter.ensures.kept;
     }
 
 pub taking-preserved : goal.taking-preserved
@@ -87,6 +99,7 @@ taking-preserved g c =
       top = cp.1;
       done = rw c.in_ok-push-in-Some-pop.ensures.items (All-push (IsDone s f) c.taking.done.items d c.taking.invariant.done isd);
       count = omega (arith, c.taking.invariant.count, c.in-Some-pop.ensures.cases, c.in_ok-push-in-Some-pop.ensures.len);
+      kept = c.taking.invariant.kept;
     }
 
 pub taking-smaller : goal.taking-smaller
@@ -105,3 +118,23 @@ unreachable-requires g c =
     let none' = subst (λ x. (k : ℕ) → HasTemplate (g.V.SiteView.site x) (g.V.SiteView.templates x) c.in-Enter.value k → ⊥) c.taking.invariant.fixed none in
     let t = frame_templated s f c.taking.top c.in-Enter.value c.taking.invariant.top st.0 in
     none' t.0 t.1
+
+pub returns-in_err-frame_of-in-Enter-clause-kept : goal.returns-in_err-frame_of-in-Enter-clause-kept
+returns-in_err-frame_of-in-Enter-clause-kept g c =
+    keeps_then c.taking.invariant.kept
+    (λ q h. let emb = frame_embeds (g.V.SiteView.site (g.V.SiteView.fixed c.args.view.now)) (g.V.SiteView.templates (g.V.SiteView.fixed c.args.view.now)) c.taking.top c.in-Enter.value c.taking.invariant.top (rw c.in-Enter.is at c.in_ok-more.ensures).0 in
+    let way = chain_leads (g.V.SiteView.site (g.V.SiteView.fixed c.args.view.now)) (g.V.SiteView.templates (g.V.SiteView.fixed c.args.view.now)) c.taking.stack.items [] c.args.frame.value c.taking.top.value c.taking.invariant.chain in
+    led_asks (g.V.SiteView.site (g.V.SiteView.fixed c.args.view.now)) (g.V.SiteView.templates (g.V.SiteView.fixed c.args.view.now)) c.args.frame.value c.taking.top.value c.in-Enter.value q way
+    (leads_trans (g.V.SiteView.site (g.V.SiteView.fixed c.args.view.now)) (g.V.SiteView.templates (g.V.SiteView.fixed c.args.view.now)) c.args.frame.value c.taking.top.value c.in-Enter.value way (on emb nowhere))
+    emb (subst (λ x. FrameAsks (g.V.SiteView.site x) (g.V.SiteView.templates x) c.in-Enter.value q) c.taking.invariant.fixed h))
+    c.in_err-frame_of-in-Enter.ensures.kept
+
+pub returns-in_err-push-in-Some-clause-kept : goal.returns-in_err-push-in-Some-clause-kept
+returns-in_err-push-in-Some-clause-kept g c =
+    keeps_then c.taking.invariant.kept
+    (λ q h. let emb = frame_embeds (g.V.SiteView.site (g.V.SiteView.fixed c.args.view.now)) (g.V.SiteView.templates (g.V.SiteView.fixed c.args.view.now)) c.taking.top c.in-Enter.value c.taking.invariant.top (rw c.in-Enter.is at c.in_ok-more.ensures).0 in
+    let way = chain_leads (g.V.SiteView.site (g.V.SiteView.fixed c.args.view.now)) (g.V.SiteView.templates (g.V.SiteView.fixed c.args.view.now)) c.taking.stack.items [] c.args.frame.value c.taking.top.value c.taking.invariant.chain in
+    led_asks (g.V.SiteView.site (g.V.SiteView.fixed c.args.view.now)) (g.V.SiteView.templates (g.V.SiteView.fixed c.args.view.now)) c.args.frame.value c.taking.top.value c.in-Enter.value q way
+    (leads_trans (g.V.SiteView.site (g.V.SiteView.fixed c.args.view.now)) (g.V.SiteView.templates (g.V.SiteView.fixed c.args.view.now)) c.args.frame.value c.taking.top.value c.in-Enter.value way (on emb nowhere))
+    emb (subst (λ x. FrameAsks (g.V.SiteView.site x) (g.V.SiteView.templates x) c.in-Enter.value q) c.taking.invariant.fixed h))
+    c.in_ok-frame_of-in-Enter.ensures.kept

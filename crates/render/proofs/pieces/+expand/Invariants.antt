@@ -1,6 +1,9 @@
 use Rattle.std.proofs.Common.{◌≡◌, ◌++◌, List, take, drop}
 use Rattle.tmpl.specs.Body.{body_of}
 use Rattle.page_spec.specs.Pieces.{Item, Expands, Joined, binding, items_of, delimiter}
+use Rattle.tmpl.specs.Body.{part_before, done}
+use Rattle.render.specs.Asks.{SceneAsks}
+use Rattle.demand_spec.specs.Reads.{KeepsOnly}
 use Rattle.render.proofs.pieces.+expand.Given as goal
 
 abbrev pub invariant-expand-loop-part : goal.invariant-expand-loop-part
@@ -8,6 +11,7 @@ invariant-expand-loop-part g l = record {
   own : g.V.SiteView.Own l.view;
   fixed : g.V.SiteView.fixed l.view ≡ g.V.SiteView.fixed l.fn.view;
   so_far : (b : List Item) → Expands (g.V.SiteView.site (g.V.SiteView.fixed l.fn.view)) (g.V.SiteView.templates (g.V.SiteView.fixed l.fn.view)) record { here = l.here; loops = l.loops } (body_of (drop l.part-index l.parts)) b → Expands (g.V.SiteView.site (g.V.SiteView.fixed l.fn.view)) (g.V.SiteView.templates (g.V.SiteView.fixed l.fn.view)) record { here = l.here; loops = l.loops } (body_of l.parts) (items_of l.pieces.items ++ b);
+  kept : KeepsOnly (SceneAsks (g.V.SiteView.site (g.V.SiteView.fixed l.fn.view)) record { here = l.here; loops = l.loops } (body_of l.parts)) (g.V.SiteView.kept l.fn.view) (g.V.SiteView.kept l.view);
 }
 
 abbrev pub invariant-expand_part-loop-number : goal.invariant-expand_part-loop-number
@@ -15,4 +19,5 @@ invariant-expand_part-loop-number g l = record {
   own : g.V.SiteView.Own l.view;
   fixed : g.V.SiteView.fixed l.view ≡ g.V.SiteView.fixed l.fn.view;
   joined : Joined (λ v. Expands (g.V.SiteView.site (g.V.SiteView.fixed l.fn.view)) (g.V.SiteView.templates (g.V.SiteView.fixed l.fn.view)) (binding record { here = l.here; loops = l.loops } l.repeat.number v) (body_of l.repeat.body.items)) (delimiter l.repeat.order.delimiter) (take l.number l.value-items) (items_of l.pieces.items);
+  kept : KeepsOnly (SceneAsks (g.V.SiteView.site (g.V.SiteView.fixed l.fn.view)) record { here = l.here; loops = l.loops } (part_before l.part done)) (g.V.SiteView.kept l.fn.view) (g.V.SiteView.kept l.view);
 }

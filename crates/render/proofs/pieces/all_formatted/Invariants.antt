@@ -1,5 +1,9 @@
 use Rattle.std.proofs.Common.{◌≡◌, take}
 use Rattle.page_spec.specs.Pieces.{Formatted, Joined, items_of, delimiter}
+use Rattle.sd_value.specs.declared.Value.{Value}
+use Rattle.std.specs.Prelude.{Contains}
+use Rattle.render.specs.Asks.{ModeAsks}
+use Rattle.demand_spec.specs.Reads.{KeepsOnly}
 use Rattle.render.proofs.pieces.all_formatted.Given as goal
 
 abbrev pub invariant-loop-number : goal.invariant-loop-number
@@ -7,4 +11,5 @@ invariant-loop-number g l = record {
   own : g.V.SiteView.Own l.view;
   fixed : g.V.SiteView.fixed l.view ≡ g.V.SiteView.fixed l.initial.view;
   joined : Joined (Formatted (g.V.SiteView.site (g.V.SiteView.fixed l.initial.view)) (g.V.SiteView.templates (g.V.SiteView.fixed l.initial.view)) l.mode) (delimiter l.delimiter) (take l.number l.values) (items_of l.pieces.items);
+  kept : KeepsOnly (λ q. (v : Value) × Contains l.values v × ModeAsks (g.V.SiteView.site (g.V.SiteView.fixed l.initial.view)) l.mode v q) (g.V.SiteView.kept l.initial.view) (g.V.SiteView.kept l.view);
 }

@@ -1,0 +1,56 @@
+-- What the parts of a template ask of a site, at values of their loops that are given.
+use Rattle.std.specs.Prelude.{◌≡◌, ◌⊎◌, Option, Some, None}
+use Rattle.sd_value.specs.declared.Value.{Value}
+use Rattle.tmpl.specs.Body.{Body, done, text, format, choice, repeat, TemplateFile}
+use Rattle.tmpl.specs.declared.Expr.{Expr}
+use Rattle.tmpl.specs.declared.Order.{Order}
+use Rattle.tmpl.specs.declared.Mode.{Mode}
+use Rattle.tmpl.specs.declared.Mode.TheVariants.{Plain, Embed, Link}
+use Rattle.tmpl.specs.declared.WordRoot.{WordRoot}
+use Rattle.tmpl.specs.declared.WordRoot.TheVariants.{Collection}
+use Rattle.page_spec.specs.Site.{Site, Scene, Starts, InRange}
+use Rattle.page_spec.specs.Pieces.{binding}
+use Rattle.page_spec.specs.Page.{Leads}
+use Rattle.page_spec.specs.Question.{Question, out, collected, template}
+use Rattle.demand_spec.specs.Reads.{Name, Word, Passes, Presents, BodyAsks}
+
+-- the word, begun at a value with P, comes to u and has the label next
+abbrev pub WordAsks : Site → (Value → Type 0) → Word → Question → Type 0
+WordAsks s P word q = (u : Value) × (label : Name) × (q ≡ out u label) × ((w : Value) × P w × Passes s w word u label)
+
+abbrev pub RootAsks : WordRoot → Question → Type 0
+RootAsks root q = (c : Name) × (root ≡ Collection c) × (q ≡ collected c)
+
+abbrev pub RangeAsks : Site → Scene → Expr → Question → Type 0
+RangeAsks s e x q = RootAsks x.root q ⊎ WordAsks s (Starts s e x.root) x.word q
+
+abbrev pub KeyAsks : Site → Option Word → Value → Question → Type 0
+KeyAsks s None v q = ⊥
+KeyAsks s (Some word) v q = WordAsks s (λ w. v ≡ w) word q
+
+abbrev pub ArrangedAsks : Site → Scene → Expr → Order → Question → Type 0
+ArrangedAsks s e x o q = RangeAsks s e x q ⊎ ((v : Value) × InRange s e x v × KeyAsks s o.key v q)
+
+abbrev pub ModeAsks : Site → Mode → Value → Question → Type 0
+ModeAsks s Plain v q = ⊥
+ModeAsks s Embed v q = q ≡ template v
+ModeAsks s (Link word) v q = KeyAsks s word v q
+
+abbrev pub SceneAsks : Site → Scene → Body → Question → Type 0
+SceneAsks s e done q = ⊥
+SceneAsks s e (text t rest) q = SceneAsks s e rest q
+SceneAsks s e (format x m o rest) q = (ArrangedAsks s e x o q ⊎ ((v : Value) × InRange s e x v × ModeAsks s m v q)) ⊎ SceneAsks s e rest q
+SceneAsks s e (choice negated x against taken other rest) q = (RangeAsks s e x q ⊎ (SceneAsks s e taken q ⊎ SceneAsks s e other q)) ⊎ SceneAsks s e rest q
+SceneAsks s e (repeat k x o body rest) q = (ArrangedAsks s e x o q ⊎ ((v : Value) × InRange s e x v × SceneAsks s (binding e k v) body q)) ⊎ SceneAsks s e rest q
+
+-- the template of n asks the question
+abbrev pub ValueAsks : Site → TemplateFile → Value → Question → Type 0
+ValueAsks s f n q = (b : Body) × Presents s f n b × BodyAsks s b n q
+
+-- n's number is asked for, or its template asks
+abbrev pub FrameAsks : Site → TemplateFile → Value → Question → Type 0
+FrameAsks s f n q = (q ≡ template n) ⊎ ValueAsks s f n q
+
+-- the template of a value that embeds lead to from n asks the question
+abbrev pub LedAsks : Site → TemplateFile → Value → Question → Type 0
+LedAsks s f n q = (m : Value) × Leads s f n m × ValueAsks s f m q
