@@ -23,7 +23,7 @@ use Rattle.sd_ddl.specs.Reads.{Reads, of_text}
 use Rattle.lex_laws.proofs.Tokens.{one_token_list}
 use Rattle.lex_laws.proofs.TextFaults.{text_fault, text_spelled_no_fault}
 use Rattle.ddl_answer.specs.OneAnswer.{IsSettled, HasOneAnswer}
-use Rattle.ddl_answer.proofs.Steps.{ends_once, Settles}
+use Rattle.source_steps.specs.Once.{ends_once, IsTold}
 
 -- the answer of a whole text whose steps end so
 abbrev ended : Ending ℕ ℕ → Result ⊤ DdlRefusal
@@ -43,7 +43,7 @@ data Way (limit : ℕ) (bytes : List ℕ) (b c : Building) (r : Result ⊤ DdlRe
   lexed : (e : LexRefusal) → IsTextOrFault limit bytes (Err e) → c ≡ b → r ≡ Err (of_text (of_lexer e)) → Way limit bytes b c r
   stuck : (tokens rest : List Token) → IsTextOrFault limit bytes (Ok tokens) → FirstFault IsReal file file tokens rest → c ≡ b → r ≡ Err (Expected (place (length bytes) rest)) → Way limit bytes b c r
   taken : (tokens : List Token) (statements : List Statement) → IsTextOrFault limit bytes (Ok tokens) → file tokens statements
-      → (e : Ending ℕ ℕ) (d : Building) → Settles e → Ends b (steps (parts statements)) d e → c ≡ left_by b d e → r ≡ ended e → Way limit bytes b c r
+      → (e : Ending ℕ ℕ) (d : Building) → IsTold e → Ends b (steps (parts statements)) d e → c ≡ left_by b d e → r ≡ ended e → Way limit bytes b c r
 
 way : (limit : ℕ) (bytes : List ℕ) (b c : Building) (r : Result ⊤ DdlRefusal) → Reads limit bytes b c r → IsSettled r → Way limit bytes b c r
 way limit bytes b c (Ok u) (statements, (tokens, l, f), t) settled = taken tokens statements l f done c tt t refl refl
@@ -85,7 +85,7 @@ one_way limit bytes b c d r s (taken tokens statements l f ending x settled t sa
 one_way limit bytes b c d r s (taken tokens statements l f ending x settled t same is) (taken tokens2 statements2 m g ending2 y settled2 u same2 is2) =
     let e : tokens2 ≡ tokens = same_tokens limit bytes tokens2 tokens m l in
     let one : statements2 ≡ statements = one_value IsReal file file read_file file_part.reads tokens statements2 statements (subst (λ x. file x statements2) e g) f in
-    let both = ends_once (steps (parts statements)) b x y ending ending2 settled settled2 t (subst (λ z. Ends b (steps (parts z)) y ending2) one u) in
+    let both = ends_once b x y (steps (parts statements)) ending ending2 settled settled2 t (subst (λ z. Ends b (steps (parts z)) y ending2) one u) in
     (same ∙ ap (λ z. left_by b z ending) both.0 ∙ ap (λ z. left_by b y z) both.1 ∙ sym same2, is ∙ ap ended both.1 ∙ sym is2)
 
 pub one_answer : (limit : ℕ) (bytes : List ℕ) (b : Building) → HasOneAnswer limit bytes b
