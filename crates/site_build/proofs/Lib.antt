@@ -1,0 +1,5 @@
+pub mod Growing
+pub mod Under
+pub mod Site
+pub mod Picks
+pub mod Pages

@@ -1,0 +1,5 @@
+pub mod Ordered
+pub mod Gains
+pub mod Materialised
+pub mod Places
+pub mod Fixed

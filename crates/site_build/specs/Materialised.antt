@@ -1,0 +1,57 @@
+-- What stands in a site, from the rows of its blocks.
+use Rattle.std.specs.Prelude.{◌≡◌, ℕ, List}
+use Rattle.sd_value.specs.declared.Term.{Term}
+use Rattle.sd_value.specs.declared.Value.TheVariants.{Page}
+use Rattle.sd_value.specs.Order.{term_cmp}
+use Rattle.sd_value.specs.Ascending.{ListsExactly}
+use Rattle.graph_spec.specs.DataGraph.{DataGraph, IsWellFormed}
+use Rattle.tmpl.specs.Body.{TemplateFile}
+use Rattle.page_spec.specs.Pieces.{First}
+use Rattle.query_spec.specs.Query.{Link, Collect}
+use Rattle.query_spec.specs.Holds.{Assignment}
+use Rattle.site_spec.specs.Site.{Scope, SomeOf, Joins, IsTargetUnder, IsNamed, InSite, Linked, CollectedBy, terms_of}
+use Rattle.query_site.specs.declared.Scoped.{Scoped}
+use Rattle.query_site.specs.declared.Scopes.{Scopes}
+use Rattle.query_site.specs.Blocks.{body_of, scope_of, AreScoped}
+use Rattle.site_asks.specs.Ends.{BlockJoins, BlockPuts}
+use Rattle.site_build.specs.declared.ordered.Joined.{Joined}
+use Rattle.site_build.specs.declared.ordered.Put.{Put}
+use Rattle.site_build.specs.declared.contents.Contents.{Contents}
+use Rattle.site_build.specs.Ordered.{joined_cmp, put_cmp}
+use Rattle.site_build.specs.Gains.{Gains}
+
+-- the link joins the page to the value under an assignment
+abbrev pub IsJoin : Link → Assignment → Joined → Type 0
+IsJoin k s j = Joins s k (Page j.from) j.label j.to
+
+-- the COLLECT puts the value under an assignment
+abbrev pub IsPutUnder : Collect → Assignment → Put → Type 0
+IsPutUnder k s p = (k.collection ≡ p.collection) × IsTargetUnder s k.target p.value
+
+-- what the rows of one block add
+pub record BlockAdds (G : DataGraph) (b : Scoped) (old new : Contents) : Type 0 where
+  pub terms : Gains (λ p. SomeOf (IsNamed G b.chain p) (terms_of (body_of b))) old.terms.items new.terms.items
+  pub links : Gains (λ (j : Joined). BlockJoins G (Page j.from) j.label b j.to) old.links.items new.links.items
+  pub puts : Gains (λ (p : Put). BlockPuts G p.collection b p.value) old.puts.items new.puts.items
+
+-- what the rows of these blocks add
+pub record BlocksAdd (G : DataGraph) (bs : List Scoped) (old new : Contents) : Type 0 where
+  pub terms : Gains (λ p. SomeOf (λ b. SomeOf (IsNamed G b.chain p) (terms_of (body_of b))) bs) old.terms.items new.terms.items
+  pub links : Gains (λ (j : Joined). SomeOf (λ b. BlockJoins G (Page j.from) j.label b j.to) bs) old.links.items new.links.items
+  pub puts : Gains (λ (p : Put). SomeOf (λ b. BlockPuts G p.collection b p.value) bs) old.puts.items new.puts.items
+
+-- the ascending lists of exactly the site's terms, links, and values put under names
+pub record IsContents (G : DataGraph) (q : Scope) (terms : List Term) (links : List Joined) (puts : List Put) : Type 0 where
+  pub all_terms : ListsExactly term_cmp (InSite G q) terms
+  pub all_links : ListsExactly joined_cmp (λ j. Linked G q (Page j.from) j.label j.to) links
+  pub all_puts : ListsExactly put_cmp (λ p. CollectedBy G q p.collection p.value) puts
+
+-- the contents are those of the site of these blocks over the graph
+pub record IsWhole (G : DataGraph) (scopes : Scopes) (contents : Contents) : Type 0 where
+  pub well_formed : IsWellFormed G
+  pub scoped : AreScoped scopes.version scopes.blocks.items
+  pub made : IsContents G (scope_of scopes) contents.terms.items contents.links.items contents.puts.items
+
+-- the term's function has a template
+abbrev pub HasPageTemplate : TemplateFile → Term → Type 0
+HasPageTemplate f t = (k : ℕ) × First (λ name. name ≡ t.function) f.functions k

@@ -1,0 +1,135 @@
+// What stands in a site: every block's rows are asked for once.
+ghost use Rattle.std.specs.Prelude.{◌≡◌, Contains, IfOk, OnOk};
+ghost use Rattle.query_spec.specs.Mentions.{IsWellMade};
+ghost use Rattle.query_spec.specs.Rows.{value_in};
+ghost use Rattle.struql_ast.specs.Reading.{link_of, collect_of};
+ghost use Rattle.site_spec.specs.Site.{IsTermUnder, SomeOf, terms_of};
+ghost use Rattle.query_site.specs.declared.Scoped.{Scoped as AnyScoped};
+ghost use Rattle.query_site.specs.Blocks.{AreScoped, body_of, scope_of};
+ghost use Rattle.site_build.specs.Gains.{Gains};
+ghost use Rattle.site_build.specs.Materialised.{IsJoin, IsPutUnder, BlockAdds, BlocksAdd, IsContents};
+
+use crate::made::add_rows;
+use crate::ordered::{Joined, Put};
+use asker::Asker;
+use query_site::{Scoped, Scopes};
+use query_spec::Row;
+use sd_value::{NoMemory, Term, sort_and_dedup};
+use site_asks::rows_of;
+use std::alloc::Global;
+
+/// Terms, links, and the values that COLLECTs put under names.
+#[derive(Debug, Drop)]
+pub struct Contents {
+    pub terms: Vec<Term>,
+    pub links: Vec<Joined>,
+    pub puts: Vec<Put>,
+}
+
+fn add_terms(
+    alloc: Global,
+    block: &Scoped,
+    rows: &[Row],
+    terms: &mut Vec<Term>,
+) -> Result<(), NoMemory>
+    ensures { OnOk result (Gains (λ p. SomeOf (λ row. SomeOf (λ t. IsTermUnder (value_in block.now.chain.variables row) t p) (terms_of (body_of block.now))) rows.now) terms.old.items terms.new.items) }
+{
+    let variables = block.chain.variables();
+    add_rows(alloc, variables, rows, block.creates.as_slice(), terms)?;
+    add_rows(alloc, variables, rows, block.links.as_slice(), terms)?;
+    add_rows(alloc, variables, rows, block.collects.as_slice(), terms)?;
+    Ok(())
+}
+
+fn add_links(
+    alloc: Global,
+    block: &Scoped,
+    rows: &[Row],
+    links: &mut Vec<Joined>,
+) -> Result<(), NoMemory>
+    ensures { OnOk result (Gains (λ j. SomeOf (λ row. SomeOf (λ k. IsJoin (link_of k) (value_in block.now.chain.variables row) j) block.now.links.items) rows.now) links.old.items links.new.items) }
+{
+    add_rows(
+        alloc,
+        block.chain.variables(),
+        rows,
+        block.links.as_slice(),
+        links,
+    )?;
+    Ok(())
+}
+
+fn add_puts(
+    alloc: Global,
+    block: &Scoped,
+    rows: &[Row],
+    puts: &mut Vec<Put>,
+) -> Result<(), NoMemory>
+    ensures { OnOk result (Gains (λ p. SomeOf (λ row. SomeOf (λ k. IsPutUnder (collect_of k) (value_in block.now.chain.variables row) p) block.now.collects.items) rows.now) puts.old.items puts.new.items) }
+{
+    add_rows(
+        alloc,
+        block.chain.variables(),
+        rows,
+        block.collects.as_slice(),
+        puts,
+    )?;
+    Ok(())
+}
+
+// Adds what the rows of the block make.
+fn add_block<A: Asker>(
+    alloc: Global,
+    asker: &mut A,
+    block: &Scoped,
+    contents: &mut Contents,
+) -> Result<(), NoMemory>
+    requires { IsWellMade block.now.chain }
+    ensures graph { A.graph asker.new ≡ A.graph asker.old }
+    ensures adds { OnOk result (BlockAdds (A.graph asker.old) block.now contents.old contents.new) }
+{
+    let rows = rows_of(alloc, asker, &block.chain)?;
+    let rows = rows.as_slice();
+    add_terms(alloc, block, rows, &mut contents.terms)?;
+    add_links(alloc, block, rows, &mut contents.links)?;
+    add_puts(alloc, block, rows, &mut contents.puts)?;
+    Ok(())
+}
+
+fn add_blocks<A: Asker>(
+    alloc: Global,
+    asker: &mut A,
+    blocks: &[Scoped],
+    contents: &mut Contents,
+) -> Result<(), NoMemory>
+    requires { (b : AnyScoped) → Contains blocks.now b → IsWellMade b.chain }
+    ensures graph { A.graph asker.new ≡ A.graph asker.old }
+    ensures adds { OnOk result (BlocksAdd (A.graph asker.old) blocks.now contents.old contents.new) }
+{
+    for block in blocks {
+        add_block(alloc, asker, block, contents)?;
+    }
+    Ok(())
+}
+
+/// What stands in the site of the blocks over the asker's graph, in ascending lists.
+pub fn contents_of<A: Asker>(
+    alloc: Global,
+    asker: &mut A,
+    scopes: &Scopes,
+) -> Result<Contents, NoMemory>
+    requires scoped { AreScoped scopes.now.version scopes.now.blocks.items }
+    ensures graph { A.graph asker.new ≡ A.graph asker.old }
+    ensures contents { IfOk result (λ c. IsContents (A.graph asker.old) (scope_of scopes.now) c.terms.items c.links.items c.puts.items) }
+{
+    let mut contents = Contents {
+        terms: Vec::new(alloc),
+        links: Vec::new(alloc),
+        puts: Vec::new(alloc),
+    };
+    add_blocks(alloc, asker, scopes.blocks.as_slice(), &mut contents)?;
+    sort_and_dedup(&mut contents.terms);
+    sort_and_dedup(&mut contents.links);
+    sort_and_dedup(&mut contents.puts);
+    Ok(contents)
+}

@@ -1,0 +1,15 @@
+//! The whole site of a query over data, made from all rows of its blocks.
+#![tactic(auto)]
+
+mod collected;
+mod contents;
+mod joins;
+mod made;
+mod ordered;
+mod picked;
+mod terms;
+mod whole;
+
+pub use contents::Contents;
+pub use ordered::{Joined, Put};
+pub use whole::Whole;
