@@ -1,0 +1,51 @@
+-- Answers of the readers, and the format of a path.
+use Rattle.std.specs.Prelude.{◌≡◌, ◌||◌, ℕ, Bool, true, false, List, [], ◌∷◌, Err, if◌then◌else◌}
+use Rattle.std.proofs.Common.{refl, inl}
+use Rattle.std.specs.List.{list_any}
+use Rattle.sd_graph.specs.Statement.{Building}
+use Rattle.sd_ddl.specs.declared.refusal.DdlRefusal.TheVariants as ddl
+use Rattle.csv_source.specs.declared.refusal.CsvRefusal.TheVariants as csv
+use Rattle.csv_source.specs.Text.{text_steps, records_of}
+use Rattle.json_source.specs.declared.refusal.JsonRefusal.TheVariants as json
+use Rattle.json_source.specs.Text as json_text
+use Rattle.data_source.specs.declared.format.Format.{Format}
+use Rattle.data_source.specs.declared.format.Format.TheVariants.{DataText, Csv, Json}
+use Rattle.data_source.specs.declared.refusal.SourceRefusal.TheVariants.{NoMemory}
+use Rattle.data_source.specs.Formats.{is_slash, behind_slashes}
+use Rattle.data_source.specs.Takes.{TakesAs}
+
+-- want of memory before anything is read
+pub no_memory_first : (format : Format) (limit : ℕ) (bytes : List ℕ) (b : Building) → TakesAs format limit bytes b b (Err NoMemory)
+no_memory_first DataText limit bytes b = (Err ddl.NoMemory, inl refl, refl)
+no_memory_first (Csv stem) limit bytes b = (Err csv.NoMemory, ([], text_steps stem (records_of bytes), refl, refl), refl)
+no_memory_first (Json stem) limit bytes b = (Err json.NoMemory, ([], json_text.text_steps stem bytes, refl, refl), refl)
+
+-- the name, where the bytes of the rest are still to be seen
+abbrev pub name_so_far : List ℕ → List ℕ → List ℕ
+name_so_far name rest = if list_any is_slash rest then behind_slashes rest else name
+
+pub behind_none : (path : List ℕ) → list_any is_slash path ≡ false → behind_slashes path ≡ path
+behind_none [] h = refl
+behind_none (b ∷ bs) h = by (is_slash b) (list_any is_slash bs) refl refl h
+  where
+    by : (p q : Bool) → is_slash b ≡ p → list_any is_slash bs ≡ q → (p || q) ≡ false → behind_slashes (b ∷ bs) ≡ b ∷ bs
+    by true q is rest e = cc
+    by false true is rest e = cc
+    by false false is rest e = rw (rest, is) refl
+
+pub name_start : (path : List ℕ) → name_so_far path path ≡ behind_slashes path
+name_start path = by (list_any is_slash path) refl
+  where
+    by : (p : Bool) → list_any is_slash path ≡ p → name_so_far path path ≡ behind_slashes path
+    by true is = rw is refl
+    by false is = rw (is, behind_none path is) refl
+
+pub name_slash : (name : List ℕ) (b : ℕ) (bs : List ℕ) → is_slash b ≡ true → name_so_far name (b ∷ bs) ≡ name_so_far bs bs
+name_slash name b bs is = rw is refl
+
+pub name_other : (name : List ℕ) (b : ℕ) (bs : List ℕ) → is_slash b ≡ false → name_so_far name (b ∷ bs) ≡ name_so_far name bs
+name_other name b bs is = by (list_any is_slash bs) refl
+  where
+    by : (p : Bool) → list_any is_slash bs ≡ p → name_so_far name (b ∷ bs) ≡ name_so_far name bs
+    by true rest = rw (is, rest) refl
+    by false rest = rw (is, rest) refl

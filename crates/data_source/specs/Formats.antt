@@ -1,0 +1,27 @@
+-- The format that a path tells.
+use Rattle.std.specs.Prelude.{◌-◌, ℕ, Bool, nat_eq, List, [], ◌∷◌, length, drop, take, codes, if◌then◌else◌}
+use Rattle.std.specs.List.{list_any}
+use Rattle.std.specs.Cmp.Lexicographic.{pointwise}
+use Rattle.data_source.specs.declared.format.Format.{Format}
+use Rattle.data_source.specs.declared.format.Format.TheVariants.{DataText, Csv, Json}
+
+abbrev pub is_slash : ℕ → Bool
+is_slash b = nat_eq b 47
+
+-- what stands behind the last slash, or all where there is none
+abbrev pub behind_slashes : List ℕ → List ℕ
+behind_slashes [] = []
+behind_slashes (b ∷ bs) = if list_any is_slash bs then behind_slashes bs else if is_slash b then bs else b ∷ bs
+
+abbrev pub ends_with : List ℕ → List ℕ → Bool
+ends_with path suffix = pointwise nat_eq (drop (length path - length suffix) path) suffix
+
+-- what stands between the last slash and the suffix
+abbrev pub stem_of : List ℕ → List ℕ → List ℕ
+stem_of path suffix = behind_slashes (take (length path - length suffix) path)
+
+abbrev pub format_of : List ℕ → Format
+format_of path =
+    if ends_with path (codes ".csv") then Csv (stem_of path (codes ".csv"))
+    else if ends_with path (codes ".json") then Json (stem_of path (codes ".json"))
+    else DataText

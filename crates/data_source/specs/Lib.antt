@@ -1,0 +1,3 @@
+pub mod Formats
+pub mod Told
+pub mod Takes

@@ -1,0 +1,25 @@
+-- What reading a data file into a graph answers, and what the graph holds afterwards.
+use Rattle.std.specs.Prelude.{◌≡◌, ℕ, List, Result, ⊤}
+use Rattle.sd_graph.specs.Statement.{Building}
+use Rattle.sd_ddl.specs.Reads as ddl
+use Rattle.csv_source.specs.Reads as csv
+use Rattle.json_source.specs.Reads as json
+use Rattle.data_source.specs.declared.format.Format.{Format}
+use Rattle.data_source.specs.declared.format.Format.TheVariants.{DataText, Csv, Json}
+use Rattle.data_source.specs.declared.refusal.SourceRefusal.{SourceRefusal}
+use Rattle.data_source.specs.Formats.{format_of}
+use Rattle.data_source.specs.Told.{ddl_told, csv_told, json_told, answer_told}
+
+-- the answer tells one of these answers of a reader
+abbrev pub Tells : {E : Type 0} → (Result ⊤ E → Type 0) → (E → SourceRefusal) → Result ⊤ SourceRefusal → Type 0
+Tells {E} Answers told result = (answer : Result ⊤ E) × Answers answer × (result ≡ answer_told told answer)
+
+-- the bytes are read by the format
+abbrev pub TakesAs : Format → ℕ → List ℕ → Building → Building → Result ⊤ SourceRefusal → Type 0
+TakesAs DataText limit bytes b c result = Tells (ddl.Reads limit bytes b c) ddl_told result
+TakesAs (Csv stem) limit bytes b c result = Tells (csv.Reads stem bytes b c) csv_told result
+TakesAs (Json stem) limit bytes b c result = Tells (json.Reads stem bytes b c) json_told result
+
+-- the bytes of the file of this path are read by its format
+abbrev pub Takes : List ℕ → ℕ → List ℕ → Building → Building → Result ⊤ SourceRefusal → Type 0
+Takes path limit bytes b c result = TakesAs (format_of path) limit bytes b c result

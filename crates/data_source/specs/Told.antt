@@ -1,0 +1,43 @@
+-- The numbers and places of refusals.
+use Rattle.std.specs.Prelude.{Result, Ok, Err, ⊤}
+use Rattle.run_report.specs.declared.status.Place.TheVariants.{At, Row, Column, Path}
+use Rattle.sd_ddl.specs.declared.refusal.DdlRefusal.{DdlRefusal}
+use Rattle.sd_ddl.specs.declared.refusal.DdlRefusal.TheVariants as ddl
+use Rattle.csv_source.specs.declared.refusal.CsvRefusal.{CsvRefusal}
+use Rattle.csv_source.specs.declared.refusal.CsvRefusal.TheVariants as csv
+use Rattle.json_source.specs.declared.refusal.JsonRefusal.{JsonRefusal}
+use Rattle.json_source.specs.declared.refusal.JsonRefusal.TheVariants as json
+use Rattle.data_source.specs.declared.refusal.SourceRefusal.{SourceRefusal}
+use Rattle.data_source.specs.declared.refusal.SourceRefusal.TheVariants.{Refused, NoMemory}
+
+abbrev pub ddl_told : DdlRefusal → SourceRefusal
+ddl_told (ddl.TooLong at) = Refused 24 (At at)
+ddl_told (ddl.BadByte at) = Refused 21 (At at)
+ddl_told (ddl.OpenString at) = Refused 22 (At at)
+ddl_told (ddl.IntOutOfRange at) = Refused 23 (At at)
+ddl_told (ddl.Expected at) = Refused 31 (At at)
+ddl_told (ddl.KindConflict at) = Refused 32 (At at)
+ddl_told (ddl.TooManyEdges at) = Refused 11 (At at)
+ddl_told (ddl.TooManyNodes at) = Refused 12 (At at)
+ddl_told ddl.NoMemory = NoMemory
+
+abbrev pub csv_told : CsvRefusal → SourceRefusal
+csv_told (csv.NotUtf8 row) = Refused 41 (Row row)
+csv_told (csv.EmptyLabel column) = Refused 42 (Column column)
+csv_told (csv.Ragged row) = Refused 43 (Row row)
+csv_told (csv.TooManyEdges row) = Refused 11 (Row row)
+csv_told (csv.TooManyNodes row) = Refused 12 (Row row)
+csv_told csv.NoMemory = NoMemory
+
+abbrev pub json_told : JsonRefusal → SourceRefusal
+json_told json.NotJson = Refused 44 (At 0)
+json_told (json.NotInteger path) = Refused 45 (Path path)
+json_told (json.NotRecords path) = Refused 46 (Path path)
+json_told (json.TooManyEdges path) = Refused 11 (Path path)
+json_told (json.TooManyNodes path) = Refused 12 (Path path)
+json_told json.NoMemory = NoMemory
+
+-- a reader's answer, with its refusal told
+abbrev pub answer_told : {E : Type 0} → (E → SourceRefusal) → Result ⊤ E → Result ⊤ SourceRefusal
+answer_told told (Ok u) = Ok tt
+answer_told told (Err e) = Err (told e)

@@ -1,0 +1,43 @@
+// The format of a data file.
+ghost use Rattle.std.specs.Prelude.{◌≡◌, IfOk};
+ghost use Rattle.data_source.specs.Formats.{behind_slashes as name_in, format_of as format_named};
+
+use sd_value::{NoMemory, Str};
+use std::alloc::Global;
+
+/// The format of a data file; in CSV and JSON with the stem of its name.
+#[derive(Debug, Drop)]
+pub enum Format {
+    DataText,
+    Csv(Str),
+    Json(Str),
+}
+
+// What stands behind the last slash.
+fn behind_slashes(path: &[u8]) -> &[u8]
+    ensures { result.now ≡ name_in path.now }
+{
+    let mut name = path;
+    let mut rest = path;
+    'bytes: while let Some((first, more)) = rest.split_first() {
+        if *first == b'/' {
+            name = more;
+        }
+        rest = more;
+    }
+    name
+}
+
+/// The format that a path's end tells: `.csv`, `.json`, or any other for the data text. The stem is what stands between
+/// the last slash and that end.
+pub fn format_of(alloc: Global, path: &Str) -> Result<Format, NoMemory>
+    ensures { IfOk result (λ format. format ≡ format_named path.now) }
+{
+    if let Some(front) = path.bytes().strip_suffix(b".csv".as_slice()) {
+        return Ok(Format::Csv(Str::new(alloc, behind_slashes(front))?));
+    }
+    if let Some(front) = path.bytes().strip_suffix(b".json".as_slice()) {
+        return Ok(Format::Json(Str::new(alloc, behind_slashes(front))?));
+    }
+    Ok(Format::DataText)
+}

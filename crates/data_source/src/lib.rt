@@ -1,0 +1,13 @@
+//! Data files of every format, by the ends of their names.
+#![tactic(auto)]
+
+mod format;
+mod reading;
+mod refusal;
+
+pub use format::{Format, format_of};
+pub use reading::read_source;
+pub use refusal::SourceRefusal;
+
+#[cfg(test)]
+mod tests;

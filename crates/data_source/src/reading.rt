@@ -1,0 +1,75 @@
+// Reading a data file into a graph.
+ghost use Rattle.data_source.specs.Takes.{Takes, Tells};
+ghost use Rattle.data_source.specs.Told.{ddl_told, csv_told, json_told};
+ghost use Rattle.sd_ddl.specs.Reads.{Reads as ReadsDdl};
+ghost use Rattle.csv_source.specs.Reads.{Reads as ReadsCsv};
+ghost use Rattle.json_source.specs.Reads.{Reads as ReadsJson};
+
+use crate::format::{Format, format_of};
+use crate::refusal::SourceRefusal;
+use csv_source::read_csv;
+use json_source::read_json;
+use sd_ddl::read_ddl;
+use sd_graph::GraphBuilder;
+use sd_value::Str;
+use std::alloc::Global;
+
+fn take_ddl(
+    alloc: Global,
+    bytes: &[u8],
+    limit: u64,
+    graph: &mut GraphBuilder,
+) -> Result<(), SourceRefusal>
+    ensures { Tells (ReadsDdl limit bytes.now graph.old graph.new) ddl_told result }
+{
+    match read_ddl(alloc, bytes, limit, graph) {
+        Ok(()) => Ok(()),
+        Err(refusal) => Err(SourceRefusal::from(refusal)),
+    }
+}
+
+fn take_csv(
+    alloc: Global,
+    stem: &Str,
+    bytes: &[u8],
+    graph: &mut GraphBuilder,
+) -> Result<(), SourceRefusal>
+    ensures { Tells (ReadsCsv stem.now bytes.now graph.old graph.new) csv_told result }
+{
+    match read_csv(alloc, stem, bytes, graph) {
+        Ok(()) => Ok(()),
+        Err(refusal) => Err(SourceRefusal::from(refusal)),
+    }
+}
+
+fn take_json(
+    alloc: Global,
+    stem: &Str,
+    bytes: &[u8],
+    graph: &mut GraphBuilder,
+) -> Result<(), SourceRefusal>
+    ensures { Tells (ReadsJson stem.now bytes.now graph.old graph.new) json_told result }
+{
+    match read_json(alloc, stem, bytes, graph) {
+        Ok(()) => Ok(()),
+        Err(refusal) => Err(SourceRefusal::from(refusal)),
+    }
+}
+
+/// Adds what the file of this path and of these bytes states, read by its format: CSV and JSON by the end of the path,
+/// and else the data text, of at most `limit` bytes. What the graph holds after a refusal is as the reader says.
+pub fn read_source(
+    alloc: Global,
+    path: &Str,
+    bytes: &[u8],
+    limit: u64,
+    graph: &mut GraphBuilder,
+) -> Result<(), SourceRefusal>
+    ensures { Takes path.now limit bytes.now graph.old graph.new result }
+{
+    match format_of(alloc, path)? {
+        Format::DataText => take_ddl(alloc, bytes, limit, graph),
+        Format::Csv(stem) => take_csv(alloc, &stem, bytes, graph),
+        Format::Json(stem) => take_json(alloc, &stem, bytes, graph),
+    }
+}

@@ -1,0 +1,79 @@
+// The numbers and places of refusals.
+ghost use Rattle.std.specs.Prelude.{◌≡◌};
+ghost use Rattle.data_source.specs.Told.{ddl_told, csv_told, json_told};
+ghost use Rattle.data_source.specs.declared.refusal.SourceRefusal.TheVariants.{NoMemory as OutOfMemory};
+
+use csv_source::CsvRefusal;
+use json_source::JsonRefusal;
+use run_report::Place;
+use sd_ddl::DdlRefusal;
+use sd_value::NoMemory;
+
+/// Why a data file is refused: the number of the refusal and its place.
+#[derive(Debug, Drop)]
+pub enum SourceRefusal {
+    Refused { number: u32, place: Place },
+    NoMemory,
+}
+
+fn refused(number: u32, place: Place) -> SourceRefusal
+    ensures { result ≡ SourceRefusal.Refused number place }
+{
+    SourceRefusal::Refused { number, place }
+}
+
+impl From<NoMemory> for SourceRefusal {
+    ghost from_gives = { λ _ e. e ≡ OutOfMemory };
+
+    fn from(_error: NoMemory) -> SourceRefusal {
+        SourceRefusal::NoMemory
+    }
+}
+
+impl From<DdlRefusal> for SourceRefusal {
+    ghost from_gives = { λ e told. told ≡ ddl_told e };
+
+    fn from(refusal: DdlRefusal) -> SourceRefusal {
+        match refusal {
+            DdlRefusal::TooLong(at) => refused(24, Place::At(at)),
+            DdlRefusal::BadByte(at) => refused(21, Place::At(at)),
+            DdlRefusal::OpenString(at) => refused(22, Place::At(at)),
+            DdlRefusal::IntOutOfRange(at) => refused(23, Place::At(at)),
+            DdlRefusal::Expected(at) => refused(31, Place::At(at)),
+            DdlRefusal::KindConflict(at) => refused(32, Place::At(at)),
+            DdlRefusal::TooManyEdges(at) => refused(11, Place::At(at)),
+            DdlRefusal::TooManyNodes(at) => refused(12, Place::At(at)),
+            DdlRefusal::NoMemory => SourceRefusal::NoMemory,
+        }
+    }
+}
+
+impl From<CsvRefusal> for SourceRefusal {
+    ghost from_gives = { λ e told. told ≡ csv_told e };
+
+    fn from(refusal: CsvRefusal) -> SourceRefusal {
+        match refusal {
+            CsvRefusal::NotUtf8(row) => refused(41, Place::Row(row)),
+            CsvRefusal::EmptyLabel(column) => refused(42, Place::Column(column)),
+            CsvRefusal::Ragged(row) => refused(43, Place::Row(row)),
+            CsvRefusal::TooManyEdges(row) => refused(11, Place::Row(row)),
+            CsvRefusal::TooManyNodes(row) => refused(12, Place::Row(row)),
+            CsvRefusal::NoMemory => SourceRefusal::NoMemory,
+        }
+    }
+}
+
+impl From<JsonRefusal> for SourceRefusal {
+    ghost from_gives = { λ e told. told ≡ json_told e };
+
+    fn from(refusal: JsonRefusal) -> SourceRefusal {
+        match refusal {
+            JsonRefusal::NotJson => refused(44, Place::At(0)),
+            JsonRefusal::NotInteger(path) => refused(45, Place::Path(path)),
+            JsonRefusal::NotRecords(path) => refused(46, Place::Path(path)),
+            JsonRefusal::TooManyEdges(path) => refused(11, Place::Path(path)),
+            JsonRefusal::TooManyNodes(path) => refused(12, Place::Path(path)),
+            JsonRefusal::NoMemory => SourceRefusal::NoMemory,
+        }
+    }
+}
