@@ -1,0 +1,4 @@
+pub mod Among
+pub mod Causes
+pub mod InTurn
+pub mod Puts

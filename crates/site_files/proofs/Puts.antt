@@ -1,0 +1,15 @@
+-- A page's file that could not be written.
+use Rattle.std.proofs.Common.{◌≡◌, ℕ, List, subst}
+use Rattle.std.specs.Prelude.{Option, Some, None, Err}
+use Rattle.std.specs.Option.{IsSomeAnd}
+use Rattle.sd_value.specs.declared.Term.{Term}
+use Rattle.address.specs.Segments.{HasLongSegment}
+use Rattle.edge_io.specs.Files.{FileMap, ChangesOnly}
+use Rattle.site_files.specs.declared.stop.Stop.TheVariants.{Unwritten}
+use Rattle.site_files.specs.Paths.{file_name, page_path}
+use Rattle.site_files.specs.Puts.{PutEnds}
+
+pub unwritten_told : (folder : List ℕ) (n : Option FileMap) (t : Term) (path text : List ℕ) (old : FileMap) → path ≡ page_path folder t → (HasLongSegment (file_name t) → ⊥) → IsSomeAnd n (λ new. ChangesOnly old new path)
+    → IsSomeAnd n (λ new. PutEnds folder t text old new (Err Unwritten))
+unwritten_told folder None t path text old e short h = h
+unwritten_told folder (Some new) t path text old e short h = (short, subst (ChangesOnly old new) e h)

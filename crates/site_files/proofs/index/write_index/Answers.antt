@@ -1,0 +1,14 @@
+use Rattle.std.proofs.Common.{refl, sym, subst}
+use Rattle.std.specs.Prelude.{Contains}
+use Rattle.site_files.proofs.InTurn.{among_told, absent_told}
+use Rattle.site_files.proofs.Among.{not_among}
+use Rattle.site_files.proofs.index.write_index.Goals as goal
+
+pub returns-then-is_among-clause-ends : goal.returns-then-is_among-clause-ends
+returns-then-is_among-clause-ends g c = λ old told.
+    among_told (g.P.Pages.site (g.P.Pages.fixed c.args.pages.now)) (g.P.Pages.templates (g.P.Pages.fixed c.args.pages.now)) c.args.folder.now (g.F.Files.contents c.put_index.new.files) c.args.terms.now c.args.root.now c.in_ok-page.page old c.put_index.result c.in_ok-page.ensures (c.is_among.ensures.0 c.if-is_among.true) (c.put_index.ensures.ends old told)
+
+pub returns-clause-ends : goal.returns-clause-ends
+returns-clause-ends g c = λ old told.
+    absent_told (g.P.Pages.site (g.P.Pages.fixed c.args.pages.now)) (g.P.Pages.templates (g.P.Pages.fixed c.args.pages.now)) c.args.folder.now (g.F.Files.contents c.args.files.now) (g.F.Files.contents c.args.files.now) c.args.terms.now c.args.root.now old refl told
+    (λ h. not_among c.is_among.result c.if-is_among.false c.is_among.ensures (subst (Contains c.args.terms.now) (sym c.in_ok-page.ensures) h))

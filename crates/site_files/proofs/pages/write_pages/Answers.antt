@@ -1,0 +1,57 @@
+use Rattle.std.proofs.Common.{ℕ, List, ◌∙◌, sym, subst}
+use Rattle.std.proofs.lemmas.List.{take_all}
+use Rattle.std.specs.Prelude.{Contains, Ok}
+use Rattle.std.specs.Option.{IsSomeAnd}
+use Rattle.sd_value.specs.declared.Term.{Term}
+use Rattle.page_spec.specs.Page.{IsPresent}
+use Rattle.site_files.specs.Files.{IsPageText, StopsAt, PageEnds}
+use Rattle.site_files.proofs.InTurn.{more_told, all_told, stops_told, texts_more}
+use Rattle.site_files.proofs.Causes.{one_of, still_rose, fell_not}
+use Rattle.site_files.proofs.pages.write_pages.Goals as goal
+
+pub write_page-requires-clause-own : goal.write_page-requires-clause-own
+write_page-requires-clause-own g c = c.loop-term.invariant.own
+
+pub write_page-requires-clause-present : goal.write_page-requires-clause-present
+write_page-requires-clause-present g c =
+    subst (λ fx. IsPresent (g.P.Pages.site fx) (g.P.Pages.templates fx) c.term-item.result) (sym c.loop-term.invariant.fixed)
+    (c.requires.present c.term-item.result (one_of c.args.terms.now c.loop-term.term-index c.term-item.result c.loop-term-test.true c.term-item.is))
+
+pub loop-term-preserved : goal.loop-term-preserved
+loop-term-preserved g c = record {
+  own = c.in-Ok.ensures.own;
+  fixed = c.in-Ok.ensures.fixed ∙ c.loop-term.invariant.fixed;
+  reads = c.in-Ok.ensures.reads ∙ c.loop-term.invariant.reads;
+  later = fell_not c.loop-term.invariant.later c.in-Ok.ensures.cause.later;
+  texts =
+      texts_more (g.P.Pages.site (g.P.Pages.fixed c.args.pages.now)) (g.P.Pages.templates (g.P.Pages.fixed c.args.pages.now)) c.args.folder.now c.args.terms.now c.loop-term.term-index c.term-item.result c.loop-term-test.true c.term-item.is c.loop-term.invariant.texts
+      (subst (λ fx. (x : List ℕ) × IsPageText (g.P.Pages.site fx) (g.P.Pages.templates fx) c.term-item.result x) c.loop-term.invariant.fixed c.in-Ok.ensures.text);
+  written = λ old told.
+      more_told (g.P.Pages.site (g.P.Pages.fixed c.args.pages.now)) (g.P.Pages.templates (g.P.Pages.fixed c.args.pages.now)) c.args.folder.now (g.F.Files.contents c.loop-term.files) (g.F.Files.contents c.write_page.new.files) c.args.terms.now c.loop-term.term-index c.term-item.result old c.loop-term-test.true c.term-item.is (c.loop-term.invariant.written old told)
+      (λ now is. subst (λ fx. IsSomeAnd (g.F.Files.contents c.write_page.new.files) (λ new. PageEnds (g.P.Pages.site fx) (g.P.Pages.templates fx) c.args.folder.now c.term-item.result now new (Ok tt))) c.loop-term.invariant.fixed (c.in-Ok.ensures.ends now is));
+}
+
+pub returns-in-Err-clause-fixed : goal.returns-in-Err-clause-fixed
+returns-in-Err-clause-fixed g c = c.in-Err.ensures.fixed ∙ c.loop-term.invariant.fixed
+
+pub returns-in-Err-clause-ends : goal.returns-in-Err-clause-ends
+returns-in-Err-clause-ends g c = λ old told.
+    stops_told (g.P.Pages.site (g.P.Pages.fixed c.args.pages.now)) (g.P.Pages.templates (g.P.Pages.fixed c.args.pages.now)) c.args.folder.now (g.F.Files.contents c.loop-term.files) (g.F.Files.contents c.write_page.new.files) c.args.terms.now c.loop-term.term-index c.term-item.result c.in-Err.stop old c.loop-term-test.true c.term-item.is (c.loop-term.invariant.written old told)
+    (λ now is. subst (λ fx. IsSomeAnd (g.F.Files.contents c.write_page.new.files) (λ new. StopsAt (g.P.Pages.site fx) (g.P.Pages.templates fx) c.args.folder.now c.term-item.result now new c.in-Err.stop)) c.loop-term.invariant.fixed (c.in-Err.ensures.ends now is))
+
+pub returns-in-Err-clause-reads : goal.returns-in-Err-clause-reads
+returns-in-Err-clause-reads g c = c.in-Err.ensures.reads ∙ c.loop-term.invariant.reads
+
+pub returns-in-Err-clause-cause : goal.returns-in-Err-clause-cause
+returns-in-Err-clause-cause g c = record {
+  later = fell_not c.loop-term.invariant.later c.in-Err.ensures.cause.later;
+  failed = λ e.
+      let r = c.in-Err.ensures.cause.failed e in
+      (r.0, (c.term-item.result, one_of c.args.terms.now c.loop-term.term-index c.term-item.result c.loop-term-test.true c.term-item.is, r.1), still_rose (g.F.Files.failed_writes c.args.files.now) (g.F.Files.failed_writes c.loop-term.files) (g.F.Files.failed_writes c.write_page.new.files) c.loop-term.invariant.later r.0 r.2);
+}
+
+pub returns-clause-texts : goal.returns-clause-texts
+returns-clause-texts g c = λ t h. c.loop-term.invariant.texts t (subst (λ (ts : List Term). Contains ts t) (sym (take_all c.loop-term.term-index c.args.terms.now c.loop-term-test.false)) h)
+
+pub returns-clause-ends : goal.returns-clause-ends
+returns-clause-ends g c = λ old told. all_told (g.P.Pages.site (g.P.Pages.fixed c.args.pages.now)) (g.P.Pages.templates (g.P.Pages.fixed c.args.pages.now)) c.args.folder.now (g.F.Files.contents c.loop-term.files) c.args.terms.now c.loop-term.term-index old c.loop-term-test.false (c.loop-term.invariant.written old told)

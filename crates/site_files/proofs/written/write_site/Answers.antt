@@ -1,0 +1,26 @@
+use Rattle.std.proofs.Common.{List, sym, ap, subst}
+use Rattle.std.specs.Option.{IsSomeAnd}
+use Rattle.page_spec.specs.Page.{IsOutcome}
+use Rattle.page_spec.specs.declared.Outcome.TheVariants as outcome
+use Rattle.address.specs.Targets.{root_name}
+use Rattle.site_files.specs.Files.{IndexEnds, root_term}
+use Rattle.site_files.proofs.InTurn.{pages_stop, index_then, no_root_then}
+use Rattle.site_files.proofs.written.write_site.Goals as goal
+
+pub returns-in-Err-clause-ends : goal.returns-in-Err-clause-ends
+returns-in-Err-clause-ends g c = λ old told. pages_stop (g.P.Pages.site (g.P.Pages.fixed c.args.pages.now)) (g.P.Pages.templates (g.P.Pages.fixed c.args.pages.now)) c.args.folder.now (g.F.Files.contents c.write_pages.new.files) c.args.terms.now (root_name c.args.root) old c.in-Err.stop (c.in-Err.ensures.ends old told)
+
+pub write_index-requires-clause-text : goal.write_index-requires-clause-text
+write_index-requires-clause-text g c = λ h.
+    subst (λ fx. (text : List _) × IsOutcome (g.P.Pages.site fx) (g.P.Pages.templates fx) (root_term c.in-Some.root.now) (outcome.Page text)) (sym c.in-Ok.ensures.fixed)
+    (let t = c.in-Ok.ensures.texts (root_term c.in-Some.root.now) h in (t.0, t.1.is_outcome))
+
+pub returns-in-Some-clause-ends : goal.returns-in-Some-clause-ends
+returns-in-Some-clause-ends g c = λ old told.
+    index_then (g.P.Pages.site (g.P.Pages.fixed c.args.pages.now)) (g.P.Pages.templates (g.P.Pages.fixed c.args.pages.now)) c.args.folder.now (g.F.Files.contents c.write_pages.new.files) (g.F.Files.contents c.write_index.new.files) c.args.terms.now c.in-Some.root.now (root_name c.args.root) old c.write_index.result (ap root_name c.in-Some.is)
+    (c.in-Ok.ensures.ends old told)
+    (λ now is. subst (λ fx. IsSomeAnd (g.F.Files.contents c.write_index.new.files) (λ new. IndexEnds (g.P.Pages.site fx) (g.P.Pages.templates fx) c.args.folder.now c.args.terms.now c.in-Some.root.now now new c.write_index.result)) c.in-Ok.ensures.fixed (c.write_index.ensures.ends now is))
+
+pub returns-in-None-clause-ends : goal.returns-in-None-clause-ends
+returns-in-None-clause-ends g c = λ old told.
+    no_root_then (g.P.Pages.site (g.P.Pages.fixed c.args.pages.now)) (g.P.Pages.templates (g.P.Pages.fixed c.args.pages.now)) c.args.folder.now (g.F.Files.contents c.write_pages.new.files) c.args.terms.now (root_name c.args.root) old (ap root_name c.in-None.is) (c.in-Ok.ensures.ends old told)

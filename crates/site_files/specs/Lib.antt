@@ -1,0 +1,4 @@
+pub mod Paths
+pub mod Puts
+pub mod Files
+pub mod Causes

@@ -1,0 +1,54 @@
+// The paths of a site's files.
+ghost use Rattle.std.specs.Prelude.{◌≡◌, ◌++◌, IfOk, codes};
+ghost use Rattle.address.specs.Segments.{HasLongSegment};
+ghost use Rattle.site_files.specs.Paths.{file_name, index_path, IsNameless, PathEnds};
+
+use crate::stop::Stop;
+use address::{FileRefusal, file_of};
+use run_report::PageKind;
+use sd_value::{NoMemory, Str, Term};
+use std::alloc::Global;
+
+// The folder and a slash.
+fn folder_path(alloc: Global, folder: &Str) -> Result<Vec<u8>, NoMemory>
+    ensures { IfOk result (λ path. path.items ≡ folder.now ++ codes "/") }
+{
+    let mut path = folder.bytes().to_vec(alloc)?;
+    path.extend_from_slice(b"/")?;
+    Ok(path)
+}
+
+// The page that has no file, or want of memory in saying so.
+fn long_name(alloc: Global, term: &Term) -> Stop
+    requires { HasLongSegment (file_name term.now) }
+    ensures { IsNameless term.now result }
+{
+    match term.copy(alloc) {
+        Ok(term) => Stop::Faulty {
+            term,
+            kind: PageKind::LongName,
+        },
+        Err(NoMemory) => Stop::NoMemory,
+    }
+}
+
+/// The path of the term's file under the folder.
+pub fn page_path(alloc: Global, folder: &Str, term: &Term) -> Result<Str, Stop>
+    ensures { PathEnds folder.now term.now result }
+{
+    let mut path = folder_path(alloc, folder)?;
+    match file_of(alloc, term, &mut path) {
+        Ok(()) => Ok(Str::of(alloc, path)?),
+        Err(FileRefusal::LongName) => Err(long_name(alloc, term)),
+        Err(FileRefusal::NoMemory) => Err(Stop::NoMemory),
+    }
+}
+
+/// The path of `index.html` under the folder.
+pub fn index_path(alloc: Global, folder: &Str) -> Result<Str, NoMemory>
+    ensures { IfOk result (λ path. path ≡ index_path folder.now) }
+{
+    let mut path = folder.bytes().to_vec(alloc)?;
+    path.extend_from_slice(b"/index.html")?;
+    Ok(Str::of(alloc, path)?)
+}
