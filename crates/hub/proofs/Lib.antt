@@ -1,0 +1,7 @@
+mod PieceLemmas
+mod StepLemmas
+mod DateLemmas
+mod ServeLemmas
+mod StandLemmas
+mod TurnLemmas
+mod RunLemmas

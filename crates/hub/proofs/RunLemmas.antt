@@ -1,0 +1,120 @@
+-- A run takes one event more.
+use Rattle.std.proofs.Common.{◌≡◌, ℕ, ◌<◌, Bool, true, false, ◌||◌, ◌==◌, List, [], ◌∷◌, ◌++◌, refl, sym, ap, ◌∙◌, subst, Option, Some, None, if◌then◌else◌}
+use Rattle.std.specs.List.{fold, list_any}
+use Rattle.std.proofs.lemmas.Grind.{fold-append}
+use Rattle.std.proofs.lemmas.List.Folds.{list_any-append}
+use Rattle.http_spec.specs.Sessions.{OutcomeAt}
+use Rattle.wire.specs.Accounts.{Account}
+use Rattle.wire.specs.Events.{add_event, is_done, IsNextOf, IsDrawn}
+use Rattle.wire.specs.declared.WireEvent.{WireEvent}
+use Rattle.wire.specs.declared.WireEvent.TheVariants.{Opened, Bytes, Ended, Lost as LostEvent, Change, Done}
+use Rattle.hub.specs.Line.{Line}
+use Rattle.hub.specs.Moments.{Moment, Unopened, Coming, after_event, moment_after, Stands}
+use Rattle.hub.specs.Turns.{At, at_in, Turned, counts, greatest_after, state_after}
+use Rattle.hub.proofs.TurnLemmas.{stands_turn}
+
+-- where a connection stands after these events, with the current and the greatest number as they are then
+pub record Runs {D : Type 0} (page : D → OutcomeAt) (changed : D → List ℕ → D) (limit number : ℕ) (start : Moment D) (events : List WireEvent) (first now : At) (current : D) (greatest : Option ℕ) : Type 0 where
+  pub stands : Stands page limit number (moment_after changed number start events) first now
+  pub current_is : (moment_after changed number start events).current ≡ current
+  pub greatest_is : (moment_after changed number start events).greatest ≡ greatest
+
+pub runs_start : {D : Type 0} (page : D → OutcomeAt) (changed : D → List ℕ → D) (limit number : ℕ) (first : At) (current : D) (greatest : Option ℕ) → first.line ≡ None
+    → Runs page changed limit number (record { current = current; greatest = greatest; input = Unopened }) [] first first current greatest
+runs_start page changed limit number first current greatest none =
+    record { stands = record { stands = (none, refl); opened = tt }; current_is = refl; greatest_is = refl }
+
+data_of_event : {D : Type 0} (changed : D → List ℕ → D) (k : ℕ) (m : Moment D) (e : WireEvent) → (after_event changed k m e).current ≡ state_after changed e m.current
+data_of_event changed k m (Opened number) = by_test (counts m.greatest number)
+  where
+    by_test : (t : Bool) → (if t then record { current = m.current; greatest = Some number; input = if number == k then Coming [] else m.input } else m).current ≡ m.current
+    by_test true = refl
+    by_test false = refl
+data_of_event changed k m (Bytes number piece) = refl
+data_of_event changed k m (Ended number) = refl
+data_of_event changed k m (LostEvent number) = refl
+data_of_event changed k m (Change text) = refl
+data_of_event changed k m Done = refl
+
+greatest_of_event : {D : Type 0} (changed : D → List ℕ → D) (k : ℕ) (m : Moment D) (e : WireEvent) → (after_event changed k m e).greatest ≡ greatest_after e m.greatest
+greatest_of_event changed k m (Opened number) = by_test (counts m.greatest number)
+  where
+    by_test : (t : Bool) → (if t then record { current = m.current; greatest = Some number; input = if number == k then Coming [] else m.input } else m).greatest ≡ (if t then Some number else m.greatest)
+    by_test true = refl
+    by_test false = refl
+greatest_of_event changed k m (Bytes number piece) = refl
+greatest_of_event changed k m (Ended number) = refl
+greatest_of_event changed k m (LostEvent number) = refl
+greatest_of_event changed k m (Change text) = refl
+greatest_of_event changed k m Done = refl
+
+module _ {D : Type 0} (page : D → OutcomeAt) (changed : D → List ℕ → D) (limit k : ℕ) (start : Moment D) (events : List WireEvent) (e : WireEvent) (first : At) where
+  moment_more : moment_after changed k start (events ++ e ∷ []) ≡ after_event changed k (moment_after changed k start events) e
+  moment_more = fold-append (after_event changed k) start events (e ∷ [])
+
+  -- where the event stands for all connections
+  pub stands_more : (before after : ℕ → At) (current : D) (greatest : Option ℕ) → 0 < limit → Runs page changed limit k start events first (before k) current greatest
+      → Turned (page current) limit greatest e before after → Stands page limit k (moment_after changed k start (events ++ e ∷ [])) first (after k)
+  stands_more before after current greatest some runs turned =
+      let m = moment_after changed k start events in
+      let here : Turned (page m.current) limit m.greatest e before after =
+      subst (λ s. Turned (page s) limit m.greatest e before after) (sym runs.current_is)
+      (subst (λ g. Turned (page current) limit g e before after) (sym runs.greatest_is) turned) in
+      subst (λ n. Stands page limit k n first (after k)) (sym moment_more) (stands_turn page changed limit k m first before after some runs.stands e here)
+
+  pub runs_more : (before after : ℕ → At) (current now : D) (greatest later : Option ℕ) → 0 < limit → Runs page changed limit k start events first (before k) current greatest
+      → Turned (page current) limit greatest e before after → now ≡ state_after changed e current → later ≡ greatest_after e greatest
+      → Runs page changed limit k start (events ++ e ∷ []) first (after k) now later
+  runs_more before after current now greatest later some runs turned current_is greatest_is =
+      let m = moment_after changed k start events in
+      record {
+        stands = stands_more before after current greatest some runs turned;
+        current_is = ap (λ (x : Moment D). x.current) moment_more ∙ data_of_event changed k m e ∙ ap (state_after changed e) runs.current_is ∙ sym current_is;
+        greatest_is = ap (λ (x : Moment D). x.greatest) moment_more ∙ greatest_of_event changed k m e ∙ ap (greatest_after e) runs.greatest_is ∙ sym greatest_is;
+      }
+
+  -- the last event changes nothing
+  pub stands_done : (now : At) (current : D) (greatest : Option ℕ) → e ≡ Done → Runs page changed limit k start events first now current greatest
+      → Stands page limit k (moment_after changed k start (events ++ e ∷ [])) first now
+  stands_done now current greatest is runs =
+      let m = moment_after changed k start events in
+      subst (λ n. Stands page limit k n first now) (sym moment_more)
+      (subst (λ x. Stands page limit k (after_event changed k m x) first now) (sym is) runs.stands)
+
+-- one more event was given
+pub given_more : (given now next : Option (List WireEvent)) (events : List WireEvent) (e : WireEvent) → now ≡ fold add_event given events
+    → next ≡ add_event now e → next ≡ fold add_event given (events ++ e ∷ [])
+given_more given now next events e before is =
+    is ∙ ap (λ o. add_event o e) before ∙ sym (fold-append add_event given events (e ∷ []))
+
+pub drawn_more : (left now next : Option (List WireEvent)) (events : List WireEvent) (e : WireEvent) → IsDrawn left events now → IsNextOf now e next
+    → IsDrawn left (events ++ e ∷ []) next
+drawn_more left now next [] e before is = (next, subst (λ o. IsNextOf o e next) before is, refl)
+drawn_more left now next (x ∷ events) e (between, first, drawn) is = (between, first, drawn_more between now next events e drawn is)
+
+pub none_more : (events : List WireEvent) (e : WireEvent) → list_any is_done events ≡ false → is_done e ≡ false → list_any is_done (events ++ e ∷ []) ≡ false
+none_more events e before last =
+    list_any-append is_done events (e ∷ []) ∙ ap (λ b. b || (is_done e || false)) before ∙ ap (λ b. b || false) last
+
+pub done_is : (e : WireEvent) → is_done e ≡ true → e ≡ Done
+done_is (Opened number) is = cc
+done_is (Bytes number piece) is = cc
+done_is (Ended number) is = cc
+done_is (LostEvent number) is = cc
+done_is (Change text) is = cc
+done_is Done is = refl
+
+-- the wire tells the same of the connections
+pub runs_moved : {D : Type 0} (page : D → OutcomeAt) (changed : D → List ℕ → D) (limit number : ℕ) (start : Moment D) (events : List WireEvent) (first : At) (lines : ℕ → Option Line)
+    (accounts others : ℕ → Option Account) (faults later : ℕ → ℕ) (current : D) (greatest : Option ℕ) → others ≡ accounts → later ≡ faults
+    → Runs page changed limit number start events first (at_in lines accounts faults number) current greatest
+    → Runs page changed limit number start events first (at_in lines others later number) current greatest
+runs_moved page changed limit number start events first lines accounts others faults later current greatest same fine runs =
+    subst (λ (a : ℕ → Option Account). Runs page changed limit number start events first (at_in lines a later number) current greatest) (sym same)
+    (subst (λ (f : ℕ → ℕ). Runs page changed limit number start events first (at_in lines accounts f number) current greatest) (sym fine) runs)
+
+-- the root and the limit are as they were at first
+pub turned_at : {D : Type 0} (page : Option (List ℕ) → D → OutcomeAt) (current : D) (root here : Option (List ℕ)) (limit first : ℕ) (greatest : Option ℕ) (e : WireEvent) (before after : ℕ → At)
+    → root ≡ here → limit ≡ first → Turned (page root current) limit greatest e before after → Turned (page here current) first greatest e before after
+turned_at page current root here limit first greatest e before after as_root same turned =
+    subst (λ n. Turned (page here current) n greatest e before after) same (subst (λ r. Turned (page r current) limit greatest e before after) as_root turned)

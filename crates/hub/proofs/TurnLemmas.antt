@@ -1,0 +1,314 @@
+-- One event more, for every connection.
+use Rattle.std.proofs.Common.{◌≡◌, ◌≢◌, ℕ, ◌+◌, ◌<◌, ◌≤◌, Bool, true, false, ◌==◌, List, [], ◌∷◌, ◌++◌, refl, sym, ap, ◌∙◌, subst, arith, ◌⊎◌, inl, inr, Option, Some, None, lit<, if◌then◌else◌}
+use Rattle.std.specs.Prelude.{MatchBool}
+use Rattle.std.proofs.lemmas.Bool.Decides.{nat_tests}
+use Rattle.http_spec.specs.declared.Standing.{Standing}
+use Rattle.http_spec.specs.declared.Standing.TheVariants.{Open, Closed, Short, Lost}
+use Rattle.http_spec.specs.Replies.{no_memory_bytes}
+use Rattle.http_spec.specs.Sessions.{OutcomeAt, HasAnswer}
+use Rattle.http_spec.specs.Streams.{Dated, dated}
+use Rattle.http_spec.proofs.HeadLemmas.{no_head_nil}
+use Rattle.wire.specs.Accounts.{Account}
+use Rattle.wire.specs.declared.WireEvent.{WireEvent}
+use Rattle.wire.specs.declared.WireEvent.TheVariants.{Opened, Bytes, Ended, Lost as LostEvent, Change, Done}
+use Rattle.hub.specs.Delivered.{closing}
+use Rattle.hub.specs.Line.{Line}
+use Rattle.hub.specs.Moments.{Input, Unopened, Coming, Over, Moment, more_of, over_of, after_event, FrontAnswer, Settled, IsOpenAt, StandsComing, StandsFor, IsBelow, WasOpened, Stands}
+use Rattle.hub.specs.Pieces.{Steps}
+use Rattle.hub.specs.Turns.{At, FrontSteps, EndSteps, IsServed, IsFinished, IsUnopened, Opens, TakesPiece, Finishes, OthersStay, Turned, counts, kept_after}
+use Rattle.hub.proofs.StandLemmas.{settled_later, settled_over, delivered_map, delivered_on, open_more, answer_more, front_more, end_more, front_end, so_far}
+
+-- memory was missing for the connection
+settled_unopened : {D : Type 0} (page : D → OutcomeAt) (limit : ℕ) (standing : Standing) (account : Option Account) (first now : At) → IsUnopened standing first.account account first.faults now.faults
+    → now.account ≡ closing standing account → (standing ≢ Open) → (s : Settled page limit [] false first now) × (s.standing ≢ Open)
+settled_unopened page limit standing account first now sent closed over = (
+  record {
+    standing = standing;
+    account = account;
+    sent = delivered_map (λ s replies. (s ≡ Short) × (replies ≡ no_memory_bytes ∷ [])) (λ s replies. (s ≡ Short) × (replies ≡ no_memory_bytes ∷ []))
+        (HasAnswer page limit [] false) (FrontAnswer page limit [] false) standing first.account account first.faults now.faults
+        (λ replies is. inr is)
+        (λ would replies is. record { front = []; more = []; at_end = false; cut = refl; ends_so = λ e. absurd (let never : false ≡ true = e in cc); answer = inr is })
+        sent;
+    closed = closed;
+  },
+  over,
+)
+
+-- the connection is opened
+turn_opens : {D : Type 0} (page : D → OutcomeAt) (limit : ℕ) (first before after : At) → 0 < limit → before ≡ first → Opens limit before after → StandsComing page limit [] after.line first after
+turn_opens page limit first before after some same (inl opened) =
+    subst (λ (a : At). StandsComing page limit [] a.line first a) (sym opened) record {
+      requests = [];
+      rest = [];
+      replies = [];
+      session = record { cut = refl; answered = refl };
+      none = no_head_nil;
+      room = lit< tt;
+      rest_is = refl;
+      left = let zero : limit + 0 ≡ limit = omega arith in zero;
+      some = some;
+      account = ap (λ (a : At). a.account) same;
+      faults = ap (λ (a : At). a.faults) same;
+    }
+turn_opens page limit first before after some same (inr (standing, account, over, sent, closed, gone)) =
+    subst (λ l. StandsComing page limit [] l first after) (sym gone)
+    (settled_unopened page limit standing account first after (subst (λ (b : At). IsUnopened standing b.account account b.faults after.faults) same sent) closed over)
+
+-- a piece of an open connection
+piece_open : {D : Type 0} (page : D → OutcomeAt) (d : D) (limit : ℕ) (stream : List (Dated D)) (piece : List ℕ) (line : Line) (first before after : At) (standing : Standing) (held : Line)
+    (account : Option Account) → IsOpenAt page limit stream line first before
+    → IsServed (page d) line piece standing held before.account account before.faults after.faults
+    → after.account ≡ closing standing account → after.line ≡ kept_after standing held
+    → StandsComing page limit (stream ++ dated d piece) after.line first after
+piece_open page d limit stream piece line first before after Open held account open_at (replies, step, sent, faults) closed kept =
+    subst (λ l. StandsComing page limit (stream ++ dated d piece) l first after) (sym kept)
+    (open_more page d limit stream line first before open_at piece held replies after step (closed ∙ sent) faults)
+piece_open page d limit stream piece line first before after Closed held account open_at served closed kept =
+    subst (λ l. StandsComing page limit (stream ++ dated d piece) l first after) (sym kept) (
+      record {
+        standing = Closed;
+        account = account;
+        sent = delivered_on page d limit stream line first before open_at (λ s replies. Steps (page d) line piece s held [] replies) (FrontSteps (page d) line piece)
+            (HasAnswer page limit (stream ++ dated d piece) false) (FrontAnswer page limit (stream ++ dated d piece) false) Closed account after.faults
+            (λ replies is. answer_more page d limit stream line first before open_at piece Closed held replies is (λ e. cc))
+            (λ would replies is. front_more page d limit stream line first before open_at piece would replies is) served;
+        closed = closed;
+      },
+      λ e. cc,
+    )
+piece_open page d limit stream piece line first before after Short held account open_at served closed kept =
+    subst (λ l. StandsComing page limit (stream ++ dated d piece) l first after) (sym kept) (
+      record {
+        standing = Short;
+        account = account;
+        sent = delivered_on page d limit stream line first before open_at (λ s replies. Steps (page d) line piece s held [] replies) (FrontSteps (page d) line piece)
+            (HasAnswer page limit (stream ++ dated d piece) false) (FrontAnswer page limit (stream ++ dated d piece) false) Short account after.faults
+            (λ replies is. answer_more page d limit stream line first before open_at piece Short held replies is (λ e. cc))
+            (λ would replies is. front_more page d limit stream line first before open_at piece would replies is) served;
+        closed = closed;
+      },
+      λ e. cc,
+    )
+piece_open page d limit stream piece line first before after Lost held account open_at served closed kept =
+    subst (λ l. StandsComing page limit (stream ++ dated d piece) l first after) (sym kept) (
+      record {
+        standing = Lost;
+        account = account;
+        sent = delivered_on page d limit stream line first before open_at (FrontSteps (page d) line piece) (FrontSteps (page d) line piece)
+            (FrontAnswer page limit (stream ++ dated d piece) false) (FrontAnswer page limit (stream ++ dated d piece) false) Lost account after.faults
+            (λ replies is. front_more page d limit stream line first before open_at piece Lost replies is)
+            (λ would replies is. front_more page d limit stream line first before open_at piece would replies is) served;
+        closed = closed;
+      },
+      λ e. cc,
+    )
+
+-- a piece
+turn_piece : {D : Type 0} (page : D → OutcomeAt) (d : D) (limit : ℕ) (piece : List ℕ) (input : Input D) (line : Option Line) (first before after : At) → before.line ≡ line
+    → StandsFor page limit input first before → TakesPiece (page d) piece line before after → StandsFor page limit (more_of (dated d piece) input) first after
+turn_piece {D} page d limit piece input None first before after is stands same =
+    subst (λ a. StandsFor page limit (more_of (dated d piece) input) first a) (sym same) (by_input input stands)
+  where
+    by_input : (input : Input D) → StandsFor page limit input first before → StandsFor page limit (more_of (dated d piece) input) first before
+    by_input Unopened stands = stands
+    by_input (Coming stream) stands =
+        let over = subst (λ l. StandsComing page limit stream l first before) is stands in
+        subst (λ l. StandsComing page limit (stream ++ dated d piece) l first before) (sym is)
+        (settled_later page limit stream (dated d piece) first before over.0 over.1)
+    by_input (Over ended stream) stands = stands
+turn_piece {D} page d limit piece Unopened (Some line) first before after is stands step =
+    absurd (let never : None ≡ Some line = sym stands.0 ∙ sym (ap (λ (a : At). a.line) stands.1) ∙ is in cc)
+turn_piece {D} page d limit piece (Coming stream) (Some line) first before after is stands (standing, held, account, served, closed, kept) =
+    piece_open page d limit stream piece line first before after standing held account
+    (subst (λ l. StandsComing page limit stream l first before) is stands) served closed kept
+turn_piece {D} page d limit piece (Over ended stream) (Some line) first before after is stands step =
+    absurd (let never : None ≡ Some line = sym stands.0 ∙ is in cc)
+
+-- the end of an open connection's input
+finish_open : {D : Type 0} (page : D → OutcomeAt) (d : D) (limit : ℕ) (stream : List (Dated D)) (line : Line) (first before after : At) (standing : Standing) (account : Option Account)
+    → IsOpenAt page limit stream line first before → IsFinished line.rest standing before.account account before.faults after.faults
+    → after.account ≡ closing standing account → Settled page limit stream true first after
+finish_open page d limit stream line first before after standing account open_at sent closed = record {
+  standing = standing;
+  account = account;
+  sent = delivered_on page d limit stream line first before open_at (EndSteps line.rest) (EndSteps line.rest) (HasAnswer page limit stream true) (FrontAnswer page limit stream true)
+      standing account after.faults
+      (λ replies is. end_more page d limit stream line first before open_at standing replies is)
+      (λ would replies is. front_end page d limit stream line first before open_at would replies is) sent;
+  closed = closed;
+}
+
+turn_end : {D : Type 0} (page : D → OutcomeAt) (d : D) (limit : ℕ) (input : Input D) (line : Option Line) (first before after : At) → before.line ≡ line
+    → StandsFor page limit input first before → Finishes line before after → StandsFor page limit (over_of true input) first after
+turn_end {D} page d limit input None first before after is stands same =
+    subst (λ a. StandsFor page limit (over_of true input) first a) (sym same) (by_input input stands)
+  where
+    by_input : (input : Input D) → StandsFor page limit input first before → StandsFor page limit (over_of true input) first before
+    by_input Unopened stands = stands
+    by_input (Coming stream) stands =
+        let over = subst (λ l. StandsComing page limit stream l first before) is stands in
+        (is, settled_over page limit stream first before over.0 over.1)
+    by_input (Over ended stream) stands = stands
+turn_end {D} page d limit Unopened (Some line) first before after is stands step =
+    absurd (let never : None ≡ Some line = sym stands.0 ∙ sym (ap (λ (a : At). a.line) stands.1) ∙ is in cc)
+turn_end {D} page d limit (Coming stream) (Some line) first before after is stands (standing, account, sent, closed, gone) =
+    (gone, finish_open page d limit stream line first before after standing account (subst (λ l. StandsComing page limit stream l first before) is stands) sent closed)
+turn_end {D} page d limit (Over ended stream) (Some line) first before after is stands step =
+    absurd (let never : None ≡ Some line = sym stands.0 ∙ is in cc)
+
+-- the connection is forgotten
+abbrev gone_from : At → At
+gone_from a = record { line = None; account = a.account; faults = a.faults }
+
+turn_lost : {D : Type 0} (page : D → OutcomeAt) (d : D) (limit : ℕ) (input : Input D) (line : Option Line) (first before after : At) → before.line ≡ line
+    → StandsFor page limit input first before → after ≡ gone_from before → StandsFor page limit (over_of false input) first after
+turn_lost {D} page d limit input line first before after is stands same =
+    subst (λ a. StandsFor page limit (over_of false input) first a) (sym same) (by_input input line is stands)
+  where
+    by_input : (input : Input D) (line : Option Line) → before.line ≡ line → StandsFor page limit input first before → StandsFor page limit (over_of false input) first (gone_from before)
+    by_input Unopened line is stands =
+        (stands.0, ap gone_from stands.1 ∙ ap (λ (l : Option Line). record { line = l; account = first.account; faults = first.faults }) (sym stands.0))
+    by_input (Coming stream) None is stands =
+        let over = subst (λ l. StandsComing page limit stream l first before) is stands in
+        let settled = over.0 in
+        (refl, record { standing = settled.standing; account = settled.account; sent = settled.sent; closed = settled.closed })
+    by_input (Coming stream) (Some line) is stands =
+        let open_at : IsOpenAt page limit stream line first before = subst (λ l. StandsComing page limit stream l first before) is stands in (
+          refl,
+          record {
+            standing = Open;
+            account = before.account;
+            sent = (open_at.replies, so_far page d limit stream line first before open_at, open_at.account, open_at.faults);
+            closed = refl;
+          },
+        )
+    by_input (Over ended stream) line is stands =
+        let settled = stands.1 in
+        (refl, record { standing = settled.standing; account = settled.account; sent = settled.sent; closed = settled.closed })
+
+opened_more : {D : Type 0} (k : ℕ) (greatest : Option ℕ) (bytes : List (Dated D)) (input : Input D) → WasOpened k greatest input → WasOpened k greatest (more_of bytes input)
+opened_more k greatest bytes Unopened was = was
+opened_more k greatest bytes (Coming stream) was = was
+opened_more k greatest bytes (Over ended stream) was = was
+
+opened_over : {D : Type 0} (k : ℕ) (greatest : Option ℕ) (ended : Bool) (input : Input D) → WasOpened k greatest input → WasOpened k greatest (over_of ended input)
+opened_over k greatest ended Unopened was = was
+opened_over k greatest ended (Coming stream) was = was
+opened_over k greatest ended (Over before stream) was = was
+
+-- a greater number is opened
+below_more : (k number : ℕ) (greatest : Option ℕ) → counts greatest number ≡ true → IsBelow k greatest → IsBelow k (Some number)
+below_more k number None counted below = absurd below
+below_more k number (Some greatest) counted below = grind (arith, nat_tests)
+
+opened_next : {D : Type 0} (k number : ℕ) (greatest : Option ℕ) (input : Input D) → counts greatest number ≡ true → WasOpened k greatest input → WasOpened k (Some number) input
+opened_next k number greatest Unopened counted was = was
+opened_next k number greatest (Coming stream) counted was = below_more k number greatest counted was
+opened_next k number greatest (Over ended stream) counted was = below_more k number greatest counted was
+
+not_below : (number : ℕ) (greatest : Option ℕ) → counts greatest number ≡ true → IsBelow number greatest → ⊥
+not_below number None counted below = below
+not_below number (Some greatest) counted below = grind (arith, nat_tests)
+
+-- a number that counts was not opened before
+first_time : {D : Type 0} (page : D → OutcomeAt) (limit number : ℕ) (greatest : Option ℕ) (input : Input D) (first before : At) → counts greatest number ≡ true → WasOpened number greatest input
+    → StandsFor page limit input first before → before ≡ first
+first_time page limit number greatest Unopened first before counted was stands = stands.1
+first_time page limit number greatest (Coming stream) first before counted was stands = absurd (not_below number greatest counted was)
+first_time page limit number greatest (Over ended stream) first before counted was stands = absurd (not_below number greatest counted was)
+
+-- a test of the number
+test_cases : (a b : ℕ) → (((a == b) ≡ true) × (a ≡ b)) ⊎ (((a == b) ≡ false) × (b ≢ a))
+test_cases a b = by_test (a == b) refl
+  where
+    by_test : (t : Bool) → (a == b) ≡ t → (((a == b) ≡ true) × (a ≡ b)) ⊎ (((a == b) ≡ false) × (b ≢ a))
+    by_test true is = inl (is, let same : a ≡ b = grind (arith, nat_tests) in same)
+    by_test false is = inr (is, λ e. grind (arith, nat_tests))
+
+bool_cases : (b : Bool) → (b ≡ true) ⊎ (b ≡ false)
+bool_cases true = inl refl
+bool_cases false = inr refl
+
+chosen : (b : Bool) (X Y : Type 0) → b ≡ true → MatchBool b X Y → X
+chosen true X Y e x = x
+chosen false X Y e y = cc
+
+other : (b : Bool) (X Y : Type 0) → b ≡ false → MatchBool b X Y → Y
+other true X Y e x = cc
+other false X Y e y = y
+
+-- One event more.
+module _ {D : Type 0} (page : D → OutcomeAt) (changed : D → List ℕ → D) (limit k : ℕ) (m : Moment D) (first : At) (before after : ℕ → At) (some : 0 < limit)
+    (stands : Stands page limit k m first (before k)) where
+  stays_so : (moment : Moment D) → moment.input ≡ m.input → moment.greatest ≡ m.greatest → after k ≡ before k → Stands page limit k moment first (after k)
+  stays_so moment input greatest same = record {
+    stands = subst (λ a. StandsFor page limit moment.input first a) (sym same) (subst (λ i. StandsFor page limit i first (before k)) (sym input) stands.stands);
+    opened = subst (λ g. WasOpened k g moment.input) (sym greatest) (subst (λ i. WasOpened k m.greatest i) (sym input) stands.opened);
+  }
+
+  -- an event of one connection
+  of_number : (number : ℕ) (now : Input D) → (number ≡ k → StandsFor page limit now first (after k)) → WasOpened k m.greatest now → OthersStay number before after
+      → Stands page limit k (record { current = m.current; greatest = m.greatest; input = if number == k then now else m.input }) first (after k)
+  of_number number now own was others = by_case (test_cases number k)
+    where
+      Goal : Bool → Type 0
+      Goal t = Stands page limit k (record { current = m.current; greatest = m.greatest; input = if t then now else m.input }) first (after k)
+
+      by_case : (((number == k) ≡ true) × (number ≡ k)) ⊎ (((number == k) ≡ false) × (k ≢ number)) → Goal (number == k)
+      by_case (inl (is, same)) = subst Goal (sym is) record { stands = own same; opened = was }
+      by_case (inr (is, apart)) = subst Goal (sym is) (stays_so (record { current = m.current; greatest = m.greatest; input = m.input }) refl refl (others k apart))
+
+  opened_turn : (number : ℕ) → Turned (page m.current) limit m.greatest (Opened number) before after → Stands page limit k (after_event changed k m (Opened number)) first (after k)
+  opened_turn number (own, others) = by_count (bool_cases (counts m.greatest number))
+    where
+      Counted : Bool → Type 0
+      Counted t = Stands page limit k (if t then record { current = m.current; greatest = Some number; input = if number == k then Coming [] else m.input } else m) first (after k)
+
+      Numbered : Bool → Type 0
+      Numbered t = Stands page limit k (record { current = m.current; greatest = Some number; input = if t then Coming [] else m.input }) first (after k)
+
+      by_number : counts m.greatest number ≡ true → (((number == k) ≡ true) × (number ≡ k)) ⊎ (((number == k) ≡ false) × (k ≢ number)) → Numbered (number == k)
+      by_number counted (inl (is, same)) =
+          let opens : Opens limit (before number) (after number) = chosen (counts m.greatest number) _ _ counted own in
+          let here : Opens limit (before k) (after k) = subst (λ n. Opens limit (before n) (after n)) same opens in
+          let was : counts m.greatest k ≡ true = subst (λ n. counts m.greatest n ≡ true) same counted in
+          subst Numbered (sym is) record {
+            stands = turn_opens page limit first (before k) (after k) some (first_time page limit k m.greatest m.input first (before k) was stands.opened stands.stands) here;
+            opened = let le : k ≤ number = omega (arith, same) in le;
+          }
+      by_number counted (inr (is, apart)) = subst Numbered (sym is) record {
+        stands = subst (λ a. StandsFor page limit m.input first a) (sym (others k apart)) stands.stands;
+        opened = opened_next k number m.greatest m.input counted stands.opened;
+      }
+
+      same_at : after number ≡ before number → after k ≡ before k
+      same_at same = by_same (test_cases number k)
+        where
+          by_same : (((number == k) ≡ true) × (number ≡ k)) ⊎ (((number == k) ≡ false) × (k ≢ number)) → after k ≡ before k
+          by_same (inl (is, e)) = subst (λ n. after n ≡ before n) e same
+          by_same (inr (is, apart)) = others k apart
+
+      by_count : (counts m.greatest number ≡ true) ⊎ (counts m.greatest number ≡ false) → Counted (counts m.greatest number)
+      by_count (inl counted) = subst Counted (sym counted) (by_number counted (test_cases number k))
+      by_count (inr passed) = subst Counted (sym passed) (stays_so m refl refl (same_at (other (counts m.greatest number) _ _ passed own)))
+
+  pub stands_turn : (event : WireEvent) → Turned (page m.current) limit m.greatest event before after → Stands page limit k (after_event changed k m event) first (after k)
+  stands_turn (Opened number) turned = opened_turn number turned
+  stands_turn (Bytes number piece) (own, others) =
+      of_number number (more_of (dated m.current piece) m.input)
+      (λ same. turn_piece page m.current limit piece m.input (before k).line first (before k) (after k) refl stands.stands
+      (subst (λ n. TakesPiece (page m.current) piece (before n).line (before n) (after n)) same own))
+      (opened_more k m.greatest (dated m.current piece) m.input stands.opened) others
+  stands_turn (Ended number) (own, others) =
+      of_number number (over_of true m.input)
+      (λ same. turn_end page m.current limit m.input (before k).line first (before k) (after k) refl stands.stands
+      (subst (λ n. Finishes (before n).line (before n) (after n)) same own))
+      (opened_over k m.greatest true m.input stands.opened) others
+  stands_turn (LostEvent number) (own, others) =
+      of_number number (over_of false m.input)
+      (λ same. turn_lost page m.current limit m.input (before k).line first (before k) (after k) refl stands.stands
+      (subst (λ n. after n ≡ gone_from (before n)) same own))
+      (opened_over k m.greatest false m.input stands.opened) others
+  stands_turn (Change text) turned = stays_so (record { current = changed m.current text; greatest = m.greatest; input = m.input }) refl refl (turned k)
+  stands_turn Done turned = stays_so m refl refl (turned k)

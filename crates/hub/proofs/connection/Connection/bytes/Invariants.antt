@@ -1,0 +1,23 @@
+use Rattle.std.proofs.Common.{length, ◌-◌, ◌≡◌, ◌≤◌, ◌≢◌, ℕ, List, [], take}
+use Rattle.hub.specs.Pieces.{StaysOpen}
+use Rattle.hub.specs.Shown.{shown_in}
+use Rattle.wire.specs.Accounts.{gain}
+use Rattle.hub.proofs.connection.Connection.bytes.Given as goal
+
+abbrev pub invariant-loop-from : goal.invariant-loop-from
+invariant-loop-from g l =
+    (l.from ≤ length l.piece)
+    × (g.P.Versions.state l.pages ≡ g.P.Versions.state l.fn.pages)
+    × ((replies : List (List ℕ))
+    × StaysOpen (shown_in l.root g.P.Versions.site g.P.Versions.templates (g.P.Versions.state l.fn.pages)) l.fn.self (take l.from l.piece)
+    (record { rest = l.self-inside.reading.rest; left = l.self-inside.left }) [] replies
+    × (g.W.Wire.account l.wire l.fn.number ≡ gain (g.W.Wire.account l.fn.wire l.fn.number) replies))
+    × ((other : ℕ) → other ≢ l.fn.number → g.W.Wire.account l.wire other ≡ g.W.Wire.account l.fn.wire other)
+    × (g.W.Wire.faults l.wire l.fn.number ≡ g.W.Wire.faults l.fn.wire l.fn.number)
+    × ((other : ℕ) → other ≢ l.fn.number → g.W.Wire.faults l.wire other ≡ g.W.Wire.faults l.fn.wire other)
+    × ((g.W.Wire.given l.wire ≡ g.W.Wire.given l.fn.wire) × (g.W.Wire.left l.wire ≡ g.W.Wire.left l.fn.wire)
+    × (g.W.Wire.listens l.wire ≡ g.W.Wire.listens l.fn.wire) × (g.W.Wire.next_faults l.wire ≡ g.W.Wire.next_faults l.fn.wire))
+    × g.P.Versions.Own l.pages
+
+abbrev pub decreases-loop-from : goal.decreases-loop-from
+decreases-loop-from g l = length l.piece - l.from

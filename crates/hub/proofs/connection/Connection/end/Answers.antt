@@ -1,0 +1,29 @@
+use Rattle.std.proofs.Common.{◌≡◌, ℕ, List, ap, subst}
+use Rattle.http_reply.specs.Feeding.{Held, EndsWith}
+use Rattle.hub.specs.Line.{Line}
+use Rattle.hub.specs.Shown.{shown_in}
+use Rattle.hub.proofs.StepLemmas.{no_head_asked}
+use Rattle.hub.proofs.ServeLemmas.{finish_clean, finish_asked}
+use Rattle.hub.proofs.connection.Connection.end.Goals as goal
+
+pub invariant_of-self : goal.invariant_of-self
+invariant_of-self g c =
+    let empty = no_head_asked c.end.new.self (ap (λ (h : Held). h.rest) c.end.ensures.held) in
+    (empty.0, empty.1, c.self.invariant.2)
+
+pub invariant_of-self-2 : goal.invariant_of-self-2
+invariant_of-self-2 g c =
+    let empty = no_head_asked c.end.new.self (ap (λ (h : Held). h.rest) c.end.ensures.held) in
+    (empty.0, empty.1, c.self.invariant.2)
+
+pub returns-in_default-clause-finished : goal.returns-in_default-clause-finished
+returns-in_default-clause-finished g c =
+    let rest_is : c.self.inside.reading.rest ≡ c.args.self.now.rest = ap (λ (l : Line). l.rest) c.self.view_is in
+    let ends : EndsWith c.args.self.now.rest c.end.result = subst (λ (r : List ℕ). EndsWith r c.end.result) rest_is c.end.ensures.ask in
+    finish_clean c.args.self.now.rest c.end.result _ _ c.in_default.is ends
+
+pub returns-clause-finished : goal.returns-clause-finished
+returns-clause-finished g c =
+    let rest_is : c.self.inside.reading.rest ≡ c.args.self.now.rest = ap (λ (l : Line). l.rest) c.self.view_is in
+    let ends : EndsWith c.args.self.now.rest c.end.result = subst (λ (r : List ℕ). EndsWith r c.end.result) rest_is c.end.ensures.ask in
+    finish_asked (shown_in c.args.root.now g.P.Versions.site g.P.Versions.templates (g.P.Versions.state c.args.pages.now)) c.args.self.now.rest _ c.end.result c.in-Some.ask c.answer.result _ _ _ _ c.in-Some.is ends c.answer.ensures.sent

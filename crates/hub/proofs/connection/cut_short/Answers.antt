@@ -1,0 +1,25 @@
+use Rattle.std.proofs.Common.{refl, [], ◌∷◌, ◌∙◌, ap, take}
+use Rattle.http_spec.specs.declared.Standing.TheVariants.{Short}
+use Rattle.http_spec.specs.Replies.{no_memory_bytes}
+use Rattle.wire.specs.Accounts.{send_to}
+use Rattle.hub.proofs.connection.cut_short.Goals as goal
+
+pub returns-in-Ok-clause-sent : goal.returns-in-Ok-clause-sent
+returns-in-Ok-clause-sent g c = (
+  no_memory_bytes ∷ [],
+  (refl, refl),
+  c.in-Ok.ensures.ok ∙ ap (λ b. send_to (g.W.Wire.account c.args.wire.now c.args.number) b) c.no_memory_reply.ensures,
+  c.in-Ok.ensures.fine,
+)
+
+pub returns-in-Err-clause-sent : goal.returns-in-Err-clause-sent
+returns-in-Err-clause-sent g c =
+    let some = c.in-Err.ensures.err.0 in (
+      Short,
+      [],
+      no_memory_bytes,
+      some,
+      (refl, refl),
+      c.in-Err.ensures.err.1 ∙ ap (λ b. send_to (g.W.Wire.account c.args.wire.now c.args.number) (take some b)) c.no_memory_reply.ensures,
+      c.in-Err.ensures.failed,
+    )

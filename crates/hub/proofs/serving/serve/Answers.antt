@@ -1,0 +1,108 @@
+use Rattle.std.proofs.Common.{◌≡◌, ◌<◌, false, ℕ, refl, sym, ◌∙◌, subst, arith, List, Option, ◌++◌, ◌∷◌, [], length-append, length}
+use Rattle.wire.specs.Events.{IsNextOf}
+use Rattle.hub.specs.Moments.{Moment, Unopened}
+use Rattle.hub.specs.HubState.{line_of}
+use Rattle.hub.specs.Shown.{shown_in}
+use Rattle.hub.specs.Turns.{ats, at_in}
+use Rattle.wire.specs.declared.WireEvent.{WireEvent}
+use Rattle.hub.proofs.RunLemmas.{runs_more, stands_more, stands_done, given_more, drawn_more, none_more, done_is, runs_moved, turned_at}
+use Rattle.hub.proofs.serving.serve.Goals as goal
+
+pub returns-then-is_done-clause-stands : goal.returns-then-is_done-clause-stands
+returns-then-is_done-clause-stands g c =
+    let page = shown_in c.args.hub.now.root g.P.Versions.site g.P.Versions.templates in
+    let e = c.in-Ok.event in
+    let events = c.loop.invariant.6.0 in
+    let start : Moment g.P.Versions.State = record { current = g.P.Versions.state c.args.hub.now.pages; greatest = c.args.hub.now.greatest; input = Unopened } in
+    let done = done_is e (sym c.is_done.ensures ∙ c.if-is_done.true) in
+    let counted : length events ≡ c.loop.counter = c.loop.invariant.6.3 in (
+      events ++ e ∷ [],
+      given_more (g.W.Wire.given c.args.wire.now) (g.W.Wire.given c.loop.wire) (g.W.Wire.given c.next.new.self) events e c.loop.invariant.6.1 c.in-Ok.ensures.given,
+      drawn_more (g.W.Wire.left c.args.wire.now) (g.W.Wire.left c.loop.wire) (g.W.Wire.left c.next.new.self) events e c.loop.invariant.6.2 c.in-Ok.ensures.left,
+      (events, subst (λ (x : WireEvent). events ++ e ∷ [] ≡ events ++ x ∷ []) done refl, omega (arith, counted, c.loop-test.true), c.loop.invariant.6.4),
+      λ number none.
+          stands_done page g.P.Versions.changed c.args.hub.now.limit number start events e
+          (at_in (line_of c.args.hub.now) (g.W.Wire.account c.args.wire.now) (g.W.Wire.faults c.args.wire.now) number)
+          (at_in (line_of c.loop.hub) (g.W.Wire.account c.next.new.self) (g.W.Wire.faults c.next.new.self) number)
+          (g.P.Versions.state c.loop.hub.pages) c.loop.hub.greatest done
+          (runs_moved page g.P.Versions.changed c.args.hub.now.limit number start events
+          (at_in (line_of c.args.hub.now) (g.W.Wire.account c.args.wire.now) (g.W.Wire.faults c.args.wire.now) number)
+          (line_of c.loop.hub) (g.W.Wire.account c.loop.wire) (g.W.Wire.account c.next.new.self)
+          (g.W.Wire.faults c.loop.wire) (g.W.Wire.faults c.next.new.self) (g.P.Versions.state c.loop.hub.pages) c.loop.hub.greatest
+          c.in-Ok.ensures.stays.0 c.in-Ok.ensures.stays.1 (c.loop.invariant.6.5 number none)),
+    )
+
+pub returns-then-spent-clause-stands : goal.returns-then-spent-clause-stands
+returns-then-spent-clause-stands g c =
+    let some : 0 < c.args.hub.now.limit = subst (λ (n : ℕ). 0 < n) c.loop.invariant.0 c.step.ensures.some in
+    let page = shown_in c.args.hub.now.root g.P.Versions.site g.P.Versions.templates in
+    let e = c.in-Ok.event in
+    let events = c.loop.invariant.6.0 in
+    let start : Moment g.P.Versions.State = record { current = g.P.Versions.state c.args.hub.now.pages; greatest = c.args.hub.now.greatest; input = Unopened } in
+    let counted : length events ≡ c.loop.counter = c.loop.invariant.6.3 in
+    let next : IsNextOf (g.W.Wire.left c.loop.wire) e (g.W.Wire.left c.step.new.wire) =
+    subst (λ (o : Option (List WireEvent)). IsNextOf (g.W.Wire.left c.loop.wire) e o) (sym c.step.ensures.stays.1) c.in-Ok.ensures.left in (
+      events ++ e ∷ [],
+      given_more (g.W.Wire.given c.args.wire.now) (g.W.Wire.given c.loop.wire) (g.W.Wire.given c.step.new.wire) events e c.loop.invariant.6.1
+          (c.step.ensures.stays.0 ∙ c.in-Ok.ensures.given),
+      drawn_more (g.W.Wire.left c.args.wire.now) (g.W.Wire.left c.loop.wire) (g.W.Wire.left c.step.new.wire) events e c.loop.invariant.6.2 next,
+      (omega (arith, counted, c.loop-test.true, length-append events (e ∷ [])), none_more events e c.loop.invariant.6.4 (sym c.is_done.ensures ∙ c.if-is_done.false)),
+      λ number none.
+          stands_more page g.P.Versions.changed c.args.hub.now.limit number start events e
+          (at_in (line_of c.args.hub.now) (g.W.Wire.account c.args.wire.now) (g.W.Wire.faults c.args.wire.now) number)
+          (ats (line_of c.loop.hub) (g.W.Wire.account c.next.new.self) (g.W.Wire.faults c.next.new.self))
+          (ats (line_of c.step.new.self) (g.W.Wire.account c.step.new.wire) (g.W.Wire.faults c.step.new.wire))
+          (g.P.Versions.state c.loop.hub.pages) c.loop.hub.greatest some
+          (runs_moved page g.P.Versions.changed c.args.hub.now.limit number start events
+          (at_in (line_of c.args.hub.now) (g.W.Wire.account c.args.wire.now) (g.W.Wire.faults c.args.wire.now) number)
+          (line_of c.loop.hub) (g.W.Wire.account c.loop.wire) (g.W.Wire.account c.next.new.self)
+          (g.W.Wire.faults c.loop.wire) (g.W.Wire.faults c.next.new.self) (g.P.Versions.state c.loop.hub.pages) c.loop.hub.greatest
+          c.in-Ok.ensures.stays.0 c.in-Ok.ensures.stays.1 (c.loop.invariant.6.5 number none))
+          (turned_at (λ r. shown_in r g.P.Versions.site g.P.Versions.templates) (g.P.Versions.state c.loop.hub.pages) c.loop.hub.root c.args.hub.now.root c.loop.hub.limit c.args.hub.now.limit c.loop.hub.greatest e
+          (ats (line_of c.loop.hub) (g.W.Wire.account c.next.new.self) (g.W.Wire.faults c.next.new.self))
+          (ats (line_of c.step.new.self) (g.W.Wire.account c.step.new.wire) (g.W.Wire.faults c.step.new.wire))
+          c.loop.invariant.1 c.loop.invariant.0 (c.step.ensures.turned c.loop.invariant.2)),
+    )
+
+pub loop-preserved : goal.loop-preserved
+loop-preserved g c =
+    let alive : c.step.new.self.spent ≡ false = sym c.spent.ensures ∙ c.if-spent.false in
+    let some : 0 < c.args.hub.now.limit = subst (λ (n : ℕ). 0 < n) c.loop.invariant.0 c.step.ensures.some in
+    let page = shown_in c.args.hub.now.root g.P.Versions.site g.P.Versions.templates in
+    let e = c.in-Ok.event in
+    let events = c.loop.invariant.6.0 in
+    let start : Moment g.P.Versions.State = record { current = g.P.Versions.state c.args.hub.now.pages; greatest = c.args.hub.now.greatest; input = Unopened } in
+    let counted : length events ≡ c.loop.counter = c.loop.invariant.6.3 in
+    let next : IsNextOf (g.W.Wire.left c.loop.wire) e (g.W.Wire.left c.step.new.wire) =
+    subst (λ (o : Option (List WireEvent)). IsNextOf (g.W.Wire.left c.loop.wire) e o) (sym c.step.ensures.stays.1) c.in-Ok.ensures.left in (
+      c.step.ensures.limit ∙ c.loop.invariant.0,
+      c.step.ensures.root ∙ c.loop.invariant.1,
+      alive,
+      c.step.ensures.own,
+      c.step.ensures.stays.3 ∙ c.in-Ok.ensures.fine ∙ c.loop.invariant.4,
+      c.step.ensures.stays.2 ∙ c.in-Ok.ensures.stays.2 ∙ c.loop.invariant.5,
+      (
+        events ++ e ∷ [],
+        given_more (g.W.Wire.given c.args.wire.now) (g.W.Wire.given c.loop.wire) (g.W.Wire.given c.step.new.wire) events e c.loop.invariant.6.1
+            (c.step.ensures.stays.0 ∙ c.in-Ok.ensures.given),
+        drawn_more (g.W.Wire.left c.args.wire.now) (g.W.Wire.left c.loop.wire) (g.W.Wire.left c.step.new.wire) events e c.loop.invariant.6.2 next,
+        omega (arith, counted, length-append events (e ∷ [])),
+        none_more events e c.loop.invariant.6.4 (sym c.is_done.ensures ∙ c.if-is_done.false),
+        λ number none.
+            runs_more page g.P.Versions.changed c.args.hub.now.limit number start events e
+            (at_in (line_of c.args.hub.now) (g.W.Wire.account c.args.wire.now) (g.W.Wire.faults c.args.wire.now) number)
+            (ats (line_of c.loop.hub) (g.W.Wire.account c.next.new.self) (g.W.Wire.faults c.next.new.self))
+            (ats (line_of c.step.new.self) (g.W.Wire.account c.step.new.wire) (g.W.Wire.faults c.step.new.wire))
+            (g.P.Versions.state c.loop.hub.pages) (g.P.Versions.state c.step.new.self.pages) c.loop.hub.greatest c.step.new.self.greatest some
+            (runs_moved page g.P.Versions.changed c.args.hub.now.limit number start events
+            (at_in (line_of c.args.hub.now) (g.W.Wire.account c.args.wire.now) (g.W.Wire.faults c.args.wire.now) number)
+            (line_of c.loop.hub) (g.W.Wire.account c.loop.wire) (g.W.Wire.account c.next.new.self)
+            (g.W.Wire.faults c.loop.wire) (g.W.Wire.faults c.next.new.self) (g.P.Versions.state c.loop.hub.pages) c.loop.hub.greatest
+            c.in-Ok.ensures.stays.0 c.in-Ok.ensures.stays.1 (c.loop.invariant.6.5 number none))
+            (turned_at (λ r. shown_in r g.P.Versions.site g.P.Versions.templates) (g.P.Versions.state c.loop.hub.pages) c.loop.hub.root c.args.hub.now.root c.loop.hub.limit c.args.hub.now.limit c.loop.hub.greatest e
+            (ats (line_of c.loop.hub) (g.W.Wire.account c.next.new.self) (g.W.Wire.faults c.next.new.self))
+            (ats (line_of c.step.new.self) (g.W.Wire.account c.step.new.wire) (g.W.Wire.faults c.step.new.wire))
+            c.loop.invariant.1 c.loop.invariant.0 (c.step.ensures.turned c.loop.invariant.2))
+            (c.step.ensures.state c.loop.invariant.2 alive) (c.step.ensures.greatest c.loop.invariant.2),
+      ),
+    )

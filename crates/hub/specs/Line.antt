@@ -1,0 +1,6 @@
+-- An open connection: the bytes that came since the last whole head, and how many replies it may still have.
+use Rattle.std.specs.Prelude.{ℕ, List}
+
+pub record Line : Type 0 where
+  pub rest : List ℕ
+  pub left : ℕ

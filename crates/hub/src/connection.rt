@@ -1,0 +1,244 @@
+// One connection: its bytes come in pieces, and its replies go out one by one.
+ghost use Rattle.std.specs.Prelude.{◌≡◌, ◌≢◌, ℕ, ◌<◌, List, [], ◌∷◌, ◌++◌, ◌||◌, length, IfOk, true};
+ghost use Rattle.page_spec.specs.declared.Outcome.{Outcome};
+ghost use Rattle.http_spec.specs.Replies.{reply_bytes};
+ghost use Rattle.http_spec.specs.Sessions.{IsLookedUp};
+ghost use Rattle.hub.specs.Shown.{shown_in};
+ghost use Rattle.hub.specs.Turns.{IsServed, IsFinished, IsUnopened, IsAnswered, IsSent};
+
+use address::term_of;
+use http_reply::{Reading, no_memory_reply, reply};
+use http_spec::{Ask, AskKind, Standing};
+use page_spec::Outcome;
+use sd_value::{NoMemory, Str};
+use std::alloc::Global;
+use std::marker::Model;
+use versions::Versions;
+use wire::Wire;
+
+/// An open connection.
+#[derive(Drop)]
+pub(crate) struct Connection {
+    reading: Reading,
+    /// How many replies it may still have.
+    left: u64,
+}
+
+impl Model for Connection {
+    ghost use Rattle.std.specs.Prelude.{◌<◌, length};
+    ghost use Rattle.http_spec.specs.Heads.{max_head, HasNoHead};
+    ghost use Rattle.hub.specs.Line.{Line};
+
+    ghost Value = { Line };
+
+    ghost view = { λ c. record { rest = c.reading.rest; left = c.left } };
+
+    ghost invariant = { λ c. HasNoHead c.reading.rest × (length c.reading.rest < max_head) × (0 < c.left) };
+}
+
+impl Connection {
+    /// A connection that may have so many replies.
+    pub(crate) fn new(alloc: Global, requests: u64) -> Result<Connection, NoMemory>
+        requires { 0 < requests }
+        ensures { IfOk result (λ c. c ≡ record { rest = []; left = requests }) }
+    {
+        let reading = Reading::new(alloc)?;
+        Ok(Connection {
+            reading,
+            left: requests,
+        })
+    }
+
+    /// Takes a piece of the bytes, and sends the reply to each head that is whole then.
+    pub(crate) fn bytes<P: Versions, W: Wire>(
+        &mut self,
+        alloc: Global,
+        piece: &[u8],
+        root: &Option<Str>,
+        pages: &mut P,
+        number: u64,
+        wire: &mut W,
+    ) -> Standing
+        requires own { P.Own pages.old }
+        ensures own { P.Own pages.new }
+        ensures state { P.state pages.new ≡ P.state pages.old }
+        ensures others { (other : ℕ) → other ≢ number → W.account wire.new other ≡ W.account wire.old other }
+        ensures others_fine { (other : ℕ) → other ≢ number → W.faults wire.new other ≡ W.faults wire.old other }
+        ensures served { IsServed (shown_in root.now P.site P.templates (P.state pages.old)) self.old piece.now result self.new (W.account wire.old number) (W.account wire.new number)
+            (W.faults wire.old number) (W.faults wire.new number) }
+        ensures stays { (W.given wire.new ≡ W.given wire.old) × (W.left wire.new ≡ W.left wire.old) × (W.listens wire.new ≡ W.listens wire.old) × (W.next_faults wire.new ≡ W.next_faults wire.old) }
+    {
+        let mut from = 0;
+        while from < piece.len() {
+            let fed = self.reading.feed(&piece[from..]);
+            from += fed.taken;
+            let Some(ask) = fed.ask else {
+                return Standing::Open;
+            };
+            let last = self.left == 1;
+            match answer(
+                alloc,
+                &ask,
+                self.reading.target(),
+                last,
+                root,
+                pages,
+                number,
+                wire,
+            ) {
+                Standing::Open => self.left -= 1,
+                Standing::Closed => return Standing::Closed,
+                Standing::Short => return Standing::Short,
+                Standing::Lost => return Standing::Lost,
+            }
+        }
+        Standing::Open
+    }
+
+    /// Takes the end of the bytes, and sends a 400 where the rest is more than line ends.
+    pub(crate) fn end<P: Versions, W: Wire>(
+        &mut self,
+        alloc: Global,
+        root: &Option<Str>,
+        pages: &mut P,
+        number: u64,
+        wire: &mut W,
+    ) -> Standing
+        requires own { P.Own pages.old }
+        ensures own { P.Own pages.new }
+        ensures state { P.state pages.new ≡ P.state pages.old }
+        ensures others { (other : ℕ) → other ≢ number → W.account wire.new other ≡ W.account wire.old other }
+        ensures others_fine { (other : ℕ) → other ≢ number → W.faults wire.new other ≡ W.faults wire.old other }
+        ensures finished { IsFinished self.old.rest result (W.account wire.old number) (W.account wire.new number)
+            (W.faults wire.old number) (W.faults wire.new number) }
+        ensures stays { (W.given wire.new ≡ W.given wire.old) × (W.left wire.new ≡ W.left wire.old) × (W.listens wire.new ≡ W.listens wire.old) × (W.next_faults wire.new ≡ W.next_faults wire.old) }
+    {
+        let Some(ask) = self.reading.end() else {
+            return Standing::Closed;
+        };
+        answer(alloc, &ask, &[], true, root, pages, number, wire)
+    }
+}
+
+/// Sends the reply to one ask. `last` says that the connection may have no further one.
+pub(crate) fn answer<P: Versions, W: Wire>(
+    alloc: Global,
+    ask: &Ask,
+    target: &[u8],
+    last: bool,
+    root: &Option<Str>,
+    pages: &mut P,
+    number: u64,
+    wire: &mut W,
+) -> Standing
+    requires own { P.Own pages.old }
+    ensures own { P.Own pages.new }
+    ensures state { P.state pages.new ≡ P.state pages.old }
+    ensures others { (other : ℕ) → other ≢ number → W.account wire.new other ≡ W.account wire.old other }
+    ensures others_fine { (other : ℕ) → other ≢ number → W.faults wire.new other ≡ W.faults wire.old other }
+    ensures sent { IsAnswered (shown_in root.now P.site P.templates (P.state pages.old)) ask.now target.now last result (W.account wire.old number) (W.account wire.new number)
+        (W.faults wire.old number) (W.faults wire.new number) }
+    ensures stays { (W.given wire.new ≡ W.given wire.old) × (W.left wire.new ≡ W.left wire.old) × (W.listens wire.new ≡ W.listens wire.old) × (W.next_faults wire.new ≡ W.next_faults wire.old) }
+{
+    let close = closes(ask, last);
+    match reply_to(alloc, ask, target, close, root, pages) {
+        Ok(reply) => send(reply.as_slice(), close, number, wire),
+        Err(_) => cut_short(number, wire),
+    }
+}
+
+/// Whether the connection is closed after the reply.
+fn closes(ask: &Ask, last: bool) -> bool
+    ensures { result ≡ (last || ask.now.close) }
+{
+    last || ask.close
+}
+
+/// Sends a reply.
+fn send<W: Wire>(reply: &[u8], close: bool, number: u64, wire: &mut W) -> Standing
+    ensures others { (other : ℕ) → other ≢ number → W.account wire.new other ≡ W.account wire.old other }
+    ensures others_fine { (other : ℕ) → other ≢ number → W.faults wire.new other ≡ W.faults wire.old other }
+    ensures sent { IsSent close reply.now result (W.account wire.old number) (W.account wire.new number) (W.faults wire.old number) (W.faults wire.new number) }
+    ensures stays { (W.given wire.new ≡ W.given wire.old) × (W.left wire.new ≡ W.left wire.old) × (W.listens wire.new ≡ W.listens wire.old) × (W.next_faults wire.new ≡ W.next_faults wire.old) }
+{
+    match wire.send(number, reply) {
+        Err(_) => Standing::Lost,
+        Ok(()) if close => Standing::Closed,
+        Ok(()) => Standing::Open,
+    }
+}
+
+/// Sends the reply where memory is missing.
+pub(crate) fn cut_short<W: Wire>(number: u64, wire: &mut W) -> Standing
+    ensures others { (other : ℕ) → other ≢ number → W.account wire.new other ≡ W.account wire.old other }
+    ensures others_fine { (other : ℕ) → other ≢ number → W.faults wire.new other ≡ W.faults wire.old other }
+    ensures over { result ≢ Standing.Open }
+    ensures sent { IsUnopened result (W.account wire.old number) (W.account wire.new number) (W.faults wire.old number) (W.faults wire.new number) }
+    ensures stays { (W.given wire.new ≡ W.given wire.old) × (W.left wire.new ≡ W.left wire.old) × (W.listens wire.new ≡ W.listens wire.old) × (W.next_faults wire.new ≡ W.next_faults wire.old) }
+{
+    match wire.send(number, no_memory_reply()) {
+        Ok(()) => Standing::Short,
+        Err(_) => Standing::Lost,
+    }
+}
+
+/// The reply to one ask.
+fn reply_to<P: Versions>(
+    alloc: Global,
+    ask: &Ask,
+    target: &[u8],
+    close: bool,
+    root: &Option<Str>,
+    pages: &mut P,
+) -> Result<Vec<u8>, NoMemory>
+    requires own { P.Own pages.old }
+    ensures own { P.Own pages.new }
+    ensures state { P.state pages.new ≡ P.state pages.old }
+    ensures bytes { IfOk result (λ bytes. (outcome : Outcome)
+        × IsLookedUp (shown_in root.now P.site P.templates (P.state pages.old)) ask.now.kind target.now outcome
+        × (bytes.items ≡ reply_bytes ask.now outcome close)) }
+{
+    let outcome = look_up(alloc, ask.kind, target, root, pages)?;
+    let mut out = Vec::new(alloc);
+    reply(alloc, ask, &outcome, close, &mut out)?;
+    Ok(out)
+}
+
+/// The outcome that the reply shows. Where no page is asked for, it may be any.
+fn look_up<P: Versions>(
+    alloc: Global,
+    kind: AskKind,
+    target: &[u8],
+    root: &Option<Str>,
+    pages: &mut P,
+) -> Result<Outcome, NoMemory>
+    requires own { P.Own pages.old }
+    ensures own { P.Own pages.new }
+    ensures state { P.state pages.new ≡ P.state pages.old }
+    ensures found { IfOk result (λ outcome. IsLookedUp (shown_in root.now P.site P.templates (P.state pages.old)) kind target.now outcome) }
+{
+    match kind {
+        AskKind::Get => page_at(alloc, target, root, pages),
+        AskKind::Head => page_at(alloc, target, root, pages),
+        AskKind::BadRequest => Ok(Outcome::Missing),
+        AskKind::WrongMethod => Ok(Outcome::Missing),
+    }
+}
+
+/// The outcome of the term that a target names.
+fn page_at<P: Versions>(
+    alloc: Global,
+    target: &[u8],
+    root: &Option<Str>,
+    pages: &mut P,
+) -> Result<Outcome, NoMemory>
+    requires own { P.Own pages.old }
+    ensures own { P.Own pages.new }
+    ensures state { P.state pages.new ≡ P.state pages.old }
+    ensures found { IfOk result (shown_in root.now P.site P.templates (P.state pages.old) target.now) }
+{
+    match term_of(alloc, target, root.as_ref())? {
+        Some(term) => pages.page(alloc, &term),
+        None => Ok(Outcome::Missing),
+    }
+}

@@ -1,0 +1,184 @@
+// The hub: one event is one step.
+ghost use Rattle.std.specs.Prelude.{◌≡◌, ◌≢◌, ◌<◌, ◌⊎◌, ℕ, true, false, Some, None};
+ghost use Rattle.std.specs.Ordering.{nat_cmp};
+ghost use Rattle.std.specs.BTreeMap.{get};
+ghost use Rattle.wire.specs.declared.WireEvent.{WireEvent};
+ghost use Rattle.hub.specs.HubState.{HubState, line_of};
+ghost use Rattle.hub.specs.Shown.{shown_in};
+ghost use Rattle.hub.specs.Turns.{ats, counts, Turned, greatest_after, state_after};
+
+use crate::table::{Connections, finish, forget, open, take_piece};
+use sd_value::Str;
+use std::alloc::Global;
+use std::collections::BTreeMap;
+use std::marker::Model;
+use versions::Versions;
+use wire::{Wire, WireEvent};
+
+/// What a hub holds.
+#[derive(Drop)]
+struct Desk<P> {
+    pages: P,
+    connections: Connections,
+    /// The greatest number that was opened.
+    greatest: Option<u64>,
+    /// How many replies a connection may have.
+    requests: u64,
+    /// The function of the term for `/`.
+    root: Option<Str>,
+    /// Memory was missing for a change.
+    spent: bool,
+}
+
+/// The connections of a run, and the pages that they are shown.
+#[derive(Drop)]
+pub struct Hub<P> {
+    desk: Desk<P>,
+}
+
+impl<P> Model for Hub<P> {
+    ghost use Rattle.std.specs.Prelude.{◌<◌};
+    ghost use Rattle.hub.specs.HubState.{HubState};
+
+    ghost Value = { HubState P };
+
+    ghost view = { λ h. record {
+      pages = h.desk.pages;
+      lines = h.desk.connections.entries;
+      greatest = h.desk.greatest;
+      limit = h.desk.requests;
+      root = h.desk.root;
+      spent = h.desk.spent;
+    } };
+
+    ghost invariant = { λ h. 0 < h.desk.requests };
+}
+
+impl<P: Versions> Hub<P> {
+    /// A hub without connections, in which each may have so many replies. `root` is the function of the term for `/`.
+    pub fn of(alloc: Global, pages: P, requests: u64, root: Option<Str>) -> Hub<P>
+        requires some { 0 < requests }
+        ensures pages { result.pages ≡ pages }
+        ensures none { (number : ℕ) → line_of result number ≡ None }
+        ensures greatest { result.greatest ≡ None }
+        ensures limit { result.limit ≡ requests }
+        ensures root { result.root ≡ root }
+        ensures spent { result.spent ≡ false }
+    {
+        let desk = Desk {
+            pages,
+            connections: BTreeMap::new(alloc),
+            greatest: None,
+            requests,
+            root,
+            spent: false,
+        };
+        Hub { desk }
+    }
+
+    /// Takes one event. One that opens a number not above all before, one of a connection that is not open, and `Done`
+    /// are passed over. A hub that is spent passes over each.
+    pub fn step<W: Wire>(&mut self, alloc: Global, event: &WireEvent, wire: &mut W)
+        requires own { P.Own self.old.pages }
+        ensures own { P.Own self.new.pages }
+        ensures some { 0 < self.old.limit }
+        ensures limit { self.new.limit ≡ self.old.limit }
+        ensures root { self.new.root ≡ self.old.root }
+        ensures state { self.old.spent ≡ false → self.new.spent ≡ false → P.state self.new.pages ≡ state_after P.changed event.now (P.state self.old.pages) }
+        ensures greatest { self.old.spent ≡ false → self.new.greatest ≡ greatest_after event.now self.old.greatest }
+        ensures passes { self.old.spent ≡ true → (self.new ≡ self.old) × (wire.new ≡ wire.old) }
+        ensures turned { self.old.spent ≡ false → Turned (shown_in self.old.root P.site P.templates (P.state self.old.pages)) self.old.limit self.old.greatest event.now
+            (ats (line_of self.old) (W.account wire.old) (W.faults wire.old))
+            (ats (line_of self.new) (W.account wire.new) (W.faults wire.new)) }
+        ensures stays { (W.given wire.new ≡ W.given wire.old) × (W.left wire.new ≡ W.left wire.old) × (W.listens wire.new ≡ W.listens wire.old)
+            × (W.next_faults wire.new ≡ W.next_faults wire.old) }
+    {
+        if !self.desk.spent {
+            self.desk.take(alloc, event, wire);
+        }
+    }
+
+    /// Whether memory was missing for a change. It takes no memory.
+    pub fn spent(&self) -> bool
+        ensures { result ≡ self.now.spent }
+    {
+        self.desk.spent
+    }
+}
+
+impl<P: Versions> Desk<P> {
+    /// Takes one event.
+    fn take<W: Wire>(&mut self, alloc: Global, event: &WireEvent, wire: &mut W)
+        requires some { 0 < self.old.requests }
+        requires own { P.Own self.old.pages }
+        requires alive { self.old.spent ≡ false }
+        ensures own { P.Own self.new.pages }
+        ensures requests { self.new.requests ≡ self.old.requests }
+        ensures root { self.new.root ≡ self.old.root }
+        ensures state { self.new.spent ≡ false → P.state self.new.pages ≡ state_after P.changed event.now (P.state self.old.pages) }
+        ensures greatest { self.new.greatest ≡ greatest_after event.now self.old.greatest }
+        ensures turned { Turned (shown_in self.old.root P.site P.templates (P.state self.old.pages)) self.old.requests self.old.greatest event.now
+            (ats (get nat_cmp self.old.connections) (W.account wire.old) (W.faults wire.old))
+            (ats (get nat_cmp self.new.connections) (W.account wire.new) (W.faults wire.new)) }
+        ensures stays { (W.given wire.new ≡ W.given wire.old) × (W.left wire.new ≡ W.left wire.old) × (W.listens wire.new ≡ W.listens wire.old)
+            × (W.next_faults wire.new ≡ W.next_faults wire.old) }
+    {
+        match event {
+            WireEvent::Opened(number) => self.begin(alloc, *number, wire),
+            WireEvent::Bytes(number, piece) => take_piece(
+                &mut self.connections,
+                alloc,
+                *number,
+                piece.bytes(),
+                &self.root,
+                &mut self.pages,
+                wire,
+            ),
+            WireEvent::Ended(number) => finish(
+                &mut self.connections,
+                alloc,
+                *number,
+                &self.root,
+                &mut self.pages,
+                wire,
+            ),
+            WireEvent::Lost(number) => forget(&mut self.connections, *number),
+            WireEvent::Change(text) => {
+                if self.pages.change(alloc, text, &[]).is_err() {
+                    self.spent = true;
+                }
+            }
+            WireEvent::Done => {}
+        }
+    }
+
+    /// Opens a connection, where its number is above all that were opened before.
+    fn begin<W: Wire>(&mut self, alloc: Global, number: u64, wire: &mut W)
+        requires some { 0 < self.old.requests }
+        ensures requests { self.new.requests ≡ self.old.requests }
+        ensures root { self.new.root ≡ self.old.root }
+        ensures spent { self.new.spent ≡ self.old.spent }
+        ensures pages { self.new.pages ≡ self.old.pages }
+        ensures greatest { self.new.greatest ≡ greatest_after (WireEvent.Opened number) self.old.greatest }
+        ensures turned { Turned (shown_in self.old.root P.site P.templates (P.state self.old.pages)) self.old.requests self.old.greatest (WireEvent.Opened number)
+            (ats (get nat_cmp self.old.connections) (W.account wire.old) (W.faults wire.old))
+            (ats (get nat_cmp self.new.connections) (W.account wire.new) (W.faults wire.new)) }
+        ensures stays { (W.given wire.new ≡ W.given wire.old) × (W.left wire.new ≡ W.left wire.old) × (W.listens wire.new ≡ W.listens wire.old)
+            × (W.next_faults wire.new ≡ W.next_faults wire.old) }
+    {
+        if self.counts(number) {
+            self.greatest = Some(number);
+            open(&mut self.connections, alloc, number, self.requests, wire);
+        }
+    }
+
+    /// Whether a number is above all that were opened before.
+    fn counts(&self, number: u64) -> bool
+        ensures { result ≡ counts self.now.greatest number }
+    {
+        match self.greatest {
+            None => true,
+            Some(greatest) => greatest < number,
+        }
+    }
+}

@@ -1,0 +1,10 @@
+//! Many connections to one site, whose data may change.
+#![tactic(auto)]
+
+mod connection;
+mod hub_step;
+mod serving;
+mod table;
+
+pub use hub_step::Hub;
+pub use serving::{HubEnd, serve};

@@ -1,0 +1,126 @@
+// The connections that are open.
+ghost use Rattle.std.specs.Prelude.{◌≡◌, ◌≢◌, ℕ, ◌<◌, Some, None};
+ghost use Rattle.std.specs.Ordering.{nat_cmp};
+ghost use Rattle.std.specs.BTreeMap.{get};
+ghost use Rattle.hub.specs.Delivered.{closing};
+ghost use Rattle.hub.specs.Shown.{shown_in};
+ghost use Rattle.hub.specs.Turns.{At, ats, at_in, Opens, TakesPiece, Finishes, OthersStay};
+
+use crate::connection::{Connection, cut_short};
+use http_spec::Standing;
+use sd_value::Str;
+use std::alloc::Global;
+use std::collections::BTreeMap;
+use versions::Versions;
+use wire::Wire;
+
+/// The open connections by their numbers.
+pub(crate) type Connections = BTreeMap<u64, Connection>;
+
+/// Opens a connection. Where memory is missing for it, it is sent a 503.
+pub(crate) fn open<W: Wire>(
+    connections: &mut Connections,
+    alloc: Global,
+    number: u64,
+    requests: u64,
+    wire: &mut W,
+)
+    requires { 0 < requests }
+    ensures others { OthersStay number (ats (get nat_cmp connections.old) (W.account wire.old) (W.faults wire.old))
+        (ats (get nat_cmp connections.new) (W.account wire.new) (W.faults wire.new)) }
+    ensures opened { Opens requests (at_in (get nat_cmp connections.old) (W.account wire.old) (W.faults wire.old) number)
+        (at_in (get nat_cmp connections.new) (W.account wire.new) (W.faults wire.new) number) }
+    ensures stays { (W.given wire.new ≡ W.given wire.old) × (W.left wire.new ≡ W.left wire.old) × (W.listens wire.new ≡ W.listens wire.old) × (W.next_faults wire.new ≡ W.next_faults wire.old) }
+{
+    if let Ok(connection) = Connection::new(alloc, requests)
+        && connections.insert(number, connection).is_ok()
+    {
+        return;
+    }
+    forget(connections, number);
+    let standing = cut_short(number, wire);
+    settle(standing, number, wire);
+}
+
+/// Takes a piece of one connection's bytes. A number that is not open is passed over.
+pub(crate) fn take_piece<P: Versions, W: Wire>(
+    connections: &mut Connections,
+    alloc: Global,
+    number: u64,
+    piece: &[u8],
+    root: &Option<Str>,
+    pages: &mut P,
+    wire: &mut W,
+)
+    requires own { P.Own pages.old }
+    ensures own { P.Own pages.new }
+    ensures state { P.state pages.new ≡ P.state pages.old }
+    ensures others { OthersStay number (ats (get nat_cmp connections.old) (W.account wire.old) (W.faults wire.old))
+        (ats (get nat_cmp connections.new) (W.account wire.new) (W.faults wire.new)) }
+    ensures taken { TakesPiece (shown_in root.now P.site P.templates (P.state pages.old)) piece.now (get nat_cmp connections.old number)
+        (at_in (get nat_cmp connections.old) (W.account wire.old) (W.faults wire.old) number)
+        (at_in (get nat_cmp connections.new) (W.account wire.new) (W.faults wire.new) number) }
+    ensures stays { (W.given wire.new ≡ W.given wire.old) × (W.left wire.new ≡ W.left wire.old) × (W.listens wire.new ≡ W.listens wire.old) × (W.next_faults wire.new ≡ W.next_faults wire.old) }
+{
+    let standing = match connections.get_mut(&number) {
+        None => return,
+        Some(connection) => connection.bytes(alloc, piece, root, pages, number, wire),
+    };
+    match standing {
+        Standing::Open => {}
+        Standing::Closed => forget(connections, number),
+        Standing::Short => forget(connections, number),
+        Standing::Lost => forget(connections, number),
+    }
+    settle(standing, number, wire);
+}
+
+/// Takes the end of one connection's input. A number that is not open is passed over.
+pub(crate) fn finish<P: Versions, W: Wire>(
+    connections: &mut Connections,
+    alloc: Global,
+    number: u64,
+    root: &Option<Str>,
+    pages: &mut P,
+    wire: &mut W,
+)
+    requires own { P.Own pages.old }
+    ensures own { P.Own pages.new }
+    ensures state { P.state pages.new ≡ P.state pages.old }
+    ensures others { OthersStay number (ats (get nat_cmp connections.old) (W.account wire.old) (W.faults wire.old))
+        (ats (get nat_cmp connections.new) (W.account wire.new) (W.faults wire.new)) }
+    ensures finished { Finishes (get nat_cmp connections.old number)
+        (at_in (get nat_cmp connections.old) (W.account wire.old) (W.faults wire.old) number)
+        (at_in (get nat_cmp connections.new) (W.account wire.new) (W.faults wire.new) number) }
+    ensures stays { (W.given wire.new ≡ W.given wire.old) × (W.left wire.new ≡ W.left wire.old) × (W.listens wire.new ≡ W.listens wire.old) × (W.next_faults wire.new ≡ W.next_faults wire.old) }
+{
+    let standing = match connections.get_mut(&number) {
+        None => return,
+        Some(connection) => connection.end(alloc, root, pages, number, wire),
+    };
+    forget(connections, number);
+    settle(standing, number, wire);
+}
+
+/// Closes the connection where a reply has closed it.
+fn settle<W: Wire>(standing: Standing, number: u64, wire: &mut W)
+    ensures closed { W.account wire.new number ≡ closing standing (W.account wire.old number) }
+    ensures others { (other : ℕ) → other ≢ number → W.account wire.new other ≡ W.account wire.old other }
+    ensures faults { (other : ℕ) → W.faults wire.new other ≡ W.faults wire.old other }
+    ensures stays { (W.given wire.new ≡ W.given wire.old) × (W.left wire.new ≡ W.left wire.old) × (W.listens wire.new ≡ W.listens wire.old) × (W.next_faults wire.new ≡ W.next_faults wire.old) }
+{
+    match standing {
+        Standing::Open => {}
+        Standing::Closed => wire.close(number),
+        Standing::Short => wire.close(number),
+        Standing::Lost => {}
+    }
+}
+
+/// Forgets a connection.
+pub(crate) fn forget(connections: &mut Connections, number: u64)
+    ensures gone { get nat_cmp connections.new number ≡ None }
+    ensures others { (other : ℕ) → other ≢ number → get nat_cmp connections.new other ≡ get nat_cmp connections.old other }
+{
+    let _ = connections.remove(&number);
+}

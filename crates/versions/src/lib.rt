@@ -1,0 +1,74 @@
+//! Pages of a site whose data a text may replace.
+#![tactic(auto)]
+
+ghost use Rattle.std.specs.Prelude.{◌≡◌, ◌↔◌, ℕ, List, Bool, true, false, Contains, IfOk, Ok};
+ghost use Rattle.sd_value.specs.declared.Term.{Term};
+ghost use Rattle.tmpl.specs.Body.{TemplateFile};
+ghost use Rattle.page_spec.specs.declared.Outcome.{Outcome};
+ghost use Rattle.page_spec.specs.Page.{IsOutcome};
+ghost use Rattle.page_spec.specs.Site.{Site};
+ghost use Rattle.versions.specs.Changes.{TellsEach};
+
+use page_spec::Outcome;
+use sd_value::{NoMemory, Str, Term};
+use std::alloc::Global;
+
+mod still;
+
+pub use still::Still;
+
+/// For each of some terms whether its page is surely as it was before a change.
+#[derive(Debug, Drop)]
+pub struct Same {
+    pub flags: Vec<bool>,
+}
+
+/// What became of a text.
+#[derive(Debug, Drop)]
+pub enum Changed {
+    /// It was accepted, and its data are the current ones.
+    Taken(Same),
+    /// It was not, and nothing has changed.
+    Refused,
+}
+
+/// The pages of a site, one at a time, whose state changes at `change` alone. Three relations say how, and no call
+/// changes them: which texts are accepted in a state, which state they then make, and which terms' pages surely stay.
+/// `Own` is what an implementation keeps true of itself from call to call.
+pub trait Versions {
+    ghost State: { Type 0 };
+
+    ghost state: { Self → State };
+
+    ghost site: { State → Site };
+
+    ghost templates: { State → TemplateFile };
+
+    ghost changed: { State → List ℕ → State };
+
+    ghost accepts: { State → List ℕ → Bool };
+
+    ghost stays: { State → List ℕ → Term → Bool };
+
+    ghost Own: { Self → Type 0 };
+
+    /// What asking for the page of the term gives.
+    fn page(&mut self, alloc: Global, term: &Term) -> Result<Outcome, NoMemory>
+        requires own { Own self.old }
+        ensures own { Own self.new }
+        ensures state { state self.new ≡ state self.old }
+        ensures outcome { IfOk result (λ o. IsOutcome (site (state self.old)) (templates (state self.old)) term.now o) };
+
+    /// Takes a text. Where it is accepted, the answer has a truth value for each of the terms `kept`, which is true
+    /// only where that term's outcome is as it was. After want of memory the state may be any.
+    fn change(&mut self, alloc: Global, text: &Str, kept: &[Term]) -> Result<Changed, NoMemory>
+        requires own { Own self.old }
+        ensures own { Own self.new }
+        ensures changed { IfOk result (λ c. state self.new ≡ changed (state self.old) text.now) }
+        ensures refused { IfOk result (λ c. (c ≡ Changed.Refused) ↔ (accepts (state self.old) text.now ≡ false)) }
+        ensures nothing { result ≡ Ok Changed.Refused → state self.new ≡ state self.old }
+        ensures flags { IfOk result (TellsEach (stays (state self.old) text.now) kept.now) }
+        ensures sound { IfOk result (λ c. (t : Term) (o : Outcome) → Contains kept.now t → stays (state self.old) text.now t ≡ true
+            → IsOutcome (site (state self.old)) (templates (state self.old)) t o
+            → IsOutcome (site (state self.new)) (templates (state self.new)) t o) };
+}
