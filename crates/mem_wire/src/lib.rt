@@ -1,0 +1,301 @@
+//! A wire in memory, for scripts and tests.
+#![tactic(auto)]
+
+ghost use Rattle.std.specs.Prelude.{◌≡◌, ◌≢◌, ◌≤◌, ◌⊎◌, All, take, ℕ, Bool, true, false, Some, None, List, [], IfOk, IfSome, IsSome, OnOk, OnErr, Err, is_err, IsErrOf, if◌then◌else◌};
+ghost use Rattle.std.specs.Ordering.{nat_cmp};
+ghost use Rattle.std.specs.BTreeMap.{get};
+ghost use Rattle.edge_io.specs.Counts.{Rose};
+ghost use Rattle.wire.specs.Accounts.{up, send_to};
+ghost use Rattle.wire.specs.Events.{add_event, add_listen, IsNextOf};
+ghost use Rattle.mem_wire.specs.WireInMemory.{is_named, cut_of, accounts_of, faults_in, given_of, left_of, listens_of, fails_next, next_cut, taken_of, is_closed, entry_of, HasEntry, IsNew};
+
+mod entry;
+
+use edge_io::Failed;
+use entry::{Entry, Went};
+use sd_value::{NoMemory, Str};
+use std::alloc::Global;
+use std::collections::BTreeMap;
+use std::marker::Model;
+use wire::{Wire, WireEnd, WireEvent};
+
+/// A send that fails: which send to which connection, counted from 1, and how many bytes it takes.
+#[derive(Clone, Copy, Debug, PartialEq, Eq)]
+pub struct FailingSend {
+    pub connection: u64,
+    pub number: u64,
+    pub taken: u64,
+}
+
+/// A wire in memory: its events are a list, and its calls fail as its lists say. A send to a connection that its
+/// events do not open is taken and forgotten.
+#[derive(Drop)]
+pub struct MemWire {
+    events: Vec<WireEvent>,
+    /// How many events were given. Done is counted once.
+    count: usize,
+    failing: Vec<u64>,
+    sends: Vec<FailingSend>,
+    /// How often `listen` and `next` were called.
+    calls: u64,
+    next_faults: u64,
+    listens: u64,
+    port: u16,
+    connections: u64,
+    entries: BTreeMap<u64, Entry>,
+    short: bool,
+}
+
+impl Model for MemWire {
+    ghost use Rattle.mem_wire.specs.WireInMemory.{WireInMemory};
+
+    ghost Value = { WireInMemory };
+
+    ghost view = { λ w. record {
+      events = w.events.items;
+      count = w.count;
+      failing = w.failing.items;
+      sends = w.sends.items;
+      calls = w.calls;
+      next_faults = w.next_faults;
+      listens = w.listens;
+      port = w.port;
+      connections = w.connections;
+      entries = w.entries.entries;
+      is_short = w.short;
+    } };
+}
+
+impl MemWire {
+    /// A wire that gives these events and then Done. `failing` has the numbers of the calls of `listen` and `next`
+    /// that fail, counted together from 1.
+    pub fn new(
+        alloc: Global,
+        events: Vec<WireEvent>,
+        failing: Vec<u64>,
+        sends: Vec<FailingSend>,
+    ) -> Result<MemWire, NoMemory>
+        ensures told { IfOk result (λ w. w ≡ record {
+          events = events.items;
+          count = 0;
+          failing = failing.items;
+          sends = sends.items;
+          calls = 0;
+          next_faults = 0;
+          listens = 0;
+          port = 0;
+          connections = 0;
+          entries = w.entries;
+          is_short = false;
+        }) }
+        ensures entries { IfOk result (λ w. (number : ℕ) → IfSome (entry_of w number) IsNew) }
+        ensures opened { IfOk result (λ w. All (HasEntry (entry_of w)) events.items) }
+    {
+        let entries = entries_of(alloc, &events)?;
+        Ok(MemWire {
+            events,
+            count: 0,
+            failing,
+            sends,
+            calls: 0,
+            next_faults: 0,
+            listens: 0,
+            port: 0,
+            connections: 0,
+            entries,
+            short: false,
+        })
+    }
+
+    /// Counts a call of `listen` or `next`, and says whether it fails.
+    fn call(&mut self) -> bool
+        ensures fails { result ≡ is_named self.old.failing (up self.old.calls) }
+        ensures after { self.new ≡ record self.old { calls = up self.old.calls; next_faults = (if result then up self.old.next_faults else self.old.next_faults) } }
+    {
+        self.calls = self.calls.saturating_add(1);
+        let fails = is_named(self.failing.as_slice(), self.calls);
+        if fails {
+            self.next_faults = self.next_faults.saturating_add(1);
+        }
+        fails
+    }
+
+    /// The bytes that a connection took.
+    pub fn taken(&self, connection: u64) -> &[u8]
+        ensures { result.now ≡ taken_of (entry_of self.now connection) }
+    {
+        match self.entries.get(&connection) {
+            Some(entry) => entry.taken(),
+            None => &[],
+        }
+    }
+
+    /// Whether a connection was closed.
+    pub fn closed(&self, connection: u64) -> bool
+        ensures { result ≡ is_closed (entry_of self.now connection) }
+    {
+        match self.entries.get(&connection) {
+            Some(entry) => entry.is_closed(),
+            None => false,
+        }
+    }
+
+    /// Whether memory was refused in a send.
+    pub fn short(&self) -> bool
+        ensures { result ≡ self.now.is_short }
+    {
+        self.short
+    }
+}
+
+/// An entry for each connection that the events open.
+fn entries_of(alloc: Global, events: &[WireEvent]) -> Result<BTreeMap<u64, Entry>, NoMemory>
+    ensures new { IfOk result (λ entries. (number : ℕ) → IfSome (get nat_cmp entries number) IsNew) }
+    ensures opened { IfOk result (λ entries. All (HasEntry (get nat_cmp entries)) events.now) }
+{
+    let mut entries = BTreeMap::new(alloc);
+    for event in events {
+        open(alloc, &mut entries, event)?;
+    }
+    Ok(entries)
+}
+
+/// Makes the entry of the connection that the event opens, if it opens one.
+fn open(
+    alloc: Global,
+    entries: &mut BTreeMap<u64, Entry>,
+    event: &WireEvent,
+) -> Result<(), NoMemory>
+    ensures new { OnOk result (((number : ℕ) → IfSome (get nat_cmp entries.old number) IsNew) → (number : ℕ) → IfSome (get nat_cmp entries.new number) IsNew) }
+    ensures stay { OnOk result ((number : ℕ) → IsSome (get nat_cmp entries.old number) → IsSome (get nat_cmp entries.new number)) }
+    ensures opened { OnOk result (HasEntry (get nat_cmp entries.new) event.now) }
+{
+    if let WireEvent::Opened(number) = event {
+        entries.insert(*number, Entry::new(alloc))?;
+    }
+    Ok(())
+}
+
+/// Whether a list names the call of this number.
+fn is_named(numbers: &[u64], number: u64) -> bool
+    ensures { result ≡ is_named numbers.now number }
+{
+    numbers.iter().any(|n| *n == number)
+}
+
+/// How many bytes this send takes, where it fails.
+fn cut_of(sends: &[FailingSend], connection: u64, number: u64) -> Option<u64>
+    ensures { result ≡ cut_of sends.now connection number }
+{
+    for send in sends {
+        if send.connection == connection && send.number == number {
+            return Some(send.taken);
+        }
+    }
+    None
+}
+
+/// An equal event.
+fn copy(alloc: Global, event: &WireEvent) -> Result<WireEvent, NoMemory>
+    ensures { IfOk result (λ copy. copy ≡ event.now) }
+{
+    Ok(match event {
+        WireEvent::Opened(number) => WireEvent::Opened(*number),
+        WireEvent::Bytes(number, piece) => WireEvent::Bytes(*number, piece.copy(alloc)?),
+        WireEvent::Ended(number) => WireEvent::Ended(*number),
+        WireEvent::Lost(number) => WireEvent::Lost(*number),
+        WireEvent::Change(text) => WireEvent::Change(text.copy(alloc)?),
+        WireEvent::Done => WireEvent::Done,
+    })
+}
+
+impl Wire for MemWire {
+    ghost account = { accounts_of };
+
+    ghost given = { λ w. given_of w.events w.count };
+
+    ghost left = { left_of };
+
+    ghost listens = { listens_of };
+
+    ghost next_faults = { λ w. w.next_faults };
+
+    ghost faults = { faults_in };
+
+    /// Fails exactly where `failing` names the call.
+    fn listen(&mut self, port: u16, connections: u64) -> Result<(), Failed>
+        ensures listens { listens_of self.new ≡ add_listen (listens_of self.old) port connections }
+        ensures fine { OnOk result (self.new.next_faults ≡ self.old.next_faults) }
+        ensures failed { OnErr result (Rose self.old.next_faults self.new.next_faults) }
+        ensures stays { (accounts_of self.new ≡ accounts_of self.old) × (faults_in self.new ≡ faults_in self.old)
+            × (given_of self.new.events self.new.count ≡ given_of self.old.events self.old.count) × (left_of self.new ≡ left_of self.old) }
+        ensures fails { is_err result ≡ fails_next self.old }
+    {
+        self.listens = self.listens.saturating_add(1);
+        self.port = port;
+        self.connections = connections;
+        if self.call() { Err(Failed) } else { Ok(()) }
+    }
+
+    /// `Failed` exactly where `failing` names the call, which then takes no event.
+    fn next(&mut self, alloc: Global) -> Result<WireEvent, WireEnd>
+        ensures given { IfOk result (λ event. given_of self.new.events self.new.count ≡ add_event (given_of self.old.events self.old.count) event) }
+        ensures left { IfOk result (λ event. IsNextOf (left_of self.old) event (left_of self.new)) }
+        ensures err { OnErr result ((given_of self.new.events self.new.count ≡ given_of self.old.events self.old.count) × (left_of self.new ≡ left_of self.old)) }
+        ensures fine { OnOk result (self.new.next_faults ≡ self.old.next_faults) }
+        ensures failed { IsErrOf result WireEnd.Failed → Rose self.old.next_faults self.new.next_faults }
+        ensures stays { (accounts_of self.new ≡ accounts_of self.old) × (faults_in self.new ≡ faults_in self.old) × (listens_of self.new ≡ listens_of self.old) }
+        ensures fails { fails_next self.old ≡ true → result ≡ Err WireEnd.Failed }
+        ensures named { result ≡ Err WireEnd.Failed → fails_next self.old ≡ true }
+    {
+        if self.call() {
+            return Err(WireEnd::Failed);
+        }
+        if self.count < self.events.len() {
+            let Ok(event) = copy(alloc, &self.events[self.count]) else {
+                return Err(WireEnd::NoMemory);
+            };
+            self.count += 1;
+            return Ok(event);
+        }
+        if self.count == self.events.len() {
+            self.count += 1;
+        }
+        Ok(WireEvent::Done)
+    }
+
+    /// Fails exactly where the list of sends names this one, which then takes so many bytes, or memory was refused.
+    fn send(&mut self, connection: u64, bytes: &[u8]) -> Result<(), Failed>
+        ensures ok { OnOk result (accounts_of self.new connection ≡ send_to (accounts_of self.old connection) bytes.now) }
+        ensures err { OnErr result ((some : ℕ) × (accounts_of self.new connection ≡ send_to (accounts_of self.old connection) (take some bytes.now))) }
+        ensures fine { OnOk result (faults_in self.new connection ≡ faults_in self.old connection) }
+        ensures failed { OnErr result (Rose (faults_in self.old connection) (faults_in self.new connection)) }
+        ensures others { (other : ℕ) → other ≢ connection → accounts_of self.new other ≡ accounts_of self.old other }
+        ensures others_fine { (other : ℕ) → other ≢ connection → faults_in self.new other ≡ faults_in self.old other }
+        ensures stays { (given_of self.new.events self.new.count ≡ given_of self.old.events self.old.count) × (left_of self.new ≡ left_of self.old)
+            × (listens_of self.new ≡ listens_of self.old) × (self.new.next_faults ≡ self.old.next_faults) }
+        ensures whole { OnOk result (next_cut self.old connection ≡ None) }
+        ensures cut { OnErr result ((self.new.is_short ≡ true) ⊎ IsSome (next_cut self.old connection)) }
+        ensures taken { IfSome (next_cut self.old connection) (λ some. self.new.is_short ≡ self.old.is_short → self.old.is_short ≡ false
+            → accounts_of self.new connection ≡ send_to (accounts_of self.old connection) (take some bytes.now)) }
+    {
+        let Some(entry) = self.entries.get_mut(&connection) else {
+            return Ok(());
+        };
+        let cut = cut_of(self.sends.as_slice(), connection, entry.next());
+        match entry.send(bytes, cut) {
+            Went::Whole => Ok(()),
+            Went::Cut => Err(Failed),
+            Went::Short => {
+                self.short = true;
+                Err(Failed)
+            }
+        }
+    }
+
+    fn close(&mut self, connection: u64) {
+        if let Some(entry) = self.entries.get_mut(&connection) {
+            entry.close();
+        }
+    }
+}

@@ -1,0 +1,15 @@
+-- The entries of the cache.
+use Rattle.std.specs.Prelude.{ℕ, nat_le, List, length, if◌then◌else◌}
+use Rattle.lru.specs.LruCache.{LruCache, put_entries}
+use Rattle.sd_value.specs.declared.Term.{Term}
+use Rattle.page_spec.specs.declared.Outcome.{Outcome}
+use Rattle.page_spec.specs.declared.Outcome.TheVariants.{Page, Missing, Cyclic, TooLong}
+use Rattle.page_cache.specs.declared.TheConstants.{MAX_KEPT}
+use Rattle.page_cache.specs.Looks.{is_same}
+
+-- the entries after the outcome of a term was found
+abbrev pub entries_with : LruCache Term (List ℕ) → Term → Outcome → List (Term × List ℕ)
+entries_with kept term (Page text) = if nat_le (length text) MAX_KEPT then put_entries is_same kept term text else kept.entries
+entries_with kept term Missing = kept.entries
+entries_with kept term (Cyclic value) = kept.entries
+entries_with kept term TooLong = kept.entries

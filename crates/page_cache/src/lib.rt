@@ -1,0 +1,101 @@
+//! Keeps the pages that were shown last.
+#![tactic(auto)]
+
+ghost use Rattle.std.specs.Prelude.{◌≡◌, ◌≤◌, ◌<◌, ℕ, List, [], length, IfOk, OnErr, OnOk};
+ghost use Rattle.std.specs.Map.{keys_of, lookup};
+ghost use Rattle.lru.specs.LruCache.{lru_cache};
+ghost use Rattle.page_spec.specs.Page.{IsOutcome};
+ghost use Rattle.page_cache.specs.Entries.{entries_with};
+ghost use Rattle.page_cache.specs.Looks.{is_same, Looks, AreKept};
+
+use lru::LruCache;
+use page_spec::Outcome;
+use sd_value::{NoMemory, Str, Term};
+use std::alloc::Global;
+use std::num::NonZeroUsize;
+use versions::{Changed, Versions};
+
+/// The longest page that is kept.
+pub const MAX_KEPT: usize = 65536;
+
+/// Whether the term's page was kept.
+#[derive(Clone, Copy, Debug, PartialEq, Eq)]
+pub enum Hit {
+    Found,
+    Miss,
+}
+
+/// Pages, of which those that were looked up last are kept.
+#[derive(Drop)]
+pub struct Cached<P> {
+    pub pages: P,
+    pub kept: LruCache<Term, Str>,
+}
+
+impl<P: Versions + Drop> Cached<P> {
+    /// Keeps at most so many pages, and none at first.
+    pub fn of(alloc: Global, pages: P, capacity: NonZeroUsize) -> Result<Cached<P>, NoMemory>
+        ensures pages { IfOk result (λ cached. cached.pages ≡ pages) }
+        ensures none { IfOk result (λ cached. cached.kept.entries ≡ []) }
+        ensures sound { IfOk result (λ cached. AreKept (IsOutcome (P.site (P.state cached.pages)) (P.templates (P.state cached.pages))) cached.kept.entries) }
+    {
+        let kept = LruCache::new(alloc, capacity)?;
+        Ok(Cached { pages, kept })
+    }
+
+    /// The outcome of a term. Where its page is kept, the pages are not asked.
+    pub fn look(&mut self, alloc: Global, term: &Term) -> Result<(Outcome, Hit), NoMemory>
+        requires own { P.Own self.old.pages }
+        requires sound { AreKept (IsOutcome (P.site (P.state self.old.pages)) (P.templates (P.state self.old.pages))) self.old.kept.entries }
+        ensures own { P.Own self.new.pages }
+        ensures sound { AreKept (IsOutcome (P.site (P.state self.new.pages)) (P.templates (P.state self.new.pages))) self.new.kept.entries }
+        ensures outcome { IfOk result (λ found. IsOutcome (P.site (P.state self.old.pages)) (P.templates (P.state self.old.pages)) term.now found.0) }
+        ensures looks { IfOk result (λ found. Looks self.old.kept.cap (keys_of self.old.kept.entries) term.now found.0 found.1 (keys_of self.new.kept.entries)) }
+        ensures err { OnErr result (self.new.kept ≡ self.old.kept) }
+        ensures capacity { self.new.kept.cap ≡ self.old.kept.cap }
+        ensures hit { IfOk result (λ found. found.1 ≡ Hit.Found → self.new.pages ≡ self.old.pages) }
+        ensures state { P.state self.new.pages ≡ P.state self.old.pages }
+    {
+        if let Some(text) = copy_kept(&self.kept, alloc, term)? {
+            self.kept.promote(term);
+            return Ok((Outcome::Page(text), Hit::Found));
+        }
+        let outcome = self.pages.page(alloc, term)?;
+        keep(&mut self.kept, alloc, term, &outcome)?;
+        Ok((outcome, Hit::Miss))
+    }
+}
+
+/// A copy of the text that is kept for a term.
+fn copy_kept(
+    kept: &LruCache<Term, Str>,
+    alloc: Global,
+    term: &Term,
+) -> Result<Option<Str>, NoMemory>
+    ensures { IfOk result (λ text. text ≡ lookup (is_same term.now) kept.now.entries) }
+{
+    match kept.peek(term) {
+        Some(text) => Ok(Some(text.copy(alloc)?)),
+        None => Ok(None),
+    }
+}
+
+/// Keeps a copy of a page that is short enough.
+fn keep(
+    kept: &mut LruCache<Term, Str>,
+    alloc: Global,
+    term: &Term,
+    outcome: &Outcome,
+) -> Result<(), NoMemory>
+    ensures entries { OnOk result (kept.new ≡ lru_cache (entries_with kept.old term.now outcome.now) kept.old.cap) }
+    ensures err { OnErr result (kept.new ≡ kept.old) }
+{
+    if let Outcome::Page(text) = outcome
+        && text.bytes().len() <= MAX_KEPT
+    {
+        let copy = text.copy(alloc)?;
+        let term = term.copy(alloc)?;
+        kept.put(term, copy)?;
+    }
+    Ok(())
+}
