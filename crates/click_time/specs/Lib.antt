@@ -1,1 +1,5 @@
 pub mod Fixed
+pub mod Keys
+pub mod Known
+pub mod Page
+pub mod Told

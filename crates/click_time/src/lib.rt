@@ -3,5 +3,8 @@
 
 mod asked;
 mod click;
+mod known;
+mod memo;
+mod recall;
 
-pub use click::Click;
+pub use click::{Click, Given};

@@ -9,3 +9,5 @@ pub mod Puts
 pub mod Firsts
 pub mod Stays
 pub mod TemplateOf
+pub mod Counts
+pub mod Labels

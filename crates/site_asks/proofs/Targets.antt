@@ -1,24 +1,20 @@
 -- What a target is under a row is one value at most.
 use Rattle.std.proofs.Common.{◌≡◌, ◌∙◌, List, [], ◌∷◌, map, refl, sym, ap, subst, ⊎_elim, inl, inr}
-use Rattle.std.specs.Prelude.{Option, Some, None, Bool, true, IsTrue, ◌↔◌, Contains}
-use Rattle.std.specs.Option.{MatchOption}
+use Rattle.std.specs.Prelude.{Some, Bool, true, IsTrue, ◌↔◌, Contains}
 use Rattle.std.specs.Ordering.{eq_by_cmp, is_eq}
 use Rattle.std.specs.declared.cmp.Ordering.{Ordering}
 use Rattle.std.specs.declared.cmp.Ordering.TheVariants.{Less, Equal, Greater}
 use Rattle.std.proofs.lemmas.Cmp.{tied_itself}
 use Rattle.sd_value.specs.Order.{bytes_cmp, value_cmp}
 use Rattle.sd_value.specs.OrderLaws.{bytes_cmp-exact, bytes_cmp-total}
-use Rattle.sd_value.specs.Members.{Contains-nil, Contains-cons_cases, Contains-here}
 use Rattle.sd_value.specs.Ascending.{ListsExactly}
 use Rattle.graph_spec.specs.DataGraph.{DataGraph, Name, text, HasEdge}
-use Rattle.query_spec.specs.Rows.{value_in, row_cmp, IsAnswer}
-use Rattle.skolem.specs.Solved.{Solves}
+use Rattle.query_spec.specs.Rows.{value_in}
 use Rattle.struql_ast.specs.Reading.{link_of}
 use Rattle.query_site.specs.declared.Scoped.{Scoped}
 use Rattle.query_site.specs.Blocks.{body_of, IsScoped}
-use Rattle.site_asks.specs.Ends.{HasEnd, Gathered, BlockJoins}
+use Rattle.site_asks.specs.Ends.{Gathered, BlockJoins}
 use Rattle.site_asks.proofs.Some.{some_from, map_from, map_to}
-use Rattle.site_asks.proofs.Rows.{row_long}
 use Rattle.site_asks.proofs.Blocks.{bodies_from, bodies_to}
 use Rattle.std.specs.List.{AllZip}
 use Rattle.sd_value.specs.declared.Value.{Value}
@@ -80,36 +76,6 @@ source_from s t p source e h = subst (λ x. IsTargetUnder s x (Page p)) (sym e) 
 
 pub joined_source : (G : DataGraph) (c : Chain) (k : Link) (t : SkolemTerm) (p : Term) (label : Name) (v : Value) → k.source ≡ made t → IsJoined G c (Page p) label v k → SomeRow G c (λ s. IsTermUnder s t p)
 joined_source G c k t p label v e j = record { row = j.row; is_row = j.is_row; holds = source_to (value_in c.variables j.row) t p k.source e j.holds.from }
-
-pub joined_ends : (G : DataGraph) (c : Chain) (k : Link) (t : SkolemTerm) (p : Term) (label : Name) (bound : List (Option Value)) (rows : List (List Value)) (ends : List Value)
-    → k.source ≡ made t → Solves c.variables (λ s. IsTermUnder s t p) bound → ListsExactly row_cmp (IsAnswer G c bound) rows
-    → Gathered (λ (row : List Value) (v : Value). HasEnd k label (value_in c.variables row) v) rows ends → (v : Value) → Contains ends v ↔ IsJoined G c (Page p) label v k
-joined_ends G c k t p label bound rows ends e s exact g v = (
-  λ h.
-      let r = g.sound v h in
-      let a = exact.sound r.0 r.1 in
-      record {
-        row = r.0;
-        is_row = a.is_row;
-        holds = record { from = source_from (value_in c.variables r.0) t p k.source e (s.to r.0 (row_long G c r.0 a.is_row) a.agrees); by = r.2.0; to = r.2.1 };
-      },
-  λ j.
-      let under = source_to (value_in c.variables j.row) t p k.source e j.holds.from in
-      let listed = exact.complete j.row (record { is_row = j.is_row; agrees = s.from j.row (row_long G c j.row j.is_row) under }) in
-      g.complete j.row v listed (j.holds.by, j.holds.to),
-)
-
-pub end_some : (k : Link) (label : Name) (s : Assignment) (o : Option Value) (v : Value) → o ≡ Some v → MatchOption o ((w : Value) → HasEnd k label s w → ⊥) (λ w. HasEnd k label s w) → HasEnd k label s v
-end_some k label s o v e m = subst (λ (x : Option Value). MatchOption x ((w : Value) → HasEnd k label s w → ⊥) (λ w. HasEnd k label s w)) e m
-
-pub end_none : (k : Link) (label : Name) (s : Assignment) (o : Option Value) → o ≡ None → MatchOption o ((w : Value) → HasEnd k label s w → ⊥) (λ w. HasEnd k label s w) → (w : Value) → HasEnd k label s w → ⊥
-end_none k label s o e m = subst (λ (x : Option Value). MatchOption x ((w : Value) → HasEnd k label s w → ⊥) (λ w. HasEnd k label s w)) e m
-
-pub only_end : (k : Link) (label : Name) (s : Assignment) (v w : Value) → HasEnd k label s v → Contains (v ∷ []) w → HasEnd k label s w
-only_end k label s v w h i = ⊎_elim (λ e. subst (HasEnd k label s) e h) (λ n. absurd (Contains-nil w n)) (Contains-cons_cases v [] w i)
-
-pub is_only_end : (k : Link) (label : Name) (s : Assignment) (v w : Value) → HasEnd k label s v → HasEnd k label s w → Contains (v ∷ []) w
-is_only_end k label s v w h i = subst (Contains (v ∷ [])) (target_same s k.target v w h.1 i.1) (Contains-here v [])
 
 pub block_joins : (G : DataGraph) (u : Value) (label : Name) (b : Scoped) (ends : List Value) → Gathered (λ k v. IsJoined G b.chain u label v (link_of k)) b.links.items ends → (v : Value) → Contains ends v ↔ BlockJoins G u label b v
 block_joins G u label b ends g v =

@@ -2,16 +2,24 @@
 use Rattle.std.specs.Prelude.{List, Contains}
 use Rattle.sd_value.specs.declared.Value.{Value}
 use Rattle.graph_spec.specs.DataGraph.{Name}
-use Rattle.query_spec.specs.Query.{Link}
+use Rattle.sd_value.specs.declared.Term.{Term}
+use Rattle.sd_value.specs.declared.Value.TheVariants.{Page}
+use Rattle.query_spec.specs.declared.Variable.{Variable}
+use Rattle.query_spec.specs.Query.{Link, LinkLabel}
+use Rattle.query_spec.specs.Rows.{value_in}
 use Rattle.query_spec.specs.Holds.{Assignment}
 use Rattle.graph_spec.specs.DataGraph.{DataGraph}
 use Rattle.struql_ast.specs.Reading.{link_of, collect_of}
 use Rattle.site_spec.specs.Site.{IsTargetUnder, IsLabelUnder, IsJoined, IsPut, SomeOf}
 use Rattle.query_site.specs.declared.Scoped.{Scoped}
 
--- the link has the label and leads to the value
-abbrev pub HasEnd : Link → Name → Assignment → Value → Type 0
-HasEnd k label s v = IsLabelUnder s k.label label × IsTargetUnder s k.target v
+-- the link's label is this one under the row
+abbrev pub IsLabelled : List Variable → LinkLabel → Name → List Value → Type 0
+IsLabelled variables written label row = IsLabelUnder (value_in variables row) written label
+
+-- the link starts at the page and has the label
+abbrev pub StartsBy : Link → Term → Name → Assignment → Type 0
+StartsBy k p label s = IsTargetUnder s k.source (Page p) × IsLabelUnder s k.label label
 
 -- `ends` has exactly what E gives for the items
 pub record Gathered {X Y : Type 0} (E : X → Y → Type 0) (items : List X) (ends : List Y) : Type 0 where

@@ -6,6 +6,7 @@ ghost use Rattle.sd_value.specs.Ascending.{ListsExactly};
 ghost use Rattle.query_spec.specs.Rows.{value_in, row_cmp, Agrees, IsRow};
 ghost use Rattle.struql_ast.specs.Reading.{target_of};
 ghost use Rattle.site_spec.specs.Site.{IsTargetUnder, SomeRow};
+ghost use Rattle.weight_spec.specs.Hands.{Hands};
 ghost use Rattle.site_asks.specs.Ends.{Gathered};
 
 use crate::under::target_under;
@@ -16,7 +17,7 @@ use std::alloc::Global;
 use struql_ast::{Chain, Target};
 
 // No value for any of so many variables.
-fn all_free(alloc: Global, count: usize) -> Result<Vec<Option<Value>>, NoMemory>
+pub(crate) fn all_free(alloc: Global, count: usize) -> Result<Vec<Option<Value>>, NoMemory>
     ensures long { IfOk result (λ values. length values.items ≡ count) }
     ensures free { IfOk result (λ values. (row : List AnyValue) → length row ≡ count → Agrees row values.items) }
 {
@@ -27,8 +28,8 @@ fn all_free(alloc: Global, count: usize) -> Result<Vec<Option<Value>>, NoMemory>
     Ok(values)
 }
 
-// What the target is under each of the rows.
-fn targets_under(
+/// What the target is under each of the rows.
+pub(crate) fn targets_under(
     alloc: Global,
     variables: &[Variable],
     rows: &[Row],
@@ -45,10 +46,11 @@ fn targets_under(
     Ok(values)
 }
 
-/// All rows of the chain, strictly ascending.
+/// All rows of the chain, strictly ascending. Each counts one.
 pub fn rows_of<A: Asker>(alloc: Global, asker: &mut A, chain: &Chain) -> Result<Vec<Row>, NoMemory>
     requires well_made { IsWellMade chain.now }
     ensures graph { A.graph asker.new ≡ A.graph asker.old }
+    ensures counted { Hands (IsRow (A.graph asker.old) chain.now) (A.count asker.old) (A.count asker.new) }
     ensures rows { IfOk result (λ rows. ListsExactly row_cmp (IsRow (A.graph asker.old) chain.now) rows.items) }
 {
     let free = all_free(alloc, chain.variables().len())?;
@@ -57,7 +59,7 @@ pub fn rows_of<A: Asker>(alloc: Global, asker: &mut A, chain: &Chain) -> Result<
     Ok(rows)
 }
 
-/// What the target is under the rows of the chain.
+/// What the target is under the rows of the chain, each of which counts one.
 pub fn targets_of<A: Asker>(
     alloc: Global,
     asker: &mut A,
@@ -66,6 +68,7 @@ pub fn targets_of<A: Asker>(
 ) -> Result<Vec<Value>, NoMemory>
     requires well_made { IsWellMade chain.now }
     ensures graph { A.graph asker.new ≡ A.graph asker.old }
+    ensures counted { Hands (IsRow (A.graph asker.old) chain.now) (A.count asker.old) (A.count asker.new) }
     ensures values { IfOk result (λ vs. (v : AnyValue) → Contains vs.items v ↔ SomeRow (A.graph asker.old) chain.now (λ s. IsTargetUnder s (target_of target.now) v)) }
 {
     let rows = rows_of(alloc, asker, chain)?;

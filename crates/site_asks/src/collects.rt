@@ -9,6 +9,11 @@ ghost use Rattle.query_spec.specs.Rows.{value_in, Agrees};
 ghost use Rattle.struql_ast.specs.Reading.{target_of, collect_of};
 ghost use Rattle.site_spec.specs.Site.{IsTargetUnder, IsPut, Collected, SomeRow};
 ghost use Rattle.query_site.specs.Blocks.{IsScoped, AreScoped, scope_of};
+ghost use Rattle.tmpl.specs.Body.{TemplateFile};
+ghost use Rattle.page_spec.specs.Question.{collected as asks_collected};
+ghost use Rattle.weight_spec.specs.Charges.{IsCause};
+ghost use Rattle.weight_spec.specs.Hands.{Hands, IsAt};
+ghost use Rattle.site_asks.specs.Counts.{IsCollectRow};
 ghost use Rattle.site_asks.specs.Ends.{Gathered, BlockPuts};
 
 use crate::all_rows::targets_of;
@@ -29,6 +34,7 @@ fn puts_of_collect<A: Asker>(
 ) -> Result<Vec<Value>, NoMemory>
     requires well_made { IsWellMade chain.now }
     ensures graph { A.graph asker.new ≡ A.graph asker.old }
+    ensures counted { Hands (IsCollectRow (A.graph asker.old) chain.now name.now (collect_of collect.now)) (A.count asker.old) (A.count asker.new) }
     ensures values { IfOk result (λ vs. (v : AnyValue) → Contains vs.items v ↔ IsPut (A.graph asker.old) chain.now name.now v (collect_of collect.now)) }
 {
     if collect.collection == *name {
@@ -48,6 +54,7 @@ fn puts_of_block<A: Asker>(
 ) -> Result<Vec<Value>, NoMemory>
     requires scoped { (version : ℕ) × IsScoped version block.now }
     ensures graph { A.graph asker.new ≡ A.graph asker.old }
+    ensures counted { Hands (IsAt block.now.collects.items (λ k. IsCollectRow (A.graph asker.old) block.now.chain name.now (collect_of k))) (A.count asker.old) (A.count asker.new) }
     ensures values { IfOk result (λ vs. Gathered (λ k v. IsPut (A.graph asker.old) block.now.chain name.now v (collect_of k)) block.now.collects.items vs.items) }
 {
     let collects = block.collects.as_slice();
@@ -68,6 +75,7 @@ fn puts<A: Asker>(
 ) -> Result<Vec<Value>, NoMemory>
     requires scoped { AreScoped scopes.now.version scopes.now.blocks.items }
     ensures graph { A.graph asker.new ≡ A.graph asker.old }
+    ensures counted { Hands (IsAt scopes.now.blocks.items (λ b. IsAt b.collects.items (λ k. IsCollectRow (A.graph asker.old) b.chain name.now (collect_of k)))) (A.count asker.old) (A.count asker.new) }
     ensures values { IfOk result (λ vs. Gathered (BlockPuts (A.graph asker.old) name.now) scopes.now.blocks.items vs.items) }
 {
     let blocks = scopes.blocks.as_slice();
@@ -79,7 +87,8 @@ fn puts<A: Asker>(
     Ok(values)
 }
 
-/// The values collected under the name, ascending: by a COLLECT, or as members in the data.
+/// The values collected under the name, ascending: by a COLLECT, or as members in the data. Each member, and each row
+/// of a COLLECT under the name, counts one.
 pub fn collected<A: Asker>(
     alloc: Global,
     asker: &mut A,
@@ -89,6 +98,7 @@ pub fn collected<A: Asker>(
     requires scoped { AreScoped scopes.now.version scopes.now.blocks.items }
     requires well_formed { IsWellFormed (A.graph asker.old) }
     ensures graph { A.graph asker.new ≡ A.graph asker.old }
+    ensures counted { (f : TemplateFile) → Hands (IsCause (A.graph asker.old) (scope_of scopes.now) f (asks_collected name.now)) (A.count asker.old) (A.count asker.new) }
     ensures values { IfOk result (λ vs. ListsExactly value_cmp (Collected (A.graph asker.old) (scope_of scopes.now) name.now) vs.items) }
 {
     let mut values = members(alloc, asker, name)?;

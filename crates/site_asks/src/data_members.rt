@@ -1,7 +1,8 @@
 //! Members of the data graph's collections.
-ghost use Rattle.std.specs.Prelude.{◌≡◌, ◌↔◌, Contains, IfOk, IsTrue};
+ghost use Rattle.std.specs.Prelude.{◌≡◌, ◌↔◌, ◌≤◌, ◌+◌, Contains, IfOk, IsTrue};
 ghost use Rattle.sd_value.specs.declared.Value.{Value as AnyValue};
 ghost use Rattle.graph_spec.specs.DataGraph.{Name, node, HasMember, IsWellFormed};
+ghost use Rattle.weight_spec.specs.Hands.{Hands};
 ghost use Rattle.site_asks.specs.MemberChain.{member_chain};
 
 use crate::all_rows::targets_of;
@@ -32,7 +33,7 @@ pub fn members_chain(alloc: Global, collection: &Str) -> Result<Chain, NoMemory>
     Ok(Chain::new(1, variables, conditions))
 }
 
-/// Whether the node is a member of the data graph's collection.
+/// Whether the node is a member of the data graph's collection. The answer counts one.
 pub fn is_member<A: Asker>(
     alloc: Global,
     asker: &mut A,
@@ -41,6 +42,7 @@ pub fn is_member<A: Asker>(
 ) -> Result<bool, NoMemory>
     requires { IsWellFormed (A.graph asker.old) }
     ensures graph { A.graph asker.new ≡ A.graph asker.old }
+    ensures counted { A.count asker.new ≤ A.count asker.old + 1 }
     ensures answer { IfOk result (λ b. IsTrue b ↔ HasMember (A.graph asker.old) collection.now name.now) }
 {
     let chain = members_chain(alloc, collection)?;
@@ -51,7 +53,7 @@ pub fn is_member<A: Asker>(
     Ok(found)
 }
 
-/// The members of the data graph's collection, as values.
+/// The members of the data graph's collection, as values. Each counts one.
 pub fn members<A: Asker>(
     alloc: Global,
     asker: &mut A,
@@ -59,6 +61,7 @@ pub fn members<A: Asker>(
 ) -> Result<Vec<Value>, NoMemory>
     requires { IsWellFormed (A.graph asker.old) }
     ensures graph { A.graph asker.new ≡ A.graph asker.old }
+    ensures counted { Hands (HasMember (A.graph asker.old) collection.now) (A.count asker.old) (A.count asker.new) }
     ensures values { IfOk result (λ vs. (v : AnyValue) → Contains vs.items v ↔ ((n : Name) × HasMember (A.graph asker.old) collection.now n × (v ≡ node n))) }
 {
     let chain = members_chain(alloc, collection)?;

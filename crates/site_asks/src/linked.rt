@@ -1,90 +1,82 @@
 //! The ends of the site's edges from a value.
-ghost use Rattle.std.specs.Prelude.{◌≡◌, ◌↔◌, List, map, Contains, IfOk, IsTrue, MatchOption};
+ghost use Rattle.std.specs.Prelude.{◌≡◌, ◌↔◌, length, Contains, IfOk, MatchOption};
 ghost use Rattle.sd_value.specs.declared.Value.{Value as AnyValue};
 ghost use Rattle.sd_value.specs.declared.Value.TheVariants.{Page};
 ghost use Rattle.sd_value.specs.Order.{value_cmp};
 ghost use Rattle.sd_value.specs.Ascending.{ListsExactly};
 ghost use Rattle.query_spec.specs.Mentions.{IsWellMade};
 ghost use Rattle.query_spec.specs.Query.{SkolemTerm};
-ghost use Rattle.query_spec.specs.Rows.{value_in};
 ghost use Rattle.std.specs.Prelude.{ℕ};
-ghost use Rattle.graph_spec.specs.DataGraph.{text};
-ghost use Rattle.query_spec.specs.Holds.{operand_value};
 ghost use Rattle.struql_ast.specs.Reading.{operand_of, target_of, label_of, link_of};
 ghost use Rattle.site_spec.specs.Site.{IsTargetUnder, IsLabelUnder, IsJoined, Linked, SiteEdge, SomeOf, target_terms};
 ghost use Rattle.query_site.specs.Blocks.{AllDeclared, IsMade, IsScoped, AreScoped};
 ghost use Rattle.query_site.specs.Blocks.{scope_of};
-ghost use Rattle.site_asks.specs.Ends.{HasEnd, Gathered};
+ghost use Rattle.tmpl.specs.Body.{TemplateFile};
+ghost use Rattle.page_spec.specs.Question.{out as asks_out};
+ghost use Rattle.skolem.specs.Solved.{Solves, HasNone, Adds, Refutes};
+ghost use Rattle.weight_spec.specs.Charges.{IsCause};
+ghost use Rattle.weight_spec.specs.Hands.{Hands, IsAt};
+ghost use Rattle.site_asks.specs.Counts.{IsLinkRow};
+ghost use Rattle.site_asks.specs.Ends.{Gathered, IsLabelled, StartsBy};
 
-use crate::under::target_under;
+use crate::all_rows::targets_under;
 use asker::Asker;
 use query_site::{Scoped, Scopes};
-use query_spec::{Row, Variable};
+use query_spec::{Bound, Variable};
 use sd_value::{Datum, NoMemory, Str, Term, Value, sort_and_dedup};
-use skolem::{matches, value_of};
+use skolem::{matches, with_value};
 use std::alloc::Global;
 use struql_ast::{Chain, Link, LinkLabel, Target};
 
-// Whether the link's label is this one under the row.
-fn carries(variables: &[Variable], row: &[Value], written: &LinkLabel, label: &Str) -> bool
-    ensures { IsTrue result ↔ IsLabelUnder (value_in variables.now row.now) (label_of written.now) label.now }
+// The values under which the link has the label too, where some do.
+fn bound_by_label(
+    alloc: Global,
+    variables: &[Variable],
+    bound: Bound,
+    written: &LinkLabel,
+    label: &Str,
+) -> Result<Option<Bound>, NoMemory>
+    requires one_each { length bound ≡ length variables.now }
+    ensures { IfOk result (λ b. MatchOption b (Refutes (IsLabelled variables.now (label_of written.now) label.now) bound) (λ b. Adds (IsLabelled variables.now (label_of written.now) label.now) bound b)) }
 {
     match written {
-        LinkLabel::Quoted(name) => *label == *name,
-        LinkLabel::Variable(name, _) => match value_of(variables, row, name) {
-            Some(value) => is_text(value, label),
-            None => false,
-        },
-    }
-}
-
-fn is_text(value: &Value, label: &Str) -> bool
-    ensures { IsTrue result ↔ value.now ≡ text label.now }
-{
-    let Value::Data(datum) = value else {
-        return false;
-    };
-    match datum {
-        Datum::Text(name) => *name == *label,
-        _ => false,
-    }
-}
-
-// Where the link leads under the row, if its label is this one.
-fn end_under(
-    alloc: Global,
-    variables: &[Variable],
-    row: &[Value],
-    link: &Link,
-    label: &Str,
-) -> Result<Option<Value>, NoMemory>
-    ensures { IfOk result (λ o. MatchOption o ((v : AnyValue) → HasEnd (link_of link.now) label.now (value_in variables.now row.now) v → ⊥) (λ v. HasEnd (link_of link.now) label.now (value_in variables.now row.now) v)) }
-{
-    if carries(variables, row, &link.label, label) {
-        let end = target_under(alloc, variables, row, &link.target)?;
-        Ok(end)
-    } else {
-        Ok(None)
-    }
-}
-
-// Where the link leads under the rows, by this label.
-fn ends_under(
-    alloc: Global,
-    variables: &[Variable],
-    rows: &[Row],
-    link: &Link,
-    label: &Str,
-) -> Result<Vec<Value>, NoMemory>
-    ensures { IfOk result (λ ends. Gathered (λ row v. HasEnd (link_of link.now) label.now (value_in variables.now row) v) rows.now ends.items) }
-{
-    let mut ends = Vec::new(alloc);
-    for row in rows {
-        if let Some(end) = end_under(alloc, variables, row.values(), link, label)? {
-            ends.push(end)?;
+        LinkLabel::Quoted(name) => {
+            if *label == *name {
+                Ok(Some(bound))
+            } else {
+                Ok(None)
+            }
+        }
+        LinkLabel::Variable(name, _) => {
+            let value = Value::Data(Datum::Text(label.copy(alloc)?));
+            let bound = with_value(alloc, variables, &bound, name, value)?;
+            Ok(bound)
         }
     }
-    Ok(ends)
+}
+
+// The values under which the link starts at the page and has the label, where some do.
+fn bound_by(
+    alloc: Global,
+    variables: &[Variable],
+    link: &Link,
+    term: &Term,
+    label: &Str,
+) -> Result<Option<Bound>, NoMemory>
+    requires made { IsMade (link_of link.now).source }
+    requires declared { (t : SkolemTerm) → Contains (target_terms (link_of link.now).source) t → AllDeclared variables.now t }
+    ensures { IfOk result (λ b. MatchOption b (HasNone variables.now (StartsBy (link_of link.now) term.now label.now)) (λ b. Solves variables.now (StartsBy (link_of link.now) term.now label.now) b)) }
+{
+    let Target::Made(written) = &link.source else {
+        return Ok(None);
+    };
+    match matches(alloc, written, variables, term)? {
+        None => Ok(None),
+        Some(bound) => {
+            let bound = bound_by_label(alloc, variables, bound, &link.label, label)?;
+            Ok(bound)
+        }
+    }
 }
 
 // Where the link leads from the page by the label.
@@ -100,16 +92,14 @@ fn ends_of_link<A: Asker>(
     requires made { IsMade (link_of link.now).source }
     requires declared { (t : SkolemTerm) → Contains (target_terms (link_of link.now).source) t → AllDeclared chain.now.variables t }
     ensures graph { A.graph asker.new ≡ A.graph asker.old }
+    ensures counted { Hands (IsLinkRow (A.graph asker.old) chain.now term.now label.now (link_of link.now)) (A.count asker.old) (A.count asker.new) }
     ensures ends { IfOk result (λ ends. (v : AnyValue) → Contains ends.items v ↔ IsJoined (A.graph asker.old) chain.now (Page term.now) label.now v (link_of link.now)) }
 {
-    let Target::Made(written) = &link.source else {
-        return Ok(Vec::new(alloc));
-    };
-    match matches(alloc, written, chain.variables(), term)? {
+    match bound_by(alloc, chain.variables(), link, term, label)? {
         None => Ok(Vec::new(alloc)),
         Some(bound) => {
             let rows = asker.ask(alloc, chain, &bound)?;
-            let ends = ends_under(alloc, chain.variables(), rows.as_slice(), link, label)?;
+            let ends = targets_under(alloc, chain.variables(), rows.as_slice(), &link.target)?;
             Ok(ends)
         }
     }
@@ -125,6 +115,7 @@ fn ends_of_block<A: Asker>(
 ) -> Result<Vec<Value>, NoMemory>
     requires scoped { (version : ℕ) × IsScoped version block.now }
     ensures graph { A.graph asker.new ≡ A.graph asker.old }
+    ensures counted { Hands (IsAt block.now.links.items (λ k. IsLinkRow (A.graph asker.old) block.now.chain term.now label.now (link_of k))) (A.count asker.old) (A.count asker.new) }
     ensures ends { IfOk result (λ ends. Gathered (λ k v. IsJoined (A.graph asker.old) block.now.chain (Page term.now) label.now v (link_of k)) block.now.links.items ends.items) }
 {
     let links = block.links.as_slice();
@@ -146,6 +137,7 @@ pub fn links_out<A: Asker>(
 ) -> Result<Vec<Value>, NoMemory>
     requires scoped { AreScoped scopes.now.version scopes.now.blocks.items }
     ensures graph { A.graph asker.new ≡ A.graph asker.old }
+    ensures counted { Hands (IsAt scopes.now.blocks.items (λ b. IsAt b.links.items (λ k. IsLinkRow (A.graph asker.old) b.chain term.now label.now (link_of k)))) (A.count asker.old) (A.count asker.new) }
     ensures ends { IfOk result (λ ends. ListsExactly value_cmp (Linked (A.graph asker.old) (scope_of scopes.now) (Page term.now) label.now) ends.items) }
 {
     let blocks = scopes.blocks.as_slice();
@@ -158,7 +150,8 @@ pub fn links_out<A: Asker>(
     Ok(ends)
 }
 
-/// The ends of the site's edges from the value by the label, ascending.
+/// The ends of the site's edges from the value by the label, ascending. Each row of a link that starts at the value and
+/// has the label counts one, and each data edge.
 pub fn edges_out<A: Asker>(
     alloc: Global,
     asker: &mut A,
@@ -168,6 +161,7 @@ pub fn edges_out<A: Asker>(
 ) -> Result<Vec<Value>, NoMemory>
     requires scoped { AreScoped scopes.now.version scopes.now.blocks.items }
     ensures graph { A.graph asker.new ≡ A.graph asker.old }
+    ensures counted { (f : TemplateFile) → Hands (IsCause (A.graph asker.old) (scope_of scopes.now) f (asks_out value.now label.now)) (A.count asker.old) (A.count asker.new) }
     ensures ends { IfOk result (λ ends. ListsExactly value_cmp (SiteEdge (A.graph asker.old) (scope_of scopes.now) value.now label.now) ends.items) }
 {
     match value {

@@ -12,6 +12,11 @@ ghost use Rattle.std.specs.Prelude.{ℕ};
 ghost use Rattle.site_spec.specs.Site.{terms_of};
 ghost use Rattle.query_site.specs.Blocks.{AllDeclared, IsScoped, AreScoped, body_of};
 ghost use Rattle.query_site.specs.Blocks.{scope_of};
+ghost use Rattle.tmpl.specs.Body.{TemplateFile};
+ghost use Rattle.page_spec.specs.Question.{in_site as asks_term};
+ghost use Rattle.weight_spec.specs.Charges.{IsMention, IsCause};
+ghost use Rattle.weight_spec.specs.Hands.{Hands, IsAt};
+ghost use Rattle.site_asks.specs.Counts.{HasFunction, IsTermOf, IsEndOf};
 
 use asker::Asker;
 use query_site::{Scoped, Scopes};
@@ -31,6 +36,7 @@ fn is_named<A: Asker>(
     requires well_made { IsWellMade chain.now }
     requires declared { AllDeclared chain.now.variables (term_of written.now) }
     ensures graph { A.graph asker.new ≡ A.graph asker.old }
+    ensures counted { Hands (HasFunction term.now written.now) (A.count asker.old) (A.count asker.new) }
     ensures answer { IfOk result (λ b. IsTrue b ↔ IsNamed (A.graph asker.old) chain.now term.now (term_of written.now)) }
 {
     match matches(alloc, written, chain.variables(), term)? {
@@ -53,6 +59,7 @@ fn any_named<A: Asker>(
     requires well_made { IsWellMade chain.now }
     requires declared { (w : Written) → Contains terms.now w → AllDeclared chain.now.variables (term_of w) }
     ensures graph { A.graph asker.new ≡ A.graph asker.old }
+    ensures counted { Hands (IsAt terms.now (HasFunction term.now)) (A.count asker.old) (A.count asker.new) }
     ensures answer { IfOk result (λ b. IsTrue b ↔ SomeOf (λ w. IsNamed (A.graph asker.old) chain.now term.now (term_of w)) terms.now) }
 {
     for written in terms {
@@ -74,6 +81,7 @@ fn target_named<A: Asker>(
     requires well_made { IsWellMade chain.now }
     requires declared { (t : SkolemTerm) → Contains (target_terms (target_of target.now)) t → AllDeclared chain.now.variables t }
     ensures graph { A.graph asker.new ≡ A.graph asker.old }
+    ensures counted { Hands (IsTermOf term.now (target_of target.now)) (A.count asker.old) (A.count asker.new) }
     ensures answer { IfOk result (λ b. IsTrue b ↔ SomeOf (IsNamed (A.graph asker.old) chain.now term.now) (target_terms (target_of target.now))) }
 {
     match target {
@@ -95,6 +103,7 @@ fn link_named<A: Asker>(
     requires well_made { IsWellMade chain.now }
     requires declared { (t : SkolemTerm) → Contains (ends_of (link_of link.now)) t → AllDeclared chain.now.variables t }
     ensures graph { A.graph asker.new ≡ A.graph asker.old }
+    ensures counted { Hands (IsEndOf term.now (link_of link.now)) (A.count asker.old) (A.count asker.new) }
     ensures answer { IfOk result (λ b. IsTrue b ↔ SomeOf (IsNamed (A.graph asker.old) chain.now term.now) (ends_of (link_of link.now))) }
 {
     if target_named(alloc, asker, chain, &link.source, term)? {
@@ -114,6 +123,7 @@ fn any_link_named<A: Asker>(
     requires well_made { IsWellMade chain.now }
     requires declared { (k : WrittenLink) (t : SkolemTerm) → Contains links.now k → Contains (ends_of (link_of k)) t → AllDeclared chain.now.variables t }
     ensures graph { A.graph asker.new ≡ A.graph asker.old }
+    ensures counted { Hands (IsAt links.now (λ k. IsEndOf term.now (link_of k))) (A.count asker.old) (A.count asker.new) }
     ensures answer { IfOk result (λ b. IsTrue b ↔ SomeOf (λ k. SomeOf (IsNamed (A.graph asker.old) chain.now term.now) (ends_of (link_of k))) links.now) }
 {
     for link in links {
@@ -134,6 +144,7 @@ fn any_collect_named<A: Asker>(
     requires well_made { IsWellMade chain.now }
     requires declared { (k : WrittenCollect) (t : SkolemTerm) → Contains collects.now k → Contains (target_terms (collect_of k).target) t → AllDeclared chain.now.variables t }
     ensures graph { A.graph asker.new ≡ A.graph asker.old }
+    ensures counted { Hands (IsAt collects.now (λ k. IsTermOf term.now (collect_of k).target)) (A.count asker.old) (A.count asker.new) }
     ensures answer { IfOk result (λ b. IsTrue b ↔ SomeOf (λ k. SomeOf (IsNamed (A.graph asker.old) chain.now term.now) (target_terms (collect_of k).target)) collects.now) }
 {
     for collect in collects {
@@ -152,6 +163,7 @@ fn block_named<A: Asker>(
 ) -> Result<bool, NoMemory>
     requires scoped { (version : ℕ) × IsScoped version block.now }
     ensures graph { A.graph asker.new ≡ A.graph asker.old }
+    ensures counted { Hands (IsMention (body_of block.now) term.now) (A.count asker.old) (A.count asker.new) }
     ensures answer { IfOk result (λ b. IsTrue b ↔ SomeOf (IsNamed (A.graph asker.old) block.now.chain term.now) (terms_of (body_of block.now))) }
 {
     if any_named(alloc, asker, &block.chain, block.creates.as_slice(), term)? {
@@ -164,7 +176,8 @@ fn block_named<A: Asker>(
     Ok(found)
 }
 
-/// Whether the page is in the site.
+/// Whether the page is in the site. Each place that names a term of the page's function is asked at most once, and
+/// counts one.
 pub fn in_site<A: Asker>(
     alloc: Global,
     asker: &mut A,
@@ -173,6 +186,7 @@ pub fn in_site<A: Asker>(
 ) -> Result<bool, NoMemory>
     requires scoped { AreScoped scopes.now.version scopes.now.blocks.items }
     ensures graph { A.graph asker.new ≡ A.graph asker.old }
+    ensures counted { (f : TemplateFile) → Hands (IsCause (A.graph asker.old) (scope_of scopes.now) f (asks_term term.now)) (A.count asker.old) (A.count asker.new) }
     ensures answer { IfOk result (λ b. IsTrue b ↔ InSite (A.graph asker.old) (scope_of scopes.now) term.now) }
 {
     let blocks = scopes.blocks.as_slice();

@@ -1,9 +1,12 @@
 //! The template of a value.
-ghost use Rattle.std.specs.Prelude.{◌≡◌, ℕ, map, IfOk, MatchOption};
+ghost use Rattle.std.specs.Prelude.{◌≡◌, ◌<◌, ℕ, length, map, IfOk, MatchOption};
 ghost use Rattle.graph_spec.specs.DataGraph.{IsWellFormed, HasMember};
 ghost use Rattle.tmpl.specs.Reading.{file_of, named_of};
 ghost use Rattle.page_spec.specs.Pieces.{First, HasTemplate};
+ghost use Rattle.page_spec.specs.Question.{template as asks_template};
 ghost use Rattle.site_spec.specs.Site.{Scope};
+ghost use Rattle.weight_spec.specs.Charges.{IsCause};
+ghost use Rattle.weight_spec.specs.Hands.{Hands};
 ghost use Rattle.query_site.specs.Site.{site_of};
 
 use crate::data_members::is_member;
@@ -35,6 +38,7 @@ fn collection_template<A: Asker>(
 ) -> Result<Option<u32>, NoMemory>
     requires { IsWellFormed (A.graph asker.old) }
     ensures graph { A.graph asker.new ≡ A.graph asker.old }
+    ensures counted { Hands (λ n. n < length names.now) (A.count asker.old) (A.count asker.new) }
     ensures answer { IfOk result (λ r. MatchOption r
         ((k : ℕ) → First (λ name. HasMember (A.graph asker.old) name node.now) (map named_of names.now) k → ⊥)
         (λ k. First (λ name. HasMember (A.graph asker.old) name node.now) (map named_of names.now) k)) }
@@ -47,7 +51,7 @@ fn collection_template<A: Asker>(
     Ok(None)
 }
 
-/// The number of the value's template, where it has one.
+/// The number of the value's template, where it has one. Each collection template that is tried for a node counts one.
 pub fn template<A: Asker>(
     alloc: Global,
     asker: &mut A,
@@ -56,6 +60,7 @@ pub fn template<A: Asker>(
 ) -> Result<Option<u32>, NoMemory>
     requires well_formed { IsWellFormed (A.graph asker.old) }
     ensures graph { A.graph asker.new ≡ A.graph asker.old }
+    ensures counted { (q : Scope) → Hands (IsCause (A.graph asker.old) q (file_of templates.now) (asks_template value.now)) (A.count asker.old) (A.count asker.new) }
     ensures answer { IfOk result (λ r. MatchOption r
         ((k : ℕ) (q : Scope) → HasTemplate (site_of (A.graph asker.old) q) (file_of templates.now) value.now k → ⊥)
         (λ k. (q : Scope) → HasTemplate (site_of (A.graph asker.old) q) (file_of templates.now) value.now k)) }

@@ -1,5 +1,5 @@
 -- Rows that agree with bound values.
-use Rattle.std.proofs.Common.{◌≡◌, ℕ, zero, suc, ◌+◌, ◌<◌, List, [], ◌∷◌, ◌++◌, length, length-append, arith, refl, ap, sym, ◌∙◌, subst, get_or}
+use Rattle.std.proofs.Common.{◌≡◌, ℕ, zero, suc, ◌+◌, List, [], ◌∷◌, ◌++◌, length, length-append, arith, refl, ap, sym, ◌∙◌, subst}
 use Rattle.std.specs.Prelude.{Option, None, Some, Bool, true, false, slice_get, set}
 use Rattle.sd_value.specs.declared.Value.{Value}
 use Rattle.query_spec.specs.Rows.{Agrees}

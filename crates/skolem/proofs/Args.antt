@@ -1,6 +1,6 @@
 -- The arguments of a term, place by place.
 use Rattle.std.proofs.Common.{◌≡◌, ℕ, zero, suc, ◌+◌, ◌<◌, List, [], ◌∷◌, length, map, arith, refl, ap, sym, ◌∙◌, subst}
-use Rattle.std.specs.Prelude.{◌⊎◌, Option, None, Some, slice_get}
+use Rattle.std.specs.Prelude.{◌⊎◌, Option, Some, slice_get}
 use Rattle.std.specs.List.{AllZip}
 use Rattle.std.proofs.Common.{inl, inr, ◌≤◌}
 use Rattle.std.proofs.lemmas.Option.{slice_get_within, slice_get-map, get_or_from_slice_get}
@@ -18,7 +18,7 @@ use Rattle.struql_ast.specs.declared.Term0.{Term0}
 use Rattle.struql_ast.specs.Reading.{operand_of, term_of}
 use Rattle.site_spec.specs.Site.{IsTermUnder}
 use Rattle.std.proofs.Common.{◌++◌, take, get_or}
-use Rattle.std.proofs.lemmas.List.{take_more, take_all}
+use Rattle.std.proofs.lemmas.List.{take_more}
 use Rattle.query_spec.specs.Query.{Operand}
 use Rattle.skolem.specs.Solved.{Adds, Refutes, Gives, Solves, HasNone, IsDeclared}
 

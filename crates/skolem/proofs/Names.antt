@@ -1,7 +1,6 @@
 -- Names of variables and their numbers.
-use Rattle.std.proofs.Common.{◌≡◌, ℕ, zero, suc, ◌+◌, ◌<◌, ◌≤◌, List, [], ◌∷◌, length, map, arith, refl, ap, sym, ◌∙◌, inl, inr, subst, get_or}
-use Rattle.std.specs.Prelude.{◌⊎◌, Bool, true, false, Contains, Option, None, Some, slice_get, if◌then◌else◌, nat_eq}
-use Rattle.std.specs.Cmp.Lexicographic.{pointwise, same_text, other_text}
+use Rattle.std.proofs.Common.{◌≡◌, ℕ, zero, suc, ◌+◌, ◌<◌, ◌≤◌, List, [], ◌∷◌, length, map, arith, refl, ap, sym, ◌∙◌, inl, inr, subst}
+use Rattle.std.specs.Prelude.{◌⊎◌, Bool, true, false, Contains, Some, slice_get}
 use Rattle.std.specs.declared.cmp.Ordering.{Ordering}
 use Rattle.std.specs.declared.cmp.Ordering.TheVariants.{Less, Equal, Greater}
 use Rattle.std.specs.Ordering.{eq_by_cmp, is_eq}
@@ -13,7 +12,6 @@ use Rattle.sd_value.specs.Members.{Contains-nil, Contains-cons_cases}
 use Rattle.query_spec.specs.declared.Variable.{Variable}
 use Rattle.query_spec.specs.Mentions.{same_name}
 use Rattle.query_spec.specs.Rows.{value_in}
-use Rattle.skolem.specs.Solved.{IsNumberOf}
 
 -- no variable before that number has the name
 pub record NotBefore (variables : List Variable) (name : List ℕ) (i : ℕ) : Type 0 where

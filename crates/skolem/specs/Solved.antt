@@ -1,10 +1,9 @@
 -- What values of a chain's variables make a written term name a page.
-use Rattle.std.specs.Prelude.{◌≡◌, ◌<◌, ℕ, List, Option, Some, length, map, Contains, slice_get}
+use Rattle.std.specs.Prelude.{◌≡◌, ℕ, List, Option, Some, length, map, Contains, slice_get}
 use Rattle.sd_value.specs.declared.Value.{Value}
-use Rattle.sd_value.specs.declared.Term.{Term}
 use Rattle.graph_spec.specs.DataGraph.{Name}
 use Rattle.query_spec.specs.declared.Variable.{Variable}
-use Rattle.query_spec.specs.Query.{Operand, variable, constant, SkolemTerm}
+use Rattle.query_spec.specs.Query.{Operand, variable, constant}
 use Rattle.query_spec.specs.Holds.{Assignment, operand_value}
 use Rattle.sd_value.specs.declared.Datum.{Datum}
 use Rattle.sd_value.specs.declared.Value.TheVariants.{Data}
@@ -20,6 +19,10 @@ pub record IsNumberOf (variables : List Variable) (name : Name) (i : ℕ) : Type
 
 abbrev pub HasAt : ℕ → Value → List Value → Type 0
 HasAt i v row = slice_get row i ≡ Some v
+
+-- the name has the value under the row
+abbrev pub HasName : List Variable → Name → Value → List Value → Type 0
+HasName variables name v row = value_in variables row name ≡ Some v
 
 -- `new` binds what `old` does, and that Q holds
 pub record Adds (Q : List Value → Type 0) (old new : List (Option Value)) : Type 0 where

@@ -12,7 +12,7 @@ use std::alloc::Global;
 use struql_ast::{Chain, Operand, Term0};
 
 // The number of the variable with the name.
-fn index_of(variables: &[Variable], name: &Str) -> usize
+pub(crate) fn index_of(variables: &[Variable], name: &Str) -> usize
     requires { Contains (map (λ v. v.name) variables.now) name.now }
     ensures within { result < length variables.now }
     ensures number { IsNumberOf variables.now name.now result }
@@ -26,7 +26,7 @@ fn index_of(variables: &[Variable], name: &Str) -> usize
 }
 
 // Binds the variable of that number to the value; false where it is bound to another.
-fn put(values: &mut Vec<Option<Value>>, slot: usize, value: Value) -> bool
+pub(crate) fn put(values: &mut Vec<Option<Value>>, slot: usize, value: Value) -> bool
     requires within { slot < length values.old.items }
     ensures { MatchBool result (Adds (HasAt slot value) values.old.items values.new.items) (Refutes (HasAt slot value) values.old.items) }
 {

@@ -2,6 +2,11 @@ use Rattle.std.proofs.Common.{refl, subst}
 use Rattle.query_site.specs.Blocks.{scope_of}
 use Rattle.site_asks.specs.Ends.{Gathered, BlockPuts}
 use Rattle.site_asks.proofs.Puts.{collected_lists}
+use Rattle.weight_spec.specs.Hands.{Hands, IsAt}
+use Rattle.site_asks.specs.Counts.{IsCollectRow}
+use Rattle.site_asks.proofs.Counts.{member_causes, collect_causes}
+use Rattle.struql_ast.specs.Reading.{collect_of}
+use Rattle.query_site.specs.declared.Scoped.{Scoped}
 use Rattle.site_asks.proofs.collects.collected.Goals as goal
 
 pub returns-clause-values : goal.returns-clause-values
@@ -10,3 +15,19 @@ returns-clause-values g c =
     c.in_ok-append.ensures.items c.in_ok-values.ensures.values
     (subst (λ G. Gathered (BlockPuts G c.args.name.now) c.args.scopes.now.blocks.items c.in_ok-more.more.items) c.in_ok-values.ensures.graph c.in_ok-more.ensures.values)
     record { ascending = c.sort_and_dedup.ensures.ascending; sound = λ v h. c.sort_and_dedup.ensures.sound v h; complete = λ v h. c.sort_and_dedup.ensures.complete v h }
+
+pub returns-in_err-values-clause-counted : goal.returns-in_err-values-clause-counted
+returns-in_err-values-clause-counted g c =
+    λ f. member_causes (g.A.Asker.graph c.args.asker.now) (scope_of c.args.scopes.now) c.args.scopes.now.blocks.items f refl c.requires.scoped c.args.name.now (g.A.Asker.count c.args.asker.now) (g.A.Asker.count c.members.new.asker) c.in_err-values.ensures.counted
+
+pub returns-in_err-more-clause-counted : goal.returns-in_err-more-clause-counted
+returns-in_err-more-clause-counted g c =
+    λ f. collect_causes (g.A.Asker.graph c.args.asker.now) (scope_of c.args.scopes.now) c.args.scopes.now.blocks.items f refl c.requires.scoped c.args.name.now (g.A.Asker.count c.args.asker.now) (g.A.Asker.count c.members.new.asker) (g.A.Asker.count c.puts.new.asker) c.in_ok-values.ensures.counted (subst (λ G. Hands (IsAt c.args.scopes.now.blocks.items (λ (s : Scoped). IsAt s.collects.items (λ k. IsCollectRow G s.chain c.args.name.now (collect_of k)))) (g.A.Asker.count c.members.new.asker) (g.A.Asker.count c.puts.new.asker)) c.in_ok-values.ensures.graph c.in_err-more.ensures.counted)
+
+pub returns-in_err-append-clause-counted : goal.returns-in_err-append-clause-counted
+returns-in_err-append-clause-counted g c =
+    λ f. collect_causes (g.A.Asker.graph c.args.asker.now) (scope_of c.args.scopes.now) c.args.scopes.now.blocks.items f refl c.requires.scoped c.args.name.now (g.A.Asker.count c.args.asker.now) (g.A.Asker.count c.members.new.asker) (g.A.Asker.count c.puts.new.asker) c.in_ok-values.ensures.counted (subst (λ G. Hands (IsAt c.args.scopes.now.blocks.items (λ (s : Scoped). IsAt s.collects.items (λ k. IsCollectRow G s.chain c.args.name.now (collect_of k)))) (g.A.Asker.count c.members.new.asker) (g.A.Asker.count c.puts.new.asker)) c.in_ok-values.ensures.graph c.in_ok-more.ensures.counted)
+
+pub returns-clause-counted : goal.returns-clause-counted
+returns-clause-counted g c =
+    λ f. collect_causes (g.A.Asker.graph c.args.asker.now) (scope_of c.args.scopes.now) c.args.scopes.now.blocks.items f refl c.requires.scoped c.args.name.now (g.A.Asker.count c.args.asker.now) (g.A.Asker.count c.members.new.asker) (g.A.Asker.count c.puts.new.asker) c.in_ok-values.ensures.counted (subst (λ G. Hands (IsAt c.args.scopes.now.blocks.items (λ (s : Scoped). IsAt s.collects.items (λ k. IsCollectRow G s.chain c.args.name.now (collect_of k)))) (g.A.Asker.count c.members.new.asker) (g.A.Asker.count c.puts.new.asker)) c.in_ok-values.ensures.graph c.in_ok-more.ensures.counted)

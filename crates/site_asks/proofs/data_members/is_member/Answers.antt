@@ -6,6 +6,7 @@ use Rattle.query_spec.specs.Query.{Chain}
 use Rattle.query_spec.specs.Rows.{SomeAnswer}
 use Rattle.site_asks.specs.MemberChain.{member_chain}
 use Rattle.site_asks.proofs.MemberRows.{member_chain_well_made, member_asked}
+use Rattle.site_asks.proofs.Counts.{counted_within}
 use Rattle.site_asks.proofs.data_members.is_member.Goals as goal
 
 pub exists-requires-clause-well_made : goal.exists-requires-clause-well_made
@@ -19,3 +20,7 @@ returns-clause-answer g c =
     let one = subst (λ (k : Chain). IsTrue c.in_ok-found.found ↔ SomeAnswer (g.A.Asker.graph c.args.asker.now) k c.new-bound.result) c.in_ok-chain.ensures c.in_ok-found.ensures.answer in
     let both = subst (λ (b : List (Option Value)). IsTrue c.in_ok-found.found ↔ SomeAnswer (g.A.Asker.graph c.args.asker.now) (member_chain c.args.collection.now) b) bound one in
     member_asked (g.A.Asker.graph c.args.asker.now) c.args.collection.now c.args.name.now c.in_ok-found.found c.requires both
+
+pub returns-clause-counted : goal.returns-clause-counted
+returns-clause-counted g c =
+    counted_within (g.A.Asker.count c.args.asker.now) 1 (g.A.Asker.count c.exists.new.self) c.in_ok-found.ensures.counted

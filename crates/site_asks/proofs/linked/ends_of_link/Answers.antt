@@ -1,33 +1,43 @@
-use Rattle.std.proofs.Common.{[], List, ap, sym, subst}
-use Rattle.std.specs.Prelude.{All, Contains}
+use Rattle.std.proofs.Common.{List, subst}
 use Rattle.sd_value.specs.declared.Value.{Value}
-use Rattle.sd_value.specs.Members.{Contains-here, Contains-nil}
 use Rattle.query_spec.specs.declared.Variable.{Variable}
-use Rattle.query_spec.specs.Rows.{value_in}
-use Rattle.struql_ast.specs.Reading.{link_of, term_of, target_of}
-use Rattle.skolem.specs.Solved.{IsDeclared}
-use Rattle.site_spec.specs.Site.{IsTermUnder}
-use Rattle.site_asks.specs.Ends.{HasEnd, Gathered}
-use Rattle.site_asks.proofs.Rows.{none_case, some_solves}
-use Rattle.site_asks.proofs.Targets.{joined_source, joined_ends}
+use Rattle.query_spec.specs.Rows.{value_in, IsAnswer, row_cmp, row_cmp-total}
+use Rattle.struql_ast.specs.Reading.{link_of, target_of}
+use Rattle.site_spec.specs.Site.{IsTargetUnder}
+use Rattle.weight_spec.proofs.Handing.{hands_none, hands_same}
+use Rattle.site_asks.specs.Counts.{IsLinkRow}
+use Rattle.site_asks.specs.Ends.{Gathered, StartsBy}
+use Rattle.site_asks.proofs.Rows.{some_solves}
+use Rattle.site_asks.proofs.Counts.{hands_listed}
+use Rattle.site_asks.proofs.Labels.{link_rows, joined_ends, none_joined}
 use Rattle.site_asks.proofs.linked.ends_of_link.Goals as goal
 
-pub matches-requires : goal.matches-requires
-matches-requires g c = record {
-  declared = subst (λ (vs : List Variable). All (IsDeclared vs) (term_of c.in-Made.written).args) (sym c.variables.ensures)
-      (c.requires.declared (term_of c.in-Made.written) (rw c.in-Made.is (Contains-here (term_of c.in-Made.written) [])));
-}
+pub returns-in_err-bound_by-clause-counted : goal.returns-in_err-bound_by-clause-counted
+returns-in_err-bound_by-clause-counted g c =
+    hands_none (IsLinkRow (g.A.Asker.graph c.args.asker.now) c.args.chain.now c.args.term.now c.args.label.now (link_of c.args.link.now)) (g.A.Asker.count c.args.asker.now)
+
+pub returns-in-None-clause-counted : goal.returns-in-None-clause-counted
+returns-in-None-clause-counted g c =
+    hands_none (IsLinkRow (g.A.Asker.graph c.args.asker.now) c.args.chain.now c.args.term.now c.args.label.now (link_of c.args.link.now)) (g.A.Asker.count c.args.asker.now)
+
+pub returns-in_err-rows-in-Some-clause-counted : goal.returns-in_err-rows-in-Some-clause-counted
+returns-in_err-rows-in-Some-clause-counted g c =
+    hands_same (IsLinkRow (g.A.Asker.graph c.args.asker.now) c.args.chain.now c.args.term.now c.args.label.now (link_of c.args.link.now)) (g.A.Asker.count c.args.asker.now) (g.A.Asker.count c.ask.new.self) c.in_err-rows-in-Some.ensures.counted
+
+pub returns-in_err-ends-in-Some-clause-counted : goal.returns-in_err-ends-in-Some-clause-counted
+returns-in_err-ends-in-Some-clause-counted g c =
+    hands_listed row_cmp row_cmp-total (IsAnswer (g.A.Asker.graph c.args.asker.now) c.args.chain.now c.in-Some.bound) (IsLinkRow (g.A.Asker.graph c.args.asker.now) c.args.chain.now c.args.term.now c.args.label.now (link_of c.args.link.now)) c.in_ok-rows-in-Some.rows.items (g.A.Asker.count c.args.asker.now) (g.A.Asker.count c.ask.new.self) c.in_ok-rows-in-Some.ensures.rows (link_rows (g.A.Asker.graph c.args.asker.now) c.args.chain.now (link_of c.args.link.now) c.args.term.now c.args.label.now c.in-Some.bound (some_solves c.args.chain.now (StartsBy (link_of c.args.link.now) c.args.term.now c.args.label.now) c.variables.result.now c.in_ok-bound_by.field-0 c.in-Some.bound c.variables.ensures c.in-Some.is c.in_ok-bound_by.ensures)) c.in_ok-rows-in-Some.ensures.counted
+
+pub returns-in_ok-ends-in-Some-clause-counted : goal.returns-in_ok-ends-in-Some-clause-counted
+returns-in_ok-ends-in-Some-clause-counted g c =
+    hands_listed row_cmp row_cmp-total (IsAnswer (g.A.Asker.graph c.args.asker.now) c.args.chain.now c.in-Some.bound) (IsLinkRow (g.A.Asker.graph c.args.asker.now) c.args.chain.now c.args.term.now c.args.label.now (link_of c.args.link.now)) c.in_ok-rows-in-Some.rows.items (g.A.Asker.count c.args.asker.now) (g.A.Asker.count c.ask.new.self) c.in_ok-rows-in-Some.ensures.rows (link_rows (g.A.Asker.graph c.args.asker.now) c.args.chain.now (link_of c.args.link.now) c.args.term.now c.args.label.now c.in-Some.bound (some_solves c.args.chain.now (StartsBy (link_of c.args.link.now) c.args.term.now c.args.label.now) c.variables.result.now c.in_ok-bound_by.field-0 c.in-Some.bound c.variables.ensures c.in-Some.is c.in_ok-bound_by.ensures)) c.in_ok-rows-in-Some.ensures.counted
 
 pub returns-in-None-clause-ends : goal.returns-in-None-clause-ends
-returns-in-None-clause-ends g c = λ v. (
-  λ h. absurd (Contains-nil v (subst (λ (vs : List Value). Contains vs v) c.new-in-None.ensures.items h)),
-  λ j. absurd (none_case (g.A.Asker.graph c.args.asker.now) c.args.chain.now (λ s. IsTermUnder s (term_of c.in-Made.written) c.args.term.now) c.variables.result.now c.in_ok-matches.field-0 c.variables.ensures c.in-None.is c.in_ok-matches.ensures
-      (joined_source (g.A.Asker.graph c.args.asker.now) c.args.chain.now (link_of c.args.link.now) (term_of c.in-Made.written) c.args.term.now c.args.label.now v (ap target_of c.in-Made.is) j)),
-)
+returns-in-None-clause-ends g c =
+    none_joined (g.A.Asker.graph c.args.asker.now) c.args.chain.now (link_of c.args.link.now) c.args.term.now c.args.label.now c.variables.result.now c.in_ok-bound_by.field-0 c.new.result.items c.variables.ensures c.in-None.is c.in_ok-bound_by.ensures c.new.ensures.items
 
 pub returns-in_ok-ends-in-Some-clause-ends : goal.returns-in_ok-ends-in-Some-clause-ends
 returns-in_ok-ends-in-Some-clause-ends g c =
-    let solved = some_solves c.args.chain.now (λ s. IsTermUnder s (term_of c.in-Made.written) c.args.term.now) c.variables.result.now c.in_ok-matches.field-0 c.in-Some.bound c.variables.ensures c.in-Some.is c.in_ok-matches.ensures in
-    let one = subst (λ (vs : List Variable). Gathered (λ (row : List Value) (v : Value). HasEnd (link_of c.args.link.now) c.args.label.now (value_in vs row) v) c.as_slice.result.now c.in_ok-ends-in-Some.ends.items) c.variables-in-Some.ensures c.in_ok-ends-in-Some.ensures in
-    let both = subst (λ (rs : List (List Value)). Gathered (λ (row : List Value) (v : Value). HasEnd (link_of c.args.link.now) c.args.label.now (value_in c.args.chain.now.variables row) v) rs c.in_ok-ends-in-Some.ends.items) c.as_slice.ensures.value one in
-    joined_ends (g.A.Asker.graph c.args.asker.now) c.args.chain.now (link_of c.args.link.now) (term_of c.in-Made.written) c.args.term.now c.args.label.now c.in-Some.bound c.in_ok-rows-in-Some.rows.items c.in_ok-ends-in-Some.ends.items (ap target_of c.in-Made.is) solved c.in_ok-rows-in-Some.ensures.rows both
+    let one = subst (λ (vs : List Variable). Gathered (λ (row : List Value) (v : Value). IsTargetUnder (value_in vs row) (target_of c.args.link.now.target) v) c.as_slice.result.now c.in_ok-ends-in-Some.ends.items) c.variables-in-Some.ensures c.in_ok-ends-in-Some.ensures in
+    let both = subst (λ (rs : List (List Value)). Gathered (λ (row : List Value) (v : Value). IsTargetUnder (value_in c.args.chain.now.variables row) (target_of c.args.link.now.target) v) rs c.in_ok-ends-in-Some.ends.items) c.as_slice.ensures.value one in
+    joined_ends (g.A.Asker.graph c.args.asker.now) c.args.chain.now (link_of c.args.link.now) c.args.term.now c.args.label.now c.in-Some.bound c.in_ok-rows-in-Some.rows.items c.in_ok-ends-in-Some.ends.items (some_solves c.args.chain.now (StartsBy (link_of c.args.link.now) c.args.term.now c.args.label.now) c.variables.result.now c.in_ok-bound_by.field-0 c.in-Some.bound c.variables.ensures c.in-Some.is c.in_ok-bound_by.ensures) c.in_ok-rows-in-Some.ensures.rows both

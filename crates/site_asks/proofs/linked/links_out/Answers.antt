@@ -11,6 +11,11 @@ use Rattle.site_asks.specs.Ends.{Gathered, BlockJoins}
 use Rattle.site_asks.proofs.Some.{item_in}
 use Rattle.site_asks.proofs.Gather.{gathered_next, gathered_end}
 use Rattle.site_asks.proofs.Targets.{block_joins, linked_to, linked_from}
+use Rattle.std.proofs.Common.{◌+◌, refl}
+use Rattle.weight_spec.specs.Hands.{Hands, IsAt}
+use Rattle.weight_spec.proofs.Handing.{hands_next, hands_all, hands_begin}
+use Rattle.site_asks.specs.Counts.{IsLinkRow}
+use Rattle.site_asks.proofs.Gather.{gathered_none}
 use Rattle.site_asks.proofs.linked.links_out.Goals as goal
 
 pub ends_of_block-requires : goal.ends_of_block-requires
@@ -23,6 +28,7 @@ loop-block-preserved g c =
     record {
       graph = c.in_ok-more.ensures.graph ∙ c.loop-block.invariant.graph;
       gathered = rw c.in_ok-append.ensures.items (gathered_next (BlockJoins (g.A.Asker.graph c.args.asker.now) (Page c.args.term.now) c.args.label.now) c.as_slice-blocks.result.now c.loop-block.block-index c.block-item.result c.loop-block.ends.items c.in_ok-more.more.items c.loop-block-test.true c.block-item.is c.loop-block.invariant.gathered (λ v h. (here v).0 h) (λ v h. (here v).1 h));
+      counted = hands_next c.as_slice-blocks.result.now (λ b. IsAt b.links.items (λ k. IsLinkRow (g.A.Asker.graph c.args.asker.now) b.chain c.args.term.now c.args.label.now (link_of k))) c.loop-block.block-index c.block-item.result (g.A.Asker.count c.args.asker.now) (g.A.Asker.count c.loop-block.asker) (g.A.Asker.count c.ends_of_block.new.asker) c.loop-block-test.true c.block-item.is c.loop-block.invariant.counted (subst (λ G. Hands (IsAt c.block-item.result.links.items (λ k. IsLinkRow G c.block-item.result.chain c.args.term.now c.args.label.now (link_of k))) (g.A.Asker.count c.loop-block.asker) (g.A.Asker.count c.ends_of_block.new.asker)) c.loop-block.invariant.graph c.in_ok-more.ensures.counted);
     }
 
 pub returns-clause-ends : goal.returns-clause-ends
@@ -33,3 +39,18 @@ returns-clause-ends g c =
       sound = λ v h. linked_to (g.A.Asker.graph c.args.asker.now) (scope_of c.args.scopes.now) c.args.scopes.now.blocks.items (Page c.args.term.now) c.args.label.now c.loop-block.ends.items c.requires.scoped refl all v (c.sort_and_dedup.ensures.sound v h);
       complete = λ v h. c.sort_and_dedup.ensures.complete v (linked_from (g.A.Asker.graph c.args.asker.now) (scope_of c.args.scopes.now) c.args.scopes.now.blocks.items (Page c.args.term.now) c.args.label.now c.loop-block.ends.items c.requires.scoped refl all v h);
     }
+
+pub returns-in_err-more-clause-counted : goal.returns-in_err-more-clause-counted
+returns-in_err-more-clause-counted g c =
+    subst (λ (ks : List Scoped). Hands (IsAt ks (λ b. IsAt b.links.items (λ k. IsLinkRow (g.A.Asker.graph c.args.asker.now) b.chain c.args.term.now c.args.label.now (link_of k)))) (g.A.Asker.count c.args.asker.now) (g.A.Asker.count c.ends_of_block.new.asker)) c.as_slice-blocks.ensures.value (hands_all c.as_slice-blocks.result.now (λ b. IsAt b.links.items (λ k. IsLinkRow (g.A.Asker.graph c.args.asker.now) b.chain c.args.term.now c.args.label.now (link_of k))) (c.loop-block.block-index + 1) (g.A.Asker.count c.args.asker.now) (g.A.Asker.count c.ends_of_block.new.asker) (hands_next c.as_slice-blocks.result.now (λ b. IsAt b.links.items (λ k. IsLinkRow (g.A.Asker.graph c.args.asker.now) b.chain c.args.term.now c.args.label.now (link_of k))) c.loop-block.block-index c.block-item.result (g.A.Asker.count c.args.asker.now) (g.A.Asker.count c.loop-block.asker) (g.A.Asker.count c.ends_of_block.new.asker) c.loop-block-test.true c.block-item.is c.loop-block.invariant.counted (subst (λ G. Hands (IsAt c.block-item.result.links.items (λ k. IsLinkRow G c.block-item.result.chain c.args.term.now c.args.label.now (link_of k))) (g.A.Asker.count c.loop-block.asker) (g.A.Asker.count c.ends_of_block.new.asker)) c.loop-block.invariant.graph c.in_err-more.ensures.counted)))
+
+pub returns-in_err-append-clause-counted : goal.returns-in_err-append-clause-counted
+returns-in_err-append-clause-counted g c =
+    subst (λ (ks : List Scoped). Hands (IsAt ks (λ b. IsAt b.links.items (λ k. IsLinkRow (g.A.Asker.graph c.args.asker.now) b.chain c.args.term.now c.args.label.now (link_of k)))) (g.A.Asker.count c.args.asker.now) (g.A.Asker.count c.ends_of_block.new.asker)) c.as_slice-blocks.ensures.value (hands_all c.as_slice-blocks.result.now (λ b. IsAt b.links.items (λ k. IsLinkRow (g.A.Asker.graph c.args.asker.now) b.chain c.args.term.now c.args.label.now (link_of k))) (c.loop-block.block-index + 1) (g.A.Asker.count c.args.asker.now) (g.A.Asker.count c.ends_of_block.new.asker) (hands_next c.as_slice-blocks.result.now (λ b. IsAt b.links.items (λ k. IsLinkRow (g.A.Asker.graph c.args.asker.now) b.chain c.args.term.now c.args.label.now (link_of k))) c.loop-block.block-index c.block-item.result (g.A.Asker.count c.args.asker.now) (g.A.Asker.count c.loop-block.asker) (g.A.Asker.count c.ends_of_block.new.asker) c.loop-block-test.true c.block-item.is c.loop-block.invariant.counted (subst (λ G. Hands (IsAt c.block-item.result.links.items (λ k. IsLinkRow G c.block-item.result.chain c.args.term.now c.args.label.now (link_of k))) (g.A.Asker.count c.loop-block.asker) (g.A.Asker.count c.ends_of_block.new.asker)) c.loop-block.invariant.graph c.in_ok-more.ensures.counted)))
+
+pub returns-clause-counted : goal.returns-clause-counted
+returns-clause-counted g c =
+    subst (λ (ks : List Scoped). Hands (IsAt ks (λ b. IsAt b.links.items (λ k. IsLinkRow (g.A.Asker.graph c.args.asker.now) b.chain c.args.term.now c.args.label.now (link_of k)))) (g.A.Asker.count c.args.asker.now) (g.A.Asker.count c.loop-block.asker)) c.as_slice-blocks.ensures.value (hands_all c.as_slice-blocks.result.now (λ b. IsAt b.links.items (λ k. IsLinkRow (g.A.Asker.graph c.args.asker.now) b.chain c.args.term.now c.args.label.now (link_of k))) (c.loop-block.block-index) (g.A.Asker.count c.args.asker.now) (g.A.Asker.count c.loop-block.asker) (c.loop-block.invariant.counted))
+
+pub loop-block-init : goal.loop-block-init
+loop-block-init g c = record { graph = refl; counted = hands_begin c.as_slice-blocks.result.now (λ b. IsAt b.links.items (λ k. IsLinkRow (g.A.Asker.graph c.args.asker.now) b.chain c.args.term.now c.args.label.now (link_of k))) (g.A.Asker.count c.args.asker.now); gathered = rw c.new-ends.ensures.items (gathered_none (BlockJoins (g.A.Asker.graph c.args.asker.now) (Page c.args.term.now) c.args.label.now)) }

@@ -1,4 +1,5 @@
-use Rattle.std.proofs.Common.{◌≡◌, take}
+use Rattle.std.proofs.Common.{◌≡◌, ◌<◌, take}
+use Rattle.weight_spec.specs.Hands.{Hands}
 use Rattle.graph_spec.specs.DataGraph.{HasMember}
 use Rattle.site_asks.proofs.Firsts.{NoneNamed}
 use Rattle.site_asks.proofs.named_templates.collection_template.Given as goal
@@ -7,4 +8,5 @@ abbrev pub invariant-loop-named : goal.invariant-loop-named
 invariant-loop-named g l = record {
   graph : g.A.Asker.graph l.asker ≡ g.A.Asker.graph l.initial.asker;
   none : NoneNamed (λ name. HasMember (g.A.Asker.graph l.initial.asker) name l.node) (take l.named-index l.names);
+  counted : Hands (λ n. n < l.named-index) (g.A.Asker.count l.initial.asker) (g.A.Asker.count l.asker);
 }

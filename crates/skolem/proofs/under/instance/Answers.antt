@@ -1,14 +1,11 @@
-use Rattle.std.proofs.Common.{◌≡◌, ◌∙◌, ap, sym, subst, refl, length, take, ◌≤◌, ◌<◌, arith, map}
+use Rattle.std.proofs.Common.{◌≡◌, subst, length, ◌<◌}
 use Rattle.std.specs.Prelude.{Some, List}
 use Rattle.sd_value.specs.declared.Value.TheVariants.{Data}
-use Rattle.sd_value.specs.declared.Datum.{Datum}
-use Rattle.query_spec.specs.Query.{Operand}
 use Rattle.query_spec.specs.Holds.{operand_value}
 use Rattle.query_spec.specs.Rows.{value_in}
-use Rattle.struql_ast.specs.Reading.{operand_of}
 use Rattle.struql_ast.specs.declared.Operand.{Operand as Written}
 use Rattle.std.proofs.Common.{get_or, ℕ}
-use Rattle.skolem.proofs.Args.{IsZipped, zipped_none, zipped_more, no_instance}
+use Rattle.skolem.proofs.Args.{zipped_none, zipped_more, no_instance}
 use Rattle.skolem.proofs.under.instance.Goals as goal
 
 pub loop-operand-init : goal.loop-operand-init

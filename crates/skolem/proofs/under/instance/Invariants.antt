@@ -1,10 +1,8 @@
-use Rattle.std.proofs.Common.{take, map}
+use Rattle.std.proofs.Common.{take}
 use Rattle.std.specs.Prelude.{◌≡◌, Some}
-use Rattle.std.specs.List.{AllZip}
 use Rattle.sd_value.specs.declared.Value.TheVariants.{Data}
 use Rattle.query_spec.specs.Holds.{operand_value}
 use Rattle.query_spec.specs.Rows.{value_in}
-use Rattle.struql_ast.specs.Reading.{operand_of}
 use Rattle.skolem.proofs.Args.{IsZipped}
 use Rattle.skolem.proofs.under.instance.Given as goal
 
