@@ -1,5 +1,5 @@
 -- One data file after another.
-use Rattle.std.proofs.Common.{◌≡◌, ℕ, ◌+◌, ◌<◌, List, ◌∷◌, length, drop, get_or, inr, sym, ap, ◌∙◌}
+use Rattle.std.proofs.Common.{◌≡◌, ℕ, ◌+◌, ◌<◌, List, ◌∷◌, length, drop, get_or, inl, inr, sym, ap, ◌∙◌}
 use Rattle.std.proofs.lemmas.List.{drop_more}
 use Rattle.std.specs.Prelude.{Result, Ok, Err}
 use Rattle.edge_io.specs.Files.{FileMap}
@@ -19,3 +19,10 @@ pub graph_next : (map : FileMap) (b c : Building) (sources : List (List ℕ)) (i
 graph_next map b c sources i path result within is source ends =
     let split : drop i sources ≡ path ∷ drop (i + 1) sources = drop_more sources i path within ∙ ap (λ p. p ∷ drop (i + 1) sources) (sym is) in
     rw split (then_next (SourceEnds map path b) (λ d. GraphEnds map d (drop (i + 1) sources)) c result source ends)
+
+-- where one file ends the run, all of them do
+pub graph_fault : (map : FileMap) (b : Building) (sources : List (List ℕ)) (i : ℕ) (path : List ℕ) (fault : Fault)
+    → i < length sources → path ≡ get_or sources i path → SourceEnds map path b (Err fault) → GraphEnds map b (drop i sources) (Err fault)
+graph_fault map b sources i path fault within is source =
+    let split : drop i sources ≡ path ∷ drop (i + 1) sources = drop_more sources i path within ∙ ap (λ p. p ∷ drop (i + 1) sources) (sym is) in
+    rw split (inl source)

@@ -39,3 +39,18 @@ FileEnds limit map path (Err (Refused refusal)) = (refusal ≡ record { file = p
 FileEnds limit map path (Err (Unread unread)) = unread ≡ path
 FileEnds limit map path (Err NoMemory) = ⊤
 FileEnds limit map path (Err fault) = ⊥
+
+-- a fault that the inputs decide, and not the outside or the want of memory
+abbrev pub IsDecidedFault : Fault → Type 0
+IsDecidedFault (Unread path) = ⊥
+IsDecidedFault NoMemory = ⊥
+IsDecidedFault fault = ⊤
+
+-- an end that the inputs decide
+abbrev pub IsDecided : {A : Type 0} → Result A Fault → Type 0
+IsDecided (Ok value) = ⊤
+IsDecided (Err fault) = IsDecidedFault fault
+
+-- Two ends that the inputs decide are one.
+pub record Decides {A : Type 0} (Ends : Result A Fault → Type 0) : Type 0 where
+  pub once : (one other : Result A Fault) → Ends one → Ends other → IsDecided one → IsDecided other → one ≡ other

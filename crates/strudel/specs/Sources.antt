@@ -3,15 +3,12 @@ use Rattle.std.specs.Prelude.{◌≡◌, ◌⊎◌, ◌<◌, ◌≤◌, ℕ, Lis
 use Rattle.edge_io.specs.Files.{FileMap}
 use Rattle.graph_spec.specs.DataGraph.{DataGraph}
 use Rattle.sd_graph.specs.Statement.{Building}
-use Rattle.sd_ddl.specs.Reads.{Reads}
+use Rattle.data_source.specs.Takes.{Takes}
+use Rattle.data_source.specs.declared.refusal.SourceRefusal.TheVariants as source
 use Rattle.sd_ddl.specs.Written.{graph_text}
-use Rattle.sd_ddl.specs.declared.refusal.DdlRefusal.{DdlRefusal}
-use Rattle.sd_ddl.specs.declared.refusal.DdlRefusal.TheVariants as ddl
-use Rattle.run_report.specs.declared.status.Place.TheVariants.{At}
 use Rattle.strudel.specs.declared.fault.Fault.{Fault}
 use Rattle.strudel.specs.declared.fault.Fault.TheVariants.{Refused, Unread, NoMemory}
 use Rattle.strudel.specs.declared.fault.Refusal.{Refusal}
-use Rattle.strudel.specs.declared.told.Told.{Told}
 use Rattle.strudel.specs.Runs.{Then, Gives, FileEnds}
 
 -- the most bytes of a data file
@@ -22,30 +19,17 @@ data_limit = 67108864
 abbrev pub empty_building : Building
 empty_building = record { limits = record { nodes = 1048576; edges = 4194304 }; graph = record { nodes = []; edges = []; members = [] } }
 
--- the number of a refusal and the byte at which it stands
-abbrev pub ddl_told : DdlRefusal → Option Told
-ddl_told (ddl.TooLong at) = Some (record { number = 24; at = at })
-ddl_told (ddl.BadByte at) = Some (record { number = 21; at = at })
-ddl_told (ddl.OpenString at) = Some (record { number = 22; at = at })
-ddl_told (ddl.IntOutOfRange at) = Some (record { number = 23; at = at })
-ddl_told (ddl.Expected at) = Some (record { number = 31; at = at })
-ddl_told (ddl.KindConflict at) = Some (record { number = 32; at = at })
-ddl_told (ddl.TooManyEdges at) = Some (record { number = 11; at = at })
-ddl_told (ddl.TooManyNodes at) = Some (record { number = 12; at = at })
-ddl_told ddl.NoMemory = None
-
--- the text is refused for this, and leaves some graph
-pub record IsRefusedFor (b : Building) (bytes : List ℕ) (told : Told) : Type 0 where
-  pub refusal : DdlRefusal
+-- the file is refused for this, and leaves some graph
+pub record IsRefusedFor (path : List ℕ) (b : Building) (bytes : List ℕ) (refusal : Refusal) : Type 0 where
   pub left : Building
-  pub reads : Reads data_limit bytes b left (Err refusal)
-  pub tells : ddl_told refusal ≡ Some told
+  pub takes : Takes path data_limit bytes b left (Err (source.Refused refusal.number refusal.place))
+  pub its : refusal.file ≡ path
 
--- How a data text ends, behind what the files before it state: with the graph that has what it states too, or refused.
+-- How the bytes of a data file end, behind what the files before it state: with the graph that has what they state too,
+-- or refused. They are read by the format that the end of the path tells.
 abbrev pub TextTaken : List ℕ → Building → List ℕ → Result Building Fault → Type 0
-TextTaken path b bytes (Ok c) = Reads data_limit bytes b c (Ok tt)
-TextTaken path b bytes (Err (Refused refusal)) =
-    (told : Told) × (refusal ≡ record { file = path; number = told.number; place = At told.at }) × IsRefusedFor b bytes told
+TextTaken path b bytes (Ok c) = Takes path data_limit bytes b c (Ok tt)
+TextTaken path b bytes (Err (Refused refusal)) = IsRefusedFor path b bytes refusal
 TextTaken path b bytes (Err NoMemory) = ⊤
 TextTaken path b bytes (Err fault) = ⊥
 

@@ -1,9 +1,10 @@
 -- What a whole run has done.
-use Rattle.std.specs.Prelude.{◌≡◌, ◌⊎◌, ℕ, List, [], Option, Result, ⊤}
+use Rattle.std.specs.Prelude.{◌≡◌, ◌⊎◌, ℕ, List, [], Option, Result, IfOk, ⊤}
 use Rattle.std.specs.Prelude as prelude
 use Rattle.edge_io.specs.Files.{FileMap}
 use Rattle.edge_io.specs.Sink.{Gains, GainsPart}
 use Rattle.edge_io.specs.Counts.{Rose}
+use Rattle.strudel.specs.Runs.{IsDecided}
 use Rattle.strudel.specs.Pages.{PageEnds}
 use Rattle.strudel.specs.Sources.{DataEnds}
 use Rattle.strudel.specs.declared.fault.Fault.{Fault}
@@ -21,7 +22,8 @@ status_of (fault.Faulty term kind) = PageFault term kind
 status_of fault.NotFound = NotFound
 status_of fault.NoMemory = NoMemory
 
--- the answer of a command: the text that it writes, or the fault that it ends with
+-- The answer of a command: the text that it writes, or the fault that it ends with. A later command joins as one case
+-- here, and with a lemma that its inputs decide one end (`Decides`), which is one case of `answer_decides`.
 abbrev pub Answers : FileMap → Command → Result (List ℕ) Fault → Type 0
 Answers map (Page command) = PageEnds map command
 Answers map (Data command) = DataEnds map command.sources
@@ -68,3 +70,14 @@ IsSilent Ok = ⊥
 IsSilent WriteFault = ⊥
 IsSilent NoMemory = ⊥
 IsSilent status = ⊤
+
+-- the status of an answer that is put whole
+abbrev pub answer_status : Result (List ℕ) Fault → Status
+answer_status (prelude.Ok text) = Ok
+answer_status (prelude.Err stop) = status_of stop
+
+-- Where no count rose, the run ends with the one answer that the inputs decide, its text put whole, or for want of memory.
+abbrev pub IsExact : FileMap → Command → Option (List ℕ) → Option (List ℕ) → (ReadsRose : List ℕ → Type 0) → (PutsRose : Type 0) → Status → Type 0
+IsExact map command old new ReadsRose PutsRose status =
+    (answer : Result (List ℕ) Fault) → Answers map command answer → IsDecided answer → ((path : List ℕ) → ¬ ReadsRose path) → ¬ PutsRose
+    → ((status ≡ answer_status answer) × IfOk answer (Gains old new)) ⊎ (status ≡ NoMemory)

@@ -6,10 +6,9 @@ ghost use Rattle.strudel.specs.Runs.{FileEnds, ReadsHaveCause};
 ghost use Rattle.strudel.specs.Sources.{TextTaken, SourceEnds, GraphEnds, empty_building, with_building};
 
 use crate::fault::{Fault, refused, unread};
-use crate::told::told_of_ddl;
+use data_source::{SourceRefusal, read_source};
 use edge_io::{Files, ReadEnd};
 use run_report::Place;
-use sd_ddl::read_ddl;
 use sd_graph::{Graph, GraphBuilder, PROGRAM_LIMITS};
 use sd_value::{NoMemory, Str};
 use std::alloc::Global;
@@ -41,16 +40,14 @@ pub fn read_file<F: Files>(
     }
 }
 
-// Takes what a data text states into the graph.
+// Takes what the bytes of a data file state into the graph, read by the format that the path tells.
 fn take_text(alloc: Global, path: &Str, bytes: &[u8], graph: &mut GraphBuilder) -> Result<(), Fault>
     ensures { TextTaken path.now graph.old bytes.now (with_building graph.new result) }
 {
-    match read_ddl(alloc, bytes, DATA_LIMIT, graph) {
+    match read_source(alloc, path, bytes, DATA_LIMIT, graph) {
         Ok(()) => Ok(()),
-        Err(refusal) => match told_of_ddl(&refusal) {
-            Some(told) => Err(refused(alloc, path, told.number, Place::At(told.at))),
-            None => Err(Fault::NoMemory),
-        },
+        Err(SourceRefusal::Refused { number, place }) => Err(refused(alloc, path, number, place)),
+        Err(SourceRefusal::NoMemory) => Err(Fault::NoMemory),
     }
 }
 

@@ -5,6 +5,8 @@ mod data;
 mod fault;
 mod inputs;
 mod page;
+#[cfg(test)]
+mod page_tests;
 mod site;
 #[cfg(test)]
 mod tests;

@@ -41,7 +41,7 @@ fn outcome_of(
 {
     let store = IndexStore::of(alloc, graph)?;
     let asker = StoreAsker::of(store);
-    let mut click = Click::of(asker, scopes, templates);
+    let mut click = Click::of(alloc, asker, scopes, templates);
     let outcome = click.page(alloc, term)?;
     Ok(outcome)
 }

@@ -20,17 +20,16 @@ const A: &str = "object a in C { n 1 }";
 
 const OPEN: &str = "object a {";
 
-const BIB: &str =
-    "object pub1 in Publications { title \"Strudel\" year 1998 author \"Mary\" author \"Dan\" }\nobject pub2 in Publications { title \"Lorel <1>\" year 1997 author \"Dan\" }\n";
+const QUERY: &str = "INPUT D CREATE R() OUTPUT S";
 
-const QUERY: &str =
-    "INPUT Bib { CREATE RootPage() } { WHERE Publications(x), x -> l -> v CREATE PaperPage(x) LINK PaperPage(x) -> l -> v, RootPage() -> \"Paper\" -> PaperPage(x) } OUTPUT Home";
-
-const TEMPLATES: &str =
-    "<TEMPLATE RootPage><h1>Home</h1><SFMT @Paper LINK=title DELIM=\", \"></TEMPLATE><TEMPLATE PaperPage><h1><SFMT @title></h1><SFMT @author DELIM=\" and \"></TEMPLATE>";
+const TEMPLATES: &str = "<TEMPLATE R>ok</TEMPLATE>";
 
 const CONFLICT: &str =
     "collection A { u url } collection B { u file } object o in A, B { u \"x\" }";
+
+const CSV: &str = "\u{FEFF}title,year,note\r\n\"Two\nlines\",1999,\r\n";
+
+const JSON: &str = "{\"P\": [{\"a\": [1, null, {\"b\": true}]}]}";
 
 fn expects(words: &'static [&'static str], code: u8, out: &'static str, err: &'static str) -> Row {
     Row {
@@ -57,9 +56,15 @@ fn files(alloc: Global, failing: &[u64]) -> Result<MemFiles, NoMemory> {
         ("a", A),
         ("open", OPEN),
         ("conflict", CONFLICT),
-        ("bib", BIB),
         ("q", QUERY),
         ("t", TEMPLATES),
+        ("d/bib.csv", CSV),
+        ("p.json", JSON),
+        ("c.csv", "a,,b\n"),
+        ("ragged.csv", "a,b\n1,2\n3\n"),
+        ("x.json", "{"),
+        ("one.json", "[1]"),
+        ("price.json", "[{\"price\": 3.5}]"),
     ] {
         files.push(MemFile {
             path: Str::new(alloc, path.as_bytes())?,
@@ -90,23 +95,29 @@ fn data_is_printed(rt: HostRuntime) -> Result<(), Fail> {
 }
 
 #[test]
-fn pages_are_printed(rt: HostRuntime) -> Result<(), Fail> {
-    let paper = "<h1>Lorel &lt;1&gt;</h1>Dan";
-    let words: &'static [&'static str] = &["page", "q", "t", "/PaperPage/npub2.html", "bib"];
-    check_row(&rt, &expects(words, 0, paper, ""))?;
-    let home =
-        "<h1>Home</h1><a href=\"/PaperPage/npub1.html\">Strudel</a>, <a href=\"/PaperPage/npub2.html\">Lorel &lt;1&gt;</a>";
-    check_row(&rt, &expects(&["page", "q", "t", "/", "bib"], 0, home, ""))?;
-    let missing = "strudel: not found\n";
-    check_row(
-        &rt,
-        &expects(
-            &["page", "q", "t", "/PaperPage/npub3.html", "bib"],
-            9,
-            "",
-            missing,
-        ),
-    )
+fn other_formats_are_read(rt: HostRuntime) -> Result<(), Fail> {
+    let bib = "object \"bib_1\" in \"bib\" {\n  \"title\" \"Two\\nlines\"\n  \"year\" 1999\n}\n";
+    check_row(&rt, &expects(&["data", "d/bib.csv"], 0, bib, ""))?;
+    let p =
+        "object \"p_P_1\" in \"P\" {\n  \"a\" 1\n  \"a\" &\"p_P_1_a_3\"\n}\nobject \"p_P_1_a_3\" {\n  \"b\" \"true\"\n}\n";
+    check_row(&rt, &expects(&["data", "p.json"], 0, p, ""))?;
+    let both =
+        "object \"a\" in \"C\" {\n  \"n\" 1\n}\nobject \"bib_1\" in \"bib\" {\n  \"title\" \"Two\\nlines\"\n  \"year\" 1999\n}\n";
+    check_row(&rt, &expects(&["data", "d/bib.csv", "a"], 0, both, ""))
+}
+
+#[test]
+fn other_formats_are_refused(rt: HostRuntime) -> Result<(), Fail> {
+    let label = "strudel: c.csv: 42 EmptyLabel at column 1\n";
+    check_row(&rt, &expects(&["data", "c.csv"], 3, "", label))?;
+    let ragged = "strudel: ragged.csv: 43 Ragged at row 2\n";
+    check_row(&rt, &expects(&["data", "a", "ragged.csv"], 3, "", ragged))?;
+    let x = "strudel: x.json: 44 NotJson at 0\n";
+    check_row(&rt, &expects(&["data", "x.json"], 3, "", x))?;
+    let one = "strudel: one.json: 46 NotRecords at #/0\n";
+    check_row(&rt, &expects(&["data", "one.json"], 3, "", one))?;
+    let price = "strudel: price.json: 45 NotInteger at #/0/price\n";
+    check_row(&rt, &expects(&["data", "price.json"], 3, "", price))
 }
 
 #[test]
@@ -145,6 +156,13 @@ fn inputs_are_refused(rt: HostRuntime) -> Result<(), Fail> {
 
 #[test]
 fn the_outside_fails(rt: HostRuntime) -> Result<(), Fail> {
+    let page: &'static [&'static str] = &["page", "q", "t", "/", "a"];
+    check_row(&rt, &expects(page, 0, "ok", ""))?;
+    let unread_query = Row {
+        failing_calls: &[2],
+        ..expects(page, 4, "", "strudel: cannot read q\n")
+    };
+    check_row(&rt, &unread_query)?;
     let unread = Row {
         failing_calls: &[2],
         ..expects(&["data", "a", "a"], 4, "", "strudel: cannot read a\n")

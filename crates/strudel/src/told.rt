@@ -1,10 +1,8 @@
 // The numbers of refusals.
 ghost use Rattle.std.specs.Prelude.{◌≡◌};
-ghost use Rattle.strudel.specs.Sources.{ddl_told};
 ghost use Rattle.strudel.specs.Sites.{parse_told, check_told, query_told, templates_told};
 
 use query_read::QueryRefusal;
-use sd_ddl::DdlRefusal;
 use struql_check::CheckRefusal;
 use struql_parse::ParseRefusal;
 use tmpl_read::TmplRefusal;
@@ -14,47 +12,6 @@ use tmpl_read::TmplRefusal;
 pub struct Told {
     pub number: u32,
     pub at: u64,
-}
-
-/// What a refused data text tells; none where memory ran out.
-pub fn told_of_ddl(refusal: &DdlRefusal) -> Option<Told>
-    ensures { result ≡ ddl_told refusal.now }
-{
-    match refusal {
-        DdlRefusal::TooLong(at) => Some(Told {
-            number: 24,
-            at: *at,
-        }),
-        DdlRefusal::BadByte(at) => Some(Told {
-            number: 21,
-            at: *at,
-        }),
-        DdlRefusal::OpenString(at) => Some(Told {
-            number: 22,
-            at: *at,
-        }),
-        DdlRefusal::IntOutOfRange(at) => Some(Told {
-            number: 23,
-            at: *at,
-        }),
-        DdlRefusal::Expected(at) => Some(Told {
-            number: 31,
-            at: *at,
-        }),
-        DdlRefusal::KindConflict(at) => Some(Told {
-            number: 32,
-            at: *at,
-        }),
-        DdlRefusal::TooManyEdges(at) => Some(Told {
-            number: 11,
-            at: *at,
-        }),
-        DdlRefusal::TooManyNodes(at) => Some(Told {
-            number: 12,
-            at: *at,
-        }),
-        DdlRefusal::NoMemory => None,
-    }
 }
 
 // What a text that is no query tells.

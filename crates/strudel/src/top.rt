@@ -6,7 +6,7 @@ ghost use Rattle.edge_io.specs.Sink.{Gains, GainsPart};
 ghost use Rattle.command_words.specs.Words.{command};
 ghost use Rattle.run_report.specs.Report.{line};
 ghost use Rattle.strudel.specs.Runs.{ReadsHaveCause};
-ghost use Rattle.strudel.specs.Top.{Answers, RunEnds, ReadRose, IsSilent};
+ghost use Rattle.strudel.specs.Top.{Answers, RunEnds, ReadRose, IsSilent, IsExact};
 
 use crate::data::data;
 use crate::fault::Fault;
@@ -72,6 +72,10 @@ pub fn strudel<F: Files, O: Sink, E: Sink>(
     ensures ends { ForSome (F.contents files.old) (λ map. RunEnds map (command words.now) (O.text out.old) (O.text out.new) result) }
     ensures silent { IsSilent result → out.new ≡ out.old }
     ensures files { F.contents files.new ≡ F.contents files.old }
+
+    // Where the outside has no fault, the inputs decide the end, but for want of memory.
+    ensures exact { ForSome (F.contents files.old) (λ map. ForSome (command words.now) (λ command. IsExact map command (O.text out.old) (O.text out.new)
+        (λ path. Rose (F.failed_reads files.old path) (F.failed_reads files.new path)) (Rose (O.failed out.old) (O.failed out.new)) result)) }
 
     // A fault of the outside comes only where its count rose.
     ensures read_cause { ReadRose (F.failed_reads files.old) (F.failed_reads files.new) result }

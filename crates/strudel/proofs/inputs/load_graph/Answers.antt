@@ -1,5 +1,6 @@
-use Rattle.std.proofs.Common.{◌∙◌, arith}
-use Rattle.strudel.proofs.Graphs.{graph_next}
+use Rattle.std.proofs.Common.{◌∙◌, arith, Err}
+use Rattle.std.proofs.lemmas.Result.{err_from_is_err_and}
+use Rattle.strudel.proofs.Graphs.{graph_next, graph_fault}
 use Rattle.strudel.proofs.Runs.{none_fell}
 use Rattle.strudel.proofs.inputs.load_graph.Goals as goal
 
@@ -11,3 +12,10 @@ loop-path-preserved g c = record {
       c.loop-path.invariant.rest map told result
       (graph_next map c.loop-path.graph c.take_source.new.graph c.args.sources.now c.loop-path.path-index c.path-item.result result c.loop-path-test.true c.path-item.is (c.in_ok-take_source.ensures.ends map (c.loop-path.invariant.same ∙ told)) ends);
 }
+
+pub returns-in_err-take_source-clause-ends : goal.returns-in_err-take_source-clause-ends
+returns-in_err-take_source-clause-ends g c = λ map told.
+    let p = err_from_is_err_and c.from_residual.result c.from_residual.ensures.1 in
+    rw (p.1, p.2)
+    (c.loop-path.invariant.rest map told (Err c.in_err-take_source.field-0.0)
+    (graph_fault map c.loop-path.graph c.args.sources.now c.loop-path.path-index c.path-item.result c.in_err-take_source.field-0.0 c.loop-path-test.true c.path-item.is (c.in_err-take_source.ensures.ends map (c.loop-path.invariant.same ∙ told))))

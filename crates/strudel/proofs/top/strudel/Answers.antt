@@ -1,5 +1,6 @@
 use Rattle.std.proofs.Common.{ap}
 use Rattle.strudel.proofs.Ends.{reported_run_ends, reported_silent}
+use Rattle.strudel.proofs.Exact.{exact_run, reported_exact}
 use Rattle.strudel.proofs.top.strudel.Goals as goal
 
 pub returns-clause-ends : goal.returns-clause-ends
@@ -8,3 +9,9 @@ returns-clause-ends g c = λ map told.
 
 pub returns-clause-silent : goal.returns-clause-silent
 returns-clause-silent g c = reported_silent _ _ c.run-status.ensures.silent c.report.ensures.status
+
+pub returns-clause-exact : goal.returns-clause-exact
+returns-clause-exact g c = λ map told command is_given.
+    reported_exact map command _ _ _ _ _ _
+    (exact_run map _ command _ _ _ _ _ _ is_given (c.run-status.ensures.ends map told) c.run-status.ensures.read_cause c.run-status.ensures.write_cause)
+    c.report.ensures.status
