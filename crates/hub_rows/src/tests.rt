@@ -3,8 +3,10 @@ ghost use Rattle.std.specs.Prelude.{◌<◌};
 use crate::no_pages::NoPages;
 use hub::{Hub, HubEnd, serve};
 use mem_wire::{FailingSend, MemWire};
+use page_cache::Cached;
 use sd_value::{NoMemory, Str};
 use std::alloc::Global;
+use std::num::NonZeroUsize;
 use std::test::Fail;
 use versions::Still;
 use wire::WireEvent;
@@ -122,5 +124,19 @@ fn a_failed_send_harms_no_other(rt: HostRuntime) -> Result<(), Fail> {
     assert!(rt; !wire.closed(1));
     assert_eq!(rt; wire.taken(2), MISSING);
     assert!(rt; wire.closed(2) && !wire.short());
+    Ok(())
+}
+
+#[test]
+fn a_hub_over_kept_pages(rt: HostRuntime) -> Result<(), Fail> {
+    let alloc = rt.alloc();
+    let Some(capacity) = NonZeroUsize::new(4) else {
+        return Ok(());
+    };
+    let mut wire = MemWire::new(alloc, in_turn(alloc)?, Vec::new(alloc), Vec::new(alloc))?;
+    let pages = Cached::of(alloc, Still { pages: NoPages }, capacity)?;
+    let mut hub = Hub::of(alloc, pages, 1, None);
+    assert_eq!(rt; serve(alloc, &mut hub, &mut wire, 1000), HubEnd::Done);
+    assert_eq!(rt; wire.taken(2), MISSING);
     Ok(())
 }

@@ -1,5 +1,5 @@
 -- What a look-up does to the terms whose pages are kept, the newest first.
-use Rattle.std.specs.Prelude.{◌≡◌, ℕ, ◌-◌, nat_le, Bool, true, false, List, [], ◌∷◌, length, take, if◌then◌else◌, Contains}
+use Rattle.std.specs.Prelude.{◌≡◌, ℕ, ◌+◌, ◌-◌, ◌^◌, min, nat_le, Bool, true, false, List, [], ◌∷◌, length, take, if◌then◌else◌, Contains}
 use Rattle.std.specs.List.{list_any}
 use Rattle.std.specs.Ordering.{is_eq}
 use Rattle.sd_value.specs.declared.Term.{Term}
@@ -38,3 +38,8 @@ Looks capacity kept term outcome Miss after = (is_kept term kept ≡ false) × (
 -- each kept text is the page of its term
 abbrev pub AreKept : (Term → Outcome → Type 0) → List (Term × List ℕ) → Type 0
 AreKept HasOutcome entries = (entry : Term × List ℕ) → Contains entries entry → HasOutcome entry.0 (Page entry.1)
+
+-- the count of hits after a look-up; at its last value it stays
+abbrev pub hits_after : Hit → ℕ → ℕ
+hits_after Found hits = min (hits + 1) (2 ^ 64 - 1)
+hits_after Miss hits = hits

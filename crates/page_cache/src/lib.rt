@@ -1,12 +1,15 @@
 //! Keeps the pages that were shown last.
 #![tactic(auto)]
 
-ghost use Rattle.std.specs.Prelude.{◌≡◌, ◌≤◌, ◌<◌, ℕ, List, [], length, IfOk, OnErr, OnOk};
+ghost use Rattle.std.specs.Prelude.{◌≡◌, ◌≤◌, ◌<◌, ◌↔◌, ℕ, List, [], length, IfOk, OnErr, OnOk, Ok, IsTrue, ◌⊎◌, true, false, Contains};
 ghost use Rattle.std.specs.Map.{keys_of, lookup};
 ghost use Rattle.lru.specs.LruCache.{lru_cache};
 ghost use Rattle.page_spec.specs.Page.{IsOutcome};
+ghost use Rattle.sd_value.specs.declared.Term.{Term};
+ghost use Rattle.page_spec.specs.declared.Outcome.{Outcome};
+ghost use Rattle.versions.specs.Changes.{TellsEach};
 ghost use Rattle.page_cache.specs.Entries.{entries_with};
-ghost use Rattle.page_cache.specs.Looks.{is_same, Looks, AreKept};
+ghost use Rattle.page_cache.specs.Looks.{is_same, Looks, AreKept, hits_after};
 
 use lru::LruCache;
 use page_spec::Outcome;
@@ -30,6 +33,8 @@ pub enum Hit {
 pub struct Cached<P> {
     pub pages: P,
     pub kept: LruCache<Term, Str>,
+    /// How often a page was kept that was looked up.
+    pub hits: u64,
 }
 
 impl<P: Versions + Drop> Cached<P> {
@@ -37,10 +42,15 @@ impl<P: Versions + Drop> Cached<P> {
     pub fn of(alloc: Global, pages: P, capacity: NonZeroUsize) -> Result<Cached<P>, NoMemory>
         ensures pages { IfOk result (λ cached. cached.pages ≡ pages) }
         ensures none { IfOk result (λ cached. cached.kept.entries ≡ []) }
+        ensures hits { IfOk result (λ cached. cached.hits ≡ 0) }
         ensures sound { IfOk result (λ cached. AreKept (IsOutcome (P.site (P.state cached.pages)) (P.templates (P.state cached.pages))) cached.kept.entries) }
     {
         let kept = LruCache::new(alloc, capacity)?;
-        Ok(Cached { pages, kept })
+        Ok(Cached {
+            pages,
+            kept,
+            hits: 0,
+        })
     }
 
     /// The outcome of a term. Where its page is kept, the pages are not asked.
@@ -51,19 +61,79 @@ impl<P: Versions + Drop> Cached<P> {
         ensures sound { AreKept (IsOutcome (P.site (P.state self.new.pages)) (P.templates (P.state self.new.pages))) self.new.kept.entries }
         ensures outcome { IfOk result (λ found. IsOutcome (P.site (P.state self.old.pages)) (P.templates (P.state self.old.pages)) term.now found.0) }
         ensures looks { IfOk result (λ found. Looks self.old.kept.cap (keys_of self.old.kept.entries) term.now found.0 found.1 (keys_of self.new.kept.entries)) }
-        ensures err { OnErr result (self.new.kept ≡ self.old.kept) }
+        ensures hits { IfOk result (λ found. self.new.hits ≡ hits_after found.1 self.old.hits) }
+        ensures err { OnErr result ((self.new.kept ≡ self.old.kept) × (self.new.hits ≡ self.old.hits)) }
         ensures capacity { self.new.kept.cap ≡ self.old.kept.cap }
         ensures hit { IfOk result (λ found. found.1 ≡ Hit.Found → self.new.pages ≡ self.old.pages) }
         ensures state { P.state self.new.pages ≡ P.state self.old.pages }
     {
         if let Some(text) = copy_kept(&self.kept, alloc, term)? {
             self.kept.promote(term);
+            self.hits = self.hits.saturating_add(1);
             return Ok((Outcome::Page(text), Hit::Found));
         }
         let outcome = self.pages.page(alloc, term)?;
         keep(&mut self.kept, alloc, term, &outcome)?;
         Ok((outcome, Hit::Miss))
     }
+
+    /// Takes a text, as the pages do. Where it is accepted, and after want of memory, no page is kept any longer.
+    pub fn renew(&mut self, alloc: Global, text: &Str, kept: &[Term]) -> Result<Changed, NoMemory>
+        requires own { P.Own self.old.pages }
+        requires sound { AreKept (IsOutcome (P.site (P.state self.old.pages)) (P.templates (P.state self.old.pages))) self.old.kept.entries }
+        ensures own { P.Own self.new.pages }
+        ensures sound { AreKept (IsOutcome (P.site (P.state self.new.pages)) (P.templates (P.state self.new.pages))) self.new.kept.entries }
+        ensures changed { IfOk result (λ c. P.state self.new.pages ≡ P.changed (P.state self.old.pages) text.now) }
+        ensures refused { IfOk result (λ c. (c ≡ Changed.Refused) ↔ (P.accepts (P.state self.old.pages) text.now ≡ false)) }
+        ensures nothing { result ≡ Ok Changed.Refused → (P.state self.new.pages ≡ P.state self.old.pages) × (self.new.kept ≡ self.old.kept) }
+        ensures emptied { (result ≡ Ok Changed.Refused) ⊎ (self.new.kept.entries ≡ []) }
+        ensures flags { IfOk result (TellsEach (P.stays (P.state self.old.pages) text.now) kept.now) }
+        ensures same { IfOk result (λ c. (t : Term) (o : Outcome) → Contains kept.now t → P.stays (P.state self.old.pages) text.now t ≡ true
+            → IsOutcome (P.site (P.state self.old.pages)) (P.templates (P.state self.old.pages)) t o
+            → IsOutcome (P.site (P.state self.new.pages)) (P.templates (P.state self.new.pages)) t o) }
+        ensures capacity { self.new.kept.cap ≡ self.old.kept.cap }
+        ensures hits { self.new.hits ≡ self.old.hits }
+    {
+        let changed = self.pages.change(alloc, text, kept);
+        if !is_refused(&changed) {
+            self.kept.clear();
+        }
+        changed
+    }
+}
+
+impl<P: Versions + Drop> Versions for Cached<P> {
+    ghost State = { P.State };
+
+    ghost state = { λ c. P.state c.pages };
+
+    ghost site = { P.site };
+
+    ghost templates = { P.templates };
+
+    ghost changed = { P.changed };
+
+    ghost accepts = { P.accepts };
+
+    ghost stays = { P.stays };
+
+    ghost Own = { λ c. P.Own c.pages × AreKept (IsOutcome (P.site (P.state c.pages)) (P.templates (P.state c.pages))) c.kept.entries };
+
+    fn page(&mut self, alloc: Global, term: &Term) -> Result<Outcome, NoMemory> {
+        let (outcome, _) = self.look(alloc, term)?;
+        Ok(outcome)
+    }
+
+    fn change(&mut self, alloc: Global, text: &Str, kept: &[Term]) -> Result<Changed, NoMemory> {
+        self.renew(alloc, text, kept)
+    }
+}
+
+/// Whether a text was not accepted.
+fn is_refused(changed: &Result<Changed, NoMemory>) -> bool
+    ensures { IsTrue result ↔ (changed.now ≡ Ok Changed.Refused) }
+{
+    matches!(changed, Ok(Changed::Refused))
 }
 
 /// A copy of the text that is kept for a term.
