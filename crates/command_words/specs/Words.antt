@@ -3,7 +3,7 @@ use Rattle.std.specs.Prelude.{ℕ, List, [], ◌∷◌, Bool, true, false, ◌&&
 use Rattle.std.specs.List.{list_all}
 use Rattle.std.specs.Str.{bytes_eq, is_utf8}
 use Rattle.command_words.specs.declared.Command.{Command}
-use Rattle.command_words.specs.declared.Command.TheVariants.{Page, Data}
+use Rattle.command_words.specs.declared.Command.TheVariants.{Page, Build, Data}
 
 -- a word of two bytes or more that begins with a dash
 abbrev pub is_option : List ℕ → Bool
@@ -32,6 +32,11 @@ abbrev pub page_command : List (List ℕ) → Option Command
 page_command (query ∷ templates ∷ address ∷ source ∷ sources) = Some (Page (record { query = query; templates = templates; address = address; sources = source ∷ sources }))
 page_command words = None
 
+-- the words after `build`
+abbrev pub build_command : List (List ℕ) → Option Command
+build_command (query ∷ templates ∷ folder ∷ source ∷ sources) = Some (Build (record { query = query; templates = templates; folder = folder; sources = source ∷ sources }))
+build_command words = None
+
 -- the words after `data`
 abbrev pub data_command : List (List ℕ) → Option Command
 data_command (source ∷ sources) = Some (Data (record { sources = source ∷ sources }))
@@ -42,6 +47,7 @@ abbrev pub named_command : List ℕ → Option (List (List ℕ)) → Option Comm
 named_command name None = None
 named_command name (Some words) =
     if bytes_eq name (codes "page") then page_command words
+    else if bytes_eq name (codes "build") then build_command words
     else if bytes_eq name (codes "data") then data_command words
     else None
 

@@ -54,6 +54,15 @@ pub struct PageCommand {
     pub sources: Paths,
 }
 
+/// `build QUERY TEMPLATES DIR DATA..`: the whole site is written to files under a folder.
+#[derive(Debug, Drop)]
+pub struct BuildCommand {
+    pub query: Str,
+    pub templates: Str,
+    pub folder: Str,
+    pub sources: Paths,
+}
+
 /// `data DATA..`: the union of the data is printed.
 #[derive(Debug, Drop)]
 pub struct DataCommand {
@@ -64,6 +73,7 @@ pub struct DataCommand {
 #[derive(Debug, Drop)]
 pub enum Command {
     Page(PageCommand),
+    Build(BuildCommand),
     Data(DataCommand),
 }
 
@@ -111,6 +121,23 @@ fn page_command(alloc: Global, words: &[Str]) -> Result<Option<Command>, NoMemor
     })))
 }
 
+fn build_command(alloc: Global, words: &[Str]) -> Result<Option<Command>, NoMemory>
+    ensures { IfOk result (λ given. given ≡ specs.build_command words.now) }
+{
+    let [query, templates, folder, sources @ ..] = words else {
+        return Ok(None);
+    };
+    if sources.is_empty() {
+        return Ok(None);
+    }
+    Ok(Some(Command::Build(BuildCommand {
+        query: query.copy(alloc)?,
+        templates: templates.copy(alloc)?,
+        folder: folder.copy(alloc)?,
+        sources: Paths::of(alloc, sources)?,
+    })))
+}
+
 fn data_command(alloc: Global, words: &[Str]) -> Result<Option<Command>, NoMemory>
     ensures { IfOk result (λ given. given ≡ specs.data_command words.now) }
 {
@@ -127,6 +154,7 @@ fn named_command(alloc: Global, name: &[u8], words: &Paths) -> Result<Option<Com
 {
     match name {
         b"page" => page_command(alloc, words.items()),
+        b"build" => build_command(alloc, words.items()),
         b"data" => data_command(alloc, words.items()),
         _ => Ok(None),
     }

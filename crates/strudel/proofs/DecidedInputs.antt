@@ -22,7 +22,7 @@ use Rattle.tmpl_answer.proofs.Templates as templates_law
 use Rattle.sd_ddl.specs.Written.{graph_text}
 use Rattle.site_spec.specs.Root.{root_function}
 use Rattle.command_words.specs.declared.Command.{Command}
-use Rattle.command_words.specs.declared.Command.TheVariants.{Page, Data}
+use Rattle.command_words.specs.declared.Command.TheVariants.{Page, Build, Data}
 use Rattle.run_report.specs.declared.status.Place.{Place}
 use Rattle.run_report.specs.declared.status.Place.TheVariants.{At}
 use Rattle.strudel.specs.declared.fault.Fault.{Fault}
@@ -226,3 +226,4 @@ answer_decides map (Page command) =
 answer_decides map (Data command) =
     then_decides (GraphEnds map empty_building command.sources) (λ graph. Gives (graph_text graph))
     (graph_decides map empty_building command.sources) (λ graph. gives_decides (graph_text graph))
+answer_decides map (Build command) = record { once = λ one other a b d e. absurd a }

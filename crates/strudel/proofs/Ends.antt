@@ -1,32 +1,71 @@
 -- How a run ends, from how its parts end.
-use Rattle.std.proofs.Common.{◌≡◌, ◌⊎◌, ℕ, List, inl, inr, refl}
-use Rattle.std.specs.Prelude.{Option, None, Some, Result}
+use Rattle.std.proofs.Common.{◌≡◌, ◌⊎◌, ℕ, List, inl, inr, refl, sym, subst, ⊎_elim, ◌∙◌}
+use Rattle.std.specs.Prelude.{Option, None, Some, Result, IfErr}
 use Rattle.std.specs.Prelude as prelude
+use Rattle.std.specs.Option.{IsSomeAnd}
 use Rattle.edge_io.specs.Files.{FileMap}
+use Rattle.edge_io.specs.Counts.{Rose}
 use Rattle.strudel.specs.declared.fault.Fault.{Fault}
 use Rattle.strudel.specs.declared.fault.Fault.TheVariants as fault
 use Rattle.run_report.specs.declared.status.Status.{Status}
-use Rattle.run_report.specs.declared.status.Status.TheVariants.{Ok, Usage, WriteFault, NoMemory}
+use Rattle.run_report.specs.declared.status.Status.TheVariants.{Ok, NotAllYes, Usage, Refused, ReadFault, WriteFault, WireFault, PageFault, NoMemory, NotFound, TurnsSpent}
 use Rattle.command_words.specs.declared.Command.{Command}
+use Rattle.command_words.specs.declared.Command.TheVariants.{Page, Build, Data}
+use Rattle.command_words.specs.declared.BuildCommand.{BuildCommand}
+use Rattle.command_words.specs.declared.PageCommand.{PageCommand}
+use Rattle.command_words.specs.declared.DataCommand.{DataCommand}
 use Rattle.run_report.specs.Report.{IsFixed}
-use Rattle.strudel.specs.Top.{Answers, Ends, RunEnds, IsSilent, status_of}
+use Rattle.site_files.specs.declared.stop.Stop.TheVariants as stop
+use Rattle.strudel.specs.Runs.{ReadsHaveCause, UnreadRose}
+use Rattle.strudel.specs.Sources.{DataEnds}
+use Rattle.strudel.specs.Pages.{PageEnds}
+use Rattle.strudel.specs.Builds.{Builds, BuildEnds, FolderRose}
+use Rattle.strudel.specs.Top.{TextEnds, Ends, RunEnds, ReadRose, WriteRose, WritesNoFile, IsSilent, status_of}
+use Rattle.strudel.proofs.Built.{faulty_is_no_memory}
 
--- want of memory before anything was put
-pub no_memory_ends : (map : FileMap) (given : Option Command) (text : Option (List ℕ)) → RunEnds map given text text NoMemory
+-- a text command whose answers are told in another way
+pub text_as : (P Q : Result (List ℕ) Fault → Type 0) (old new : Option (List ℕ)) (status : Status) → ((a : Result (List ℕ) Fault) → P a → Q a) → TextEnds P old new status → TextEnds Q old new status
+text_as P Q old new Ok to h = record { text = h.text; answer = to (prelude.Ok h.text) h.answer; gained = h.gained }
+text_as P Q old new WriteFault to h = record { text = h.text; answer = to (prelude.Ok h.text) h.answer; gained = h.gained }
+text_as P Q old new NoMemory to h = h
+text_as P Q old new Usage to h = h
+text_as P Q old new NotAllYes to h = h
+text_as P Q old new WireFault to h = h
+text_as P Q old new TurnsSpent to h = h
+text_as P Q old new (Refused file number place) to h = to _ h
+text_as P Q old new (ReadFault path) to h = to _ h
+text_as P Q old new (PageFault term kind) to h = to _ h
+text_as P Q old new NotFound to h = to _ h
+
+-- a fault is told by its status, and nothing is put
+pub fault_told : (stop : Fault) (answer : Result (List ℕ) Fault) (text : Option (List ℕ)) (status : Status) → answer ≡ prelude.Err stop → status ≡ status_of stop → TextEnds (λ a. a ≡ answer) text text status
+fault_told stop answer text status is e = subst (TextEnds (λ a. a ≡ answer) text text) (sym e) (by stop is)
+  where
+    by : (stop : Fault) → answer ≡ prelude.Err stop → TextEnds (λ a. a ≡ answer) text text (status_of stop)
+    by (fault.Refused refusal) is = sym is
+    by (fault.Unread path) is = sym is
+    by (fault.Faulty term kind) is = sym is
+    by fault.NotFound is = sym is
+    by fault.NoMemory is = refl
+
+pub no_usage : (stop : Fault) (status : Status) → status ≡ status_of stop → status ≡ Usage → ⊥
+no_usage (fault.Refused refusal) status e u = let both = sym e ∙ u in cc
+no_usage (fault.Unread path) status e u = let both = sym e ∙ u in cc
+no_usage (fault.Faulty term kind) status e u = let both = sym e ∙ u in cc
+no_usage fault.NotFound status e u = let both = sym e ∙ u in cc
+no_usage fault.NoMemory status e u = let both = sym e ∙ u in cc
+
+-- a text command's fault of reading comes from its answer
+pub text_read_rose : (answer : Result (List ℕ) Fault) (old new : Option (List ℕ)) (before now : List ℕ → ℕ) (status : Status) → TextEnds (λ a. a ≡ answer) old new status → ReadsHaveCause before now answer → ReadRose before now status
+text_read_rose answer old new before now (ReadFault path) h cause = let failed : IfErr {T = List ℕ} (prelude.Err (fault.Unread path)) (UnreadRose before now) = subst (λ (a : Result (List ℕ) Fault). IfErr a (UnreadRose before now)) (sym h) cause.failed in failed
+text_read_rose answer old new before now status h cause = tt
+
+-- want of memory before anything was done
+pub no_memory_ends : (map : FileMap) (given : Option Command) (text : Option (List ℕ)) → RunEnds map map given text text NoMemory
 no_memory_ends map None text = inr refl
-no_memory_ends map (Some command) text = refl
-
-fault_ends : (map : FileMap) (command : Command) (text : Option (List ℕ)) (stop : Fault) → Answers map command (prelude.Err stop) → Ends map command text text (status_of stop)
-fault_ends map command text (fault.Refused refusal) answer = answer
-fault_ends map command text (fault.Unread path) answer = answer
-fault_ends map command text (fault.Faulty term kind) answer = answer
-fault_ends map command text fault.NotFound answer = answer
-fault_ends map command text fault.NoMemory answer = refl
-
--- a command without an answer
-pub faulty_run_ends : (map : FileMap) (given : Option Command) (command : Command) (text : Option (List ℕ)) (stop : Fault) (status : Status)
-    → given ≡ Some command → status ≡ status_of stop → Answers map command (prelude.Err stop) → RunEnds map given text text status
-faulty_run_ends map given command text stop status is_given is_status answer = rw (is_given, is_status) (fault_ends map command text stop answer)
+no_memory_ends map (Some (Page command)) text = refl
+no_memory_ends map (Some (Data command)) text = refl
+no_memory_ends map (Some (Build command)) text = (inl refl, refl)
 
 ok_no_memory : (reported : Status) → reported ≡ Ok → reported ≡ NoMemory → ⊥
 ok_no_memory reported ok memory = cc
@@ -35,22 +74,101 @@ write_no_memory : (reported : Status) → reported ≡ WriteFault → reported �
 write_no_memory reported write memory = cc
 
 -- want of memory for the line of a status: it has a part of its own, so nothing was put
-memory_run_ends : (map : FileMap) (given : Option Command) (old new : Option (List ℕ)) (status reported : Status)
-    → RunEnds map given old new status → (IsSilent status → new ≡ old) → (IsFixed status → reported ≡ status) → reported ≡ NoMemory → RunEnds map given old new NoMemory
-memory_run_ends map None old new status reported ends silent fixed memory = inr refl
-memory_run_ends map (Some command) old new Ok reported ends silent fixed memory = absurd (ok_no_memory reported (fixed tt) memory)
-memory_run_ends map (Some command) old new WriteFault reported ends silent fixed memory = absurd (write_no_memory reported (fixed tt) memory)
-memory_run_ends map (Some command) old new NoMemory reported ends silent fixed memory = ends
-memory_run_ends map (Some command) old new Usage reported ends silent fixed memory = absurd ends
-memory_run_ends map (Some command) old new status reported ends silent fixed memory = silent tt
+memory_text_ends : (P : Result (List ℕ) Fault → Type 0) (old new : Option (List ℕ)) (status reported : Status)
+    → TextEnds P old new status → (IsSilent status → new ≡ old) → (IsFixed status → reported ≡ status) → reported ≡ NoMemory → new ≡ old
+memory_text_ends P old new Ok reported ends silent fixed memory = absurd (ok_no_memory reported (fixed tt) memory)
+memory_text_ends P old new WriteFault reported ends silent fixed memory = absurd (write_no_memory reported (fixed tt) memory)
+memory_text_ends P old new NoMemory reported ends silent fixed memory = ends
+memory_text_ends P old new Usage reported ends silent fixed memory = absurd ends
+memory_text_ends P old new status reported ends silent fixed memory = silent tt
+
+memory_build_ends : (map now : FileMap) (command : BuildCommand) (old new : Option (List ℕ)) (status reported : Status)
+    → BuildEnds map now command old new status → (IsSilent status → new ≡ old) → (IsFixed status → reported ≡ status) → reported ≡ NoMemory → BuildEnds map now command old new NoMemory
+memory_build_ends map now command old new Ok reported ends silent fixed memory = absurd (ok_no_memory reported (fixed tt) memory)
+memory_build_ends map now command old new WriteFault reported ends silent fixed memory = absurd (write_no_memory reported (fixed tt) memory)
+memory_build_ends map now command old new NoMemory reported ends silent fixed memory = ends
+memory_build_ends map now command old new (PageFault term kind) reported ends silent fixed memory = (inr (faulty_is_no_memory map now command term kind ends), silent tt)
+memory_build_ends map now command old new (Refused file number place) reported ends silent fixed memory = (inl ends.1, silent tt)
+memory_build_ends map now command old new (ReadFault path) reported ends silent fixed memory = (inl ends.1, silent tt)
+memory_build_ends map now command old new Usage reported ends silent fixed memory = absurd ends
+memory_build_ends map now command old new NotAllYes reported ends silent fixed memory = absurd ends
+memory_build_ends map now command old new WireFault reported ends silent fixed memory = absurd ends
+memory_build_ends map now command old new TurnsSpent reported ends silent fixed memory = absurd ends
+memory_build_ends map now command old new NotFound reported ends silent fixed memory = absurd ends
+
+memory_run_ends : (map now : FileMap) (given : Option Command) (old new : Option (List ℕ)) (status reported : Status)
+    → RunEnds map now given old new status → (IsSilent status → new ≡ old) → (IsFixed status → reported ≡ status) → reported ≡ NoMemory → RunEnds map now given old new NoMemory
+memory_run_ends map now None old new status reported ends silent fixed memory = inr refl
+memory_run_ends map now (Some (Page command)) old new status reported ends silent fixed memory = memory_text_ends (PageEnds map command) old new status reported ends silent fixed memory
+memory_run_ends map now (Some (Data command)) old new status reported ends silent fixed memory = memory_text_ends (DataEnds map command.sources) old new status reported ends silent fixed memory
+memory_run_ends map now (Some (Build command)) old new status reported ends silent fixed memory = memory_build_ends map now command old new status reported ends silent fixed memory
 
 -- the status after its line: itself, or want of memory where nothing was put
-pub reported_run_ends : (map : FileMap) (given : Option Command) (old new : Option (List ℕ)) (status reported : Status)
-    → RunEnds map given old new status → (IsSilent status → new ≡ old) → (IsFixed status → reported ≡ status)
-    → (reported ≡ status) ⊎ (reported ≡ NoMemory) → RunEnds map given old new reported
-reported_run_ends map given old new status reported ends silent fixed (inl same) = rw same ends
-reported_run_ends map given old new status reported ends silent fixed (inr memory) = rw memory (memory_run_ends map given old new status reported ends silent fixed memory)
+pub reported_run_ends : (map now : FileMap) (given : Option Command) (old new : Option (List ℕ)) (status reported : Status)
+    → RunEnds map now given old new status → (IsSilent status → new ≡ old) → (IsFixed status → reported ≡ status)
+    → (reported ≡ status) ⊎ (reported ≡ NoMemory) → RunEnds map now given old new reported
+reported_run_ends map now given old new status reported ends silent fixed (inl same) = rw same ends
+reported_run_ends map now given old new status reported ends silent fixed (inr memory) = rw memory (memory_run_ends map now given old new status reported ends silent fixed memory)
 
 pub reported_silent : {P : Type 0} (status reported : Status) → (IsSilent status → P) → (reported ≡ status) ⊎ (reported ≡ NoMemory) → IsSilent reported → P
 reported_silent status reported silent (inl same) quiet = silent (rw same at quiet)
 reported_silent status reported silent (inr memory) quiet = absurd (rw memory at quiet)
+
+pub reported_told : (n : Option FileMap) (map : FileMap) (given : Option Command) (old new : Option (List ℕ)) (status reported : Status)
+    → IsSomeAnd n (λ now. RunEnds map now given old new status) → (IsSilent status → new ≡ old) → (IsFixed status → reported ≡ status)
+    → (reported ≡ status) ⊎ (reported ≡ NoMemory) → IsSomeAnd n (λ now. RunEnds map now given old new reported)
+reported_told None map given old new status reported ends silent fixed is = ends
+reported_told (Some now) map given old new status reported ends silent fixed is = reported_run_ends map now given old new status reported ends silent fixed is
+
+-- ---- where files stay
+
+kept : (o n : Option FileMap) (map : FileMap) (given : Option Command) (old new : Option (List ℕ)) (status : Status) → n ≡ o → o ≡ Some map → RunEnds map map given old new status → IsSomeAnd n (λ now. RunEnds map now given old new status)
+kept o n map given old new status same told h =
+    let at : n ≡ Some map = same ∙ told in
+    subst (λ (x : Option FileMap). IsSomeAnd x (λ now. RunEnds map now given old new status)) (sym at) h
+
+pub no_memory_told : (o : Option FileMap) (map : FileMap) (given : Option Command) (text : Option (List ℕ)) → o ≡ Some map → IsSomeAnd o (λ now. RunEnds map now given text text NoMemory)
+no_memory_told o map given text told = kept o o map given text text NoMemory refl told (no_memory_ends map given text)
+
+pub no_command_told : (o : Option FileMap) (map : FileMap) (given : Option Command) (text : Option (List ℕ)) → given ≡ None → o ≡ Some map → IsSomeAnd o (λ now. RunEnds map now given text text Usage)
+no_command_told o map given text is told = kept o o map given text text Usage refl told (subst (λ (g : Option Command). RunEnds map map g text text Usage) (sym is) (inl refl))
+
+pub command_told : (n : Option FileMap) (map : FileMap) (given : Option Command) (command : Command) (old new : Option (List ℕ)) (status : Status) → given ≡ Some command → IsSomeAnd n (λ now. Ends map now command old new status) → IsSomeAnd n (λ now. RunEnds map now given old new status)
+command_told None map given command old new status is h = h
+command_told (Some now) map given command old new status is h = subst (λ (g : Option Command). RunEnds map now g old new status) (sym is) h
+
+-- a command that answers with a text
+pub page_told : (o n : Option FileMap) (map : FileMap) (command : Command) (c : PageCommand) (answer : Result (List ℕ) Fault) (old new : Option (List ℕ)) (status : Status) → n ≡ o → o ≡ Some map → command ≡ Page c → PageEnds map c answer → TextEnds (λ a. a ≡ answer) old new status
+    → IsSomeAnd n (λ now. Ends map now command old new status)
+page_told o n map command c answer old new status same told is ends put =
+    let at : n ≡ Some map = same ∙ told in
+    subst (λ (x : Option FileMap). IsSomeAnd x (λ now. Ends map now command old new status)) (sym at)
+    (subst (λ (d : Command). Ends map map d old new status) (sym is) (text_as (λ a. a ≡ answer) (PageEnds map c) old new status (λ a e. subst (PageEnds map c) (sym e) ends) put))
+
+pub data_told : (o n : Option FileMap) (map : FileMap) (command : Command) (c : DataCommand) (answer : Result (List ℕ) Fault) (old new : Option (List ℕ)) (status : Status) → n ≡ o → o ≡ Some map → command ≡ Data c → DataEnds map c.sources answer → TextEnds (λ a. a ≡ answer) old new status
+    → IsSomeAnd n (λ now. Ends map now command old new status)
+data_told o n map command c answer old new status same told is ends put =
+    let at : n ≡ Some map = same ∙ told in
+    subst (λ (x : Option FileMap). IsSomeAnd x (λ now. Ends map now command old new status)) (sym at)
+    (subst (λ (d : Command). Ends map map d old new status) (sym is) (text_as (λ a. a ≡ answer) (DataEnds map c.sources) old new status (λ a e. subst (DataEnds map c.sources) (sym e) ends) put))
+
+pub build_told : (n : Option FileMap) (map : FileMap) (command : Command) (c : BuildCommand) (old new : Option (List ℕ)) (status : Status) → command ≡ Build c → IsSomeAnd n (λ now. BuildEnds map now c old new status) → IsSomeAnd n (λ now. Ends map now command old new status)
+build_told None map command c old new status is h = h
+build_told (Some now) map command c old new status is h = subst (λ (d : Command). Ends map now d old new status) (sym is) h
+
+pub build_writes : (command : Command) (c : BuildCommand) → command ≡ Build c → WritesNoFile (Some command) → ⊥
+build_writes command c is h = subst (λ (d : Command). WritesNoFile (Some d)) is h
+
+-- ---- a fault of writing
+
+pub page_write_rose : (command : Command) (c : PageCommand) (before now : List ℕ → ℕ) (P : Type 0) → command ≡ Page c → P → WriteRose (Some command) before now P
+page_write_rose command c before now P is p = subst (λ (d : Command). WriteRose (Some d) before now P) (sym is) p
+
+pub data_write_rose : (command : Command) (c : DataCommand) (before now : List ℕ → ℕ) (P : Type 0) → command ≡ Data c → P → WriteRose (Some command) before now P
+data_write_rose command c before now P is p = subst (λ (d : Command). WriteRose (Some d) before now P) (sym is) p
+
+pub build_write_rose : (command : Command) (c : BuildCommand) (before now : List ℕ → ℕ) (P : Type 0) → command ≡ Build c → P ⊎ FolderRose c.folder before now → WriteRose (Some command) before now P
+build_write_rose command c before now P is p = subst (λ (d : Command). WriteRose (Some d) before now P) (sym is) p
+
+pub given_write_rose : (given : Option Command) (command : Command) (before now : List ℕ → ℕ) (P : Type 0) → given ≡ Some command → WriteRose (Some command) before now P → WriteRose given before now P
+given_write_rose given command before now P is p = subst (λ (g : Option Command). WriteRose g before now P) (sym is) p

@@ -1,4 +1,6 @@
 pub mod Runs
+pub mod PageFaults
+pub mod Built
 pub mod Ends
 pub mod Graphs
 pub mod Sites

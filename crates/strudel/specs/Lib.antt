@@ -3,4 +3,5 @@ pub mod Sources
 pub mod Sites
 pub mod Values
 pub mod Pages
+pub mod Builds
 pub mod Top

@@ -6,13 +6,14 @@ use Rattle.edge_io.specs.Sink.{Gains, GainsPart}
 use Rattle.edge_io.specs.Counts.{Rose}
 use Rattle.strudel.specs.Runs.{IsDecided}
 use Rattle.strudel.specs.Pages.{PageEnds}
+use Rattle.strudel.specs.Builds.{BuildEnds, FolderRose}
 use Rattle.strudel.specs.Sources.{DataEnds}
 use Rattle.strudel.specs.declared.fault.Fault.{Fault}
 use Rattle.strudel.specs.declared.fault.Fault.TheVariants as fault
 use Rattle.run_report.specs.declared.status.Status.{Status}
 use Rattle.run_report.specs.declared.status.Status.TheVariants.{Ok, NotAllYes, Usage, Refused, ReadFault, WriteFault, WireFault, PageFault, NoMemory, NotFound, TurnsSpent}
 use Rattle.command_words.specs.declared.Command.{Command}
-use Rattle.command_words.specs.declared.Command.TheVariants.{Page, Data}
+use Rattle.command_words.specs.declared.Command.TheVariants.{Page, Build, Data}
 
 -- the status of a command that ends with this fault
 abbrev pub status_of : Fault → Status
@@ -23,41 +24,60 @@ status_of fault.NotFound = NotFound
 status_of fault.NoMemory = NoMemory
 
 -- The answer of a command: the text that it writes, or the fault that it ends with. A later command joins as one case
--- here, and with a lemma that its inputs decide one end (`Decides`), which is one case of `answer_decides`.
+-- here, and with a lemma that its inputs decide one end (`Decides`), which is one case of `answer_decides`. A build is
+-- answered by files, so it has none here: `BuildEnds` says how it ends.
 abbrev pub Answers : FileMap → Command → Result (List ℕ) Fault → Type 0
 Answers map (Page command) = PageEnds map command
 Answers map (Data command) = DataEnds map command.sources
+Answers map (Build command) = λ answer. ⊥
 
--- the command's text was put
-pub record Puts (map : FileMap) (command : Command) (old new : Option (List ℕ)) : Type 0 where
+-- a text that is an answer was put
+pub record Puts (Answer : Result (List ℕ) Fault → Type 0) (old new : Option (List ℕ)) : Type 0 where
   pub text : List ℕ
-  pub answer : Answers map command (prelude.Ok text)
+  pub answer : Answer (prelude.Ok text)
   pub gained : Gains old new text
 
--- a prefix of the command's text was put
-pub record PutsPart (map : FileMap) (command : Command) (old new : Option (List ℕ)) : Type 0 where
+-- a prefix of a text that is an answer was put
+pub record PutsPart (Answer : Result (List ℕ) Fault → Type 0) (old new : Option (List ℕ)) : Type 0 where
   pub text : List ℕ
-  pub answer : Answers map command (prelude.Ok text)
+  pub answer : Answer (prelude.Ok text)
   pub gained : GainsPart old new text
 
--- What the run of a command has put, and why it has this status.
-abbrev pub Ends : FileMap → Command → Option (List ℕ) → Option (List ℕ) → Status → Type 0
-Ends map command old new Ok = Puts map command old new
-Ends map command old new WriteFault = PutsPart map command old new
-Ends map command old new NoMemory = new ≡ old
-Ends map command old new Usage = ⊥
-Ends map command old new NotAllYes = ⊥
-Ends map command old new WireFault = ⊥
-Ends map command old new TurnsSpent = ⊥
-Ends map command old new (Refused file number place) = Answers map command (prelude.Err (fault.Refused (record { file = file; number = number; place = place })))
-Ends map command old new (ReadFault path) = Answers map command (prelude.Err (fault.Unread path))
-Ends map command old new (PageFault term kind) = Answers map command (prelude.Err (fault.Faulty term kind))
-Ends map command old new NotFound = Answers map command (prelude.Err fault.NotFound)
+-- What the run of a command whose answer is a text has put, and why it has this status: the text was put, or the fault
+-- that it is answered ended it.
+abbrev pub TextEnds : (Result (List ℕ) Fault → Type 0) → Option (List ℕ) → Option (List ℕ) → Status → Type 0
+TextEnds Answer old new Ok = Puts Answer old new
+TextEnds Answer old new WriteFault = PutsPart Answer old new
+TextEnds Answer old new NoMemory = new ≡ old
+TextEnds Answer old new Usage = ⊥
+TextEnds Answer old new NotAllYes = ⊥
+TextEnds Answer old new WireFault = ⊥
+TextEnds Answer old new TurnsSpent = ⊥
+TextEnds Answer old new (Refused file number place) = Answer (prelude.Err (fault.Refused (record { file = file; number = number; place = place })))
+TextEnds Answer old new (ReadFault path) = Answer (prelude.Err (fault.Unread path))
+TextEnds Answer old new (PageFault term kind) = Answer (prelude.Err (fault.Faulty term kind))
+TextEnds Answer old new NotFound = Answer (prelude.Err fault.NotFound)
+
+-- What the run of a command has put, from the files `map` to the files `now`, and why it has this status.
+abbrev pub Ends : FileMap → FileMap → Command → Option (List ℕ) → Option (List ℕ) → Status → Type 0
+Ends map now (Page command) old new status = TextEnds (PageEnds map command) old new status
+Ends map now (Data command) old new status = TextEnds (DataEnds map command.sources) old new status
+Ends map now (Build command) old new status = BuildEnds map now command old new status
 
 -- how a run ends: no command, or a command's end
-abbrev pub RunEnds : FileMap → Option Command → Option (List ℕ) → Option (List ℕ) → Status → Type 0
-RunEnds map prelude.None old new status = (status ≡ Usage) ⊎ (status ≡ NoMemory)
-RunEnds map (prelude.Some command) old new status = Ends map command old new status
+abbrev pub RunEnds : FileMap → FileMap → Option Command → Option (List ℕ) → Option (List ℕ) → Status → Type 0
+RunEnds map now prelude.None old new status = (status ≡ Usage) ⊎ (status ≡ NoMemory)
+RunEnds map now (prelude.Some command) old new status = Ends map now command old new status
+
+-- a command that writes no file, or none
+abbrev pub WritesNoFile : Option Command → Type 0
+WritesNoFile (prelude.Some (Build command)) = ⊥
+WritesNoFile command = ⊤
+
+-- a fault of writing comes only where the count of the output rose, or that of a path under the folder of a build
+abbrev pub WriteRose : Option Command → (List ℕ → ℕ) → (List ℕ → ℕ) → Type 0 → Type 0
+WriteRose (prelude.Some (Build command)) before now PutsRose = PutsRose ⊎ FolderRose command.folder before now
+WriteRose command before now PutsRose = PutsRose
 
 -- a fault of reading comes only where the count of that path rose
 abbrev pub ReadRose : (List ℕ → ℕ) → (List ℕ → ℕ) → Status → Type 0

@@ -27,6 +27,7 @@ pub fn read_file<F: Files>(
     ensures ends { ForSome (F.contents files.old) (λ map. FileEnds limit map path.now result) }
     ensures same { F.contents files.new ≡ F.contents files.old }
     ensures cause { ReadsHaveCause (F.failed_reads files.old) (F.failed_reads files.new) result }
+    ensures writes { F.failed_writes files.new ≡ F.failed_writes files.old }
 {
     match files.read(alloc, path, limit + 1) {
         Ok(bytes) => {
@@ -61,6 +62,7 @@ fn take_source<F: Files>(
     ensures ends { ForSome (F.contents files.old) (λ map. SourceEnds map path.now graph.old (with_building graph.new result)) }
     ensures same { F.contents files.new ≡ F.contents files.old }
     ensures cause { ReadsHaveCause (F.failed_reads files.old) (F.failed_reads files.new) result }
+    ensures writes { F.failed_writes files.new ≡ F.failed_writes files.old }
 {
     let bytes = read_file(alloc, files, path, DATA_LIMIT)?;
     take_text(alloc, path, bytes.bytes(), graph)
@@ -71,6 +73,7 @@ pub fn load_graph<F: Files>(alloc: Global, files: &mut F, sources: &[Str]) -> Re
     ensures ends { ForSome (F.contents files.old) (λ map. GraphEnds map empty_building sources.now result) }
     ensures same { F.contents files.new ≡ F.contents files.old }
     ensures cause { ReadsHaveCause (F.failed_reads files.old) (F.failed_reads files.new) result }
+    ensures writes { F.failed_writes files.new ≡ F.failed_writes files.old }
 {
     let mut graph = GraphBuilder::new(alloc, PROGRAM_LIMITS);
     for path in sources {

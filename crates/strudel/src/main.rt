@@ -1,6 +1,7 @@
 //! Web pages from data, a query and templates.
 #![tactic(auto)]
 
+mod build;
 mod data;
 mod fault;
 mod inputs;

@@ -46,6 +46,7 @@ fn load_query<F: Files>(alloc: Global, files: &mut F, path: &Str) -> Result<Chec
     ensures ends { ForSome (F.contents files.old) (λ map. QueryEnds map path.now result) }
     ensures same { F.contents files.new ≡ F.contents files.old }
     ensures cause { ReadsHaveCause (F.failed_reads files.old) (F.failed_reads files.new) result }
+    ensures writes { F.failed_writes files.new ≡ F.failed_writes files.old }
 {
     let bytes = read_file(alloc, files, path, TEXT_LIMIT)?;
     take_query(alloc, path, bytes.bytes())
@@ -68,6 +69,7 @@ fn load_templates<F: Files>(alloc: Global, files: &mut F, path: &Str) -> Result<
     ensures ends { ForSome (F.contents files.old) (λ map. TemplatesEnd map path.now (file_result result)) }
     ensures same { F.contents files.new ≡ F.contents files.old }
     ensures cause { ReadsHaveCause (F.failed_reads files.old) (F.failed_reads files.new) result }
+    ensures writes { F.failed_writes files.new ≡ F.failed_writes files.old }
 {
     let bytes = read_file(alloc, files, path, TEXT_LIMIT)?;
     take_templates(alloc, path, bytes.bytes())
@@ -84,6 +86,7 @@ pub fn load_inputs<F: Files>(
     ensures ends { ForSome (F.contents files.old) (λ map. InputsEnd map sources.now query.now templates.now (inputs_result result)) }
     ensures same { F.contents files.new ≡ F.contents files.old }
     ensures cause { ReadsHaveCause (F.failed_reads files.old) (F.failed_reads files.new) result }
+    ensures writes { F.failed_writes files.new ≡ F.failed_writes files.old }
 {
     let graph = load_graph(alloc, files, sources)?;
     let query = load_query(alloc, files, query)?;

@@ -174,3 +174,111 @@ fn the_outside_fails(rt: HostRuntime) -> Result<(), Fail> {
     };
     check_row(&rt, &unwritten)
 }
+
+const DATED: &str =
+    "INPUT Bib { CREATE RootPage() } { WHERE Publications(x), x -> l -> v CREATE PaperPage(x) LINK PaperPage(x) -> l -> v, RootPage() -> \"Paper\" -> PaperPage(x) { WHERE l = \"year\" CREATE YearPage(v) LINK YearPage(v) -> \"Year\" -> v, YearPage(v) -> \"Paper\" -> PaperPage(x), RootPage() -> \"Year\" -> YearPage(v) } } OUTPUT Home";
+
+const DATED_TEMPLATES: &str =
+    "<TEMPLATE RootPage>Home</TEMPLATE><TEMPLATE PaperPage><h1><SFMT @title></h1></TEMPLATE><TEMPLATE YearPage><SFMT @Year></TEMPLATE>";
+
+const DOTS: &str =
+    "object o { v 1 v \"....................................................................................................\" }";
+
+const ONE_PAGE_EACH: &str = "INPUT D WHERE y -> \"v\" -> x CREATE F(x) OUTPUT S";
+
+fn site_files(alloc: Global, failing: &[u64]) -> Result<MemFiles, NoMemory> {
+    let mut files = Vec::new(alloc);
+    for (path, bytes) in [
+        ("bib", BIB),
+        ("q", DATED),
+        ("t", DATED_TEMPLATES),
+        ("dots", DOTS),
+        ("f", ONE_PAGE_EACH),
+        ("ok", "<TEMPLATE F>ok</TEMPLATE>"),
+    ] {
+        files.push(MemFile {
+            path: Str::new(alloc, path.as_bytes())?,
+            bytes: Str::new(alloc, bytes.as_bytes())?,
+        })?;
+    }
+    Ok(MemFiles::new(alloc, files, failing.to_vec(alloc)?))
+}
+
+// Builds a site, and compares the status, the output, and what stands at some paths.
+fn check_build<R: AllocGlobal + Abort>(
+    rt: &R,
+    row: &Row,
+    written: &[(&str, Option<&str>)],
+) -> Result<(), Fail> {
+    let alloc = rt.alloc();
+    let words = texts(alloc, row.words)?;
+    let mut files = site_files(alloc, row.failing_calls)?;
+    let mut out = MemSink::new(alloc, Vec::new(alloc));
+    let mut err = MemSink::new(alloc, Vec::new(alloc));
+    let status = strudel(alloc, &words, &mut files, &mut out, &mut err);
+    assert_eq!(rt; status.code(), row.code, "{:?}", row.words);
+    assert_eq!(rt; out.bytes(), row.out.as_bytes());
+    assert!(rt; err.bytes().ends_with(row.err.as_bytes()));
+    for (path, bytes) in written {
+        let path = Str::new(alloc, path.as_bytes())?;
+        assert!(rt; files.bytes(&path) == bytes.map(|bytes| bytes.as_bytes()));
+    }
+    Ok(())
+}
+
+#[test]
+fn sites_are_built(rt: HostRuntime) -> Result<(), Fail> {
+    let words: &'static [&'static str] = &["build", "q", "t", "out", "bib"];
+    let paper = Some("<h1>Strudel</h1>");
+    check_build(
+        &rt,
+        &expects(words, 0, "pages 5\n", ""),
+        &[
+            ("out/PaperPage/npub1.html", paper),
+            ("out/PaperPage/npub2.html", Some("<h1>Lorel &lt;1&gt;</h1>")),
+            ("out/RootPage.html", Some("Home")),
+            ("out/YearPage/i1997.html", Some("1997")),
+            ("out/YearPage/i1998.html", Some("1998")),
+            ("out/index.html", Some("Home")),
+        ],
+    )?;
+    let second = Row {
+        failing_calls: &[5],
+        ..expects(words, 5, "", "strudel: cannot write\n")
+    };
+    check_build(
+        &rt,
+        &second,
+        &[
+            ("out/PaperPage/npub1.html", paper),
+            ("out/RootPage.html", None),
+            ("out/index.html", None),
+        ],
+    )?;
+    let sixth = Row {
+        failing_calls: &[9],
+        ..expects(words, 5, "", "strudel: cannot write\n")
+    };
+    check_build(
+        &rt,
+        &sixth,
+        &[
+            ("out/YearPage/i1998.html", Some("1998")),
+            ("out/index.html", None),
+        ],
+    )
+}
+
+#[test]
+fn a_name_is_too_long(rt: HostRuntime) -> Result<(), Fail> {
+    check_build(
+        &rt,
+        &expects(
+            &["build", "f", "ok", "out", "dots"],
+            7,
+            "",
+            ".html: name too long\n",
+        ),
+        &[("out/F/i1.html", Some("ok")), ("out/index.html", None)],
+    )
+}

@@ -1,13 +1,14 @@
 // The whole run.
-ghost use Rattle.std.specs.Prelude.{◌≡◌, ◌⊎◌, None};
-ghost use Rattle.std.specs.Option.{ForSome};
+ghost use Rattle.std.specs.Prelude.{◌≡◌, ◌⊎◌, None, Some};
+ghost use Rattle.std.specs.Option.{ForSome, IsSomeAnd};
 ghost use Rattle.edge_io.specs.Counts.{Rose};
 ghost use Rattle.edge_io.specs.Sink.{Gains, GainsPart};
 ghost use Rattle.command_words.specs.Words.{command};
 ghost use Rattle.run_report.specs.Report.{line};
 ghost use Rattle.strudel.specs.Runs.{ReadsHaveCause};
-ghost use Rattle.strudel.specs.Top.{Answers, RunEnds, ReadRose, IsSilent, IsExact};
+ghost use Rattle.strudel.specs.Top.{Ends, TextEnds, RunEnds, ReadRose, WriteRose, WritesNoFile, IsSilent, IsExact};
 
+use crate::build::build;
 use crate::data::data;
 use crate::fault::Fault;
 use crate::page::page;
@@ -17,15 +18,46 @@ use run_report::{Status, report};
 use sd_value::{NoMemory, Str};
 use std::alloc::Global;
 
-// The text that a command writes.
-fn answer<F: Files>(alloc: Global, files: &mut F, command: &Command) -> Result<Str, Fault>
-    ensures ends { ForSome (F.contents files.old) (λ map. Answers map command.now result) }
-    ensures same { F.contents files.new ≡ F.contents files.old }
-    ensures cause { ReadsHaveCause (F.failed_reads files.old) (F.failed_reads files.new) result }
+// Puts the text that a command is answered, or tells why there is none.
+fn put_answer<O: Sink>(answer: Result<Str, Fault>, out: &mut O) -> Status
+    ensures ends { TextEnds (λ a. a ≡ answer) (O.text out.old) (O.text out.new) result }
+    ensures words { result ≡ Status.Usage → ⊥ }
+    ensures silent { IsSilent result → out.new ≡ out.old }
+    ensures write_cause { result ≡ Status.WriteFault → Rose (O.failed out.old) (O.failed out.new) }
+{
+    match answer {
+        Ok(text) => match out.put(text.bytes()) {
+            Ok(()) => Status::Ok,
+            Err(_) => Status::WriteFault,
+        },
+        Err(fault) => Status::from(fault),
+    }
+}
+
+// Runs a command.
+fn run_command<F: Files, O: Sink>(
+    alloc: Global,
+    files: &mut F,
+    out: &mut O,
+    command: &Command,
+) -> Status
+    ensures words { result ≡ Status.Usage → ⊥ }
+    ensures ends { ForSome (F.contents files.old) (λ map. IsSomeAnd (F.contents files.new) (λ now. Ends map now command.now (O.text out.old) (O.text out.new) result)) }
+    ensures silent { IsSilent result → out.new ≡ out.old }
+    ensures files { WritesNoFile (Some command.now) → F.contents files.new ≡ F.contents files.old }
+    ensures read_cause { ReadRose (F.failed_reads files.old) (F.failed_reads files.new) result }
+    ensures write_cause { result ≡ Status.WriteFault → WriteRose (Some command.now) (F.failed_writes files.old) (F.failed_writes files.new) (Rose (O.failed out.old) (O.failed out.new)) }
 {
     match command {
-        Command::Page(command) => page(alloc, files, command),
-        Command::Data(command) => data(alloc, files, command),
+        Command::Page(command) => {
+            let answer = page(alloc, files, command);
+            put_answer(answer, out)
+        }
+        Command::Build(command) => build(alloc, files, out, command),
+        Command::Data(command) => {
+            let answer = data(alloc, files, command);
+            put_answer(answer, out)
+        }
     }
 }
 
@@ -34,24 +66,18 @@ fn run<F: Files, O: Sink>(alloc: Global, words: &[Str], files: &mut F, out: &mut
     ensures usage { result ≡ Status.Usage → command words.now ≡ None }
     ensures no_command { command words.now ≡ None → (result ≡ Status.Usage) ⊎ (result ≡ Status.NoMemory) }
     ensures no_words { command words.now ≡ None → out.new ≡ out.old }
-    ensures ends { ForSome (F.contents files.old) (λ map. RunEnds map (command words.now) (O.text out.old) (O.text out.new) result) }
+    ensures ends { ForSome (F.contents files.old) (λ map. IsSomeAnd (F.contents files.new) (λ now. RunEnds map now (command words.now) (O.text out.old) (O.text out.new) result)) }
     ensures silent { IsSilent result → out.new ≡ out.old }
-    ensures files { F.contents files.new ≡ F.contents files.old }
+    ensures files { WritesNoFile (command words.now) → F.contents files.new ≡ F.contents files.old }
     ensures read_cause { ReadRose (F.failed_reads files.old) (F.failed_reads files.new) result }
-    ensures write_cause { result ≡ Status.WriteFault → Rose (O.failed out.old) (O.failed out.new) }
+    ensures write_cause { result ≡ Status.WriteFault → WriteRose (command words.now) (F.failed_writes files.old) (F.failed_writes files.new) (Rose (O.failed out.old) (O.failed out.new)) }
 {
     let command = match read_command(alloc, words) {
         Ok(Some(command)) => command,
         Ok(None) => return Status::Usage,
         Err(NoMemory) => return Status::NoMemory,
     };
-    match answer(alloc, files, &command) {
-        Ok(text) => match out.put(text.bytes()) {
-            Ok(()) => Status::Ok,
-            Err(_) => Status::WriteFault,
-        },
-        Err(fault) => Status::from(fault),
-    }
+    run_command(alloc, files, out, &command)
 }
 
 /// Does all that the program does. `words` are those after the program's name. The answer is put on `out`, and a line
@@ -69,9 +95,9 @@ pub fn strudel<F: Files, O: Sink, E: Sink>(
     ensures no_words { command words.now ≡ None → out.new ≡ out.old }
 
     // Why the run has this status, and what it has put.
-    ensures ends { ForSome (F.contents files.old) (λ map. RunEnds map (command words.now) (O.text out.old) (O.text out.new) result) }
+    ensures ends { ForSome (F.contents files.old) (λ map. IsSomeAnd (F.contents files.new) (λ now. RunEnds map now (command words.now) (O.text out.old) (O.text out.new) result)) }
     ensures silent { IsSilent result → out.new ≡ out.old }
-    ensures files { F.contents files.new ≡ F.contents files.old }
+    ensures files { WritesNoFile (command words.now) → F.contents files.new ≡ F.contents files.old }
 
     // Where the outside has no fault, the inputs decide the end, but for want of memory.
     ensures exact { ForSome (F.contents files.old) (λ map. ForSome (command words.now) (λ command. IsExact map command (O.text out.old) (O.text out.new)
@@ -79,7 +105,7 @@ pub fn strudel<F: Files, O: Sink, E: Sink>(
 
     // A fault of the outside comes only where its count rose.
     ensures read_cause { ReadRose (F.failed_reads files.old) (F.failed_reads files.new) result }
-    ensures write_cause { result ≡ Status.WriteFault → Rose (O.failed out.old) (O.failed out.new) }
+    ensures write_cause { result ≡ Status.WriteFault → WriteRose (command words.now) (F.failed_writes files.old) (F.failed_writes files.new) (Rose (O.failed out.old) (O.failed out.new)) }
 
     // The line on `err`.
     ensures line { ¬ Rose (E.failed err.old) (E.failed err.new) → Gains (E.text err.old) (E.text err.new) (line result) }

@@ -7,6 +7,7 @@ use Rattle.strudel.proofs.inputs.load_graph.Goals as goal
 pub loop-path-preserved : goal.loop-path-preserved
 loop-path-preserved g c = record {
   same = c.in_ok-take_source.ensures.same ∙ c.loop-path.invariant.same;
+  writes = c.in_ok-take_source.ensures.writes ∙ c.loop-path.invariant.writes;
   later = none_fell c.loop-path.invariant.later c.in_ok-take_source.ensures.cause.later;
   rest = λ map told result ends.
       c.loop-path.invariant.rest map told result

@@ -11,6 +11,7 @@ use Rattle.strudel.proofs.inputs.load_graph.Given as goal
 abbrev pub invariant-loop-path : goal.invariant-loop-path
 invariant-loop-path g l = record {
   same : g.F.Files.contents l.files ≡ g.F.Files.contents l.initial.files;
+  writes : g.F.Files.failed_writes l.files ≡ g.F.Files.failed_writes l.initial.files;
   later : NoneFell (g.F.Files.failed_reads l.initial.files) (g.F.Files.failed_reads l.files);
   rest : (map : FileMap) → g.F.Files.contents l.initial.files ≡ Some map → (result : Result DataGraph Fault)
       → GraphEnds map l.graph (drop l.path-index l.sources) result → GraphEnds map empty_building l.sources result;
