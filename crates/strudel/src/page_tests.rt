@@ -17,7 +17,7 @@ struct PageRow {
     err: &'static str,
 }
 
-const BIB: &str =
+pub const BIB: &str =
     "object pub1 in Publications { title \"Strudel\" year 1998 author \"Mary\" author \"Dan\" }\nobject pub2 in Publications { title \"Lorel <1>\" year 1997 author \"Dan\" }\n";
 
 const SITE: &str =

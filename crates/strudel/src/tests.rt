@@ -1,4 +1,5 @@
 // One row for each status, over the forms in memory.
+use crate::page_tests::BIB;
 use crate::top::strudel;
 use edge_io::{MemFile, MemFiles, MemSink};
 use sd_value::{NoMemory, Str};
