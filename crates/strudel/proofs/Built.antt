@@ -1,5 +1,5 @@
 -- How a build ends.
-use Rattle.std.proofs.Common.{◌≡◌, ◌∙◌, ℕ, List, inl, inr, ⊎_elim, refl, sym, ap, subst, append_assoc}
+use Rattle.std.proofs.Common.{◌≡◌, ◌⊎◌, ◌++◌, ◌∙◌, ℕ, List, inl, inr, ⊎_elim, refl, sym, ap, subst, append_assoc}
 use Rattle.std.specs.Prelude.{Option, None, Some, Result, Ok, Err, codes, ⊤}
 use Rattle.sd_value.specs.declared.Term.{Term}
 use Rattle.edge_io.specs.Files.{FileMap}
@@ -11,12 +11,12 @@ use Rattle.page_spec.specs.Site.{Site}
 use Rattle.run_report.specs.declared.status.PageKind.{PageKind}
 use Rattle.site_files.specs.declared.stop.Stop.{Stop}
 use Rattle.site_files.specs.declared.stop.Stop.TheVariants as stop
-use Rattle.site_files.specs.Paths.{file_name}
-use Rattle.site_files.specs.Files.{SiteEnds}
+use Rattle.site_files.specs.Paths.{page_path, index_path, file_name}
+use Rattle.site_files.specs.Files.{SiteEnds, StopsIn, PagesThenRoot, RootEnds}
 use Rattle.site_files.specs.Causes.{IsSitePath}
 use Rattle.command_words.specs.declared.BuildCommand.{BuildCommand}
 use Rattle.std.specs.Option.{IsSomeAnd}
-use Rattle.std.specs.Prelude.{IfOk, length}
+use Rattle.std.specs.Prelude.{IfOk, IsErrOf, length}
 use Rattle.sd_value.specs.Order.{term_cmp}
 use Rattle.sd_value.specs.Ascending.{ListsExactly}
 use Rattle.page_spec.specs.Page.{IsPresent}
@@ -24,13 +24,16 @@ use Rattle.site_spec.specs.Site.{scope_of}
 use Rattle.site_spec.specs.Root.{root_function}
 use Rattle.run_report.specs.declared.status.Status.{Status}
 use Rattle.run_report.specs.declared.status.Status.TheVariants as status
+use Rattle.edge_io.specs.Counts.{Rose, NoneFell}
 use Rattle.edge_io.specs.Sink.{Gains, GainsPart}
+use Rattle.site_files.specs.Causes.{WritesHaveCause}
 use Rattle.strudel.specs.declared.fault.Fault.{Fault}
 use Rattle.strudel.specs.declared.fault.Fault.TheVariants as fault
 use Rattle.strudel.specs.Sites.{Inputs, InputsEnd}
+use Rattle.strudel.specs.Pages.{site_at}
 use Rattle.strudel.specs.Top.{ReadRose, status_of}
 use Rattle.strudel.proofs.PageFaults.{inputs_none}
-use Rattle.strudel.specs.Builds.{BuiltEnds, Builds, BuildEnds, IsUnder, build_text, written_end, stop_status}
+use Rattle.strudel.specs.Builds.{IsBuilt, BuiltEnds, Builds, BuildEnds, IsUnder, FolderRose, build_text, written_end, stop_status}
 
 -- a page's fault leaves what want of memory at that page leaves
 site_no_memory : (s : Site) (f : TemplateFile) (folder : List ℕ) (terms : List Term) (root : Option (List ℕ)) (old new : FileMap) (term : Term) (kind : PageKind)

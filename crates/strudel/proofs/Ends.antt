@@ -1,9 +1,10 @@
 -- How a run ends, from how its parts end.
-use Rattle.std.proofs.Common.{◌≡◌, ◌⊎◌, ℕ, List, inl, inr, refl, sym, subst, ◌∙◌}
+use Rattle.std.proofs.Common.{◌≡◌, ◌⊎◌, ℕ, List, inl, inr, refl, sym, subst, ⊎_elim, ◌∙◌}
 use Rattle.std.specs.Prelude.{Option, None, Some, Result, IfErr}
 use Rattle.std.specs.Prelude as prelude
 use Rattle.std.specs.Option.{IsSomeAnd}
 use Rattle.edge_io.specs.Files.{FileMap}
+use Rattle.edge_io.specs.Counts.{Rose}
 use Rattle.strudel.specs.declared.fault.Fault.{Fault}
 use Rattle.strudel.specs.declared.fault.Fault.TheVariants as fault
 use Rattle.run_report.specs.declared.status.Status.{Status}
@@ -14,10 +15,11 @@ use Rattle.command_words.specs.declared.BuildCommand.{BuildCommand}
 use Rattle.command_words.specs.declared.PageCommand.{PageCommand}
 use Rattle.command_words.specs.declared.DataCommand.{DataCommand}
 use Rattle.run_report.specs.Report.{IsFixed}
+use Rattle.site_files.specs.declared.stop.Stop.TheVariants as stop
 use Rattle.strudel.specs.Runs.{ReadsHaveCause, UnreadRose}
 use Rattle.strudel.specs.Sources.{DataEnds}
 use Rattle.strudel.specs.Pages.{PageEnds}
-use Rattle.strudel.specs.Builds.{BuildEnds, FolderRose}
+use Rattle.strudel.specs.Builds.{Builds, BuildEnds, FolderRose}
 use Rattle.strudel.specs.Top.{TextEnds, Ends, RunEnds, ReadRose, WriteRose, WritesNoFile, IsSilent, status_of}
 use Rattle.strudel.proofs.Built.{faulty_is_no_memory}
 

@@ -5,7 +5,7 @@ use Rattle.std.specs.Prelude.{Result, Ok, Err}
 use Rattle.edge_io.specs.Files.{FileMap}
 use Rattle.graph_spec.specs.DataGraph.{DataGraph}
 use Rattle.sd_graph.specs.Statement.{Building}
-use Rattle.strudel.specs.Runs.{Then}
+use Rattle.strudel.specs.Runs.{Both, Then}
 use Rattle.strudel.specs.Sources.{SourceEnds, GraphEnds}
 use Rattle.strudel.specs.declared.fault.Fault.{Fault}
 

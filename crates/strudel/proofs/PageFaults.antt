@@ -1,13 +1,14 @@
 -- Reading the inputs of a site ends with no fault of a page.
-use Rattle.std.proofs.Common.{ℕ, List, [], ◌∷◌, inl, inr}
-use Rattle.std.specs.Prelude.{Result, Err, ⊤}
+use Rattle.std.proofs.Common.{◌≡◌, ◌⊎◌, ℕ, List, [], ◌∷◌, inl, inr, refl, sym, subst}
+use Rattle.std.specs.Prelude.{Result, Ok, Err, Option, Some, None, ⊤}
 use Rattle.edge_io.specs.Files.{FileMap}
+use Rattle.graph_spec.specs.DataGraph.{DataGraph}
 use Rattle.sd_graph.specs.Statement.{Building}
 use Rattle.strudel.specs.declared.fault.Fault.{Fault}
 use Rattle.strudel.specs.declared.fault.Fault.TheVariants.{Refused, Unread, Faulty, NotFound, NoMemory}
-use Rattle.strudel.specs.Runs.{Then, Gives, FileEnds}
+use Rattle.strudel.specs.Runs.{Then, Both, Gives, FileEnds}
 use Rattle.strudel.specs.Sources.{TextTaken, SourceEnds, GraphEnds, empty_building, data_limit}
-use Rattle.strudel.specs.Sites.{InputsEnd, QueryTaken, QueryEnds, TemplatesTaken, TemplatesEnd, text_limit}
+use Rattle.strudel.specs.Sites.{Inputs, InputsEnd, QueryTaken, QueryEnds, TemplatesTaken, TemplatesEnd, text_limit}
 
 -- a fault of a page, and not of an input
 abbrev pub IsOfPage : Fault → Type 0

@@ -1,14 +1,14 @@
 -- One part of a run after another, and the start of a file.
 use Rattle.std.proofs.Common.{◌≡◌, ◌⊎◌, ℕ, ◌+◌, ◌≤◌, ◌<◌, List, length, take, inl, inr, refl, arith, ap, ◌∙◌}
 use Rattle.std.proofs.lemmas.List.{length-take, take_all}
-use Rattle.std.specs.Prelude.{Err, Option, Some, None}
+use Rattle.std.specs.Prelude.{Result, Ok, Err, Option, Some, None}
 use Rattle.std.specs.Option.{IsSomeAnd}
 use Rattle.edge_io.specs.Files.{FileMap, IsStartOf}
 use Rattle.edge_io.specs.Counts.{NoneFell}
 use Rattle.run_report.specs.declared.status.Place.TheVariants.{At}
 use Rattle.strudel.specs.Runs.{FileEnds}
 use Rattle.strudel.specs.declared.fault.Fault.{Fault}
-use Rattle.strudel.specs.declared.fault.Fault.TheVariants.{Refused, NoMemory}
+use Rattle.strudel.specs.declared.fault.Fault.TheVariants.{Refused, Unread, NoMemory}
 
 whole_fits : (whole bytes : List ℕ) (limit n : ℕ) → n ≡ limit + 1 → bytes ≡ take n whole → length bytes ≤ limit → length whole ≤ limit
 whole_fits whole bytes limit n is_n start fits = omega (arith, ap length start, length-take n whole)

@@ -1,5 +1,5 @@
 -- The three inputs of a site, and the page at an address.
-use Rattle.std.proofs.Common.{◌≡◌, ℕ, List, Bor, inl, inr, refl, sym, subst}
+use Rattle.std.proofs.Common.{◌≡◌, ℕ, List, Bor, inl, inr, refl, sym, subst, ap, ◌∙◌}
 use Rattle.std.specs.Prelude.{Result, Ok, Err, Option, Some, None, option_copied}
 use Rattle.sd_value.specs.declared.Term.{Term}
 use Rattle.edge_io.specs.Files.{FileMap}

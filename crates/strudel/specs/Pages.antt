@@ -1,5 +1,5 @@
 -- The command `page`: the text of the page at an address.
-use Rattle.std.specs.Prelude.{◌≡◌, ◌⊎◌, ℕ, List, Result, Ok, Err}
+use Rattle.std.specs.Prelude.{◌≡◌, ◌⊎◌, ℕ, List, Result, Ok, Err, Option}
 use Rattle.sd_value.specs.declared.Term.{Term}
 use Rattle.edge_io.specs.Files.{FileMap}
 use Rattle.site_spec.specs.Site.{scope_of}

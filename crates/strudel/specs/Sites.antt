@@ -1,5 +1,5 @@
 -- The three inputs of a site: the data, the query and the templates, taken in this order.
-use Rattle.std.specs.Prelude.{◌≡◌, ℕ, List, Result, Ok, Err, Option, Some, None, ⊤}
+use Rattle.std.specs.Prelude.{◌≡◌, ◌⊎◌, ◌<◌, ◌≤◌, ℕ, List, [], ◌∷◌, length, Result, Ok, Err, Option, Some, None, ⊤}
 use Rattle.edge_io.specs.Files.{FileMap}
 use Rattle.graph_spec.specs.DataGraph.{DataGraph}
 use Rattle.query_spec.specs.Query as plain
@@ -16,7 +16,7 @@ use Rattle.tmpl_read.specs.declared.refusal.TmplRefusal.TheVariants as templates
 use Rattle.tmpl_read.specs.Faults.{IsAnswer}
 use Rattle.run_report.specs.declared.status.Place.TheVariants.{At}
 use Rattle.strudel.specs.declared.fault.Fault.{Fault}
-use Rattle.strudel.specs.declared.fault.Fault.TheVariants.{Refused, NoMemory}
+use Rattle.strudel.specs.declared.fault.Fault.TheVariants.{Refused, Unread, NoMemory}
 use Rattle.strudel.specs.declared.told.Told.{Told}
 use Rattle.strudel.specs.Runs.{Then, Gives, FileEnds}
 use Rattle.strudel.specs.Sources.{GraphEnds, empty_building}

@@ -1,5 +1,5 @@
 -- The data files, taken one after another, and the union of what they state.
-use Rattle.std.specs.Prelude.{◌≡◌, ℕ, List, [], ◌∷◌, Result, Ok, Err, ⊤}
+use Rattle.std.specs.Prelude.{◌≡◌, ◌⊎◌, ◌<◌, ◌≤◌, ℕ, List, [], ◌∷◌, length, Result, Ok, Err, Option, Some, None, ⊤}
 use Rattle.edge_io.specs.Files.{FileMap}
 use Rattle.graph_spec.specs.DataGraph.{DataGraph}
 use Rattle.sd_graph.specs.Statement.{Building}
@@ -7,7 +7,7 @@ use Rattle.data_source.specs.Takes.{Takes}
 use Rattle.data_source.specs.declared.refusal.SourceRefusal.TheVariants as source
 use Rattle.sd_ddl.specs.Written.{graph_text}
 use Rattle.strudel.specs.declared.fault.Fault.{Fault}
-use Rattle.strudel.specs.declared.fault.Fault.TheVariants.{Refused, NoMemory}
+use Rattle.strudel.specs.declared.fault.Fault.TheVariants.{Refused, Unread, NoMemory}
 use Rattle.strudel.specs.declared.fault.Refusal.{Refusal}
 use Rattle.strudel.specs.Runs.{Then, Gives, FileEnds}
 

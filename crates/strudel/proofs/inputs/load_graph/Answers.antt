@@ -1,4 +1,4 @@
-use Rattle.std.proofs.Common.{◌∙◌, Err}
+use Rattle.std.proofs.Common.{◌∙◌, arith, Err}
 use Rattle.std.proofs.lemmas.Result.{err_from_is_err_and}
 use Rattle.strudel.proofs.Graphs.{graph_next, graph_fault}
 use Rattle.strudel.proofs.Runs.{none_fell}

@@ -1,4 +1,4 @@
-use Rattle.std.proofs.Common.{◌≡◌, drop}
+use Rattle.std.proofs.Common.{◌≡◌, ℕ, List, drop}
 use Rattle.std.specs.Prelude.{Result, Some}
 use Rattle.graph_spec.specs.DataGraph.{DataGraph}
 use Rattle.edge_io.specs.Files.{FileMap}
