@@ -1,5 +1,5 @@
 -- Inserting an element into an ascending list: membership, length, and taking it out again.
-use Rattle.std.specs.Prelude.{◌≡◌, ◌⊎◌, ◌||◌, true, false, cond, List, [], ◌∷◌, length, ◌+◌, Contains}
+use Rattle.std.specs.Prelude.{◌≡◌, ◌⊎◌, ◌||◌, true, false, cond, List, [], ◌∷◌, length, ◌+◌, ◌≤◌, Contains}
 use Rattle.std.specs.declared.cmp.Ordering.{Ordering}
 use Rattle.std.specs.declared.cmp.Ordering.TheVariants.{Less, Equal, Greater}
 use Rattle.std.specs.Ordering.{is_eq, match_ordering, ordering_reverse}
@@ -28,6 +28,16 @@ module _ {X : Type 0} (R : X → X → Ordering) where
       by rest Less none = omega arith
       by rest Equal none = cc
       by rest Greater none = let more = rest none in omega arith
+
+  -- one element more at most
+  pub length-inserted_most : (k : X) (xs : List X) → length (insert_key R xs k) ≤ length xs + 1
+  length-inserted_most k [] = omega arith
+  length-inserted_most k (x ∷ xs) = by (length-inserted_most k xs) (R k x)
+    where
+      by : length (insert_key R xs k) ≤ length xs + 1 → (r : Ordering) → length (match_ordering r (k ∷ x ∷ xs) (x ∷ xs) (x ∷ insert_key R xs k)) ≤ length (x ∷ xs) + 1
+      by rest Less = omega arith
+      by rest Equal = omega arith
+      by rest Greater = omega arith
 
   -- what was inserted as new is taken out again
   pub removed-inserted : (k : X) → R k k ≡ Equal → (xs : List X) → list_any (is_at (R k)) xs ≡ false → remove_key (is_at (R k)) (insert_key R xs k) ≡ xs

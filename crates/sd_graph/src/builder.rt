@@ -7,7 +7,7 @@ ghost use Rattle.sd_value.specs.Order.{bytes_cmp};
 ghost use Rattle.graph_spec.specs.DataGraph.{Name};
 ghost use Rattle.sd_graph.specs.declared.GraphRefusal.{GraphRefusal as Refusal};
 ghost use Rattle.sd_graph.specs.declared.GraphRefusal.TheVariants.{NoMemory as OutOfMemory};
-ghost use Rattle.sd_graph.specs.Statement.{Statement, Building, a_node, a_member, an_edge, Adds, Fits, IsData, IsStatedIn, with_name, with_edge, with_end, IsEmpty, IsBuilt};
+ghost use Rattle.sd_graph.specs.Statement.{Statement, Building, a_node, a_member, an_edge, Adds, Fits, Refuses, IsData, IsStatedIn, with_name, with_edge, with_end, IsEmpty, IsBuilt};
 ghost use Rattle.sd_graph.specs.Undone.{without, without_end, IsUndoneBy};
 
 use crate::graph::Graph;
@@ -115,8 +115,27 @@ fn member_of(alloc: Global, collection: &Str, node: &Str) -> Result<Member, NoMe
     })
 }
 
-// Puts an edge or a member into its set, if there is room: `nodes` is the number of nodes then, and `others` that of
-// the other set's elements. On `Err` nothing has changed.
+// Why an edge or a member has no room in its set: `nodes` is the number of nodes then, and `others` that of the other
+// set's elements. It is looked for only where there is no room for one element more.
+fn no_room<K: Ord>(
+    limits: Limits,
+    nodes: usize,
+    set: &BTreeSet<K>,
+    others: usize,
+    key: &K,
+) -> Option<GraphRefusal>
+    requires { others < 2 ^ 63 }
+    ensures { Refuses limits nodes (length (insert_key K.cmp set.now.keys key.now) + others) result }
+{
+    let size = set.len() as u64 + others as u64;
+    if nodes as u64 <= limits.nodes && size < limits.edges {
+        return None;
+    }
+    let more = if set.contains(key) { 0 } else { 1 };
+    over(limits, nodes as u64, size + more)
+}
+
+// Puts an edge or a member into its set, if there is room. On `Err` nothing has changed.
 fn put<K: Ord + Drop>(
     limits: Limits,
     nodes: usize,
@@ -128,9 +147,7 @@ fn put<K: Ord + Drop>(
     ensures keys { set.new.keys ≡ (if is_ok result then insert_key K.cmp set.old.keys key else set.old.keys) }
     ensures fits { Fits limits nodes (length (insert_key K.cmp set.old.keys key) + others) result }
 {
-    let more = if set.contains(&key) { 0 } else { 1 };
-    let size = set.len() as u64 + more;
-    if let Some(refusal) = over(limits, nodes as u64, size + others as u64) {
+    if let Some(refusal) = no_room(limits, nodes, set, others, &key) {
         return Err(refusal);
     }
     match set.insert(key) {
