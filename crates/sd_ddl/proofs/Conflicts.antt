@@ -24,11 +24,10 @@ use Rattle.sd_ddl.specs.Steps.{value_of, edge_steps, said, steps_of, steps_from,
 use Rattle.sd_ddl.specs.declared.conflict.Conflict.{Conflict}
 use Rattle.sd_ddl.specs.Stops.{all_said, NoFails, stop_ending, IsFirst, Takes}
 use Rattle.sd_ddl.proofs.Told.{several-differs}
-use Rattle.sd_ddl.proofs.Maps.{told-known}
 
 -- the tables tell what the whole text tells
 pub same_kinds : (parts : List Part) (kinds : Kinds) → Knows parts kinds → told_of kinds ≡ kinds_told parts
-same_kinds parts kinds knows = λ i o a. told-known parts kinds knows o a i
+same_kinds parts kinds knows = λ i o a. knows o a i
 
 value_conflict : (t : Told) (place : ℕ) (o l : Name) (v : Content) → has_two_kinds t v ≡ true → edge_steps place o l (value_of t v) ≡ fails place ∷ []
 value_conflict t place o l (contents.Number n) h = cc
@@ -52,7 +51,7 @@ module _ (parts : List Part) (kinds : Kinds) (knows : Knows parts kinds) (front 
       ap (λ t. is_several (both t (One g.kind.kind))) (has g.collection g.attribute) ∙ several-differs (given front g.collection g.attribute) g.kind.kind
 
   edge_conflict : (o l : Name) (v : Given) → is_conflict seen kinds (Edge o l v) ≡ has_two_kinds (kinds_told parts o l) v.content
-  edge_conflict o l v = ap (λ t. has_two_kinds t v.content) (told-known parts kinds knows o l)
+  edge_conflict o l v = ap (λ t. has_two_kinds t v.content) (knows o l)
 
   -- a conflict fails at its place
   pub conflict_fails : (p : Part) → is_conflict seen kinds p ≡ true → steps_of (kinds_told parts) front p ≡ fails (place_of p) ∷ []

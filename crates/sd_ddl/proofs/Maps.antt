@@ -1,6 +1,7 @@
 -- The tables, one part after another.
 use Rattle.std.proofs.Common.{◌≡◌, ◌⊎◌, refl, sym, ap, subst, ◌∙◌, inl, inr, Bool, true, false, ◌&&◌, cond, List, [], ◌∷◌, ◌++◌, if◌then◌else◌, Some, Contains, ℕ, Result, Ok, Err}
 use Rattle.std.specs.Result.{OnOk}
+use Rattle.std.specs.List.{flat_map, list_all}
 use Rattle.sd_value.specs.declared.NoMemory.{NoMemory}
 use Rattle.std.specs.declared.cmp.Ordering.{Ordering}
 use Rattle.std.specs.declared.cmp.Ordering.TheVariants.{Less, Equal, Greater}
@@ -19,12 +20,12 @@ use Rattle.sd_ddl.specs.declared.part.Part.{Part}
 use Rattle.sd_ddl.specs.declared.part.Giving.{Giving}
 use Rattle.sd_ddl.specs.declared.part.Part.TheVariants.{Gives, Member}
 use Rattle.sd_ddl.specs.declared.kinds.Told.{Told}
-use Rattle.sd_ddl.specs.declared.kinds.Told.TheVariants.{Nothing, One}
+use Rattle.sd_ddl.specs.declared.kinds.Told.TheVariants.{Nothing, One, Several}
 use Rattle.sd_ddl.specs.declared.kinds.Givings.{Givings}
 use Rattle.sd_ddl.specs.declared.kinds.Kinds.{Kinds}
 use Rattle.sd_ddl.specs.declared.collections.Collections.{Collections}
-use Rattle.sd_ddl.specs.Kinds.{Name, same_name, given, given_by, collections, collection_by, kinds_of, told}
-use Rattle.sd_ddl.specs.Tables.{both, pair_cmp, or_nothing, told_in, names_of, insert_all, HasGivings, HasCollections, Knows, tell, told_of}
+use Rattle.sd_ddl.specs.Kinds.{Name, same_kind, same_name, given, given_by, collections, collection_by, kinds_of, told}
+use Rattle.sd_ddl.specs.Tables.{both, pair_cmp, or_nothing, told_in, names_of, insert_all, HasGivings, HasCollections, Knows, tell}
 use Rattle.sd_ddl.proofs.Told.{both-nothing, told-perhaps, Tells, Tells-as, Tells-one, Tells-told, Tells-tell}
 
 eq_then : (p q : Ordering) → is_eq (ordering_then p q) ≡ (is_eq p && is_eq q)
@@ -118,17 +119,34 @@ insert_all-cases names (m ∷ ns) n h =
       | inr rest ↦ inr (Contains-there m ns n rest)
     ]
 
--- the tables tell what the parts tell
-pub told-known : (parts : List Part) (kinds : Kinds) → Knows parts kinds → (o a : Name) → told_of kinds o a ≡ told (kinds_of parts o a)
-told-known parts kinds knows o a =
-    ap (tell (λ c. told_in kinds.givings c a) Nothing) (knows.1 o)
+told_none : (ks : List Kind) → told ks ≡ Nothing → ks ≡ []
+told_none [] h = refl
+told_none (k ∷ ks) h = by (list_all (same_kind k) ks) h
+  where
+    by : (b : Bool) → (if b then One k else Several) ≡ Nothing → k ∷ ks ≡ []
+    by true h = cc
+    by false h = cc
+
+-- where no kind is given and no collection is told, nothing is told
+pub known_none : (parts : List Part) (kinds : Kinds) → HasGivings parts kinds.givings → ((c a : Name) → told_in kinds.givings c a ≡ Nothing)
+    → ((o : Name) → names_of kinds.collections o ≡ []) → Knows parts kinds
+known_none parts kinds has none bare o a = ap (tell (λ c. told_in kinds.givings c a) Nothing) (bare o) ∙ sym (ap told (all_none (collections parts o)))
+  where
+    all_none : (ns : List Name) → flat_map (λ c. given parts c a) ns ≡ []
+    all_none [] = refl
+    all_none (n ∷ ns) = ap (λ ks. ks ++ flat_map (λ c. given parts c a) ns) (told_none (given parts n a) (sym (has n a) ∙ none n a)) ∙ all_none ns
+
+-- the tables of the parts tell what the parts tell
+pub told-known : (parts : List Part) (kinds : Kinds) → HasGivings parts kinds.givings → HasCollections parts kinds.collections → Knows parts kinds
+told-known parts kinds has_givings has_collections o a =
+    ap (tell (λ c. told_in kinds.givings c a) Nothing) (has_collections o)
     ∙ Tells-one (Contains (kinds_of parts o a)) _ (told (kinds_of parts o a))
     (Tells-as (λ k. ⊥ ⊎ ((c : Name) × IsOneOf (insert_all [] (collections parts o)) c × Contains (given parts c a) k)) (Contains (kinds_of parts o a)) _ to from
     (Tells-tell (λ c. Contains (given parts c a)) (λ c. told_in kinds.givings c a) each (λ k. ⊥) Nothing (λ k p. p) (insert_all [] (collections parts o))))
     (Tells-told (kinds_of parts o a))
   where
     each : (c : Name) → Tells (Contains (given parts c a)) (told_in kinds.givings c a)
-    each c = subst (Tells (Contains (given parts c a))) (sym (knows.0 c a)) (Tells-told (given parts c a))
+    each c = subst (Tells (Contains (given parts c a))) (sym (has_givings c a)) (Tells-told (given parts c a))
 
     to : (k : Kind) → ⊥ ⊎ ((c : Name) × IsOneOf (insert_all [] (collections parts o)) c × Contains (given parts c a) k) → Contains (kinds_of parts o a) k
     to k (inl p) = absurd p

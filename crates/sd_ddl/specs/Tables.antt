@@ -14,7 +14,7 @@ use Rattle.sd_ddl.specs.declared.kinds.Told.TheVariants.{Nothing, One, Several}
 use Rattle.sd_ddl.specs.declared.kinds.Givings.{Givings}
 use Rattle.sd_ddl.specs.declared.kinds.Kinds.{Kinds}
 use Rattle.sd_ddl.specs.declared.collections.Collections.{Collections}
-use Rattle.sd_ddl.specs.Kinds.{Name, same_kind, given, collections, told}
+use Rattle.sd_ddl.specs.Kinds.{Name, same_kind, given, collections, kinds_of, told}
 
 -- what two tell together
 abbrev pub both : Told → Told → Told
@@ -59,9 +59,6 @@ HasGivings parts table = (c a : Name) → told_in table c a ≡ told (given part
 abbrev pub HasCollections : List Part → Collections → Type 0
 HasCollections parts table = (o : Name) → names_of table o ≡ insert_all [] (collections parts o)
 
-abbrev pub Knows : List Part → Kinds → Type 0
-Knows parts kinds = HasGivings parts kinds.givings × HasCollections parts kinds.collections
-
 -- what is told of each of the names, one after another
 abbrev pub tell : (Name → Told) → Told → List Name → Told
 tell f t [] = t
@@ -69,6 +66,10 @@ tell f t (n ∷ ns) = tell f (both t (f n)) ns
 
 abbrev pub told_of : Kinds → Name → Name → Told
 told_of kinds object attribute = tell (λ c. told_in kinds.givings c attribute) Nothing (names_of kinds.collections object)
+
+-- the tables tell of each object's attributes what these parts tell
+abbrev pub Knows : List Part → Kinds → Type 0
+Knows parts kinds = (object attribute : Name) → told_of kinds object attribute ≡ told (kinds_of parts object attribute)
 
 abbrev pub has_two_kinds : Told → Content → Bool
 has_two_kinds t (contents.Number n) = false

@@ -37,12 +37,11 @@ impl Collections {
         ensures here { OnOk result (names_of self.new object.now ≡ insert_key bytes_cmp (names_of self.old object.now) collection.now) }
         ensures others { OnOk result ((o : Name) → same_name object.now o ≡ false → names_of self.new o ≡ names_of self.old o) }
     {
-        let mut names = match self.of.remove(object) {
-            Some(names) => names,
-            None => BTreeSet::new(alloc),
-        };
+        let names = self
+            .of
+            .entry(object.copy(alloc)?)?
+            .or_insert(BTreeSet::new(alloc));
         names.insert(collection.copy(alloc)?)?;
-        self.of.insert(object.copy(alloc)?, names)?;
         Ok(())
     }
 

@@ -30,12 +30,11 @@ impl<T: Drop> Groups<T> {
         ensures here { OnOk result (items_of self.new node.now ≡ items_of self.old node.now ++ item ∷ []) }
         ensures others { OnOk result ((n : Name) → same_name node.now n ≡ false → items_of self.new n ≡ items_of self.old n) }
     {
-        let mut items = match self.of.remove(node) {
-            Some(items) => items,
-            None => Vec::new(alloc),
-        };
+        let items = self
+            .of
+            .entry(node.copy(alloc)?)?
+            .or_insert(Vec::new(alloc));
         items.push(item)?;
-        self.of.insert(node.copy(alloc)?, items)?;
         Ok(())
     }
 

@@ -1,10 +1,10 @@
 // The kinds that directives give.
-ghost use Rattle.std.specs.Prelude.{◌≡◌, ◌∷◌, ◌++◌, [], List, IfOk, OnOk, true};
+ghost use Rattle.std.specs.Prelude.{◌≡◌, ◌∷◌, ◌++◌, [], List, IfOk, OnOk, IsTrue, true};
 ghost use Rattle.sd_ddl.specs.declared.part.Part.{Part as AnyPart};
 ghost use Rattle.sd_ddl.specs.declared.part.Part.TheVariants.{Gives};
 ghost use Rattle.sd_ddl.specs.declared.kinds.Told.TheVariants.{Nothing as NothingTold, One as OneTold};
 ghost use Rattle.sd_ddl.specs.Kinds.{Name, given_by, told};
-ghost use Rattle.sd_ddl.specs.Tables.{told_in, told_of, both, is_several, tell, HasGivings, Knows, names_of, is_conflict};
+ghost use Rattle.sd_ddl.specs.Tables.{told_in, told_of, both, is_several, tell, HasGivings, HasCollections, Knows, names_of, is_conflict};
 
 use crate::collections::Collections;
 use crate::part::{Giving, Part};
@@ -58,6 +58,13 @@ impl Givings {
     }
 
     /// The kinds that were given to an attribute.
+    /// Whether no kind was given. Only a true answer tells something.
+    fn is_empty(&self) -> bool
+        ensures { IsTrue result → (collection attribute : Name) → told_in self.now collection attribute ≡ NothingTold }
+    {
+        self.told.is_empty()
+    }
+
     pub(crate) fn told(
         &self,
         alloc: Global,
@@ -110,12 +117,16 @@ impl Kinds {
     pub(crate) fn of(alloc: Global, parts: &[Part]) -> Result<Kinds, NoMemory>
         ensures { IfOk result (λ kinds. Knows parts.now kinds) }
     {
-        let mut givings = Givings::new(alloc);
-        let mut collections = Collections::new(alloc);
-        for part in parts {
-            givings.add_part(alloc, part)?;
-            collections.add_part(alloc, part)?;
+        let givings = givings_of(alloc, parts)?;
+        if givings.is_empty() {
+            // Collections tell nothing then.
+            let collections = Collections::new(alloc);
+            return Ok(Kinds {
+                givings,
+                collections,
+            });
         }
+        let collections = collections_of(alloc, parts)?;
         Ok(Kinds {
             givings,
             collections,
@@ -162,4 +173,26 @@ impl Kinds {
             Part::Node(_) | Part::Member(_, _) => Ok(false),
         }
     }
+}
+
+// The kinds that these parts give.
+fn givings_of(alloc: Global, parts: &[Part]) -> Result<Givings, NoMemory>
+    ensures { IfOk result (HasGivings parts.now) }
+{
+    let mut givings = Givings::new(alloc);
+    for part in parts {
+        givings.add_part(alloc, part)?;
+    }
+    Ok(givings)
+}
+
+// The collections that these parts tell.
+fn collections_of(alloc: Global, parts: &[Part]) -> Result<Collections, NoMemory>
+    ensures { IfOk result (HasCollections parts.now) }
+{
+    let mut collections = Collections::new(alloc);
+    for part in parts {
+        collections.add_part(alloc, part)?;
+    }
+    Ok(collections)
 }

@@ -11,6 +11,7 @@ ghost use Rattle.sd_graph.specs.Statement.{Statement, Building, a_node, a_member
 ghost use Rattle.sd_graph.specs.Undone.{without, without_end, IsUndoneBy};
 
 use crate::graph::Graph;
+use crate::names::Names;
 use crate::{GraphRefusal, Limits, over};
 use graph_spec::{Edge, Member};
 use sd_value::{Datum, NoMemory, Str, Value, copy};
@@ -22,7 +23,7 @@ use std::marker::Model;
 #[derive(Debug, Drop)]
 pub struct GraphBuilder {
     limits: Limits,
-    nodes: BTreeSet<Str>,
+    nodes: Names,
     edges: BTreeSet<Edge>,
     members: BTreeSet<Member>,
 }
@@ -32,27 +33,9 @@ impl Model for GraphBuilder {
 
     ghost Value = { Building };
 
-    ghost view = { λ b. record { limits = b.limits; graph = record { nodes = b.nodes.keys; edges = b.edges.keys; members = b.members.keys } } };
+    ghost view = { λ b. record { limits = b.limits; graph = record { nodes = b.nodes; edges = b.edges.keys; members = b.members.keys } } };
 
-    ghost invariant = { λ b. IsBuilt (record { limits = b.limits; graph = record { nodes = b.nodes.keys; edges = b.edges.keys; members = b.members.keys } }) };
-}
-
-// Adds a name, and tells whether it is new. On `Err` nothing has changed.
-fn declare(alloc: Global, names: &mut BTreeSet<Str>, name: &Str) -> Result<bool, NoMemory>
-    ensures names { names.new.keys ≡ (if is_ok result then with_name name.now names.old.keys else names.old.keys) }
-    ensures added { IfOk result (λ added. IsUndoneBy name.now added names.old.keys names.new.keys) }
-{
-    let added = names.insert(name.copy(alloc)?)?;
-    Ok(added)
-}
-
-// Takes a name out again, if it was added.
-fn forget(names: &mut BTreeSet<Str>, name: &Str, added: bool)
-    ensures names { names.new.keys ≡ without name.now added names.old.keys }
-{
-    if added {
-        names.remove(name);
-    }
+    ghost invariant = { λ b. IsBuilt (record { limits = b.limits; graph = record { nodes = b.nodes; edges = b.edges.keys; members = b.members.keys } }) };
 }
 
 // Which of an edge's ends were declared with it.
@@ -65,35 +48,35 @@ struct Declared {
 // Adds the names of an edge's ends. On `Err` nothing has changed.
 fn declare_ends(
     alloc: Global,
-    names: &mut BTreeSet<Str>,
+    names: &mut Names,
     from: &Str,
     to: &Value,
 ) -> Result<Declared, NoMemory>
-    ensures names { names.new.keys ≡ (if is_ok result then with_end to.now (with_name from.now names.old.keys) else names.old.keys) }
-    ensures added { IfOk result (λ added. without from.now added.start (without_end to.now added.end names.new.keys) ≡ names.old.keys) }
+    ensures names { names.new ≡ (if is_ok result then with_end to.now (with_name from.now names.old) else names.old) }
+    ensures added { IfOk result (λ added. without from.now added.start (without_end to.now added.end names.new) ≡ names.old) }
 {
-    let start = declare(alloc, names, from)?;
+    let start = names.begin(alloc, from)?;
     let end = match to {
-        Value::Data(Datum::Node(name)) => declare(alloc, names, name),
+        Value::Data(Datum::Node(name)) => names.add(alloc, name),
         _ => Ok(false),
     };
     match end {
         Ok(end) => Ok(Declared { start, end }),
         Err(error) => {
-            forget(names, from, start);
+            names.forget(from, start);
             Err(error)
         }
     }
 }
 
 // Takes an edge's ends out again, as far as they were added.
-fn forget_ends(names: &mut BTreeSet<Str>, from: &Str, to: &Value, added: Declared)
-    ensures { names.new.keys ≡ without from.now added.start (without_end to.now added.end names.old.keys) }
+fn forget_ends(names: &mut Names, from: &Str, to: &Value, added: Declared)
+    ensures { names.new ≡ without from.now added.start (without_end to.now added.end names.old) }
 {
     if let Value::Data(Datum::Node(name)) = to {
-        forget(names, name, added.end);
+        names.forget(name, added.end);
     }
-    forget(names, from, added.start);
+    names.forget(from, added.start);
 }
 
 fn edge_of(alloc: Global, from: &Str, label: &Str, to: &Value) -> Result<Edge, NoMemory>
@@ -164,7 +147,7 @@ impl GraphBuilder {
     {
         GraphBuilder {
             limits,
-            nodes: BTreeSet::new(alloc),
+            nodes: Names::new(alloc),
             edges: BTreeSet::new(alloc),
             members: BTreeSet::new(alloc),
         }
@@ -184,9 +167,9 @@ impl GraphBuilder {
     pub fn add_node(&mut self, alloc: Global, name: &Str) -> Result<(), GraphRefusal>
         ensures { Adds (a_node name.now) self.old self.new result }
     {
-        let added = declare(alloc, &mut self.nodes, name)?;
+        let added = self.nodes.begin(alloc, name)?;
         if self.nodes.len() as u64 > self.limits.nodes {
-            forget(&mut self.nodes, name, added);
+            self.nodes.forget(name, added);
             return Err(GraphRefusal::TooManyNodes);
         }
         Ok(())
@@ -235,7 +218,7 @@ impl GraphBuilder {
         ensures { Adds (a_member collection.now node.now) self.old self.new result }
     {
         let member = member_of(alloc, collection, node)?;
-        let added = declare(alloc, &mut self.nodes, node)?;
+        let added = self.nodes.begin(alloc, node)?;
         let edges = self.edges.len();
         let result = put(
             self.limits,
@@ -245,7 +228,7 @@ impl GraphBuilder {
             member,
         );
         if result.is_err() {
-            forget(&mut self.nodes, node, added);
+            self.nodes.forget(node, added);
         }
         result
     }
@@ -254,7 +237,7 @@ impl GraphBuilder {
     pub fn copy(&self, alloc: Global) -> Result<GraphBuilder, NoMemory>
         ensures { IfOk result (λ b. b ≡ self.now) }
     {
-        let nodes = copied_names(alloc, &self.nodes)?;
+        let nodes = self.nodes.copy(alloc)?;
         let edges = copied_edges(alloc, &self.edges)?;
         let members = copied_members(alloc, &self.members)?;
         Ok(GraphBuilder {
@@ -275,21 +258,11 @@ impl GraphBuilder {
             edges,
             members,
         } = self;
-        let nodes = listed(alloc, nodes)?;
+        let nodes = listed(alloc, nodes.into_set())?;
         let edges = listed(alloc, edges)?;
         let members = listed(alloc, members)?;
         Ok(Graph::of(nodes, edges, members))
     }
-}
-
-fn copied_names(alloc: Global, names: &BTreeSet<Str>) -> Result<BTreeSet<Str>, NoMemory>
-    ensures { IfOk result (λ copied. copied.keys ≡ names.now.keys) }
-{
-    let mut copied = BTreeSet::new(alloc);
-    for name in names.iter() {
-        copied.insert(name.copy(alloc)?)?;
-    }
-    Ok(copied)
 }
 
 fn copied_edges(alloc: Global, edges: &BTreeSet<Edge>) -> Result<BTreeSet<Edge>, NoMemory>

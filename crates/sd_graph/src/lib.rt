@@ -5,6 +5,7 @@ ghost use Rattle.sd_graph.specs.Statement.{Refuses};
 
 mod builder;
 mod graph;
+mod names;
 
 pub use builder::{GraphBuilder, known_statements_change_nothing};
 pub use graph::Graph;

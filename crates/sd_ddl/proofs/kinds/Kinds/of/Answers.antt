@@ -1,11 +1,10 @@
-use Rattle.std.proofs.Common.{sym, subst, take}
-use Rattle.sd_ddl.specs.Tables.{HasGivings, HasCollections}
-use Rattle.sd_ddl.proofs.Conflicts.{next_part}
+use Rattle.sd_ddl.proofs.Maps.{known_none, told-known}
 use Rattle.sd_ddl.proofs.kinds.Kinds.of.Goals as goal
 
-pub loop-part-preserved : goal.loop-part-preserved
-loop-part-preserved c =
-    let front = sym (next_part c.args.parts.now c.loop-part.part-index c.part-item.result c.loop-part-test.true c.part-item.is).1 in (
-      subst (λ ps. HasGivings ps c.add_part.new.self) front (c.in_ok-add_part.ensures (take c.loop-part.part-index c.args.parts.now) c.loop-part.invariant.0),
-      subst (λ ps. HasCollections ps c.add_part-in-loop-part.new.self) front (c.in_ok-add_part-2.ensures (take c.loop-part.part-index c.args.parts.now) c.loop-part.invariant.1),
-    )
+pub returns-then-is_empty : goal.returns-then-is_empty
+returns-then-is_empty c =
+    known_none c.args.parts.now (record { givings = c.in_ok-givings.givings; collections = c.new-collections.result }) c.in_ok-givings.ensures (c.is_empty.ensures c.if-is_empty.true) c.new-collections.ensures
+
+pub returns : goal.returns
+returns c =
+    told-known c.args.parts.now (record { givings = c.in_ok-givings.givings; collections = c.in_ok-collections.collections }) c.in_ok-givings.ensures c.in_ok-collections.ensures

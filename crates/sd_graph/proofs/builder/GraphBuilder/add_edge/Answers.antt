@@ -6,9 +6,9 @@ use Rattle.sd_graph.proofs.builder.GraphBuilder.add_edge.Goals as goal
 
 pub invariant_of-self-else-is_err : goal.invariant_of-self-else-is_err
 invariant_of-self-else-is_err c =
-    let before : Building = record { limits = c.self.inside.limits; graph = record { nodes = c.self.inside.nodes.keys; edges = c.self.inside.edges.keys; members = c.self.inside.members.keys } } in
+    let before : Building = record { limits = c.self.inside.limits; graph = record { nodes = c.self.inside.nodes; edges = c.self.inside.edges.keys; members = c.self.inside.members.keys } } in
     let ok : is_err c.put-result.result ≡ false = sym c.is_err.ensures.value ∙ c.if-is_err.false in
-    let names : c.declare_ends.new.names.keys ≡ with_end c.args.to.now (with_name c.args.from.now c.self.inside.nodes.keys) = c.in_ok-added.ensures.names in
+    let names : c.declare_ends.new.names ≡ with_end c.args.to.now (with_name c.args.from.now c.self.inside.nodes) = c.in_ok-added.ensures.names in
     let put : c.put-result.new.set.keys ≡ with_edge c.in_ok-edge.edge c.self.inside.edges.keys = at_ok c.put-result.result _ _ _ ok c.put-result.ensures.keys in
     let keys : c.put-result.new.set.keys ≡ with_edge (record { from = c.args.from.now; label = c.args.label.now; to = c.args.to.now }) c.self.inside.edges.keys = put ∙ ap (λ x. with_edge x c.self.inside.edges.keys) c.in_ok-edge.ensures in
     let fits : Fits c.self.inside.limits c.len.result (length (with_edge c.in_ok-edge.edge c.self.inside.edges.keys) + c.len-members.result) c.put-result.result = c.put-result.ensures.fits in

@@ -6,9 +6,9 @@ use Rattle.sd_graph.proofs.builder.GraphBuilder.add_member.Goals as goal
 
 pub invariant_of-self-else-is_err : goal.invariant_of-self-else-is_err
 invariant_of-self-else-is_err c =
-    let before : Building = record { limits = c.self.inside.limits; graph = record { nodes = c.self.inside.nodes.keys; edges = c.self.inside.edges.keys; members = c.self.inside.members.keys } } in
+    let before : Building = record { limits = c.self.inside.limits; graph = record { nodes = c.self.inside.nodes; edges = c.self.inside.edges.keys; members = c.self.inside.members.keys } } in
     let ok : is_err c.put-result.result ≡ false = sym c.is_err.ensures.value ∙ c.if-is_err.false in
-    let names : c.declare.new.names.keys ≡ with_name c.args.node.now c.self.inside.nodes.keys = c.in_ok-added.ensures.names in
+    let names : c.begin.new.self ≡ with_name c.args.node.now c.self.inside.nodes = c.in_ok-added.ensures.names in
     let put : c.put-result.new.set.keys ≡ with_member c.in_ok-member.member c.self.inside.members.keys = at_ok c.put-result.result _ _ _ ok c.put-result.ensures.keys in
     let keys : c.put-result.new.set.keys ≡ with_member (record { collection = c.args.collection.now; node = c.args.node.now }) c.self.inside.members.keys = put ∙ ap (λ x. with_member x c.self.inside.members.keys) c.in_ok-member.ensures in
     let fits : Fits c.self.inside.limits c.len.result (length (with_member c.in_ok-member.member c.self.inside.members.keys) + c.len-edges.result) c.put-result.result = c.put-result.ensures.fits in

@@ -4,7 +4,7 @@ use Rattle.std.specs.BTreeSet.{insert_key}
 use Rattle.std.specs.List.{list_any}
 use Rattle.sd_value.specs.Order.{bytes_cmp}
 use Rattle.sd_graph.specs.Undone.{undone, unchanged_at}
-use Rattle.sd_graph.proofs.builder.declare.Goals as goal
+use Rattle.sd_graph.proofs.names.declare.Goals as goal
 
 pub returns-clause-added : goal.returns-clause-added
 returns-clause-added c =

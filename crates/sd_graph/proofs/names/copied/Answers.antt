@@ -1,6 +1,6 @@
 use Rattle.sd_value.specs.OrderLaws.{bytes_cmp-total}
 use Rattle.sd_graph.proofs.Copied.{copied_more}
-use Rattle.sd_graph.proofs.builder.copied_names.Goals as goal
+use Rattle.sd_graph.proofs.names.copied.Goals as goal
 
 pub loop-name-preserved : goal.loop-name-preserved
 loop-name-preserved c =

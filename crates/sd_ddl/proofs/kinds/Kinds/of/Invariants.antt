@@ -1,6 +1,0 @@
-use Rattle.std.proofs.Common.{take}
-use Rattle.sd_ddl.specs.Tables.{HasGivings, HasCollections}
-use Rattle.sd_ddl.proofs.kinds.Kinds.of.Given as goal
-
-abbrev pub invariant-loop-part : goal.invariant-loop-part
-invariant-loop-part l = HasGivings (take l.part-index l.parts) l.givings × HasCollections (take l.part-index l.parts) l.collections
