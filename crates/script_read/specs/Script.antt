@@ -1,5 +1,5 @@
 -- What the reader of a script's bytes answers, and that a script has one answer.
-use Rattle.std.specs.Prelude.{◌≡◌, ℕ, List, length, Result, Ok, Err, ⊤}
+use Rattle.std.specs.Prelude.{◌≡◌, ◌≢◌, ℕ, ◌≤◌, List, [], length, Result, Ok, Err, ⊤}
 use Rattle.std.specs.Global.{Vec}
 use Rattle.sd_lex.specs.declared.token.Token.{Token}
 use Rattle.sd_lex.specs.declared.refusal.LexRefusal.TheVariants as lexer
@@ -7,6 +7,7 @@ use Rattle.sd_lex.specs.Lexing.{IsTextOrFault}
 use Rattle.grammar.specs.Fault.{FirstFault}
 use Rattle.token_reader.specs.Gives.{place, IsReal}
 use Rattle.wire.specs.declared.WireEvent.{WireEvent}
+use Rattle.wire.specs.declared.WireEvent.TheVariants.{Opened, Bytes, Ended, Lost, Change, Done}
 use Rattle.script_read.specs.declared.refusal.ScriptRefusal.{ScriptRefusal}
 use Rattle.script_read.specs.declared.refusal.ScriptRefusal.TheVariants.{TooLong, BadByte, OpenString, IntOutOfRange, Expected, NoMemory}
 use Rattle.script_read.specs.ScriptText.{script, events}
@@ -30,6 +31,15 @@ Reads limit bytes (Err (OpenString at)) = IsTextOrFault limit bytes (Err (lexer.
 Reads limit bytes (Err (IntOutOfRange at)) = IsTextOrFault limit bytes (Err (lexer.IntOutOfRange at))
 Reads limit bytes (Err (Expected at)) = IsFaultAt limit bytes at
 Reads limit bytes (Err NoMemory) = Unit {0}
+
+-- an event of a connection, whose number is from 1 on, and no empty piece
+abbrev pub IsScripted : WireEvent → Type 0
+IsScripted (Opened number) = 1 ≤ number
+IsScripted (Bytes number bytes) = (1 ≤ number) × (bytes ≢ [])
+IsScripted (Ended number) = 1 ≤ number
+IsScripted (Lost number) = 1 ≤ number
+IsScripted (Change text) = ⊥
+IsScripted Done = ⊥
 
 -- an answer as a list of events
 abbrev pub told : Result (Vec WireEvent) ScriptRefusal → Result (List WireEvent) ScriptRefusal

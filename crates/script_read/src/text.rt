@@ -1,7 +1,7 @@
 //! The reader of the bytes of a script.
 
-ghost use Rattle.std.specs.Prelude.{◌≡◌, ℕ, List};
-ghost use Rattle.script_read.specs.Script.{Reads, told, HasOneAnswer};
+ghost use Rattle.std.specs.Prelude.{◌≡◌, ℕ, List, All, IfOk};
+ghost use Rattle.script_read.specs.Script.{Reads, told, HasOneAnswer, IsScripted};
 ghost use Rattle.script_read.specs.ScriptText.{is_event, events};
 
 use crate::reading::phrases;
@@ -43,7 +43,8 @@ fn events_of(phrases: Vec<WireEvent>) -> Vec<WireEvent>
 /// that has no tokens has the lexer's refusal, and one that is no script is `Expected` at the first token such that no
 /// script begins with the tokens up to and with it, or at its end where more is wanted.
 pub fn read_script(alloc: Global, bytes: &[u8], limit: u64) -> Result<Vec<WireEvent>, ScriptRefusal>
-    ensures { Reads limit bytes.now (told result) }
+    ensures exact { Reads limit bytes.now (told result) }
+    ensures events { IfOk result (λ events. All IsScripted events.items) }
 {
     let tokens = tokens(alloc, bytes, limit)?;
     let phrases = phrases(alloc, tokens.as_slice(), bytes.len() as u64)?;
