@@ -30,10 +30,7 @@ impl<T: Drop> Groups<T> {
         ensures here { OnOk result (items_of self.new node.now ≡ items_of self.old node.now ++ item ∷ []) }
         ensures others { OnOk result ((n : Name) → same_name node.now n ≡ false → items_of self.new n ≡ items_of self.old n) }
     {
-        let items = self
-            .of
-            .entry(node.copy(alloc)?)?
-            .or_insert(Vec::new(alloc));
+        let items = self.of.entry(node.copy(alloc)?)?.or_insert(Vec::new(alloc));
         items.push(item)?;
         Ok(())
     }

@@ -16,7 +16,8 @@ returns-then-is_name-clause-names c =
 pub invariant_of-self : goal.invariant_of-self
 invariant_of-self c =
     let is : c.self-2.inside.set.keys ≡ with_name c.args.name.now c.args.self.now = c.self-2.view_is ∙ c.in_ok-added.ensures.names in
-    let latest : c.in_ok-latest.latest ≡ c.args.name.now = c.in_ok-latest.ensures in
-    (c.self-2.invariant.0,
+    let latest : c.in_ok-latest.latest ≡ c.args.name.now = c.in_ok-latest.ensures in (
+      c.self-2.invariant.0,
       subst (λ (names : List Name). Contains names c.in_ok-latest.latest) (sym is)
-        (subst (λ (l : Name). Contains (with_name c.args.name.now c.args.self.now) l) (sym latest) (inserted-here bytes_cmp bytes_cmp-exact c.args.name.now c.args.self.now)))
+          (subst (λ (l : Name). Contains (with_name c.args.name.now c.args.self.now) l) (sym latest) (inserted-here bytes_cmp bytes_cmp-exact c.args.name.now c.args.self.now)),
+    )
