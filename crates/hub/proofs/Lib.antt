@@ -1,3 +1,4 @@
+mod MadeLemmas
 mod PieceLemmas
 mod StepLemmas
 mod DateLemmas

@@ -1,16 +1,20 @@
 -- A run takes one event more.
-use Rattle.std.proofs.Common.{◌≡◌, ℕ, ◌<◌, Bool, true, false, ◌||◌, ◌==◌, List, [], ◌∷◌, ◌++◌, refl, sym, ap, ◌∙◌, subst, Option, Some, None, if◌then◌else◌}
+use Rattle.std.proofs.Common.{◌≡◌, inr, ℕ, ◌<◌, Bool, true, false, ◌||◌, ◌==◌, List, [], ◌∷◌, ◌++◌, refl, sym, ap, ◌∙◌, subst, Option, Some, None, if◌then◌else◌}
 use Rattle.std.specs.List.{fold, list_any}
 use Rattle.std.proofs.lemmas.Grind.{fold-append}
 use Rattle.std.proofs.lemmas.List.Folds.{list_any-append}
+use Rattle.sd_value.specs.declared.Term.{Term}
 use Rattle.http_spec.specs.Sessions.{OutcomeAt}
-use Rattle.wire.specs.Accounts.{Account}
+use Rattle.wire.specs.Accounts.{Account, up_by}
 use Rattle.wire.specs.Events.{add_event, is_done, IsNextOf, IsDrawn}
 use Rattle.wire.specs.declared.WireEvent.{WireEvent}
 use Rattle.wire.specs.declared.WireEvent.TheVariants.{Opened, Bytes, Ended, Lost as LostEvent, Change, Done}
+use Rattle.hub.specs.Course.{Scene, Rules, scene, Passes, PassesAll, IsCourse}
+use Rattle.hub.specs.HubState.{HubState}
 use Rattle.hub.specs.Line.{Line}
+use Rattle.hub.specs.Made.{Made, nothing}
 use Rattle.hub.specs.Moments.{Moment, Unopened, Coming, after_event, moment_after, Stands}
-use Rattle.hub.specs.Turns.{At, at_in, Turned, counts, greatest_after, state_after}
+use Rattle.hub.specs.Turns.{At, at_in, Turned, counts, greatest_after, state_after, opened_after}
 use Rattle.hub.proofs.TurnLemmas.{stands_turn}
 
 -- where a connection stands after these events, with the current and the greatest number as they are then
@@ -48,22 +52,22 @@ greatest_of_event changed k m (LostEvent number) = refl
 greatest_of_event changed k m (Change text) = refl
 greatest_of_event changed k m Done = refl
 
-module _ {D : Type 0} (page : D → OutcomeAt) (changed : D → List ℕ → D) (limit k : ℕ) (start : Moment D) (events : List WireEvent) (e : WireEvent) (first : At) where
+module _ {D : Type 0} (page : D → OutcomeAt) (Names : List ℕ → Term → Type 0) (changed : D → List ℕ → D) (limit k : ℕ) (start : Moment D) (events : List WireEvent) (e : WireEvent) (first : At) (made : Made) where
   moment_more : moment_after changed k start (events ++ e ∷ []) ≡ after_event changed k (moment_after changed k start events) e
   moment_more = fold-append (after_event changed k) start events (e ∷ [])
 
   -- where the event stands for all connections
   pub stands_more : (before after : ℕ → At) (current : D) (greatest : Option ℕ) → 0 < limit → Runs page changed limit k start events first (before k) current greatest
-      → Turned (page current) limit greatest e before after → Stands page limit k (moment_after changed k start (events ++ e ∷ [])) first (after k)
+      → Turned (page current) Names limit greatest e made before after → Stands page limit k (moment_after changed k start (events ++ e ∷ [])) first (after k)
   stands_more before after current greatest some runs turned =
       let m = moment_after changed k start events in
-      let here : Turned (page m.current) limit m.greatest e before after =
-      subst (λ s. Turned (page s) limit m.greatest e before after) (sym runs.current_is)
-      (subst (λ g. Turned (page current) limit g e before after) (sym runs.greatest_is) turned) in
-      subst (λ n. Stands page limit k n first (after k)) (sym moment_more) (stands_turn page changed limit k m first before after some runs.stands e here)
+      let here : Turned (page m.current) Names limit m.greatest e made before after =
+      subst (λ s. Turned (page s) Names limit m.greatest e made before after) (sym runs.current_is)
+      (subst (λ g. Turned (page current) Names limit g e made before after) (sym runs.greatest_is) turned) in
+      subst (λ n. Stands page limit k n first (after k)) (sym moment_more) (stands_turn page Names changed limit k m first made before after some runs.stands e here)
 
   pub runs_more : (before after : ℕ → At) (current now : D) (greatest later : Option ℕ) → 0 < limit → Runs page changed limit k start events first (before k) current greatest
-      → Turned (page current) limit greatest e before after → now ≡ state_after changed e current → later ≡ greatest_after e greatest
+      → Turned (page current) Names limit greatest e made before after → now ≡ state_after changed e current → later ≡ greatest_after e greatest
       → Runs page changed limit k start (events ++ e ∷ []) first (after k) now later
   runs_more before after current now greatest later some runs turned current_is greatest_is =
       let m = moment_after changed k start events in
@@ -114,7 +118,60 @@ runs_moved page changed limit number start events first lines accounts others fa
     (subst (λ (f : ℕ → ℕ). Runs page changed limit number start events first (at_in lines accounts f number) current greatest) (sym fine) runs)
 
 -- the root and the limit are as they were at first
-pub turned_at : {D : Type 0} (page : Option (List ℕ) → D → OutcomeAt) (current : D) (root here : Option (List ℕ)) (limit first : ℕ) (greatest : Option ℕ) (e : WireEvent) (before after : ℕ → At)
-    → root ≡ here → limit ≡ first → Turned (page root current) limit greatest e before after → Turned (page here current) first greatest e before after
-turned_at page current root here limit first greatest e before after as_root same turned =
-    subst (λ n. Turned (page here current) n greatest e before after) same (subst (λ r. Turned (page r current) limit greatest e before after) as_root turned)
+pub turned_at : {D : Type 0} (page : Option (List ℕ) → D → OutcomeAt) (Names : Option (List ℕ) → List ℕ → Term → Type 0) (current : D) (root here : Option (List ℕ)) (limit first : ℕ) (greatest : Option ℕ) (e : WireEvent) (made : Made)
+    (before after : ℕ → At) → root ≡ here → limit ≡ first → Turned (page root current) (Names root) limit greatest e made before after
+    → Turned (page here current) (Names here) first greatest e made before after
+turned_at page Names current root here limit first greatest e made before after as_root same turned =
+    subst (λ n. Turned (page here current) (Names here) n greatest e made before after) same
+    (subst (λ r. Turned (page r current) (Names r) limit greatest e made before after) as_root turned)
+
+-- the course of one event more
+pub passes_more : {D C : Type 0} (rules : Rules D C) (limit : ℕ) (start between after : Scene D C) (events : List WireEvent) (e : WireEvent)
+    → PassesAll rules limit start events between → Passes rules limit e between after → PassesAll rules limit start (events ++ e ∷ []) after
+passes_more rules limit start between after [] e before step = (after, subst (λ s. Passes rules limit e s after) before step, refl)
+passes_more rules limit start between after (x ∷ events) e (next, one, rest) step = (next, one, passes_more rules limit next between after events e rest step)
+
+-- the wire tells the same of the connections
+pub passes_moved : {P D C : Type 0} (rules : Rules D C) (limit : ℕ) (start : Scene D C) (events : List WireEvent) (hub : HubState P) (state : P → D) (cache : P → C)
+    (accounts others : ℕ → Option Account) (faults later : ℕ → ℕ) → others ≡ accounts → later ≡ faults
+    → PassesAll rules limit start events (scene state cache hub accounts faults) → PassesAll rules limit start events (scene state cache hub others later)
+passes_moved rules limit start events hub state cache accounts others faults later same fine passes =
+    subst (λ (a : ℕ → Option Account). PassesAll rules limit start events (scene state cache hub a later)) (sym same)
+    (subst (λ (f : ℕ → ℕ). PassesAll rules limit start events (scene state cache hub accounts f)) (sym fine) passes)
+
+-- nothing more comes
+pub passes_done : {D C : Type 0} (rules : Rules D C) (limit : ℕ) (start now : Scene D C) (events : List WireEvent) (e : WireEvent) → e ≡ Done
+    → PassesAll rules limit start events now → PassesAll rules limit start (events ++ e ∷ []) now
+passes_done rules limit start now events e is before =
+    subst (λ x. PassesAll rules limit start (events ++ x ∷ []) now) (sym is)
+    (passes_more rules limit start now now events Done before record {
+      made = nothing;
+      turned = (λ number. refl, refl);
+      current = refl;
+      greatest = refl;
+      opened = refl;
+      replies = refl;
+      cache = refl;
+    })
+
+-- memory was missing for a change
+pub counts_stay : {D C : Type 0} (rules : Rules D C) (limit : ℕ) (start between after : Scene D C) (events : List WireEvent) (e : WireEvent) (text : List ℕ) (made : Made)
+    → e ≡ Change text → PassesAll rules limit start events between
+    → Turned (rules.Page between.current) rules.Names limit between.greatest e made between.ats after.ats
+    → after.opened ≡ opened_after e between.greatest between.opened → after.replies ≡ up_by made.replies between.replies
+    → rules.found after.cache ≡ rules.found between.cache → IsCourse rules limit start (events ++ e ∷ []) after
+counts_stay rules limit start between after events e text made is before turned opened replies found =
+    let Of : WireEvent → Type 0 = λ x. Turned (rules.Page between.current) rules.Names limit between.greatest x made between.ats after.ats in
+    let here : Of (Change text) = subst Of is turned in
+    inr (
+      events,
+      text,
+      between,
+      ap (λ x. events ++ x ∷ []) is,
+      before,
+      record {
+        opened = opened ∙ ap (λ (x : WireEvent). opened_after x between.greatest between.opened) is;
+        replies = replies ∙ ap (λ (m : Made). up_by m.replies between.replies) here.1;
+        found = found;
+      },
+    )

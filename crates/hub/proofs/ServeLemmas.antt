@@ -1,8 +1,9 @@
 -- One more ask of a connection, where its reply is one send.
-use Rattle.std.proofs.Common.{◌≡◌, ◌≢◌, ℕ, ◌+◌, ◌-◌, Bool, true, false, ◌||◌, ◌==◌, List, [], ◌∷◌, ◌++◌, length, refl, sym, ap, ◌∙◌, subst, arith, take, drop, get_or, Option, Some, None, inl, inr}
+use Rattle.std.proofs.Common.{◌≡◌, ◌≢◌, ◌⊎◌, ℕ, ◌+◌, ◌-◌, Bool, true, false, ◌||◌, ◌==◌, List, [], ◌∷◌, ◌++◌, length, refl, sym, ap, ◌∙◌, subst, arith, take, drop, get_or, Option, Some, None, inl, inr}
 use Rattle.std.proofs.lemmas.List.{append-nil, take-append-drop}
 use Rattle.edge_io.specs.Counts.{Rose}
 use Rattle.page_spec.specs.declared.Outcome.{Outcome}
+use Rattle.sd_value.specs.declared.Term.{Term}
 use Rattle.http_spec.specs.declared.Ask.{Ask}
 use Rattle.http_spec.specs.declared.Standing.{Standing}
 use Rattle.http_spec.specs.declared.Standing.TheVariants.{Open, Closed, Short, Lost}
@@ -11,11 +12,13 @@ use Rattle.http_spec.specs.Heads.{AreLineEnds}
 use Rattle.http_spec.specs.Replies.{reply_bytes, no_memory_bytes}
 use Rattle.http_spec.specs.Sessions.{OutcomeAt, IsLookedUp}
 use Rattle.http_reply.specs.Feeding.{Held, FedCase, EndsWith}
-use Rattle.wire.specs.Accounts.{Account, send_to, gain}
+use Rattle.wire.specs.Accounts.{Account, send_to, gain, up}
 use Rattle.hub.specs.Line.{Line}
-use Rattle.hub.specs.Pieces.{Answered, StaysOpen}
-use Rattle.hub.specs.Turns.{IsSent, IsUnopened, IsFinished, EndSteps, Reply, FrontSteps, IsServed, IsAnswered}
-use Rattle.hub.proofs.StepLemmas.{answered_open, answered_closed, answered_short}
+use Rattle.hub.specs.Made.{Made, LooksUp, LooksFor, LooksUpAll, Makes, replies_in}
+use Rattle.hub.proofs.MadeLemmas.{looks_asked, short_few, count_open, count_short}
+use Rattle.hub.specs.Pieces.{Answered, AtEnd, StaysOpen}
+use Rattle.hub.specs.Turns.{IsSent, IsUnopened, IsFinished, EndSteps, Reply, FrontReplies, IsServed, IsAnswered}
+use Rattle.hub.proofs.StepLemmas.{answered_open, answered_closed, answered_short, heads_after}
 
 -- one more reply
 pub gain_more : (a : Option Account) (replies : List (List ℕ)) (reply : List ℕ) → gain a (replies ++ reply ∷ []) ≡ send_to (gain a replies) reply
@@ -35,98 +38,156 @@ shifted page ask target last Short mid reply fails e = ap (λ x. mid ++ x) e
 shifted page ask target last Lost mid reply fails e = absurd (fails refl)
 
 -- the answer of the reader's ask, with the outcomes as they were at first
-pub answered_now : {D : Type 0} (page : D → OutcomeAt) (standing : Standing) (now first : D) (ask : Ask) (given target : List ℕ) (left : ℕ) (old new : Option Account) (f h : ℕ)
-    → now ≡ first → given ≡ target → IsAnswered (page now) ask given (left == 1) standing old new f h
-    → IsAnswered (page first) ask target (left == 1) standing old new f h
-answered_now {D} page standing now first ask given target left old new f h current same answered =
-    let Of : D → Type 0 = λ d. IsAnswered (page d) ask given (left == 1) standing old new f h in
-    let At : List ℕ → Type 0 = λ t. IsAnswered (page first) ask t (left == 1) standing old new f h in
+pub answered_now : {D : Type 0} (page : D → OutcomeAt) (Names : List ℕ → Term → Type 0) (made : Made) (standing : Standing) (now first : D) (ask : Ask) (given target : List ℕ) (left : ℕ)
+    (old new : Option Account) (f h : ℕ) → now ≡ first → given ≡ target → IsAnswered (page now) Names ask given (left == 1) made standing old new f h
+    → IsAnswered (page first) Names ask target (left == 1) made standing old new f h
+answered_now {D} page Names made standing now first ask given target left old new f h current same answered =
+    let Of : D → Type 0 = λ d. IsAnswered (page d) Names ask given (left == 1) made standing old new f h in
+    let At : List ℕ → Type 0 = λ t. IsAnswered (page first) Names ask t (left == 1) made standing old new f h in
     subst At same (subst Of current answered)
 
--- the account and the faults before the ask
-based : (page : OutcomeAt) (ask : Ask) (target : List ℕ) (last : Bool) (standing : Standing) (old base new : Option Account) (f e h : ℕ)
-    → old ≡ base → f ≡ e → IsAnswered page ask target last standing old new f h → IsAnswered page ask target last standing base new e h
-based page ask target last standing old base new f e h same fine answered =
-    subst (λ x. IsAnswered page ask target last standing base new x h) fine (subst (λ a. IsAnswered page ask target last standing a new f h) same answered)
-
-module _ (page : OutcomeAt) (before : Line) (piece p : List ℕ) (from taken : ℕ) (held : Line) (after : Held) (mid : List (List ℕ))
+module _ (page : OutcomeAt) (Names : List ℕ → Term → Type 0) (before : Line) (piece p : List ℕ) (from taken : ℕ) (held : Line) (after : Held) (mid : List (List ℕ))
     (is : p ≡ drop from piece) (stays : StaysOpen page before (take from piece) held [] mid)
     (ask : Ask) (fed : FedCase held.rest p taken (Some ask) after) (first now new : Option Account) (f g h : ℕ)
-    (account : now ≡ gain first mid) (fine : g ≡ f) where
+    (account : now ≡ gain first mid) (fine : g ≡ f) (looked : List Term) (look_ups : LooksUpAll Names stays.heads looked) (made : Made) where
+  -- all that was made up to this reply
+  abbrev pub so_many : Made
+  so_many = record { replies = length mid + made.replies; terms = looked ++ made.terms }
+
+  -- what is made where the reply leaves it open or closes it, and where memory is missing for it
+  makes_open : (reply : List ℕ) → made.replies ≡ replies_in Open (reply ∷ []) → LooksUp Names ask.kind after.target made.terms
+      → Makes Names Open (heads_after held.rest p taken ask after fed stays.heads) (mid ++ reply ∷ []) so_many
+  makes_open reply one up = record {
+    looked = looked ++ made.terms;
+    extra = [];
+    count = count_open mid reply made one;
+    look_ups = looks_asked Names held.rest p taken ask after fed stays.heads looked made.terms look_ups up;
+    may = refl;
+    terms = sym (append-nil (looked ++ made.terms));
+  }
+
+  makes_closed : (reply : List ℕ) → made.replies ≡ replies_in Closed (reply ∷ []) → LooksUp Names ask.kind after.target made.terms
+      → Makes Names Closed (heads_after held.rest p taken ask after fed stays.heads) (mid ++ reply ∷ []) so_many
+  makes_closed reply one up = record {
+    looked = looked ++ made.terms;
+    extra = [];
+    count = count_open mid reply made one;
+    look_ups = looks_asked Names held.rest p taken ask after fed stays.heads looked made.terms look_ups up;
+    may = refl;
+    terms = sym (append-nil (looked ++ made.terms));
+  }
+
+  makes_short : (reply : List ℕ) → made.replies ≡ replies_in Short (reply ∷ []) → (made.terms ≡ []) ⊎ LooksUp Names ask.kind after.target made.terms
+      → Makes Names Short stays.heads (mid ++ reply ∷ []) so_many
+  makes_short reply none up = record {
+    looked = looked;
+    extra = made.terms;
+    count = count_short mid reply made none;
+    look_ups = look_ups;
+    may = short_few Names ask.kind after.target made.terms up;
+    terms = refl;
+  }
+
   one_more : (reply : List ℕ) → new ≡ gain now (reply ∷ []) → new ≡ gain first (mid ++ reply ∷ [])
   one_more reply e = e ∙ ap (λ a. send_to a reply) account ∙ sym (gain_more first mid reply)
 
   -- the replies after this one
-  one_reply : (would : Standing) (replies : List (List ℕ)) (r : Reply page ask after.target (held.left == 1) would replies) → new ≡ gain now replies
+  one_reply : (would : Standing) (replies : List (List ℕ)) (r : Reply page Names ask after.target (held.left == 1) made would replies) → new ≡ gain now replies
       → new ≡ gain first (mid ++ r.reply ∷ [])
   one_reply would replies r e = one_more r.reply (e ∙ ap (gain now) r.one)
 
-  pub serve_open : IsAnswered page ask after.target (held.left == 1) Open now new g h
-      → (replies : List (List ℕ)) × StaysOpen page before (take (from + taken) piece) (record { rest = after.rest; left = held.left - 1 }) [] replies
-      × (new ≡ gain first replies)
-  serve_open (replies, r, account_is, faults_are) = (
-    mid ++ r.reply ∷ [],
-    answered_open page before piece p from taken held after [] mid (mid ++ r.reply ∷ []) is stays ask fed
-        (shifted page ask after.target (held.left == 1) Open mid r.reply r.fails r.answers),
-    one_reply Open replies r account_is,
-  )
+  pub serve_open : IsAnswered page Names ask after.target (held.left == 1) made Open now new g h
+      → (replies : List (List ℕ)) × (s : StaysOpen page before (take (from + taken) piece) (record { rest = after.rest; left = held.left - 1 }) [] replies)
+      × (new ≡ gain first replies) × LooksUpAll Names s.heads (looked ++ made.terms) × (length replies ≡ length mid + made.replies)
+  serve_open (replies, r, account_is, faults_are) =
+      let opened = answered_open page before piece p from taken held after [] mid (mid ++ r.reply ∷ []) is stays ask fed
+      (shifted page ask after.target (held.left == 1) Open mid r.reply r.fails r.answers) in (
+        mid ++ r.reply ∷ [],
+        opened.0,
+        one_reply Open replies r account_is,
+        subst (λ heads. LooksUpAll Names heads (looked ++ made.terms)) (sym opened.1)
+            (looks_asked Names held.rest p taken ask after fed stays.heads looked made.terms look_ups r.looks),
+        sym (count_open mid r.reply made r.count),
+      )
 
-  pub serve_closed : (then : Line) → IsAnswered page ask after.target (held.left == 1) Closed now new g h
-      → IsServed page before piece Closed then first new f h
+  pub serve_closed : (then : Line) → IsAnswered page Names ask after.target (held.left == 1) made Closed now new g h
+      → IsServed page Names before piece so_many Closed then first new f h
   serve_closed then (replies, r, account_is, faults_are) = (
     mid ++ r.reply ∷ [],
-    answered_closed page before piece p from taken held after [] mid (mid ++ r.reply ∷ []) is stays ask then fed
-        (shifted page ask after.target (held.left == 1) Closed mid r.reply r.fails r.answers),
+    (
+      heads_after held.rest p taken ask after fed stays.heads,
+      answered_closed page before piece p from taken held after [] mid (mid ++ r.reply ∷ []) is stays ask then fed
+          (shifted page ask after.target (held.left == 1) Closed mid r.reply r.fails r.answers),
+      makes_closed r.reply r.count r.looks,
+    ),
     one_reply Closed replies r account_is,
     faults_are ∙ fine,
   )
 
-  pub serve_short : (then : Line) → IsAnswered page ask after.target (held.left == 1) Short now new g h
-      → IsServed page before piece Short then first new f h
+  pub serve_short : (then : Line) → IsAnswered page Names ask after.target (held.left == 1) made Short now new g h
+      → IsServed page Names before piece so_many Short then first new f h
   serve_short then (replies, r, account_is, faults_are) = (
     mid ++ r.reply ∷ [],
-    answered_short page before piece p from taken held after [] mid (mid ++ r.reply ∷ []) is stays ask then fed
-        (shifted page ask after.target (held.left == 1) Short mid r.reply r.fails r.answers),
+    (
+      stays.heads,
+      answered_short page before piece p from taken held after [] mid (mid ++ r.reply ∷ []) is stays ask then fed
+          (shifted page ask after.target (held.left == 1) Short mid r.reply r.fails r.answers),
+      makes_short r.reply r.count r.looks,
+    ),
     one_reply Short replies r account_is,
     faults_are ∙ fine,
   )
 
   -- the replies up to this one, whatever it would have done
   front : (would : Standing) (reply : List ℕ) → (would ≢ Lost) → Answered page ask after.target (held.left == 1) would mid (mid ++ reply ∷ [])
-      → FrontSteps page before piece would (mid ++ reply ∷ [])
-  front Open reply fails answered = record {
-    front = take (from + taken) piece;
-    more = drop (from + taken) piece;
-    held = record { rest = after.rest; left = held.left - 1 };
-    fails = fails;
-    cut = sym (take-append-drop (from + taken) piece);
-    steps = answered_open page before piece p from taken held after [] mid (mid ++ reply ∷ []) is stays ask fed answered;
-  }
-  front Closed reply fails answered = record {
-    front = piece;
-    more = [];
-    held = held;
-    fails = fails;
-    cut = sym (append-nil piece);
-    steps = answered_closed page before piece p from taken held after [] mid (mid ++ reply ∷ []) is stays ask held fed answered;
-  }
-  front Short reply fails answered = record {
-    front = piece;
-    more = [];
-    held = held;
-    fails = fails;
-    cut = sym (append-nil piece);
-    steps = answered_short page before piece p from taken held after [] mid (mid ++ reply ∷ []) is stays ask held fed answered;
-  }
-  front Lost reply fails answered = absurd (fails refl)
+      → made.replies ≡ replies_in would (reply ∷ []) → LooksFor Names would ask.kind after.target made.terms
+      → FrontReplies page Names before piece so_many would (mid ++ reply ∷ [])
+  front Open reply fails answered one up =
+      let opened = answered_open page before piece p from taken held after [] mid (mid ++ reply ∷ []) is stays ask fed answered in (
+        heads_after held.rest p taken ask after fed stays.heads,
+        record {
+          front = take (from + taken) piece;
+          more = drop (from + taken) piece;
+          held = record { rest = after.rest; left = held.left - 1 };
+          fails = fails;
+          cut = sym (take-append-drop (from + taken) piece);
+          steps = (opened.0, opened.1);
+        },
+        makes_open reply one up,
+      )
+  front Closed reply fails answered one up = (
+    heads_after held.rest p taken ask after fed stays.heads,
+    record {
+      front = piece;
+      more = [];
+      held = held;
+      fails = fails;
+      cut = sym (append-nil piece);
+      steps = answered_closed page before piece p from taken held after [] mid (mid ++ reply ∷ []) is stays ask held fed answered;
+    },
+    makes_closed reply one up,
+  )
+  front Short reply fails answered one up = (
+    stays.heads,
+    record {
+      front = piece;
+      more = [];
+      held = held;
+      fails = fails;
+      cut = sym (append-nil piece);
+      steps = answered_short page before piece p from taken held after [] mid (mid ++ reply ∷ []) is stays ask held fed answered;
+    },
+    makes_short reply one up,
+  )
+  front Lost reply fails answered one up = absurd (fails refl)
 
   only : (before : List (List ℕ)) (next reply : List ℕ) → before ++ next ∷ [] ≡ reply ∷ [] → (before ≡ []) × (next ≡ reply)
   only [] next reply e = (refl, ap (λ (x : List (List ℕ)). get_or x 0 []) e)
   only (b ∷ []) next reply e = absurd (let never : ⊥ = omega (arith, ap (λ (x : List (List ℕ)). length x) e) in never)
   only (b ∷ c ∷ before) next reply e = absurd (let never : ⊥ = omega (arith, ap (λ (x : List (List ℕ)). length x) e) in never)
 
-  pub serve_lost : (then : Line) → IsAnswered page ask after.target (held.left == 1) Lost now new g h
-      → IsServed page before piece Lost then first new f h
+  pub serve_lost : (then : Line) → IsAnswered page Names ask after.target (held.left == 1) made Lost now new g h
+      → IsServed page Names before piece so_many Lost then first new f h
   serve_lost then (would, sent, next, some, r, account_is, rose) =
       let one = only sent next r.reply r.one in
       let same : new ≡ send_to (gain first mid) (take some r.reply) =
@@ -135,54 +196,68 @@ module _ (page : OutcomeAt) (before : Line) (piece p : List ℕ) (from taken : �
         mid,
         r.reply,
         some,
-        front would r.reply r.fails (shifted page ask after.target (held.left == 1) would mid r.reply r.fails r.answers),
+        front would r.reply r.fails (shifted page ask after.target (held.left == 1) would mid r.reply r.fails r.answers) r.count r.looks,
         same,
         subst (λ x. Rose x h) fine rose,
       )
 
 -- the end of the input, after line ends alone
 pub finish_clean : (rest : List ℕ) (asked : Option Ask) (a : Option Account) (f : ℕ) → asked ≡ None → EndsWith rest asked
-    → IsFinished rest Closed a a f f
+    → IsFinished rest (record { replies = 0; terms = [] }) Closed a a f f
 finish_clean rest asked a f none ends =
     let clean : EndsWith rest None = subst (EndsWith rest) none ends in
-    ([], record { fails = λ e. cc; steps = inl (clean, refl) }, refl, refl)
+    ([], record { fails = λ e. cc; steps = inl (clean, refl); count = refl; none = refl }, refl, refl)
 
-end_step : (page : OutcomeAt) (rest target : List ℕ) (ask : Ask) (would : Standing) (replies : List (List ℕ)) → ¬ (AreLineEnds rest) → ask ≡ bad_request
-    → Reply page ask target true would replies → EndSteps rest would replies
-end_step page rest target ask would replies within is r =
-    subst (EndSteps rest would) (sym r.one) (step would r.fails (subst (λ a. Answered page a target true would [] (r.reply ∷ [])) is r.answers))
+-- nothing is looked up for a bad request
+none_looked : (Names : List ℕ → Term → Type 0) (would : Standing) (target : List ℕ) (terms : List Term) → (would ≢ Lost) → LooksFor Names would bad_request.kind target terms → terms ≡ []
+none_looked Names Open target terms fails none = none
+none_looked Names Closed target terms fails none = none
+none_looked Names Short target terms fails (inl none) = none
+none_looked Names Short target terms fails (inr none) = none
+none_looked Names Lost target terms fails never = absurd (fails refl)
+
+end_step : (page : OutcomeAt) (Names : List ℕ → Term → Type 0) (rest target : List ℕ) (ask : Ask) (made : Made) (would : Standing) (replies : List (List ℕ)) → ¬ (AreLineEnds rest) → ask ≡ bad_request
+    → Reply page Names ask target true made would replies → EndSteps rest made would replies
+end_step page Names rest target ask made would replies within is r =
+    subst (EndSteps rest made would) (sym r.one) record {
+      fails = r.fails;
+      steps = step would r.fails (subst (λ a. Answered page a target true would [] (r.reply ∷ [])) is r.answers);
+      count = r.count;
+      none = none_looked Names would target made.terms r.fails (subst (λ (a : Ask). LooksFor Names would a.kind target made.terms) is r.looks);
+    }
   where
-    step : (would : Standing) → (would ≢ Lost) → Answered page bad_request target true would [] (r.reply ∷ []) → EndSteps rest would (r.reply ∷ [])
+    step : (would : Standing) → (would ≢ Lost) → Answered page bad_request target true would [] (r.reply ∷ []) → AtEnd rest would (r.reply ∷ [])
     step Open fails answered = absurd (let never : true ≡ false = answered.2 in cc)
-    step Closed fails answered = record { fails = fails; steps = inr (within, answered.3) }
-    step Short fails answered = record { fails = fails; steps = (within, answered) }
+    step Closed fails answered = inr (within, answered.3)
+    step Short fails answered = (within, answered)
     step Lost fails answered = absurd (fails refl)
 
 -- the end of the input, after more than line ends
-pub finish_asked : (page : OutcomeAt) (rest target : List ℕ) (asked : Option Ask) (ask : Ask) (standing : Standing) (a b : Option Account) (f g : ℕ)
-    → asked ≡ Some ask → EndsWith rest asked → IsAnswered page ask target true standing a b f g → IsFinished rest standing a b f g
-finish_asked page rest target asked ask standing a b f g some ends answered =
+pub finish_asked : (page : OutcomeAt) (Names : List ℕ → Term → Type 0) (rest target : List ℕ) (asked : Option Ask) (ask : Ask) (made : Made) (standing : Standing) (a b : Option Account) (f g : ℕ)
+    → asked ≡ Some ask → EndsWith rest asked → IsAnswered page Names ask target true made standing a b f g → IsFinished rest made standing a b f g
+finish_asked page Names rest target asked ask made standing a b f g some ends answered =
     let ended : EndsWith rest (Some ask) = subst (EndsWith rest) some ends in
     by_standing standing ended.1 ended.0 answered
   where
-    by_standing : (standing : Standing) → ¬ (AreLineEnds rest) → ask ≡ bad_request → IsAnswered page ask target true standing a b f g
-        → IsFinished rest standing a b f g
-    by_standing Open within is (replies, r, e, k) = (replies, end_step page rest target ask Open replies within is r, e, k)
-    by_standing Closed within is (replies, r, e, k) = (replies, end_step page rest target ask Closed replies within is r, e, k)
-    by_standing Short within is (replies, r, e, k) = (replies, end_step page rest target ask Short replies within is r, e, k)
+    by_standing : (standing : Standing) → ¬ (AreLineEnds rest) → ask ≡ bad_request → IsAnswered page Names ask target true made standing a b f g
+        → IsFinished rest made standing a b f g
+    by_standing Open within is (replies, r, e, k) = (replies, end_step page Names rest target ask made Open replies within is r, e, k)
+    by_standing Closed within is (replies, r, e, k) = (replies, end_step page Names rest target ask made Closed replies within is r, e, k)
+    by_standing Short within is (replies, r, e, k) = (replies, end_step page Names rest target ask made Short replies within is r, e, k)
     by_standing Lost within is (would, before, next, some, r, e, k) =
-        (would, before, next, some, end_step page rest target ask would (before ++ next ∷ []) within is r, e, k)
+        (would, before, next, some, end_step page Names rest target ask made would (before ++ next ∷ []) within is r, e, k)
 
 -- an answer that left it open had no fault
-pub faults_open : (page : OutcomeAt) (ask : Ask) (target : List ℕ) (last : Bool) (old new : Option Account) (f h : ℕ)
-    → IsAnswered page ask target last Open old new f h → h ≡ f
-faults_open page ask target last old new f h (replies, r, account_is, fine) = fine
+pub faults_open : (page : OutcomeAt) (Names : List ℕ → Term → Type 0) (ask : Ask) (target : List ℕ) (last : Bool) (made : Made) (old new : Option Account) (f h : ℕ)
+    → IsAnswered page Names ask target last made Open old new f h → h ≡ f
+faults_open page Names ask target last made old new f h (replies, r, account_is, fine) = fine
 
 -- a reply that was made is sent
-pub sent_answer : (page : OutcomeAt) (ask : Ask) (target : List ℕ) (last close : Bool) (reply : List ℕ) (outcome : Outcome) (standing : Standing)
+pub sent_answer : (page : OutcomeAt) (Names : List ℕ → Term → Type 0) (ask : Ask) (target : List ℕ) (last close : Bool) (reply : List ℕ) (outcome : Outcome) (terms : List Term) (standing : Standing)
     (old new : Option Account) (f g : ℕ) → close ≡ (last || ask.close) → IsLookedUp page ask.kind target outcome → reply ≡ reply_bytes ask outcome close
-    → IsSent close reply standing old new f g → IsAnswered page ask target last standing old new f g
-sent_answer page ask target last close reply outcome standing old new f g close_is up is = by_standing standing
+    → LooksUp Names ask.kind target terms
+    → IsSent close reply standing old new f g → IsAnswered page Names ask target last (record { replies = 1; terms = terms }) standing old new f g
+sent_answer page Names ask target last close reply outcome terms standing old new f g close_is up is looks = by_standing standing
   where
     bytes : reply ≡ reply_bytes ask outcome (last || ask.close)
     bytes = subst (λ b. reply ≡ reply_bytes ask outcome b) close_is is
@@ -190,30 +265,32 @@ sent_answer page ask target last close reply outcome standing old new f g close_
     one : [] ++ reply ∷ [] ≡ [] ++ reply_bytes ask outcome (last || ask.close) ∷ []
     one = ap (λ r. r ∷ []) bytes
 
-    answered_by : (would : Bool) → (last || ask.close) ≡ would → (standing : Standing) × Reply page ask target last standing (reply ∷ [])
-    answered_by true e = (Closed, record { reply = reply; fails = λ x. cc; one = refl; answers = (outcome, up, e, one) })
-    answered_by false e = (Open, record { reply = reply; fails = λ x. cc; one = refl; answers = (outcome, up, e, one) })
+    answered_by : (would : Bool) → (last || ask.close) ≡ would → (standing : Standing) × Reply page Names ask target last (record { replies = 1; terms = terms }) standing (reply ∷ [])
+    answered_by true e = (Closed, record { reply = reply; fails = λ x. cc; one = refl; answers = (outcome, up, e, one); count = refl; looks = looks })
+    answered_by false e = (Open, record { reply = reply; fails = λ x. cc; one = refl; answers = (outcome, up, e, one); count = refl; looks = looks })
 
-    by_standing : (standing : Standing) → IsSent close reply standing old new f g → IsAnswered page ask target last standing old new f g
+    by_standing : (standing : Standing) → IsSent close reply standing old new f g → IsAnswered page Names ask target last (record { replies = 1; terms = terms }) standing old new f g
     by_standing Open (e, account, faults) =
-        (reply ∷ [], record { reply = reply; fails = λ x. cc; one = refl; answers = (outcome, up, sym close_is ∙ e, one) }, account, faults)
+        (reply ∷ [], record { reply = reply; fails = λ x. cc; one = refl; answers = (outcome, up, sym close_is ∙ e, one); count = refl; looks = looks }, account, faults)
     by_standing Closed (e, account, faults) =
-        (reply ∷ [], record { reply = reply; fails = λ x. cc; one = refl; answers = (outcome, up, sym close_is ∙ e, one) }, account, faults)
+        (reply ∷ [], record { reply = reply; fails = λ x. cc; one = refl; answers = (outcome, up, sym close_is ∙ e, one); count = refl; looks = looks }, account, faults)
     by_standing Short never = absurd never
     by_standing Lost (some, account, rose) =
         let would = answered_by (last || ask.close) refl in
         (would.0, [], reply, some, would.1, account, rose)
 
 -- a 503 is sent in its place
-pub short_answer : (page : OutcomeAt) (ask : Ask) (target : List ℕ) (last : Bool) (standing : Standing) (old new : Option Account) (f g : ℕ)
-    → (standing ≢ Open) → IsUnopened standing old new f g → IsAnswered page ask target last standing old new f g
-short_answer page ask target last standing old new f g over = by_standing standing
+pub short_answer : (page : OutcomeAt) (Names : List ℕ → Term → Type 0) (ask : Ask) (target : List ℕ) (last : Bool) (terms : List Term) (standing : Standing) (old new : Option Account) (f g : ℕ)
+    → (standing ≢ Open) → (terms ≡ []) ⊎ LooksUp Names ask.kind target terms → IsUnopened standing old new f g
+    → IsAnswered page Names ask target last (record { replies = 0; terms = terms }) standing old new f g
+short_answer page Names ask target last terms standing old new f g over looks = by_standing standing
   where
-    short : (would : Standing) (replies : List (List ℕ)) → (would ≡ Short) × (replies ≡ no_memory_bytes ∷ []) → Reply page ask target last would replies
+    short : (would : Standing) (replies : List (List ℕ)) → (would ≡ Short) × (replies ≡ no_memory_bytes ∷ []) → Reply page Names ask target last (record { replies = 0; terms = terms }) would replies
     short would replies (s, e) =
-        subst (λ w. Reply page ask target last w replies) (sym s) (record { reply = no_memory_bytes; fails = λ x. cc; one = e; answers = refl })
+        subst (λ w. Reply page Names ask target last (record { replies = 0; terms = terms }) w replies) (sym s)
+        (record { reply = no_memory_bytes; fails = λ x. cc; one = e; answers = refl; count = refl; looks = looks })
 
-    by_standing : (standing : Standing) → IsUnopened standing old new f g → IsAnswered page ask target last standing old new f g
+    by_standing : (standing : Standing) → IsUnopened standing old new f g → IsAnswered page Names ask target last (record { replies = 0; terms = terms }) standing old new f g
     by_standing Open (replies, e, account, faults) = (replies, short Open replies e, account, faults)
     by_standing Closed (replies, e, account, faults) = (replies, short Closed replies e, account, faults)
     by_standing Short (replies, e, account, faults) = (replies, short Short replies e, account, faults)

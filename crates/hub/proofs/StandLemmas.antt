@@ -2,6 +2,7 @@
 use Rattle.std.proofs.Common.{◌≡◌, ◌≢◌, ℕ, ◌<◌, Bool, true, false, List, [], ◌∷◌, ◌++◌, length, refl, sym, ap, ◌∙◌, subst, arith, append_assoc, take, inl, inr, Option, length-append}
 use Rattle.std.proofs.lemmas.List.{append-nil}
 use Rattle.edge_io.specs.Counts.{Rose}
+use Rattle.httparse.specs.Grammar.{RequestHead}
 use Rattle.http_spec.specs.declared.Standing.{Standing}
 use Rattle.http_spec.specs.declared.Standing.TheVariants.{Open, Closed, Short, Lost}
 use Rattle.http_spec.specs.Heads.{max_head, HasNoHead}
@@ -12,6 +13,7 @@ use Rattle.http_spec.proofs.LaterLemmas.{closed_later, short_later}
 use Rattle.wire.specs.Accounts.{Account, gain, send_to}
 use Rattle.hub.specs.Delivered.{IsDelivered}
 use Rattle.hub.specs.Line.{Line}
+use Rattle.hub.specs.Made.{Made}
 use Rattle.hub.specs.Moments.{FrontAnswer, Settled, IsOpenAt}
 use Rattle.hub.specs.Pieces.{AtEnd, StaysOpen, Steps}
 use Rattle.hub.specs.Turns.{At, FrontSteps, EndSteps}
@@ -138,9 +140,9 @@ module _ {D : Type 0} (page : D → OutcomeAt) (d : D) (limit : ℕ) (stream : L
       nil_on : (r : List (List ℕ)) → r ≡ r ++ []
       nil_on r = sym (append-nil r)
 
-  pub answer_more : (piece : List ℕ) (would : Standing) (held : Line) (replies : List (List ℕ)) → Steps (page d) line piece would held [] replies
+  pub answer_more : (piece : List ℕ) (heads : List RequestHead) (would : Standing) (held : Line) (replies : List (List ℕ)) → Steps (page d) line piece heads would held [] replies
       → (would ≢ Lost) → HasAnswer page limit (stream ++ dated d piece) false would (open_at.replies ++ replies)
-  answer_more piece Open held replies step fails =
+  answer_more piece heads Open held replies (step, same) fails =
       let more = session_more page d limit line.left stream open_at.rest open_at.requests open_at.replies step.replies piece held.rest step.heads false
       open_at.session open_at.left open_at.none step.stays.cut.each (rest_on piece _ step.stays.cut.whole) step.stays.answered in
       inl record {
@@ -161,7 +163,7 @@ module _ {D : Type 0} (page : D → OutcomeAt) (d : D) (limit : ℕ) (stream : L
         );
         whole = ap (λ r. open_at.replies ++ r) step.sent ∙ sym (append-nil (open_at.replies ++ step.replies));
       }
-  answer_more piece Closed held replies (sent, is, inl (heads, tail, closed)) fails =
+  answer_more piece heads Closed held replies (sent, is, inl (tail, closed)) fails =
       let more = session_more page d limit line.left stream open_at.rest open_at.requests open_at.replies sent piece tail heads true
       open_at.session open_at.left open_at.none closed.each (rest_on piece _ closed.whole) closed.answered in
       inl record {
@@ -174,7 +176,7 @@ module _ {D : Type 0} (page : D → OutcomeAt) (d : D) (limit : ℕ) (stream : L
         ends = inl (refl, refl);
         whole = ap (λ r. open_at.replies ++ r) is ∙ sym (append-nil (open_at.replies ++ sent));
       }
-  answer_more piece Closed held replies (sent, is, inr (rest, heads, answered, refused)) fails =
+  answer_more piece heads Closed held replies (sent, is, inr (rest, answered, refused)) fails =
       let more = session_more page d limit line.left stream open_at.rest open_at.requests open_at.replies answered piece rest heads false
       open_at.session open_at.left open_at.none refused.each (rest_on piece _ refused.whole) refused.answers in
       inl record {
@@ -187,7 +189,7 @@ module _ {D : Type 0} (page : D → OutcomeAt) (d : D) (limit : ℕ) (stream : L
         ends = inr (inl (refl, subst (IsRefused false) (sym more.1) refused.why, refl));
         whole = ap (λ r. open_at.replies ++ r) (is ∙ refused.then_refused) ∙ sym (append_assoc open_at.replies answered (refusal ∷ []));
       }
-  answer_more piece Short held replies (sent, is, (heads, tail, answered, short)) fails =
+  answer_more piece heads Short held replies (sent, is, (tail, answered, short)) fails =
       let more = session_more page d limit line.left stream open_at.rest open_at.requests open_at.replies answered piece tail heads false
       open_at.session open_at.left open_at.none short.each (rest_on piece _ short.whole) short.answers in
       inl record {
@@ -200,23 +202,23 @@ module _ {D : Type 0} (page : D → OutcomeAt) (d : D) (limit : ℕ) (stream : L
         ends = (refl, subst (IsDue false) (sym more.1) short.due, refl);
         whole = ap (λ r. open_at.replies ++ r) (is ∙ short.then_short) ∙ sym (append_assoc open_at.replies answered (no_memory_bytes ∷ []));
       }
-  answer_more piece Lost held replies step fails = absurd (fails refl)
+  answer_more piece heads Lost held replies step fails = absurd (fails refl)
 
-  pub front_more : (piece : List ℕ) (would : Standing) (replies : List (List ℕ)) → FrontSteps (page d) line piece would replies
+  pub front_more : (piece : List ℕ) (heads : List RequestHead) (would : Standing) (replies : List (List ℕ)) → FrontSteps (page d) line piece heads would replies
       → FrontAnswer page limit (stream ++ dated d piece) false would (open_at.replies ++ replies)
-  front_more piece would replies step = record {
+  front_more piece heads would replies step = record {
     front = stream ++ dated d step.front;
     more = dated d step.more;
     at_end = false;
     cut = ap (λ p. stream ++ dated d p) step.cut ∙ ap (λ s. stream ++ s) (dated-append d step.front step.more)
         ∙ sym (append_assoc stream (dated d step.front) (dated d step.more));
     ends_so = λ e. absurd (let never : false ≡ true = e in cc);
-    answer = answer_more step.front would step.held replies step.steps step.fails;
+    answer = answer_more step.front heads would step.held replies step.steps step.fails;
   }
 
   -- the end of its input
-  pub end_more : (would : Standing) (replies : List (List ℕ)) → EndSteps line.rest would replies → HasAnswer page limit stream true would (open_at.replies ++ replies)
-  end_more would replies step = by_would would step.fails (subst (λ r. AtEnd r would replies) (sym open_at.rest_is) step.steps)
+  pub end_more : (made : Made) (would : Standing) (replies : List (List ℕ)) → EndSteps line.rest made would replies → HasAnswer page limit stream true would (open_at.replies ++ replies)
+  end_more made would replies step = by_would would step.fails (subst (λ r. AtEnd r would replies) (sym open_at.rest_is) step.steps)
     where
       answer : (would : Standing) → Ends true would (bytes_in open_at.rest) false replies → HasAnswer page limit stream true would (open_at.replies ++ replies)
       answer would ends =
@@ -238,15 +240,15 @@ module _ {D : Type 0} (page : D → OutcomeAt) (d : D) (limit : ℕ) (stream : L
       by_would Short fails (within, is) = answer Short (refl, inr (open_at.none, inr (inr (refl, within))), is)
       by_would Lost fails never = absurd (fails refl)
 
-  pub front_end : (would : Standing) (replies : List (List ℕ)) → EndSteps line.rest would replies
+  pub front_end : (made : Made) (would : Standing) (replies : List (List ℕ)) → EndSteps line.rest made would replies
       → FrontAnswer page limit stream true would (open_at.replies ++ replies)
-  front_end would replies step = record {
+  front_end made would replies step = record {
     front = stream;
     more = [];
     at_end = true;
     cut = sym (append-nil stream);
     ends_so = λ e. (refl, refl);
-    answer = end_more would replies step;
+    answer = end_more made would replies step;
   }
 
   -- what a step delivered, after what was delivered before

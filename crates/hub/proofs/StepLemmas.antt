@@ -51,23 +51,30 @@ or_true false e = cc
 not_last : (n : ℕ) → 0 < n → (n == 1) ≡ false → 1 < n
 not_last n some e = grind (arith, nat_tests)
 
+-- the heads that are answered after an ask
+abbrev pub heads_after : (rest p : List ℕ) (taken : ℕ) (ask : Ask) (after : Held) → FedCase rest p taken (Some ask) after → List RequestHead → List RequestHead
+heads_after rest p taken ask after (inl w) heads = heads ++ w.0 ∷ []
+heads_after rest p taken ask after (inr refused) heads = heads
+
 module _ (page : OutcomeAt) (before : Line) (piece p : List ℕ) (from taken : ℕ) (held : Line) (after : Held) (old mid new : List (List ℕ))
     (is : p ≡ drop from piece) (stays : StaysOpen page before (take from piece) held old mid) where
   -- no ask: the piece is at its end
-  pub waits : FedCase held.rest p taken None after → StaysOpen page before piece (record { rest = after.rest; left = held.left }) old mid
+  pub waits : FedCase held.rest p taken None after → (s : StaysOpen page before piece (record { rest = after.rest; left = held.left }) old mid) × (s.heads ≡ stays.heads)
   waits fed =
       let rest_is : held.rest ++ p ≡ after.rest = sym (ap (λ (h : Held). h.rest) fed.after_is) in
       let opened = open_waits page before.left (before.rest ++ take from piece) stays.replies held.rest stays.heads p stays.stays fed.none fed.room in
       let Bytes : List ℕ → Type 0 = λ b. OpenAfter page before.left b stays.replies (held.rest ++ p) stays.heads in
-      let Rest : List ℕ → Type 0 = λ r. OpenAfter page before.left (before.rest ++ piece) stays.replies r stays.heads in
-      record {
-        replies = stays.replies;
-        heads = stays.heads;
-        stays = subst Rest rest_is (subst Bytes (bytes_all before.rest piece p from is) opened);
-        left = stays.left;
-        some = stays.some;
-        sent = stays.sent;
-      }
+      let Rest : List ℕ → Type 0 = λ r. OpenAfter page before.left (before.rest ++ piece) stays.replies r stays.heads in (
+        record {
+          replies = stays.replies;
+          heads = stays.heads;
+          stays = subst Rest rest_is (subst Bytes (bytes_all before.rest piece p from is) opened);
+          left = stays.left;
+          some = stays.some;
+          sent = stays.sent;
+        },
+        refl,
+      )
 
   -- what was sent for the head that ended
   head_answered : (ask : Ask) (h : RequestHead) (standing : Standing) → EndsHead held.rest p taken ask after h
@@ -84,8 +91,9 @@ module _ (page : OutcomeAt) (before : Line) (piece p : List ℕ) (from taken : �
       subst At refused.ask_is answered
 
   -- the reply left it open
-  pub answered_open : (ask : Ask) → FedCase held.rest p taken (Some ask) after → Answered page ask after.target (held.left == 1) Open mid new
-      → StaysOpen page before (take (from + taken) piece) (record { rest = after.rest; left = held.left - 1 }) old new
+  pub answered_open : (ask : Ask) (fed : FedCase held.rest p taken (Some ask) after) → Answered page ask after.target (held.left == 1) Open mid new
+      → (s : StaysOpen page before (take (from + taken) piece) (record { rest = after.rest; left = held.left - 1 }) old new)
+      × (s.heads ≡ heads_after held.rest p taken ask after fed stays.heads)
   answered_open ask (inl w) answered =
       let h = w.0 in
       let ends = w.1 in
@@ -97,20 +105,22 @@ module _ (page : OutcomeAt) (before : Line) (piece p : List ℕ) (from taken : �
       let opened = open_replies page before.left held.left (before.rest ++ take from piece) stays.replies held.rest stays.heads (take taken p) h reply
       stays.stays stays.left ends.head ends.whole (said.0, said.1, refl) said.2 in
       let Bytes : List ℕ → Type 0 = λ b. OpenAfter page before.left b (stays.replies ++ reply ∷ []) [] (stays.heads ++ h ∷ []) in
-      let Rest : List ℕ → Type 0 = λ r. OpenAfter page before.left (before.rest ++ take (from + taken) piece) (stays.replies ++ reply ∷ []) r (stays.heads ++ h ∷ []) in
-      record {
-        replies = stays.replies ++ reply ∷ [];
-        heads = stays.heads ++ h ∷ [];
-        stays = subst Rest (sym (ap (λ (x : Held). x.rest) ends.after_is)) (subst Bytes (bytes_on before.rest piece p from taken is) opened);
-        left = omega (arith, length-append stays.heads (h ∷ []));
-        some = omega arith;
-        sent = sent_on old mid new stays.replies reply stays.sent said.3;
-      }
+      let Rest : List ℕ → Type 0 = λ r. OpenAfter page before.left (before.rest ++ take (from + taken) piece) (stays.replies ++ reply ∷ []) r (stays.heads ++ h ∷ []) in (
+        record {
+          replies = stays.replies ++ reply ∷ [];
+          heads = stays.heads ++ h ∷ [];
+          stays = subst Rest (sym (ap (λ (x : Held). x.rest) ends.after_is)) (subst Bytes (bytes_on before.rest piece p from taken is) opened);
+          left = omega (arith, length-append stays.heads (h ∷ []));
+          some = omega arith;
+          sent = sent_on old mid new stays.replies reply stays.sent said.3;
+        },
+        refl,
+      )
   answered_open ask (inr refused) answered = absurd (or_true (held.left == 1) (refusal_answered ask Open refused answered).2)
 
   -- the reply closed it
-  pub answered_closed : (ask : Ask) (then : Line) → FedCase held.rest p taken (Some ask) after → Answered page ask after.target (held.left == 1) Closed mid new
-      → Steps page before piece Closed then old new
+  pub answered_closed : (ask : Ask) (then : Line) (fed : FedCase held.rest p taken (Some ask) after) → Answered page ask after.target (held.left == 1) Closed mid new
+      → Steps page before piece (heads_after held.rest p taken ask after fed stays.heads) Closed then old new
   answered_closed ask then (inl w) answered =
       let h = w.0 in
       let ends = w.1 in
@@ -125,7 +135,7 @@ module _ (page : OutcomeAt) (before : Line) (piece p : List ℕ) (from taken : �
       ∙ append_assoc before.rest (take (from + taken) piece) more ∙ ap (λ x. before.rest ++ x) (take-append-drop (from + taken) piece) in (
         stays.replies ++ reply ∷ [],
         sent_on old mid new stays.replies reply stays.sent said.3,
-        inl (stays.heads ++ h ∷ [], more, subst Bytes whole closed),
+        inl (more, subst Bytes whole closed),
       )
   answered_closed ask then (inr refused) answered =
       let said = refusal_answered ask Closed refused answered in
@@ -135,7 +145,6 @@ module _ (page : OutcomeAt) (before : Line) (piece p : List ℕ) (from taken : �
         sent_on old mid new stays.replies refusal stays.sent (said.3 ∙ ap (λ r. mid ++ r ∷ []) same),
         inr (
           held.rest ++ p,
-          stays.heads,
           stays.replies,
           subst Bytes (bytes_all before.rest piece p from is)
               (open_refused page before.left (before.rest ++ take from piece) stays.replies held.rest stays.heads p stays.stays (why_refused (held.rest ++ p) refused.none refused.why)),
@@ -158,13 +167,12 @@ module _ (page : OutcomeAt) (before : Line) (piece p : List ℕ) (from taken : �
 
   -- memory was missing for it
   pub answered_short : (ask : Ask) (then : Line) → FedCase held.rest p taken (Some ask) after → Answered page ask after.target (held.left == 1) Short mid new
-      → Steps page before piece Short then old new
+      → Steps page before piece stays.heads Short then old new
   answered_short ask then fed answered =
       let Bytes : List ℕ → Type 0 = λ b. ShortAfter page before.left b (stays.replies ++ no_memory_bytes ∷ []) stays.heads (held.rest ++ p) stays.replies in (
         stays.replies ++ no_memory_bytes ∷ [],
         sent_on old mid new stays.replies no_memory_bytes stays.sent answered,
         (
-          stays.heads,
           held.rest ++ p,
           stays.replies,
           subst Bytes (bytes_all before.rest piece p from is)
@@ -188,7 +196,7 @@ no_head_asked after e = (
 )
 
 -- before the first byte of a piece
-pub starts : (page : OutcomeAt) (before : Line) (rest : List ℕ) (left : ℕ) (sent : List (List ℕ)) → record { rest = rest; left = left } ≡ before
+abbrev pub starts : (page : OutcomeAt) (before : Line) (rest : List ℕ) (left : ℕ) (sent : List (List ℕ)) → record { rest = rest; left = left } ≡ before
     → HasNoHead rest → length rest < max_head → 0 < left → StaysOpen page before [] (record { rest = rest; left = left }) sent sent
 starts page before rest left sent view none room some = record {
   replies = [];

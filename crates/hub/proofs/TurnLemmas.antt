@@ -2,20 +2,21 @@
 use Rattle.std.proofs.Common.{◌≡◌, ◌≢◌, ℕ, ◌+◌, ◌<◌, ◌≤◌, Bool, true, false, ◌==◌, List, [], ◌∷◌, ◌++◌, refl, sym, ap, ◌∙◌, subst, arith, ◌⊎◌, inl, inr, Option, Some, None, lit<, if◌then◌else◌}
 use Rattle.std.specs.Prelude.{MatchBool}
 use Rattle.std.proofs.lemmas.Bool.Decides.{nat_tests}
+use Rattle.sd_value.specs.declared.Term.{Term}
 use Rattle.http_spec.specs.declared.Standing.{Standing}
 use Rattle.http_spec.specs.declared.Standing.TheVariants.{Open, Closed, Short, Lost}
 use Rattle.http_spec.specs.Replies.{no_memory_bytes}
 use Rattle.http_spec.specs.Sessions.{OutcomeAt, HasAnswer}
 use Rattle.http_spec.specs.Streams.{Dated, dated}
 use Rattle.http_spec.proofs.HeadLemmas.{no_head_nil}
-use Rattle.wire.specs.Accounts.{Account}
+use Rattle.wire.specs.Accounts.{Account, up_by}
 use Rattle.wire.specs.declared.WireEvent.{WireEvent}
 use Rattle.wire.specs.declared.WireEvent.TheVariants.{Opened, Bytes, Ended, Lost as LostEvent, Change, Done}
 use Rattle.hub.specs.Delivered.{closing}
 use Rattle.hub.specs.Line.{Line}
 use Rattle.hub.specs.Moments.{Input, Unopened, Coming, Over, Moment, more_of, over_of, after_event, FrontAnswer, Settled, IsOpenAt, StandsComing, StandsFor, IsBelow, WasOpened, Stands}
-use Rattle.hub.specs.Pieces.{Steps}
-use Rattle.hub.specs.Turns.{At, FrontSteps, EndSteps, IsServed, IsFinished, IsUnopened, Opens, TakesPiece, Finishes, OthersStay, Turned, counts, kept_after}
+use Rattle.hub.specs.Made.{Made}
+use Rattle.hub.specs.Turns.{At, EndSteps, PieceReplies, FrontReplies, IsServed, IsFinished, IsUnopened, Opens, TakesPiece, Finishes, OthersStay, Turned, counts, kept_after, Keeps}
 use Rattle.hub.proofs.StandLemmas.{settled_later, settled_over, delivered_map, delivered_on, open_more, answer_more, front_more, end_more, front_end, so_far}
 
 -- memory was missing for the connection
@@ -56,58 +57,58 @@ turn_opens page limit first before after some same (inr (standing, account, over
     (settled_unopened page limit standing account first after (subst (λ (b : At). IsUnopened standing b.account account b.faults after.faults) same sent) closed over)
 
 -- a piece of an open connection
-piece_open : {D : Type 0} (page : D → OutcomeAt) (d : D) (limit : ℕ) (stream : List (Dated D)) (piece : List ℕ) (line : Line) (first before after : At) (standing : Standing) (held : Line)
+piece_open : {D : Type 0} (page : D → OutcomeAt) (Names : List ℕ → Term → Type 0) (made : Made) (d : D) (limit : ℕ) (stream : List (Dated D)) (piece : List ℕ) (line : Line) (first before after : At) (standing : Standing) (held : Line)
     (account : Option Account) → IsOpenAt page limit stream line first before
-    → IsServed (page d) line piece standing held before.account account before.faults after.faults
+    → IsServed (page d) Names line piece made standing held before.account account before.faults after.faults
     → after.account ≡ closing standing account → after.line ≡ kept_after standing held
     → StandsComing page limit (stream ++ dated d piece) after.line first after
-piece_open page d limit stream piece line first before after Open held account open_at (replies, step, sent, faults) closed kept =
+piece_open page Names made d limit stream piece line first before after Open held account open_at (replies, (heads, step, makes), sent, faults) closed kept =
     subst (λ l. StandsComing page limit (stream ++ dated d piece) l first after) (sym kept)
-    (open_more page d limit stream line first before open_at piece held replies after step (closed ∙ sent) faults)
-piece_open page d limit stream piece line first before after Closed held account open_at served closed kept =
+    (open_more page d limit stream line first before open_at piece held replies after step.0 (closed ∙ sent) faults)
+piece_open page Names made d limit stream piece line first before after Closed held account open_at served closed kept =
     subst (λ l. StandsComing page limit (stream ++ dated d piece) l first after) (sym kept) (
       record {
         standing = Closed;
         account = account;
-        sent = delivered_on page d limit stream line first before open_at (λ s replies. Steps (page d) line piece s held [] replies) (FrontSteps (page d) line piece)
+        sent = delivered_on page d limit stream line first before open_at (PieceReplies (page d) Names line piece made held) (FrontReplies (page d) Names line piece made)
             (HasAnswer page limit (stream ++ dated d piece) false) (FrontAnswer page limit (stream ++ dated d piece) false) Closed account after.faults
-            (λ replies is. answer_more page d limit stream line first before open_at piece Closed held replies is (λ e. cc))
-            (λ would replies is. front_more page d limit stream line first before open_at piece would replies is) served;
+            (λ replies is. answer_more page d limit stream line first before open_at piece is.0 Closed held replies is.1 (λ e. cc))
+            (λ would replies is. front_more page d limit stream line first before open_at piece is.0 would replies is.1) served;
         closed = closed;
       },
       λ e. cc,
     )
-piece_open page d limit stream piece line first before after Short held account open_at served closed kept =
+piece_open page Names made d limit stream piece line first before after Short held account open_at served closed kept =
     subst (λ l. StandsComing page limit (stream ++ dated d piece) l first after) (sym kept) (
       record {
         standing = Short;
         account = account;
-        sent = delivered_on page d limit stream line first before open_at (λ s replies. Steps (page d) line piece s held [] replies) (FrontSteps (page d) line piece)
+        sent = delivered_on page d limit stream line first before open_at (PieceReplies (page d) Names line piece made held) (FrontReplies (page d) Names line piece made)
             (HasAnswer page limit (stream ++ dated d piece) false) (FrontAnswer page limit (stream ++ dated d piece) false) Short account after.faults
-            (λ replies is. answer_more page d limit stream line first before open_at piece Short held replies is (λ e. cc))
-            (λ would replies is. front_more page d limit stream line first before open_at piece would replies is) served;
+            (λ replies is. answer_more page d limit stream line first before open_at piece is.0 Short held replies is.1 (λ e. cc))
+            (λ would replies is. front_more page d limit stream line first before open_at piece is.0 would replies is.1) served;
         closed = closed;
       },
       λ e. cc,
     )
-piece_open page d limit stream piece line first before after Lost held account open_at served closed kept =
+piece_open page Names made d limit stream piece line first before after Lost held account open_at served closed kept =
     subst (λ l. StandsComing page limit (stream ++ dated d piece) l first after) (sym kept) (
       record {
         standing = Lost;
         account = account;
-        sent = delivered_on page d limit stream line first before open_at (FrontSteps (page d) line piece) (FrontSteps (page d) line piece)
+        sent = delivered_on page d limit stream line first before open_at (FrontReplies (page d) Names line piece made) (FrontReplies (page d) Names line piece made)
             (FrontAnswer page limit (stream ++ dated d piece) false) (FrontAnswer page limit (stream ++ dated d piece) false) Lost account after.faults
-            (λ replies is. front_more page d limit stream line first before open_at piece Lost replies is)
-            (λ would replies is. front_more page d limit stream line first before open_at piece would replies is) served;
+            (λ replies is. front_more page d limit stream line first before open_at piece is.0 Lost replies is.1)
+            (λ would replies is. front_more page d limit stream line first before open_at piece is.0 would replies is.1) served;
         closed = closed;
       },
       λ e. cc,
     )
 
 -- a piece
-turn_piece : {D : Type 0} (page : D → OutcomeAt) (d : D) (limit : ℕ) (piece : List ℕ) (input : Input D) (line : Option Line) (first before after : At) → before.line ≡ line
-    → StandsFor page limit input first before → TakesPiece (page d) piece line before after → StandsFor page limit (more_of (dated d piece) input) first after
-turn_piece {D} page d limit piece input None first before after is stands same =
+turn_piece : {D : Type 0} (page : D → OutcomeAt) (Names : List ℕ → Term → Type 0) (made : Made) (d : D) (limit : ℕ) (piece : List ℕ) (input : Input D) (line : Option Line) (first before after : At) → before.line ≡ line
+    → StandsFor page limit input first before → TakesPiece (page d) Names piece made line before after → StandsFor page limit (more_of (dated d piece) input) first after
+turn_piece {D} page Names made d limit piece input None first before after is stands (same, none) =
     subst (λ a. StandsFor page limit (more_of (dated d piece) input) first a) (sym same) (by_input input stands)
   where
     by_input : (input : Input D) → StandsFor page limit input first before → StandsFor page limit (more_of (dated d piece) input) first before
@@ -117,31 +118,31 @@ turn_piece {D} page d limit piece input None first before after is stands same =
         subst (λ l. StandsComing page limit (stream ++ dated d piece) l first before) (sym is)
         (settled_later page limit stream (dated d piece) first before over.0 over.1)
     by_input (Over ended stream) stands = stands
-turn_piece {D} page d limit piece Unopened (Some line) first before after is stands step =
+turn_piece {D} page Names made d limit piece Unopened (Some line) first before after is stands step =
     absurd (let never : None ≡ Some line = sym stands.0 ∙ sym (ap (λ (a : At). a.line) stands.1) ∙ is in cc)
-turn_piece {D} page d limit piece (Coming stream) (Some line) first before after is stands (standing, held, account, served, closed, kept) =
-    piece_open page d limit stream piece line first before after standing held account
+turn_piece {D} page Names made d limit piece (Coming stream) (Some line) first before after is stands (standing, held, account, served, closed, kept) =
+    piece_open page Names made d limit stream piece line first before after standing held account
     (subst (λ l. StandsComing page limit stream l first before) is stands) served closed kept
-turn_piece {D} page d limit piece (Over ended stream) (Some line) first before after is stands step =
+turn_piece {D} page Names made d limit piece (Over ended stream) (Some line) first before after is stands step =
     absurd (let never : None ≡ Some line = sym stands.0 ∙ is in cc)
 
 -- the end of an open connection's input
-finish_open : {D : Type 0} (page : D → OutcomeAt) (d : D) (limit : ℕ) (stream : List (Dated D)) (line : Line) (first before after : At) (standing : Standing) (account : Option Account)
-    → IsOpenAt page limit stream line first before → IsFinished line.rest standing before.account account before.faults after.faults
+finish_open : {D : Type 0} (page : D → OutcomeAt) (made : Made) (d : D) (limit : ℕ) (stream : List (Dated D)) (line : Line) (first before after : At) (standing : Standing) (account : Option Account)
+    → IsOpenAt page limit stream line first before → IsFinished line.rest made standing before.account account before.faults after.faults
     → after.account ≡ closing standing account → Settled page limit stream true first after
-finish_open page d limit stream line first before after standing account open_at sent closed = record {
+finish_open page made d limit stream line first before after standing account open_at sent closed = record {
   standing = standing;
   account = account;
-  sent = delivered_on page d limit stream line first before open_at (EndSteps line.rest) (EndSteps line.rest) (HasAnswer page limit stream true) (FrontAnswer page limit stream true)
+  sent = delivered_on page d limit stream line first before open_at (EndSteps line.rest made) (EndSteps line.rest made) (HasAnswer page limit stream true) (FrontAnswer page limit stream true)
       standing account after.faults
-      (λ replies is. end_more page d limit stream line first before open_at standing replies is)
-      (λ would replies is. front_end page d limit stream line first before open_at would replies is) sent;
+      (λ replies is. end_more page d limit stream line first before open_at made standing replies is)
+      (λ would replies is. front_end page d limit stream line first before open_at made would replies is) sent;
   closed = closed;
 }
 
-turn_end : {D : Type 0} (page : D → OutcomeAt) (d : D) (limit : ℕ) (input : Input D) (line : Option Line) (first before after : At) → before.line ≡ line
-    → StandsFor page limit input first before → Finishes line before after → StandsFor page limit (over_of true input) first after
-turn_end {D} page d limit input None first before after is stands same =
+turn_end : {D : Type 0} (page : D → OutcomeAt) (made : Made) (d : D) (limit : ℕ) (input : Input D) (line : Option Line) (first before after : At) → before.line ≡ line
+    → StandsFor page limit input first before → Finishes made line before after → StandsFor page limit (over_of true input) first after
+turn_end {D} page made d limit input None first before after is stands (same, none) =
     subst (λ a. StandsFor page limit (over_of true input) first a) (sym same) (by_input input stands)
   where
     by_input : (input : Input D) → StandsFor page limit input first before → StandsFor page limit (over_of true input) first before
@@ -150,11 +151,11 @@ turn_end {D} page d limit input None first before after is stands same =
         let over = subst (λ l. StandsComing page limit stream l first before) is stands in
         (is, settled_over page limit stream first before over.0 over.1)
     by_input (Over ended stream) stands = stands
-turn_end {D} page d limit Unopened (Some line) first before after is stands step =
+turn_end {D} page made d limit Unopened (Some line) first before after is stands step =
     absurd (let never : None ≡ Some line = sym stands.0 ∙ sym (ap (λ (a : At). a.line) stands.1) ∙ is in cc)
-turn_end {D} page d limit (Coming stream) (Some line) first before after is stands (standing, account, sent, closed, gone) =
-    (gone, finish_open page d limit stream line first before after standing account (subst (λ l. StandsComing page limit stream l first before) is stands) sent closed)
-turn_end {D} page d limit (Over ended stream) (Some line) first before after is stands step =
+turn_end {D} page made d limit (Coming stream) (Some line) first before after is stands (standing, account, sent, closed, gone) =
+    (gone, finish_open page made d limit stream line first before after standing account (subst (λ l. StandsComing page limit stream l first before) is stands) sent closed)
+turn_end {D} page made d limit (Over ended stream) (Some line) first before after is stands step =
     absurd (let never : None ≡ Some line = sym stands.0 ∙ is in cc)
 
 -- the connection is forgotten
@@ -239,7 +240,7 @@ other true X Y e x = cc
 other false X Y e y = y
 
 -- One event more.
-module _ {D : Type 0} (page : D → OutcomeAt) (changed : D → List ℕ → D) (limit k : ℕ) (m : Moment D) (first : At) (before after : ℕ → At) (some : 0 < limit)
+module _ {D : Type 0} (page : D → OutcomeAt) (Names : List ℕ → Term → Type 0) (changed : D → List ℕ → D) (limit k : ℕ) (m : Moment D) (first : At) (made : Made) (before after : ℕ → At) (some : 0 < limit)
     (stands : Stands page limit k m first (before k)) where
   stays_so : (moment : Moment D) → moment.input ≡ m.input → moment.greatest ≡ m.greatest → after k ≡ before k → Stands page limit k moment first (after k)
   stays_so moment input greatest same = record {
@@ -259,8 +260,8 @@ module _ {D : Type 0} (page : D → OutcomeAt) (changed : D → List ℕ → D) 
       by_case (inl (is, same)) = subst Goal (sym is) record { stands = own same; opened = was }
       by_case (inr (is, apart)) = subst Goal (sym is) (stays_so (record { current = m.current; greatest = m.greatest; input = m.input }) refl refl (others k apart))
 
-  opened_turn : (number : ℕ) → Turned (page m.current) limit m.greatest (Opened number) before after → Stands page limit k (after_event changed k m (Opened number)) first (after k)
-  opened_turn number (own, others) = by_count (bool_cases (counts m.greatest number))
+  opened_turn : (number : ℕ) → Turned (page m.current) Names limit m.greatest (Opened number) made before after → Stands page limit k (after_event changed k m (Opened number)) first (after k)
+  opened_turn number (own, others, none) = by_count (bool_cases (counts m.greatest number))
     where
       Counted : Bool → Type 0
       Counted t = Stands page limit k (if t then record { current = m.current; greatest = Some number; input = if number == k then Coming [] else m.input } else m) first (after k)
@@ -293,22 +294,34 @@ module _ {D : Type 0} (page : D → OutcomeAt) (changed : D → List ℕ → D) 
       by_count (inl counted) = subst Counted (sym counted) (by_number counted (test_cases number k))
       by_count (inr passed) = subst Counted (sym passed) (stays_so m refl refl (same_at (other (counts m.greatest number) _ _ passed own)))
 
-  pub stands_turn : (event : WireEvent) → Turned (page m.current) limit m.greatest event before after → Stands page limit k (after_event changed k m event) first (after k)
+  pub stands_turn : (event : WireEvent) → Turned (page m.current) Names limit m.greatest event made before after → Stands page limit k (after_event changed k m event) first (after k)
   stands_turn (Opened number) turned = opened_turn number turned
   stands_turn (Bytes number piece) (own, others) =
       of_number number (more_of (dated m.current piece) m.input)
-      (λ same. turn_piece page m.current limit piece m.input (before k).line first (before k) (after k) refl stands.stands
-      (subst (λ n. TakesPiece (page m.current) piece (before n).line (before n) (after n)) same own))
+      (λ same. turn_piece page Names made m.current limit piece m.input (before k).line first (before k) (after k) refl stands.stands
+      (subst (λ n. TakesPiece (page m.current) Names piece made (before n).line (before n) (after n)) same own))
       (opened_more k m.greatest (dated m.current piece) m.input stands.opened) others
   stands_turn (Ended number) (own, others) =
       of_number number (over_of true m.input)
-      (λ same. turn_end page m.current limit m.input (before k).line first (before k) (after k) refl stands.stands
-      (subst (λ n. Finishes (before n).line (before n) (after n)) same own))
+      (λ same. turn_end page made m.current limit m.input (before k).line first (before k) (after k) refl stands.stands
+      (subst (λ n. Finishes made (before n).line (before n) (after n)) same own))
       (opened_over k m.greatest true m.input stands.opened) others
-  stands_turn (LostEvent number) (own, others) =
+  stands_turn (LostEvent number) (own, others, none) =
       of_number number (over_of false m.input)
       (λ same. turn_lost page m.current limit m.input (before k).line first (before k) (after k) refl stands.stands
       (subst (λ n. after n ≡ gone_from (before n)) same own))
       (opened_over k m.greatest false m.input stands.opened) others
-  stands_turn (Change text) turned = stays_so (record { current = changed m.current text; greatest = m.greatest; input = m.input }) refl refl (turned k)
-  stands_turn Done turned = stays_so m refl refl (turned k)
+  stands_turn (Change text) (turned, none) = stays_so (record { current = changed m.current text; greatest = m.greatest; input = m.input }) refl refl (turned k)
+  stands_turn Done (turned, none) = stays_so m refl refl (turned k)
+
+-- what an event does and makes, told of the event as it is written
+pub told_at : {C : Type 0} (page : OutcomeAt) (Names : List ℕ → Term → Type 0) (limit : ℕ) (greatest : Option ℕ) (e x : WireEvent) (made : Made) (before after : ℕ → At) (replies later : ℕ)
+    (Looks : C → Term → C → Type 0) (Renews : List ℕ → C → C → Type 0) (cache now : C) (A : Type 0) → e ≡ x
+    → Turned page Names limit greatest x made before after → later ≡ up_by made.replies replies → (A → Keeps Looks Renews x made cache now)
+    → (m : Made) × Turned page Names limit greatest e m before after × (later ≡ up_by m.replies replies) × (A → Keeps Looks Renews e m cache now)
+told_at page Names limit greatest e x made before after replies later Looks Renews cache now A is turned count keeps = (
+  made,
+  subst (λ y. Turned page Names limit greatest y made before after) (sym is) turned,
+  count,
+  λ a. subst (λ y. Keeps Looks Renews y made cache now) (sym is) (keeps a),
+)

@@ -1,6 +1,8 @@
 pub mod Delivered
 pub mod HubState
+pub mod Course
 pub mod Line
+pub mod Made
 pub mod Moments
 pub mod Pieces
 pub mod Runs

@@ -69,19 +69,19 @@ pub record StaysOpen (page : OutcomeAt) (before : Line) (piece : List ℕ) (afte
   pub some : 0 < after.left
   pub sent : new ≡ old ++ replies
 
--- what one piece does
-abbrev pub Steps : OutcomeAt → Line → List ℕ → Standing → Line → List (List ℕ) → List (List ℕ) → Type 0
-Steps page before piece Open after old new = StaysOpen page before piece after old new
-Steps page before piece Closed after old new =
+-- what one piece does, where these heads are answered
+abbrev pub Steps : OutcomeAt → Line → List ℕ → List RequestHead → Standing → Line → List (List ℕ) → List (List ℕ) → Type 0
+Steps page before piece heads Open after old new = (stays : StaysOpen page before piece after old new) × (stays.heads ≡ heads)
+Steps page before piece heads Closed after old new =
     (replies : List (List ℕ)) × (new ≡ old ++ replies)
-    × (((heads : List RequestHead) × (more : List ℕ) × ClosedAfter page before.left (before.rest ++ piece) replies heads more)
-    ⊎ ((rest : List ℕ) × (heads : List RequestHead) × (answered : List (List ℕ)) × RefusedAfter page before.left (before.rest ++ piece) replies rest heads answered))
-Steps page before piece Short after old new =
+    × (((more : List ℕ) × ClosedAfter page before.left (before.rest ++ piece) replies heads more)
+    ⊎ ((rest : List ℕ) × (answered : List (List ℕ)) × RefusedAfter page before.left (before.rest ++ piece) replies rest heads answered))
+Steps page before piece heads Short after old new =
     (replies : List (List ℕ)) × (new ≡ old ++ replies)
-    × ((heads : List RequestHead) × (more : List ℕ) × (answered : List (List ℕ)) × ShortAfter page before.left (before.rest ++ piece) replies heads more answered)
-Steps page before piece Lost after old new =
+    × ((more : List ℕ) × (answered : List (List ℕ)) × ShortAfter page before.left (before.rest ++ piece) replies heads more answered)
+Steps page before piece heads Lost after old new =
     (between : List ℕ) × (more : List ℕ) × (piece ≡ between ++ more)
-    × ((held : Line) × StaysOpen page before between held old new)
+    × ((held : Line) × (stays : StaysOpen page before between held old new) × (stays.heads ≡ heads))
 
 -- what is sent at the end of the input of an open connection, of which this rest is left
 abbrev pub AtEnd : List ℕ → Standing → List (List ℕ) → Type 0

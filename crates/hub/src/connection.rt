@@ -1,8 +1,12 @@
 // One connection: its bytes come in pieces, and its replies go out one by one.
-ghost use Rattle.std.specs.Prelude.{◌≡◌, ◌≢◌, ℕ, ◌<◌, List, [], ◌∷◌, ◌++◌, ◌||◌, length, IfOk, true};
+ghost use Rattle.std.specs.Prelude.{◌≡◌, ◌≢◌, ℕ, ◌<◌, ◌⊎◌, List, [], ◌∷◌, ◌++◌, ◌||◌, length, IfOk, true};
+ghost use Rattle.sd_value.specs.declared.Term.{Term};
 ghost use Rattle.page_spec.specs.declared.Outcome.{Outcome};
+ghost use Rattle.page_spec.specs.Address.{TermOf};
+ghost use Rattle.wire.specs.Accounts.{up_by};
 ghost use Rattle.http_spec.specs.Replies.{reply_bytes};
 ghost use Rattle.http_spec.specs.Sessions.{IsLookedUp};
+ghost use Rattle.hub.specs.Made.{Made, NamedBy, LooksUp, AllLooked};
 ghost use Rattle.hub.specs.Shown.{shown_in};
 ghost use Rattle.hub.specs.Turns.{IsServed, IsFinished, IsUnopened, IsAnswered, IsSent};
 
@@ -49,13 +53,14 @@ impl Connection {
         })
     }
 
-    /// Takes a piece of the bytes, and sends the reply to each head that is whole then.
+    /// Takes a piece of the bytes, and sends the reply to each head that is whole then. `made` counts the replies.
     pub(crate) fn bytes<P: Versions, W: Wire>(
         &mut self,
         alloc: Global,
         piece: &[u8],
         root: &Option<Str>,
         pages: &mut P,
+        made: &mut u64,
         number: u64,
         wire: &mut W,
     ) -> Standing
@@ -64,8 +69,11 @@ impl Connection {
         ensures state { P.state pages.new ≡ P.state pages.old }
         ensures others { (other : ℕ) → other ≢ number → W.account wire.new other ≡ W.account wire.old other }
         ensures others_fine { (other : ℕ) → other ≢ number → W.faults wire.new other ≡ W.faults wire.old other }
-        ensures served { IsServed (shown_in root.now P.site P.templates (P.state pages.old)) self.old piece.now result self.new (W.account wire.old number) (W.account wire.new number)
-            (W.faults wire.old number) (W.faults wire.new number) }
+        ensures served { (all : Made)
+            × IsServed (shown_in root.now P.site P.templates (P.state pages.old)) (TermOf root.now) self.old piece.now all result self.new
+            (W.account wire.old number) (W.account wire.new number) (W.faults wire.old number) (W.faults wire.new number)
+            × (made.new ≡ up_by all.replies made.old)
+            × AllLooked (P.looks (P.state pages.old)) (P.cache pages.old) all.terms (P.cache pages.new) }
         ensures stays { (W.given wire.new ≡ W.given wire.old) × (W.left wire.new ≡ W.left wire.old) × (W.listens wire.new ≡ W.listens wire.old) × (W.next_faults wire.new ≡ W.next_faults wire.old) }
     {
         let mut from = 0;
@@ -83,6 +91,7 @@ impl Connection {
                 last,
                 root,
                 pages,
+                made,
                 number,
                 wire,
             ) {
@@ -101,6 +110,7 @@ impl Connection {
         alloc: Global,
         root: &Option<Str>,
         pages: &mut P,
+        made: &mut u64,
         number: u64,
         wire: &mut W,
     ) -> Standing
@@ -109,18 +119,22 @@ impl Connection {
         ensures state { P.state pages.new ≡ P.state pages.old }
         ensures others { (other : ℕ) → other ≢ number → W.account wire.new other ≡ W.account wire.old other }
         ensures others_fine { (other : ℕ) → other ≢ number → W.faults wire.new other ≡ W.faults wire.old other }
-        ensures finished { IsFinished self.old.rest result (W.account wire.old number) (W.account wire.new number)
-            (W.faults wire.old number) (W.faults wire.new number) }
+        ensures finished { (all : Made)
+            × IsFinished self.old.rest all result (W.account wire.old number) (W.account wire.new number)
+            (W.faults wire.old number) (W.faults wire.new number)
+            × (made.new ≡ up_by all.replies made.old)
+            × AllLooked (P.looks (P.state pages.old)) (P.cache pages.old) all.terms (P.cache pages.new) }
         ensures stays { (W.given wire.new ≡ W.given wire.old) × (W.left wire.new ≡ W.left wire.old) × (W.listens wire.new ≡ W.listens wire.old) × (W.next_faults wire.new ≡ W.next_faults wire.old) }
     {
         let Some(ask) = self.reading.end() else {
             return Standing::Closed;
         };
-        answer(alloc, &ask, &[], true, root, pages, number, wire)
+        answer(alloc, &ask, &[], true, root, pages, made, number, wire)
     }
 }
 
-/// Sends the reply to one ask. `last` says that the connection may have no further one.
+/// Sends the reply to one ask. `last` says that the connection may have no further one. `made` counts the replies, but no
+/// 503.
 pub(crate) fn answer<P: Versions, W: Wire>(
     alloc: Global,
     ask: &Ask,
@@ -128,6 +142,7 @@ pub(crate) fn answer<P: Versions, W: Wire>(
     last: bool,
     root: &Option<Str>,
     pages: &mut P,
+    made: &mut u64,
     number: u64,
     wire: &mut W,
 ) -> Standing
@@ -136,13 +151,19 @@ pub(crate) fn answer<P: Versions, W: Wire>(
     ensures state { P.state pages.new ≡ P.state pages.old }
     ensures others { (other : ℕ) → other ≢ number → W.account wire.new other ≡ W.account wire.old other }
     ensures others_fine { (other : ℕ) → other ≢ number → W.faults wire.new other ≡ W.faults wire.old other }
-    ensures sent { IsAnswered (shown_in root.now P.site P.templates (P.state pages.old)) ask.now target.now last result (W.account wire.old number) (W.account wire.new number)
-        (W.faults wire.old number) (W.faults wire.new number) }
+    ensures sent { (all : Made)
+        × IsAnswered (shown_in root.now P.site P.templates (P.state pages.old)) (TermOf root.now) ask.now target.now last all result
+        (W.account wire.old number) (W.account wire.new number) (W.faults wire.old number) (W.faults wire.new number)
+        × (made.new ≡ up_by all.replies made.old)
+        × AllLooked (P.looks (P.state pages.old)) (P.cache pages.old) all.terms (P.cache pages.new) }
     ensures stays { (W.given wire.new ≡ W.given wire.old) × (W.left wire.new ≡ W.left wire.old) × (W.listens wire.new ≡ W.listens wire.old) × (W.next_faults wire.new ≡ W.next_faults wire.old) }
 {
     let close = closes(ask, last);
     match reply_to(alloc, ask, target, close, root, pages) {
-        Ok(reply) => send(reply.as_slice(), close, number, wire),
+        Ok(reply) => {
+            *made = made.saturating_add(1);
+            send(reply.as_slice(), close, number, wire)
+        }
         Err(_) => cut_short(number, wire),
     }
 }
@@ -197,6 +218,9 @@ fn reply_to<P: Versions>(
     ensures bytes { IfOk result (λ bytes. (outcome : Outcome)
         × IsLookedUp (shown_in root.now P.site P.templates (P.state pages.old)) ask.now.kind target.now outcome
         × (bytes.items ≡ reply_bytes ask.now outcome close)) }
+    ensures looked { (terms : List Term) × ((terms ≡ []) ⊎ LooksUp (TermOf root.now) ask.now.kind target.now terms)
+        × IfOk result (λ bytes. LooksUp (TermOf root.now) ask.now.kind target.now terms)
+        × AllLooked (P.looks (P.state pages.old)) (P.cache pages.old) terms (P.cache pages.new) }
 {
     let outcome = look_up(alloc, ask.kind, target, root, pages)?;
     let mut out = Vec::new(alloc);
@@ -216,6 +240,9 @@ fn look_up<P: Versions>(
     ensures own { P.Own pages.new }
     ensures state { P.state pages.new ≡ P.state pages.old }
     ensures found { IfOk result (λ outcome. IsLookedUp (shown_in root.now P.site P.templates (P.state pages.old)) kind target.now outcome) }
+    ensures looked { (terms : List Term) × ((terms ≡ []) ⊎ LooksUp (TermOf root.now) kind target.now terms)
+        × IfOk result (λ outcome. LooksUp (TermOf root.now) kind target.now terms)
+        × AllLooked (P.looks (P.state pages.old)) (P.cache pages.old) terms (P.cache pages.new) }
 {
     match kind {
         AskKind::Get => page_at(alloc, target, root, pages),
@@ -236,6 +263,9 @@ fn page_at<P: Versions>(
     ensures own { P.Own pages.new }
     ensures state { P.state pages.new ≡ P.state pages.old }
     ensures found { IfOk result (shown_in root.now P.site P.templates (P.state pages.old) target.now) }
+    ensures looked { (terms : List Term) × ((terms ≡ []) ⊎ NamedBy (TermOf root.now) target.now terms)
+        × IfOk result (λ outcome. NamedBy (TermOf root.now) target.now terms)
+        × AllLooked (P.looks (P.state pages.old)) (P.cache pages.old) terms (P.cache pages.new) }
 {
     match term_of(alloc, target, root.as_ref())? {
         Some(term) => pages.page(alloc, &term),

@@ -1,11 +1,14 @@
 // The hub: one event is one step.
-ghost use Rattle.std.specs.Prelude.{◌≡◌, ◌≢◌, ◌<◌, ◌⊎◌, ℕ, true, false, Some, None};
+ghost use Rattle.std.specs.Prelude.{◌≡◌, ◌≢◌, ◌<◌, ◌⊎◌, ℕ, List, true, false, Some, None};
 ghost use Rattle.std.specs.Ordering.{nat_cmp};
 ghost use Rattle.std.specs.BTreeMap.{get};
+ghost use Rattle.page_spec.specs.Address.{TermOf};
+ghost use Rattle.wire.specs.Accounts.{up_by};
 ghost use Rattle.wire.specs.declared.WireEvent.{WireEvent};
 ghost use Rattle.hub.specs.HubState.{HubState, line_of};
+ghost use Rattle.hub.specs.Made.{Made, nothing};
 ghost use Rattle.hub.specs.Shown.{shown_in};
-ghost use Rattle.hub.specs.Turns.{ats, counts, Turned, greatest_after, state_after};
+ghost use Rattle.hub.specs.Turns.{ats, counts, Turned, greatest_after, state_after, opened_after, Keeps};
 
 use crate::table::{Connections, finish, forget, open, take_piece};
 use sd_value::Str;
@@ -14,6 +17,17 @@ use std::collections::BTreeMap;
 use std::marker::Model;
 use versions::Versions;
 use wire::{Wire, WireEvent};
+
+/// The counts of a run. Each stays at its last value.
+#[derive(Clone, Copy, Debug, PartialEq, Eq)]
+pub struct Tally {
+    /// The connections that were opened.
+    pub connections: u64,
+    /// The replies that were made and sent, but for those by which a 503 says that memory is missing.
+    pub replies: u64,
+    /// The pages that were kept when they were looked up.
+    pub hits: u64,
+}
 
 /// What a hub holds.
 #[derive(Drop)]
@@ -28,6 +42,9 @@ struct Desk<P> {
     root: Option<Str>,
     /// Memory was missing for a change.
     spent: bool,
+    /// How many connections were opened, and how many replies made.
+    opened: u64,
+    replies: u64,
 }
 
 /// The connections of a run, and the pages that they are shown.
@@ -49,6 +66,8 @@ impl<P> Model for Hub<P> {
       limit = h.desk.requests;
       root = h.desk.root;
       spent = h.desk.spent;
+      opened = h.desk.opened;
+      replies = h.desk.replies;
     } };
 
     ghost invariant = { λ h. 0 < h.desk.requests };
@@ -64,6 +83,7 @@ impl<P: Versions> Hub<P> {
         ensures limit { result.limit ≡ requests }
         ensures root { result.root ≡ root }
         ensures spent { result.spent ≡ false }
+        ensures counts { (result.opened ≡ 0) × (result.replies ≡ 0) }
     {
         let desk = Desk {
             pages,
@@ -72,6 +92,8 @@ impl<P: Versions> Hub<P> {
             requests,
             root,
             spent: false,
+            opened: 0,
+            replies: 0,
         };
         Hub { desk }
     }
@@ -87,9 +109,16 @@ impl<P: Versions> Hub<P> {
         ensures state { self.old.spent ≡ false → self.new.spent ≡ false → P.state self.new.pages ≡ state_after P.changed event.now (P.state self.old.pages) }
         ensures greatest { self.old.spent ≡ false → self.new.greatest ≡ greatest_after event.now self.old.greatest }
         ensures passes { self.old.spent ≡ true → (self.new ≡ self.old) × (wire.new ≡ wire.old) }
-        ensures turned { self.old.spent ≡ false → Turned (shown_in self.old.root P.site P.templates (P.state self.old.pages)) self.old.limit self.old.greatest event.now
+        ensures turned { self.old.spent ≡ false → (made : Made)
+            × Turned (shown_in self.old.root P.site P.templates (P.state self.old.pages)) (TermOf self.old.root) self.old.limit self.old.greatest event.now made
             (ats (line_of self.old) (W.account wire.old) (W.faults wire.old))
-            (ats (line_of self.new) (W.account wire.new) (W.faults wire.new)) }
+            (ats (line_of self.new) (W.account wire.new) (W.faults wire.new))
+            × (self.new.replies ≡ up_by made.replies self.old.replies)
+            × (self.new.spent ≡ false → Keeps (P.looks (P.state self.old.pages)) (P.renews (P.state self.old.pages)) event.now made
+            (P.cache self.old.pages) (P.cache self.new.pages)) }
+        ensures opened { self.old.spent ≡ false → self.new.opened ≡ opened_after event.now self.old.greatest self.old.opened }
+        ensures spends { self.old.spent ≡ false → self.new.spent ≡ true → ((text : List ℕ) × (event.now ≡ WireEvent.Change text))
+            × (P.found (P.cache self.new.pages) ≡ P.found (P.cache self.old.pages)) }
         ensures stays { (W.given wire.new ≡ W.given wire.old) × (W.left wire.new ≡ W.left wire.old) × (W.listens wire.new ≡ W.listens wire.old)
             × (W.next_faults wire.new ≡ W.next_faults wire.old) }
     {
@@ -104,6 +133,26 @@ impl<P: Versions> Hub<P> {
     {
         self.desk.spent
     }
+
+    /// The counts so far. It takes no memory.
+    pub fn tally(&self) -> Tally
+        ensures { result ≡ record { connections = self.now.opened; replies = self.now.replies; hits = P.found (P.cache self.now.pages) } }
+    {
+        Tally {
+            connections: self.desk.opened,
+            replies: self.desk.replies,
+            hits: self.desk.pages.hits(),
+        }
+    }
+
+    /// Forgets a connection without a byte. It takes no memory.
+    pub fn drop_connection(&mut self, connection: u64)
+        ensures gone { line_of self.new connection ≡ None }
+        ensures others { (other : ℕ) → other ≢ connection → line_of self.new other ≡ line_of self.old other }
+        ensures stays { self.new ≡ record self.old { lines = self.new.lines } }
+    {
+        forget(&mut self.desk.connections, connection);
+    }
 }
 
 impl<P: Versions> Desk<P> {
@@ -117,9 +166,16 @@ impl<P: Versions> Desk<P> {
         ensures root { self.new.root ≡ self.old.root }
         ensures state { self.new.spent ≡ false → P.state self.new.pages ≡ state_after P.changed event.now (P.state self.old.pages) }
         ensures greatest { self.new.greatest ≡ greatest_after event.now self.old.greatest }
-        ensures turned { Turned (shown_in self.old.root P.site P.templates (P.state self.old.pages)) self.old.requests self.old.greatest event.now
+        ensures turned { (made : Made)
+            × Turned (shown_in self.old.root P.site P.templates (P.state self.old.pages)) (TermOf self.old.root) self.old.requests self.old.greatest event.now made
             (ats (get nat_cmp self.old.connections) (W.account wire.old) (W.faults wire.old))
-            (ats (get nat_cmp self.new.connections) (W.account wire.new) (W.faults wire.new)) }
+            (ats (get nat_cmp self.new.connections) (W.account wire.new) (W.faults wire.new))
+            × (self.new.replies ≡ up_by made.replies self.old.replies)
+            × (self.new.spent ≡ false → Keeps (P.looks (P.state self.old.pages)) (P.renews (P.state self.old.pages)) event.now made
+            (P.cache self.old.pages) (P.cache self.new.pages)) }
+        ensures opened { self.new.opened ≡ opened_after event.now self.old.greatest self.old.opened }
+        ensures spends { self.new.spent ≡ true → ((text : List ℕ) × (event.now ≡ WireEvent.Change text))
+            × (P.found (P.cache self.new.pages) ≡ P.found (P.cache self.old.pages)) }
         ensures stays { (W.given wire.new ≡ W.given wire.old) × (W.left wire.new ≡ W.left wire.old) × (W.listens wire.new ≡ W.listens wire.old)
             × (W.next_faults wire.new ≡ W.next_faults wire.old) }
     {
@@ -132,6 +188,7 @@ impl<P: Versions> Desk<P> {
                 piece.bytes(),
                 &self.root,
                 &mut self.pages,
+                &mut self.replies,
                 wire,
             ),
             WireEvent::Ended(number) => finish(
@@ -140,6 +197,7 @@ impl<P: Versions> Desk<P> {
                 *number,
                 &self.root,
                 &mut self.pages,
+                &mut self.replies,
                 wire,
             ),
             WireEvent::Lost(number) => forget(&mut self.connections, *number),
@@ -160,7 +218,9 @@ impl<P: Versions> Desk<P> {
         ensures spent { self.new.spent ≡ self.old.spent }
         ensures pages { self.new.pages ≡ self.old.pages }
         ensures greatest { self.new.greatest ≡ greatest_after (WireEvent.Opened number) self.old.greatest }
-        ensures turned { Turned (shown_in self.old.root P.site P.templates (P.state self.old.pages)) self.old.requests self.old.greatest (WireEvent.Opened number)
+        ensures replies { self.new.replies ≡ self.old.replies }
+        ensures opened { self.new.opened ≡ opened_after (WireEvent.Opened number) self.old.greatest self.old.opened }
+        ensures turned { Turned (shown_in self.old.root P.site P.templates (P.state self.old.pages)) (TermOf self.old.root) self.old.requests self.old.greatest (WireEvent.Opened number) nothing
             (ats (get nat_cmp self.old.connections) (W.account wire.old) (W.faults wire.old))
             (ats (get nat_cmp self.new.connections) (W.account wire.new) (W.faults wire.new)) }
         ensures stays { (W.given wire.new ≡ W.given wire.old) × (W.left wire.new ≡ W.left wire.old) × (W.listens wire.new ≡ W.listens wire.old)
@@ -168,6 +228,7 @@ impl<P: Versions> Desk<P> {
     {
         if self.counts(number) {
             self.greatest = Some(number);
+            self.opened = self.opened.saturating_add(1);
             open(&mut self.connections, alloc, number, self.requests, wire);
         }
     }

@@ -6,5 +6,5 @@ mod hub_step;
 mod serving;
 mod table;
 
-pub use hub_step::Hub;
+pub use hub_step::{Hub, Tally};
 pub use serving::{HubEnd, serve};

@@ -1,8 +1,11 @@
 // The connections that are open.
-ghost use Rattle.std.specs.Prelude.{◌≡◌, ◌≢◌, ℕ, ◌<◌, Some, None};
+ghost use Rattle.std.specs.Prelude.{◌≡◌, ◌≢◌, ℕ, ◌<◌, Some, None, List};
 ghost use Rattle.std.specs.Ordering.{nat_cmp};
 ghost use Rattle.std.specs.BTreeMap.{get};
+ghost use Rattle.page_spec.specs.Address.{TermOf};
+ghost use Rattle.wire.specs.Accounts.{up_by};
 ghost use Rattle.hub.specs.Delivered.{closing};
+ghost use Rattle.hub.specs.Made.{Made, AllLooked};
 ghost use Rattle.hub.specs.Shown.{shown_in};
 ghost use Rattle.hub.specs.Turns.{At, ats, at_in, Opens, TakesPiece, Finishes, OthersStay};
 
@@ -42,7 +45,7 @@ pub(crate) fn open<W: Wire>(
     settle(standing, number, wire);
 }
 
-/// Takes a piece of one connection's bytes. A number that is not open is passed over.
+/// Takes a piece of one connection's bytes. A number that is not open is passed over. `made` counts the replies.
 pub(crate) fn take_piece<P: Versions, W: Wire>(
     connections: &mut Connections,
     alloc: Global,
@@ -50,6 +53,7 @@ pub(crate) fn take_piece<P: Versions, W: Wire>(
     piece: &[u8],
     root: &Option<Str>,
     pages: &mut P,
+    made: &mut u64,
     wire: &mut W,
 )
     requires own { P.Own pages.old }
@@ -57,14 +61,17 @@ pub(crate) fn take_piece<P: Versions, W: Wire>(
     ensures state { P.state pages.new ≡ P.state pages.old }
     ensures others { OthersStay number (ats (get nat_cmp connections.old) (W.account wire.old) (W.faults wire.old))
         (ats (get nat_cmp connections.new) (W.account wire.new) (W.faults wire.new)) }
-    ensures taken { TakesPiece (shown_in root.now P.site P.templates (P.state pages.old)) piece.now (get nat_cmp connections.old number)
+    ensures taken { (all : Made)
+        × TakesPiece (shown_in root.now P.site P.templates (P.state pages.old)) (TermOf root.now) piece.now all (get nat_cmp connections.old number)
         (at_in (get nat_cmp connections.old) (W.account wire.old) (W.faults wire.old) number)
-        (at_in (get nat_cmp connections.new) (W.account wire.new) (W.faults wire.new) number) }
+        (at_in (get nat_cmp connections.new) (W.account wire.new) (W.faults wire.new) number)
+        × (made.new ≡ up_by all.replies made.old)
+        × AllLooked (P.looks (P.state pages.old)) (P.cache pages.old) all.terms (P.cache pages.new) }
     ensures stays { (W.given wire.new ≡ W.given wire.old) × (W.left wire.new ≡ W.left wire.old) × (W.listens wire.new ≡ W.listens wire.old) × (W.next_faults wire.new ≡ W.next_faults wire.old) }
 {
     let standing = match connections.get_mut(&number) {
         None => return,
-        Some(connection) => connection.bytes(alloc, piece, root, pages, number, wire),
+        Some(connection) => connection.bytes(alloc, piece, root, pages, made, number, wire),
     };
     match standing {
         Standing::Open => {}
@@ -75,13 +82,14 @@ pub(crate) fn take_piece<P: Versions, W: Wire>(
     settle(standing, number, wire);
 }
 
-/// Takes the end of one connection's input. A number that is not open is passed over.
+/// Takes the end of one connection's input. A number that is not open is passed over. `made` counts the replies.
 pub(crate) fn finish<P: Versions, W: Wire>(
     connections: &mut Connections,
     alloc: Global,
     number: u64,
     root: &Option<Str>,
     pages: &mut P,
+    made: &mut u64,
     wire: &mut W,
 )
     requires own { P.Own pages.old }
@@ -89,14 +97,17 @@ pub(crate) fn finish<P: Versions, W: Wire>(
     ensures state { P.state pages.new ≡ P.state pages.old }
     ensures others { OthersStay number (ats (get nat_cmp connections.old) (W.account wire.old) (W.faults wire.old))
         (ats (get nat_cmp connections.new) (W.account wire.new) (W.faults wire.new)) }
-    ensures finished { Finishes (get nat_cmp connections.old number)
+    ensures finished { (all : Made)
+        × Finishes all (get nat_cmp connections.old number)
         (at_in (get nat_cmp connections.old) (W.account wire.old) (W.faults wire.old) number)
-        (at_in (get nat_cmp connections.new) (W.account wire.new) (W.faults wire.new) number) }
+        (at_in (get nat_cmp connections.new) (W.account wire.new) (W.faults wire.new) number)
+        × (made.new ≡ up_by all.replies made.old)
+        × AllLooked (P.looks (P.state pages.old)) (P.cache pages.old) all.terms (P.cache pages.new) }
     ensures stays { (W.given wire.new ≡ W.given wire.old) × (W.left wire.new ≡ W.left wire.old) × (W.listens wire.new ≡ W.listens wire.old) × (W.next_faults wire.new ≡ W.next_faults wire.old) }
 {
     let standing = match connections.get_mut(&number) {
         None => return,
-        Some(connection) => connection.end(alloc, root, pages, number, wire),
+        Some(connection) => connection.end(alloc, root, pages, made, number, wire),
     };
     forget(connections, number);
     settle(standing, number, wire);

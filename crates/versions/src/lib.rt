@@ -1,7 +1,7 @@
 //! Pages of a site whose data a text may replace.
 #![tactic(auto)]
 
-ghost use Rattle.std.specs.Prelude.{◌≡◌, ◌↔◌, ℕ, List, Bool, true, false, Contains, IfOk, Ok};
+ghost use Rattle.std.specs.Prelude.{◌≡◌, ◌↔◌, ℕ, List, Bool, true, false, Contains, IfOk, OnErr, Ok};
 ghost use Rattle.sd_value.specs.declared.Term.{Term};
 ghost use Rattle.tmpl.specs.Body.{TemplateFile};
 ghost use Rattle.page_spec.specs.declared.Outcome.{Outcome};
@@ -34,11 +34,16 @@ pub enum Changed {
 
 /// The pages of a site, one at a time, whose state changes at `change` alone. Three relations say how, and no call
 /// changes them: which texts are accepted in a state, which state they then make, and which terms' pages surely stay.
-/// `Own` is what an implementation keeps true of itself from call to call.
+/// Beside its state an implementation may keep pages that were looked up: `Cache` is what it keeps, and relations say what
+/// a look-up and a text make of it. `Own` is what an implementation keeps true of itself from call to call.
 pub trait Versions {
     ghost State: { Type 0 };
 
+    ghost Cache: { Type 0 };
+
     ghost state: { Self → State };
+
+    ghost cache: { Self → Cache };
 
     ghost site: { State → Site };
 
@@ -50,6 +55,15 @@ pub trait Versions {
 
     ghost stays: { State → List ℕ → Term → Bool };
 
+    /// What is kept after a look-up of a term.
+    ghost looks: { State → Cache → Term → Cache → Type 0 };
+
+    /// What is kept after a text.
+    ghost renews: { State → List ℕ → Cache → Cache → Type 0 };
+
+    /// How many look-ups found what was kept.
+    ghost found: { Cache → ℕ };
+
     ghost Own: { Self → Type 0 };
 
     /// What asking for the page of the term gives.
@@ -57,7 +71,9 @@ pub trait Versions {
         requires own { Own self.old }
         ensures own { Own self.new }
         ensures state { state self.new ≡ state self.old }
-        ensures outcome { IfOk result (λ o. IsOutcome (site (state self.old)) (templates (state self.old)) term.now o) };
+        ensures outcome { IfOk result (λ o. IsOutcome (site (state self.old)) (templates (state self.old)) term.now o) }
+        ensures looks { IfOk result (λ o. looks (state self.old) (cache self.old) term.now (cache self.new)) }
+        ensures err { OnErr result (cache self.new ≡ cache self.old) };
 
     /// Takes a text. Where it is accepted, the answer has a truth value for each of the terms `kept`, which is true
     /// only where that term's outcome is as it was. After want of memory the state may be any.
@@ -70,5 +86,11 @@ pub trait Versions {
         ensures flags { IfOk result (TellsEach (stays (state self.old) text.now) kept.now) }
         ensures sound { IfOk result (λ c. (t : Term) (o : Outcome) → Contains kept.now t → stays (state self.old) text.now t ≡ true
             → IsOutcome (site (state self.old)) (templates (state self.old)) t o
-            → IsOutcome (site (state self.new)) (templates (state self.new)) t o) };
+            → IsOutcome (site (state self.new)) (templates (state self.new)) t o) }
+        ensures renews { IfOk result (λ c. renews (state self.old) text.now (cache self.old) (cache self.new)) }
+        ensures found { found (cache self.new) ≡ found (cache self.old) };
+
+    /// How many look-ups found what was kept. It takes no memory.
+    fn hits(&self) -> u64
+        ensures { result ≡ found (cache self.now) };
 }

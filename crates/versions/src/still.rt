@@ -7,7 +7,7 @@ use sd_value::{NoMemory, Str, Term};
 use site_view::Pages;
 use std::alloc::Global;
 
-/// Pages whose data stand still: no text is accepted.
+/// Pages whose data stand still: no text is accepted. None is kept.
 #[derive(Drop)]
 pub struct Still<P> {
     pub pages: P,
@@ -16,7 +16,11 @@ pub struct Still<P> {
 impl<P: Pages> Versions for Still<P> {
     ghost State = { P.Fixed };
 
+    ghost Cache = { Unit {0} };
+
     ghost state = { λ s. P.fixed s.pages };
+
+    ghost cache = { λ s. record {} };
 
     ghost site = { P.site };
 
@@ -28,6 +32,12 @@ impl<P: Pages> Versions for Still<P> {
 
     ghost stays = { λ state text term. false };
 
+    ghost looks = { λ state before term after. Unit {0} };
+
+    ghost renews = { λ state text before after. Unit {0} };
+
+    ghost found = { λ cache. 0 };
+
     ghost Own = { λ s. P.Own s.pages };
 
     fn page(&mut self, alloc: Global, term: &Term) -> Result<Outcome, NoMemory> {
@@ -36,5 +46,9 @@ impl<P: Pages> Versions for Still<P> {
 
     fn change(&mut self, alloc: Global, _text: &Str, _kept: &[Term]) -> Result<Changed, NoMemory> {
         Ok(Changed::Refused)
+    }
+
+    fn hits(&self) -> u64 {
+        0
     }
 }

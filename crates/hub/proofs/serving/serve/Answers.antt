@@ -1,11 +1,14 @@
-use Rattle.std.proofs.Common.{◌≡◌, ◌<◌, false, ℕ, refl, sym, ◌∙◌, subst, arith, List, Option, ◌++◌, ◌∷◌, [], length-append, length}
+use Rattle.std.proofs.Common.{◌≡◌, ◌<◌, false, ℕ, refl, sym, ◌∙◌, subst, arith, List, Option, ◌++◌, ◌∷◌, [], length-append, length, inl}
+use Rattle.page_spec.specs.Address.{TermOf}
 use Rattle.wire.specs.Events.{IsNextOf}
+use Rattle.hub.specs.Course.{scene, rules_under}
 use Rattle.hub.specs.Moments.{Moment, Unopened}
 use Rattle.hub.specs.HubState.{line_of}
+use Rattle.hub.specs.Made.{nothing}
 use Rattle.hub.specs.Shown.{shown_in}
 use Rattle.hub.specs.Turns.{ats, at_in}
 use Rattle.wire.specs.declared.WireEvent.{WireEvent}
-use Rattle.hub.proofs.RunLemmas.{runs_more, stands_more, stands_done, given_more, drawn_more, none_more, done_is, runs_moved, turned_at}
+use Rattle.hub.proofs.RunLemmas.{runs_more, stands_more, stands_done, given_more, drawn_more, none_more, done_is, runs_moved, turned_at, passes_more, passes_moved, passes_done, counts_stay}
 use Rattle.hub.proofs.serving.serve.Goals as goal
 
 pub returns-then-is_done-clause-stands : goal.returns-then-is_done-clause-stands
@@ -20,16 +23,20 @@ returns-then-is_done-clause-stands g c =
       given_more (g.W.Wire.given c.args.wire.now) (g.W.Wire.given c.loop.wire) (g.W.Wire.given c.next.new.self) events e c.loop.invariant.6.1 c.in-Ok.ensures.given,
       drawn_more (g.W.Wire.left c.args.wire.now) (g.W.Wire.left c.loop.wire) (g.W.Wire.left c.next.new.self) events e c.loop.invariant.6.2 c.in-Ok.ensures.left,
       (events, subst (λ (x : WireEvent). events ++ e ∷ [] ≡ events ++ x ∷ []) done refl, omega (arith, counted, c.loop-test.true), c.loop.invariant.6.4),
+      inl (passes_done (rules_under c.args.hub.now.root g.P.Versions.site g.P.Versions.templates g.P.Versions.changed g.P.Versions.looks g.P.Versions.renews g.P.Versions.found) c.args.hub.now.limit (scene g.P.Versions.state g.P.Versions.cache c.args.hub.now (g.W.Wire.account c.args.wire.now) (g.W.Wire.faults c.args.wire.now))
+          (scene g.P.Versions.state g.P.Versions.cache c.loop.hub (g.W.Wire.account c.next.new.self) (g.W.Wire.faults c.next.new.self)) events e done
+          (passes_moved (rules_under c.args.hub.now.root g.P.Versions.site g.P.Versions.templates g.P.Versions.changed g.P.Versions.looks g.P.Versions.renews g.P.Versions.found) c.args.hub.now.limit (scene g.P.Versions.state g.P.Versions.cache c.args.hub.now (g.W.Wire.account c.args.wire.now) (g.W.Wire.faults c.args.wire.now)) events c.loop.hub g.P.Versions.state g.P.Versions.cache (g.W.Wire.account c.loop.wire) (g.W.Wire.account c.next.new.self)
+          (g.W.Wire.faults c.loop.wire) (g.W.Wire.faults c.next.new.self) c.in-Ok.ensures.stays.0 c.in-Ok.ensures.stays.1 c.loop.invariant.6.5)),
       λ number none.
-          stands_done page g.P.Versions.changed c.args.hub.now.limit number start events e
-          (at_in (line_of c.args.hub.now) (g.W.Wire.account c.args.wire.now) (g.W.Wire.faults c.args.wire.now) number)
+          stands_done page (TermOf c.args.hub.now.root) g.P.Versions.changed c.args.hub.now.limit number start events e
+          (at_in (line_of c.args.hub.now) (g.W.Wire.account c.args.wire.now) (g.W.Wire.faults c.args.wire.now) number) nothing
           (at_in (line_of c.loop.hub) (g.W.Wire.account c.next.new.self) (g.W.Wire.faults c.next.new.self) number)
           (g.P.Versions.state c.loop.hub.pages) c.loop.hub.greatest done
           (runs_moved page g.P.Versions.changed c.args.hub.now.limit number start events
           (at_in (line_of c.args.hub.now) (g.W.Wire.account c.args.wire.now) (g.W.Wire.faults c.args.wire.now) number)
           (line_of c.loop.hub) (g.W.Wire.account c.loop.wire) (g.W.Wire.account c.next.new.self)
           (g.W.Wire.faults c.loop.wire) (g.W.Wire.faults c.next.new.self) (g.P.Versions.state c.loop.hub.pages) c.loop.hub.greatest
-          c.in-Ok.ensures.stays.0 c.in-Ok.ensures.stays.1 (c.loop.invariant.6.5 number none)),
+          c.in-Ok.ensures.stays.0 c.in-Ok.ensures.stays.1 (c.loop.invariant.6.6 number none)),
     )
 
 pub returns-then-spent-clause-stands : goal.returns-then-spent-clause-stands
@@ -39,6 +46,12 @@ returns-then-spent-clause-stands g c =
     let e = c.in-Ok.event in
     let events = c.loop.invariant.6.0 in
     let start : Moment g.P.Versions.State = record { current = g.P.Versions.state c.args.hub.now.pages; greatest = c.args.hub.now.greatest; input = Unopened } in
+    let told = c.step.ensures.turned c.loop.invariant.2 in
+    let turned = turned_at (λ r. shown_in r g.P.Versions.site g.P.Versions.templates) TermOf (g.P.Versions.state c.loop.hub.pages) c.loop.hub.root c.args.hub.now.root c.loop.hub.limit c.args.hub.now.limit c.loop.hub.greatest e told.0
+    (ats (line_of c.loop.hub) (g.W.Wire.account c.next.new.self) (g.W.Wire.faults c.next.new.self))
+    (ats (line_of c.step.new.self) (g.W.Wire.account c.step.new.wire) (g.W.Wire.faults c.step.new.wire))
+    c.loop.invariant.1 c.loop.invariant.0 told.1 in
+    let spends = c.step.ensures.spends c.loop.invariant.2 (sym c.spent.ensures ∙ c.if-spent.true) in
     let counted : length events ≡ c.loop.counter = c.loop.invariant.6.3 in
     let next : IsNextOf (g.W.Wire.left c.loop.wire) e (g.W.Wire.left c.step.new.wire) =
     subst (λ (o : Option (List WireEvent)). IsNextOf (g.W.Wire.left c.loop.wire) e o) (sym c.step.ensures.stays.1) c.in-Ok.ensures.left in (
@@ -47,9 +60,15 @@ returns-then-spent-clause-stands g c =
           (c.step.ensures.stays.0 ∙ c.in-Ok.ensures.given),
       drawn_more (g.W.Wire.left c.args.wire.now) (g.W.Wire.left c.loop.wire) (g.W.Wire.left c.step.new.wire) events e c.loop.invariant.6.2 next,
       (omega (arith, counted, c.loop-test.true, length-append events (e ∷ [])), none_more events e c.loop.invariant.6.4 (sym c.is_done.ensures ∙ c.if-is_done.false)),
+      counts_stay (rules_under c.args.hub.now.root g.P.Versions.site g.P.Versions.templates g.P.Versions.changed g.P.Versions.looks g.P.Versions.renews g.P.Versions.found) c.args.hub.now.limit (scene g.P.Versions.state g.P.Versions.cache c.args.hub.now (g.W.Wire.account c.args.wire.now) (g.W.Wire.faults c.args.wire.now))
+          (scene g.P.Versions.state g.P.Versions.cache c.loop.hub (g.W.Wire.account c.next.new.self) (g.W.Wire.faults c.next.new.self))
+          (scene g.P.Versions.state g.P.Versions.cache c.step.new.self (g.W.Wire.account c.step.new.wire) (g.W.Wire.faults c.step.new.wire)) events e spends.0.0 told.0 spends.0.1
+          (passes_moved (rules_under c.args.hub.now.root g.P.Versions.site g.P.Versions.templates g.P.Versions.changed g.P.Versions.looks g.P.Versions.renews g.P.Versions.found) c.args.hub.now.limit (scene g.P.Versions.state g.P.Versions.cache c.args.hub.now (g.W.Wire.account c.args.wire.now) (g.W.Wire.faults c.args.wire.now)) events c.loop.hub g.P.Versions.state g.P.Versions.cache (g.W.Wire.account c.loop.wire) (g.W.Wire.account c.next.new.self)
+          (g.W.Wire.faults c.loop.wire) (g.W.Wire.faults c.next.new.self) c.in-Ok.ensures.stays.0 c.in-Ok.ensures.stays.1 c.loop.invariant.6.5)
+          turned (c.step.ensures.opened c.loop.invariant.2) told.2 spends.1,
       λ number none.
-          stands_more page g.P.Versions.changed c.args.hub.now.limit number start events e
-          (at_in (line_of c.args.hub.now) (g.W.Wire.account c.args.wire.now) (g.W.Wire.faults c.args.wire.now) number)
+          stands_more page (TermOf c.args.hub.now.root) g.P.Versions.changed c.args.hub.now.limit number start events e
+          (at_in (line_of c.args.hub.now) (g.W.Wire.account c.args.wire.now) (g.W.Wire.faults c.args.wire.now) number) told.0
           (ats (line_of c.loop.hub) (g.W.Wire.account c.next.new.self) (g.W.Wire.faults c.next.new.self))
           (ats (line_of c.step.new.self) (g.W.Wire.account c.step.new.wire) (g.W.Wire.faults c.step.new.wire))
           (g.P.Versions.state c.loop.hub.pages) c.loop.hub.greatest some
@@ -57,11 +76,8 @@ returns-then-spent-clause-stands g c =
           (at_in (line_of c.args.hub.now) (g.W.Wire.account c.args.wire.now) (g.W.Wire.faults c.args.wire.now) number)
           (line_of c.loop.hub) (g.W.Wire.account c.loop.wire) (g.W.Wire.account c.next.new.self)
           (g.W.Wire.faults c.loop.wire) (g.W.Wire.faults c.next.new.self) (g.P.Versions.state c.loop.hub.pages) c.loop.hub.greatest
-          c.in-Ok.ensures.stays.0 c.in-Ok.ensures.stays.1 (c.loop.invariant.6.5 number none))
-          (turned_at (λ r. shown_in r g.P.Versions.site g.P.Versions.templates) (g.P.Versions.state c.loop.hub.pages) c.loop.hub.root c.args.hub.now.root c.loop.hub.limit c.args.hub.now.limit c.loop.hub.greatest e
-          (ats (line_of c.loop.hub) (g.W.Wire.account c.next.new.self) (g.W.Wire.faults c.next.new.self))
-          (ats (line_of c.step.new.self) (g.W.Wire.account c.step.new.wire) (g.W.Wire.faults c.step.new.wire))
-          c.loop.invariant.1 c.loop.invariant.0 (c.step.ensures.turned c.loop.invariant.2)),
+          c.in-Ok.ensures.stays.0 c.in-Ok.ensures.stays.1 (c.loop.invariant.6.6 number none))
+          turned,
     )
 
 pub loop-preserved : goal.loop-preserved
@@ -72,6 +88,11 @@ loop-preserved g c =
     let e = c.in-Ok.event in
     let events = c.loop.invariant.6.0 in
     let start : Moment g.P.Versions.State = record { current = g.P.Versions.state c.args.hub.now.pages; greatest = c.args.hub.now.greatest; input = Unopened } in
+    let told = c.step.ensures.turned c.loop.invariant.2 in
+    let turned = turned_at (λ r. shown_in r g.P.Versions.site g.P.Versions.templates) TermOf (g.P.Versions.state c.loop.hub.pages) c.loop.hub.root c.args.hub.now.root c.loop.hub.limit c.args.hub.now.limit c.loop.hub.greatest e told.0
+    (ats (line_of c.loop.hub) (g.W.Wire.account c.next.new.self) (g.W.Wire.faults c.next.new.self))
+    (ats (line_of c.step.new.self) (g.W.Wire.account c.step.new.wire) (g.W.Wire.faults c.step.new.wire))
+    c.loop.invariant.1 c.loop.invariant.0 told.1 in
     let counted : length events ≡ c.loop.counter = c.loop.invariant.6.3 in
     let next : IsNextOf (g.W.Wire.left c.loop.wire) e (g.W.Wire.left c.step.new.wire) =
     subst (λ (o : Option (List WireEvent)). IsNextOf (g.W.Wire.left c.loop.wire) e o) (sym c.step.ensures.stays.1) c.in-Ok.ensures.left in (
@@ -88,9 +109,23 @@ loop-preserved g c =
         drawn_more (g.W.Wire.left c.args.wire.now) (g.W.Wire.left c.loop.wire) (g.W.Wire.left c.step.new.wire) events e c.loop.invariant.6.2 next,
         omega (arith, counted, length-append events (e ∷ [])),
         none_more events e c.loop.invariant.6.4 (sym c.is_done.ensures ∙ c.if-is_done.false),
+        passes_more (rules_under c.args.hub.now.root g.P.Versions.site g.P.Versions.templates g.P.Versions.changed g.P.Versions.looks g.P.Versions.renews g.P.Versions.found) c.args.hub.now.limit (scene g.P.Versions.state g.P.Versions.cache c.args.hub.now (g.W.Wire.account c.args.wire.now) (g.W.Wire.faults c.args.wire.now))
+            (scene g.P.Versions.state g.P.Versions.cache c.loop.hub (g.W.Wire.account c.next.new.self) (g.W.Wire.faults c.next.new.self))
+            (scene g.P.Versions.state g.P.Versions.cache c.step.new.self (g.W.Wire.account c.step.new.wire) (g.W.Wire.faults c.step.new.wire)) events e
+            (passes_moved (rules_under c.args.hub.now.root g.P.Versions.site g.P.Versions.templates g.P.Versions.changed g.P.Versions.looks g.P.Versions.renews g.P.Versions.found) c.args.hub.now.limit (scene g.P.Versions.state g.P.Versions.cache c.args.hub.now (g.W.Wire.account c.args.wire.now) (g.W.Wire.faults c.args.wire.now)) events c.loop.hub g.P.Versions.state g.P.Versions.cache (g.W.Wire.account c.loop.wire) (g.W.Wire.account c.next.new.self)
+            (g.W.Wire.faults c.loop.wire) (g.W.Wire.faults c.next.new.self) c.in-Ok.ensures.stays.0 c.in-Ok.ensures.stays.1 c.loop.invariant.6.5)
+            (record {
+              made = told.0;
+              turned = turned;
+              current = c.step.ensures.state c.loop.invariant.2 alive;
+              greatest = c.step.ensures.greatest c.loop.invariant.2;
+              opened = c.step.ensures.opened c.loop.invariant.2;
+              replies = told.2;
+              cache = told.3 alive;
+            }),
         λ number none.
-            runs_more page g.P.Versions.changed c.args.hub.now.limit number start events e
-            (at_in (line_of c.args.hub.now) (g.W.Wire.account c.args.wire.now) (g.W.Wire.faults c.args.wire.now) number)
+            runs_more page (TermOf c.args.hub.now.root) g.P.Versions.changed c.args.hub.now.limit number start events e
+            (at_in (line_of c.args.hub.now) (g.W.Wire.account c.args.wire.now) (g.W.Wire.faults c.args.wire.now) number) told.0
             (ats (line_of c.loop.hub) (g.W.Wire.account c.next.new.self) (g.W.Wire.faults c.next.new.self))
             (ats (line_of c.step.new.self) (g.W.Wire.account c.step.new.wire) (g.W.Wire.faults c.step.new.wire))
             (g.P.Versions.state c.loop.hub.pages) (g.P.Versions.state c.step.new.self.pages) c.loop.hub.greatest c.step.new.self.greatest some
@@ -98,11 +133,8 @@ loop-preserved g c =
             (at_in (line_of c.args.hub.now) (g.W.Wire.account c.args.wire.now) (g.W.Wire.faults c.args.wire.now) number)
             (line_of c.loop.hub) (g.W.Wire.account c.loop.wire) (g.W.Wire.account c.next.new.self)
             (g.W.Wire.faults c.loop.wire) (g.W.Wire.faults c.next.new.self) (g.P.Versions.state c.loop.hub.pages) c.loop.hub.greatest
-            c.in-Ok.ensures.stays.0 c.in-Ok.ensures.stays.1 (c.loop.invariant.6.5 number none))
-            (turned_at (λ r. shown_in r g.P.Versions.site g.P.Versions.templates) (g.P.Versions.state c.loop.hub.pages) c.loop.hub.root c.args.hub.now.root c.loop.hub.limit c.args.hub.now.limit c.loop.hub.greatest e
-            (ats (line_of c.loop.hub) (g.W.Wire.account c.next.new.self) (g.W.Wire.faults c.next.new.self))
-            (ats (line_of c.step.new.self) (g.W.Wire.account c.step.new.wire) (g.W.Wire.faults c.step.new.wire))
-            c.loop.invariant.1 c.loop.invariant.0 (c.step.ensures.turned c.loop.invariant.2))
+            c.in-Ok.ensures.stays.0 c.in-Ok.ensures.stays.1 (c.loop.invariant.6.6 number none))
+            turned
             (c.step.ensures.state c.loop.invariant.2 alive) (c.step.ensures.greatest c.loop.invariant.2),
       ),
     )

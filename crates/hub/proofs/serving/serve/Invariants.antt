@@ -4,6 +4,7 @@ use Rattle.wire.specs.Events.{add_event, is_done, IsDrawn}
 use Rattle.wire.specs.declared.WireEvent.{WireEvent}
 use Rattle.hub.specs.Moments.{Unopened}
 use Rattle.hub.specs.HubState.{line_of}
+use Rattle.hub.specs.Course.{scene, rules_under, PassesAll}
 use Rattle.hub.specs.Shown.{shown_in}
 use Rattle.hub.specs.Turns.{at_in}
 use Rattle.hub.proofs.RunLemmas.{Runs}
@@ -22,6 +23,9 @@ invariant-loop g l =
     × IsDrawn (g.W.Wire.left l.fn.wire) events (g.W.Wire.left l.wire)
     × (length events ≡ l.counter)
     × (list_any is_done events ≡ false)
+    × PassesAll (rules_under l.fn.hub.root g.P.Versions.site g.P.Versions.templates g.P.Versions.changed g.P.Versions.looks g.P.Versions.renews g.P.Versions.found) l.fn.hub.limit
+    (scene g.P.Versions.state g.P.Versions.cache l.fn.hub (g.W.Wire.account l.fn.wire) (g.W.Wire.faults l.fn.wire)) events
+    (scene g.P.Versions.state g.P.Versions.cache l.hub (g.W.Wire.account l.wire) (g.W.Wire.faults l.wire))
     × ((number : ℕ) → (line_of l.fn.hub) number ≡ None
     → Runs (shown_in l.fn.hub.root g.P.Versions.site g.P.Versions.templates) g.P.Versions.changed l.fn.hub.limit number
     (record { current = g.P.Versions.state l.fn.hub.pages; greatest = l.fn.hub.greatest; input = Unopened }) events

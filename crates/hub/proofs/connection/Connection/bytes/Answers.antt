@@ -1,6 +1,9 @@
-use Rattle.std.proofs.Common.{◌==◌, ◌-◌, length, refl, ◌∙◌, arith, Some, None, take, drop, []}
-use Rattle.std.proofs.lemmas.List.{take_rest, length-take-le}
+use Rattle.std.proofs.Common.{◌≡◌, ◌<◌, ◌≤◌, ◌==◌, ◌-◌, ◌+◌, ◌++◌, ℕ, List, length, refl, sym, subst, ◌∙◌, arith, Some, None, take, drop, [], append-nil}
+use Rattle.std.proofs.lemmas.List.{take_rest, length-take-le, take_all}
+use Rattle.page_spec.specs.Address.{TermOf}
+use Rattle.hub.specs.Pieces.{StaysOpen}
 use Rattle.hub.specs.Shown.{shown_in}
+use Rattle.hub.proofs.MadeLemmas.{made_more, made_so_far, looked_on}
 use Rattle.http_spec.specs.declared.Standing.TheVariants.{Open, Closed, Short, Lost}
 use Rattle.hub.proofs.StepLemmas.{waits, asked_rest, no_head_asked, starts, fed_case}
 use Rattle.hub.proofs.ServeLemmas.{answered_now, faults_open, serve_open, serve_closed, serve_short, serve_lost}
@@ -15,6 +18,10 @@ loop-from-init g c = (
     starts (shown_in c.args.root.now g.P.Versions.site g.P.Versions.templates (g.P.Versions.state c.args.pages.now)) c.args.self.now c.self.inside.reading.rest c.self.inside.left []
         c.self.view_is c.self.invariant.0 c.self.invariant.1 c.self.invariant.2,
     refl,
+    [],
+    refl,
+    refl,
+    refl,
   ),
   λ other apart. refl,
   refl,
@@ -28,14 +35,23 @@ returns-in_default-clause-served g c =
     let piece = c.args.piece.now in
     let from = c.loop-from.from in
     let p = take (length piece - from) (drop from piece) in
+    let inv = c.loop-from.invariant.2 in
     let fed = fed_case c.loop-from.self-inside.reading.rest p c.feed-fed.result None c.feed-fed.new.self c.in_default.is c.feed-fed.ensures.fed in (
-      c.loop-from.invariant.2.0,
-      waits (shown_in c.args.root.now g.P.Versions.site g.P.Versions.templates (g.P.Versions.state c.args.pages.now)) c.args.self.now piece p from c.feed-fed.result.taken
-          (record { rest = c.loop-from.self-inside.reading.rest; left = c.loop-from.self-inside.left }) c.feed-fed.new.self
-          [] c.loop-from.invariant.2.0 c.loop-from.invariant.2.0
-          (take_rest piece from) c.loop-from.invariant.2.1 fed,
-      c.loop-from.invariant.2.2,
-      c.loop-from.invariant.4,
+      record { replies = length inv.0; terms = inv.3 },
+      (
+        inv.0,
+        (
+          inv.1.heads,
+          waits (shown_in c.args.root.now g.P.Versions.site g.P.Versions.templates (g.P.Versions.state c.args.pages.now)) c.args.self.now piece p from c.feed-fed.result.taken
+              (record { rest = c.loop-from.self-inside.reading.rest; left = c.loop-from.self-inside.left }) c.feed-fed.new.self
+              [] inv.0 inv.0 (take_rest piece from) inv.1 fed,
+          record { looked = inv.3; extra = []; count = refl; look_ups = inv.4; may = refl; terms = sym (append-nil inv.3) },
+        ),
+        inv.2,
+        c.loop-from.invariant.4,
+      ),
+      inv.5,
+      inv.6,
     )
 
 pub loop-from-preserved : goal.loop-from-preserved
@@ -44,19 +60,31 @@ loop-from-preserved g c =
     let from = c.loop-from.from in
     let p = take (length piece - from) (drop from piece) in
     let fed = fed_case c.loop-from.self-inside.reading.rest p c.feed-fed.result (Some c.in-Some.ask) c.feed-fed.new.self c.in-Some.is c.feed-fed.ensures.fed in
-    let answered = answered_now (shown_in c.args.root.now g.P.Versions.site g.P.Versions.templates) Open (g.P.Versions.state c.loop-from.pages) (g.P.Versions.state c.args.pages.now) c.in-Some.ask c.target.result.now c.feed-fed.new.self.target c.loop-from.self-inside.left
+    let inv = c.loop-from.invariant.2 in
+    let sent = c.in-Open.ensures.sent in
+    let answered = answered_now (shown_in c.args.root.now g.P.Versions.site g.P.Versions.templates) (TermOf c.args.root.now) sent.0 Open (g.P.Versions.state c.loop-from.pages) (g.P.Versions.state c.args.pages.now) c.in-Some.ask c.target.result.now c.feed-fed.new.self.target c.loop-from.self-inside.left
     (g.W.Wire.account c.loop-from.wire c.args.number) (g.W.Wire.account c.answer.new.wire c.args.number) (g.W.Wire.faults c.loop-from.wire c.args.number)
-    (g.W.Wire.faults c.answer.new.wire c.args.number) c.loop-from.invariant.1 c.target.ensures c.in-Open.ensures.sent in (
+    (g.W.Wire.faults c.answer.new.wire c.args.number) c.loop-from.invariant.1 c.target.ensures sent.1 in
+    let opened = serve_open (shown_in c.args.root.now g.P.Versions.site g.P.Versions.templates (g.P.Versions.state c.args.pages.now)) (TermOf c.args.root.now) c.args.self.now piece p from c.feed-fed.result.taken
+    (record { rest = c.loop-from.self-inside.reading.rest; left = c.loop-from.self-inside.left }) c.feed-fed.new.self inv.0
+    (take_rest piece from) inv.1 c.in-Some.ask fed
+    (g.W.Wire.account c.args.wire.now c.args.number) (g.W.Wire.account c.loop-from.wire c.args.number) (g.W.Wire.account c.answer.new.wire c.args.number)
+    (g.W.Wire.faults c.args.wire.now c.args.number) (g.W.Wire.faults c.loop-from.wire c.args.number) (g.W.Wire.faults c.answer.new.wire c.args.number)
+    inv.2 c.loop-from.invariant.4 inv.3 inv.4 sent.0 answered in (
       omega (arith, c.feed-fed.ensures.taken, length-take-le (length piece - from) (drop from piece)),
       c.in-Open.ensures.state ∙ c.loop-from.invariant.1,
-      serve_open (shown_in c.args.root.now g.P.Versions.site g.P.Versions.templates (g.P.Versions.state c.args.pages.now)) c.args.self.now piece p from c.feed-fed.result.taken
-          (record { rest = c.loop-from.self-inside.reading.rest; left = c.loop-from.self-inside.left }) c.feed-fed.new.self c.loop-from.invariant.2.0
-          (take_rest piece from) c.loop-from.invariant.2.1 c.in-Some.ask fed
-          (g.W.Wire.account c.args.wire.now c.args.number) (g.W.Wire.account c.loop-from.wire c.args.number) (g.W.Wire.account c.answer.new.wire c.args.number)
-          (g.W.Wire.faults c.args.wire.now c.args.number) (g.W.Wire.faults c.loop-from.wire c.args.number) (g.W.Wire.faults c.answer.new.wire c.args.number)
-          c.loop-from.invariant.2.2 c.loop-from.invariant.4 answered,
+      (
+        opened.0,
+        opened.1,
+        opened.2,
+        inv.3 ++ sent.0.terms,
+        opened.3,
+        made_more c.args.made.now c.loop-from.made c.answer.new.made inv.0 opened.0 sent.0 inv.5 sent.2 opened.4,
+        looked_on g.P.Versions.looks (g.P.Versions.state c.loop-from.pages) (g.P.Versions.state c.args.pages.now) inv.3 sent.0.terms
+            (g.P.Versions.cache c.args.pages.now) (g.P.Versions.cache c.loop-from.pages) (g.P.Versions.cache c.answer.new.pages) c.loop-from.invariant.1 inv.6 sent.3,
+      ),
       λ other apart. c.in-Open.ensures.others other apart ∙ c.loop-from.invariant.3 other apart,
-      faults_open (shown_in c.args.root.now g.P.Versions.site g.P.Versions.templates (g.P.Versions.state c.args.pages.now)) c.in-Some.ask c.feed-fed.new.self.target (c.loop-from.self-inside.left == 1) _ _ _ _ answered ∙ c.loop-from.invariant.4,
+      faults_open (shown_in c.args.root.now g.P.Versions.site g.P.Versions.templates (g.P.Versions.state c.args.pages.now)) (TermOf c.args.root.now) c.in-Some.ask c.feed-fed.new.self.target (c.loop-from.self-inside.left == 1) sent.0 _ _ _ _ answered ∙ c.loop-from.invariant.4,
       λ other apart. c.in-Open.ensures.others_fine other apart ∙ c.loop-from.invariant.5 other apart,
       (c.in-Open.ensures.stays.0 ∙ c.loop-from.invariant.6.0, c.in-Open.ensures.stays.1 ∙ c.loop-from.invariant.6.1, c.in-Open.ensures.stays.2 ∙ c.loop-from.invariant.6.2, c.in-Open.ensures.stays.3 ∙ c.loop-from.invariant.6.3),
       c.in-Open.ensures.own,
@@ -98,15 +126,22 @@ returns-in-Closed-clause-served g c =
     let from = c.loop-from.from in
     let p = take (length piece - from) (drop from piece) in
     let fed = fed_case c.loop-from.self-inside.reading.rest p c.feed-fed.result (Some c.in-Some.ask) c.feed-fed.new.self c.in-Some.is c.feed-fed.ensures.fed in
-    let answered = answered_now (shown_in c.args.root.now g.P.Versions.site g.P.Versions.templates) Closed (g.P.Versions.state c.loop-from.pages) (g.P.Versions.state c.args.pages.now) c.in-Some.ask c.target.result.now c.feed-fed.new.self.target c.loop-from.self-inside.left
+    let inv = c.loop-from.invariant.2 in
+    let sent = c.in-Closed.ensures.sent in
+    let answered = answered_now (shown_in c.args.root.now g.P.Versions.site g.P.Versions.templates) (TermOf c.args.root.now) sent.0 Closed (g.P.Versions.state c.loop-from.pages) (g.P.Versions.state c.args.pages.now) c.in-Some.ask c.target.result.now c.feed-fed.new.self.target c.loop-from.self-inside.left
     (g.W.Wire.account c.loop-from.wire c.args.number) (g.W.Wire.account c.answer.new.wire c.args.number) (g.W.Wire.faults c.loop-from.wire c.args.number)
-    (g.W.Wire.faults c.answer.new.wire c.args.number) c.loop-from.invariant.1 c.target.ensures c.in-Closed.ensures.sent in
-    serve_closed (shown_in c.args.root.now g.P.Versions.site g.P.Versions.templates (g.P.Versions.state c.args.pages.now)) c.args.self.now piece p from c.feed-fed.result.taken
-    (record { rest = c.loop-from.self-inside.reading.rest; left = c.loop-from.self-inside.left }) c.feed-fed.new.self c.loop-from.invariant.2.0
-    (take_rest piece from) c.loop-from.invariant.2.1 c.in-Some.ask fed
-    (g.W.Wire.account c.args.wire.now c.args.number) (g.W.Wire.account c.loop-from.wire c.args.number) (g.W.Wire.account c.answer.new.wire c.args.number)
-    (g.W.Wire.faults c.args.wire.now c.args.number) (g.W.Wire.faults c.loop-from.wire c.args.number) (g.W.Wire.faults c.answer.new.wire c.args.number)
-    c.loop-from.invariant.2.2 c.loop-from.invariant.4 c.args.self.now answered
+    (g.W.Wire.faults c.answer.new.wire c.args.number) c.loop-from.invariant.1 c.target.ensures sent.1 in (
+      record { replies = length inv.0 + sent.0.replies; terms = inv.3 ++ sent.0.terms },
+      serve_closed (shown_in c.args.root.now g.P.Versions.site g.P.Versions.templates (g.P.Versions.state c.args.pages.now)) (TermOf c.args.root.now) c.args.self.now piece p from c.feed-fed.result.taken
+          (record { rest = c.loop-from.self-inside.reading.rest; left = c.loop-from.self-inside.left }) c.feed-fed.new.self inv.0
+          (take_rest piece from) inv.1 c.in-Some.ask fed
+          (g.W.Wire.account c.args.wire.now c.args.number) (g.W.Wire.account c.loop-from.wire c.args.number) (g.W.Wire.account c.answer.new.wire c.args.number)
+          (g.W.Wire.faults c.args.wire.now c.args.number) (g.W.Wire.faults c.loop-from.wire c.args.number) (g.W.Wire.faults c.answer.new.wire c.args.number)
+          inv.2 c.loop-from.invariant.4 inv.3 inv.4 sent.0 c.args.self.now answered,
+      made_so_far c.args.made.now c.loop-from.made c.answer.new.made (length inv.0) sent.0.replies inv.5 sent.2,
+      looked_on g.P.Versions.looks (g.P.Versions.state c.loop-from.pages) (g.P.Versions.state c.args.pages.now) inv.3 sent.0.terms
+          (g.P.Versions.cache c.args.pages.now) (g.P.Versions.cache c.loop-from.pages) (g.P.Versions.cache c.answer.new.pages) c.loop-from.invariant.1 inv.6 sent.3,
+    )
 
 pub returns-in-Short-clause-served : goal.returns-in-Short-clause-served
 returns-in-Short-clause-served g c =
@@ -114,15 +149,22 @@ returns-in-Short-clause-served g c =
     let from = c.loop-from.from in
     let p = take (length piece - from) (drop from piece) in
     let fed = fed_case c.loop-from.self-inside.reading.rest p c.feed-fed.result (Some c.in-Some.ask) c.feed-fed.new.self c.in-Some.is c.feed-fed.ensures.fed in
-    let answered = answered_now (shown_in c.args.root.now g.P.Versions.site g.P.Versions.templates) Short (g.P.Versions.state c.loop-from.pages) (g.P.Versions.state c.args.pages.now) c.in-Some.ask c.target.result.now c.feed-fed.new.self.target c.loop-from.self-inside.left
+    let inv = c.loop-from.invariant.2 in
+    let sent = c.in-Short.ensures.sent in
+    let answered = answered_now (shown_in c.args.root.now g.P.Versions.site g.P.Versions.templates) (TermOf c.args.root.now) sent.0 Short (g.P.Versions.state c.loop-from.pages) (g.P.Versions.state c.args.pages.now) c.in-Some.ask c.target.result.now c.feed-fed.new.self.target c.loop-from.self-inside.left
     (g.W.Wire.account c.loop-from.wire c.args.number) (g.W.Wire.account c.answer.new.wire c.args.number) (g.W.Wire.faults c.loop-from.wire c.args.number)
-    (g.W.Wire.faults c.answer.new.wire c.args.number) c.loop-from.invariant.1 c.target.ensures c.in-Short.ensures.sent in
-    serve_short (shown_in c.args.root.now g.P.Versions.site g.P.Versions.templates (g.P.Versions.state c.args.pages.now)) c.args.self.now piece p from c.feed-fed.result.taken
-    (record { rest = c.loop-from.self-inside.reading.rest; left = c.loop-from.self-inside.left }) c.feed-fed.new.self c.loop-from.invariant.2.0
-    (take_rest piece from) c.loop-from.invariant.2.1 c.in-Some.ask fed
-    (g.W.Wire.account c.args.wire.now c.args.number) (g.W.Wire.account c.loop-from.wire c.args.number) (g.W.Wire.account c.answer.new.wire c.args.number)
-    (g.W.Wire.faults c.args.wire.now c.args.number) (g.W.Wire.faults c.loop-from.wire c.args.number) (g.W.Wire.faults c.answer.new.wire c.args.number)
-    c.loop-from.invariant.2.2 c.loop-from.invariant.4 c.args.self.now answered
+    (g.W.Wire.faults c.answer.new.wire c.args.number) c.loop-from.invariant.1 c.target.ensures sent.1 in (
+      record { replies = length inv.0 + sent.0.replies; terms = inv.3 ++ sent.0.terms },
+      serve_short (shown_in c.args.root.now g.P.Versions.site g.P.Versions.templates (g.P.Versions.state c.args.pages.now)) (TermOf c.args.root.now) c.args.self.now piece p from c.feed-fed.result.taken
+          (record { rest = c.loop-from.self-inside.reading.rest; left = c.loop-from.self-inside.left }) c.feed-fed.new.self inv.0
+          (take_rest piece from) inv.1 c.in-Some.ask fed
+          (g.W.Wire.account c.args.wire.now c.args.number) (g.W.Wire.account c.loop-from.wire c.args.number) (g.W.Wire.account c.answer.new.wire c.args.number)
+          (g.W.Wire.faults c.args.wire.now c.args.number) (g.W.Wire.faults c.loop-from.wire c.args.number) (g.W.Wire.faults c.answer.new.wire c.args.number)
+          inv.2 c.loop-from.invariant.4 inv.3 inv.4 sent.0 c.args.self.now answered,
+      made_so_far c.args.made.now c.loop-from.made c.answer.new.made (length inv.0) sent.0.replies inv.5 sent.2,
+      looked_on g.P.Versions.looks (g.P.Versions.state c.loop-from.pages) (g.P.Versions.state c.args.pages.now) inv.3 sent.0.terms
+          (g.P.Versions.cache c.args.pages.now) (g.P.Versions.cache c.loop-from.pages) (g.P.Versions.cache c.answer.new.pages) c.loop-from.invariant.1 inv.6 sent.3,
+    )
 
 pub returns-in-Lost-clause-served : goal.returns-in-Lost-clause-served
 returns-in-Lost-clause-served g c =
@@ -130,12 +172,46 @@ returns-in-Lost-clause-served g c =
     let from = c.loop-from.from in
     let p = take (length piece - from) (drop from piece) in
     let fed = fed_case c.loop-from.self-inside.reading.rest p c.feed-fed.result (Some c.in-Some.ask) c.feed-fed.new.self c.in-Some.is c.feed-fed.ensures.fed in
-    let answered = answered_now (shown_in c.args.root.now g.P.Versions.site g.P.Versions.templates) Lost (g.P.Versions.state c.loop-from.pages) (g.P.Versions.state c.args.pages.now) c.in-Some.ask c.target.result.now c.feed-fed.new.self.target c.loop-from.self-inside.left
+    let inv = c.loop-from.invariant.2 in
+    let sent = c.in-Lost.ensures.sent in
+    let answered = answered_now (shown_in c.args.root.now g.P.Versions.site g.P.Versions.templates) (TermOf c.args.root.now) sent.0 Lost (g.P.Versions.state c.loop-from.pages) (g.P.Versions.state c.args.pages.now) c.in-Some.ask c.target.result.now c.feed-fed.new.self.target c.loop-from.self-inside.left
     (g.W.Wire.account c.loop-from.wire c.args.number) (g.W.Wire.account c.answer.new.wire c.args.number) (g.W.Wire.faults c.loop-from.wire c.args.number)
-    (g.W.Wire.faults c.answer.new.wire c.args.number) c.loop-from.invariant.1 c.target.ensures c.in-Lost.ensures.sent in
-    serve_lost (shown_in c.args.root.now g.P.Versions.site g.P.Versions.templates (g.P.Versions.state c.args.pages.now)) c.args.self.now piece p from c.feed-fed.result.taken
-    (record { rest = c.loop-from.self-inside.reading.rest; left = c.loop-from.self-inside.left }) c.feed-fed.new.self c.loop-from.invariant.2.0
-    (take_rest piece from) c.loop-from.invariant.2.1 c.in-Some.ask fed
-    (g.W.Wire.account c.args.wire.now c.args.number) (g.W.Wire.account c.loop-from.wire c.args.number) (g.W.Wire.account c.answer.new.wire c.args.number)
-    (g.W.Wire.faults c.args.wire.now c.args.number) (g.W.Wire.faults c.loop-from.wire c.args.number) (g.W.Wire.faults c.answer.new.wire c.args.number)
-    c.loop-from.invariant.2.2 c.loop-from.invariant.4 c.args.self.now answered
+    (g.W.Wire.faults c.answer.new.wire c.args.number) c.loop-from.invariant.1 c.target.ensures sent.1 in (
+      record { replies = length inv.0 + sent.0.replies; terms = inv.3 ++ sent.0.terms },
+      serve_lost (shown_in c.args.root.now g.P.Versions.site g.P.Versions.templates (g.P.Versions.state c.args.pages.now)) (TermOf c.args.root.now) c.args.self.now piece p from c.feed-fed.result.taken
+          (record { rest = c.loop-from.self-inside.reading.rest; left = c.loop-from.self-inside.left }) c.feed-fed.new.self inv.0
+          (take_rest piece from) inv.1 c.in-Some.ask fed
+          (g.W.Wire.account c.args.wire.now c.args.number) (g.W.Wire.account c.loop-from.wire c.args.number) (g.W.Wire.account c.answer.new.wire c.args.number)
+          (g.W.Wire.faults c.args.wire.now c.args.number) (g.W.Wire.faults c.loop-from.wire c.args.number) (g.W.Wire.faults c.answer.new.wire c.args.number)
+          inv.2 c.loop-from.invariant.4 inv.3 inv.4 sent.0 c.args.self.now answered,
+      made_so_far c.args.made.now c.loop-from.made c.answer.new.made (length inv.0) sent.0.replies inv.5 sent.2,
+      looked_on g.P.Versions.looks (g.P.Versions.state c.loop-from.pages) (g.P.Versions.state c.args.pages.now) inv.3 sent.0.terms
+          (g.P.Versions.cache c.args.pages.now) (g.P.Versions.cache c.loop-from.pages) (g.P.Versions.cache c.answer.new.pages) c.loop-from.invariant.1 inv.6 sent.3,
+    )
+
+-- the whole piece was taken
+taken_all : (from : ℕ) (piece : List ℕ) → from ≤ length piece → (from < length piece → ⊥) → take from piece ≡ piece
+taken_all from piece within over = take_all from piece (omega arith)
+
+pub returns-clause-served : goal.returns-clause-served
+returns-clause-served g c =
+    let inv = c.loop-from.invariant.2 in
+    let piece = c.args.piece.now in
+    let all = taken_all c.loop-from.from piece c.loop-from.invariant.0 (λ below. omega arith) in
+    let Of : List ℕ → Type 0 = λ bytes.
+    (s : StaysOpen (shown_in c.args.root.now g.P.Versions.site g.P.Versions.templates (g.P.Versions.state c.args.pages.now)) c.args.self.now bytes (record { rest = c.loop-from.self-inside.reading.rest; left = c.loop-from.self-inside.left }) [] inv.0)
+    × (s.heads ≡ inv.1.heads) in (
+      record { replies = length inv.0; terms = inv.3 },
+      (
+        inv.0,
+        (
+          inv.1.heads,
+          subst Of all (inv.1, refl),
+          record { looked = inv.3; extra = []; count = refl; look_ups = inv.4; may = refl; terms = sym (append-nil inv.3) },
+        ),
+        inv.2,
+        c.loop-from.invariant.4,
+      ),
+      inv.5,
+      inv.6,
+    )

@@ -1,7 +1,10 @@
 use Rattle.std.proofs.Common.{length, ◌-◌, ◌≡◌, ◌≤◌, ◌≢◌, ℕ, List, [], take}
 use Rattle.hub.specs.Pieces.{StaysOpen}
 use Rattle.hub.specs.Shown.{shown_in}
-use Rattle.wire.specs.Accounts.{gain}
+use Rattle.sd_value.specs.declared.Term.{Term}
+use Rattle.page_spec.specs.Address.{TermOf}
+use Rattle.wire.specs.Accounts.{gain, up_by}
+use Rattle.hub.specs.Made.{LooksUpAll, AllLooked}
 use Rattle.hub.proofs.connection.Connection.bytes.Given as goal
 
 abbrev pub invariant-loop-from : goal.invariant-loop-from
@@ -9,9 +12,12 @@ invariant-loop-from g l =
     (l.from ≤ length l.piece)
     × (g.P.Versions.state l.pages ≡ g.P.Versions.state l.fn.pages)
     × ((replies : List (List ℕ))
-    × StaysOpen (shown_in l.root g.P.Versions.site g.P.Versions.templates (g.P.Versions.state l.fn.pages)) l.fn.self (take l.from l.piece)
-    (record { rest = l.self-inside.reading.rest; left = l.self-inside.left }) [] replies
-    × (g.W.Wire.account l.wire l.fn.number ≡ gain (g.W.Wire.account l.fn.wire l.fn.number) replies))
+    × (stays : StaysOpen (shown_in l.root g.P.Versions.site g.P.Versions.templates (g.P.Versions.state l.fn.pages)) l.fn.self (take l.from l.piece)
+    (record { rest = l.self-inside.reading.rest; left = l.self-inside.left }) [] replies)
+    × (g.W.Wire.account l.wire l.fn.number ≡ gain (g.W.Wire.account l.fn.wire l.fn.number) replies)
+    × (terms : List Term) × LooksUpAll (TermOf l.root) stays.heads terms
+    × (l.made ≡ up_by (length replies) l.fn.made)
+    × AllLooked (g.P.Versions.looks (g.P.Versions.state l.fn.pages)) (g.P.Versions.cache l.fn.pages) terms (g.P.Versions.cache l.pages))
     × ((other : ℕ) → other ≢ l.fn.number → g.W.Wire.account l.wire other ≡ g.W.Wire.account l.fn.wire other)
     × (g.W.Wire.faults l.wire l.fn.number ≡ g.W.Wire.faults l.fn.wire l.fn.number)
     × ((other : ℕ) → other ≢ l.fn.number → g.W.Wire.faults l.wire other ≡ g.W.Wire.faults l.fn.wire other)

@@ -1,6 +1,8 @@
-use Rattle.std.proofs.Common.{◌≡◌, ℕ, List, ap, subst}
+use Rattle.std.proofs.Common.{◌≡◌, ℕ, List, refl, ap, subst}
+use Rattle.page_spec.specs.Address.{TermOf}
 use Rattle.http_reply.specs.Feeding.{Held, EndsWith}
 use Rattle.hub.specs.Line.{Line}
+use Rattle.hub.specs.Made.{nothing}
 use Rattle.hub.specs.Shown.{shown_in}
 use Rattle.hub.proofs.StepLemmas.{no_head_asked}
 use Rattle.hub.proofs.ServeLemmas.{finish_clean, finish_asked}
@@ -20,10 +22,16 @@ pub returns-in_default-clause-finished : goal.returns-in_default-clause-finished
 returns-in_default-clause-finished g c =
     let rest_is : c.self.inside.reading.rest ≡ c.args.self.now.rest = ap (λ (l : Line). l.rest) c.self.view_is in
     let ends : EndsWith c.args.self.now.rest c.end.result = subst (λ (r : List ℕ). EndsWith r c.end.result) rest_is c.end.ensures.ask in
-    finish_clean c.args.self.now.rest c.end.result _ _ c.in_default.is ends
+    (nothing, finish_clean c.args.self.now.rest c.end.result _ _ c.in_default.is ends, refl, refl)
 
 pub returns-clause-finished : goal.returns-clause-finished
 returns-clause-finished g c =
     let rest_is : c.self.inside.reading.rest ≡ c.args.self.now.rest = ap (λ (l : Line). l.rest) c.self.view_is in
     let ends : EndsWith c.args.self.now.rest c.end.result = subst (λ (r : List ℕ). EndsWith r c.end.result) rest_is c.end.ensures.ask in
-    finish_asked (shown_in c.args.root.now g.P.Versions.site g.P.Versions.templates (g.P.Versions.state c.args.pages.now)) c.args.self.now.rest _ c.end.result c.in-Some.ask c.answer.result _ _ _ _ c.in-Some.is ends c.answer.ensures.sent
+    let sent = c.answer.ensures.sent in (
+      sent.0,
+      finish_asked (shown_in c.args.root.now g.P.Versions.site g.P.Versions.templates (g.P.Versions.state c.args.pages.now)) (TermOf c.args.root.now) c.args.self.now.rest _ c.end.result c.in-Some.ask sent.0
+          c.answer.result _ _ _ _ c.in-Some.is ends sent.1,
+      sent.2,
+      sent.3,
+    )
