@@ -1,24 +1,30 @@
 -- A look-up, by the kept entries.
-use Rattle.std.proofs.Common.{◌≡◌, ℕ, ◌-◌, Bool, true, false, ◌||◌, cond, List, [], ◌∷◌, length, take, refl, sym, ap, ◌∙◌, subst, Option, Some, None, is_some, if◌then◌else◌, nat_le, Contains, zero, suc, ◌⊎◌, inl, inr}
+use Rattle.std.proofs.Common.{◌≡◌, ℕ, ◌<◌, ◌+◌, ◌-◌, Bool, true, false, ◌||◌, cond, List, [], ◌∷◌, ◌++◌, length, take, drop, get_or, map, filter, append_assoc, append-nil, refl, sym, ap, ◌∙◌, subst, Option, Some, None, is_some, if◌then◌else◌, nat_le, Contains, zero, suc, ◌⊎◌, inl, inr}
 use Rattle.std.proofs.Common.{arith, ◌≤◌}
 use Rattle.std.proofs.lemmas.Bool.Decides.{nat_tests}
+use Rattle.std.proofs.lemmas.List.Elements.{Contains-append_left, Contains-append_right}
+use Rattle.std.specs.Prelude.{◌↔◌}
 use Rattle.std.specs.Option.{option_map_or}
 use Rattle.std.specs.Map.{keys_of, lookup, lookup_entry, remove_entry}
-use Rattle.std.specs.Ordering.{is_eq}
+use Rattle.std.specs.Ordering.{is_eq, ordering_reverse}
+use Rattle.std.proofs.Math.Seq.{drop-cons, take-suc, drop-append_seam, take-append_seam}
+use Rattle.std.proofs.lemmas.List.{drop_all, take_all, length-take-le, length-map, map-append}
 use Rattle.std.specs.declared.cmp.Ordering.{Ordering}
 use Rattle.std.specs.declared.cmp.Ordering.TheVariants.{Less, Equal, Greater}
-use Rattle.lru.specs.LruCache.{LruCache, lru_cache, promoted, put_entries}
-use Rattle.lru.proofs.Splits.{Contains-cons}
+use Rattle.lru.specs.LruCache.{LruCache, lru_cache, promoted, demoted, put_entries}
+use Rattle.lru.proofs.Splits.{Contains-cons, Contains-nil, Contains-head, Contains-tail}
 use Rattle.lru.proofs.CallerLemmas.{Contains-lookup_entry, Contains-promoted, Contains-take}
 use Rattle.sd_value.specs.declared.Term.{Term}
 use Rattle.sd_value.specs.Order.{term_cmp}
-use Rattle.sd_value.specs.OrderLaws.{term_cmp-exact}
+use Rattle.sd_value.specs.OrderLaws.{term_cmp-exact, term_cmp-total}
 use Rattle.page_spec.specs.declared.Outcome.{Outcome}
 use Rattle.page_spec.specs.declared.Outcome.TheVariants.{Page, Missing, Cyclic, TooLong}
 use Rattle.page_cache.specs.declared.Hit.TheVariants.{Found, Miss}
 use Rattle.page_cache.specs.declared.TheConstants.{MAX_KEPT}
-use Rattle.page_cache.specs.Entries.{entries_with}
-use Rattle.page_cache.specs.Looks.{is_same, is_kept, without, kept_with, Looks, AreKept}
+use Rattle.page_cache.specs.Entries.{entries_with, entries_where}
+use Rattle.versions.specs.declared.Changed.TheVariants.{Taken, Refused}
+use Rattle.versions.specs.declared.Same.{Same}
+use Rattle.page_cache.specs.Looks.{is_same, is_kept, without, kept_with, kept_after, Looks, AreKept}
 
 -- terms that compare equal are one
 same_term : (t u : Term) → is_same t u ≡ true → t ≡ u
@@ -154,3 +160,169 @@ short_kept kept new term key outcome text copy is short same copied put =
   where
     test : nat_le (length text) MAX_KEPT ≡ true
     test = grind (arith, nat_tests)
+
+-- a term compares equal to itself
+same_self : (t : Term) → is_same t t ≡ true
+same_self t = by_order (term_cmp t t) (term_cmp-total.antisymm t t)
+  where
+    by_order : (o : Ordering) → o ≡ ordering_reverse o → is_eq o ≡ true
+    by_order Less e = cc
+    by_order Equal e = refl
+    by_order Greater e = cc
+
+-- one flag more
+where_more : {X : Type 0} (flags : List Bool) (es : List X) (stays : Bool) (e : X) → length flags ≡ length es
+    → entries_where (flags ++ stays ∷ []) (es ++ e ∷ []) ≡ entries_where flags es ++ (if stays then e ∷ [] else [])
+where_more [] [] stays e same = by_flag stays
+  where
+    by_flag : (b : Bool) → (if b then e ∷ [] else []) ≡ (if b then e ∷ [] else [])
+    by_flag b = refl
+where_more [] (x ∷ es) stays e same = absurd (let never : ⊥ = omega (arith, same) in never)
+where_more (b ∷ flags) [] stays e same = absurd (let never : ⊥ = omega (arith, same) in never)
+where_more (b ∷ flags) (x ∷ es) stays e same = by_flag b (where_more flags es stays e (omega arith))
+  where
+    by_flag : (b : Bool) → entries_where (flags ++ stays ∷ []) (es ++ e ∷ []) ≡ entries_where flags es ++ (if stays then e ∷ [] else [])
+        → (if b then x ∷ entries_where (flags ++ stays ∷ []) (es ++ e ∷ []) else entries_where (flags ++ stays ∷ []) (es ++ e ∷ []))
+        ≡ (if b then x ∷ entries_where flags es else entries_where flags es) ++ (if stays then e ∷ [] else [])
+    by_flag true rest = ap (λ l. x ∷ l) rest
+    by_flag false rest = rest
+
+-- the newest entry goes behind all others, or goes
+turned_first : (e : Term × List ℕ) (rest others : List (Term × List ℕ)) (term : Term) (stays : Bool) → term ≡ e.0
+    → (if stays then demoted (is_same term) ((e ∷ rest) ++ others) else drop 1 ((e ∷ rest) ++ others)) ≡ rest ++ (others ++ (if stays then e ∷ [] else []))
+turned_first e rest others term true same =
+    ap (λ (b : Bool). option_map_or (λ (f : Term × List ℕ). cond b (rest ++ others) (e ∷ remove_entry (is_same term) (rest ++ others)) ++ f ∷ []) (cond b (Some e) (lookup_entry (is_same term) (rest ++ others))) (e ∷ (rest ++ others)))
+    (ap (λ (t : Term). is_same t e.0) same ∙ same_self e.0)
+    ∙ append_assoc rest others (e ∷ [])
+turned_first e rest others term false same = ap (λ l. rest ++ l) (sym (append-nil others))
+
+no_entry : Term × List ℕ
+no_entry = (record { function = []; args = [] }, [])
+
+-- an entry's term
+keys_at : (es : List (Term × List ℕ)) (i : ℕ) (d : Term × List ℕ) → get_or (keys_of es) i d.0 ≡ (get_or es i d).0
+keys_at [] i d = refl
+keys_at (e ∷ es) zero d = refl
+keys_at (e ∷ es) (suc i) d = keys_at es i d
+
+pub length_keys : (es : List (Term × List ℕ)) → length (keys_of es) ≡ length es
+length_keys [] = refl
+length_keys (e ∷ es) = ap suc (length_keys es)
+
+-- one entry more was turned
+pub sift_step : (es : List (Term × List ℕ)) (cap i : ℕ) (flags : List Bool) (term : Term) (stays d : Bool) (t : Term) (kept after : LruCache Term (List ℕ)) → i < length es → length flags ≡ length es
+    → term ≡ get_or (keys_of es) i t → stays ≡ get_or flags i d
+    → kept ≡ lru_cache (drop i es ++ entries_where (take i flags) (take i es)) cap
+    → after ≡ lru_cache (if stays then demoted (is_same term) kept.entries else drop 1 kept.entries) kept.cap
+    → after ≡ lru_cache (drop (i + 1) es ++ entries_where (take (i + 1) flags) (take (i + 1) es)) cap
+sift_step es cap i flags term stays d t kept after below flagged term_is stays_is before step =
+    let e = get_or es i (t, []) in
+    let rest = drop (suc i) es in
+    let others = entries_where (take i flags) (take i es) in
+    let first : drop i es ≡ e ∷ rest = drop-cons es i (t, []) below in
+    let below_flags : i < length flags = omega (arith, below, flagged) in
+    let same : term ≡ e.0 = term_is ∙ keys_at es i (t, []) in
+    let even : length (take i flags) ≡ length (take i es) = length-take-le i flags (omega (arith, below_flags)) ∙ sym (length-take-le i es (omega (arith, below))) in
+    let more : entries_where (take (suc i) flags) (take (suc i) es) ≡ others ++ (if stays then e ∷ [] else []) =
+    ap (λ fs. entries_where fs (take (suc i) es)) (take-suc flags i d below_flags)
+    ∙ ap (λ xs. entries_where (take i flags ++ get_or flags i d ∷ []) xs) (take-suc es i (t, []) below)
+    ∙ where_more (take i flags) (take i es) (get_or flags i d) e even
+    ∙ ap (λ (b : Bool). others ++ (if b then e ∷ [] else [])) (sym stays_is) in
+    step
+    ∙ ap (λ (k : LruCache Term (List ℕ)). lru_cache (if stays then demoted (is_same term) k.entries else drop 1 k.entries) k.cap) before
+    ∙ ap (λ xs. lru_cache (if stays then demoted (is_same term) (xs ++ others) else drop 1 (xs ++ others)) cap) first
+    ∙ ap (λ xs. lru_cache xs cap) (turned_first e rest others term stays same ∙ ap (λ l. rest ++ l) (sym more))
+    ∙ ap (λ n. lru_cache (drop n es ++ entries_where (take n flags) (take n es)) cap) (let one : suc i ≡ i + 1 = omega arith in one)
+
+-- all were turned
+pub sift_end : (es : List (Term × List ℕ)) (cap i : ℕ) (flags : List Bool) (kept : LruCache Term (List ℕ)) → i ≡ length es → length flags ≡ length es
+    → kept ≡ lru_cache (drop i es ++ entries_where (take i flags) (take i es)) cap → kept ≡ lru_cache (entries_where flags es) cap
+sift_end es cap i flags kept all flagged is =
+    is ∙ ap (λ xs. lru_cache (xs ++ entries_where (take i flags) (take i es)) cap) (drop_all i es (omega (arith, all)))
+    ∙ ap (λ fs. lru_cache (entries_where fs (take i es)) cap) (take_all i flags (omega (arith, all, flagged)))
+    ∙ ap (λ xs. lru_cache (entries_where flags xs) cap) (take_all i es (omega (arith, all)))
+
+-- the terms whose flag is true
+keys_where : (stays : Term → Bool) (es : List (Term × List ℕ)) → keys_of (entries_where (map stays (keys_of es)) es) ≡ filter stays (keys_of es)
+keys_where stays [] = refl
+keys_where stays (e ∷ es) = by_flag (stays e.0) (keys_where stays es)
+  where
+    by_flag : (b : Bool) → keys_of (entries_where (map stays (keys_of es)) es) ≡ filter stays (keys_of es)
+        → keys_of (if b then e ∷ entries_where (map stays (keys_of es)) es else entries_where (map stays (keys_of es)) es)
+        ≡ (if b then e.0 ∷ filter stays (keys_of es) else filter stays (keys_of es))
+    by_flag true rest = ap (λ ks. e.0 ∷ ks) rest
+    by_flag false rest = rest
+
+-- an entry whose flag is true was there, and its page stays
+where_holds : (stays : Term → Bool) (es : List (Term × List ℕ)) (entry : Term × List ℕ) → Contains (entries_where (map stays (keys_of es)) es) entry
+    → Contains es entry × (stays entry.0 ≡ true)
+where_holds stays [] entry holds = absurd (Contains-nil entry holds)
+where_holds stays (e ∷ es) entry holds = by_flag (λ there. where_holds stays es entry there) (stays e.0) refl holds
+  where
+    on : (Contains (entries_where (map stays (keys_of es)) es) entry → Contains es entry × (stays entry.0 ≡ true)) → Contains (entries_where (map stays (keys_of es)) es) entry
+        → Contains (e ∷ es) entry × (stays entry.0 ≡ true)
+    on later there = let below = later there in (Contains-tail e es entry below.0, below.1)
+
+    by_flag : (Contains (entries_where (map stays (keys_of es)) es) entry → Contains es entry × (stays entry.0 ≡ true)) → (b : Bool) → stays e.0 ≡ b → Contains (if b then e ∷ entries_where (map stays (keys_of es)) es else entries_where (map stays (keys_of es)) es) entry
+        → Contains (e ∷ es) entry × (stays entry.0 ≡ true)
+    by_flag later true is there = by_place (Contains-cons e (entries_where (map stays (keys_of es)) es) entry there)
+      where
+        by_place : (e ≡ entry) ⊎ Contains (entries_where (map stays (keys_of es)) es) entry → Contains (e ∷ es) entry × (stays entry.0 ≡ true)
+        by_place (inl same) = (subst (λ x. Contains (e ∷ es) x) same (Contains-head e es), ap (λ (x : Term × List ℕ). stays x.0) (sym same) ∙ is)
+        by_place (inr below) = on later below
+    by_flag later false is there = on later there
+
+key_there : (es : List (Term × List ℕ)) (entry : Term × List ℕ) → Contains es entry → Contains (keys_of es) entry.0
+key_there [] entry holds = absurd (Contains-nil entry holds)
+key_there (e ∷ es) entry holds = elim (Contains-cons e es entry holds) [
+  | inl same ↦ subst (λ k. Contains (e.0 ∷ keys_of es) k) (ap (λ (x : Term × List ℕ). x.0) same) (Contains-head e.0 (keys_of es))
+  | inr later ↦ Contains-tail e.0 (keys_of es) entry.0 (key_there es entry later)
+]
+
+-- The terms that were asked about are the caller's, and then those that are kept.
+module _ (stays : Term → Bool) (given : List Term) (es : List (Term × List ℕ)) (all : List Term) (flags : List Bool) (all_is : all ≡ given ++ keys_of es) (flags_are : flags ≡ map stays all) where
+  flags_split : flags ≡ map stays given ++ map stays (keys_of es)
+  flags_split = flags_are ∙ ap (map stays) all_is ∙ map-append stays given (keys_of es)
+
+  pub own_flags : drop (length given) flags ≡ map stays (keys_of es)
+  own_flags =
+      ap (drop (length given)) flags_split
+      ∙ ap (λ n. drop n (map stays given ++ map stays (keys_of es))) (sym (length-map given stays)) ∙ drop-append_seam (map stays given) (map stays (keys_of es))
+
+  pub given_flags : take (length given) flags ≡ map stays given
+  given_flags =
+      ap (take (length given)) flags_split
+      ∙ ap (λ n. take n (map stays given ++ map stays (keys_of es))) (sym (length-map given stays)) ∙ take-append_seam (map stays given) (map stays (keys_of es))
+
+  pub own_terms : drop (length given) all ≡ keys_of es
+  own_terms = ap (drop (length given)) all_is ∙ drop-append_seam given (keys_of es)
+
+-- the text was accepted
+taken_accepts : (accepts : Bool) (same : Same) → ((Taken same ≡ Refused) ↔ (accepts ≡ false)) → accepts ≡ true
+taken_accepts true same means = refl
+taken_accepts false same means = absurd (let never : Taken same ≡ Refused = means.1 refl in cc)
+
+-- What is kept after a text that was accepted.
+module _ (stays : Term → Bool) (given : List Term) (kept : LruCache Term (List ℕ)) (all : List Term) (flags own : List Bool) (after : LruCache Term (List ℕ))
+    (all_is : all ≡ given ++ keys_of kept.entries) (flags_are : flags ≡ map stays all) (own_are : own ≡ drop (length given) flags)
+    (sifted : after ≡ lru_cache (entries_where own kept.entries) kept.cap) where
+  renewed : after.entries ≡ entries_where (map stays (keys_of kept.entries)) kept.entries
+  renewed =
+      ap (λ (k : LruCache Term (List ℕ)). k.entries) sifted
+      ∙ ap (λ fs. entries_where fs kept.entries) (own_are ∙ own_flags stays given kept.entries all flags all_is flags_are)
+
+  pub renewed_terms : (accepts : Bool) (same : Same) → ((Taken same ≡ Refused) ↔ (accepts ≡ false)) → keys_of after.entries ≡ kept_after accepts stays (keys_of kept.entries)
+  renewed_terms accepts same means =
+      ap (λ (es : List (Term × List ℕ)). keys_of es) renewed ∙ keys_where stays kept.entries
+      ∙ ap (λ (b : Bool). kept_after b stays (keys_of kept.entries)) (sym (taken_accepts accepts same means))
+
+  -- each was kept, and its page is as it was
+  pub renewed_sound : (Old New : Term → Outcome → Type 0) → AreKept Old kept.entries → ((t : Term) (o : Outcome) → Contains all t → stays t ≡ true → Old t o → New t o)
+      → AreKept New after.entries
+  renewed_sound Old New sound same entry holds =
+      let there = where_holds stays kept.entries entry (subst (λ es. Contains es entry) renewed holds) in
+      let among : Contains all entry.0 = subst (λ ts. Contains ts entry.0) (sym all_is) (Contains-append_right given (keys_of kept.entries) entry.0 (key_there kept.entries entry there.0)) in
+      same entry.0 (Page entry.1) among there.1 (sound entry there.0)
+
+pub given_among : (given others all : List Term) (t : Term) → all ≡ given ++ others → Contains given t → Contains all t
+given_among given others all t all_is among = subst (λ ts. Contains ts t) (sym all_is) (Contains-append_left given others t among)

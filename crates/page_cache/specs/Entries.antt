@@ -1,5 +1,5 @@
 -- The entries of the cache.
-use Rattle.std.specs.Prelude.{ℕ, nat_le, List, length, if◌then◌else◌}
+use Rattle.std.specs.Prelude.{ℕ, nat_le, Bool, List, [], ◌∷◌, length, if◌then◌else◌}
 use Rattle.lru.specs.LruCache.{LruCache, put_entries}
 use Rattle.sd_value.specs.declared.Term.{Term}
 use Rattle.page_spec.specs.declared.Outcome.{Outcome}
@@ -13,3 +13,9 @@ entries_with kept term (Page text) = if nat_le (length text) MAX_KEPT then put_e
 entries_with kept term Missing = kept.entries
 entries_with kept term (Cyclic value) = kept.entries
 entries_with kept term TooLong = kept.entries
+
+-- the entries whose flag is true
+abbrev pub entries_where : {X : Type 0} → List Bool → List X → List X
+entries_where [] es = []
+entries_where (stays ∷ flags) [] = []
+entries_where (stays ∷ flags) (e ∷ es) = if stays then e ∷ entries_where flags es else entries_where flags es

@@ -1,5 +1,5 @@
 -- What a look-up does to the terms whose pages are kept, the newest first.
-use Rattle.std.specs.Prelude.{◌≡◌, ℕ, ◌+◌, ◌-◌, ◌^◌, min, nat_le, Bool, true, false, List, [], ◌∷◌, length, take, if◌then◌else◌, Contains}
+use Rattle.std.specs.Prelude.{◌≡◌, ℕ, ◌+◌, ◌-◌, ◌^◌, min, nat_le, Bool, true, false, List, [], ◌∷◌, length, take, filter, if◌then◌else◌, Contains}
 use Rattle.std.specs.List.{list_any}
 use Rattle.std.specs.Ordering.{is_eq}
 use Rattle.sd_value.specs.declared.Term.{Term}
@@ -43,3 +43,22 @@ AreKept HasOutcome entries = (entry : Term × List ℕ) → Contains entries ent
 abbrev pub hits_after : Hit → ℕ → ℕ
 hits_after Found hits = min (hits + 1) (2 ^ 64 - 1)
 hits_after Miss hits = hits
+
+-- the terms that are kept after a text: where it is accepted, those whose pages surely stay, in their order
+abbrev pub kept_after : Bool → (Term → Bool) → List Term → List Term
+kept_after accepted stays kept = if accepted then filter stays kept else kept
+
+-- what is kept: at most how many terms, the terms, the newest first, and how often one was found
+pub record Kept : Type 0 where
+  pub capacity : ℕ
+  pub terms : List Term
+  pub hits : ℕ
+
+-- a look-up of a term, whose page has this outcome
+pub record LooksIn (HasOutcome : Term → Outcome → Type 0) (before : Kept) (term : Term) (after : Kept) : Type 0 where
+  pub outcome : Outcome
+  pub hit : Hit
+  pub is : HasOutcome term outcome
+  pub terms : Looks before.capacity before.terms term outcome hit after.terms
+  pub hits : after.hits ≡ hits_after hit before.hits
+  pub capacity : after.capacity ≡ before.capacity

@@ -1,15 +1,15 @@
 //! Keeps the pages that were shown last.
 #![tactic(auto)]
 
-ghost use Rattle.std.specs.Prelude.{◌≡◌, ◌≤◌, ◌<◌, ◌↔◌, ℕ, List, [], length, IfOk, OnErr, OnOk, Ok, IsTrue, ◌⊎◌, true, false, Contains};
+ghost use Rattle.std.specs.Prelude.{◌≡◌, ◌≤◌, ◌<◌, ◌++◌, ◌↔◌, ℕ, List, [], length, drop, map, IfOk, OnErr, OnOk, Ok, true, false, if◌then◌else◌, Contains};
 ghost use Rattle.std.specs.Map.{keys_of, lookup};
-ghost use Rattle.lru.specs.LruCache.{lru_cache};
+ghost use Rattle.lru.specs.LruCache.{lru_cache, demoted};
 ghost use Rattle.page_spec.specs.Page.{IsOutcome};
 ghost use Rattle.sd_value.specs.declared.Term.{Term};
 ghost use Rattle.page_spec.specs.declared.Outcome.{Outcome};
 ghost use Rattle.versions.specs.Changes.{TellsEach};
-ghost use Rattle.page_cache.specs.Entries.{entries_with};
-ghost use Rattle.page_cache.specs.Looks.{is_same, Looks, AreKept, hits_after};
+ghost use Rattle.page_cache.specs.Entries.{entries_with, entries_where};
+ghost use Rattle.page_cache.specs.Looks.{is_same, Looks, AreKept, hits_after, kept_after, LooksIn, Kept};
 
 use lru::LruCache;
 use page_spec::Outcome;
@@ -77,7 +77,8 @@ impl<P: Versions + Drop> Cached<P> {
         Ok((outcome, Hit::Miss))
     }
 
-    /// Takes a text, as the pages do. Where it is accepted, and after want of memory, no page is kept any longer.
+    /// Takes a text, as the pages do. Where it is accepted, the terms whose pages surely stay are kept on, in their
+    /// order, and no other. After want of memory none may be kept.
     pub fn renew(&mut self, alloc: Global, text: &Str, kept: &[Term]) -> Result<Changed, NoMemory>
         requires own { P.Own self.old.pages }
         requires sound { AreKept (IsOutcome (P.site (P.state self.old.pages)) (P.templates (P.state self.old.pages))) self.old.kept.entries }
@@ -86,7 +87,8 @@ impl<P: Versions + Drop> Cached<P> {
         ensures changed { IfOk result (λ c. P.state self.new.pages ≡ P.changed (P.state self.old.pages) text.now) }
         ensures refused { IfOk result (λ c. (c ≡ Changed.Refused) ↔ (P.accepts (P.state self.old.pages) text.now ≡ false)) }
         ensures nothing { result ≡ Ok Changed.Refused → (P.state self.new.pages ≡ P.state self.old.pages) × (self.new.kept ≡ self.old.kept) }
-        ensures emptied { (result ≡ Ok Changed.Refused) ⊎ (self.new.kept.entries ≡ []) }
+        ensures keeps { IfOk result (λ c. keys_of self.new.kept.entries
+            ≡ kept_after (P.accepts (P.state self.old.pages) text.now) (P.stays (P.state self.old.pages) text.now) (keys_of self.old.kept.entries)) }
         ensures flags { IfOk result (TellsEach (P.stays (P.state self.old.pages) text.now) kept.now) }
         ensures same { IfOk result (λ c. (t : Term) (o : Outcome) → Contains kept.now t → P.stays (P.state self.old.pages) text.now t ≡ true
             → IsOutcome (P.site (P.state self.old.pages)) (P.templates (P.state self.old.pages)) t o
@@ -94,18 +96,31 @@ impl<P: Versions + Drop> Cached<P> {
         ensures capacity { self.new.kept.cap ≡ self.old.kept.cap }
         ensures hits { self.new.hits ≡ self.old.hits }
     {
-        let changed = self.pages.change(alloc, text, kept);
-        if !is_refused(&changed) {
-            self.kept.clear();
+        let terms = all_terms(alloc, kept, &self.kept)?;
+        match self.pages.change(alloc, text, &terms) {
+            Ok(Changed::Taken(mut same)) => {
+                let own = kept.len();
+                sift(&mut self.kept, &terms[own..], &same.flags[own..]);
+                same.flags.truncate(own);
+                Ok(Changed::Taken(same))
+            }
+            Ok(Changed::Refused) => Ok(Changed::Refused),
+            Err(error) => {
+                self.kept.clear();
+                Err(error)
+            }
         }
-        changed
     }
 }
 
 impl<P: Versions + Drop> Versions for Cached<P> {
     ghost State = { P.State };
 
+    ghost Cache = { Kept };
+
     ghost state = { λ c. P.state c.pages };
+
+    ghost cache = { λ c. record { capacity = c.kept.cap; terms = keys_of c.kept.entries; hits = c.hits } };
 
     ghost site = { P.site };
 
@@ -117,6 +132,12 @@ impl<P: Versions + Drop> Versions for Cached<P> {
 
     ghost stays = { P.stays };
 
+    ghost looks = { λ state before term after. LooksIn (IsOutcome (P.site state) (P.templates state)) before term after };
+
+    ghost renews = { λ state text before after. after ≡ record before { terms = kept_after (P.accepts state text) (P.stays state text) before.terms } };
+
+    ghost found = { λ cache. cache.hits };
+
     ghost Own = { λ c. P.Own c.pages × AreKept (IsOutcome (P.site (P.state c.pages)) (P.templates (P.state c.pages))) c.kept.entries };
 
     fn page(&mut self, alloc: Global, term: &Term) -> Result<Outcome, NoMemory> {
@@ -127,13 +148,58 @@ impl<P: Versions + Drop> Versions for Cached<P> {
     fn change(&mut self, alloc: Global, text: &Str, kept: &[Term]) -> Result<Changed, NoMemory> {
         self.renew(alloc, text, kept)
     }
+
+    fn hits(&self) -> u64 {
+        self.hits
+    }
 }
 
-/// Whether a text was not accepted.
-fn is_refused(changed: &Result<Changed, NoMemory>) -> bool
-    ensures { IsTrue result ↔ (changed.now ≡ Ok Changed.Refused) }
+/// Copies of the terms, and of those whose pages are kept.
+fn all_terms(
+    alloc: Global,
+    terms: &[Term],
+    kept: &LruCache<Term, Str>,
+) -> Result<Vec<Term>, NoMemory>
+    ensures { IfOk result (λ all. all.items ≡ terms.now ++ keys_of kept.now.entries) }
 {
-    matches!(changed, Ok(Changed::Refused))
+    let mut all = Vec::new(alloc);
+    for term in terms {
+        all.push(term.copy(alloc)?)?;
+    }
+    push_keys(alloc, kept, &mut all)?;
+    Ok(all)
+}
+
+/// Adds copies of the terms whose pages are kept, the newest first.
+fn push_keys(alloc: Global, kept: &LruCache<Term, Str>, all: &mut Vec<Term>) -> Result<(), NoMemory>
+    ensures { OnOk result (all.new.items ≡ all.old.items ++ keys_of kept.now.entries) }
+{
+    for (term, _) in kept.iter() {
+        all.push(term.copy(alloc)?)?;
+    }
+    Ok(())
+}
+
+/// Keeps the entries whose flag is true, in their order. Each has a flag, the newest first.
+fn sift(kept: &mut LruCache<Term, Str>, terms: &[Term], flags: &[bool])
+    requires terms { terms.now ≡ keys_of kept.old.entries }
+    requires flags { length flags.now ≡ length terms.now }
+    ensures { kept.new ≡ lru_cache (entries_where flags.now kept.old.entries) kept.old.cap }
+{
+    for (i, term) in terms.iter().enumerate() {
+        turn(kept, term, flags[i]);
+    }
+}
+
+/// Moves the newest entry, which has this term, behind all others, or drops it.
+fn turn(kept: &mut LruCache<Term, Str>, term: &Term, stays: bool)
+    ensures { kept.new ≡ lru_cache (if stays then demoted (is_same term.now) kept.old.entries else drop 1 kept.old.entries) kept.old.cap }
+{
+    if stays {
+        kept.demote(term);
+    } else {
+        let _ = kept.pop_mru();
+    }
 }
 
 /// A copy of the text that is kept for a term.
