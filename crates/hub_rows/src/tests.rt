@@ -1,15 +1,18 @@
 ghost use Rattle.std.specs.Prelude.{◌<◌};
 
 use crate::no_pages::NoPages;
-use hub::{Hub, HubEnd, serve};
+use hub::{Hub, HubEnd, Tally, serve};
 use mem_wire::{FailingSend, MemWire};
 use page_cache::Cached;
 use sd_value::{NoMemory, Str};
 use std::alloc::Global;
+use std::io::{Read, Write};
+use std::net::{Ipv4Addr, SocketAddr, SocketAddrV4, TcpStream};
 use std::num::NonZeroUsize;
 use std::test::Fail;
+use tcp_wire::TcpWire;
 use versions::Still;
-use wire::WireEvent;
+use wire::{Wire, WireEvent};
 
 const REQUEST: &[u8] = b"GET /x.html HTTP/1.1\r\nHost: a\r\n\r\n";
 
@@ -138,5 +141,29 @@ fn a_hub_over_kept_pages(rt: HostRuntime) -> Result<(), Fail> {
     let mut hub = Hub::of(alloc, pages, 1, None);
     assert_eq!(rt; serve(alloc, &mut hub, &mut wire, 1000), HubEnd::Done);
     assert_eq!(rt; wire.taken(2), MISSING);
+    let tally = Tally {
+        connections: 2,
+        replies: 2,
+        hits: 0,
+    };
+    assert_eq!(rt; hub.tally(), tally);
+    Ok(())
+}
+
+// One thread is client and server: the system keeps what a connection sends until it is taken.
+#[test]
+fn a_request_over_a_socket(rt: HostRuntime) -> Result<(), Fail> {
+    let alloc = rt.alloc();
+    let mut wire = TcpWire::new(&rt);
+    assert!(rt; wire.listen(0, 1).is_ok());
+    let port = wire.port().ok_or("no port")?;
+    let address = SocketAddr::from(SocketAddrV4::new(Ipv4Addr::LOCALHOST, port));
+    let mut client = TcpStream::connect(&rt, address)?;
+    client.write_all(REQUEST)?;
+    let mut hub = Hub::of(alloc, Still { pages: NoPages }, 1, None);
+    assert_eq!(rt; serve(alloc, &mut hub, &mut wire, 1000), HubEnd::Done);
+    let mut taken = Vec::new(alloc);
+    client.read_to_end(&mut taken)?;
+    assert_eq!(rt; taken.as_slice(), MISSING);
     Ok(())
 }

@@ -91,6 +91,13 @@ impl Entry {
         self.taken.as_slice()
     }
 
+    /// How many sends failed.
+    pub(crate) fn faults(&self) -> u64
+        ensures { result ≡ self.now.faults }
+    {
+        self.faults
+    }
+
     /// Whether it was closed.
     pub(crate) fn is_closed(&self) -> bool
         ensures { result ≡ nat_lt 0 self.now.closes }

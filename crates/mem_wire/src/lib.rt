@@ -140,6 +140,16 @@ impl MemWire {
         }
     }
 
+    /// How many sends to a connection failed.
+    pub fn send_faults(&self, connection: u64) -> u64
+        ensures { result ≡ faults_in self.now connection }
+    {
+        match self.entries.get(&connection) {
+            Some(entry) => entry.faults(),
+            None => 0,
+        }
+    }
+
     /// Whether memory was refused in a send.
     pub fn short(&self) -> bool
         ensures { result ≡ self.now.is_short }

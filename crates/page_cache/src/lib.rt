@@ -3,6 +3,7 @@
 
 ghost use Rattle.std.specs.Prelude.{◌≡◌, ◌≤◌, ◌<◌, ◌++◌, ◌↔◌, ℕ, List, [], length, drop, map, IfOk, OnErr, OnOk, Ok, true, false, if◌then◌else◌, Contains};
 ghost use Rattle.std.specs.Map.{keys_of, lookup};
+ghost use Rattle.std.specs.NonZero.{non_zero_usize_get};
 ghost use Rattle.lru.specs.LruCache.{lru_cache, demoted};
 ghost use Rattle.page_spec.specs.Page.{IsOutcome};
 ghost use Rattle.sd_value.specs.declared.Term.{Term};
@@ -43,6 +44,7 @@ impl<P: Versions + Drop> Cached<P> {
         ensures pages { IfOk result (λ cached. cached.pages ≡ pages) }
         ensures none { IfOk result (λ cached. cached.kept.entries ≡ []) }
         ensures hits { IfOk result (λ cached. cached.hits ≡ 0) }
+        ensures capacity { IfOk result (λ cached. cached.kept.cap ≡ non_zero_usize_get capacity) }
         ensures sound { IfOk result (λ cached. AreKept (IsOutcome (P.site (P.state cached.pages)) (P.templates (P.state cached.pages))) cached.kept.entries) }
     {
         let kept = LruCache::new(alloc, capacity)?;
