@@ -42,7 +42,7 @@ source_refusal_name number =
     else if number == 46 then codes "NotRecords"
     else []
 
--- those of queries and templates
+-- those of queries, templates and scripts
 abbrev pub site_refusal_name : ℕ → List ℕ
 site_refusal_name number =
     if number == 51 then codes "TooManyPositions"
@@ -62,6 +62,7 @@ site_refusal_name number =
     else if number == 83 then codes "Twice"
     else if number == 84 then codes "TooDeep"
     else if number == 85 then codes "UnknownVariable"
+    else if number == 111 then codes "Expected"
     else []
 
 -- the name of a refusal

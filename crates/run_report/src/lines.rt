@@ -56,6 +56,7 @@ fn site_refusal_name(number: u32) -> &'static [u8]
         83 => b"Twice",
         84 => b"TooDeep",
         85 => b"UnknownVariable",
+        111 => b"Expected",
         _ => b"",
     }
 }

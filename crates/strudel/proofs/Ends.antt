@@ -1,12 +1,11 @@
 -- How a run ends, from how its parts end.
-use Rattle.std.proofs.Common.{◌≡◌, ◌⊎◌, ℕ, List, inl, inr, refl, sym, subst, ⊎_elim, ◌∙◌}
+use Rattle.std.proofs.Common.{◌≡◌, ◌⊎◌, ℕ, List, inl, inr, refl, sym, subst, ◌∙◌}
 use Rattle.std.specs.Prelude.{Option, None, Some, Result, IfErr}
 use Rattle.std.specs.Prelude as prelude
 use Rattle.std.specs.Option.{IsSomeAnd}
 use Rattle.edge_io.specs.Files.{FileMap}
-use Rattle.edge_io.specs.Counts.{Rose}
-use Rattle.strudel.specs.declared.fault.Fault.{Fault}
-use Rattle.strudel.specs.declared.fault.Fault.TheVariants as fault
+use Rattle.site_inputs.specs.declared.fault.Fault.{Fault}
+use Rattle.site_inputs.specs.declared.fault.Fault.TheVariants as fault
 use Rattle.run_report.specs.declared.status.Status.{Status}
 use Rattle.run_report.specs.declared.status.Status.TheVariants.{Ok, NotAllYes, Usage, Refused, ReadFault, WriteFault, WireFault, PageFault, NoMemory, NotFound, TurnsSpent}
 use Rattle.command_words.specs.declared.Command.{Command}
@@ -15,13 +14,14 @@ use Rattle.command_words.specs.declared.BuildCommand.{BuildCommand}
 use Rattle.command_words.specs.declared.PageCommand.{PageCommand}
 use Rattle.command_words.specs.declared.DataCommand.{DataCommand}
 use Rattle.run_report.specs.Report.{IsFixed}
-use Rattle.site_files.specs.declared.stop.Stop.TheVariants as stop
-use Rattle.strudel.specs.Runs.{ReadsHaveCause, UnreadRose}
-use Rattle.strudel.specs.Sources.{DataEnds}
-use Rattle.strudel.specs.Pages.{PageEnds}
-use Rattle.strudel.specs.Builds.{Builds, BuildEnds, FolderRose}
-use Rattle.strudel.specs.Top.{TextEnds, Ends, RunEnds, ReadRose, WriteRose, WritesNoFile, IsSilent, status_of}
-use Rattle.strudel.proofs.Built.{faulty_is_no_memory}
+use Rattle.site_inputs.specs.Runs.{ReadsHaveCause, UnreadRose}
+use Rattle.site_inputs.specs.Sites.{input_paths}
+use Rattle.site_inputs.specs.Statuses.{ReadRose, IsSilent, status_of}
+use Rattle.page_command.specs.Pages.{PageEnds}
+use Rattle.build_command.specs.Builds.{BuildEnds, FolderRose}
+use Rattle.build_command.proofs.Built.{faulty_is_no_memory}
+use Rattle.strudel.specs.Data.{DataEnds}
+use Rattle.strudel.specs.Top.{TextEnds, Ends, RunEnds, WriteRose, WritesNoFile, inputs_of_command, given_inputs}
 
 -- a text command whose answers are told in another way
 pub text_as : (P Q : Result (List ℕ) Fault → Type 0) (old new : Option (List ℕ)) (status : Status) → ((a : Result (List ℕ) Fault) → P a → Q a) → TextEnds P old new status → TextEnds Q old new status
@@ -56,9 +56,30 @@ no_usage fault.NotFound status e u = let both = sym e ∙ u in cc
 no_usage fault.NoMemory status e u = let both = sym e ∙ u in cc
 
 -- a text command's fault of reading comes from its answer
-pub text_read_rose : (answer : Result (List ℕ) Fault) (old new : Option (List ℕ)) (before now : List ℕ → ℕ) (status : Status) → TextEnds (λ a. a ≡ answer) old new status → ReadsHaveCause before now answer → ReadRose before now status
-text_read_rose answer old new before now (ReadFault path) h cause = let failed : IfErr {T = List ℕ} (prelude.Err (fault.Unread path)) (UnreadRose before now) = subst (λ (a : Result (List ℕ) Fault). IfErr a (UnreadRose before now)) (sym h) cause.failed in failed
-text_read_rose answer old new before now status h cause = tt
+text_read_rose : (paths : List (List ℕ)) (answer : Result (List ℕ) Fault) (old new : Option (List ℕ)) (before now : List ℕ → ℕ) (status : Status)
+    → TextEnds (λ a. a ≡ answer) old new status → ReadsHaveCause paths before now answer → ReadRose paths before now status
+text_read_rose paths answer old new before now (ReadFault path) h cause =
+    let failed : IfErr {T = List ℕ} (prelude.Err (fault.Unread path)) (UnreadRose paths before now) = subst (λ (a : Result (List ℕ) Fault). IfErr a (UnreadRose paths before now)) (sym h) cause.failed in
+    failed
+text_read_rose paths answer old new before now status h cause = tt
+
+pub page_read_rose : (command : Command) (c : PageCommand) (answer : Result (List ℕ) Fault) (old new : Option (List ℕ)) (before now : List ℕ → ℕ) (status : Status) → command ≡ Page c
+    → TextEnds (λ a. a ≡ answer) old new status → ReadsHaveCause (input_paths c.sources c.query c.templates) before now answer → ReadRose (inputs_of_command command) before now status
+page_read_rose command c answer old new before now status is h cause =
+    subst (λ (d : Command). ReadRose (inputs_of_command d) before now status) (sym is) (text_read_rose (input_paths c.sources c.query c.templates) answer old new before now status h cause)
+
+pub data_read_rose : (command : Command) (c : DataCommand) (answer : Result (List ℕ) Fault) (old new : Option (List ℕ)) (before now : List ℕ → ℕ) (status : Status) → command ≡ Data c
+    → TextEnds (λ a. a ≡ answer) old new status → ReadsHaveCause c.sources before now answer → ReadRose (inputs_of_command command) before now status
+data_read_rose command c answer old new before now status is h cause =
+    subst (λ (d : Command). ReadRose (inputs_of_command d) before now status) (sym is) (text_read_rose c.sources answer old new before now status h cause)
+
+pub build_read_rose : (command : Command) (c : BuildCommand) (before now : List ℕ → ℕ) (status : Status) → command ≡ Build c
+    → ReadRose (input_paths c.sources c.query c.templates) before now status → ReadRose (inputs_of_command command) before now status
+build_read_rose command c before now status is h = subst (λ (d : Command). ReadRose (inputs_of_command d) before now status) (sym is) h
+
+pub given_read_rose : (given : Option Command) (command : Command) (before now : List ℕ → ℕ) (status : Status) → given ≡ Some command
+    → ReadRose (inputs_of_command command) before now status → ReadRose (given_inputs given) before now status
+given_read_rose given command before now status is h = subst (λ (g : Option Command). ReadRose (given_inputs g) before now status) (sym is) h
 
 -- want of memory before anything was done
 pub no_memory_ends : (map : FileMap) (given : Option Command) (text : Option (List ℕ)) → RunEnds map map given text text NoMemory

@@ -1,22 +1,23 @@
 -- How a run ends where no count rose.
 use Rattle.std.proofs.Common.{◌≡◌, ◌⊎◌, ℕ, List, inl, inr, refl, ap, subst}
-use Rattle.std.specs.Prelude.{Option, None, Some, Result, IfOk}
+use Rattle.std.specs.Prelude.{Contains, Option, None, Some, Result, IfOk}
 use Rattle.std.specs.Prelude as prelude
 use Rattle.edge_io.specs.Files.{FileMap}
 use Rattle.edge_io.specs.Counts.{Rose}
 use Rattle.edge_io.specs.Sink.{Gains}
-use Rattle.strudel.specs.declared.fault.Fault.{Fault}
-use Rattle.strudel.specs.declared.fault.Fault.TheVariants as fault
+use Rattle.site_inputs.specs.declared.fault.Fault.{Fault}
+use Rattle.site_inputs.specs.declared.fault.Fault.TheVariants as fault
 use Rattle.run_report.specs.declared.status.Status.{Status}
 use Rattle.run_report.specs.declared.status.Status.TheVariants.{Ok, NotAllYes, Usage, Refused, ReadFault, WriteFault, WireFault, PageFault, NoMemory, NotFound, TurnsSpent}
 use Rattle.command_words.specs.declared.Command.{Command}
 use Rattle.command_words.specs.declared.Command.TheVariants.{Page, Build, Data}
 use Rattle.std.specs.Option.{IsSomeAnd}
-use Rattle.strudel.specs.Runs.{IsDecided, Decides}
-use Rattle.strudel.specs.Sources.{DataEnds}
-use Rattle.strudel.specs.Pages.{PageEnds}
-use Rattle.strudel.specs.Top.{TextEnds, Ends, RunEnds, ReadRose, WriteRose, IsExact, answer_status}
-use Rattle.strudel.proofs.DecidedInputs.{answer_decides}
+use Rattle.site_inputs.specs.Runs.{IsDecided, Decides}
+use Rattle.site_inputs.specs.Statuses.{ReadRose}
+use Rattle.page_command.specs.Pages.{PageEnds}
+use Rattle.strudel.specs.Data.{DataEnds}
+use Rattle.strudel.specs.Top.{TextEnds, Ends, RunEnds, WriteRose, IsExact, answer_status, inputs_of_command, given_inputs}
+use Rattle.strudel.proofs.Decided.{answer_decides}
 
 module _ (Answer : Result (List ℕ) Fault → Type 0) (decides : Decides Answer) (old new : Option (List ℕ)) where
   -- the run had one answer, and the inputs decide another: they are one
@@ -26,37 +27,38 @@ module _ (Answer : Result (List ℕ) Fault → Type 0) (decides : Decides Answer
       let same : one ≡ answer = decides.once one answer ends its d e in
       (ap answer_status same, subst (λ a. IfOk a (Gains old new)) same gained)
 
-  exact_text : (before now : List ℕ → ℕ) (PutsRose : Type 0) (status : Status)
-      → TextEnds Answer old new status → ReadRose before now status → (status ≡ WriteFault → PutsRose)
-      → (answer : Result (List ℕ) Fault) → Answer answer → IsDecided answer → ((path : List ℕ) → ¬ Rose (before path) (now path)) → ¬ PutsRose
+  exact_text : (paths : List (List ℕ)) (before now : List ℕ → ℕ) (PutsRose : Type 0) (status : Status)
+      → TextEnds Answer old new status → ReadRose paths before now status → (status ≡ WriteFault → PutsRose)
+      → (answer : Result (List ℕ) Fault) → Answer answer → IsDecided answer → ((path : List ℕ) → Contains paths path → ¬ Rose (before path) (now path)) → ¬ PutsRose
       → ((status ≡ answer_status answer) × IfOk answer (Gains old new)) ⊎ (status ≡ NoMemory)
-  exact_text before now PutsRose Ok ends read write = λ answer its d no_read no_write. inl (by_answer (prelude.Ok ends.text) answer ends.answer tt ends.gained its d)
-  exact_text before now PutsRose Usage ends read write = absurd ends
-  exact_text before now PutsRose NotAllYes ends read write = absurd ends
-  exact_text before now PutsRose WireFault ends read write = absurd ends
-  exact_text before now PutsRose TurnsSpent ends read write = absurd ends
-  exact_text before now PutsRose (Refused file number place) ends read write = λ answer its d no_read no_write.
+  exact_text paths before now PutsRose Ok ends read write = λ answer its d no_read no_write. inl (by_answer (prelude.Ok ends.text) answer ends.answer tt ends.gained its d)
+  exact_text paths before now PutsRose Usage ends read write = absurd ends
+  exact_text paths before now PutsRose NotAllYes ends read write = absurd ends
+  exact_text paths before now PutsRose WireFault ends read write = absurd ends
+  exact_text paths before now PutsRose TurnsSpent ends read write = absurd ends
+  exact_text paths before now PutsRose (Refused file number place) ends read write = λ answer its d no_read no_write.
       inl (by_answer (prelude.Err (fault.Refused (record { file = file; number = number; place = place }))) answer ends tt tt its d)
-  exact_text before now PutsRose (ReadFault path) ends read write = λ answer its d no_read no_write. absurd (no_read path read)
-  exact_text before now PutsRose WriteFault ends read write = λ answer its d no_read no_write. absurd (no_write (write refl))
-  exact_text before now PutsRose (PageFault term kind) ends read write = λ answer its d no_read no_write. inl (by_answer (prelude.Err (fault.Faulty term kind)) answer ends tt tt its d)
-  exact_text before now PutsRose NoMemory ends read write = λ answer its d no_read no_write. inr refl
-  exact_text before now PutsRose NotFound ends read write = λ answer its d no_read no_write. inl (by_answer (prelude.Err fault.NotFound) answer ends tt tt its d)
+  exact_text paths before now PutsRose (ReadFault path) ends read write = λ answer its d no_read no_write. absurd (no_read path read.0 read.1)
+  exact_text paths before now PutsRose WriteFault ends read write = λ answer its d no_read no_write. absurd (no_write (write refl))
+  exact_text paths before now PutsRose (PageFault term kind) ends read write = λ answer its d no_read no_write. inl (by_answer (prelude.Err (fault.Faulty term kind)) answer ends tt tt its d)
+  exact_text paths before now PutsRose NoMemory ends read write = λ answer its d no_read no_write. inr refl
+  exact_text paths before now PutsRose NotFound ends read write = λ answer its d no_read no_write. inl (by_answer (prelude.Err fault.NotFound) answer ends tt tt its d)
 
 exact_end : (map after : FileMap) (command : Command) (old new : Option (List ℕ)) (before now wrote writes : List ℕ → ℕ) (PutsRose : Type 0) (status : Status)
-    → Ends map after command old new status → ReadRose before now status → (status ≡ WriteFault → WriteRose (Some command) wrote writes PutsRose) → IsExact map command old new (λ path. Rose (before path) (now path)) PutsRose status
-exact_end map after (Page command) old new before now wrote writes PutsRose status ends read write = exact_text (PageEnds map command) (answer_decides map (Page command)) old new before now PutsRose status ends read write
-exact_end map after (Data command) old new before now wrote writes PutsRose status ends read write = exact_text (DataEnds map command.sources) (answer_decides map (Data command)) old new before now PutsRose status ends read write
+    → Ends map after command old new status → ReadRose (inputs_of_command command) before now status → (status ≡ WriteFault → WriteRose (Some command) wrote writes PutsRose) → IsExact map command old new (λ path. Rose (before path) (now path)) PutsRose status
+exact_end map after (Page command) old new before now wrote writes PutsRose status ends read write = exact_text (PageEnds map command) (answer_decides map (Page command)) old new (inputs_of_command (Page command)) before now PutsRose status ends read write
+exact_end map after (Data command) old new before now wrote writes PutsRose status ends read write = exact_text (DataEnds map command.sources) (answer_decides map (Data command)) old new (inputs_of_command (Data command)) before now PutsRose status ends read write
 exact_end map after (Build command) old new before now wrote writes PutsRose status ends read write = λ answer its d no_read no_write. absurd its
 
 exact_run : (map after : FileMap) (given : Option Command) (command : Command) (old new : Option (List ℕ)) (before now wrote writes : List ℕ → ℕ) (PutsRose : Type 0) (status : Status)
-    → given ≡ Some command → RunEnds map after given old new status → ReadRose before now status → (status ≡ WriteFault → WriteRose given wrote writes PutsRose) → IsExact map command old new (λ path. Rose (before path) (now path)) PutsRose status
+    → given ≡ Some command → RunEnds map after given old new status → ReadRose (given_inputs given) before now status → (status ≡ WriteFault → WriteRose given wrote writes PutsRose) → IsExact map command old new (λ path. Rose (before path) (now path)) PutsRose status
 exact_run map after given command old new before now wrote writes PutsRose status is_given ends read write =
-    exact_end map after command old new before now wrote writes PutsRose status (subst (λ (g : Option Command). RunEnds map after g old new status) is_given ends) read
+    exact_end map after command old new before now wrote writes PutsRose status (subst (λ (g : Option Command). RunEnds map after g old new status) is_given ends)
+    (subst (λ (g : Option Command). ReadRose (given_inputs g) before now status) is_given read)
     (λ e. subst (λ (g : Option Command). WriteRose g wrote writes PutsRose) is_given (write e))
 
 pub exact_told : (n : Option FileMap) (map : FileMap) (given : Option Command) (command : Command) (old new : Option (List ℕ)) (before now wrote writes : List ℕ → ℕ) (PutsRose : Type 0) (status : Status)
-    → given ≡ Some command → IsSomeAnd n (λ after. RunEnds map after given old new status) → ReadRose before now status → (status ≡ WriteFault → WriteRose given wrote writes PutsRose) → IsExact map command old new (λ path. Rose (before path) (now path)) PutsRose status
+    → given ≡ Some command → IsSomeAnd n (λ after. RunEnds map after given old new status) → ReadRose (given_inputs given) before now status → (status ≡ WriteFault → WriteRose given wrote writes PutsRose) → IsExact map command old new (λ path. Rose (before path) (now path)) PutsRose status
 exact_told None map given command old new before now wrote writes PutsRose status is_given ends read write = absurd ends
 exact_told (Some after) map given command old new before now wrote writes PutsRose status is_given ends read write = exact_run map after given command old new before now wrote writes PutsRose status is_given ends read write
 

@@ -1,9 +1,3 @@
-pub mod Runs
-pub mod PageFaults
-pub mod Built
 pub mod Ends
-pub mod Graphs
-pub mod Sites
 pub mod Decided
-pub mod DecidedInputs
 pub mod Exact

@@ -1,7 +1,2 @@
-pub mod Runs
-pub mod Sources
-pub mod Sites
-pub mod Values
-pub mod Pages
-pub mod Builds
+pub mod Data
 pub mod Top

@@ -1,27 +1,31 @@
 -- What a whole run has done.
-use Rattle.std.specs.Prelude.{◌≡◌, ◌⊎◌, ℕ, List, [], Option, Result, IfOk, ⊤}
+use Rattle.std.specs.Prelude.{◌≡◌, ◌⊎◌, ℕ, List, [], Contains, Option, Result, IfOk, ⊤}
 use Rattle.std.specs.Prelude as prelude
 use Rattle.edge_io.specs.Files.{FileMap}
 use Rattle.edge_io.specs.Sink.{Gains, GainsPart}
-use Rattle.edge_io.specs.Counts.{Rose}
-use Rattle.strudel.specs.Runs.{IsDecided}
-use Rattle.strudel.specs.Pages.{PageEnds}
-use Rattle.strudel.specs.Builds.{BuildEnds, FolderRose}
-use Rattle.strudel.specs.Sources.{DataEnds}
-use Rattle.strudel.specs.declared.fault.Fault.{Fault}
-use Rattle.strudel.specs.declared.fault.Fault.TheVariants as fault
+use Rattle.site_inputs.specs.declared.fault.Fault.{Fault}
+use Rattle.site_inputs.specs.declared.fault.Fault.TheVariants as fault
+use Rattle.site_inputs.specs.Runs.{IsDecided}
+use Rattle.site_inputs.specs.Sites.{input_paths}
+use Rattle.site_inputs.specs.Statuses.{status_of}
+use Rattle.page_command.specs.Pages.{PageEnds}
+use Rattle.build_command.specs.Builds.{BuildEnds, FolderRose}
+use Rattle.strudel.specs.Data.{DataEnds}
 use Rattle.run_report.specs.declared.status.Status.{Status}
 use Rattle.run_report.specs.declared.status.Status.TheVariants.{Ok, NotAllYes, Usage, Refused, ReadFault, WriteFault, WireFault, PageFault, NoMemory, NotFound, TurnsSpent}
 use Rattle.command_words.specs.declared.Command.{Command}
 use Rattle.command_words.specs.declared.Command.TheVariants.{Page, Build, Data}
 
--- the status of a command that ends with this fault
-abbrev pub status_of : Fault → Status
-status_of (fault.Refused refusal) = Refused refusal.file refusal.number refusal.place
-status_of (fault.Unread path) = ReadFault path
-status_of (fault.Faulty term kind) = PageFault term kind
-status_of fault.NotFound = NotFound
-status_of fault.NoMemory = NoMemory
+-- the paths of a command's own files, in the order in which they are read
+abbrev pub inputs_of_command : Command → List (List ℕ)
+inputs_of_command (Page command) = input_paths command.sources command.query command.templates
+inputs_of_command (Build command) = input_paths command.sources command.query command.templates
+inputs_of_command (Data command) = command.sources
+
+-- those of the command that the words give, if any
+abbrev pub given_inputs : Option Command → List (List ℕ)
+given_inputs (prelude.Some command) = inputs_of_command command
+given_inputs prelude.None = []
 
 -- The answer of a command: the text that it writes, or the fault that it ends with. A later command joins as one case
 -- here, and with a lemma that its inputs decide one end (`Decides`), which is one case of `answer_decides`. A build is
@@ -79,25 +83,15 @@ abbrev pub WriteRose : Option Command → (List ℕ → ℕ) → (List ℕ → �
 WriteRose (prelude.Some (Build command)) before now PutsRose = PutsRose ⊎ FolderRose command.folder before now
 WriteRose command before now PutsRose = PutsRose
 
--- a fault of reading comes only where the count of that path rose
-abbrev pub ReadRose : (List ℕ → ℕ) → (List ℕ → ℕ) → Status → Type 0
-ReadRose before now (ReadFault path) = Rose (before path) (now path)
-ReadRose before now status = ⊤
-
--- a status at which nothing was put
-abbrev pub IsSilent : Status → Type 0
-IsSilent Ok = ⊥
-IsSilent WriteFault = ⊥
-IsSilent NoMemory = ⊥
-IsSilent status = ⊤
-
 -- the status of an answer that is put whole
 abbrev pub answer_status : Result (List ℕ) Fault → Status
 answer_status (prelude.Ok text) = Ok
 answer_status (prelude.Err stop) = status_of stop
 
--- Where no count rose, the run ends with the one answer that the inputs decide, its text put whole, or for want of memory.
+-- Where no count of the command's own files or of the output rose, the run ends with the one answer that the inputs decide,
+-- its text put whole, or for want of memory.
 abbrev pub IsExact : FileMap → Command → Option (List ℕ) → Option (List ℕ) → (ReadsRose : List ℕ → Type 0) → (PutsRose : Type 0) → Status → Type 0
 IsExact map command old new ReadsRose PutsRose status =
-    (answer : Result (List ℕ) Fault) → Answers map command answer → IsDecided answer → ((path : List ℕ) → ¬ ReadsRose path) → ¬ PutsRose
+    (answer : Result (List ℕ) Fault) → Answers map command answer → IsDecided answer
+    → ((path : List ℕ) → Contains (inputs_of_command command) path → ¬ ReadsRose path) → ¬ PutsRose
     → ((status ≡ answer_status answer) × IfOk answer (Gains old new)) ⊎ (status ≡ NoMemory)

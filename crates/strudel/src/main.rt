@@ -1,17 +1,11 @@
 //! Web pages from data, a query and templates.
 #![tactic(auto)]
 
-mod build;
 mod data;
-mod fault;
-mod inputs;
-mod page;
 #[cfg(test)]
 mod page_tests;
-mod site;
 #[cfg(test)]
 mod tests;
-mod told;
 mod top;
 
 use edge_io::{RealFiles, RealOut};

@@ -5,17 +5,18 @@ ghost use Rattle.edge_io.specs.Counts.{Rose};
 ghost use Rattle.edge_io.specs.Sink.{Gains, GainsPart};
 ghost use Rattle.command_words.specs.Words.{command};
 ghost use Rattle.run_report.specs.Report.{line};
-ghost use Rattle.strudel.specs.Runs.{ReadsHaveCause};
-ghost use Rattle.strudel.specs.Top.{Ends, TextEnds, RunEnds, ReadRose, WriteRose, WritesNoFile, IsSilent, IsExact};
+ghost use Rattle.site_inputs.specs.Runs.{ReadsHaveCause};
+ghost use Rattle.site_inputs.specs.Statuses.{ReadRose, IsSilent};
+ghost use Rattle.strudel.specs.Top.{inputs_of_command, given_inputs, Ends, TextEnds, RunEnds, WriteRose, WritesNoFile, IsExact};
 
-use crate::build::build;
 use crate::data::data;
-use crate::fault::Fault;
-use crate::page::page;
+use build_command::build;
 use command_words::{Command, read_command};
 use edge_io::{Files, Sink};
+use page_command::page;
 use run_report::{Status, report};
 use sd_value::{NoMemory, Str};
+use site_inputs::Fault;
 use std::alloc::Global;
 
 // Puts the text that a command is answered, or tells why there is none.
@@ -45,7 +46,7 @@ fn run_command<F: Files, O: Sink>(
     ensures ends { ForSome (F.contents files.old) (λ map. IsSomeAnd (F.contents files.new) (λ now. Ends map now command.now (O.text out.old) (O.text out.new) result)) }
     ensures silent { IsSilent result → out.new ≡ out.old }
     ensures files { WritesNoFile (Some command.now) → F.contents files.new ≡ F.contents files.old }
-    ensures read_cause { ReadRose (F.failed_reads files.old) (F.failed_reads files.new) result }
+    ensures read_cause { ReadRose (inputs_of_command command.now) (F.failed_reads files.old) (F.failed_reads files.new) result }
     ensures write_cause { result ≡ Status.WriteFault → WriteRose (Some command.now) (F.failed_writes files.old) (F.failed_writes files.new) (Rose (O.failed out.old) (O.failed out.new)) }
 {
     match command {
@@ -69,7 +70,7 @@ fn run<F: Files, O: Sink>(alloc: Global, words: &[Str], files: &mut F, out: &mut
     ensures ends { ForSome (F.contents files.old) (λ map. IsSomeAnd (F.contents files.new) (λ now. RunEnds map now (command words.now) (O.text out.old) (O.text out.new) result)) }
     ensures silent { IsSilent result → out.new ≡ out.old }
     ensures files { WritesNoFile (command words.now) → F.contents files.new ≡ F.contents files.old }
-    ensures read_cause { ReadRose (F.failed_reads files.old) (F.failed_reads files.new) result }
+    ensures read_cause { ReadRose (given_inputs (command words.now)) (F.failed_reads files.old) (F.failed_reads files.new) result }
     ensures write_cause { result ≡ Status.WriteFault → WriteRose (command words.now) (F.failed_writes files.old) (F.failed_writes files.new) (Rose (O.failed out.old) (O.failed out.new)) }
 {
     let command = match read_command(alloc, words) {
@@ -99,12 +100,12 @@ pub fn strudel<F: Files, O: Sink, E: Sink>(
     ensures silent { IsSilent result → out.new ≡ out.old }
     ensures files { WritesNoFile (command words.now) → F.contents files.new ≡ F.contents files.old }
 
-    // Where the outside has no fault, the inputs decide the end, but for want of memory.
+    // Where the command's files and the output have no fault, the inputs decide the end, but for want of memory.
     ensures exact { ForSome (F.contents files.old) (λ map. ForSome (command words.now) (λ command. IsExact map command (O.text out.old) (O.text out.new)
         (λ path. Rose (F.failed_reads files.old path) (F.failed_reads files.new path)) (Rose (O.failed out.old) (O.failed out.new)) result)) }
 
-    // A fault of the outside comes only where its count rose.
-    ensures read_cause { ReadRose (F.failed_reads files.old) (F.failed_reads files.new) result }
+    // A fault of the outside comes only where its count rose, and one of reading only of a file of the command.
+    ensures read_cause { ReadRose (given_inputs (command words.now)) (F.failed_reads files.old) (F.failed_reads files.new) result }
     ensures write_cause { result ≡ Status.WriteFault → WriteRose (command words.now) (F.failed_writes files.old) (F.failed_writes files.new) (Rose (O.failed out.old) (O.failed out.new)) }
 
     // The line on `err`.

@@ -1,0 +1,54 @@
+use Rattle.std.proofs.Common.{List, ◌∙◌, ap, refl, sym, subst}
+use Rattle.std.proofs.lemmas.Result.{err_from_is_err_and}
+use Rattle.site_files.specs.declared.stop.Stop.{Stop}
+use Rattle.sd_value.specs.declared.Term.{Term}
+use Rattle.sd_value.specs.Order.{term_cmp}
+use Rattle.sd_value.specs.Ascending.{ListsExactly}
+use Rattle.std.specs.Prelude.{Contains, Ok, Err}
+use Rattle.tmpl.specs.Reading.{file_of}
+use Rattle.page_spec.specs.Page.{IsPresent}
+use Rattle.query_site.specs.Site.{site_of}
+use Rattle.query_site.specs.Blocks.{scope_of}
+use Rattle.query_root.specs.Roots.{root_of_bodies}
+use Rattle.site_inputs.specs.Values.{inputs_of}
+use Rattle.site_inputs.proofs.Sites.{root_copied}
+use Rattle.build_command.proofs.Built.{built_told, unbuilt_told, under_folder, unwritten_again}
+use Rattle.build_command.proofs.write_built.Goals as goal
+
+pub write_site-requires-clause-present : goal.write_site-requires-clause-present
+write_site-requires-clause-present g c = λ t h. c.in_ok-pages.ensures.sound t (subst (λ (ts : List Term). Contains ts t) c.as_slice-terms.ensures.value h)
+
+pub returns-in-Ok-clause-ends : goal.returns-in-Ok-clause-ends
+returns-in-Ok-clause-ends g c = λ old told.
+    built_told (g.F.Files.contents c.write_site.new.files) (inputs_of c.args.inputs) _ _ _ _ c.args.folder.now c.as_slice-terms.result.now old (Ok c.in_ok-line.line)
+    (c.in_ok-whole.ensures.graph ∙ c.of-asker.ensures.store ∙ c.in_ok-store.ensures)
+    (ap scope_of c.in_ok-whole.ensures.scopes ∙ c.in_ok-scopes.ensures.scope)
+    (ap file_of c.in_ok-whole.ensures.templates)
+    (root_copied c.root_of-root.result ∙ c.root_of-root.ensures ∙ ap (λ s. root_of_bodies s.bodies) c.in_ok-scopes.ensures.scope)
+    (subst (ListsExactly term_cmp (IsPresent (site_of _ (scope_of c.in_ok-whole.whole.scopes.now)) (file_of c.in_ok-whole.whole.templates.now))) (sym c.as_slice-terms.ensures.value) c.in_ok-pages.ensures)
+    c.in_ok-line.ensures
+    (c.in-Ok.ensures.ends old told)
+
+pub returns-clause-ends : goal.returns-clause-ends
+returns-clause-ends g c = λ old told.
+    built_told (g.F.Files.contents c.write_site.new.files) (inputs_of c.args.inputs) _ _ _ _ c.args.folder.now c.as_slice-terms.result.now old (Err c.in-Err.stop)
+    (c.in_ok-whole.ensures.graph ∙ c.of-asker.ensures.store ∙ c.in_ok-store.ensures)
+    (ap scope_of c.in_ok-whole.ensures.scopes ∙ c.in_ok-scopes.ensures.scope)
+    (ap file_of c.in_ok-whole.ensures.templates)
+    (root_copied c.root_of-root.result ∙ c.root_of-root.ensures ∙ ap (λ s. root_of_bodies s.bodies) c.in_ok-scopes.ensures.scope)
+    (subst (ListsExactly term_cmp (IsPresent (site_of _ (scope_of c.in_ok-whole.whole.scopes.now)) (file_of c.in_ok-whole.whole.templates.now))) (sym c.as_slice-terms.ensures.value) c.in_ok-pages.ensures)
+    tt
+    (c.in-Err.ensures.ends old told)
+
+pub returns-clause-cause : goal.returns-clause-cause
+returns-clause-cause g c = record { later = c.in-Err.ensures.cause.later; failed = λ e. let r = c.in-Err.ensures.cause.failed (unwritten_again c.in-Err.stop e) in (r.0, under_folder c.args.folder.now c.as_slice-terms.result.now r.0 r.1, r.2) }
+
+pub returns-in_err-pages-clause-ends : goal.returns-in_err-pages-clause-ends
+returns-in_err-pages-clause-ends g c = λ old told.
+    let p = err_from_is_err_and c.from_residual-in_err-pages.result c.from_residual-in_err-pages.ensures.1 in
+    unbuilt_told (g.F.Files.contents c.args.files.now) (g.F.Files.contents c.args.files.now) (inputs_of c.args.inputs) c.args.folder.now old c.from_residual-in_err-pages.result refl told (p.1 ∙ ap (λ (r : Stop). Err r) p.2)
+
+pub returns-in_err-line-clause-ends : goal.returns-in_err-line-clause-ends
+returns-in_err-line-clause-ends g c = λ old told.
+    let p = err_from_is_err_and c.from_residual-in_err-line.result c.from_residual-in_err-line.ensures.1 in
+    unbuilt_told (g.F.Files.contents c.args.files.now) (g.F.Files.contents c.args.files.now) (inputs_of c.args.inputs) c.args.folder.now old c.from_residual-in_err-line.result refl told (p.1 ∙ ap (λ (r : Stop). Err r) p.2)

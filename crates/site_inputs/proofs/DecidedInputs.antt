@@ -1,0 +1,198 @@
+-- The bytes of the inputs decide one end of each of them.
+use Rattle.std.proofs.Common.{◌≡◌, ℕ, List, [], ◌∷◌, sym, ap, ◌∙◌, arith}
+use Rattle.std.specs.Prelude.{Result, Ok, Err, Option, Some, None}
+use Rattle.std.specs.Option.{IsSomeAnd}
+use Rattle.edge_io.specs.Files.{FileMap}
+use Rattle.sd_graph.specs.Statement.{Building}
+use Rattle.data_source.specs.declared.refusal.SourceRefusal.{SourceRefusal}
+use Rattle.data_source.specs.declared.refusal.SourceRefusal.TheVariants as source
+use Rattle.source_answer.proofs.Files as source_law
+use Rattle.query_spec.specs.Query as plain
+use Rattle.struql_parse.specs.declared.refusal.ParseRefusal.TheVariants as parse
+use Rattle.struql_check.specs.declared.refusal.CheckRefusal.TheVariants as check
+use Rattle.query_read.specs.declared.QueryRefusal.{QueryRefusal}
+use Rattle.query_read.specs.declared.QueryRefusal.TheVariants.{NotSpelled, NotChecked}
+use Rattle.query_answer.specs.OneAnswer as query_text
+use Rattle.query_answer.proofs.QueryText as query_text_law
+use Rattle.tmpl.specs.Body.{TemplateFile}
+use Rattle.tmpl_read.specs.declared.refusal.TmplRefusal.{TmplRefusal}
+use Rattle.tmpl_answer.proofs.Templates as templates_law
+use Rattle.run_report.specs.declared.status.Place.{Place}
+use Rattle.run_report.specs.declared.status.Place.TheVariants.{At}
+use Rattle.site_inputs.specs.declared.fault.Fault.{Fault}
+use Rattle.site_inputs.specs.declared.fault.Fault.TheVariants.{Refused, Unread, Faulty, NotFound, NoMemory}
+use Rattle.site_inputs.specs.declared.fault.Refusal.{Refusal}
+use Rattle.site_inputs.specs.declared.told.Told.{Told}
+use Rattle.site_inputs.specs.Runs.{FileEnds, IsDecided, Decides}
+use Rattle.site_inputs.specs.Sources.{data_limit, empty_building, IsRefusedFor, TextTaken, SourceEnds, GraphEnds}
+use Rattle.site_inputs.specs.Sites.{text_limit, query_told, QueryTaken, QueryEnds, TemplatesTaken, TemplatesEnd, InputsEnd, templates_told}
+use Rattle.site_inputs.proofs.Decided.{then_decides, gives_decides}
+
+-- ---- equal answers have equal parts
+
+ok_is : (A E : Type 0) (a b : A) → ◌≡◌ {A = Result A E} (Ok a) (Ok b) → a ≡ b
+ok_is A E a b same = cc
+
+err_is : (A E : Type 0) (e f : E) → ◌≡◌ {A = Result A E} (Err e) (Err f) → e ≡ f
+err_is A E e f same = cc
+
+no_err : (A E : Type 0) (a : A) (e : E) → ◌≡◌ {A = Result A E} (Ok a) (Err e) → ⊥
+no_err A E a e same = cc
+
+-- ---- the bytes of a file
+
+some_both : {X : Type 0} (o : Option X) {P Q : X → Type 0} {C : Type 0} → ((x : X) → P x → Q x → C) → IsSomeAnd o P → IsSomeAnd o Q → C
+some_both None both p q = absurd p
+some_both (Some x) both p q = both x p q
+
+file_once : (limit : ℕ) (map : FileMap) (path : List ℕ) (one other : Result (List ℕ) Fault)
+    → FileEnds limit map path one → FileEnds limit map path other → IsDecided one → IsDecided other → one ≡ other
+file_once limit map path (Ok v) (Ok w) s t d e = ap Ok (some_both (map path) (λ whole p q. p.1 ∙ sym q.1) s t)
+file_once limit map path (Ok v) (Err (Refused g)) s t d e = absurd (some_both (map path) {C = ⊥} (λ whole p q. omega (arith, p.0, q)) s t.1)
+file_once limit map path (Err (Refused f)) (Ok w) s t d e = absurd (some_both (map path) {C = ⊥} (λ whole p q. omega (arith, p, q.0)) s.1 t)
+file_once limit map path (Err (Refused f)) (Err (Refused g)) s t d e = ap (λ r. Err (Refused r)) (s.0 ∙ sym t.0)
+file_once limit map path (Err (Unread p)) other s t d e = absurd d
+file_once limit map path (Err NoMemory) other s t d e = absurd d
+file_once limit map path (Err NotFound) other s t d e = absurd s
+file_once limit map path (Err (Faulty term kind)) other s t d e = absurd s
+file_once limit map path one (Err (Unread p)) s t d e = absurd e
+file_once limit map path one (Err NoMemory) s t d e = absurd e
+file_once limit map path one (Err NotFound) s t d e = absurd t
+file_once limit map path one (Err (Faulty term kind)) s t d e = absurd t
+
+file_decides : (limit : ℕ) (map : FileMap) (path : List ℕ) → Decides (FileEnds limit map path)
+file_decides limit map path = record { once = file_once limit map path }
+
+-- a refusal by what it tells
+refused_same : {A : Type 0} (path : List ℕ) (f g : Refusal) (told other : Told) → f ≡ record { file = path; number = told.number; place = At told.at }
+    → g ≡ record { file = path; number = other.number; place = At other.at } → told ≡ other → ◌≡◌ {A = Result A Fault} (Err (Refused f)) (Err (Refused g))
+refused_same path f g told other is_f is_g same =
+    ap (λ r. Err (Refused r)) (is_f ∙ ap (λ (x : Told). record { file = path; number = x.number; place = At x.at }) same ∙ sym is_g)
+
+-- two refusals are equal that tell the same
+told_same : (o p : Option Told) (told other : Told) → o ≡ Some told → p ≡ Some other → o ≡ p → told ≡ other
+told_same o p told other is is2 same = cc
+
+-- ---- data files
+
+refused_settled : (number : ℕ) (place : Place) → ◌≡◌ {A = Result (Unit {0}) SourceRefusal} (Err (source.Refused number place)) (Err source.NoMemory) → ⊥
+refused_settled number place same = cc
+
+taken_settled : ◌≡◌ {A = Result (Unit {0}) SourceRefusal} (Ok tt) (Err source.NoMemory) → ⊥
+taken_settled same = cc
+
+-- a refusal is its file, number and place
+whole_refusal : (f g : Refusal) → f.file ≡ g.file → source.Refused f.number f.place ≡ source.Refused g.number g.place → f ≡ g
+whole_refusal f g files same =
+    let numbers : f.number ≡ g.number = cc in
+    let places : f.place ≡ g.place = cc in
+    λ i. record { file = files i; number = numbers i; place = places i }
+
+module _ (path : List ℕ) (b : Building) (bytes : List ℕ) where
+  taken_or_refused : (c : Building) (g : Refusal) → TextTaken path b bytes (Ok c) → IsRefusedFor path b bytes g → ⊥
+  taken_or_refused c g s r =
+      no_err (Unit {0}) SourceRefusal tt (source.Refused g.number g.place)
+      (source_law.one_answer path data_limit bytes b c r.left (Ok tt) (Err (source.Refused g.number g.place)) s r.takes taken_settled (refused_settled g.number g.place)).1
+
+  one_refusal : (f g : Refusal) → IsRefusedFor path b bytes f → IsRefusedFor path b bytes g → f ≡ g
+  one_refusal f g r q =
+      whole_refusal f g (r.its ∙ sym q.its)
+      (err_is (Unit {0}) SourceRefusal (source.Refused f.number f.place) (source.Refused g.number g.place)
+      (source_law.one_answer path data_limit bytes b r.left q.left (Err (source.Refused f.number f.place)) (Err (source.Refused g.number g.place)) r.takes q.takes (refused_settled f.number f.place) (refused_settled g.number g.place)).1)
+
+  text_once : (one other : Result Building Fault) → TextTaken path b bytes one → TextTaken path b bytes other → IsDecided one → IsDecided other → one ≡ other
+  text_once (Ok c) (Ok d) s t _ _ = ap Ok (source_law.one_answer path data_limit bytes b c d (Ok tt) (Ok tt) s t taken_settled taken_settled).0
+  text_once (Ok c) (Err (Refused g)) s r _ _ = absurd (taken_or_refused c g s r)
+  text_once (Err (Refused f)) (Ok d) r t _ _ = absurd (taken_or_refused d f t r)
+  text_once (Err (Refused f)) (Err (Refused g)) r q _ _ = ap (λ x. Err (Refused x)) (one_refusal f g r q)
+  text_once (Err (Unread p)) other s t d e = absurd d
+  text_once (Err NoMemory) other s t d e = absurd d
+  text_once (Err NotFound) other s t d e = absurd s
+  text_once (Err (Faulty term kind)) other s t d e = absurd s
+  text_once one (Err (Unread p)) s t d e = absurd e
+  text_once one (Err NoMemory) s t d e = absurd e
+  text_once one (Err NotFound) s t d e = absurd t
+  text_once one (Err (Faulty term kind)) s t d e = absurd t
+
+pub graph_decides : (map : FileMap) (b : Building) (paths : List (List ℕ)) → Decides (GraphEnds map b paths)
+graph_decides map b [] = gives_decides b.graph
+graph_decides map b (path ∷ paths) =
+    then_decides (SourceEnds map path b) (λ c. GraphEnds map c paths)
+    (then_decides (FileEnds data_limit map path) (TextTaken path b) (file_decides data_limit map path) (λ bytes. record { once = text_once path b bytes }))
+    (λ c. graph_decides map c paths)
+
+-- ---- queries
+
+query_settled : (e : QueryRefusal) (told : Told) → query_told e ≡ Some told → query_text.IsSettled (Err e)
+query_settled (NotSpelled (parse.TooLong at)) told h = tt
+query_settled (NotSpelled (parse.BadByte at)) told h = tt
+query_settled (NotSpelled (parse.OpenString at)) told h = tt
+query_settled (NotSpelled (parse.IntOutOfRange at)) told h = tt
+query_settled (NotSpelled (parse.Expected at)) told h = tt
+query_settled (NotSpelled (parse.TooDeep at)) told h = tt
+query_settled (NotSpelled (parse.BadVersion at)) told h = tt
+query_settled (NotSpelled parse.NoMemory) told h = absurd cc
+query_settled (NotChecked (check.TooManyPositions at)) told h = tt
+query_settled (NotChecked (check.Unbound at)) told h = tt
+query_settled (NotChecked (check.NeverCreated at)) told h = tt
+query_settled (NotChecked (check.Arity at)) told h = tt
+query_settled (NotChecked (check.LinkFromData at)) told h = tt
+query_settled (NotChecked (check.ArcAsNode at)) told h = tt
+query_settled (NotChecked (check.NotLabel at)) told h = tt
+query_settled (NotChecked (check.Reserved at)) told h = tt
+query_settled (NotChecked (check.TooManyVariables at)) told h = tt
+query_settled (NotChecked check.NoMemory) told h = absurd cc
+
+module _ (path bytes : List ℕ) where
+  query_once : (one other : Result plain.Query Fault) → QueryTaken path bytes one → QueryTaken path bytes other → IsDecided one → IsDecided other → one ≡ other
+  query_once (Ok q) (Ok r) s t _ _ = ap Ok (ok_is plain.Query QueryRefusal q r (query_text_law.one_answer text_limit bytes (Ok q) (Ok r) s t tt tt))
+  query_once (Ok q) (Err (Refused g)) s (told, is, x, r, tells) _ _ =
+      absurd (no_err plain.Query QueryRefusal q x (query_text_law.one_answer text_limit bytes (Ok q) (Err x) s r tt (query_settled x told tells)))
+  query_once (Err (Refused f)) (Ok q) (told, is, x, r, tells) t _ _ =
+      absurd (no_err plain.Query QueryRefusal q x (query_text_law.one_answer text_limit bytes (Ok q) (Err x) t r tt (query_settled x told tells)))
+  query_once (Err (Refused f)) (Err (Refused g)) (told, is, x, r, tells) (other, is2, y, q, tells2) _ _ =
+      let refusals : x ≡ y =
+      err_is plain.Query QueryRefusal x y (query_text_law.one_answer text_limit bytes (Err x) (Err y) r q (query_settled x told tells) (query_settled y other tells2)) in
+      refused_same path f g told other is is2 (told_same (query_told x) (query_told y) told other tells tells2 (ap query_told refusals))
+  query_once (Err (Unread p)) other s t d e = absurd d
+  query_once (Err NoMemory) other s t d e = absurd d
+  query_once (Err NotFound) other s t d e = absurd s
+  query_once (Err (Faulty term kind)) other s t d e = absurd s
+  query_once one (Err (Unread p)) s t d e = absurd e
+  query_once one (Err NoMemory) s t d e = absurd e
+  query_once one (Err NotFound) s t d e = absurd t
+  query_once one (Err (Faulty term kind)) s t d e = absurd t
+
+pub query_decides : (map : FileMap) (path : List ℕ) → Decides (QueryEnds map path)
+query_decides map path = then_decides (FileEnds text_limit map path) (QueryTaken path) (file_decides text_limit map path) (λ bytes. record { once = query_once path bytes })
+
+-- ---- templates
+
+module _ (path bytes : List ℕ) where
+  templates_once : (one other : Result TemplateFile Fault) → TemplatesTaken path bytes one → TemplatesTaken path bytes other → IsDecided one → IsDecided other → one ≡ other
+  templates_once (Ok a) (Ok b) s t _ _ = ap Ok (ok_is TemplateFile TmplRefusal a b (templates_law.one_answer text_limit bytes (Ok a) (Ok b) s t))
+  templates_once (Ok a) (Err (Refused g)) s (told, is, x, r, tells) _ _ = absurd (no_err TemplateFile TmplRefusal a x (templates_law.one_answer text_limit bytes (Ok a) (Err x) s r))
+  templates_once (Err (Refused f)) (Ok b) (told, is, x, r, tells) t _ _ = absurd (no_err TemplateFile TmplRefusal b x (templates_law.one_answer text_limit bytes (Ok b) (Err x) t r))
+  templates_once (Err (Refused f)) (Err (Refused g)) (told, is, x, r, tells) (other, is2, y, q, tells2) _ _ =
+      let refusals : x ≡ y = err_is TemplateFile TmplRefusal x y (templates_law.one_answer text_limit bytes (Err x) (Err y) r q) in
+      refused_same path f g told other is is2 (told_same (templates_told x) (templates_told y) told other tells tells2 (ap templates_told refusals))
+  templates_once (Err (Unread p)) other s t d e = absurd d
+  templates_once (Err NoMemory) other s t d e = absurd d
+  templates_once (Err NotFound) other s t d e = absurd s
+  templates_once (Err (Faulty term kind)) other s t d e = absurd s
+  templates_once one (Err (Unread p)) s t d e = absurd e
+  templates_once one (Err NoMemory) s t d e = absurd e
+  templates_once one (Err NotFound) s t d e = absurd t
+  templates_once one (Err (Faulty term kind)) s t d e = absurd t
+
+templates_decides : (map : FileMap) (path : List ℕ) → Decides (TemplatesEnd map path)
+templates_decides map path = then_decides (FileEnds text_limit map path) (TemplatesTaken path) (file_decides text_limit map path) (λ bytes. record { once = templates_once path bytes })
+
+-- ---- all three
+
+pub inputs_decide : (map : FileMap) (sources : List (List ℕ)) (query_path templates_path : List ℕ) → Decides (InputsEnd map sources query_path templates_path)
+inputs_decide map sources query_path templates_path =
+    then_decides (GraphEnds map empty_building sources) _ (graph_decides map empty_building sources) (λ graph.
+    then_decides (QueryEnds map query_path) _ (query_decides map query_path) (λ query.
+    then_decides (TemplatesEnd map templates_path) _ (templates_decides map templates_path) (λ templates.
+    gives_decides (record { graph = graph; query = query; templates = templates }))))

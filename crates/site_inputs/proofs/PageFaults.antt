@@ -1,0 +1,96 @@
+-- Reading the inputs of a site ends with no fault of a page.
+use Rattle.std.proofs.Common.{ℕ, List, [], ◌∷◌, inl, inr}
+use Rattle.std.specs.Prelude.{Result, Err, ⊤}
+use Rattle.edge_io.specs.Files.{FileMap}
+use Rattle.sd_graph.specs.Statement.{Building}
+use Rattle.site_inputs.specs.declared.fault.Fault.{Fault}
+use Rattle.site_inputs.specs.declared.fault.Fault.TheVariants.{Refused, Unread, Faulty, NotFound, NoMemory}
+use Rattle.site_inputs.specs.Runs.{Then, Gives, FileEnds}
+use Rattle.site_inputs.specs.Sources.{TextTaken, SourceEnds, GraphEnds, empty_building, data_limit}
+use Rattle.site_inputs.specs.Sites.{InputsEnd, QueryTaken, QueryEnds, TemplatesTaken, TemplatesEnd, text_limit}
+
+-- a fault of a page, and not of an input
+abbrev pub IsOfPage : Fault → Type 0
+IsOfPage (Faulty term kind) = ⊤
+IsOfPage NotFound = ⊤
+IsOfPage fault = ⊥
+
+pub record NoPageFault {A : Type 0} (Ends : Result A Fault → Type 0) : Type 0 where
+  pub none : (fault : Fault) → IsOfPage fault → Ends (Err fault) → ⊥
+
+then_none : {A B : Type 0} (First : Result A Fault → Type 0) (Next : A → Result B Fault → Type 0) → NoPageFault First → ((a : A) → NoPageFault (Next a)) → NoPageFault (Then First Next)
+then_none First Next n m = record { none = by }
+  where
+    by : (fault : Fault) → IsOfPage fault → Then First Next (Err fault) → ⊥
+    by fault p (inl e) = n.none fault p e
+    by fault p (inr b) = (m b.value).none fault p b.next
+
+gives_none : {A : Type 0} (value : A) → NoPageFault (Gives value)
+gives_none {A} value = record { none = by }
+  where
+    by : (fault : Fault) → IsOfPage fault → Gives value (Err fault) → ⊥
+    by fault p (inl e) = cc
+    by (Faulty term kind) p (inr e) = cc
+    by NotFound p (inr e) = cc
+    by (Refused refusal) p (inr e) = p
+    by (Unread path) p (inr e) = p
+    by NoMemory p (inr e) = p
+
+file_none : (limit : ℕ) (map : FileMap) (path : List ℕ) → NoPageFault (FileEnds limit map path)
+file_none limit map path = record { none = by }
+  where
+    by : (fault : Fault) → IsOfPage fault → FileEnds limit map path (Err fault) → ⊥
+    by (Faulty term kind) p e = e
+    by NotFound p e = e
+    by (Refused refusal) p e = p
+    by (Unread path) p e = p
+    by NoMemory p e = p
+
+text_none : (path : List ℕ) (b : Building) (bytes : List ℕ) → NoPageFault (TextTaken path b bytes)
+text_none path b bytes = record { none = by }
+  where
+    by : (fault : Fault) → IsOfPage fault → TextTaken path b bytes (Err fault) → ⊥
+    by (Faulty term kind) p e = e
+    by NotFound p e = e
+    by (Refused refusal) p e = p
+    by (Unread path) p e = p
+    by NoMemory p e = p
+
+query_none : (path bytes : List ℕ) → NoPageFault (QueryTaken path bytes)
+query_none path bytes = record { none = by }
+  where
+    by : (fault : Fault) → IsOfPage fault → QueryTaken path bytes (Err fault) → ⊥
+    by (Faulty term kind) p e = e
+    by NotFound p e = e
+    by (Refused refusal) p e = p
+    by (Unread path) p e = p
+    by NoMemory p e = p
+
+templates_none : (path bytes : List ℕ) → NoPageFault (TemplatesTaken path bytes)
+templates_none path bytes = record { none = by }
+  where
+    by : (fault : Fault) → IsOfPage fault → TemplatesTaken path bytes (Err fault) → ⊥
+    by (Faulty term kind) p e = e
+    by NotFound p e = e
+    by (Refused refusal) p e = p
+    by (Unread path) p e = p
+    by NoMemory p e = p
+
+source_none : (map : FileMap) (path : List ℕ) (b : Building) → NoPageFault (SourceEnds map path b)
+source_none map path b = then_none (FileEnds data_limit map path) (TextTaken path b) (file_none data_limit map path) (λ bytes. text_none path b bytes)
+
+graph_none : (map : FileMap) (b : Building) (paths : List (List ℕ)) → NoPageFault (GraphEnds map b paths)
+graph_none map b [] = gives_none b.graph
+graph_none map b (path ∷ paths) = then_none (SourceEnds map path b) (λ c. GraphEnds map c paths) (source_none map path b) (λ c. graph_none map c paths)
+
+pub inputs_none : (map : FileMap) (sources : List (List ℕ)) (query_path templates_path : List ℕ) → NoPageFault (InputsEnd map sources query_path templates_path)
+inputs_none map sources query_path templates_path =
+    then_none (GraphEnds map empty_building sources)
+    (λ graph. Then (QueryEnds map query_path) (λ query. Then (TemplatesEnd map templates_path) (λ templates. Gives (record { graph = graph; query = query; templates = templates }))))
+    (graph_none map empty_building sources)
+    (λ graph. then_none (QueryEnds map query_path)
+    (λ query. Then (TemplatesEnd map templates_path) (λ templates. Gives (record { graph = graph; query = query; templates = templates })))
+    (then_none (FileEnds text_limit map query_path) (QueryTaken query_path) (file_none text_limit map query_path) (λ bytes. query_none query_path bytes))
+    (λ query. then_none (TemplatesEnd map templates_path) (λ templates. Gives (record { graph = graph; query = query; templates = templates }))
+    (then_none (FileEnds text_limit map templates_path) (TemplatesTaken templates_path) (file_none text_limit map templates_path) (λ bytes. templates_none templates_path bytes))
+    (λ templates. gives_none (record { graph = graph; query = query; templates = templates }))))

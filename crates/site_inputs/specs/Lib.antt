@@ -1,0 +1,5 @@
+pub mod Runs
+pub mod Sources
+pub mod Sites
+pub mod Values
+pub mod Statuses

@@ -1,0 +1,46 @@
+-- The data files, taken one after another, and the union of what they state.
+use Rattle.std.specs.Prelude.{◌≡◌, ℕ, List, [], ◌∷◌, Result, Ok, Err, ⊤}
+use Rattle.edge_io.specs.Files.{FileMap}
+use Rattle.graph_spec.specs.DataGraph.{DataGraph}
+use Rattle.sd_graph.specs.Statement.{Building}
+use Rattle.data_source.specs.Takes.{Takes}
+use Rattle.data_source.specs.declared.refusal.SourceRefusal.TheVariants as source
+use Rattle.site_inputs.specs.declared.fault.Fault.{Fault}
+use Rattle.site_inputs.specs.declared.fault.Fault.TheVariants.{Refused, NoMemory}
+use Rattle.site_inputs.specs.declared.fault.Refusal.{Refusal}
+use Rattle.site_inputs.specs.Runs.{Then, Gives, FileEnds}
+
+-- the most bytes of a data file
+abbrev pub data_limit : ℕ
+data_limit = 67108864
+
+-- a graph in which nothing is stated, with the program's limits
+abbrev pub empty_building : Building
+empty_building = record { limits = record { nodes = 1048576; edges = 4194304 }; graph = record { nodes = []; edges = []; members = [] } }
+
+-- the file is refused for this, and leaves some graph
+pub record IsRefusedFor (path : List ℕ) (b : Building) (bytes : List ℕ) (refusal : Refusal) : Type 0 where
+  pub left : Building
+  pub takes : Takes path data_limit bytes b left (Err (source.Refused refusal.number refusal.place))
+  pub its : refusal.file ≡ path
+
+-- How the bytes of a data file end, behind what the files before it state: with the graph that has what they state too,
+-- or refused. They are read by the format that the end of the path tells.
+abbrev pub TextTaken : List ℕ → Building → List ℕ → Result Building Fault → Type 0
+TextTaken path b bytes (Ok c) = Takes path data_limit bytes b c (Ok tt)
+TextTaken path b bytes (Err (Refused refusal)) = IsRefusedFor path b bytes refusal
+TextTaken path b bytes (Err NoMemory) = ⊤
+TextTaken path b bytes (Err fault) = ⊥
+
+abbrev pub SourceEnds : FileMap → List ℕ → Building → Result Building Fault → Type 0
+SourceEnds map path b = Then (FileEnds data_limit map path) (TextTaken path b)
+
+-- each file behind those before it, and then the graph
+abbrev pub GraphEnds : FileMap → Building → List (List ℕ) → Result DataGraph Fault → Type 0
+GraphEnds map b [] = Gives b.graph
+GraphEnds map b (path ∷ paths) = Then (SourceEnds map path b) (λ c. GraphEnds map c paths)
+
+-- the building that a file leaves, with how it ended
+abbrev pub with_building : Building → Result ⊤ Fault → Result Building Fault
+with_building c (Ok u) = Ok c
+with_building c (Err fault) = Err fault

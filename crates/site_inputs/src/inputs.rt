@@ -1,0 +1,86 @@
+// The inputs, each read and decoded before the next.
+ghost use Rattle.std.specs.Prelude.{◌≡◌, ◌⊎◌, ◌<◌, ◌^◌, ◌∷◌, [], ℕ, length, Ok, Err, ⊤, Result};
+ghost use Rattle.std.specs.Option.{ForSome};
+ghost use Rattle.sd_graph.specs.Statement.{Building};
+ghost use Rattle.site_inputs.specs.Runs.{FileEnds, ReadsHaveCause};
+ghost use Rattle.site_inputs.specs.Sources.{TextTaken, SourceEnds, GraphEnds, empty_building, with_building};
+
+use crate::fault::{Fault, refused, unread};
+use data_source::{SourceRefusal, read_source};
+use edge_io::{Files, ReadEnd};
+use run_report::Place;
+use sd_graph::{Graph, GraphBuilder, PROGRAM_LIMITS};
+use sd_value::{NoMemory, Str};
+use std::alloc::Global;
+
+// The most bytes of a data file.
+const DATA_LIMIT: u64 = 67_108_864;
+
+/// The bytes of a file of at most so many.
+pub fn read_file<F: Files>(
+    alloc: Global,
+    files: &mut F,
+    path: &Str,
+    limit: u64,
+) -> Result<Str, Fault>
+    requires { limit < 2 ^ 63 }
+    ensures ends { ForSome (F.contents files.old) (λ map. FileEnds limit map path.now result) }
+    ensures same { F.contents files.new ≡ F.contents files.old }
+    ensures cause { ReadsHaveCause (path.now ∷ []) (F.failed_reads files.old) (F.failed_reads files.new) result }
+    ensures writes { F.failed_writes files.new ≡ F.failed_writes files.old }
+{
+    match files.read(alloc, path, limit + 1) {
+        Ok(bytes) => {
+            if bytes.len() as u64 > limit {
+                return Err(refused(alloc, path, 24, Place::At(limit)));
+            }
+            Ok(Str::of(alloc, bytes)?)
+        }
+        Err(ReadEnd::Failed) => Err(unread(alloc, path)),
+        Err(ReadEnd::NoMemory) => Err(Fault::NoMemory),
+    }
+}
+
+// Takes what the bytes of a data file state into the graph, read by the format that the path tells.
+fn take_text(alloc: Global, path: &Str, bytes: &[u8], graph: &mut GraphBuilder) -> Result<(), Fault>
+    ensures { TextTaken path.now graph.old bytes.now (with_building graph.new result) }
+{
+    match read_source(alloc, path, bytes, DATA_LIMIT, graph) {
+        Ok(()) => Ok(()),
+        Err(SourceRefusal::Refused { number, place }) => Err(refused(alloc, path, number, place)),
+        Err(SourceRefusal::NoMemory) => Err(Fault::NoMemory),
+    }
+}
+
+// Takes what a data file states into the graph.
+fn take_source<F: Files>(
+    alloc: Global,
+    files: &mut F,
+    path: &Str,
+    graph: &mut GraphBuilder,
+) -> Result<(), Fault>
+    ensures ends { ForSome (F.contents files.old) (λ map. SourceEnds map path.now graph.old (with_building graph.new result)) }
+    ensures same { F.contents files.new ≡ F.contents files.old }
+    ensures cause { ReadsHaveCause (path.now ∷ []) (F.failed_reads files.old) (F.failed_reads files.new) result }
+    ensures writes { F.failed_writes files.new ≡ F.failed_writes files.old }
+{
+    let bytes = read_file(alloc, files, path, DATA_LIMIT)?;
+    take_text(alloc, path, bytes.bytes(), graph)
+}
+
+/// The union of what the data files state.
+/// # Errors
+/// The first file in their order that is refused or unread, or want of memory.
+pub fn load_graph<F: Files>(alloc: Global, files: &mut F, sources: &[Str]) -> Result<Graph, Fault>
+    ensures ends { ForSome (F.contents files.old) (λ map. GraphEnds map empty_building sources.now result) }
+    ensures same { F.contents files.new ≡ F.contents files.old }
+    ensures cause { ReadsHaveCause sources.now (F.failed_reads files.old) (F.failed_reads files.new) result }
+    ensures writes { F.failed_writes files.new ≡ F.failed_writes files.old }
+{
+    let mut graph = GraphBuilder::new(alloc, PROGRAM_LIMITS);
+    for path in sources {
+        take_source(alloc, files, path, &mut graph)?;
+    }
+    let graph = graph.finish(alloc)?;
+    Ok(graph)
+}

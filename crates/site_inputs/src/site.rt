@@ -1,0 +1,103 @@
+// The three inputs of a site, each read and decoded before the next.
+ghost use Rattle.std.specs.Prelude.{◌≡◌, ◌∷◌, []};
+ghost use Rattle.std.specs.Option.{ForSome};
+ghost use Rattle.site_inputs.specs.Runs.{ReadsHaveCause};
+ghost use Rattle.site_inputs.specs.Sites.{QueryTaken, QueryEnds, TemplatesTaken, TemplatesEnd, InputsEnd, input_paths};
+ghost use Rattle.site_inputs.specs.Values.{file_result, inputs_result};
+
+use crate::fault::{Fault, refused};
+use crate::inputs::{load_graph, read_file};
+use crate::told::{told_of_query, told_of_templates};
+use edge_io::Files;
+use query_read::read_query;
+use run_report::Place;
+use sd_graph::Graph;
+use sd_value::Str;
+use std::alloc::Global;
+use struql_check::Checked;
+use tmpl::Templates;
+use tmpl_read::read_templates;
+
+// The most bytes of a query, and of a file of templates.
+const TEXT_LIMIT: u64 = 1_048_576;
+
+/// What a site is made of.
+#[derive(Drop)]
+pub struct SiteInputs {
+    pub graph: Graph,
+    pub query: Checked,
+    pub templates: Templates,
+}
+
+fn take_query(alloc: Global, path: &Str, bytes: &[u8]) -> Result<Checked, Fault>
+    ensures { QueryTaken path.now bytes.now result }
+{
+    match read_query(alloc, bytes, TEXT_LIMIT) {
+        Ok(query) => Ok(query),
+        Err(refusal) => match told_of_query(&refusal) {
+            Some(told) => Err(refused(alloc, path, told.number, Place::At(told.at))),
+            None => Err(Fault::NoMemory),
+        },
+    }
+}
+
+/// The checked query of a file.
+/// # Errors
+/// A query that is refused or unread, or want of memory.
+pub fn load_query<F: Files>(alloc: Global, files: &mut F, path: &Str) -> Result<Checked, Fault>
+    ensures ends { ForSome (F.contents files.old) (λ map. QueryEnds map path.now result) }
+    ensures same { F.contents files.new ≡ F.contents files.old }
+    ensures cause { ReadsHaveCause (path.now ∷ []) (F.failed_reads files.old) (F.failed_reads files.new) result }
+    ensures writes { F.failed_writes files.new ≡ F.failed_writes files.old }
+{
+    let bytes = read_file(alloc, files, path, TEXT_LIMIT)?;
+    take_query(alloc, path, bytes.bytes())
+}
+
+fn take_templates(alloc: Global, path: &Str, bytes: &[u8]) -> Result<Templates, Fault>
+    ensures { TemplatesTaken path.now bytes.now (file_result result) }
+{
+    match read_templates(alloc, bytes, TEXT_LIMIT) {
+        Ok(templates) => Ok(templates),
+        Err(refusal) => match told_of_templates(&refusal) {
+            Some(told) => Err(refused(alloc, path, told.number, Place::At(told.at))),
+            None => Err(Fault::NoMemory),
+        },
+    }
+}
+
+// The templates of a file.
+fn load_templates<F: Files>(alloc: Global, files: &mut F, path: &Str) -> Result<Templates, Fault>
+    ensures ends { ForSome (F.contents files.old) (λ map. TemplatesEnd map path.now (file_result result)) }
+    ensures same { F.contents files.new ≡ F.contents files.old }
+    ensures cause { ReadsHaveCause (path.now ∷ []) (F.failed_reads files.old) (F.failed_reads files.new) result }
+    ensures writes { F.failed_writes files.new ≡ F.failed_writes files.old }
+{
+    let bytes = read_file(alloc, files, path, TEXT_LIMIT)?;
+    take_templates(alloc, path, bytes.bytes())
+}
+
+/// The data, the query and the templates, in this order.
+/// # Errors
+/// The first of these files that is refused or unread, or want of memory.
+pub fn load_inputs<F: Files>(
+    alloc: Global,
+    files: &mut F,
+    sources: &[Str],
+    query: &Str,
+    templates: &Str,
+) -> Result<SiteInputs, Fault>
+    ensures ends { ForSome (F.contents files.old) (λ map. InputsEnd map sources.now query.now templates.now (inputs_result result)) }
+    ensures same { F.contents files.new ≡ F.contents files.old }
+    ensures cause { ReadsHaveCause (input_paths sources.now query.now templates.now) (F.failed_reads files.old) (F.failed_reads files.new) result }
+    ensures writes { F.failed_writes files.new ≡ F.failed_writes files.old }
+{
+    let graph = load_graph(alloc, files, sources)?;
+    let query = load_query(alloc, files, query)?;
+    let templates = load_templates(alloc, files, templates)?;
+    Ok(SiteInputs {
+        graph,
+        query,
+        templates,
+    })
+}

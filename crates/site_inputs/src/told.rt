@@ -1,0 +1,140 @@
+// The numbers of refusals.
+ghost use Rattle.std.specs.Prelude.{◌≡◌};
+ghost use Rattle.site_inputs.specs.Sites.{parse_told, check_told, query_told, templates_told};
+
+use query_read::QueryRefusal;
+use struql_check::CheckRefusal;
+use struql_parse::ParseRefusal;
+use tmpl_read::TmplRefusal;
+
+/// The number of a refusal, and the byte at which it stands.
+#[derive(Clone, Copy, Debug)]
+pub struct Told {
+    pub number: u32,
+    pub at: u64,
+}
+
+// What a text that is no query tells.
+fn told_of_parse(refusal: &ParseRefusal) -> Option<Told>
+    ensures { result ≡ parse_told refusal.now }
+{
+    match refusal {
+        ParseRefusal::TooLong(at) => Some(Told {
+            number: 24,
+            at: *at,
+        }),
+        ParseRefusal::BadByte(at) => Some(Told {
+            number: 21,
+            at: *at,
+        }),
+        ParseRefusal::OpenString(at) => Some(Told {
+            number: 22,
+            at: *at,
+        }),
+        ParseRefusal::IntOutOfRange(at) => Some(Told {
+            number: 23,
+            at: *at,
+        }),
+        ParseRefusal::Expected(at) => Some(Told {
+            number: 71,
+            at: *at,
+        }),
+        ParseRefusal::TooDeep(at) => Some(Told {
+            number: 72,
+            at: *at,
+        }),
+        ParseRefusal::BadVersion(at) => Some(Told {
+            number: 73,
+            at: *at,
+        }),
+        ParseRefusal::NoMemory => None,
+    }
+}
+
+// What a query with a fault tells.
+fn told_of_check(refusal: &CheckRefusal) -> Option<Told>
+    ensures { result ≡ check_told refusal.now }
+{
+    match refusal {
+        CheckRefusal::TooManyPositions(at) => Some(Told {
+            number: 51,
+            at: *at,
+        }),
+        CheckRefusal::Unbound(at) => Some(Told {
+            number: 61,
+            at: *at,
+        }),
+        CheckRefusal::NeverCreated(at) => Some(Told {
+            number: 62,
+            at: *at,
+        }),
+        CheckRefusal::Arity(at) => Some(Told {
+            number: 63,
+            at: *at,
+        }),
+        CheckRefusal::LinkFromData(at) => Some(Told {
+            number: 64,
+            at: *at,
+        }),
+        CheckRefusal::ArcAsNode(at) => Some(Told {
+            number: 65,
+            at: *at,
+        }),
+        CheckRefusal::NotLabel(at) => Some(Told {
+            number: 66,
+            at: *at,
+        }),
+        CheckRefusal::Reserved(at) => Some(Told {
+            number: 67,
+            at: *at,
+        }),
+        CheckRefusal::TooManyVariables(at) => Some(Told {
+            number: 68,
+            at: *at,
+        }),
+        CheckRefusal::NoMemory => None,
+    }
+}
+
+/// What a refused query tells; none where memory ran out.
+pub fn told_of_query(refusal: &QueryRefusal) -> Option<Told>
+    ensures { result ≡ query_told refusal.now }
+{
+    match refusal {
+        QueryRefusal::NotSpelled(refusal) => told_of_parse(refusal),
+        QueryRefusal::NotChecked(refusal) => told_of_check(refusal),
+    }
+}
+
+/// What a refused file of templates tells; none where memory ran out.
+pub fn told_of_templates(refusal: &TmplRefusal) -> Option<Told>
+    ensures { result ≡ templates_told refusal.now }
+{
+    match refusal {
+        TmplRefusal::TooLong(at) => Some(Told {
+            number: 24,
+            at: *at,
+        }),
+        TmplRefusal::Expected(at) => Some(Told {
+            number: 81,
+            at: *at,
+        }),
+        TmplRefusal::Unclosed(at) => Some(Told {
+            number: 82,
+            at: *at,
+        }),
+        TmplRefusal::Twice(at) => Some(Told {
+            number: 83,
+            at: *at,
+        }),
+        TmplRefusal::TooDeep(at) => Some(Told {
+            number: 84,
+            at: *at,
+        }),
+        TmplRefusal::UnknownVariable(at) => Some(Told {
+            number: 85,
+            at: *at,
+        }),
+        TmplRefusal::NoMemory => None,
+    }
+}
