@@ -1,0 +1,85 @@
+// What a run prints.
+ghost use Rattle.std.specs.Prelude.{◌≡◌, ◌++◌, All, IfOk, OnOk, decimal};
+ghost use Rattle.mem_wire.specs.WireInMemory.{accounts_of, faults_in};
+ghost use Rattle.serve_run.specs.Texts.{tally_text, bytes_taken, connection_line, connection_text, replay_text};
+
+use hub::Tally;
+use itoa::Buffer;
+use mem_wire::MemWire;
+use sd_value::NoMemory;
+use std::alloc::Global;
+
+/// The lines that tell the counts of a run.
+pub fn tally_text(alloc: Global, tally: &Tally) -> Result<Vec<u8>, NoMemory>
+    ensures { IfOk result (λ text. text.items ≡ tally_text tally.now) }
+{
+    let mut text = Vec::new(alloc);
+    push_tally(&mut text, tally)?;
+    Ok(text)
+}
+
+/// The text of a run over a wire in memory: each connection that was opened with the bytes that it took, and the counts. A
+/// send that failed was refused memory, where the wire has no sends that are to fail: then there is no text.
+pub fn replay_text(
+    alloc: Global,
+    wire: &MemWire,
+    opened: &[u64],
+    tally: &Tally,
+) -> Result<Vec<u8>, NoMemory>
+    ensures text { IfOk result (λ text. text.items ≡ replay_text (accounts_of wire.now) opened.now tally.now) }
+    ensures whole { IfOk result (λ text. All (λ number. faults_in wire.now number ≡ 0) opened.now) }
+{
+    let mut text = Vec::new(alloc);
+    for number in opened {
+        push_connection(&mut text, wire, *number)?;
+    }
+    push_tally(&mut text, tally)?;
+    Ok(text)
+}
+
+fn push_connection(text: &mut Vec<u8>, wire: &MemWire, number: u64) -> Result<(), NoMemory>
+    ensures text { OnOk result (text.new.items ≡ text.old.items ++ connection_text number (bytes_taken (accounts_of wire.now number))) }
+    ensures whole { OnOk result (faults_in wire.now number ≡ 0) }
+{
+    if wire.send_faults(number) > 0 {
+        return Err(NoMemory);
+    }
+    push_bytes(text, number, wire.taken(number))
+}
+
+fn push_bytes(text: &mut Vec<u8>, number: u64, bytes: &[u8]) -> Result<(), NoMemory>
+    ensures { OnOk result (text.new.items ≡ text.old.items ++ connection_text number bytes.now) }
+{
+    push_line(text, number, bytes.len() as u64)?;
+    text.extend_from_slice(bytes)?;
+    text.extend_from_slice(b"\n")?;
+    Ok(())
+}
+
+/// The line of a connection.
+fn push_line(text: &mut Vec<u8>, number: u64, length: u64) -> Result<(), NoMemory>
+    ensures { OnOk result (text.new.items ≡ text.old.items ++ connection_line number length) }
+{
+    push_number(text, b"connection ", number, b" ")?;
+    push_number(text, b"", length, b"\n")?;
+    Ok(())
+}
+
+fn push_tally(text: &mut Vec<u8>, tally: &Tally) -> Result<(), NoMemory>
+    ensures { OnOk result (text.new.items ≡ text.old.items ++ tally_text tally.now) }
+{
+    push_number(text, b"connections ", tally.connections, b"\n")?;
+    push_number(text, b"replies ", tally.replies, b"\n")?;
+    push_number(text, b"hits ", tally.hits, b"\n")
+}
+
+/// A number between two texts.
+fn push_number(text: &mut Vec<u8>, before: &[u8], number: u64, after: &[u8]) -> Result<(), NoMemory>
+    ensures { OnOk result (text.new.items ≡ text.old.items ++ (before.now ++ decimal number ++ after.now)) }
+{
+    let mut buffer = Buffer::new();
+    text.extend_from_slice(before)?;
+    text.extend_from_slice(buffer.format(number).as_bytes())?;
+    text.extend_from_slice(after)?;
+    Ok(())
+}
