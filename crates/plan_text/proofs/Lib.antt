@@ -1,0 +1,3 @@
+pub mod PathLists
+pub mod Texts
+pub mod Once

@@ -1,0 +1,40 @@
+//! The text of a query's plans over a store, as the command `explain` prints it.
+#![tactic(auto)]
+
+ghost use Rattle.std.specs.Prelude.{◌≡◌, IfOk};
+ghost use Rattle.graph_spec.specs.DataGraph.{DataGraph};
+ghost use Rattle.query_spec.specs.Query.{Query as AnyQuery};
+ghost use Rattle.plan_text.specs.Explained.{IsExplained, HasOneExplanation};
+
+mod block;
+mod lines;
+mod paths;
+
+use block::explain_block;
+use checked_blocks::scoped_blocks;
+use paths::paths_of;
+use sd_value::NoMemory;
+use std::alloc::Global;
+use store::Store;
+use struql_check::Checked;
+
+/// The plans of a checked query's blocks over the store's graph, in the text's order: a line `block PATH`, and a line for
+/// each step of the block's plan with nothing bound at first, `  use COND cost N` or `  domain X cost N`. A block's path
+/// counts the blocks at each level from 1, as `2.1`. A block is planned with the conditions of all blocks round it before
+/// its own.
+pub fn explain<S: Store>(alloc: Global, checked: &Checked, store: &S) -> Result<Vec<u8>, NoMemory>
+    ensures { IfOk result (λ text. IsExplained (S.graph store.now) checked.now text.items) }
+{
+    let paths = paths_of(alloc, &checked.query().blocks)?;
+    let blocks = scoped_blocks(alloc, checked)?;
+    let mut out = Vec::new(alloc);
+    for i in 0..blocks.len() {
+        explain_block(alloc, store, &paths[i], &blocks[i].chain, &mut out)?;
+    }
+    Ok(out)
+}
+
+/// The graph and the query decide the text.
+pub fn a_query_has_one_explanation()
+    ensures { (G : DataGraph) (q : AnyQuery) → HasOneExplanation G q }
+{}
