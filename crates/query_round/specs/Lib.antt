@@ -1,0 +1,3 @@
+pub mod Spellable
+pub mod Kept
+pub mod Again
