@@ -1,164 +1,116 @@
 // The page of a term.
-ghost use Rattle.std.specs.Prelude.{◌≡◌, ◌↔◌, ◌≤◌, ◌<◌, ◌++◌, ◌+◌, ℕ, List, [], All, Contains, IfOk, IsTrue, MatchOption, length};
-ghost use Rattle.sd_value.specs.declared.Value.TheVariants as values;
+ghost use Rattle.std.specs.Prelude.{◌≡◌, ◌↔◌, ◌≤◌, ◌<◌, ◌++◌, ◌+◌, ℕ, List, [], All, Contains, IfOk, IsTrue, MatchOption, Some, None, length, if◌then◌else◌, is_some, ◌^◌};
+ghost use Rattle.std.specs.BTreeMap.{get, btree_map_len};
+ghost use Rattle.sd_value.specs.Order.{value_cmp};
 ghost use Rattle.tmpl.specs.Reading.{file_of};
 ghost use Rattle.page_spec.specs.Pieces.{HasTemplate, Pieces, items_of};
-ghost use Rattle.page_spec.specs.Page.{IsOutcome};
+ghost use Rattle.page_spec.specs.Page.{HasText, IsOutcome};
 ghost use Rattle.demand_spec.specs.Reads.{KeepsOnly, MayAsk};
+ghost use Rattle.page_text.specs.Texts.{IsDraft, AreTexts, IsNumbered, Keeps};
 ghost use Rattle.render.specs.Asks.{FrameAsks, LedAsks};
-ghost use Rattle.render.specs.Frames.{IsKept, IsFrame, IsStep, IsFinal, IsText, frame_values};
+ghost use Rattle.render.specs.Frames.{IsFrame, Waits, AreKnown, Marks, IsNext, IsTaken, IsFinal, IsText};
 
 use crate::pieces::expand;
 use page_spec::{Outcome, PAGE_LIMIT, Piece};
+use page_text::{Draft, Numbered, keep, written};
 use sd_value::{NoMemory, Str, Term, Value, copy};
 use site_view::SiteView;
 use std::alloc::Global;
+use std::collections::BTreeMap;
 use tmpl::Templates;
 
-/// A value whose text is known; it isn't kept where it is longer than a page may be.
+/// A value that was met: its text is being put together, or is known.
 #[derive(Drop)]
-pub struct Done {
-    value: Value,
-    text: Option<Vec<u8>>,
+pub enum Known {
+    Open,
+    Finished(Numbered),
 }
 
-/// A value whose text is being put together.
+/// A value whose text is being put together: the pieces that are left, of which the last one is next, and the text of
+/// those that were taken.
 #[derive(Drop)]
 pub struct Frame {
     value: Value,
-    pieces: Vec<Piece>,
-    at: usize,
-    text: Option<Vec<u8>>,
+    left: Vec<Piece>,
+    draft: Draft,
 }
 
-/// What is to be done at the next piece: its text is put after the frame's, the text of its value is made
-/// first, or its value stands in a frame already.
+/// Why no further piece is taken: none is left, the text of its value is made first, or its value stands in a frame
+/// already.
 #[derive(Drop)]
-pub enum Step {
-    Append(Option<Vec<u8>>),
+pub enum Taken {
+    All,
     Enter(Value),
     Again(Value),
 }
 
-/// The text with the bytes after it.
-fn with_bytes(text: Option<Vec<u8>>, more: &[u8]) -> Result<Option<Vec<u8>>, NoMemory>
-    ensures { IfOk result (λ r. (t : List ℕ) → IsKept text t → IsKept r (t ++ more.now)) }
-{
-    match text {
-        None => Ok(None),
-        Some(mut bytes) => {
-            if bytes.len() > PAGE_LIMIT || more.len() > PAGE_LIMIT - bytes.len() {
-                Ok(None)
-            } else {
-                bytes.extend_from_slice(more)?;
-                Ok(Some(bytes))
-            }
-        }
-    }
+/// What stands next in a frame: bytes, a text that is known, a value whose text is made first, or one that stands in a
+/// frame already.
+#[derive(Drop)]
+pub enum Next {
+    Stretch(Str),
+    Whole(Numbered),
+    Enter(Value),
+    Again(Value),
 }
 
-/// The text with another after it.
-fn with_text(text: Option<Vec<u8>>, more: Option<Vec<u8>>) -> Result<Option<Vec<u8>>, NoMemory>
-    ensures { IfOk result (λ r. (t u : List ℕ) → IsKept text t → IsKept more u → IsKept r (t ++ u)) }
+fn next_of(known: &BTreeMap<Value, Known>, piece: Piece) -> Next
+    ensures { IsNext known.now piece result }
 {
-    match more {
-        None => Ok(None),
-        Some(bytes) => {
-            let longer = with_bytes(text, bytes.as_slice())?;
-            Ok(longer)
-        }
-    }
-}
-
-fn copied(alloc: Global, text: &Option<Vec<u8>>) -> Result<Option<Vec<u8>>, NoMemory>
-    ensures { IfOk result (λ r. (t : List ℕ) → IsKept text.now t → IsKept r t) }
-{
-    match text {
-        None => Ok(None),
-        Some(bytes) => {
-            let bytes = Vec::from_slice(alloc, bytes.as_slice())?;
-            Ok(Some(bytes))
-        }
-    }
-}
-
-/// The finished value that is this one.
-fn find<'a>(done: &'a [Done], value: &Value) -> Option<&'a Done>
-    ensures { MatchOption result (Unit {0}) (λ d. Contains done.now d.now × (d.now.value ≡ value.now)) }
-{
-    for entry in done {
-        if is_same(&entry.value, value) {
-            return Some(entry);
-        }
-    }
-    None
-}
-
-fn is_open(stack: &[Frame], value: &Value) -> bool
-    ensures { IsTrue result ↔ Contains (frame_values stack.now) value.now }
-{
-    for frame in stack {
-        if is_same(&frame.value, value) {
-            return true;
-        }
-    }
-    false
-}
-
-fn is_same(a: &Value, b: &Value) -> bool
-    ensures { IsTrue result ↔ (a.now ≡ b.now) }
-{
-    a.cmp(b).is_eq()
-}
-
-/// What is to be done at the frame's next piece.
-fn next_step(alloc: Global, frame: &Frame, stack: &[Frame], done: &[Done]) -> Result<Step, NoMemory>
-    requires { frame.now.at < length frame.now.pieces.items }
-    ensures { IfOk result (λ step. IsStep frame.now stack.now done.now step) }
-{
-    match &frame.pieces[frame.at] {
-        Piece::Text(text) => {
-            let more = with_bytes(Some(Vec::new(alloc)), text.bytes())?;
-            Ok(Step::Append(more))
-        }
-        Piece::Embed(value) => match find(done, value) {
-            Some(entry) => {
-                let more = copied(alloc, &entry.text)?;
-                Ok(Step::Append(more))
-            }
-            None => {
-                let value = copy(alloc, value)?;
-                if is_same(&frame.value, &value) || is_open(stack, &value) {
-                    Ok(Step::Again(value))
-                } else {
-                    Ok(Step::Enter(value))
-                }
-            }
+    match piece {
+        Piece::Text(text) => Next::Stretch(text),
+        Piece::Embed(value) => match known.get(&value) {
+            Some(Known::Finished(text)) => Next::Whole(*text),
+            Some(Known::Open) => Next::Again(value),
+            None => Next::Enter(value),
         },
     }
 }
 
-/// The frame with the text of its next piece put after its own.
-fn advanced(frame: Frame, more: Option<Vec<u8>>) -> Result<Frame, NoMemory>
-    requires { frame.at < length frame.pieces.items }
-    ensures value { IfOk result (λ r. r.value ≡ frame.value) }
-    ensures pieces { IfOk result (λ r. r.pieces.items ≡ frame.pieces.items) }
-    ensures at { IfOk result (λ r. r.at ≡ frame.at + 1) }
-    ensures text { IfOk result (λ r. (t u : List ℕ) → IsKept frame.text t → IsKept more u → IsKept r.text (t ++ u)) }
+/// Takes the pieces of the frame as far as their texts are known. The view is named in the contract alone.
+fn take<V: SiteView>(
+    alloc: Global,
+    _view: &V,
+    known: &BTreeMap<Value, Known>,
+    frame: &mut Frame,
+) -> Result<Taken, NoMemory>
+    ensures value { IfOk result (λ _. frame.new.value ≡ frame.old.value) }
+    ensures taken { IfOk result (λ taken. (ts : List (List ℕ))
+        → AreKnown (V.site (V.fixed _view.now)) (V.templates (V.fixed _view.now)) ts known.now
+        → IsFrame (V.site (V.fixed _view.now)) (V.templates (V.fixed _view.now)) ts frame.old
+        → IsTaken (V.site (V.fixed _view.now)) (V.templates (V.fixed _view.now)) ts known.now frame.new taken) }
 {
-    let Frame {
-        value,
-        pieces,
-        at,
-        text,
-    } = frame;
-    let text = with_text(text, more)?;
-    Ok(Frame {
-        value,
-        pieces,
-        at: at + 1,
-        text,
-    })
+    while let Some(piece) = frame.left.pop() {
+        match next_of(known, piece) {
+            Next::Stretch(bytes) => frame.draft.add_stretch(alloc, bytes)?,
+            Next::Whole(text) => frame.draft.add_whole(alloc, text)?,
+            Next::Enter(value) => return Ok(Taken::Enter(value)),
+            Next::Again(value) => return Ok(Taken::Again(value)),
+        }
+    }
+    Ok(Taken::All)
+}
+
+/// Marks the value.
+fn mark(known: &mut BTreeMap<Value, Known>, value: Value, as_known: Known) -> Result<(), NoMemory>
+    ensures marks { IfOk result (λ _. Marks value as_known known.old known.new) }
+    ensures count { IfOk result (λ _. btree_map_len known.new ≡ btree_map_len known.old + (if is_some (get value_cmp known.old value) then 0 else 1)) }
+    ensures small { IfOk result (λ _. btree_map_len known.new < 2 ^ 63) }
+{
+    known.insert(value, as_known)?;
+    prove!(known.len() < usize::MAX);
+    Ok(())
+}
+
+/// The frame with the text of the value for which it waits put after its own.
+fn resumed(alloc: Global, frame: Frame, text: Numbered) -> Result<Frame, NoMemory>
+    ensures value { IfOk result (λ r. r.value ≡ frame.value) }
+    ensures left { IfOk result (λ r. r.left.items ≡ frame.left.items) }
+    ensures draft { IfOk result (λ r. (ts : List (List ℕ)) (t u : List ℕ) → IsNumbered ts text u → IsDraft ts frame.draft t → IsDraft ts r.draft (t ++ u)) }
+{
+    let mut frame = frame;
+    frame.draft.add_whole(alloc, text)?;
+    Ok(frame)
 }
 
 /// The value with its pieces and no text yet, where it has a template.
@@ -175,26 +127,38 @@ fn frame_of<V: SiteView>(
     ensures kept { KeepsOnly (FrameAsks (V.site (V.fixed view.old)) (V.templates (V.fixed view.old)) value) (V.kept view.old) (V.kept view.new) }
     ensures answer { IfOk result (λ r. MatchOption r
         ((k : ℕ) → HasTemplate (V.site (V.fixed view.old)) (V.templates (V.fixed view.old)) value k → ⊥)
-        (λ r. IsFrame (V.site (V.fixed view.old)) (V.templates (V.fixed view.old)) r × (r.value ≡ value))) }
+        (λ r. ((ts : List (List ℕ)) → IsFrame (V.site (V.fixed view.old)) (V.templates (V.fixed view.old)) ts r) × (r.value ≡ value))) }
 {
     match view.template_of(alloc, &value)? {
         None => Ok(None),
         Some(number) => {
-            let pieces = expand(
+            let mut left = expand(
                 alloc,
                 view,
                 &value,
                 &[],
                 templates.template(number).parts.as_slice(),
             )?;
+            left.reverse();
             Ok(Some(Frame {
                 value,
-                pieces,
-                at: 0,
-                text: Some(Vec::new(alloc)),
+                left,
+                draft: Draft::new(alloc),
             }))
         }
     }
+}
+
+/// The outcome of a value whose text is this one.
+fn outcome_of(alloc: Global, drafts: &[Draft], text: Numbered) -> Result<Outcome, NoMemory>
+    requires { (ts : List (List ℕ)) × AreTexts drafts.now ts × (text.number < length ts) }
+    ensures { IfOk result (λ o. (ts : List (List ℕ)) (t : List ℕ) → AreTexts drafts.now ts → IsNumbered ts text t → IsText o t) }
+{
+    if text.size > PAGE_LIMIT {
+        return Ok(Outcome::TooLong);
+    }
+    let bytes = written(alloc, drafts, text.number)?;
+    Ok(Outcome::Page(Str::of(alloc, bytes)?))
 }
 
 /// The outcome of the frame's value.
@@ -205,62 +169,46 @@ fn run<V: SiteView>(
     frame: Frame,
 ) -> Result<Outcome, NoMemory>
     requires file { file_of templates.now ≡ V.templates (V.fixed view.old) }
-    requires frame { IsFrame (V.site (V.fixed view.old)) (V.templates (V.fixed view.old)) frame }
+    requires frame { (ts : List (List ℕ)) → IsFrame (V.site (V.fixed view.old)) (V.templates (V.fixed view.old)) ts frame }
     requires own { V.Own view.old }
     ensures own { V.Own view.new }
     ensures fixed { V.fixed view.new ≡ V.fixed view.old }
     ensures kept { KeepsOnly (LedAsks (V.site (V.fixed view.old)) (V.templates (V.fixed view.old)) frame.value) (V.kept view.old) (V.kept view.new) }
     ensures answer { IfOk result (λ o. IsFinal (V.site (V.fixed view.old)) (V.templates (V.fixed view.old)) frame.value o) }
 {
-    let mut top = frame;
+    let mut known = BTreeMap::new(alloc);
+    mark(&mut known, copy(alloc, &frame.value)?, Known::Open)?;
+    let mut drafts = Vec::new(alloc);
     let mut stack = Vec::new(alloc);
-    let mut done = Vec::new(alloc);
-    'entering: loop {
-        'taking: loop {
-            if top.at < top.pieces.len() {
-                match next_step(alloc, &top, stack.as_slice(), done.as_slice())? {
-                    Step::Append(more) => top = advanced(top, more)?,
-                    Step::Again(value) => return Ok(Outcome::Cyclic(value)),
-                    Step::Enter(value) => match frame_of(alloc, view, templates, value)? {
-                        None => unreachable!(),
-                        Some(inner) => {
-                            stack.push(top)?;
-                            top = inner;
-                            continue 'entering;
-                        }
-                    },
+    let mut top = frame;
+    'taking: loop {
+        match take(alloc, &*view, &known, &mut top)? {
+            Taken::Again(value) => return Ok(Outcome::Cyclic(value)),
+            Taken::Enter(value) => {
+                mark(&mut known, copy(alloc, &value)?, Known::Open)?;
+                match frame_of(alloc, view, templates, value)? {
+                    None => unreachable!(),
+                    Some(inner) => {
+                        stack.push(top)?;
+                        top = inner;
+                    }
                 }
-            } else {
+            }
+            Taken::All => {
+                let Frame { value, draft, .. } = top;
+                let text = keep(&mut drafts, draft)?;
                 match stack.pop() {
                     None => {
-                        let outcome = whole(alloc, top)?;
+                        let outcome = outcome_of(alloc, drafts.as_slice(), text)?;
                         return Ok(outcome);
                     }
                     Some(outer) => {
-                        done.push(finished(top))?;
-                        top = outer;
+                        mark(&mut known, value, Known::Finished(text))?;
+                        top = resumed(alloc, outer, text)?;
                     }
                 }
             }
         }
-    }
-}
-
-fn finished(frame: Frame) -> Done
-    ensures value { result.value ≡ frame.value }
-    ensures text { result.text ≡ frame.text }
-{
-    let Frame { value, text, .. } = frame;
-    Done { value, text }
-}
-
-fn whole(alloc: Global, frame: Frame) -> Result<Outcome, NoMemory>
-    ensures { IfOk result (λ o. (t : List ℕ) → IsKept frame.text t → IsText o t) }
-{
-    let Frame { text, .. } = frame;
-    match text {
-        None => Ok(Outcome::TooLong),
-        Some(bytes) => Ok(Outcome::Page(Str::of(alloc, bytes)?)),
     }
 }
 

@@ -1,140 +1,182 @@
-use Rattle.std.proofs.Common.{◌≡◌, ◌⊎◌, ◌≤◌, ◌+◌, ◌-◌, ℕ, List, [], ◌∷◌, ◌++◌, length, sym, ap, ◌∙◌, subst, arith}
-use Rattle.std.specs.Prelude.{Contains, All}
-use Rattle.std.proofs.lemmas.List.Elements.{All-push}
+use Rattle.std.proofs.Common.{◌≡◌, ◌⊎◌, ◌+◌, ℕ, List, [], ◌++◌, length, sym, ap, ◌∙◌, subst, arith, refl, inl, inr, ⊎_elim, Some, None, vec_len}
+use Rattle.std.specs.Prelude.{if◌then◌else◌, is_some}
+use Rattle.std.specs.Ordering.{is_eq}
+use Rattle.std.specs.Map.{lookup}
+use Rattle.std.specs.BTreeMap.{get, btree_map_len}
+use Rattle.sd_value.specs.Order.{value_cmp}
+use Rattle.sd_value.specs.declared.Value.{Value}
 use Rattle.page_spec.specs.Pieces.{HasTemplate}
-use Rattle.page_spec.specs.Page.{HasText}
-use Rattle.render.specs.declared.page.Done.{Done}
+use Rattle.page_spec.specs.Page.{HasText, Embeds, nowhere, on}
+use Rattle.page_text.specs.declared.draft.Draft.{Draft}
+use Rattle.page_text.specs.Texts.{AreTexts}
+use Rattle.render.specs.declared.page.Known.TheVariants.{Open, Finished}
 use Rattle.render.specs.declared.page.Frame.{Frame}
-use Rattle.render.specs.Frames.{IsKept, IsDone, IsFrame, Chain, frame_values, work}
-use Rattle.render.proofs.Gather.{nothing_in}
-use Rattle.render.proofs.Frames.{frame_appended, frame_whole, final_from_text, chain_push, chain_pop, cyclic_at, empty_list, frame_templated, work_push}
-use Rattle.page_spec.specs.Page.{nowhere, on}
+use Rattle.render.specs.Frames.{IsFrame, AreKnown, IsTaken, Marks, Chain}
 use Rattle.render.specs.Asks.{FrameAsks}
-use Rattle.render.proofs.Frames.{frame_embeds, chain_leads, leads_trans}
-use Rattle.render.proofs.Asked.{keeps_then}
+use Rattle.render.proofs.Frames.{begun, entered, finished, comes_again, final_from_text, waits_embeds, waits_templated, chain_leads, leads_trans, empty_list}
+use Rattle.render.proofs.Asked.{keeps_none, keeps_then}
 use Rattle.render.proofs.Scenes.{led_asks}
 use Rattle.render.proofs.page.run.Goals as goal
+
+pub taking-init : goal.taking-init
+taking-init g c =
+    let fixed = g.V.SiteView.fixed c.args.view.now in
+    let v = c.args.frame.value in
+    let same : c.in_ok-copy.field-0 ≡ v = c.in_ok-copy.ensures in
+    let none : (w : Value) → get value_cmp c.new-known.result w ≡ None = λ w. ap (lookup (λ k. is_eq (value_cmp w k))) c.new-known.ensures.empty in
+    let marks : (w : Value) → ((v ≡ w) × (get value_cmp c.mark.new.known w ≡ Some Open)) ⊎ ((v ≡ w → ⊥) × (get value_cmp c.mark.new.known w ≡ None)) =
+    λ w. ⊎_elim (λ h. inl (sym same ∙ h.0, h.1)) (λ h. inr (λ e. h.0 (same ∙ e), h.1 ∙ none w)) (c.in_ok-mark.ensures.marks w) in
+    record {
+      own = c.requires.own;
+      fixed = refl;
+      state = rw (c.new-drafts.ensures.items, c.new-stack.ensures.items) (begun (g.V.SiteView.site fixed) (g.V.SiteView.templates fixed) c.args.frame c.mark.new.known c.requires.frame marks);
+      kept = keeps_none;
+    }
 
 pub returns-in-Again-clause-answer : goal.returns-in-Again-clause-answer
 returns-in-Again-clause-answer g c =
     let fixed = g.V.SiteView.fixed c.args.view.now in
-    let st = rw c.in-Again.is at c.in_ok-more.ensures in
-    cyclic_at (g.V.SiteView.site fixed) (g.V.SiteView.templates fixed) c.taking.stack.items c.args.frame.value c.taking.top c.in-Again.value c.taking.invariant.chain c.taking.invariant.top st.0 (subst (λ (l : List Frame). Contains (frame_values l) c.in-Again.value ⊎ (c.taking.top.value ≡ c.in-Again.value)) c.as_slice.ensures.value st.1)
+    let s = g.V.SiteView.site fixed in
+    let f = g.V.SiteView.templates fixed in
+    let u = c.taking.invariant.state in
+    let r = c.take.new.frame in
+    let taken = subst (λ x. (ts : List (List ℕ)) → AreKnown (g.V.SiteView.site x) (g.V.SiteView.templates x) ts c.taking.known → IsFrame (g.V.SiteView.site x) (g.V.SiteView.templates x) ts c.taking.top → IsTaken (g.V.SiteView.site x) (g.V.SiteView.templates x) ts c.taking.known r c.in_ok-value.field-0) c.taking.invariant.fixed c.in_ok-value.ensures.taken u.texts u.finished u.frame in
+    let again = subst (IsTaken s f u.texts c.taking.known r) c.in-Again.is taken in
+    comes_again s f c.args.frame.value c.taking.known c.taking.drafts.items c.taking.stack.items c.taking.top r c.in-Again.value u c.in_ok-value.ensures.value again.0 again.1
 
-pub returns-in-None-pop-clause-answer : goal.returns-in-None-pop-clause-answer
-returns-in-None-pop-clause-answer g c =
+pub returns-in_err-frame_of-in-Enter-clause-kept : goal.returns-in_err-frame_of-in-Enter-clause-kept
+returns-in_err-frame_of-in-Enter-clause-kept g c =
     let fixed = g.V.SiteView.fixed c.args.view.now in
     let s = g.V.SiteView.site fixed in
     let f = g.V.SiteView.templates fixed in
-    let end : length c.taking.top.pieces.items ≤ c.taking.top.at = omega (arith, c.taking.top.pieces.ok.0, c.len.ensures) in
-    let w = frame_whole s f c.taking.top c.taking.invariant.top end in
-    let none = empty_list c.taking.stack.items (let e : length c.taking.stack.items ≡ 0 = omega (arith, c.taking.stack.ok.0, c.in-None-pop.ensures.cases) in e) in
-    let last = subst (λ (z : List Frame). Chain s f [] c.args.frame.value z c.taking.top.value) none c.taking.invariant.chain in
-    final_from_text s f c.args.frame.value c.in_ok-outcome-in-None-pop.outcome w.0 (subst (λ v. HasText s f v w.0) (sym last.0) w.1) (c.in_ok-outcome-in-None-pop.ensures w.0 w.2)
-
-pub taking-preserved-in-Append : goal.taking-preserved-in-Append
-taking-preserved-in-Append g c =
-    let fixed = g.V.SiteView.fixed c.args.view.now in
-    let s = g.V.SiteView.site fixed in
-    let f = g.V.SiteView.templates fixed in
-    let q = c.in_ok-top-in-Append.top in
-    let e = c.in_ok-top-in-Append.ensures in
-    let st = rw c.in-Append.is at c.in_ok-more.ensures in
-    let ds = subst (λ (l : List Done). All (IsDone s f) l) (sym c.as_slice-then-top-len.ensures.value) c.taking.invariant.done in
-    record {
-      own = c.taking.invariant.own;
-      fixed = c.taking.invariant.fixed;
-      chain = subst (Chain s f [] c.args.frame.value c.taking.stack.items) (sym e.value) c.taking.invariant.chain;
-      top = frame_appended s f c.taking.top q c.as_slice.result.now c.as_slice-then-top-len.result.now c.in-Append.more c.taking.invariant.top st ds e.value e.pieces e.at e.text;
-      done = c.taking.invariant.done;
-      count = c.taking.invariant.count;
-      kept = c.taking.invariant.kept;
-    }
-
-pub entering-preserved : goal.entering-preserved
-entering-preserved g c =
-    let fixed = g.V.SiteView.fixed c.args.view.now in
-    let s = g.V.SiteView.site fixed in
-    let f = g.V.SiteView.templates fixed in
-    let r = c.taking.top in
-    let rs = c.taking.stack.items in
+    let u = c.taking.invariant.state in
+    let r = c.take.new.frame in
     let m = c.in-Enter.value in
-    let q = c.in-Some.inner in
-    let st = rw c.in-Enter.is at c.in_ok-more.ensures in
-    let a = rw c.in-Some.is at c.in_ok-frame_of-in-Enter.ensures.answer in
-    let fr = subst (λ x. IsFrame (g.V.SiteView.site x) (g.V.SiteView.templates x) q) c.taking.invariant.fixed a.0 in
-    let fresh = subst (λ (l : List Frame). Contains (frame_values l) m → ⊥) c.as_slice.ensures.value st.1 in
-    let ch = chain_push s f rs [] c.args.frame.value r m c.taking.invariant.chain c.taking.invariant.top st.0 (nothing_in m) fresh st.2 in
-    record {
-      own = c.frame_of.ensures.own;
-      fixed = c.frame_of.ensures.fixed ∙ c.taking.invariant.fixed;
-      chain = rw c.in_ok-push-in-Some.ensures.items (subst (Chain s f [] c.args.frame.value (rs ++ r ∷ [])) (sym a.1) ch);
-      top = fr;
-      done = c.taking.invariant.done;
-      kept = keeps_then c.taking.invariant.kept
-          (λ q h. let emb = frame_embeds (g.V.SiteView.site (g.V.SiteView.fixed c.args.view.now)) (g.V.SiteView.templates (g.V.SiteView.fixed c.args.view.now)) c.taking.top c.in-Enter.value c.taking.invariant.top (rw c.in-Enter.is at c.in_ok-more.ensures).0 in
-          let way = chain_leads (g.V.SiteView.site (g.V.SiteView.fixed c.args.view.now)) (g.V.SiteView.templates (g.V.SiteView.fixed c.args.view.now)) c.taking.stack.items [] c.args.frame.value c.taking.top.value c.taking.invariant.chain in
-          led_asks (g.V.SiteView.site (g.V.SiteView.fixed c.args.view.now)) (g.V.SiteView.templates (g.V.SiteView.fixed c.args.view.now)) c.args.frame.value c.taking.top.value c.in-Enter.value q way
-          (leads_trans (g.V.SiteView.site (g.V.SiteView.fixed c.args.view.now)) (g.V.SiteView.templates (g.V.SiteView.fixed c.args.view.now)) c.args.frame.value c.taking.top.value c.in-Enter.value way (on emb nowhere))
-          emb (subst (λ x. FrameAsks (g.V.SiteView.site x) (g.V.SiteView.templates x) c.in-Enter.value q) c.taking.invariant.fixed h))
-          c.in_ok-frame_of-in-Enter.ensures.kept;
-    }
-
-pub taking-preserved : goal.taking-preserved
-taking-preserved g c =
-    let fixed = g.V.SiteView.fixed c.args.view.now in
-    let s = g.V.SiteView.site fixed in
-    let f = g.V.SiteView.templates fixed in
-    let r = c.taking.top in
-    let q = c.in-Some-pop.outer in
-    let end : length r.pieces.items ≤ r.at = omega (arith, r.pieces.ok.0, c.len.ensures, c.if-top-len.false) in
-    let whole = frame_whole s f r c.taking.invariant.top end in
-    let cp = chain_pop s f c.pop.new.self.items [] c.args.frame.value q r.value (subst (λ (z : List Frame). Chain s f [] c.args.frame.value z r.value) c.in-Some-pop.ensures.items c.taking.invariant.chain) in
-    let d = c.finished.result in
-    let isd : IsDone s f d = (whole.0, subst (λ v. HasText s f v whole.0) (sym c.finished.ensures.value) whole.1, subst (λ k. IsKept k whole.0) (sym c.finished.ensures.text) whole.2) in
-    record {
-      own = c.taking.invariant.own;
-      fixed = c.taking.invariant.fixed;
-      chain = cp.0;
-      top = cp.1;
-      done = rw c.in_ok-push-in-Some-pop.ensures.items (All-push (IsDone s f) c.taking.done.items d c.taking.invariant.done isd);
-      count = omega (arith, c.taking.invariant.count, c.in-Some-pop.ensures.cases, c.in_ok-push-in-Some-pop.ensures.len);
-      kept = c.taking.invariant.kept;
-    }
-
-pub taking-smaller : goal.taking-smaller
-taking-smaller g c =
-    let q = c.in-Some-pop.outer in
-    let e : work c.taking.stack.items ≡ work c.pop.new.self.items + ((length q.pieces.items - q.at) + 1) = ap work c.in-Some-pop.ensures.items ∙ work_push c.pop.new.self.items q in
-    omega (arith, e)
+    let taken = subst (λ x. (ts : List (List ℕ)) → AreKnown (g.V.SiteView.site x) (g.V.SiteView.templates x) ts c.taking.known → IsFrame (g.V.SiteView.site x) (g.V.SiteView.templates x) ts c.taking.top → IsTaken (g.V.SiteView.site x) (g.V.SiteView.templates x) ts c.taking.known r c.in_ok-value.field-0) c.taking.invariant.fixed c.in_ok-value.ensures.taken u.texts u.finished u.frame in
+    let enter = subst (IsTaken s f u.texts c.taking.known r) c.in-Enter.is taken in
+    let emb = subst (λ x. Embeds s f x m) c.in_ok-value.ensures.value (waits_embeds s f u.texts r m enter.0) in
+    let way = chain_leads s f u.texts c.taking.stack.items [] c.args.frame.value c.taking.top.value u.chain in
+    keeps_then c.taking.invariant.kept
+    (λ q h. led_asks s f c.args.frame.value c.taking.top.value m q way (leads_trans s f c.args.frame.value c.taking.top.value m way (on emb nowhere)) emb (subst (λ x. FrameAsks (g.V.SiteView.site x) (g.V.SiteView.templates x) m q) c.taking.invariant.fixed h))
+    c.in_err-frame_of-in-Enter.ensures.kept
 
 pub unreachable-requires : goal.unreachable-requires
 unreachable-requires g c =
     let fixed = g.V.SiteView.fixed c.args.view.now in
     let s = g.V.SiteView.site fixed in
     let f = g.V.SiteView.templates fixed in
-    let st = rw c.in-Enter.is at c.in_ok-more.ensures in
+    let u = c.taking.invariant.state in
+    let r = c.take.new.frame in
+    let m = c.in-Enter.value in
+    let taken = subst (λ x. (ts : List (List ℕ)) → AreKnown (g.V.SiteView.site x) (g.V.SiteView.templates x) ts c.taking.known → IsFrame (g.V.SiteView.site x) (g.V.SiteView.templates x) ts c.taking.top → IsTaken (g.V.SiteView.site x) (g.V.SiteView.templates x) ts c.taking.known r c.in_ok-value.field-0) c.taking.invariant.fixed c.in_ok-value.ensures.taken u.texts u.finished u.frame in
+    let enter = subst (IsTaken s f u.texts c.taking.known r) c.in-Enter.is taken in
     let none = rw c.in-None.is at c.in_ok-frame_of-in-Enter.ensures.answer in
-    let none' = subst (λ x. (k : ℕ) → HasTemplate (g.V.SiteView.site x) (g.V.SiteView.templates x) c.in-Enter.value k → ⊥) c.taking.invariant.fixed none in
-    let t = frame_templated s f c.taking.top c.in-Enter.value c.taking.invariant.top st.0 in
+    let none' = subst (λ x. (k : ℕ) → HasTemplate (g.V.SiteView.site x) (g.V.SiteView.templates x) m k → ⊥) c.taking.invariant.fixed none in
+    let t = waits_templated s f u.texts r m enter.0 in
     none' t.0 t.1
-
-pub returns-in_err-frame_of-in-Enter-clause-kept : goal.returns-in_err-frame_of-in-Enter-clause-kept
-returns-in_err-frame_of-in-Enter-clause-kept g c =
-    keeps_then c.taking.invariant.kept
-    (λ q h. let emb = frame_embeds (g.V.SiteView.site (g.V.SiteView.fixed c.args.view.now)) (g.V.SiteView.templates (g.V.SiteView.fixed c.args.view.now)) c.taking.top c.in-Enter.value c.taking.invariant.top (rw c.in-Enter.is at c.in_ok-more.ensures).0 in
-    let way = chain_leads (g.V.SiteView.site (g.V.SiteView.fixed c.args.view.now)) (g.V.SiteView.templates (g.V.SiteView.fixed c.args.view.now)) c.taking.stack.items [] c.args.frame.value c.taking.top.value c.taking.invariant.chain in
-    led_asks (g.V.SiteView.site (g.V.SiteView.fixed c.args.view.now)) (g.V.SiteView.templates (g.V.SiteView.fixed c.args.view.now)) c.args.frame.value c.taking.top.value c.in-Enter.value q way
-    (leads_trans (g.V.SiteView.site (g.V.SiteView.fixed c.args.view.now)) (g.V.SiteView.templates (g.V.SiteView.fixed c.args.view.now)) c.args.frame.value c.taking.top.value c.in-Enter.value way (on emb nowhere))
-    emb (subst (λ x. FrameAsks (g.V.SiteView.site x) (g.V.SiteView.templates x) c.in-Enter.value q) c.taking.invariant.fixed h))
-    c.in_err-frame_of-in-Enter.ensures.kept
 
 pub returns-in_err-push-in-Some-clause-kept : goal.returns-in_err-push-in-Some-clause-kept
 returns-in_err-push-in-Some-clause-kept g c =
+    let fixed = g.V.SiteView.fixed c.args.view.now in
+    let s = g.V.SiteView.site fixed in
+    let f = g.V.SiteView.templates fixed in
+    let u = c.taking.invariant.state in
+    let r = c.take.new.frame in
+    let m = c.in-Enter.value in
+    let taken = subst (λ x. (ts : List (List ℕ)) → AreKnown (g.V.SiteView.site x) (g.V.SiteView.templates x) ts c.taking.known → IsFrame (g.V.SiteView.site x) (g.V.SiteView.templates x) ts c.taking.top → IsTaken (g.V.SiteView.site x) (g.V.SiteView.templates x) ts c.taking.known r c.in_ok-value.field-0) c.taking.invariant.fixed c.in_ok-value.ensures.taken u.texts u.finished u.frame in
+    let enter = subst (IsTaken s f u.texts c.taking.known r) c.in-Enter.is taken in
+    let emb = subst (λ x. Embeds s f x m) c.in_ok-value.ensures.value (waits_embeds s f u.texts r m enter.0) in
+    let way = chain_leads s f u.texts c.taking.stack.items [] c.args.frame.value c.taking.top.value u.chain in
     keeps_then c.taking.invariant.kept
-    (λ q h. let emb = frame_embeds (g.V.SiteView.site (g.V.SiteView.fixed c.args.view.now)) (g.V.SiteView.templates (g.V.SiteView.fixed c.args.view.now)) c.taking.top c.in-Enter.value c.taking.invariant.top (rw c.in-Enter.is at c.in_ok-more.ensures).0 in
-    let way = chain_leads (g.V.SiteView.site (g.V.SiteView.fixed c.args.view.now)) (g.V.SiteView.templates (g.V.SiteView.fixed c.args.view.now)) c.taking.stack.items [] c.args.frame.value c.taking.top.value c.taking.invariant.chain in
-    led_asks (g.V.SiteView.site (g.V.SiteView.fixed c.args.view.now)) (g.V.SiteView.templates (g.V.SiteView.fixed c.args.view.now)) c.args.frame.value c.taking.top.value c.in-Enter.value q way
-    (leads_trans (g.V.SiteView.site (g.V.SiteView.fixed c.args.view.now)) (g.V.SiteView.templates (g.V.SiteView.fixed c.args.view.now)) c.args.frame.value c.taking.top.value c.in-Enter.value way (on emb nowhere))
-    emb (subst (λ x. FrameAsks (g.V.SiteView.site x) (g.V.SiteView.templates x) c.in-Enter.value q) c.taking.invariant.fixed h))
+    (λ q h. led_asks s f c.args.frame.value c.taking.top.value m q way (leads_trans s f c.args.frame.value c.taking.top.value m way (on emb nowhere)) emb (subst (λ x. FrameAsks (g.V.SiteView.site x) (g.V.SiteView.templates x) m q) c.taking.invariant.fixed h))
     c.in_ok-frame_of-in-Enter.ensures.kept
+
+pub taking-smaller-in-Some : goal.taking-smaller-in-Some
+taking-smaller-in-Some g c =
+    let fixed = g.V.SiteView.fixed c.args.view.now in
+    let s = g.V.SiteView.site fixed in
+    let f = g.V.SiteView.templates fixed in
+    let u = c.taking.invariant.state in
+    let r = c.take.new.frame in
+    let taken = subst (λ x. (ts : List (List ℕ)) → AreKnown (g.V.SiteView.site x) (g.V.SiteView.templates x) ts c.taking.known → IsFrame (g.V.SiteView.site x) (g.V.SiteView.templates x) ts c.taking.top → IsTaken (g.V.SiteView.site x) (g.V.SiteView.templates x) ts c.taking.known r c.in_ok-value.field-0) c.taking.invariant.fixed c.in_ok-value.ensures.taken u.texts u.finished u.frame in
+    let enter = subst (IsTaken s f u.texts c.taking.known r) c.in-Enter.is taken in
+    let none : get value_cmp c.taking.known c.in_ok-copy-in-Enter.field-0 ≡ None = ap (get value_cmp c.taking.known) c.in_ok-copy-in-Enter.ensures ∙ enter.1 in
+    let more : btree_map_len c.mark-in-Enter.new.known ≡ btree_map_len c.taking.known + 1 = c.in_ok-mark-in-Enter.ensures.count ∙ ap (λ o. btree_map_len c.taking.known + (if is_some o then 0 else 1)) none in
+    let pushed : vec_len c.push.new.self ≡ vec_len c.taking.stack + 1 = omega (arith, c.in_ok-push-in-Some.ensures.len) in
+    omega (arith, more, pushed, c.in_ok-mark-in-Enter.ensures.small)
+
+pub taking-preserved-in-Some : goal.taking-preserved-in-Some
+taking-preserved-in-Some g c =
+    let fixed = g.V.SiteView.fixed c.args.view.now in
+    let s = g.V.SiteView.site fixed in
+    let f = g.V.SiteView.templates fixed in
+    let u = c.taking.invariant.state in
+    let r = c.take.new.frame in
+    let m = c.in-Enter.value in
+    let q = c.in-Some.inner in
+    let taken = subst (λ x. (ts : List (List ℕ)) → AreKnown (g.V.SiteView.site x) (g.V.SiteView.templates x) ts c.taking.known → IsFrame (g.V.SiteView.site x) (g.V.SiteView.templates x) ts c.taking.top → IsTaken (g.V.SiteView.site x) (g.V.SiteView.templates x) ts c.taking.known r c.in_ok-value.field-0) c.taking.invariant.fixed c.in_ok-value.ensures.taken u.texts u.finished u.frame in
+    let enter = subst (IsTaken s f u.texts c.taking.known r) c.in-Enter.is taken in
+    let emb = subst (λ x. Embeds s f x m) c.in_ok-value.ensures.value (waits_embeds s f u.texts r m enter.0) in
+    let way = chain_leads s f u.texts c.taking.stack.items [] c.args.frame.value c.taking.top.value u.chain in
+    let marks = subst (λ x. Marks x Open c.taking.known c.mark-in-Enter.new.known) c.in_ok-copy-in-Enter.ensures c.in_ok-mark-in-Enter.ensures.marks in
+    let a = rw c.in-Some.is at c.in_ok-frame_of-in-Enter.ensures.answer in
+    let fr = subst (λ x. (ts : List (List ℕ)) → IsFrame (g.V.SiteView.site x) (g.V.SiteView.templates x) ts q) c.taking.invariant.fixed a.0 in
+    record {
+      own = c.frame_of.ensures.own;
+      fixed = c.frame_of.ensures.fixed ∙ c.taking.invariant.fixed;
+      state = rw c.in_ok-push-in-Some.ensures.items (entered s f c.args.frame.value c.taking.known c.mark-in-Enter.new.known c.taking.drafts.items c.taking.stack.items c.taking.top r q m u c.in_ok-value.ensures.value enter.0 enter.1 marks a.1 (fr u.texts));
+      kept = keeps_then c.taking.invariant.kept
+          (λ z h. led_asks s f c.args.frame.value c.taking.top.value m z way (leads_trans s f c.args.frame.value c.taking.top.value m way (on emb nowhere)) emb (subst (λ x. FrameAsks (g.V.SiteView.site x) (g.V.SiteView.templates x) m z) c.taking.invariant.fixed h))
+          c.in_ok-frame_of-in-Enter.ensures.kept;
+    }
+
+pub outcome_of-requires : goal.outcome_of-requires
+outcome_of-requires g c =
+    let fixed = g.V.SiteView.fixed c.args.view.now in
+    let s = g.V.SiteView.site fixed in
+    let f = g.V.SiteView.templates fixed in
+    let u = c.taking.invariant.state in
+    let r = c.take.new.frame in
+    let taken = subst (λ x. (ts : List (List ℕ)) → AreKnown (g.V.SiteView.site x) (g.V.SiteView.templates x) ts c.taking.known → IsFrame (g.V.SiteView.site x) (g.V.SiteView.templates x) ts c.taking.top → IsTaken (g.V.SiteView.site x) (g.V.SiteView.templates x) ts c.taking.known r c.in_ok-value.field-0) c.taking.invariant.fixed c.in_ok-value.ensures.taken u.texts u.finished u.frame in
+    let whole = subst (IsTaken s f u.texts c.taking.known r) c.in-All.is taken in
+    let k = c.in_ok-text-in-All.ensures u.texts whole.0 u.drafted whole.2 in
+    (u.texts ++ k.0, subst (λ (l : List Draft). AreTexts l (u.texts ++ k.0)) (sym c.as_slice.ensures.value) k.1, k.2.there)
+
+pub returns-in-None-pop-clause-answer : goal.returns-in-None-pop-clause-answer
+returns-in-None-pop-clause-answer g c =
+    let fixed = g.V.SiteView.fixed c.args.view.now in
+    let s = g.V.SiteView.site fixed in
+    let f = g.V.SiteView.templates fixed in
+    let u = c.taking.invariant.state in
+    let r = c.take.new.frame in
+    let p = c.args.frame.value in
+    let taken = subst (λ x. (ts : List (List ℕ)) → AreKnown (g.V.SiteView.site x) (g.V.SiteView.templates x) ts c.taking.known → IsFrame (g.V.SiteView.site x) (g.V.SiteView.templates x) ts c.taking.top → IsTaken (g.V.SiteView.site x) (g.V.SiteView.templates x) ts c.taking.known r c.in_ok-value.field-0) c.taking.invariant.fixed c.in_ok-value.ensures.taken u.texts u.finished u.frame in
+    let whole = subst (IsTaken s f u.texts c.taking.known r) c.in-All.is taken in
+    let k = c.in_ok-text-in-All.ensures u.texts whole.0 u.drafted whole.2 in
+    let none = empty_list c.taking.stack.items (let e : length c.taking.stack.items ≡ 0 = omega (arith, c.taking.stack.ok.0, c.in-None-pop.ensures.cases) in e) in
+    let last = subst (λ (l : List Frame). Chain s f u.texts [] p l c.taking.top.value) none u.chain in
+    let has = subst (λ v. HasText s f v whole.0) (c.in_ok-value.ensures.value ∙ sym last.0) whole.1 in
+    final_from_text s f p c.in_ok-outcome-in-None-pop.outcome whole.0 has
+    (c.in_ok-outcome-in-None-pop.ensures (u.texts ++ k.0) whole.0 (subst (λ (l : List Draft). AreTexts l (u.texts ++ k.0)) (sym c.as_slice.ensures.value) k.1) k.2)
+
+pub taking-preserved : goal.taking-preserved
+taking-preserved g c =
+    let fixed = g.V.SiteView.fixed c.args.view.now in
+    let s = g.V.SiteView.site fixed in
+    let f = g.V.SiteView.templates fixed in
+    let u = c.taking.invariant.state in
+    let r = c.take.new.frame in
+    let n = c.in_ok-text-in-All.text in
+    let taken = subst (λ x. (ts : List (List ℕ)) → AreKnown (g.V.SiteView.site x) (g.V.SiteView.templates x) ts c.taking.known → IsFrame (g.V.SiteView.site x) (g.V.SiteView.templates x) ts c.taking.top → IsTaken (g.V.SiteView.site x) (g.V.SiteView.templates x) ts c.taking.known r c.in_ok-value.field-0) c.taking.invariant.fixed c.in_ok-value.ensures.taken u.texts u.finished u.frame in
+    let whole = subst (IsTaken s f u.texts c.taking.known r) c.in-All.is taken in
+    let k = c.in_ok-text-in-All.ensures u.texts whole.0 u.drafted whole.2 in
+    let has = subst (λ v. HasText s f v whole.0) c.in_ok-value.ensures.value whole.1 in
+    let marks = subst (λ x. Marks x (Finished n) c.taking.known c.mark-in-Some-pop.new.known) c.in_ok-value.ensures.value c.in_ok-mark-in-Some-pop.ensures.marks in
+    let e = c.in_ok-top-in-Some-pop.ensures in
+    record {
+      own = c.taking.invariant.own;
+      fixed = c.taking.invariant.fixed;
+      state = finished s f c.args.frame.value c.taking.known c.mark-in-Some-pop.new.known c.taking.drafts.items c.keep.new.drafts.items c.taking.stack.items c.pop.new.self.items c.taking.top c.in-Some-pop.outer c.in_ok-top-in-Some-pop.top n u
+          c.in-Some-pop.ensures.items whole.0 has k marks e.value e.left e.draft;
+      kept = c.taking.invariant.kept;
+    }

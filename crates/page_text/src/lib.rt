@@ -1,0 +1,8 @@
+//! Texts that are put together from stretches of bytes and from texts that were put together before them.
+#![tactic(auto)]
+
+mod draft;
+mod writing;
+
+pub use draft::{Draft, Fragment, Numbered, keep};
+pub use writing::written;
