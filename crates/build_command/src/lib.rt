@@ -80,6 +80,7 @@ pub fn build<F: Files, O: Sink>(
     ensures ends { ForSome (F.contents files.old) (λ old. IsSomeAnd (F.contents files.new) (λ new. BuildEnds old new command.now (O.text out.old) (O.text out.new) result)) }
     ensures silent { IsSilent result → out.new ≡ out.old }
     ensures words { result ≡ Status.Usage → ⊥ }
+    ensures no_wire { result ≡ Status.WireFault → ⊥ }
     ensures read_cause { ReadRose (input_paths command.now.sources command.now.query command.now.templates) (F.failed_reads files.old) (F.failed_reads files.new) result }
     ensures write_cause { result ≡ Status.WriteFault → Rose (O.failed out.old) (O.failed out.new) ⊎ FolderRose command.now.folder (F.failed_writes files.old) (F.failed_writes files.new) }
 {

@@ -1,2 +1,4 @@
 pub mod Carried
 pub mod Text
+pub mod Digits
+pub mod Replayed

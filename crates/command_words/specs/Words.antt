@@ -1,31 +1,23 @@
 -- Which words give a command.
-use Rattle.std.specs.Prelude.{ℕ, List, [], ◌∷◌, Bool, true, false, ◌&&◌, not, Option, None, Some, option_map, if◌then◌else◌, codes}
+use Rattle.std.specs.Prelude.{ℕ, List, [], ◌∷◌, Bool, true, false, ◌&&◌, not, Option, None, Some, option_and_then, if◌then◌else◌, codes}
 use Rattle.std.specs.List.{list_all}
 use Rattle.std.specs.Str.{bytes_eq, is_utf8}
+use Rattle.command_words.specs.declared.options.Setting.{Setting}
+use Rattle.command_words.specs.declared.numbers.NumberOption.TheVariants.{Port, Connections, Requests, Turns, Cache}
+use Rattle.command_words.specs.declared.RunLimits.{RunLimits}
+use Rattle.command_words.specs.declared.ServeOptions.{ServeOptions}
 use Rattle.command_words.specs.declared.Command.{Command}
-use Rattle.command_words.specs.declared.Command.TheVariants.{Page, Build, Data}
+use Rattle.command_words.specs.declared.Command.TheVariants.{Page, Build, Data, Explain, Serve, Replay}
+use Rattle.command_words.specs.Options.{Parts, is_empty, parts_of}
+use Rattle.command_words.specs.Numbers.{number_of, are_among}
 
--- a word of two bytes or more that begins with a dash
-abbrev pub is_option : List ℕ → Bool
-is_option (first ∷ second ∷ rest) = bytes_eq (first ∷ []) (codes "-")
-is_option word = false
-
-abbrev pub is_empty : List ℕ → Bool
-is_empty [] = true
-is_empty (byte ∷ bytes) = false
+infixl 10 ◌>>=◌
+abbrev ◌>>=◌ : {A B : Type 0} → Option A → (A → Option B) → Option B
+found >>= next = option_and_then next found
 
 -- a text that isn't empty
 abbrev pub is_word : List ℕ → Bool
 is_word word = is_utf8 word && not (is_empty word)
-
--- The words of a command that takes no options: none of them is an option, but after a first `--`, which is dropped,
--- each may be any word.
-abbrev pub positionals : List (List ℕ) → Option (List (List ℕ))
-positionals [] = Some []
-positionals (word ∷ words) =
-    if bytes_eq word (codes "--") then Some words
-    else if is_option word then None
-    else option_map (λ rest. word ∷ rest) (positionals words)
 
 -- the words after `page`
 abbrev pub page_command : List (List ℕ) → Option Command
@@ -42,18 +34,78 @@ abbrev pub data_command : List (List ℕ) → Option Command
 data_command (source ∷ sources) = Some (Data (record { sources = source ∷ sources }))
 data_command [] = None
 
--- what the words after the name say
-abbrev pub named_command : List ℕ → Option (List (List ℕ)) → Option Command
-named_command name None = None
-named_command name (Some words) =
+-- the words after `explain`
+abbrev pub explain_command : List (List ℕ) → Option Command
+explain_command (query ∷ source ∷ sources) = Some (Explain (record { query = query; sources = source ∷ sources }))
+explain_command words = None
+
+-- the limits of a run
+abbrev pub run_limits : List Setting → Option RunLimits
+run_limits settings = do
+  requests ← number_of Requests settings
+  turns ← number_of Turns settings
+  cache ← number_of Cache settings
+  Some (record { requests = requests; turns = turns; cache = cache })
+
+abbrev pub serve_numbers : List Setting → Option ServeOptions
+serve_numbers settings = do
+  port ← number_of Port settings
+  connections ← number_of Connections settings
+  limits ← run_limits settings
+  Some (record { port = port; connections = connections; limits = limits })
+
+abbrev pub are_none : List Setting → Bool
+are_none [] = true
+are_none (setting ∷ settings) = false
+
+-- the options of `serve`
+abbrev pub serve_options : List Setting → Option ServeOptions
+serve_options settings = if are_among (Port ∷ Connections ∷ Requests ∷ Turns ∷ Cache ∷ []) settings then serve_numbers settings else None
+
+-- the options of `replay`
+abbrev pub replay_options : List Setting → Option RunLimits
+replay_options settings = if are_among (Requests ∷ Turns ∷ Cache ∷ []) settings then run_limits settings else None
+
+-- the words after `serve`
+abbrev pub serve_command : ServeOptions → List (List ℕ) → Option Command
+serve_command options (query ∷ templates ∷ source ∷ sources) = Some (Serve (record { query = query; templates = templates; sources = source ∷ sources; options = options }))
+serve_command options words = None
+
+-- the words after `replay`
+abbrev pub replay_command : RunLimits → List (List ℕ) → Option Command
+replay_command limits (query ∷ templates ∷ script ∷ source ∷ sources) = Some (Replay (record { query = query; templates = templates; script = script; sources = source ∷ sources; limits = limits }))
+replay_command limits words = None
+
+-- a command without options
+abbrev pub plain_command : List ℕ → List (List ℕ) → Option Command
+plain_command name words =
     if bytes_eq name (codes "page") then page_command words
     else if bytes_eq name (codes "build") then build_command words
     else if bytes_eq name (codes "data") then data_command words
+    else if bytes_eq name (codes "explain") then explain_command words
     else None
+
+-- the parts behind `serve`, behind `replay`, and behind a command without options
+abbrev pub serve_parts : Parts → Option Command
+serve_parts parts = option_and_then (λ options. serve_command options parts.words) (serve_options parts.settings)
+
+abbrev pub replay_parts : Parts → Option Command
+replay_parts parts = option_and_then (λ limits. replay_command limits parts.words) (replay_options parts.settings)
+
+abbrev pub plain_parts : List ℕ → Parts → Option Command
+plain_parts name parts = if are_none parts.settings then plain_command name parts.words else None
+
+-- what the words after the name say
+abbrev pub named_command : List ℕ → Option Parts → Option Command
+named_command name None = None
+named_command name (Some parts) =
+    if bytes_eq name (codes "serve") then serve_parts parts
+    else if bytes_eq name (codes "replay") then replay_parts parts
+    else plain_parts name parts
 
 abbrev pub word_command : List (List ℕ) → Option Command
 word_command [] = None
-word_command (name ∷ words) = named_command name (positionals words)
+word_command (name ∷ words) = named_command name (parts_of None words)
 
 -- the command that the words give
 abbrev pub command : List (List ℕ) → Option Command

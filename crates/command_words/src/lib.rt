@@ -1,11 +1,17 @@
 //! The command that the words of a command line give.
 #![tactic(auto)]
 
-ghost use Rattle.std.specs.Prelude.{◌≡◌, ◌++◌, Some, IfOk, option_map};
+ghost use Rattle.std.specs.Prelude.{◌≡◌, Some, IfOk, IfSome};
 ghost use Rattle.std.specs.List.{list_all};
 ghost use Rattle.std.specs.Str.{is_utf8};
 ghost use Rattle.command_words.specs.Words as specs;
+ghost use Rattle.command_words.specs.Ranges.{IsInRange, AreLimits, AreServeOptions};
 
+mod numbers;
+mod options;
+
+use numbers::{NumberOption, are_among, number_of};
+use options::{Parts, Setting, parts_of};
 use sd_value::{NoMemory, Str};
 use std::alloc::Global;
 use std::marker::Model;
@@ -69,18 +75,62 @@ pub struct DataCommand {
     pub sources: Paths,
 }
 
+/// `explain QUERY DATA..`: the plan of each block of the query over the data is printed.
+#[derive(Debug, Drop)]
+pub struct ExplainCommand {
+    pub query: Str,
+    pub sources: Paths,
+}
+
+/// The limits of a run over connections.
+#[derive(Clone, Copy, Debug, PartialEq, Eq)]
+pub struct RunLimits {
+    /// Replies per connection, 1 to 4,294,967,296.
+    pub requests: u64,
+    /// Events that are taken, 1 to 4,294,967,296.
+    pub turns: u64,
+    /// Pages that are kept, 1 to 4,096.
+    pub cache: u32,
+}
+
+/// The options of `serve`.
+#[derive(Clone, Copy, Debug, PartialEq, Eq)]
+pub struct ServeOptions {
+    /// The port that is listened at, 1 to 65,535.
+    pub port: u16,
+    /// Connections that are taken, 1 to 4,294,967,296.
+    pub connections: u64,
+    pub limits: RunLimits,
+}
+
+/// `serve QUERY TEMPLATES DATA..`: pages are served over HTTP.
+#[derive(Debug, Drop)]
+pub struct ServeCommand {
+    pub query: Str,
+    pub templates: Str,
+    pub sources: Paths,
+    pub options: ServeOptions,
+}
+
+/// `replay QUERY TEMPLATES SCRIPT DATA..`: the same over the events of a script.
+#[derive(Debug, Drop)]
+pub struct ReplayCommand {
+    pub query: Str,
+    pub templates: Str,
+    pub script: Str,
+    pub sources: Paths,
+    pub limits: RunLimits,
+}
+
 /// What the program is asked to do.
 #[derive(Debug, Drop)]
 pub enum Command {
     Page(PageCommand),
     Build(BuildCommand),
     Data(DataCommand),
-}
-
-fn is_option(word: &[u8]) -> bool
-    ensures { result ≡ specs.is_option word.now }
-{
-    matches!(word, [b'-', _, ..])
+    Explain(ExplainCommand),
+    Serve(ServeCommand),
+    Replay(ReplayCommand),
 }
 
 fn is_text(word: &[u8]) -> bool
@@ -105,7 +155,8 @@ fn are_words(words: &[Str]) -> bool
 }
 
 fn page_command(alloc: Global, words: &[Str]) -> Result<Option<Command>, NoMemory>
-    ensures { IfOk result (λ given. given ≡ specs.page_command words.now) }
+    ensures exact { IfOk result (λ given. given ≡ specs.page_command words.now) }
+    ensures ranges { IfOk result (λ given. IfSome given IsInRange) }
 {
     let [query, templates, address, sources @ ..] = words else {
         return Ok(None);
@@ -122,7 +173,8 @@ fn page_command(alloc: Global, words: &[Str]) -> Result<Option<Command>, NoMemor
 }
 
 fn build_command(alloc: Global, words: &[Str]) -> Result<Option<Command>, NoMemory>
-    ensures { IfOk result (λ given. given ≡ specs.build_command words.now) }
+    ensures exact { IfOk result (λ given. given ≡ specs.build_command words.now) }
+    ensures ranges { IfOk result (λ given. IfSome given IsInRange) }
 {
     let [query, templates, folder, sources @ ..] = words else {
         return Ok(None);
@@ -139,7 +191,8 @@ fn build_command(alloc: Global, words: &[Str]) -> Result<Option<Command>, NoMemo
 }
 
 fn data_command(alloc: Global, words: &[Str]) -> Result<Option<Command>, NoMemory>
-    ensures { IfOk result (λ given. given ≡ specs.data_command words.now) }
+    ensures exact { IfOk result (λ given. given ≡ specs.data_command words.now) }
+    ensures ranges { IfOk result (λ given. IfSome given IsInRange) }
 {
     if words.is_empty() {
         return Ok(None);
@@ -149,22 +202,203 @@ fn data_command(alloc: Global, words: &[Str]) -> Result<Option<Command>, NoMemor
     })))
 }
 
-fn named_command(alloc: Global, name: &[u8], words: &Paths) -> Result<Option<Command>, NoMemory>
-    ensures { IfOk result (λ given. given ≡ specs.named_command name.now (Some words.now)) }
+fn explain_command(alloc: Global, words: &[Str]) -> Result<Option<Command>, NoMemory>
+    ensures exact { IfOk result (λ given. given ≡ specs.explain_command words.now) }
+    ensures ranges { IfOk result (λ given. IfSome given IsInRange) }
 {
-    match name {
-        b"page" => page_command(alloc, words.items()),
-        b"build" => build_command(alloc, words.items()),
-        b"data" => data_command(alloc, words.items()),
-        _ => Ok(None),
+    let [query, sources @ ..] = words else {
+        return Ok(None);
+    };
+    if sources.is_empty() {
+        return Ok(None);
+    }
+    Ok(Some(Command::Explain(ExplainCommand {
+        query: query.copy(alloc)?,
+        sources: Paths::of(alloc, sources)?,
+    })))
+}
+
+fn are_none(settings: &[Setting]) -> bool
+    ensures { result ≡ specs.are_none settings.now }
+{
+    settings.is_empty()
+}
+
+fn run_limits(settings: &[Setting]) -> Option<RunLimits>
+    ensures exact { result ≡ specs.run_limits settings.now }
+    ensures ranges { IfSome result AreLimits }
+{
+    Some(RunLimits {
+        requests: number_of(NumberOption::Requests, settings)?,
+        turns: number_of(NumberOption::Turns, settings)?,
+        cache: number_of(NumberOption::Cache, settings)? as u32,
+    })
+}
+
+fn serve_numbers(settings: &[Setting]) -> Option<ServeOptions>
+    ensures exact { result ≡ specs.serve_numbers settings.now }
+    ensures ranges { IfSome result AreServeOptions }
+{
+    Some(ServeOptions {
+        port: number_of(NumberOption::Port, settings)? as u16,
+        connections: number_of(NumberOption::Connections, settings)?,
+        limits: run_limits(settings)?,
+    })
+}
+
+fn serve_options(settings: &[Setting]) -> Option<ServeOptions>
+    ensures exact { result ≡ specs.serve_options settings.now }
+    ensures ranges { IfSome result AreServeOptions }
+{
+    let options = [
+        NumberOption::Port,
+        NumberOption::Connections,
+        NumberOption::Requests,
+        NumberOption::Turns,
+        NumberOption::Cache,
+    ];
+    if are_among(&options, settings) {
+        serve_numbers(settings)
+    } else {
+        None
     }
 }
 
-/// The command that the words after the program's name give, or none. The first word is a command's name. A word of two
-/// bytes or more that begins with a dash is an option unless it stands behind `--`, and these commands have none. Every
+fn replay_options(settings: &[Setting]) -> Option<RunLimits>
+    ensures exact { result ≡ specs.replay_options settings.now }
+    ensures ranges { IfSome result AreLimits }
+{
+    let options = [
+        NumberOption::Requests,
+        NumberOption::Turns,
+        NumberOption::Cache,
+    ];
+    if are_among(&options, settings) {
+        run_limits(settings)
+    } else {
+        None
+    }
+}
+
+fn serve_command(
+    alloc: Global,
+    options: ServeOptions,
+    words: &[Str],
+) -> Result<Option<Command>, NoMemory>
+    requires { AreServeOptions options }
+    ensures exact { IfOk result (λ given. given ≡ specs.serve_command options words.now) }
+    ensures ranges { IfOk result (λ given. IfSome given IsInRange) }
+{
+    let [query, templates, sources @ ..] = words else {
+        return Ok(None);
+    };
+    if sources.is_empty() {
+        return Ok(None);
+    }
+    Ok(Some(Command::Serve(ServeCommand {
+        query: query.copy(alloc)?,
+        templates: templates.copy(alloc)?,
+        sources: Paths::of(alloc, sources)?,
+        options,
+    })))
+}
+
+fn replay_command(
+    alloc: Global,
+    limits: RunLimits,
+    words: &[Str],
+) -> Result<Option<Command>, NoMemory>
+    requires { AreLimits limits }
+    ensures exact { IfOk result (λ given. given ≡ specs.replay_command limits words.now) }
+    ensures ranges { IfOk result (λ given. IfSome given IsInRange) }
+{
+    let [query, templates, script, sources @ ..] = words else {
+        return Ok(None);
+    };
+    if sources.is_empty() {
+        return Ok(None);
+    }
+    Ok(Some(Command::Replay(ReplayCommand {
+        query: query.copy(alloc)?,
+        templates: templates.copy(alloc)?,
+        script: script.copy(alloc)?,
+        sources: Paths::of(alloc, sources)?,
+        limits,
+    })))
+}
+
+/// A command that takes no options.
+fn plain_command(alloc: Global, name: &[u8], words: &[Str]) -> Result<Option<Command>, NoMemory>
+    ensures exact { IfOk result (λ given. given ≡ specs.plain_command name.now words.now) }
+    ensures ranges { IfOk result (λ given. IfSome given IsInRange) }
+{
+    if name == b"page".as_slice() {
+        page_command(alloc, words)
+    } else if name == b"build".as_slice() {
+        build_command(alloc, words)
+    } else if name == b"data".as_slice() {
+        data_command(alloc, words)
+    } else if name == b"explain".as_slice() {
+        explain_command(alloc, words)
+    } else {
+        Ok(None)
+    }
+}
+
+fn serve_parts(alloc: Global, parts: &Parts) -> Result<Option<Command>, NoMemory>
+    ensures exact { IfOk result (λ given. given ≡ specs.serve_parts parts.now) }
+    ensures ranges { IfOk result (λ given. IfSome given IsInRange) }
+{
+    match serve_options(&parts.settings) {
+        Some(options) => serve_command(alloc, options, &parts.words),
+        None => Ok(None),
+    }
+}
+
+fn replay_parts(alloc: Global, parts: &Parts) -> Result<Option<Command>, NoMemory>
+    ensures exact { IfOk result (λ given. given ≡ specs.replay_parts parts.now) }
+    ensures ranges { IfOk result (λ given. IfSome given IsInRange) }
+{
+    match replay_options(&parts.settings) {
+        Some(limits) => replay_command(alloc, limits, &parts.words),
+        None => Ok(None),
+    }
+}
+
+fn plain_parts(alloc: Global, name: &[u8], parts: &Parts) -> Result<Option<Command>, NoMemory>
+    ensures exact { IfOk result (λ given. given ≡ specs.plain_parts name.now parts.now) }
+    ensures ranges { IfOk result (λ given. IfSome given IsInRange) }
+{
+    if are_none(&parts.settings) {
+        plain_command(alloc, name, &parts.words)
+    } else {
+        Ok(None)
+    }
+}
+
+fn named_command(alloc: Global, name: &[u8], parts: &Parts) -> Result<Option<Command>, NoMemory>
+    ensures exact { IfOk result (λ given. given ≡ specs.named_command name.now (Some parts.now)) }
+    ensures ranges { IfOk result (λ given. IfSome given IsInRange) }
+{
+    if name == b"serve".as_slice() {
+        serve_parts(alloc, parts)
+    } else if name == b"replay".as_slice() {
+        replay_parts(alloc, parts)
+    } else {
+        plain_parts(alloc, name, parts)
+    }
+}
+
+/// The command that the words after the program's name give, or none.
+///
+/// The first word is a command's name. Of the words behind it, those before `--` that have two bytes or more and begin
+/// with a dash are options: `--name=value`, or `--name` with the next word as its value, which is no option itself. The
+/// first `--` is dropped, and the words behind it are no options. Each option is one of the command's, stands at most
+/// once, and has a number of 1 to 10 digits within its range. The other words are as many as the command wants. Every
 /// word is a text, and none is empty.
 pub fn read_command(alloc: Global, words: &[Str]) -> Result<Option<Command>, NoMemory>
-    ensures { IfOk result (λ given. given ≡ specs.command words.now) }
+    ensures exact { IfOk result (λ given. given ≡ specs.command words.now) }
+    ensures ranges { IfOk result (λ given. IfSome given IsInRange) }
 {
     if !are_words(words) {
         return Ok(None);
@@ -172,36 +406,11 @@ pub fn read_command(alloc: Global, words: &[Str]) -> Result<Option<Command>, NoM
     let [name, words @ ..] = words else {
         return Ok(None);
     };
-    match positionals(alloc, words)? {
-        Some(words) => named_command(alloc, name.bytes(), &words),
+    match parts_of(alloc, words)? {
+        Some(parts) => named_command(alloc, name.bytes(), &parts),
         None => Ok(None),
     }
 }
 
-// The words that are no options, without the first `--`.
-fn positionals(alloc: Global, words: &[Str]) -> Result<Option<Paths>, NoMemory>
-    ensures { IfOk result (λ given. given ≡ specs.positionals words.now) }
-{
-    let mut items = Vec::with_capacity(alloc, words.len())?;
-    for i in 0..words.len() {
-        let word = words[i].bytes();
-        if word == b"--".as_slice() {
-            return with_rest(alloc, items, &words[i + 1..]);
-        }
-        if is_option(word) {
-            return Ok(None);
-        }
-        items.push(words[i].copy(alloc)?)?;
-    }
-    Ok(Some(Paths { items }))
-}
-
-fn with_rest(alloc: Global, items: Vec<Str>, words: &[Str]) -> Result<Option<Paths>, NoMemory>
-    ensures { IfOk result (λ given. given ≡ Some (items.items ++ words.now)) }
-{
-    let mut items = items;
-    for word in words {
-        items.push(word.copy(alloc)?)?;
-    }
-    Ok(Some(Paths { items }))
-}
+#[cfg(test)]
+mod tests;

@@ -9,3 +9,4 @@ mod told;
 pub use fault::{Fault, Refusal, refused, unread};
 pub use inputs::{load_graph, read_file};
 pub use site::{SiteInputs, load_inputs, load_query};
+pub use told::Told;

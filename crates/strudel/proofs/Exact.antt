@@ -10,12 +10,14 @@ use Rattle.site_inputs.specs.declared.fault.Fault.TheVariants as fault
 use Rattle.run_report.specs.declared.status.Status.{Status}
 use Rattle.run_report.specs.declared.status.Status.TheVariants.{Ok, NotAllYes, Usage, Refused, ReadFault, WriteFault, WireFault, PageFault, NoMemory, NotFound, TurnsSpent}
 use Rattle.command_words.specs.declared.Command.{Command}
-use Rattle.command_words.specs.declared.Command.TheVariants.{Page, Build, Data}
+use Rattle.command_words.specs.declared.Command.TheVariants.{Page, Build, Data, Explain, Serve, Replay}
 use Rattle.std.specs.Option.{IsSomeAnd}
 use Rattle.site_inputs.specs.Runs.{IsDecided, Decides}
 use Rattle.site_inputs.specs.Statuses.{ReadRose}
 use Rattle.page_command.specs.Pages.{PageEnds}
+use Rattle.serve_command.specs.Serves.{Story}
 use Rattle.strudel.specs.Data.{DataEnds}
+use Rattle.strudel.specs.Explain.{ExplainEnds}
 use Rattle.strudel.specs.Top.{TextEnds, Ends, RunEnds, WriteRose, IsExact, answer_status, inputs_of_command, given_inputs}
 use Rattle.strudel.proofs.Decided.{answer_decides}
 
@@ -44,23 +46,26 @@ module _ (Answer : Result (List ℕ) Fault → Type 0) (decides : Decides Answer
   exact_text paths before now PutsRose NoMemory ends read write = λ answer its d no_read no_write. inr refl
   exact_text paths before now PutsRose NotFound ends read write = λ answer its d no_read no_write. inl (by_answer (prelude.Err fault.NotFound) answer ends tt tt its d)
 
-exact_end : (map after : FileMap) (command : Command) (old new : Option (List ℕ)) (before now wrote writes : List ℕ → ℕ) (PutsRose : Type 0) (status : Status)
-    → Ends map after command old new status → ReadRose (inputs_of_command command) before now status → (status ≡ WriteFault → WriteRose (Some command) wrote writes PutsRose) → IsExact map command old new (λ path. Rose (before path) (now path)) PutsRose status
-exact_end map after (Page command) old new before now wrote writes PutsRose status ends read write = exact_text (PageEnds map command) (answer_decides map (Page command)) old new (inputs_of_command (Page command)) before now PutsRose status ends read write
-exact_end map after (Data command) old new before now wrote writes PutsRose status ends read write = exact_text (DataEnds map command.sources) (answer_decides map (Data command)) old new (inputs_of_command (Data command)) before now PutsRose status ends read write
-exact_end map after (Build command) old new before now wrote writes PutsRose status ends read write = λ answer its d no_read no_write. absurd its
+exact_end : (map after : FileMap) (wire served : Story) (P : Type 0) (command : Command) (old new : Option (List ℕ)) (before now wrote writes : List ℕ → ℕ) (PutsRose : Type 0) (status : Status)
+    → Ends map after wire served P command old new status → ReadRose (inputs_of_command command) before now status → (status ≡ WriteFault → WriteRose (Some command) wrote writes PutsRose) → IsExact map command old new (λ path. Rose (before path) (now path)) PutsRose status
+exact_end map after wire served P (Page command) old new before now wrote writes PutsRose status ends read write = exact_text (PageEnds map command) (answer_decides map (Page command)) old new (inputs_of_command (Page command)) before now PutsRose status ends read write
+exact_end map after wire served P (Data command) old new before now wrote writes PutsRose status ends read write = exact_text (DataEnds map command.sources) (answer_decides map (Data command)) old new (inputs_of_command (Data command)) before now PutsRose status ends read write
+exact_end map after wire served P (Explain command) old new before now wrote writes PutsRose status ends read write = exact_text (ExplainEnds map command) (answer_decides map (Explain command)) old new (inputs_of_command (Explain command)) before now PutsRose status ends read write
+exact_end map after wire served P (Build command) old new before now wrote writes PutsRose status ends read write = λ answer its d no_read no_write. absurd its
+exact_end map after wire served P (Serve command) old new before now wrote writes PutsRose status ends read write = λ answer its d no_read no_write. absurd its
+exact_end map after wire served P (Replay command) old new before now wrote writes PutsRose status ends read write = λ answer its d no_read no_write. absurd its
 
-exact_run : (map after : FileMap) (given : Option Command) (command : Command) (old new : Option (List ℕ)) (before now wrote writes : List ℕ → ℕ) (PutsRose : Type 0) (status : Status)
-    → given ≡ Some command → RunEnds map after given old new status → ReadRose (given_inputs given) before now status → (status ≡ WriteFault → WriteRose given wrote writes PutsRose) → IsExact map command old new (λ path. Rose (before path) (now path)) PutsRose status
-exact_run map after given command old new before now wrote writes PutsRose status is_given ends read write =
-    exact_end map after command old new before now wrote writes PutsRose status (subst (λ (g : Option Command). RunEnds map after g old new status) is_given ends)
+exact_run : (map after : FileMap) (wire served : Story) (P : Type 0) (given : Option Command) (command : Command) (old new : Option (List ℕ)) (before now wrote writes : List ℕ → ℕ) (PutsRose : Type 0) (status : Status)
+    → given ≡ Some command → RunEnds map after wire served P given old new status → ReadRose (given_inputs given) before now status → (status ≡ WriteFault → WriteRose given wrote writes PutsRose) → IsExact map command old new (λ path. Rose (before path) (now path)) PutsRose status
+exact_run map after wire served P given command old new before now wrote writes PutsRose status is_given ends read write =
+    exact_end map after wire served P command old new before now wrote writes PutsRose status (subst (λ (g : Option Command). RunEnds map after wire served P g old new status) is_given ends)
     (subst (λ (g : Option Command). ReadRose (given_inputs g) before now status) is_given read)
     (λ e. subst (λ (g : Option Command). WriteRose g wrote writes PutsRose) is_given (write e))
 
-pub exact_told : (n : Option FileMap) (map : FileMap) (given : Option Command) (command : Command) (old new : Option (List ℕ)) (before now wrote writes : List ℕ → ℕ) (PutsRose : Type 0) (status : Status)
-    → given ≡ Some command → IsSomeAnd n (λ after. RunEnds map after given old new status) → ReadRose (given_inputs given) before now status → (status ≡ WriteFault → WriteRose given wrote writes PutsRose) → IsExact map command old new (λ path. Rose (before path) (now path)) PutsRose status
-exact_told None map given command old new before now wrote writes PutsRose status is_given ends read write = absurd ends
-exact_told (Some after) map given command old new before now wrote writes PutsRose status is_given ends read write = exact_run map after given command old new before now wrote writes PutsRose status is_given ends read write
+pub exact_told : (n : Option FileMap) (map : FileMap) (wire served : Story) (P : Type 0) (given : Option Command) (command : Command) (old new : Option (List ℕ)) (before now wrote writes : List ℕ → ℕ) (PutsRose : Type 0) (status : Status)
+    → given ≡ Some command → IsSomeAnd n (λ after. RunEnds map after wire served P given old new status) → ReadRose (given_inputs given) before now status → (status ≡ WriteFault → WriteRose given wrote writes PutsRose) → IsExact map command old new (λ path. Rose (before path) (now path)) PutsRose status
+exact_told None map wire served P given command old new before now wrote writes PutsRose status is_given ends read write = absurd ends
+exact_told (Some after) map wire served P given command old new before now wrote writes PutsRose status is_given ends read write = exact_run map after wire served P given command old new before now wrote writes PutsRose status is_given ends read write
 
 pub reported_exact : (map : FileMap) (command : Command) (old new : Option (List ℕ)) (ReadsRose : List ℕ → Type 0) (PutsRose : Type 0) (status reported : Status)
     → IsExact map command old new ReadsRose PutsRose status → (reported ≡ status) ⊎ (reported ≡ NoMemory) → IsExact map command old new ReadsRose PutsRose reported

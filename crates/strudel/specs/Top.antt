@@ -10,17 +10,24 @@ use Rattle.site_inputs.specs.Sites.{input_paths}
 use Rattle.site_inputs.specs.Statuses.{status_of}
 use Rattle.page_command.specs.Pages.{PageEnds}
 use Rattle.build_command.specs.Builds.{BuildEnds, FolderRose}
+use Rattle.replay_command.specs.Scripts.{replay_paths}
+use Rattle.replay_command.specs.Replays.{ReplayEnds}
+use Rattle.serve_command.specs.Serves.{Story, ServeEnds}
 use Rattle.strudel.specs.Data.{DataEnds}
+use Rattle.strudel.specs.Explain.{ExplainEnds, explain_paths}
 use Rattle.run_report.specs.declared.status.Status.{Status}
 use Rattle.run_report.specs.declared.status.Status.TheVariants.{Ok, NotAllYes, Usage, Refused, ReadFault, WriteFault, WireFault, PageFault, NoMemory, NotFound, TurnsSpent}
 use Rattle.command_words.specs.declared.Command.{Command}
-use Rattle.command_words.specs.declared.Command.TheVariants.{Page, Build, Data}
+use Rattle.command_words.specs.declared.Command.TheVariants.{Page, Build, Data, Explain, Serve, Replay}
 
 -- the paths of a command's own files, in the order in which they are read
 abbrev pub inputs_of_command : Command → List (List ℕ)
 inputs_of_command (Page command) = input_paths command.sources command.query command.templates
 inputs_of_command (Build command) = input_paths command.sources command.query command.templates
 inputs_of_command (Data command) = command.sources
+inputs_of_command (Explain command) = explain_paths command
+inputs_of_command (Serve command) = input_paths command.sources command.query command.templates
+inputs_of_command (Replay command) = replay_paths command
 
 -- those of the command that the words give, if any
 abbrev pub given_inputs : Option Command → List (List ℕ)
@@ -29,11 +36,15 @@ given_inputs prelude.None = []
 
 -- The answer of a command: the text that it writes, or the fault that it ends with. A later command joins as one case
 -- here, and with a lemma that its inputs decide one end (`Decides`), which is one case of `answer_decides`. A build is
--- answered by files, so it has none here: `BuildEnds` says how it ends.
+-- answered by files, so it has none here: `BuildEnds` says how it ends. Nor
+-- has a run over connections, whose replies may be cut short for want of memory: `ServeEnds` and `ReplayEnds` say how it ends.
 abbrev pub Answers : FileMap → Command → Result (List ℕ) Fault → Type 0
 Answers map (Page command) = PageEnds map command
 Answers map (Data command) = DataEnds map command.sources
+Answers map (Explain command) = ExplainEnds map command
 Answers map (Build command) = λ answer. ⊥
+Answers map (Serve command) = λ answer. ⊥
+Answers map (Replay command) = λ answer. ⊥
 
 -- a text that is an answer was put
 pub record Puts (Answer : Result (List ℕ) Fault → Type 0) (old new : Option (List ℕ)) : Type 0 where
@@ -62,16 +73,25 @@ TextEnds Answer old new (ReadFault path) = Answer (prelude.Err (fault.Unread pat
 TextEnds Answer old new (PageFault term kind) = Answer (prelude.Err (fault.Faulty term kind))
 TextEnds Answer old new NotFound = Answer (prelude.Err fault.NotFound)
 
--- What the run of a command has put, from the files `map` to the files `now`, and why it has this status.
-abbrev pub Ends : FileMap → FileMap → Command → Option (List ℕ) → Option (List ℕ) → Status → Type 0
-Ends map now (Page command) old new status = TextEnds (PageEnds map command) old new status
-Ends map now (Data command) old new status = TextEnds (DataEnds map command.sources) old new status
-Ends map now (Build command) old new status = BuildEnds map now command old new status
+-- What the run of a command has put, from the files `map` to the files `now`, with the wire from `before` to `after`, and
+-- why it has this status. PutsRose says that the count of the output rose.
+abbrev pub Ends : FileMap → FileMap → Story → Story → Type 0 → Command → Option (List ℕ) → Option (List ℕ) → Status → Type 0
+Ends map now before after PutsRose (Page command) old new status = TextEnds (PageEnds map command) old new status
+Ends map now before after PutsRose (Data command) old new status = TextEnds (DataEnds map command.sources) old new status
+Ends map now before after PutsRose (Explain command) old new status = TextEnds (ExplainEnds map command) old new status
+Ends map now before after PutsRose (Build command) old new status = BuildEnds map now command old new status
+Ends map now before after PutsRose (Serve command) old new status = ServeEnds map command before after old new PutsRose status
+Ends map now before after PutsRose (Replay command) old new status = ReplayEnds map command old new PutsRose status
 
 -- how a run ends: no command, or a command's end
-abbrev pub RunEnds : FileMap → FileMap → Option Command → Option (List ℕ) → Option (List ℕ) → Status → Type 0
-RunEnds map now prelude.None old new status = (status ≡ Usage) ⊎ (status ≡ NoMemory)
-RunEnds map now (prelude.Some command) old new status = Ends map now command old new status
+abbrev pub RunEnds : FileMap → FileMap → Story → Story → Type 0 → Option Command → Option (List ℕ) → Option (List ℕ) → Status → Type 0
+RunEnds map now before after PutsRose prelude.None old new status = (status ≡ Usage) ⊎ (status ≡ NoMemory)
+RunEnds map now before after PutsRose (prelude.Some command) old new status = Ends map now before after PutsRose command old new status
+
+-- a command that serves no connections of the wire, or none
+abbrev pub UsesNoWire : Option Command → Type 0
+UsesNoWire (prelude.Some (Serve command)) = ⊥
+UsesNoWire command = ⊤
 
 -- a command that writes no file, or none
 abbrev pub WritesNoFile : Option Command → Type 0

@@ -2,8 +2,11 @@
 #![tactic(auto)]
 
 mod data;
+mod explain;
 #[cfg(test)]
 mod page_tests;
+#[cfg(test)]
+mod serve_tests;
 #[cfg(test)]
 mod tests;
 mod top;
@@ -14,6 +17,7 @@ use sd_value::Str;
 use std::process::ExitCode;
 use std::rt::Env;
 use std::{env, io};
+use tcp_wire::TcpWire;
 
 // The words after the program's name. A word that isn't text fails them all.
 fn given_words<R: Env + AllocGlobal>(rt: &R) -> io::Result<Vec<Str>> {
@@ -32,8 +36,9 @@ fn main(rt: HostRuntime) -> ExitCode {
     let mut files = RealFiles::new(&rt);
     let mut out = RealOut::new(rt.stdout());
     let mut err = RealOut::new(rt.stderr());
+    let mut wire = TcpWire::new(&rt);
     let status = match given_words(&rt) {
-        Ok(words) => top::strudel(alloc, &words, &mut files, &mut out, &mut err),
+        Ok(words) => top::strudel(alloc, &words, &mut files, &mut out, &mut err, &mut wire),
         Err(error) if error.kind() == io::ErrorKind::OutOfMemory => {
             report(alloc, Status::NoMemory, &mut err)
         }

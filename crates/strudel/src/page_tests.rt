@@ -1,4 +1,5 @@
 // Pages and refusals of the command `page`, one row each, over the forms in memory.
+use crate::tests::no_connections;
 use crate::top::strudel;
 use edge_io::{MemFile, MemFiles, MemSink};
 use sd_value::{NoMemory, Str};
@@ -20,10 +21,10 @@ struct PageRow {
 pub const BIB: &str =
     "object pub1 in Publications { title \"Strudel\" year 1998 author \"Mary\" author \"Dan\" }\nobject pub2 in Publications { title \"Lorel <1>\" year 1997 author \"Dan\" }\n";
 
-const SITE: &str =
+pub const SITE: &str =
     "INPUT Bib\n{ CREATE RootPage() }\n{ WHERE Publications(x), x -> l -> v\n  CREATE PaperPage(x)\n  LINK PaperPage(x) -> l -> v, RootPage() -> \"Paper\" -> PaperPage(x)\n  { WHERE l = \"year\"\n    CREATE YearPage(v)\n    LINK YearPage(v) -> \"Year\" -> v, YearPage(v) -> \"Paper\" -> PaperPage(x),\n         RootPage() -> \"Year\" -> YearPage(v) } }\nOUTPUT Home\n";
 
-const LOOKS: &str =
+pub const LOOKS: &str =
     "<TEMPLATE RootPage><h1>Home</h1><SFMT @Paper LINK=title DELIM=\", \"></TEMPLATE>\n<TEMPLATE PaperPage><h1><SFMT @title></h1><SFMT @author DELIM=\" and \"></TEMPLATE>\n<TEMPLATE YearPage><h1><SFMT @Year></h1><SFMT @Paper LINK=title DELIM=\", \"></TEMPLATE>\n";
 
 const OK: &str = "<TEMPLATE F>ok</TEMPLATE>";
@@ -513,7 +514,8 @@ fn check_page<R: AllocGlobal + Abort>(rt: &R, row: &PageRow) -> Result<(), Fail>
     let mut files = files(alloc, row)?;
     let mut out = MemSink::new(alloc, Vec::new(alloc));
     let mut err = MemSink::new(alloc, Vec::new(alloc));
-    let status = strudel(alloc, &words, &mut files, &mut out, &mut err);
+    let mut wire = no_connections(alloc)?;
+    let status = strudel(alloc, &words, &mut files, &mut out, &mut err, &mut wire);
     assert_eq!(rt; status.code(), row.code, "{}", row.address);
     assert_eq!(rt; out.bytes(), row.out.as_bytes());
     assert_eq!(rt; err.bytes(), row.err.as_bytes());

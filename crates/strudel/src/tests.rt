@@ -2,6 +2,7 @@
 use crate::page_tests::BIB;
 use crate::top::strudel;
 use edge_io::{MemFile, MemFiles, MemSink};
+use mem_wire::MemWire;
 use sd_value::{NoMemory, Str};
 use std::alloc::Global;
 use std::process::Abort;
@@ -43,6 +44,11 @@ fn expects(words: &'static [&'static str], code: u8, out: &'static str, err: &'s
     }
 }
 
+// A wire that gives no events.
+pub fn no_connections(alloc: Global) -> Result<MemWire, NoMemory> {
+    MemWire::new(alloc, Vec::new(alloc), Vec::new(alloc), Vec::new(alloc))
+}
+
 fn texts(alloc: Global, words: &[&str]) -> Result<Vec<Str>, NoMemory> {
     let mut texts = Vec::new(alloc);
     for word in words {
@@ -81,7 +87,8 @@ fn check_row<R: AllocGlobal + Abort>(rt: &R, row: &Row) -> Result<(), Fail> {
     let mut files = files(alloc, row.failing_calls)?;
     let mut out = MemSink::new(alloc, row.failing_puts.to_vec(alloc)?);
     let mut err = MemSink::new(alloc, Vec::new(alloc));
-    let status = strudel(alloc, &words, &mut files, &mut out, &mut err);
+    let mut wire = no_connections(alloc)?;
+    let status = strudel(alloc, &words, &mut files, &mut out, &mut err, &mut wire);
     assert_eq!(rt; status.code(), row.code, "{:?}", row.words);
     assert_eq!(rt; out.bytes(), row.out.as_bytes());
     assert_eq!(rt; err.bytes(), row.err.as_bytes());
@@ -216,7 +223,8 @@ fn check_build<R: AllocGlobal + Abort>(
     let mut files = site_files(alloc, row.failing_calls)?;
     let mut out = MemSink::new(alloc, Vec::new(alloc));
     let mut err = MemSink::new(alloc, Vec::new(alloc));
-    let status = strudel(alloc, &words, &mut files, &mut out, &mut err);
+    let mut wire = no_connections(alloc)?;
+    let status = strudel(alloc, &words, &mut files, &mut out, &mut err, &mut wire);
     assert_eq!(rt; status.code(), row.code, "{:?}", row.words);
     assert_eq!(rt; out.bytes(), row.out.as_bytes());
     assert!(rt; err.bytes().ends_with(row.err.as_bytes()));
@@ -267,6 +275,30 @@ fn sites_are_built(rt: HostRuntime) -> Result<(), Fail> {
             ("out/YearPage/i1998.html", Some("1998")),
             ("out/index.html", None),
         ],
+    )
+}
+
+const PLANS: &str =
+    "block 1\nblock 2\n  use Publications(x) cost 2\n  use x -> l -> v cost 4\nblock 2.1\n  use l = \"year\" cost 1\n  use Publications(x) cost 2\n  use x -> l -> v cost 4\n";
+
+#[test]
+fn plans_are_printed(rt: HostRuntime) -> Result<(), Fail> {
+    check_build(&rt, &expects(&["explain", "q", "bib"], 0, PLANS, ""), &[])?;
+    let unread = "strudel: cannot read none\n";
+    check_build(
+        &rt,
+        &expects(&["explain", "none", "bib"], 4, "", unread),
+        &[],
+    )?;
+    check_build(
+        &rt,
+        &expects(
+            &["explain", "bib", "bib"],
+            3,
+            "",
+            "strudel: bib: 71 Expected at 0\n",
+        ),
+        &[],
     )
 }
 

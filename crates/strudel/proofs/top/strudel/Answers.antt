@@ -5,7 +5,7 @@ use Rattle.strudel.proofs.top.strudel.Goals as goal
 
 pub returns-clause-ends : goal.returns-clause-ends
 returns-clause-ends g c = λ map told.
-    reported_told _ map _ _ _ _ _ (c.run-status.ensures.ends map told) (λ quiet. ap g.O.Sink.text (c.run-status.ensures.silent quiet)) c.report.ensures.fixed c.report.ensures.status
+    reported_told _ map _ _ _ _ _ _ _ _ (c.run-status.ensures.ends map told) (λ quiet. ap g.O.Sink.text (c.run-status.ensures.silent quiet)) c.report.ensures.fixed c.report.ensures.status
 
 pub returns-clause-silent : goal.returns-clause-silent
 returns-clause-silent g c = reported_silent _ _ c.run-status.ensures.silent c.report.ensures.status
@@ -13,5 +13,8 @@ returns-clause-silent g c = reported_silent _ _ c.run-status.ensures.silent c.re
 pub returns-clause-exact : goal.returns-clause-exact
 returns-clause-exact g c = λ map told command is_given.
     reported_exact map command _ _ _ _ _ _
-    (exact_told (g.F.Files.contents c.run-status.new.files) map _ command _ _ (g.F.Files.failed_reads c.args.files.now) (g.F.Files.failed_reads c.run-status.new.files) (g.F.Files.failed_writes c.args.files.now) (g.F.Files.failed_writes c.run-status.new.files) _ _ is_given (c.run-status.ensures.ends map told) c.run-status.ensures.read_cause c.run-status.ensures.write_cause)
+    (exact_told (g.F.Files.contents c.run-status.new.files) map _ _ _ _ command _ _ (g.F.Files.failed_reads c.args.files.now) (g.F.Files.failed_reads c.run-status.new.files) (g.F.Files.failed_writes c.args.files.now) (g.F.Files.failed_writes c.run-status.new.files) _ _ is_given (c.run-status.ensures.ends map told) c.run-status.ensures.read_cause c.run-status.ensures.write_cause)
     c.report.ensures.status
+
+pub returns-clause-quiet : goal.returns-clause-quiet
+returns-clause-quiet g c = reported_silent _ _ c.run-status.ensures.quiet c.report.ensures.status
