@@ -15,4 +15,4 @@ pub returns-in-Ok-play-clause-no_wire : goal.returns-in-Ok-play-clause-no_wire
 returns-in-Ok-play-clause-no_wire g c = λ e.
     never_wire (scripted_of c.in-Ok.script) c.args.command.now.limits _ _ _ c.put_end.result
     (run_ends (scripted_of c.in-Ok.script) c.args.command.now.limits c.in-Ok-play.finished.end c.in-Ok-play.finished.text.items c.in-Ok-play.ensures _ _ _ c.put_end.result
-      (rw c.deref.ensures.value at c.put_end.ensures.ends)) e
+    (rw c.deref.ensures.value at c.put_end.ensures.ends)) e
