@@ -6,8 +6,6 @@ mod laws;
 mod named;
 mod places;
 mod target;
-#[cfg(test)]
-mod tests;
 mod written;
 
 pub use laws::addresses_differ;

@@ -48,6 +48,3 @@ pub fn texts_have_one_answer()
 pub fn fields_have_values()
     ensures { (field : List ℕ) → IsFieldValue field (value_of field) }
 {}
-
-#[cfg(test)]
-mod tests;

@@ -8,6 +8,3 @@ mod refusal;
 pub use format::{Format, format_of};
 pub use reading::read_source;
 pub use refusal::SourceRefusal;
-
-#[cfg(test)]
-mod tests;

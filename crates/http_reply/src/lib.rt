@@ -6,8 +6,6 @@ mod buffer;
 mod parsing;
 mod reading;
 mod replies;
-#[cfg(test)]
-mod tests;
 
 pub use reading::{Fed, MAX_HEAD, Reading};
 pub use replies::{NO_MEMORY_REPLY, no_memory_reply, reply};

@@ -60,6 +60,3 @@ pub fn read_json(
 pub fn texts_have_one_answer()
     ensures { (stem bytes : List ℕ) (b : Building) → HasOneAnswer stem bytes b }
 {}
-
-#[cfg(test)]
-mod tests;

@@ -3,8 +3,6 @@
 
 mod lines;
 mod status;
-#[cfg(test)]
-mod tests;
 
 pub use lines::report;
 pub use status::{PageKind, Place, Status};

@@ -8,6 +8,3 @@ mod text;
 pub use reading::phrases;
 pub use refusal::{Refusal, ScriptRefusal};
 pub use text::{a_script_has_one_answer, read_script};
-
-#[cfg(test)]
-mod tests;

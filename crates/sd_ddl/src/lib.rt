@@ -14,6 +14,3 @@ pub use ddl_text::Kind;
 pub use reading::read_ddl;
 pub use refusal::DdlRefusal;
 pub use writing::write_ddl;
-
-#[cfg(test)]
-mod tests;

@@ -29,6 +29,3 @@ pub fn without_mark(bytes: &[u8]) -> &[u8]
         _ => bytes,
     }
 }
-
-#[cfg(test)]
-mod tests;

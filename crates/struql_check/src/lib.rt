@@ -22,8 +22,6 @@ mod passes;
 mod refusal;
 mod scope;
 mod terms;
-#[cfg(test)]
-mod tests;
 mod walk;
 
 use faults::earlier;

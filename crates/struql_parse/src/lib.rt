@@ -1,8 +1,6 @@
 //! The text of queries.
 #![tactic(auto)]
 
-#[cfg(test)]
-mod cases;
 mod clauses;
 mod entry;
 mod query;

@@ -6,8 +6,6 @@ mod listed;
 mod query;
 mod regex;
 mod terms;
-#[cfg(test)]
-mod tests;
 
 pub use conditions::print_condition;
 pub use query::print;

@@ -1,5 +1,5 @@
 // A script and its refusals.
-use crate::{ScriptRefusal, read_script};
+use script_read::{ScriptRefusal, read_script};
 use std::test::Fail;
 use wire::WireEvent;
 

@@ -1,7 +1,7 @@
 //! Texts with the reader's answers, worked out by hand from the grammar.
 
-use crate::{ParseRefusal, parse};
 use std::alloc::{AllocError, Global};
+use struql_parse::{ParseRefusal, parse};
 
 fn refusal(rt: HostRuntime, bytes: &[u8]) -> Option<ParseRefusal> {
     match parse(rt.alloc(), bytes, 10_000) {

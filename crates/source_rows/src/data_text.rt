@@ -1,5 +1,5 @@
 // Whole texts, with answers worked out by hand.
-use crate::{DdlRefusal, read_ddl, write_ddl};
+use sd_ddl::{DdlRefusal, read_ddl, write_ddl};
 use sd_graph::{GraphBuilder, Limits};
 use std::alloc::Global;
 use std::test::Fail;

@@ -1,5 +1,5 @@
 // Whole texts, with answers worked out by hand.
-use crate::{CsvRefusal, read_csv};
+use csv_source::{CsvRefusal, read_csv};
 use sd_graph::{Graph, GraphBuilder, Limits};
 use sd_value::{Datum, NoMemory, Str, Value};
 use std::alloc::Global;

@@ -1,6 +1,6 @@
 // Lines as they are printed.
-use crate::{PageKind, Place, Status, report};
 use edge_io::MemSink;
+use run_report::{PageKind, Place, Status, report};
 use sd_value::{Args, Str, Term, Value};
 use std::test::Fail;
 

@@ -1,5 +1,5 @@
 // Addresses by example.
-use crate::{FileRefusal, address, file_of, show, term_of};
+use address::{FileRefusal, address, file_of, show, term_of};
 use sd_value::{Args, Datum, NoMemory, Str, Term, Value};
 use std::alloc::Global;
 

@@ -1,4 +1,4 @@
-use crate::{Fed, NO_MEMORY_REPLY, Reading, no_memory_reply, reply};
+use http_reply::{Fed, NO_MEMORY_REPLY, Reading, no_memory_reply, reply};
 use http_spec::{Ask, AskKind};
 use page_spec::Outcome;
 use sd_value::{Datum, Str, Value};

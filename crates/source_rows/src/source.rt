@@ -1,5 +1,5 @@
 // One file of each format, with answers worked out by hand.
-use crate::{Format, SourceRefusal, format_of, read_source};
+use data_source::{Format, SourceRefusal, format_of, read_source};
 use run_report::Place;
 use sd_graph::{GraphBuilder, PROGRAM_LIMITS};
 use sd_value::{NoMemory, Str};

@@ -1,5 +1,5 @@
-use crate::{numbered_name, without_mark};
 use sd_value::{NoMemory, Str};
+use source_steps::{numbered_name, without_mark};
 
 #[test]
 fn a_name_and_a_mark(rt: HostRuntime) -> Result<(), NoMemory> {

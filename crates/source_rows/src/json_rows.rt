@@ -1,5 +1,5 @@
 // Whole texts, with answers worked out by hand.
-use crate::{JsonRefusal, read_json};
+use json_source::{JsonRefusal, read_json};
 use sd_graph::{Graph, GraphBuilder, Limits};
 use sd_value::{Datum, NoMemory, Str, Value};
 use std::alloc::Global;

@@ -1,5 +1,5 @@
 // Each call of the forms in memory once, with ample memory, and a failing one of each kind.
-use crate::{Failed, Files, MemFile, MemFiles, MemSink, ReadEnd, Sink};
+use edge_io::{Failed, Files, MemFile, MemFiles, MemSink, ReadEnd, Sink};
 use sd_value::Str;
 use std::test::Fail;
 

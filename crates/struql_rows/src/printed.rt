@@ -1,11 +1,11 @@
 //! Texts that are printed as the formats say.
 
-use crate::{print, print_condition, print_link};
 use rpe::Rpe;
 use sd_lex::Span;
 use sd_value::{Datum, NoMemory, Str, Value};
 use std::alloc::Global;
 use struql_ast::{Block, Condition, Link, LinkLabel, Operand, PathStep, Query, Target, Term0};
+use struql_print::{print, print_condition, print_link};
 
 fn nowhere() -> Span {
     Span { start: 0, end: 0 }
