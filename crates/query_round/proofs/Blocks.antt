@@ -1,5 +1,5 @@
 -- The canonical texts of blocks spell them.
-use Rattle.std.proofs.Common.{◌≡◌, ℕ, zero, suc, Bool, true, false, List, [], ◌∷◌, ◌++◌, refl, sym, ap, subst, ◌∙◌, append_assoc, inl, inr}
+use Rattle.std.proofs.Common.{◌≡◌, ℕ, zero, suc, Bool, true, false, List, [], ◌∷◌, ◌++◌, refl, sym, ap, subst, ◌∙◌, append_assoc}
 use Rattle.std.specs.Prelude.{codes, map}
 use Rattle.std.specs.List.{flat_map}
 use Rattle.std.proofs.lemmas.List.{append-nil}
@@ -21,7 +21,7 @@ use Rattle.struql_parse.specs.Blocks as blocks
 use Rattle.struql_print.specs.Texts.{condition_text, term_text, link_text, collect_text, clause_text, body_text, block_texts}
 use Rattle.struql_round.specs.ShownParts.{condition_kept, term_kept}
 use Rattle.struql_round.proofs.Conditions.{condition_spelt}
-use Rattle.query_round.specs.Spellable.{Every, IsCondition, IsTerm, IsLink, IsCollect, IsBody, AreBlocks}
+use Rattle.query_round.specs.Spellable.{IsCondition, IsTerm, IsLink, IsCollect, IsBody, AreBlocks}
 use Rattle.query_round.specs.Kept.{link_kept, collect_kept, clauses_kept, blocks_kept}
 use Rattle.query_round.proofs.Lexing.{Lexing, Any, Safe, Nil, Cons, Both, shown, before, same_text, nothing_more, gap, both, sign_then, sign_last}
 use Rattle.query_round.proofs.Texts.{condition_lexing}

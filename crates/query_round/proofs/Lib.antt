@@ -4,3 +4,8 @@ pub mod Terms
 pub mod Links
 pub mod Blocks
 pub mod Whole
+pub mod Kept
+pub mod Fitting
+pub mod ParsedTerms
+pub mod ParsedConditions
+pub mod ParsedQueries

@@ -1,32 +1,30 @@
 -- The canonical texts of links, collections and clauses spell them.
 use Rattle.std.proofs.Common.{◌≡◌, ℕ, true, List, [], ◌∷◌, ◌++◌, Some, refl, sym, ap, ◌∙◌, inl, inr}
-use Rattle.std.specs.Prelude.{codes, map}
+use Rattle.std.specs.Prelude.{map}
 use Rattle.std.proofs.lemmas.List.{append-nil}
 use Rattle.sd_lex.specs.declared.token.Token.{Token}
 use Rattle.sd_lex.specs.declared.token.TokenKind.TheVariants as kinds
-use Rattle.sd_lex.specs.declared.token.Span.{Span}
 use Rattle.sd_lex.specs.declared.token.Sign.{Sign as AnySign}
 use Rattle.sd_lex.specs.declared.token.Sign.TheVariants as signs
 use Rattle.sd_lex.specs.Lexing.{IsName}
 use Rattle.token_reader.specs.Terminals.{is_sign}
-use Rattle.grammar.specs.Grammar.{one}
 use Rattle.query_spec.specs.Query.{LinkLabel, quoted, label_variable, Link, Collect}
 use Rattle.struql_ast.specs.declared.LinkLabel as declared
 use Rattle.struql_ast.specs.declared.LinkLabel.TheVariants as label
 use Rattle.struql_ast.specs.Reading.{label_of}
 use Rattle.struql_ast.specs.Written as tree
 use Rattle.struql_text.specs.declared.keyword.Keyword.{Keyword}
-use Rattle.struql_text.specs.Terminals.{from_to, is_keyword, keyword_of, label_value}
+use Rattle.struql_text.specs.Terminals.{from_to, is_keyword, label_value}
 use Rattle.struql_text.specs.Expression.{keyword}
 use Rattle.struql_text.specs.Grammar as text
 use Rattle.struql_text.proofs.TokenParts.{is_that}
 use Rattle.struql_parse.specs.Blocks as blocks
-use Rattle.struql_print.specs.Texts.{label_text, target_text, link_text, collect_text, joined, clause_text}
+use Rattle.struql_print.specs.Texts.{label_text, link_text, collect_text, clause_text}
 use Rattle.struql_round.specs.ShownParts.{ShowsName}
 use Rattle.struql_round.proofs.Conditions.{name_is}
-use Rattle.query_round.specs.Spellable.{Every, IsWord, IsLabel, IsLink, IsCollect}
+use Rattle.query_round.specs.Spellable.{Every, IsLabel, IsLink, IsCollect}
 use Rattle.query_round.specs.Kept.{target_kept, link_kept, collect_kept}
-use Rattle.query_round.proofs.Lexing.{Lexing, Any, Safe, Nil, Cons, Both, shown, before, nothing_more, gap, both, token_then, cons_shown, sign_then, sign_last}
+use Rattle.query_round.proofs.Lexing.{Lexing, Safe, Nil, Cons, Both, shown, nothing_more, gap, both, cons_shown, sign_then, sign_last}
 use Rattle.query_round.proofs.Texts.{word_then, name_then, quoted_then}
 use Rattle.query_round.proofs.Terms.{Spelt, source_lexing, target_lexing, listed_lexing}
 

@@ -1,6 +1,6 @@
 -- The canonical texts of terms, of targets and of lists with commas spell them.
 use Rattle.std.proofs.Common.{◌≡◌, ℕ, suc, List, [], ◌∷◌, ◌++◌, Some, None, true, refl, sym, ap, subst, ◌∙◌, append_assoc, inl, inr}
-use Rattle.std.specs.Prelude.{Option, codes, map}
+use Rattle.std.specs.Prelude.{Option, map}
 use Rattle.std.proofs.lemmas.List.{append-nil}
 use Rattle.sd_lex.specs.declared.token.Token.{Token}
 use Rattle.sd_lex.specs.declared.token.TokenKind.{TokenKind}
@@ -11,20 +11,18 @@ use Rattle.grammar.specs.Grammar.{iterated}
 use Rattle.token_reader.specs.Terminals.{is_sign}
 use Rattle.query_spec.specs.Query as plain
 use Rattle.query_spec.specs.Query.{Operand, variable, constant, SkolemTerm, Target}
-use Rattle.struql_ast.specs.declared.Operand as declared
 use Rattle.struql_ast.specs.declared.Operand.TheVariants.{Variable, Constant}
-use Rattle.struql_ast.specs.Reading.{operand_of}
 use Rattle.struql_ast.specs.Written as tree
 use Rattle.struql_text.specs.declared.keyword.Keyword.{Keyword}
 use Rattle.struql_text.specs.declared.keyword.Word.{Word}
-use Rattle.struql_text.specs.Terminals.{keyword_of, name_value, operand_value, operand_kind_value, name_kind_value, named}
+use Rattle.struql_text.specs.Terminals.{keyword_of, operand_kind_value, name_kind_value, named}
 use Rattle.struql_text.specs.Grammar as text
 use Rattle.struql_text.proofs.TokenParts.{is_that}
 use Rattle.struql_print.specs.Texts.{operand_text, further, joined, term_text, target_text}
 use Rattle.struql_round.specs.ShownParts.{ShowsName, ShowsOperand, ShowsMoreOperands, ShowsArguments, ShowsTerm, term_kept}
-use Rattle.struql_round.proofs.Conditions.{name_is, placed, operand_is, placed_kept}
+use Rattle.struql_round.proofs.Conditions.{name_is, operand_is}
 use Rattle.struql_round.proofs.Terms.{term_spelt}
-use Rattle.query_round.specs.Spellable.{Every, IsWord, IsOperand, IsTerm, IsSource, IsTarget}
+use Rattle.query_round.specs.Spellable.{Every, IsOperand, IsTerm, IsSource, IsTarget}
 use Rattle.query_round.specs.Kept.{target_kept}
 use Rattle.query_round.proofs.Lexing.{Lexing, Any, Safe, Nil, Cons, Both, shown, before, same_text, nothing_more, gap, both, sign_then, sign_last}
 use Rattle.query_round.proofs.Texts.{name_then, operand_then, operand_last, further_safe}

@@ -1,5 +1,5 @@
 -- The canonical texts of expressions and conditions split into tokens that show them.
-use Rattle.std.proofs.Common.{◌≡◌, ℕ, Bool, true, false, List, [], ◌∷◌, ◌++◌, Some, None, refl, sym, ap, ◌∙◌}
+use Rattle.std.proofs.Common.{◌≡◌, ℕ, Bool, true, false, List, [], ◌∷◌, ◌++◌, Some, refl, sym, ap, ◌∙◌}
 use Rattle.std.specs.Prelude.{codes, map}
 use Rattle.std.specs.Fmt.{signed_decimal}
 use Rattle.std.specs.List.{flat_map}
@@ -12,7 +12,6 @@ use Rattle.sd_lex.specs.declared.token.TokenKind.TheVariants as kinds
 use Rattle.sd_lex.specs.declared.token.Sign.TheVariants as signs
 use Rattle.sd_lex.specs.Lexing.{Spells, IsName}
 use Rattle.path_spec.specs.Regex.{Regex, label, any, empty, seq, alt, star}
-use Rattle.token_reader.specs.Terminals.{is_sign}
 use Rattle.token_writer.specs.Writing.{quoted_text, escaped_byte}
 use Rattle.token_laws.proofs.Numbers.{number_spells}
 use Rattle.token_laws.proofs.Quotes.{text_spells}
@@ -27,7 +26,7 @@ use Rattle.struql_print.specs.Texts.{is_alt, is_alt_or_seq, enclosed, regex_text
 use Rattle.struql_round.specs.Shown.{Wrapped, Shows}
 use Rattle.struql_round.specs.ShownParts.{ShowsName, ShowsValue, ShowsOperand, ShowsStep, ShowsMore, ShowsListed, ShowsPlain, ShowsCondition}
 use Rattle.query_round.specs.Spellable.{Every, IsSome, IsWord, IsConstant, IsOperand, IsStep, IsPlain, IsCondition}
-use Rattle.query_round.proofs.Lexing.{Lexing, Any, Safe, Nil, Cons, Both, shown, before, same_text, nothing_more, gap, both, token_then, cons_shown, token_last, sign_then, sign_last}
+use Rattle.query_round.proofs.Lexing.{Lexing, Safe, Nil, Cons, shown, same_text, nothing_more, gap, both, token_then, cons_shown, token_last, sign_then, sign_last}
 
 -- ---- single tokens
 

@@ -1,29 +1,27 @@
 -- The canonical text of a query spells it.
-use Rattle.std.proofs.Common.{◌≡◌, ℕ, suc, ◌-◌, ◌≤◌, true, false, List, [], ◌∷◌, ◌++◌, length, Ok, refl, sym, ap, subst, ◌∙◌, arith, append_assoc, inl, inr}
-use Rattle.std.specs.Prelude.{◌⊎◌, Option, None, codes, nat_eq, if◌then◌else◌, pos}
+use Rattle.std.proofs.Common.{◌≡◌, ℕ, suc, true, false, List, [], ◌∷◌, ◌++◌, length, refl, sym, ap, subst, ◌∙◌, arith, inl, inr}
+use Rattle.std.specs.Prelude.{◌⊎◌, None, codes, pos}
 use Rattle.std.specs.List.{flat_map}
 use Rattle.std.proofs.lemmas.List.{append-nil}
 use Rattle.sd_lex.specs.declared.token.Token.{Token}
 use Rattle.sd_lex.specs.declared.token.TokenKind.TheVariants as kinds
 use Rattle.sd_lex.specs.declared.token.Sign.TheVariants as signs
-use Rattle.sd_lex.specs.Lexing.{Spells, Lexes, here, IsTextOrFault, IsLexed, behind_mark, mark_len}
+use Rattle.sd_lex.specs.Lexing.{Spells, Lexes, here, IsLexed, behind_mark, mark_len}
 use Rattle.grammar.specs.Grammar.{iterated}
-use Rattle.token_reader.specs.Terminals.{is_sign}
-use Rattle.query_spec.specs.Query as plain
 use Rattle.query_spec.specs.Query.{Body, Blocks, no_blocks, block, Query}
 use Rattle.struql_ast.specs.Written as tree
 use Rattle.struql_text.specs.declared.keyword.Keyword.TheVariants as words
-use Rattle.struql_text.specs.Terminals.{from_to, is_keyword, keyword_of, head_value, version_value}
+use Rattle.struql_text.specs.Terminals.{from_to, is_keyword, keyword_of}
 use Rattle.struql_text.specs.Expression.{expression_within, sign}
 use Rattle.struql_text.proofs.TokenParts.{is_that}
 use Rattle.struql_parse.specs.Blocks as blocks
 use Rattle.struql_print.specs.Texts.{block_texts, query_text}
 use Rattle.struql_round.specs.ShownParts.{ShowsName}
 use Rattle.struql_round.proofs.Conditions.{name_is}
-use Rattle.query_round.specs.Spellable.{IsWord, IsBody, AreBlocks, IsSpellable}
-use Rattle.query_round.specs.Kept.{clauses_kept, blocks_kept, query_kept}
+use Rattle.query_round.specs.Spellable.{IsBody, AreBlocks, IsSpellable}
+use Rattle.query_round.specs.Kept.{blocks_kept, query_kept}
 use Rattle.query_round.specs.Again.{QueryIsReadAgain}
-use Rattle.query_round.proofs.Lexing.{Lexing, Any, Safe, Nil, Cons, Both, shown, before, same_text, nothing_more, gap, both, token_then, cons_shown}
+use Rattle.query_round.proofs.Lexing.{Lexing, Any, Nil, Cons, Both, shown, same_text, nothing_more, gap, both, token_then}
 use Rattle.query_round.proofs.Texts.{word_then, name_then}
 use Rattle.query_round.proofs.Links.{keyword_is}
 use Rattle.query_round.proofs.Blocks.{appended, one_kept, none_behind, Braced, braced_text, block_lexing}

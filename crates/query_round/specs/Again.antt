@@ -15,3 +15,9 @@ SpellsQuery limit bytes q = (tokens : List Token) × IsTextOrFault limit bytes (
 
 abbrev pub QueryIsReadAgain : ℕ → Query → Type 0
 QueryIsReadAgain limit q = IsSpellable q → length (query_text q) ≤ limit → SpellsQuery limit (query_text q) q
+
+-- A text's tokens spell the query: then the grammar can spell it without its places, and so what is printed of it spells
+-- it again, within a limit that the printed text keeps.
+abbrev pub ParsedIsReadAgain : ℕ → List ℕ → List Token → tree.Query → Type 0
+ParsedIsReadAgain limit bytes tokens w =
+    IsTextOrFault limit bytes (Ok tokens) → query_within tokens w → IsSpellable (query_kept w) × (length (query_text (query_kept w)) ≤ limit → SpellsQuery limit (query_text (query_kept w)) (query_kept w))

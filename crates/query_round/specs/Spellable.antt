@@ -1,6 +1,6 @@
 -- Which queries the grammar can spell: names are names and no keywords, constants are numbers of 64 bits and texts, and the
 -- limits are kept.
-use Rattle.std.specs.Prelude.{◌≡◌, ℕ, zero, suc, ◌<◌, ◌^◌, ◌⊎◌, List, [], ◌∷◌, Option, None}
+use Rattle.std.specs.Prelude.{◌≡◌, ℕ, zero, suc, ◌<◌, ◌^◌, ◌⊎◌, List, [], ◌∷◌, None}
 use Rattle.std.specs.Int.Signed.{mag}
 use Rattle.sd_value.specs.declared.Datum.TheVariants as datum
 use Rattle.sd_value.specs.declared.Value.{Value}
