@@ -1,10 +1,11 @@
 -- What is stated keeps a graph well formed.
-use Rattle.std.specs.Prelude.{◌≡◌, ◌⊎◌, ◌≤◌, ◌+◌, ℕ, List, length, Contains, Result, Ok, Err, Some, ⊤, is_ok, is_err, false, if◌then◌else◌}
+use Rattle.std.specs.Prelude.{◌≡◌, ◌⊎◌, ◌≤◌, ◌+◌, ℕ, List, [], length, Contains, Result, Ok, Err, Some, ⊤, is_ok, is_err, false, if◌then◌else◌}
 use Rattle.std.specs.List.Sorted.{IsStrictlySortedBy}
 use Rattle.std.proofs.Common.{refl, sym, ap, subst, ◌∙◌, inl, inr, arith}
 use Rattle.sd_value.specs.declared.Datum.TheVariants.{Node}
 use Rattle.sd_value.specs.declared.Value.{Value}
 use Rattle.sd_value.specs.declared.Value.TheVariants.{Data, Page}
+use Rattle.sd_value.specs.Members.{Contains-nil}
 use Rattle.sd_value.specs.Order.{bytes_cmp}
 use Rattle.sd_value.specs.OrderLaws.{bytes_cmp-exact, bytes_cmp-total}
 use Rattle.graph_spec.specs.DataGraph.{DataGraph, Name, IsWellFormed, IsEnd}
@@ -164,3 +165,20 @@ at_ok (Err e) a b x wrong h = cc
 pub fits_at_ok : (l : Limits) (nodes edges : ℕ) (r : Result ⊤ GraphRefusal) → is_err r ≡ false → Fits l nodes edges r → (nodes ≤ l.nodes) × (edges ≤ l.edges)
 fits_at_ok l nodes edges (Ok u) _ h = h
 fits_at_ok l nodes edges (Err e) wrong h = cc
+
+empty_well_formed : IsWellFormed (record { nodes = []; edges = []; members = [] })
+unfolding IsStrictlySortedBy
+empty_well_formed = record {
+  nodes_ascend = tt;
+  edges_ascend = tt;
+  members_ascend = tt;
+  starts_are_nodes = λ e at. absurd (Contains-nil e at);
+  ends_are_data = λ e at. absurd (Contains-nil e at);
+  members_are_nodes = λ m at. absurd (Contains-nil m at);
+}
+
+-- the empty graph is within every limit
+pub empty_built : (l : Limits) (nodes : List Name) (edges : List Edge) (members : List Member) → nodes ≡ [] → edges ≡ [] → members ≡ [] → IsBuilt (record { limits = l; graph = record { nodes = nodes; edges = edges; members = members } })
+empty_built l nodes edges members no_nodes no_edges no_members =
+    let empty : IsBuilt (record { limits = l; graph = record { nodes = []; edges = []; members = [] } }) = record { well_formed = empty_well_formed; within = (omega arith, omega arith) } in
+    subst IsBuilt (λ i. record { limits = l; graph = record { nodes = sym no_nodes i; edges = sym no_edges i; members = sym no_members i } }) empty

@@ -4,3 +4,4 @@ pub mod Undone
 pub mod Built
 pub mod Stating
 pub mod StatingLaws
+pub mod Gathered

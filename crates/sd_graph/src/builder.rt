@@ -1,22 +1,19 @@
 // Building a graph, within limits.
-ghost use Rattle.std.specs.Prelude.{◌≡◌, ◌⊎◌, ◌<◌, ◌+◌, ◌^◌, IfOk, OnOk, Ok, Err, ⊤, length, if◌then◌else◌, not, Contains, Result};
+ghost use Rattle.std.specs.Prelude.{◌≡◌, ◌⊎◌, IfOk, Ok, Err, ⊤, if◌then◌else◌, Result};
 ghost use Rattle.std.specs.Result.{is_ok};
-ghost use Rattle.std.specs.List.Sorted.{IsStrictlySortedBy};
-ghost use Rattle.std.specs.BTreeSet.{insert_key};
-ghost use Rattle.sd_value.specs.Order.{bytes_cmp};
-ghost use Rattle.graph_spec.specs.DataGraph.{Name};
 ghost use Rattle.sd_graph.specs.declared.GraphRefusal.{GraphRefusal as Refusal};
 ghost use Rattle.sd_graph.specs.declared.GraphRefusal.TheVariants.{NoMemory as OutOfMemory};
-ghost use Rattle.sd_graph.specs.Statement.{Statement, Building, a_node, a_member, an_edge, Adds, Fits, Refuses, IsData, IsStatedIn, with_name, with_edge, with_end, IsEmpty, IsBuilt};
-ghost use Rattle.sd_graph.specs.Undone.{without, without_end, IsUndoneBy};
+ghost use Rattle.sd_graph.specs.Statement.{Statement, Building, a_node, a_member, an_edge, Adds, IsData, IsStatedIn, with_name, with_end, IsEmpty, IsBuilt};
+ghost use Rattle.sd_graph.specs.Undone.{without, without_end};
 
+use crate::gathered::{Gathered, listed};
 use crate::graph::Graph;
 use crate::names::Names;
-use crate::{GraphRefusal, Limits, over};
+use crate::room::put;
+use crate::{GraphRefusal, Limits};
 use graph_spec::{Edge, Member};
 use sd_value::{Datum, NoMemory, Str, Value, copy};
 use std::alloc::Global;
-use std::collections::BTreeSet;
 use std::marker::Model;
 
 /// A graph that is being built. It is well formed and within its limits after each call.
@@ -24,18 +21,20 @@ use std::marker::Model;
 pub struct GraphBuilder {
     limits: Limits,
     nodes: Names,
-    edges: BTreeSet<Edge>,
-    members: BTreeSet<Member>,
+    edges: Gathered<Edge>,
+    members: Gathered<Member>,
 }
 
 impl Model for GraphBuilder {
+    ghost use Rattle.graph_spec.specs.Orders.{edge_cmp, member_cmp};
+    ghost use Rattle.sd_graph.specs.Gathered.{elements};
     ghost use Rattle.sd_graph.specs.Statement.{Building, IsBuilt};
 
     ghost Value = { Building };
 
-    ghost view = { λ b. record { limits = b.limits; graph = record { nodes = b.nodes; edges = b.edges.keys; members = b.members.keys } } };
+    ghost view = { λ b. record { limits = b.limits; graph = record { nodes = b.nodes; edges = elements edge_cmp b.edges; members = elements member_cmp b.members } } };
 
-    ghost invariant = { λ b. IsBuilt (record { limits = b.limits; graph = record { nodes = b.nodes; edges = b.edges.keys; members = b.members.keys } }) };
+    ghost invariant = { λ b. IsBuilt (record { limits = b.limits; graph = record { nodes = b.nodes; edges = elements edge_cmp b.edges; members = elements member_cmp b.members } }) };
 }
 
 // Which of an edge's ends were declared with it.
@@ -98,47 +97,6 @@ fn member_of(alloc: Global, collection: &Str, node: &Str) -> Result<Member, NoMe
     })
 }
 
-// Why an edge or a member has no room in its set: `nodes` is the number of nodes then, and `others` that of the other
-// set's elements. It is looked for only where there is no room for one element more.
-fn no_room<K: Ord>(
-    limits: Limits,
-    nodes: usize,
-    set: &BTreeSet<K>,
-    others: usize,
-    key: &K,
-) -> Option<GraphRefusal>
-    requires { others < 2 ^ 63 }
-    ensures { Refuses limits nodes (length (insert_key K.cmp set.now.keys key.now) + others) result }
-{
-    let size = set.len() as u64 + others as u64;
-    if nodes as u64 <= limits.nodes && size < limits.edges {
-        return None;
-    }
-    let more = if set.contains(key) { 0 } else { 1 };
-    over(limits, nodes as u64, size + more)
-}
-
-// Puts an edge or a member into its set, if there is room. On `Err` nothing has changed.
-fn put<K: Ord + Drop>(
-    limits: Limits,
-    nodes: usize,
-    set: &mut BTreeSet<K>,
-    others: usize,
-    key: K,
-) -> Result<(), GraphRefusal>
-    requires { others < 2 ^ 63 }
-    ensures keys { set.new.keys ≡ (if is_ok result then insert_key K.cmp set.old.keys key else set.old.keys) }
-    ensures fits { Fits limits nodes (length (insert_key K.cmp set.old.keys key) + others) result }
-{
-    if let Some(refusal) = no_room(limits, nodes, set, others, &key) {
-        return Err(refusal);
-    }
-    match set.insert(key) {
-        Ok(_) => Ok(()),
-        Err(_) => Err(GraphRefusal::NoMemory),
-    }
-}
-
 impl GraphBuilder {
     /// The empty graph, which may grow up to the limits.
     pub fn new(alloc: Global, limits: Limits) -> GraphBuilder
@@ -148,8 +106,8 @@ impl GraphBuilder {
         GraphBuilder {
             limits,
             nodes: Names::new(alloc),
-            edges: BTreeSet::new(alloc),
-            members: BTreeSet::new(alloc),
+            edges: Gathered::new(alloc),
+            members: Gathered::new(alloc),
         }
     }
 
@@ -192,12 +150,12 @@ impl GraphBuilder {
     {
         let edge = edge_of(alloc, from, label, to)?;
         let added = declare_ends(alloc, &mut self.nodes, from, to)?;
-        let members = self.members.len();
         let result = put(
+            alloc,
             self.limits,
             self.nodes.len(),
             &mut self.edges,
-            members,
+            &mut self.members,
             edge,
         );
         if result.is_err() {
@@ -219,12 +177,12 @@ impl GraphBuilder {
     {
         let member = member_of(alloc, collection, node)?;
         let added = self.nodes.begin(alloc, node)?;
-        let edges = self.edges.len();
         let result = put(
+            alloc,
             self.limits,
             self.nodes.len(),
             &mut self.members,
-            edges,
+            &mut self.edges,
             member,
         );
         if result.is_err() {
@@ -238,8 +196,8 @@ impl GraphBuilder {
         ensures { IfOk result (λ b. b ≡ self.now) }
     {
         let nodes = self.nodes.copy(alloc)?;
-        let edges = copied_edges(alloc, &self.edges)?;
-        let members = copied_members(alloc, &self.members)?;
+        let edges = self.edges.copy(alloc)?;
+        let members = self.members.copy(alloc)?;
         Ok(GraphBuilder {
             limits: self.limits,
             nodes,
@@ -259,41 +217,10 @@ impl GraphBuilder {
             members,
         } = self;
         let nodes = listed(alloc, nodes.into_set())?;
-        let edges = listed(alloc, edges)?;
-        let members = listed(alloc, members)?;
+        let edges = edges.into_list(alloc)?;
+        let members = members.into_list(alloc)?;
         Ok(Graph::of(nodes, edges, members))
     }
-}
-
-fn copied_edges(alloc: Global, edges: &BTreeSet<Edge>) -> Result<BTreeSet<Edge>, NoMemory>
-    ensures { IfOk result (λ copied. copied.keys ≡ edges.now.keys) }
-{
-    let mut copied = BTreeSet::new(alloc);
-    for edge in edges.iter() {
-        copied.insert(edge_of(alloc, &edge.from, &edge.label, &edge.to)?)?;
-    }
-    Ok(copied)
-}
-
-fn copied_members(alloc: Global, members: &BTreeSet<Member>) -> Result<BTreeSet<Member>, NoMemory>
-    ensures { IfOk result (λ copied. copied.keys ≡ members.now.keys) }
-{
-    let mut copied = BTreeSet::new(alloc);
-    for member in members.iter() {
-        copied.insert(member_of(alloc, &member.collection, &member.node)?)?;
-    }
-    Ok(copied)
-}
-
-// The elements of a set, ascending.
-fn listed<K: Ord + Drop>(alloc: Global, set: BTreeSet<K>) -> Result<Vec<K>, NoMemory>
-    ensures { IfOk result (λ items. items.items ≡ set.keys) }
-{
-    let mut items = Vec::with_capacity(alloc, set.len())?;
-    for key in set {
-        items.push(key)?;
-    }
-    Ok(items)
 }
 
 /// What a graph says already is accepted, unless memory runs out, and changes nothing.

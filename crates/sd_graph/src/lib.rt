@@ -4,8 +4,11 @@
 ghost use Rattle.sd_graph.specs.Statement.{Refuses};
 
 mod builder;
+mod element;
+mod gathered;
 mod graph;
 mod names;
+mod room;
 
 pub use builder::{GraphBuilder, known_statements_change_nothing};
 pub use graph::Graph;

@@ -6,6 +6,7 @@ ghost use Rattle.sd_value.specs.Order.{bytes_cmp};
 ghost use Rattle.sd_graph.specs.Statement.{with_name};
 ghost use Rattle.sd_graph.specs.Undone.{without, IsUndoneBy};
 
+use crate::gathered::copied;
 use sd_value::{NoMemory, Str};
 use std::alloc::Global;
 use std::collections::BTreeSet;
@@ -115,14 +116,4 @@ fn declare(alloc: Global, names: &mut BTreeSet<Str>, name: &Str) -> Result<bool,
 {
     let added = names.insert(name.copy(alloc)?)?;
     Ok(added)
-}
-
-fn copied(alloc: Global, names: &BTreeSet<Str>) -> Result<BTreeSet<Str>, NoMemory>
-    ensures { IfOk result (λ copied. copied.keys ≡ names.now.keys) }
-{
-    let mut copied = BTreeSet::new(alloc);
-    for name in names.iter() {
-        copied.insert(name.copy(alloc)?)?;
-    }
-    Ok(copied)
 }

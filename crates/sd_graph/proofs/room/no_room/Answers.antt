@@ -2,8 +2,8 @@ use Rattle.std.proofs.Common.{◌≡◌, ◌+◌, length, sym, ◌∙◌, subst,
 use Rattle.std.specs.BTreeSet.{insert_key}
 use Rattle.sd_graph.specs.Inserted.{length-inserted, length-inserted_known, length-inserted_most}
 use Rattle.sd_graph.specs.Statement.{Refuses}
-use Rattle.sd_graph.proofs.builder.no_room.Goals.{then-contains, else-contains}
-use Rattle.sd_graph.proofs.builder.no_room.Goals as goal
+use Rattle.sd_graph.proofs.room.no_room.Goals.{then-contains, else-contains}
+use Rattle.sd_graph.proofs.room.no_room.Goals as goal
 
 pub returns-then-size-limits : goal.returns-then-size-limits
 returns-then-size-limits g c =

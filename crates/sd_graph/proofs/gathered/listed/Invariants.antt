@@ -1,5 +1,5 @@
 use Rattle.std.proofs.Common.{◌≡◌, ◌++◌}
-use Rattle.sd_graph.proofs.builder.listed.Given as goal
+use Rattle.sd_graph.proofs.gathered.listed.Given as goal
 
 -- what was pushed, and then what is left
 abbrev pub invariant-loop-key : goal.invariant-loop-key
