@@ -60,7 +60,7 @@ file_once limit map path one (Err NoMemory) s t d e = absurd e
 file_once limit map path one (Err NotFound) s t d e = absurd t
 file_once limit map path one (Err (Faulty term kind)) s t d e = absurd t
 
-file_decides : (limit : ℕ) (map : FileMap) (path : List ℕ) → Decides (FileEnds limit map path)
+pub file_decides : (limit : ℕ) (map : FileMap) (path : List ℕ) → Decides (FileEnds limit map path)
 file_decides limit map path = record { once = file_once limit map path }
 
 -- a refusal by what it tells
