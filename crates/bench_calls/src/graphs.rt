@@ -88,19 +88,28 @@ fn label(alloc: Global, text: &[u8]) -> Result<Rpe, NoMemory> {
     Ok(Rpe::Label(Str::new(alloc, text)?))
 }
 
-/// Walks the whole chain by `"b"."b"*` from its first node.
-pub fn walk(alloc: Global, edges: u64) -> Result<bool, NoMemory> {
-    let graph = chain_graph(alloc, edges)?;
-    let store = IndexStore::of(alloc, graph)?;
+// One step and any number more: `"b"."b"*`.
+fn steps(alloc: Global) -> Result<Rpe, NoMemory> {
     let star = Rpe::Star(Box::new(alloc, label(alloc, b"b")?)?);
-    let expression = Rpe::Seq(
+    Ok(Rpe::Seq(
         Box::new(alloc, label(alloc, b"b")?)?,
         Box::new(alloc, star)?,
-    );
-    let Ok(automaton) = Automaton::of(alloc, &expression) else {
+    ))
+}
+
+/// Walks the whole chain of such a graph so often from its first node.
+pub fn walk(alloc: Global, edges: u64, times: u64) -> Result<bool, NoMemory> {
+    let graph = chain_graph(alloc, edges)?;
+    let store = IndexStore::of(alloc, graph)?;
+    let Ok(automaton) = Automaton::of(alloc, &steps(alloc)?) else {
         return Err(NoMemory);
     };
     let start = node(alloc, 0)?;
-    let ends = walks::from(alloc, &store, &automaton, &start)?;
-    Ok(ends.len() as u64 == edges / FAN)
+    for _ in 0..times {
+        let ends = walks::from(alloc, &store, &automaton, &start)?;
+        if ends.len() as u64 != edges / FAN {
+            return Ok(false);
+        }
+    }
+    Ok(true)
 }

@@ -29,7 +29,7 @@ fn work(alloc: Global, words: &[Str]) -> Result<bool, NoMemory> {
         b"graph" => Ok(chain_graph(alloc, amount)?.edges().len() as u64 == amount),
         b"index" => index(alloc, amount),
         b"out" => look_up(alloc, amount, times),
-        b"walk" => walk(alloc, amount),
+        b"walk" => walk(alloc, amount, times),
         _ => Ok(false),
     }
 }

@@ -26,8 +26,6 @@ use Rattle.picks.specs.Picked.{picked, in_place, IsPlaced, HasOne}
 use Rattle.picks.specs.PickedLaws.{picked-lists, picked-sound, picked-complete}
 use Rattle.edge_queries.specs.Places.{at_start, at_label, at_end, at_start_label, at_edge, at_end_label, at_collection, at_member, step_from, step_to}
 use Rattle.edge_queries.specs.Ordered.{by_end_cmp, by_label_cmp}
-use Rattle.edge_queries.specs.declared.ordered.ByEnd.{ByEnd}
-use Rattle.edge_queries.specs.declared.ordered.ByLabel.{ByLabel}
 
 -- Orders that go on after a tie.
 then_tied : (p q : Ordering) → p ≡ Equal → q ≡ Equal → ordering_then p q ≡ Equal
@@ -133,18 +131,18 @@ placed-edge u label v es up =
     placed edge_cmp three_cmp three_cmp-total (λ e. (node e.from, (e.label, e.to))) (u, (label, v)) es
     (λ x y h k. not_both (edge_cmp x y) h (ap (λ r. ordering_then r (ordering_then (bytes_cmp x.label y.label) (value_cmp x.to y.to))) (sym (starts x y)) ∙ k)) up
 
-pub placed-end : (v : Value) (bs : List ByEnd) → IsStrictlySortedBy by_end_cmp bs → IsPlaced (λ b. at_end v b.edge) bs
+pub placed-end : (v : Value) (bs : List Edge) → IsStrictlySortedBy by_end_cmp bs → IsPlaced (at_end v) bs
 placed-end v bs up =
-    placed by_end_cmp value_cmp value_cmp-total (λ b. b.edge.to) v bs (λ x y h k. first_not_above (value_cmp x.edge.to y.edge.to) _ h k) up
+    placed by_end_cmp value_cmp value_cmp-total (λ e. e.to) v bs (λ x y h k. first_not_above (value_cmp x.to y.to) _ h k) up
 
-pub placed-end_label : (v : Value) (label : Name) (bs : List ByEnd) → IsStrictlySortedBy by_end_cmp bs → IsPlaced (λ b. at_end_label v label b.edge) bs
+pub placed-end_label : (v : Value) (label : Name) (bs : List Edge) → IsStrictlySortedBy by_end_cmp bs → IsPlaced (at_end_label v label) bs
 placed-end_label v label bs up =
-    placed by_end_cmp pair_cmp pair_cmp-total (λ b. (b.edge.to, b.edge.label)) (v, label) bs
-    (λ x y h k. two_not_above (value_cmp x.edge.to y.edge.to) (bytes_cmp x.edge.label y.edge.label) _ h k) up
+    placed by_end_cmp pair_cmp pair_cmp-total (λ e. (e.to, e.label)) (v, label) bs
+    (λ x y h k. two_not_above (value_cmp x.to y.to) (bytes_cmp x.label y.label) _ h k) up
 
-pub placed-label : (label : Name) (bs : List ByLabel) → IsStrictlySortedBy by_label_cmp bs → IsPlaced (λ b. at_label label b.edge) bs
+pub placed-label : (label : Name) (bs : List Edge) → IsStrictlySortedBy by_label_cmp bs → IsPlaced (at_label label) bs
 placed-label label bs up =
-    placed by_label_cmp bytes_cmp bytes_cmp-total (λ b. b.edge.label) label bs (λ x y h k. first_not_above (bytes_cmp x.edge.label y.edge.label) _ h k) up
+    placed by_label_cmp bytes_cmp bytes_cmp-total (λ e. e.label) label bs (λ x y h k. first_not_above (bytes_cmp x.label y.label) _ h k) up
 
 pub placed-collection : (collection : Name) (ms : List Member) → IsStrictlySortedBy member_cmp ms → IsPlaced (at_collection collection) ms
 placed-collection collection ms up =
@@ -251,53 +249,53 @@ module _ (G : DataGraph) (well : IsWellFormed G) where
           (e, is.at, then_tied (at_end v e) (at_label label e) (values_tied e.to v is.end_is) (names_tied e.label label is.label_is), is.start)
 
   -- from the edges by their ends
-  module _ (bs : List ByEnd) (all : ListsExactly by_end_cmp (λ b. Contains G.edges b.edge) bs) where
-    pub lists-incoming : (v : Value) → ListsExactly step_cmp (IsStepTo G v) (picked (λ b. at_end v b.edge) (λ b. step_to b.edge) bs)
+  module _ (bs : List Edge) (all : ListsExactly by_end_cmp (Contains G.edges) bs) where
+    pub lists-incoming : (v : Value) → ListsExactly step_cmp (IsStepTo G v) (picked (at_end v) step_to bs)
     lists-incoming v =
-        picked-lists by_end_cmp step_cmp (λ b. at_end v b.edge) (λ b. step_to b.edge) (IsStepTo G v) bs
+        picked-lists by_end_cmp step_cmp (at_end v) step_to (IsStepTo G v) bs
         (record {
           at = λ x y h k less.
-              let same : x.edge.to ≡ y.edge.to = value_cmp-exact x.edge.to v h ∙ sym (value_cmp-exact y.edge.to v k) in
-              ap (ordering_then (bytes_cmp x.edge.label y.edge.label)) (node_order x.edge.from y.edge.from)
-              ∙ sym (after_tie (value_cmp x.edge.to y.edge.to) _ (values_tied x.edge.to y.edge.to same)) ∙ less;
+              let same : x.to ≡ y.to = value_cmp-exact x.to v h ∙ sym (value_cmp-exact y.to v k) in
+              ap (ordering_then (bytes_cmp x.label y.label)) (node_order x.from y.from)
+              ∙ sym (after_tie (value_cmp x.to y.to) _ (values_tied x.to y.to same)) ∙ less;
         })
         all.ascending
-        (λ b at h. edge_is G (node b.edge.from) b.edge.label v b.edge (record { at = all.sound b at; start = refl; label_is = refl; end_is = value_cmp-exact b.edge.to v h }))
+        (λ b at h. edge_is G (node b.from) b.label v b (record { at = all.sound b at; start = refl; label_is = refl; end_is = value_cmp-exact b.to v h }))
         (λ s has. let (e, is) = edge_of G s.end s.label v has in
-        (record { edge = e }, all.complete (record { edge = e }) is.at, values_tied e.to v is.end_is, let l = is.label_is in let t = is.start in λ i. record { label = l i; end = t i }))
+        (e, all.complete e is.at, values_tied e.to v is.end_is, let l = is.label_is in let t = is.start in λ i. record { label = l i; end = t i }))
 
-    pub lists-incoming_by : (v : Value) (label : Name) → ListsExactly value_cmp (IsStart G v label) (picked (λ b. at_end_label v label b.edge) (λ b. node b.edge.from) bs)
+    pub lists-incoming_by : (v : Value) (label : Name) → ListsExactly value_cmp (IsStart G v label) (picked (at_end_label v label) (λ e. node e.from) bs)
     lists-incoming_by v label =
-        picked-lists by_end_cmp value_cmp (λ b. at_end_label v label b.edge) (λ b. node b.edge.from) (IsStart G v label) bs
+        picked-lists by_end_cmp value_cmp (at_end_label v label) (λ e. node e.from) (IsStart G v label) bs
         (record {
           at = λ x y h k less.
-              let p = both_tie (at_end v x.edge) _ h in let q = both_tie (at_end v y.edge) _ k in
-              let ends_same : x.edge.to ≡ y.edge.to = value_cmp-exact x.edge.to v p.0 ∙ sym (value_cmp-exact y.edge.to v q.0) in
-              let labels_same : x.edge.label ≡ y.edge.label = bytes_cmp-exact x.edge.label label p.1 ∙ sym (bytes_cmp-exact y.edge.label label q.1) in
-              node_order x.edge.from y.edge.from
-              ∙ sym (after_tie (value_cmp x.edge.to y.edge.to) _ (values_tied x.edge.to y.edge.to ends_same) ∙ after_tie (bytes_cmp x.edge.label y.edge.label) _ (names_tied x.edge.label y.edge.label labels_same)) ∙ less;
+              let p = both_tie (at_end v x) _ h in let q = both_tie (at_end v y) _ k in
+              let ends_same : x.to ≡ y.to = value_cmp-exact x.to v p.0 ∙ sym (value_cmp-exact y.to v q.0) in
+              let labels_same : x.label ≡ y.label = bytes_cmp-exact x.label label p.1 ∙ sym (bytes_cmp-exact y.label label q.1) in
+              node_order x.from y.from
+              ∙ sym (after_tie (value_cmp x.to y.to) _ (values_tied x.to y.to ends_same) ∙ after_tie (bytes_cmp x.label y.label) _ (names_tied x.label y.label labels_same)) ∙ less;
         })
         all.ascending
-        (λ b at h. let p = both_tie (at_end v b.edge) _ h in
-        edge_is G (node b.edge.from) label v b.edge (record { at = all.sound b at; start = refl; label_is = bytes_cmp-exact b.edge.label label p.1; end_is = value_cmp-exact b.edge.to v p.0 }))
+        (λ b at h. let p = both_tie (at_end v b) _ h in
+        edge_is G (node b.from) label v b (record { at = all.sound b at; start = refl; label_is = bytes_cmp-exact b.label label p.1; end_is = value_cmp-exact b.to v p.0 }))
         (λ u has. let (e, is) = edge_of G u label v has in
-        (record { edge = e }, all.complete (record { edge = e }) is.at, then_tied (at_end v e) (at_label label e) (values_tied e.to v is.end_is) (names_tied e.label label is.label_is), is.start))
+        (e, all.complete e is.at, then_tied (at_end v e) (at_label label e) (values_tied e.to v is.end_is) (names_tied e.label label is.label_is), is.start))
 
   -- from the edges by their labels
-  pub lists-by_label : (bs : List ByLabel) → ListsExactly by_label_cmp (λ b. Contains G.edges b.edge) bs
-      → (label : Name) → ListsExactly edge_cmp (IsLabelled G label) (picked (λ b. at_label label b.edge) (λ b. b.edge) bs)
+  pub lists-by_label : (bs : List Edge) → ListsExactly by_label_cmp (Contains G.edges) bs
+      → (label : Name) → ListsExactly edge_cmp (IsLabelled G label) (picked (at_label label) (λ e. e) bs)
   lists-by_label bs all label =
-      picked-lists by_label_cmp edge_cmp (λ b. at_label label b.edge) (λ b. b.edge) (IsLabelled G label) bs
+      picked-lists by_label_cmp edge_cmp (at_label label) (λ e. e) (IsLabelled G label) bs
       (record {
         at = λ x y h k less.
-            let same : x.edge.label ≡ y.edge.label = bytes_cmp-exact x.edge.label label h ∙ sym (bytes_cmp-exact y.edge.label label k) in
-            let tied = names_tied x.edge.label y.edge.label same in
-            ap (ordering_then (bytes_cmp x.edge.from y.edge.from)) (after_tie (bytes_cmp x.edge.label y.edge.label) (value_cmp x.edge.to y.edge.to) tied)
-            ∙ sym (after_tie (bytes_cmp x.edge.label y.edge.label) _ tied) ∙ less;
+            let same : x.label ≡ y.label = bytes_cmp-exact x.label label h ∙ sym (bytes_cmp-exact y.label label k) in
+            let tied = names_tied x.label y.label same in
+            ap (ordering_then (bytes_cmp x.from y.from)) (after_tie (bytes_cmp x.label y.label) (value_cmp x.to y.to) tied)
+            ∙ sym (after_tie (bytes_cmp x.label y.label) _ tied) ∙ less;
       })
       all.ascending
-      (λ b at h. (all.sound b at, bytes_cmp-exact b.edge.label label h))
-      (λ e has. (record { edge = e }, all.complete (record { edge = e }) has.0, names_tied e.label label has.1, refl))
+      (λ b at h. (all.sound b at, bytes_cmp-exact b.label label h))
+      (λ e has. (e, all.complete e has.0, names_tied e.label label has.1, refl))
 
 -- one edge, and one member
 pub edge_found : (G : DataGraph) (u : Value) (label : Name) (v : Value) → (HasOne (at_edge u label v) G.edges → HasEdge G u label v) × (HasEdge G u label v → HasOne (at_edge u label v) G.edges)

@@ -1,19 +1,15 @@
 //! What is asked of a graph, as queries over its edges and members.
 #![tactic(auto)]
 
-ghost use Rattle.std.specs.Prelude.{◌≡◌, IfOk, refl};
-ghost use Rattle.std.specs.Ordering.{eq_by_cmp, as_partial_cmp};
-ghost use Rattle.std.specs.Cmp.{partial_equiv_from_equiv, eq_by_cmp_equiv, partial_order_from_agreeing_total};
+ghost use Rattle.std.specs.Prelude.{◌≡◌, IfOk};
 ghost use Rattle.sd_value.specs.Order.{value_cmp};
 ghost use Rattle.graph_spec.specs.DataGraph.{node};
 ghost use Rattle.edge_queries.specs.Places.{at_start, at_label, at_end, at_start_label, at_edge, at_end_label, at_collection, at_member, step_from, step_to};
 
 mod itself;
-mod ordered;
 
 use graph_spec::{Edge, Member, Step};
 pub use itself::{NameAt, ValueAt, copy_names, copy_values};
-pub use ordered::{ByEnd, ByLabel};
 use picks::Query;
 use sd_value::{Datum, NoMemory, Str, Value, copy};
 use std::alloc::Global;
@@ -146,25 +142,6 @@ impl<'a> Query<Edge> for Incoming<'a> {
     }
 }
 
-impl<'a> Query<ByEnd> for Incoming<'a> {
-    type Given = Step;
-
-    ghost at = { λ q b. at_end q.to.now b.edge };
-
-    ghost gives = { λ b. step_to b.edge };
-
-    fn place(&self, item: &ByEnd) -> Ordering {
-        item.edge.to.cmp(self.to)
-    }
-
-    fn give(&self, alloc: Global, item: &ByEnd) -> Result<Step, NoMemory> {
-        Ok(Step {
-            label: item.edge.label.copy(alloc)?,
-            end: node_value(alloc, &item.edge.from)?,
-        })
-    }
-}
-
 /// The starts of the edges to a value by a label.
 #[derive(Debug, Drop)]
 pub struct IncomingBy<'a> {
@@ -188,25 +165,6 @@ impl<'a> Query<Edge> for IncomingBy<'a> {
     }
 }
 
-impl<'a> Query<ByEnd> for IncomingBy<'a> {
-    type Given = Value;
-
-    ghost at = { λ q b. at_end_label q.to.now q.label.now b.edge };
-
-    ghost gives = { λ b. node b.edge.from };
-
-    fn place(&self, item: &ByEnd) -> Ordering {
-        item.edge
-            .to
-            .cmp(self.to)
-            .then(item.edge.label.cmp(self.label))
-    }
-
-    fn give(&self, alloc: Global, item: &ByEnd) -> Result<Value, NoMemory> {
-        node_value(alloc, &item.edge.from)
-    }
-}
-
 /// The edges of a label.
 #[derive(Debug, Drop)]
 pub struct Labelled<'a> {
@@ -226,22 +184,6 @@ impl<'a> Query<Edge> for Labelled<'a> {
 
     fn give(&self, alloc: Global, item: &Edge) -> Result<Edge, NoMemory> {
         edge_copy(alloc, item)
-    }
-}
-
-impl<'a> Query<ByLabel> for Labelled<'a> {
-    type Given = Edge;
-
-    ghost at = { λ q b. at_label q.label.now b.edge };
-
-    ghost gives = { λ b. b.edge };
-
-    fn place(&self, item: &ByLabel) -> Ordering {
-        item.edge.label.cmp(self.label)
-    }
-
-    fn give(&self, alloc: Global, item: &ByLabel) -> Result<Edge, NoMemory> {
-        edge_copy(alloc, &item.edge)
     }
 }
 

@@ -1,32 +1,37 @@
-//! The store of the program: a graph whose edges stand in vectors by start, by end and by label, so that each question
+//! The store of the program: a graph whose edges stand in order by start, by end and by label, so that each question
 //! is a look-up by halves.
 #![tactic(auto)]
 
-ghost use Rattle.std.specs.Prelude.{◌≡◌, IfOk, map, Contains};
-ghost use Rattle.sd_value.specs.Ascending.{ListsExactly};
-ghost use Rattle.edge_queries.specs.Ordered.{by_end_cmp, by_label_cmp};
-ghost use Rattle.index_store.specs.Indexed.{as_end, as_label};
+ghost use Rattle.std.specs.Prelude.{◌≡◌, IfOk};
 
+mod orders;
+mod positions;
+mod ranks;
+
+use crate::orders::{by_end, by_label};
+use crate::positions::{count_at, pick_at};
+use crate::ranks::sorted_set;
 use edge_queries::{
-    ByEnd, ByLabel, EdgeAt, Incoming, IncomingBy, Labelled, MemberAt, Members, NameAt, Out, OutAll,
-    ValueAt, copy_names, copy_values,
+    EdgeAt, Incoming, IncomingBy, Labelled, MemberAt, Members, NameAt, Out, OutAll, ValueAt,
+    copy_names, copy_values,
 };
-use list_store::{labels_of, values_of};
+use indexmap::IndexSet;
+use list_store::{all_labels, all_values};
 use picks::{give_all, has, part};
 use sd_graph::{Edge, Graph, Sizes, Step, Store};
-use sd_value::{NoMemory, Str, Value, copy, sort_and_dedup};
+use sd_value::{NoMemory, Str, Value};
 use std::alloc::Global;
 use std::marker::Model;
 
-/// A graph with its edges in three orders. Names are shared and not copied, so beside the graph it takes two more
-/// vectors of edges, and those of the values and the labels.
+/// A graph with the positions of its edges in two more orders, and its values and labels. A value's index is its rank
+/// among them. Names are shared and not copied.
 #[derive(Debug, Drop)]
 pub struct IndexStore {
     graph: Graph,
-    by_end: Vec<ByEnd>,
-    by_label: Vec<ByLabel>,
-    values: Vec<Value>,
-    labels: Vec<Str>,
+    by_end: Vec<usize>,
+    by_label: Vec<usize>,
+    values: IndexSet<Value>,
+    labels: IndexSet<Str>,
 }
 
 impl Model for IndexStore {
@@ -37,57 +42,7 @@ impl Model for IndexStore {
 
     ghost view = { λ s. s.graph };
 
-    ghost invariant = { λ s. IsIndexed s.graph s.by_end.items s.by_label.items s.values.items s.labels.items };
-}
-
-fn edge_copy(alloc: Global, edge: &Edge) -> Result<Edge, NoMemory>
-    ensures { IfOk result (λ copied. copied ≡ edge.now) }
-{
-    Ok(Edge {
-        from: edge.from.copy(alloc)?,
-        label: edge.label.copy(alloc)?,
-        to: copy(alloc, &edge.to)?,
-    })
-}
-
-fn edges_as_ends(alloc: Global, edges: &[Edge]) -> Result<Vec<ByEnd>, NoMemory>
-    ensures { IfOk result (λ ends. ends.items ≡ map as_end edges.now) }
-{
-    let mut ends = Vec::with_capacity(alloc, edges.len())?;
-    for edge in edges {
-        let edge = edge_copy(alloc, edge)?;
-        ends.push(ByEnd { edge })?;
-    }
-    Ok(ends)
-}
-
-// The edges by end, then label, then start.
-fn by_end(alloc: Global, edges: &[Edge]) -> Result<Vec<ByEnd>, NoMemory>
-    ensures { IfOk result (λ ends. ListsExactly by_end_cmp (λ b. Contains edges.now b.edge) ends.items) }
-{
-    let mut ends = edges_as_ends(alloc, edges)?;
-    sort_and_dedup(&mut ends);
-    Ok(ends)
-}
-
-fn edges_as_labels(alloc: Global, edges: &[Edge]) -> Result<Vec<ByLabel>, NoMemory>
-    ensures { IfOk result (λ labelled. labelled.items ≡ map as_label edges.now) }
-{
-    let mut labelled = Vec::with_capacity(alloc, edges.len())?;
-    for edge in edges {
-        let edge = edge_copy(alloc, edge)?;
-        labelled.push(ByLabel { edge })?;
-    }
-    Ok(labelled)
-}
-
-// The edges by label, then start, then end.
-fn by_label(alloc: Global, edges: &[Edge]) -> Result<Vec<ByLabel>, NoMemory>
-    ensures { IfOk result (λ labelled. ListsExactly by_label_cmp (λ b. Contains edges.now b.edge) labelled.items) }
-{
-    let mut labelled = edges_as_labels(alloc, edges)?;
-    sort_and_dedup(&mut labelled);
-    Ok(labelled)
+    ghost invariant = { λ s. IsIndexed s.graph s.by_end.items s.by_label.items s.values.keys s.labels.keys };
 }
 
 impl IndexStore {
@@ -95,10 +50,10 @@ impl IndexStore {
     pub fn of(alloc: Global, graph: Graph) -> Result<IndexStore, NoMemory>
         ensures { IfOk result (λ store. store ≡ graph) }
     {
-        let by_end = by_end(alloc, graph.edges())?;
-        let by_label = by_label(alloc, graph.edges())?;
-        let values = values_of(alloc, &graph)?;
-        let labels = labels_of(alloc, &graph)?;
+        let labels = sorted_set(alloc, all_labels(alloc, &graph)?)?;
+        let values = sorted_set(alloc, all_values(alloc, &graph)?)?;
+        let by_label = by_label(alloc, graph.edges(), &labels)?;
+        let by_end = by_end(alloc, graph.edges(), by_label.as_slice(), &values)?;
         Ok(IndexStore {
             graph,
             by_end,
@@ -123,18 +78,23 @@ impl Store for IndexStore {
     }
 
     fn incoming(&self, alloc: Global, to: &Value) -> Result<Vec<Step>, NoMemory> {
-        let query = Incoming { to };
-        give_all(alloc, part(self.by_end.as_slice(), &query), &query)
+        let edges = self.graph.edges();
+        pick_at(alloc, edges, self.by_end.as_slice(), &Incoming { to })
     }
 
     fn incoming_by(&self, alloc: Global, to: &Value, label: &Str) -> Result<Vec<Value>, NoMemory> {
-        let query = IncomingBy { to, label };
-        give_all(alloc, part(self.by_end.as_slice(), &query), &query)
+        let edges = self.graph.edges();
+        pick_at(
+            alloc,
+            edges,
+            self.by_end.as_slice(),
+            &IncomingBy { to, label },
+        )
     }
 
     fn edges_by(&self, alloc: Global, label: &Str) -> Result<Vec<Edge>, NoMemory> {
-        let query = Labelled { label };
-        give_all(alloc, part(self.by_label.as_slice(), &query), &query)
+        let edges = self.graph.edges();
+        pick_at(alloc, edges, self.by_label.as_slice(), &Labelled { label })
     }
 
     fn members(&self, alloc: Global, collection: &Str) -> Result<Vec<Value>, NoMemory> {
@@ -176,7 +136,8 @@ impl Store for IndexStore {
     }
 
     fn edges_of(&self, label: &Str) -> u64 {
-        part(self.by_label.as_slice(), &Labelled { label }).len() as u64
+        let edges = self.graph.edges();
+        count_at(edges, self.by_label.as_slice(), &Labelled { label })
     }
 
     fn members_of(&self, collection: &Str) -> u64 {

@@ -5,7 +5,8 @@ ghost use Rattle.std.specs.Prelude.{◌≡◌, IfOk};
 
 mod contents;
 
-pub use contents::{labels_of, values_of};
+use contents::{labels_of, values_of};
+pub use contents::{all_labels, all_values};
 use edge_queries::{
     EdgeAt, Incoming, IncomingBy, Labelled, MemberAt, Members, NameAt, Out, OutAll, ValueAt,
     copy_names, copy_values,

@@ -1,0 +1,83 @@
+// Queries over edges that stand by their positions in the query's order.
+ghost use Rattle.std.specs.Prelude.{◌≡◌, ◌<◌, IfOk, All, length, map};
+ghost use Rattle.picks.specs.Picked.{in_place, picked, IsPlaced};
+ghost use Rattle.index_store.specs.Indexed.{edge_at, edges_at, place_at};
+
+use picks::{Query, part};
+use sd_graph::Edge;
+use sd_value::NoMemory;
+use std::alloc::Global;
+use std::cmp::Ordering;
+
+// A query over edges, as one over positions. What lies past the edges is below its place.
+#[derive(Drop)]
+struct AtPositions<'a, Q> {
+    edges: &'a [Edge],
+    query: &'a Q,
+}
+
+impl<'a, Q: Query<Edge>> Query<usize> for AtPositions<'a, Q> {
+    type Given = usize;
+
+    ghost at = { λ q i. place_at (Q.at q.query.now) q.edges.now i };
+
+    ghost gives = { λ i. i };
+
+    fn place(&self, item: &usize) -> Ordering {
+        let position = *item;
+        if position < self.edges.len() {
+            self.query.place(&self.edges[position])
+        } else {
+            Ordering::Less
+        }
+    }
+
+    fn give(&self, _alloc: Global, item: &usize) -> Result<usize, NoMemory> {
+        Ok(*item)
+    }
+}
+
+// What the query gives of the edges at the positions.
+fn give_at<Q: Query<Edge>>(
+    alloc: Global,
+    edges: &[Edge],
+    positions: &[usize],
+    query: &Q,
+) -> Result<Vec<Q::Given>, NoMemory>
+where
+    Q::Given: Drop,
+    requires { All (λ i. i < length edges.now) positions.now }
+    ensures { IfOk result (λ given. given.items ≡ map Q.gives (edges_at edges.now positions.now)) }
+{
+    let mut given = Vec::new(alloc);
+    for position in positions {
+        given.push(query.give(alloc, &edges[*position])?)?;
+    }
+    Ok(given)
+}
+
+/// What the query picks from edges, whose positions are ordered by it.
+pub(crate) fn pick_at<Q: Query<Edge> + Drop>(
+    alloc: Global,
+    edges: &[Edge],
+    positions: &[usize],
+    query: &Q,
+) -> Result<Vec<Q::Given>, NoMemory>
+where
+    Q::Given: Drop,
+    requires fits { All (λ i. i < length edges.now) positions.now }
+    requires placed { IsPlaced (Q.at query.now) (edges_at edges.now positions.now) }
+    ensures { IfOk result (λ found. found.items ≡ picked (Q.at query.now) Q.gives (edges_at edges.now positions.now)) }
+{
+    let at = part(positions, &AtPositions { edges, query });
+    give_at(alloc, edges, at, query)
+}
+
+/// How many of the edges lie in the query's place.
+pub(crate) fn count_at<Q: Query<Edge> + Drop>(edges: &[Edge], positions: &[usize], query: &Q) -> u64
+    requires fits { All (λ i. i < length edges.now) positions.now }
+    requires placed { IsPlaced (Q.at query.now) (edges_at edges.now positions.now) }
+    ensures { result ≡ length (in_place (Q.at query.now) (edges_at edges.now positions.now)) }
+{
+    part(positions, &AtPositions { edges, query }).len() as u64
+}
