@@ -7,9 +7,9 @@ use Rattle.command_words.specs.declared.numbers.NumberOption.TheVariants.{Port, 
 use Rattle.command_words.specs.declared.RunLimits.{RunLimits}
 use Rattle.command_words.specs.declared.ServeOptions.{ServeOptions}
 use Rattle.command_words.specs.declared.Command.{Command}
-use Rattle.command_words.specs.declared.Command.TheVariants.{Page, Build, Data, Explain, Serve, Replay}
+use Rattle.command_words.specs.declared.Command.TheVariants.{Page, Build, Data, Explain, Serve, Replay, Trial}
 use Rattle.command_words.specs.Options.{Parts, is_empty, parts_of}
-use Rattle.command_words.specs.Numbers.{number_of, are_among}
+use Rattle.command_words.specs.Numbers.{number, number_of, are_among}
 
 infixl 10 ◌>>=◌
 abbrev ◌>>=◌ : {A B : Type 0} → Option A → (A → Option B) → Option B
@@ -38,6 +38,13 @@ data_command [] = None
 abbrev pub explain_command : List (List ℕ) → Option Command
 explain_command (query ∷ source ∷ sources) = Some (Explain (record { query = query; sources = source ∷ sources }))
 explain_command words = None
+
+-- the words after `trial`
+abbrev pub trial_command : List (List ℕ) → Option Command
+trial_command (entries ∷ []) = do
+  n ← number 20000 entries
+  Some (Trial (record { entries = n }))
+trial_command words = None
 
 -- the limits of a run
 abbrev pub run_limits : List Setting → Option RunLimits
@@ -83,6 +90,7 @@ plain_command name words =
     else if bytes_eq name (codes "build") then build_command words
     else if bytes_eq name (codes "data") then data_command words
     else if bytes_eq name (codes "explain") then explain_command words
+    else if bytes_eq name (codes "trial") then trial_command words
     else None
 
 -- the parts behind `serve`, behind `replay`, and behind a command without options

@@ -10,12 +10,15 @@ ghost use Rattle.command_words.specs.Ranges.{IsInRange, AreLimits, AreServeOptio
 mod numbers;
 mod options;
 
-use numbers::{NumberOption, are_among, number_of};
+use numbers::{NumberOption, are_among, number, number_of};
 use options::{Parts, Setting, parts_of};
 use sd_value::{NoMemory, Str};
 use std::alloc::Global;
 use std::marker::Model;
 use std::str;
+
+// The most entries of a trial.
+const MAX_ENTRIES: u64 = 20_000;
 
 /// Paths, in the order of the words.
 #[derive(Debug, Drop)]
@@ -122,6 +125,13 @@ pub struct ReplayCommand {
     pub limits: RunLimits,
 }
 
+/// `trial N`: requests for the pages of a site of made data are served, and counted.
+#[derive(Clone, Copy, Debug, PartialEq, Eq)]
+pub struct TrialCommand {
+    /// Entries of the data, 1 to 20,000.
+    pub entries: u32,
+}
+
 /// What the program is asked to do.
 #[derive(Debug, Drop)]
 pub enum Command {
@@ -131,6 +141,7 @@ pub enum Command {
     Explain(ExplainCommand),
     Serve(ServeCommand),
     Replay(ReplayCommand),
+    Trial(TrialCommand),
 }
 
 fn is_text(word: &[u8]) -> bool
@@ -216,6 +227,19 @@ fn explain_command(alloc: Global, words: &[Str]) -> Result<Option<Command>, NoMe
         query: query.copy(alloc)?,
         sources: Paths::of(alloc, sources)?,
     })))
+}
+
+fn trial_command(words: &[Str]) -> Option<Command>
+    ensures exact { result ≡ specs.trial_command words.now }
+    ensures ranges { IfSome result IsInRange }
+{
+    let [entries] = words else {
+        return None;
+    };
+    let entries = number(MAX_ENTRIES, entries.bytes())?;
+    Some(Command::Trial(TrialCommand {
+        entries: entries as u32,
+    }))
 }
 
 fn are_none(settings: &[Setting]) -> bool
@@ -340,6 +364,8 @@ fn plain_command(alloc: Global, name: &[u8], words: &[Str]) -> Result<Option<Com
         data_command(alloc, words)
     } else if name == b"explain".as_slice() {
         explain_command(alloc, words)
+    } else if name == b"trial".as_slice() {
+        Ok(trial_command(words))
     } else {
         Ok(None)
     }
@@ -411,6 +437,3 @@ pub fn read_command(alloc: Global, words: &[Str]) -> Result<Option<Command>, NoM
         None => Ok(None),
     }
 }
-
-#[cfg(test)]
-mod tests;

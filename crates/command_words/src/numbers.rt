@@ -1,4 +1,4 @@
-//! The numbers of options.
+//! The numbers of options, and of a trial.
 
 ghost use Rattle.std.specs.Prelude.{◌≡◌, IfSome, MatchOption, length, true};
 ghost use Rattle.std.specs.Char.{is_ascii_digit};
@@ -93,7 +93,7 @@ fn within(most: u64, value: u64) -> Option<u64>
 }
 
 /// A number of 1 to 10 digits, from 1 to `most`.
-fn number(most: u64, text: &[u8]) -> Option<u64>
+pub fn number(most: u64, text: &[u8]) -> Option<u64>
     ensures exact { result ≡ specs.number most text.now }
     ensures range { IfSome result (IsFrom1To most) }
 {

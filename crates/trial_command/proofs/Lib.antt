@@ -1,0 +1,8 @@
+pub mod Heads
+pub mod Connections
+pub mod Course
+pub mod Runs
+pub mod Replies
+pub mod Lists
+pub mod Once
+pub mod Whole

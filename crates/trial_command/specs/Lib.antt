@@ -1,0 +1,10 @@
+pub mod Data
+pub mod Requests
+pub mod Texts
+pub mod Numbers
+pub mod Asked
+pub mod Askable
+pub mod Events
+pub mod Replies
+pub mod Runs
+pub mod Trials

@@ -1,0 +1,11 @@
+//! The command `trial`: requests for the pages of a site of made data are served, and counted.
+#![tactic(auto)]
+
+mod counts;
+mod data;
+mod lines;
+mod requests;
+mod running;
+mod site;
+
+pub use running::{a_trial_has_one_text, trial};
