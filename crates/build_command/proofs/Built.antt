@@ -1,5 +1,5 @@
 -- How a build ends.
-use Rattle.std.proofs.Common.{◌≡◌, ◌∙◌, ℕ, List, inl, inr, ⊎_elim, refl, sym, ap, subst, append_assoc}
+use Rattle.std.proofs.Common.{◌≡◌, ◌∙◌, ℕ, List, inl, inr, ⊎_elim, refl, sym, ap, subst, append_assoc, arith}
 use Rattle.std.specs.Prelude.{Option, None, Some, Result, Ok, Err, codes, ⊤}
 use Rattle.sd_value.specs.declared.Term.{Term}
 use Rattle.edge_io.specs.Files.{FileMap}
@@ -13,7 +13,7 @@ use Rattle.site_files.specs.declared.stop.Stop.{Stop}
 use Rattle.site_files.specs.declared.stop.Stop.TheVariants as stop
 use Rattle.site_files.specs.Paths.{file_name}
 use Rattle.site_files.specs.Files.{SiteEnds}
-use Rattle.site_files.specs.Causes.{IsSitePath}
+use Rattle.site_files.specs.Causes.{IsSitePath, WritesHaveCause}
 use Rattle.command_words.specs.declared.BuildCommand.{BuildCommand}
 use Rattle.std.specs.Option.{IsSomeAnd}
 use Rattle.std.specs.Prelude.{IfOk, length}
@@ -141,3 +141,7 @@ stop_is reason e = cc
 -- a fault, whatever it is a fault of
 pub unwritten_again : (reason : Stop) → ◌≡◌ {A = Result (List ℕ) Stop} (Err reason) (Err stop.Unwritten) → ◌≡◌ {A = Result ⊤ Stop} (Err reason) (Err stop.Unwritten)
 unwritten_again reason e = ap (λ (r : Stop). Err r) (stop_is reason e)
+
+-- where memory ran out before anything was written, no count rose
+pub no_write : (P : List ℕ → Type 0) (counts : List ℕ → ℕ) (end : Result (List ℕ) Stop) → end ≡ Err stop.NoMemory → WritesHaveCause P counts counts end
+no_write P counts end is = record { later = λ path. omega arith; failed = λ e. absurd cc }

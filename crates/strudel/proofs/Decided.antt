@@ -7,7 +7,7 @@ use Rattle.graph_spec.specs.DataGraph.{DataGraph}
 use Rattle.query_spec.specs.Query as plain
 use Rattle.plan_text.proofs.Once.{one_explanation}
 use Rattle.command_words.specs.declared.Command.{Command}
-use Rattle.command_words.specs.declared.Command.TheVariants.{Page, Build, Data, Explain, Serve, Replay}
+use Rattle.command_words.specs.declared.Command.TheVariants.{Page, Build, Data, Explain, Serve, Replay, Trial}
 use Rattle.command_words.specs.declared.ExplainCommand.{ExplainCommand}
 use Rattle.site_inputs.specs.declared.fault.Fault.{Fault}
 use Rattle.site_inputs.specs.declared.fault.Fault.TheVariants.{Refused, Unread, Faulty, NotFound, NoMemory}
@@ -17,6 +17,7 @@ use Rattle.site_inputs.specs.Sources.{GraphEnds, empty_building}
 use Rattle.site_inputs.proofs.Decided.{then_decides, gives_decides}
 use Rattle.site_inputs.proofs.DecidedInputs.{graph_decides, query_decides}
 use Rattle.page_command.proofs.Decided.{page_decides}
+use Rattle.trial_command.proofs.Once.{trial_decides}
 use Rattle.strudel.specs.Data.{DataEnds}
 use Rattle.strudel.specs.Explain.{ExplainTaken, ExplainEnds}
 use Rattle.strudel.specs.Top.{Answers}
@@ -49,6 +50,7 @@ pub answer_decides : (map : FileMap) (command : Command) → Decides (Answers ma
 answer_decides map (Page command) = page_decides map command
 answer_decides map (Data command) = data_decides map command.sources
 answer_decides map (Explain command) = explain_decides map command
+answer_decides map (Trial command) = trial_decides command
 answer_decides map (Build command) = record { once = λ one other a b d e. absurd a }
 answer_decides map (Serve command) = record { once = λ one other a b d e. absurd a }
 answer_decides map (Replay command) = record { once = λ one other a b d e. absurd a }

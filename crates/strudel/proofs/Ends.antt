@@ -9,13 +9,14 @@ use Rattle.site_inputs.specs.declared.fault.Fault.TheVariants as fault
 use Rattle.run_report.specs.declared.status.Status.{Status}
 use Rattle.run_report.specs.declared.status.Status.TheVariants.{Ok, NotAllYes, Usage, Refused, ReadFault, WriteFault, WireFault, PageFault, NoMemory, NotFound, TurnsSpent}
 use Rattle.command_words.specs.declared.Command.{Command}
-use Rattle.command_words.specs.declared.Command.TheVariants.{Page, Build, Data, Explain, Serve, Replay}
+use Rattle.command_words.specs.declared.Command.TheVariants.{Page, Build, Data, Explain, Serve, Replay, Trial}
 use Rattle.command_words.specs.declared.BuildCommand.{BuildCommand}
 use Rattle.command_words.specs.declared.PageCommand.{PageCommand}
 use Rattle.command_words.specs.declared.DataCommand.{DataCommand}
 use Rattle.command_words.specs.declared.ExplainCommand.{ExplainCommand}
 use Rattle.command_words.specs.declared.ServeCommand.{ServeCommand}
 use Rattle.command_words.specs.declared.ReplayCommand.{ReplayCommand}
+use Rattle.command_words.specs.declared.TrialCommand.{TrialCommand}
 use Rattle.site_inputs.specs.Sites.{InputsEnd}
 use Rattle.site_inputs.specs.Sources.{GraphEnds, empty_building}
 use Rattle.sd_graph.specs.Statement.{Building}
@@ -30,6 +31,7 @@ use Rattle.page_command.specs.Pages.{PageEnds}
 use Rattle.build_command.specs.Builds.{BuildEnds, FolderRose}
 use Rattle.build_command.proofs.Built.{faulty_is_no_memory}
 use Rattle.serve_command.proofs.Told.{never_silent}
+use Rattle.trial_command.specs.Trials.{TrialEnds}
 use Rattle.strudel.specs.Data.{DataEnds}
 use Rattle.strudel.specs.Explain.{ExplainEnds, explain_paths}
 use Rattle.strudel.specs.Top.{TextEnds, Ends, RunEnds, WriteRose, WritesNoFile, UsesNoWire, inputs_of_command, given_inputs}
@@ -89,6 +91,24 @@ pub explain_read_rose : (command : Command) (c : ExplainCommand) (answer : Resul
 explain_read_rose command c answer old new before now status is h cause =
     subst (λ (d : Command). ReadRose (inputs_of_command d) before now status) (sym is) (text_read_rose (explain_paths c) answer old new before now status h cause)
 
+pub trial_read_rose : (command : Command) (c : TrialCommand) (answer : Result (List ℕ) Fault) (old new : Option (List ℕ)) (before now : List ℕ → ℕ) (status : Status) → command ≡ Trial c
+    → TextEnds (λ a. a ≡ answer) old new status → TrialEnds c answer → ReadRose (inputs_of_command command) before now status
+trial_read_rose command c answer old new before now status is h ends =
+    by status (text_as (λ a. a ≡ answer) (TrialEnds c) old new status (λ a e. subst (TrialEnds c) (sym e) ends) h)
+  where
+    by : (status : Status) → TextEnds (TrialEnds c) old new status → ReadRose (inputs_of_command command) before now status
+    by Ok h = tt
+    by WriteFault h = tt
+    by NoMemory h = tt
+    by Usage h = tt
+    by NotAllYes h = tt
+    by WireFault h = tt
+    by TurnsSpent h = tt
+    by (Refused file number place) h = tt
+    by (ReadFault path) h = absurd h
+    by (PageFault term kind) h = tt
+    by NotFound h = tt
+
 pub build_read_rose : (command : Command) (c : BuildCommand) (before now : List ℕ → ℕ) (status : Status) → command ≡ Build c
     → ReadRose (input_paths c.sources c.query c.templates) before now status → ReadRose (inputs_of_command command) before now status
 build_read_rose command c before now status is h = subst (λ (d : Command). ReadRose (inputs_of_command d) before now status) (sym is) h
@@ -126,6 +146,7 @@ no_memory_ends map wire P None text = inr refl
 no_memory_ends map wire P (Some (Page command)) text = refl
 no_memory_ends map wire P (Some (Data command)) text = refl
 no_memory_ends map wire P (Some (Explain command)) text = refl
+no_memory_ends map wire P (Some (Trial command)) text = refl
 no_memory_ends map wire P (Some (Build command)) text = (inl refl, refl)
 no_memory_ends map wire P (Some (Serve command)) text = serve_no_memory map command wire text P
 no_memory_ends map wire P (Some (Replay command)) text = replay_no_memory map command text P
@@ -213,6 +234,7 @@ memory_run_ends map now before after P None old new status reported ends silent 
 memory_run_ends map now before after P (Some (Page command)) old new status reported ends silent fixed memory = memory_text_ends (PageEnds map command) old new status reported ends silent fixed memory
 memory_run_ends map now before after P (Some (Data command)) old new status reported ends silent fixed memory = memory_text_ends (DataEnds map command.sources) old new status reported ends silent fixed memory
 memory_run_ends map now before after P (Some (Explain command)) old new status reported ends silent fixed memory = memory_text_ends (ExplainEnds map command) old new status reported ends silent fixed memory
+memory_run_ends map now before after P (Some (Trial command)) old new status reported ends silent fixed memory = memory_text_ends (TrialEnds command) old new status reported ends silent fixed memory
 memory_run_ends map now before after P (Some (Build command)) old new status reported ends silent fixed memory = memory_build_ends map now command old new status reported ends silent fixed memory
 memory_run_ends map now before after P (Some (Serve command)) old new status reported ends silent fixed memory = memory_serve_ends map command before after old new P reported status ends fixed memory
 memory_run_ends map now before after P (Some (Replay command)) old new status reported ends silent fixed memory = memory_replay_ends map command old new P reported status ends silent fixed memory
@@ -273,6 +295,13 @@ explain_told o n map before after P command c answer old new status same told is
     subst (λ (x : Option FileMap). IsSomeAnd x (λ now. Ends map now before after P command old new status)) (sym at)
     (subst (λ (d : Command). Ends map map before after P d old new status) (sym is) (text_as (λ a. a ≡ answer) (ExplainEnds map c) old new status (λ a e. subst (ExplainEnds map c) (sym e) ends) put))
 
+pub trial_told : (o n : Option FileMap) (map : FileMap) (before after : Story) (P : Type 0) (command : Command) (c : TrialCommand) (answer : Result (List ℕ) Fault) (old new : Option (List ℕ)) (status : Status) → n ≡ o → o ≡ Some map → command ≡ Trial c → TrialEnds c answer → TextEnds (λ a. a ≡ answer) old new status
+    → IsSomeAnd n (λ now. Ends map now before after P command old new status)
+trial_told o n map before after P command c answer old new status same told is ends put =
+    let at : n ≡ Some map = same ∙ told in
+    subst (λ (x : Option FileMap). IsSomeAnd x (λ now. Ends map now before after P command old new status)) (sym at)
+    (subst (λ (d : Command). Ends map map before after P d old new status) (sym is) (text_as (λ a. a ≡ answer) (TrialEnds c) old new status (λ a e. subst (TrialEnds c) (sym e) ends) put))
+
 pub build_told : (n : Option FileMap) (map : FileMap) (before after : Story) (P : Type 0) (command : Command) (c : BuildCommand) (old new : Option (List ℕ)) (status : Status) → command ≡ Build c → IsSomeAnd n (λ now. BuildEnds map now c old new status) → IsSomeAnd n (λ now. Ends map now before after P command old new status)
 build_told None map before after P command c old new status is h = h
 build_told (Some now) map before after P command c old new status is h = subst (λ (d : Command). Ends map now before after P d old new status) (sym is) h
@@ -305,6 +334,9 @@ data_write_rose command c before now P is p = subst (λ (d : Command). WriteRose
 
 pub explain_write_rose : (command : Command) (c : ExplainCommand) (before now : List ℕ → ℕ) (P : Type 0) → command ≡ Explain c → P → WriteRose (Some command) before now P
 explain_write_rose command c before now P is p = subst (λ (d : Command). WriteRose (Some d) before now P) (sym is) p
+
+pub trial_write_rose : (command : Command) (c : TrialCommand) (before now : List ℕ → ℕ) (P : Type 0) → command ≡ Trial c → P → WriteRose (Some command) before now P
+trial_write_rose command c before now P is p = subst (λ (d : Command). WriteRose (Some d) before now P) (sym is) p
 
 pub replay_write_rose : (command : Command) (c : ReplayCommand) (before now : List ℕ → ℕ) (P : Type 0) → command ≡ Replay c → P → WriteRose (Some command) before now P
 replay_write_rose command c before now P is p = subst (λ (d : Command). WriteRose (Some d) before now P) (sym is) p

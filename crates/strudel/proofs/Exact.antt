@@ -10,12 +10,13 @@ use Rattle.site_inputs.specs.declared.fault.Fault.TheVariants as fault
 use Rattle.run_report.specs.declared.status.Status.{Status}
 use Rattle.run_report.specs.declared.status.Status.TheVariants.{Ok, NotAllYes, Usage, Refused, ReadFault, WriteFault, WireFault, PageFault, NoMemory, NotFound, TurnsSpent}
 use Rattle.command_words.specs.declared.Command.{Command}
-use Rattle.command_words.specs.declared.Command.TheVariants.{Page, Build, Data, Explain, Serve, Replay}
+use Rattle.command_words.specs.declared.Command.TheVariants.{Page, Build, Data, Explain, Serve, Replay, Trial}
 use Rattle.std.specs.Option.{IsSomeAnd}
 use Rattle.site_inputs.specs.Runs.{IsDecided, Decides}
 use Rattle.site_inputs.specs.Statuses.{ReadRose}
 use Rattle.page_command.specs.Pages.{PageEnds}
 use Rattle.serve_command.specs.Serves.{Story}
+use Rattle.trial_command.specs.Trials.{TrialEnds}
 use Rattle.strudel.specs.Data.{DataEnds}
 use Rattle.strudel.specs.Explain.{ExplainEnds}
 use Rattle.strudel.specs.Top.{TextEnds, Ends, RunEnds, WriteRose, IsExact, answer_status, inputs_of_command, given_inputs}
@@ -51,6 +52,7 @@ exact_end : (map after : FileMap) (wire served : Story) (P : Type 0) (command : 
 exact_end map after wire served P (Page command) old new before now wrote writes PutsRose status ends read write = exact_text (PageEnds map command) (answer_decides map (Page command)) old new (inputs_of_command (Page command)) before now PutsRose status ends read write
 exact_end map after wire served P (Data command) old new before now wrote writes PutsRose status ends read write = exact_text (DataEnds map command.sources) (answer_decides map (Data command)) old new (inputs_of_command (Data command)) before now PutsRose status ends read write
 exact_end map after wire served P (Explain command) old new before now wrote writes PutsRose status ends read write = exact_text (ExplainEnds map command) (answer_decides map (Explain command)) old new (inputs_of_command (Explain command)) before now PutsRose status ends read write
+exact_end map after wire served P (Trial command) old new before now wrote writes PutsRose status ends read write = exact_text (TrialEnds command) (answer_decides map (Trial command)) old new (inputs_of_command (Trial command)) before now PutsRose status ends read write
 exact_end map after wire served P (Build command) old new before now wrote writes PutsRose status ends read write = λ answer its d no_read no_write. absurd its
 exact_end map after wire served P (Serve command) old new before now wrote writes PutsRose status ends read write = λ answer its d no_read no_write. absurd its
 exact_end map after wire served P (Replay command) old new before now wrote writes PutsRose status ends read write = λ answer its d no_read no_write. absurd its

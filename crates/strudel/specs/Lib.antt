@@ -1,3 +1,4 @@
 pub mod Data
 pub mod Explain
 pub mod Top
+pub mod Complete

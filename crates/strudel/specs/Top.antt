@@ -13,12 +13,13 @@ use Rattle.build_command.specs.Builds.{BuildEnds, FolderRose}
 use Rattle.replay_command.specs.Scripts.{replay_paths}
 use Rattle.replay_command.specs.Replays.{ReplayEnds}
 use Rattle.serve_command.specs.Serves.{Story, ServeEnds}
+use Rattle.trial_command.specs.Trials.{TrialEnds}
 use Rattle.strudel.specs.Data.{DataEnds}
 use Rattle.strudel.specs.Explain.{ExplainEnds, explain_paths}
 use Rattle.run_report.specs.declared.status.Status.{Status}
 use Rattle.run_report.specs.declared.status.Status.TheVariants.{Ok, NotAllYes, Usage, Refused, ReadFault, WriteFault, WireFault, PageFault, NoMemory, NotFound, TurnsSpent}
 use Rattle.command_words.specs.declared.Command.{Command}
-use Rattle.command_words.specs.declared.Command.TheVariants.{Page, Build, Data, Explain, Serve, Replay}
+use Rattle.command_words.specs.declared.Command.TheVariants.{Page, Build, Data, Explain, Serve, Replay, Trial}
 
 -- the paths of a command's own files, in the order in which they are read
 abbrev pub inputs_of_command : Command → List (List ℕ)
@@ -28,6 +29,7 @@ inputs_of_command (Data command) = command.sources
 inputs_of_command (Explain command) = explain_paths command
 inputs_of_command (Serve command) = input_paths command.sources command.query command.templates
 inputs_of_command (Replay command) = replay_paths command
+inputs_of_command (Trial command) = []
 
 -- those of the command that the words give, if any
 abbrev pub given_inputs : Option Command → List (List ℕ)
@@ -42,6 +44,7 @@ abbrev pub Answers : FileMap → Command → Result (List ℕ) Fault → Type 0
 Answers map (Page command) = PageEnds map command
 Answers map (Data command) = DataEnds map command.sources
 Answers map (Explain command) = ExplainEnds map command
+Answers map (Trial command) = TrialEnds command
 Answers map (Build command) = λ answer. ⊥
 Answers map (Serve command) = λ answer. ⊥
 Answers map (Replay command) = λ answer. ⊥
@@ -79,6 +82,7 @@ abbrev pub Ends : FileMap → FileMap → Story → Story → Type 0 → Command
 Ends map now before after PutsRose (Page command) old new status = TextEnds (PageEnds map command) old new status
 Ends map now before after PutsRose (Data command) old new status = TextEnds (DataEnds map command.sources) old new status
 Ends map now before after PutsRose (Explain command) old new status = TextEnds (ExplainEnds map command) old new status
+Ends map now before after PutsRose (Trial command) old new status = TextEnds (TrialEnds command) old new status
 Ends map now before after PutsRose (Build command) old new status = BuildEnds map now command old new status
 Ends map now before after PutsRose (Serve command) old new status = ServeEnds map command before after old new PutsRose status
 Ends map now before after PutsRose (Replay command) old new status = ReplayEnds map command old new PutsRose status

@@ -6,8 +6,6 @@ mod explain;
 #[cfg(test)]
 mod page_tests;
 #[cfg(test)]
-mod serve_tests;
-#[cfg(test)]
 mod tests;
 mod top;
 

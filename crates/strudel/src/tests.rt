@@ -203,6 +203,7 @@ fn site_files(alloc: Global, failing: &[u64]) -> Result<MemFiles, NoMemory> {
         ("dots", DOTS),
         ("f", ONE_PAGE_EACH),
         ("ok", "<TEMPLATE F>ok</TEMPLATE>"),
+        ("s", "open 1 end 1"),
     ] {
         files.push(MemFile {
             path: Str::new(alloc, path.as_bytes())?,
@@ -300,6 +301,28 @@ fn plans_are_printed(rt: HostRuntime) -> Result<(), Fail> {
         ),
         &[],
     )
+}
+
+#[test]
+fn connections_are_served(rt: HostRuntime) -> Result<(), Fail> {
+    let served = "serving 8080\nconnections 0\nreplies 0\nhits 0\n";
+    check_build(
+        &rt,
+        &expects(&["serve", "q", "t", "bib"], 0, served, ""),
+        &[],
+    )?;
+    let replayed = "connection 1 0\n\nconnections 1\nreplies 0\nhits 0\n";
+    check_build(
+        &rt,
+        &expects(&["replay", "q", "t", "s", "bib"], 0, replayed, ""),
+        &[],
+    )
+}
+
+#[test]
+fn a_trial_is_run(rt: HostRuntime) -> Result<(), Fail> {
+    let text = "entries 1\nrequests 64\nok 6\nmissing 58\nbytes 304\nhits 3\n";
+    check_build(&rt, &expects(&["trial", "1"], 0, text, ""), &[])
 }
 
 #[test]

@@ -10,6 +10,7 @@ ghost use Rattle.site_inputs.specs.Runs.{ReadsHaveCause};
 ghost use Rattle.site_inputs.specs.Statuses.{ReadRose, IsSilent};
 ghost use Rattle.serve_run.specs.Serving.{told};
 ghost use Rattle.serve_command.specs.Serves.{story};
+ghost use Rattle.strudel.specs.Complete.{outside, IsComplete};
 ghost use Rattle.strudel.specs.Top.{inputs_of_command, given_inputs, Ends, TextEnds, RunEnds, WriteRose, WritesNoFile, UsesNoWire, IsExact};
 
 use crate::data::data;
@@ -24,6 +25,7 @@ use sd_value::{NoMemory, Str};
 use serve_command::serve;
 use site_inputs::Fault;
 use std::alloc::Global;
+use trial_command::trial;
 use wire::Wire;
 
 // Puts the text that a command is answered, or tells why there is none.
@@ -75,6 +77,10 @@ fn run_command<F: Files, O: Sink, W: Wire>(
         Command::Replay(command) => replay(alloc, files, out, command),
         Command::Explain(command) => {
             let answer = explain(alloc, files, command);
+            put_answer(answer, out)
+        }
+        Command::Trial(command) => {
+            let answer = trial(alloc, command);
             put_answer(answer, out)
         }
     }
@@ -134,6 +140,12 @@ pub fn strudel<F: Files, O: Sink, E: Sink, W: Wire>(
     // Where the command's files and the output have no fault, the inputs decide the end, but for want of memory.
     ensures exact { ForSome (F.contents files.old) (λ map. ForSome (command words.now) (λ command. IsExact map command (O.text out.old) (O.text out.new)
         (λ path. Rose (F.failed_reads files.old path) (F.failed_reads files.new path)) (Rose (O.failed out.old) (O.failed out.new)) result)) }
+
+    // A build and a run over connections end well where their inputs are accepted and nothing outside fails, but for want of
+    // memory, and a refused input ends them.
+    ensures complete { ForSome (F.contents files.old) (λ map. ForSome (command words.now) (λ command. IsComplete map command
+        (story (told (W.account wire.old) (W.faults wire.old) (W.given wire.old) (W.left wire.old)) (W.listens wire.old))
+        (outside (F.failed_reads files.old) (F.failed_reads files.new) (F.failed_writes files.old) (F.failed_writes files.new) (O.failed out.old) (O.failed out.new) (W.next_faults wire.old) (W.next_faults wire.new)) result)) }
 
     // A fault of the outside comes only where its count rose, and one of reading only of a file of the command.
     ensures read_cause { ReadRose (given_inputs (command words.now)) (F.failed_reads files.old) (F.failed_reads files.new) result }

@@ -12,7 +12,8 @@ use Rattle.query_site.specs.Blocks.{scope_of}
 use Rattle.query_root.specs.Roots.{root_of_bodies}
 use Rattle.site_inputs.specs.Values.{inputs_of}
 use Rattle.site_inputs.proofs.Sites.{root_copied}
-use Rattle.build_command.proofs.Built.{built_told, unbuilt_told, under_folder, unwritten_again}
+use Rattle.build_command.specs.Builds.{IsUnder}
+use Rattle.build_command.proofs.Built.{built_told, unbuilt_told, under_folder, unwritten_again, no_write}
 use Rattle.build_command.proofs.write_built.Goals as goal
 
 pub write_site-requires-clause-present : goal.write_site-requires-clause-present
@@ -52,3 +53,13 @@ pub returns-in_err-line-clause-ends : goal.returns-in_err-line-clause-ends
 returns-in_err-line-clause-ends g c = λ old told.
     let p = err_from_is_err_and c.from_residual-in_err-line.result c.from_residual-in_err-line.ensures.1 in
     unbuilt_told (g.F.Files.contents c.args.files.now) (g.F.Files.contents c.args.files.now) (inputs_of c.args.inputs) c.args.folder.now old c.from_residual-in_err-line.result refl told (p.1 ∙ ap (λ (r : Stop). Err r) p.2)
+
+pub returns-in_err-pages-clause-cause : goal.returns-in_err-pages-clause-cause
+returns-in_err-pages-clause-cause g c =
+    let p = err_from_is_err_and c.from_residual-in_err-pages.result c.from_residual-in_err-pages.ensures.1 in
+    no_write (IsUnder c.args.folder.now) (g.F.Files.failed_writes c.args.files.now) c.from_residual-in_err-pages.result (p.1 ∙ ap (λ (r : Stop). Err r) p.2)
+
+pub returns-in_err-line-clause-cause : goal.returns-in_err-line-clause-cause
+returns-in_err-line-clause-cause g c =
+    let p = err_from_is_err_and c.from_residual-in_err-line.result c.from_residual-in_err-line.ensures.1 in
+    no_write (IsUnder c.args.folder.now) (g.F.Files.failed_writes c.args.files.now) c.from_residual-in_err-line.result (p.1 ∙ ap (λ (r : Stop). Err r) p.2)

@@ -1,4 +1,5 @@
-use Rattle.strudel.proofs.Ends.{page_told, data_told, explain_told, build_told, serve_told, replay_told, build_writes, serve_uses, serve_read_rose, replay_read_rose, serve_write_rose, replay_write_rose, page_read_rose, data_read_rose, explain_read_rose, build_read_rose, page_write_rose, data_write_rose, explain_write_rose, build_write_rose}
+use Rattle.std.proofs.Common.{refl}
+use Rattle.strudel.proofs.Ends.{page_told, data_told, explain_told, build_told, serve_told, replay_told, build_writes, serve_uses, serve_read_rose, replay_read_rose, serve_write_rose, replay_write_rose, page_read_rose, data_read_rose, explain_read_rose, build_read_rose, page_write_rose, data_write_rose, explain_write_rose, build_write_rose, trial_told, trial_read_rose, trial_write_rose}
 use Rattle.strudel.proofs.top.run_command.Goals as goal
 
 pub returns-in-Page-clause-ends : goal.returns-in-Page-clause-ends
@@ -66,3 +67,12 @@ returns-in-Build-clause-wire_cause g c = λ e. absurd (c.build.ensures.no_wire e
 
 pub returns-in-Replay-clause-wire_cause : goal.returns-in-Replay-clause-wire_cause
 returns-in-Replay-clause-wire_cause g c = λ e. absurd (c.replay.ensures.no_wire e)
+
+pub returns-in-Trial-clause-ends : goal.returns-in-Trial-clause-ends
+returns-in-Trial-clause-ends g c = λ map told. trial_told _ _ map _ _ _ c.args.command.now c.in-Trial.command c.trial-answer.result _ _ _ refl told c.in-Trial.is c.trial-answer.ensures c.put_answer-in-Trial.ensures.ends
+
+pub returns-in-Trial-clause-read_cause : goal.returns-in-Trial-clause-read_cause
+returns-in-Trial-clause-read_cause g c = trial_read_rose c.args.command.now c.in-Trial.command c.trial-answer.result _ _ _ _ _ c.in-Trial.is c.put_answer-in-Trial.ensures.ends c.trial-answer.ensures
+
+pub returns-in-Trial-clause-write_cause : goal.returns-in-Trial-clause-write_cause
+returns-in-Trial-clause-write_cause g c = λ e. trial_write_rose c.args.command.now c.in-Trial.command _ _ _ c.in-Trial.is (c.put_answer-in-Trial.ensures.write_cause e)

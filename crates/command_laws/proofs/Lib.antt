@@ -1,0 +1,4 @@
+pub mod Ends
+pub mod Builds
+pub mod Serves
+pub mod Replays
