@@ -2,6 +2,7 @@
 #![tactic(auto)]
 
 mod compares;
+mod expansion;
 mod html;
 mod laws;
 mod page;

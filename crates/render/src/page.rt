@@ -1,15 +1,19 @@
 // The page of a term.
-ghost use Rattle.std.specs.Prelude.{◌≡◌, ◌↔◌, ◌≤◌, ◌<◌, ◌++◌, ◌+◌, ℕ, List, [], All, Contains, IfOk, IsTrue, MatchOption, Some, None, length, if◌then◌else◌, is_some, ◌^◌};
+ghost use Rattle.std.specs.Prelude.{◌≡◌, ◌↔◌, ◌≤◌, ◌<◌, ◌++◌, ◌+◌, ℕ, Bool, true, false, List, [], All, Contains, IfOk, IsTrue, MatchOption, Some, None, length, if◌then◌else◌, is_some, ◌^◌};
 ghost use Rattle.std.specs.BTreeMap.{get, btree_map_len};
+ghost use Rattle.sd_value.specs.declared.Value.{Value as AnyValue};
 ghost use Rattle.sd_value.specs.Order.{value_cmp};
 ghost use Rattle.tmpl.specs.Reading.{file_of};
 ghost use Rattle.page_spec.specs.Pieces.{HasTemplate, Pieces, items_of};
 ghost use Rattle.page_spec.specs.Page.{HasText, IsOutcome};
 ghost use Rattle.demand_spec.specs.Reads.{KeepsOnly, MayAsk};
+ghost use Rattle.page_spec.specs.declared.Outcome.TheVariants.{TooLong};
+ghost use Rattle.page_spec.specs.declared.TheConstants as limits;
 ghost use Rattle.page_text.specs.Texts.{IsDraft, AreTexts, IsNumbered, Keeps};
 ghost use Rattle.render.specs.Asks.{FrameAsks, LedAsks};
-ghost use Rattle.render.specs.Frames.{IsFrame, Waits, AreKnown, Marks, IsNext, IsTaken, IsFinal, IsText};
+ghost use Rattle.render.specs.Frames.{IsBegun, IsFrame, AreKnown, Marks, IsNext, IsTaken, IsFinal, IsText};
 
+use crate::expansion::Expansion;
 use crate::pieces::expand;
 use page_spec::{Outcome, PAGE_LIMIT, Piece};
 use page_text::{Draft, Numbered, keep, written};
@@ -26,13 +30,14 @@ pub enum Known {
     Finished(Numbered),
 }
 
-/// A value whose text is being put together: the pieces that are left, of which the last one is next, and the text of
-/// those that were taken.
+/// A value whose text is being put together: the pieces that are left, of which the last one is next, the text of those
+/// that were taken, and how many bytes the page has at least, by what is known of this value and of those that embed it.
 #[derive(Drop)]
 pub struct Frame {
     value: Value,
     left: Vec<Piece>,
     draft: Draft,
+    least: usize,
 }
 
 /// Why no further piece is taken: none is left, the text of its value is made first, or its value stands in a frame
@@ -67,6 +72,23 @@ fn next_of(known: &BTreeMap<Value, Known>, piece: Piece) -> Next
     }
 }
 
+/// Puts a text that is known after that of the frame.
+fn put(alloc: Global, frame: &mut Frame, text: Numbered) -> Result<(), NoMemory>
+    ensures value { IfOk result (λ _. frame.new.value ≡ frame.old.value) }
+    ensures left { IfOk result (λ _. frame.new.left.items ≡ frame.old.left.items) }
+    ensures draft { IfOk result (λ _. (ts : List (List ℕ)) (t u : List ℕ) → IsNumbered ts text u → IsDraft ts frame.old.draft t → IsDraft ts frame.new.draft (t ++ u)) }
+    ensures least { IfOk result (λ _. (ts : List (List ℕ)) (u : List ℕ) → IsNumbered ts text u → frame.new.least ≤ frame.old.least + length u) }
+{
+    frame.draft.add_whole(alloc, text)?;
+    let size = if text.size > PAGE_LIMIT {
+        PAGE_LIMIT + 1
+    } else {
+        text.size
+    };
+    frame.least = frame.least.saturating_add(size);
+    Ok(())
+}
+
 /// Takes the pieces of the frame as far as their texts are known. The view is named in the contract alone.
 fn take<V: SiteView>(
     alloc: Global,
@@ -75,15 +97,15 @@ fn take<V: SiteView>(
     frame: &mut Frame,
 ) -> Result<Taken, NoMemory>
     ensures value { IfOk result (λ _. frame.new.value ≡ frame.old.value) }
-    ensures taken { IfOk result (λ taken. (ts : List (List ℕ))
-        → AreKnown (V.site (V.fixed _view.now)) (V.templates (V.fixed _view.now)) ts known.now
-        → IsFrame (V.site (V.fixed _view.now)) (V.templates (V.fixed _view.now)) ts frame.old
-        → IsTaken (V.site (V.fixed _view.now)) (V.templates (V.fixed _view.now)) ts known.now frame.new taken) }
+    ensures taken { IfOk result (λ taken. (page : AnyValue) (cut : Bool) (ts : List (List ℕ))
+        → AreKnown (V.site (V.fixed _view.now)) (V.templates (V.fixed _view.now)) cut ts known.now
+        → IsFrame (V.site (V.fixed _view.now)) (V.templates (V.fixed _view.now)) page cut ts frame.old
+        → IsTaken (V.site (V.fixed _view.now)) (V.templates (V.fixed _view.now)) page cut ts known.now frame.new taken) }
 {
     while let Some(piece) = frame.left.pop() {
         match next_of(known, piece) {
             Next::Stretch(bytes) => frame.draft.add_stretch(alloc, bytes)?,
-            Next::Whole(text) => frame.draft.add_whole(alloc, text)?,
+            Next::Whole(text) => put(alloc, frame, text)?,
             Next::Enter(value) => return Ok(Taken::Enter(value)),
             Next::Again(value) => return Ok(Taken::Again(value)),
         }
@@ -107,18 +129,20 @@ fn resumed(alloc: Global, frame: Frame, text: Numbered) -> Result<Frame, NoMemor
     ensures value { IfOk result (λ r. r.value ≡ frame.value) }
     ensures left { IfOk result (λ r. r.left.items ≡ frame.left.items) }
     ensures draft { IfOk result (λ r. (ts : List (List ℕ)) (t u : List ℕ) → IsNumbered ts text u → IsDraft ts frame.draft t → IsDraft ts r.draft (t ++ u)) }
+    ensures least { IfOk result (λ r. (ts : List (List ℕ)) (u : List ℕ) → IsNumbered ts text u → r.least ≤ frame.least + length u) }
 {
     let mut frame = frame;
-    frame.draft.add_whole(alloc, text)?;
+    put(alloc, &mut frame, text)?;
     Ok(frame)
 }
 
-/// The value with its pieces and no text yet, where it has a template.
+/// The value with its pieces and no text yet, where it has a template. The page has so many bytes beside it at least.
 fn frame_of<V: SiteView>(
     alloc: Global,
     view: &mut V,
     templates: &Templates,
     value: Value,
+    beside: usize,
 ) -> Result<Option<Frame>, NoMemory>
     requires file { file_of templates.now ≡ V.templates (V.fixed view.old) }
     requires own { V.Own view.old }
@@ -127,41 +151,62 @@ fn frame_of<V: SiteView>(
     ensures kept { KeepsOnly (FrameAsks (V.site (V.fixed view.old)) (V.templates (V.fixed view.old)) value) (V.kept view.old) (V.kept view.new) }
     ensures answer { IfOk result (λ r. MatchOption r
         ((k : ℕ) → HasTemplate (V.site (V.fixed view.old)) (V.templates (V.fixed view.old)) value k → ⊥)
-        (λ r. ((ts : List (List ℕ)) → IsFrame (V.site (V.fixed view.old)) (V.templates (V.fixed view.old)) ts r) × (r.value ≡ value))) }
+        (λ r. IsBegun (V.site (V.fixed view.old)) (V.templates (V.fixed view.old)) beside value r)) }
 {
     match view.template_of(alloc, &value)? {
         None => Ok(None),
         Some(number) => {
-            let mut left = expand(
-                alloc,
-                view,
-                &value,
-                &[],
-                templates.template(number).parts.as_slice(),
-            )?;
-            left.reverse();
+            let parts = templates.template(number).parts.as_slice();
+            let mut body = Expansion::beside(alloc, beside);
+            expand(alloc, view, &value, &[], parts, &mut body)?;
+            let Expansion { mut pieces, size } = body;
+            pieces.reverse();
             Ok(Some(Frame {
                 value,
-                left,
+                left: pieces,
                 draft: Draft::new(alloc),
+                least: size,
             }))
         }
     }
 }
 
-/// The outcome of a value whose text is this one.
-fn outcome_of(alloc: Global, drafts: &[Draft], text: Numbered) -> Result<Outcome, NoMemory>
-    requires { (ts : List (List ℕ)) × AreTexts drafts.now ts × (text.number < length ts) }
-    ensures { IfOk result (λ o. (ts : List (List ℕ)) (t : List ℕ) → AreTexts drafts.now ts → IsNumbered ts text t → IsText o t) }
+/// Whether the page is too long, whatever stands beside the bytes that are counted in the frame.
+fn is_cut(frame: &Frame) -> bool
+    ensures cut { result ≡ true → limits.PAGE_LIMIT < frame.now.least }
+    ensures whole { result ≡ false → frame.now.least ≤ limits.PAGE_LIMIT }
 {
-    if text.size > PAGE_LIMIT {
+    frame.least > PAGE_LIMIT
+}
+
+/// How many bytes the page has at least beside what the frame embeds next.
+fn beside(cut: bool, frame: &Frame) -> usize
+    ensures cut { cut ≡ true → limits.PAGE_LIMIT < result }
+    ensures whole { cut ≡ false → result ≡ frame.now.least }
+{
+    if cut { PAGE_LIMIT + 1 } else { frame.least }
+}
+
+/// The outcome of a value whose text is this one, or longer than a page may be.
+fn outcome_of(
+    alloc: Global,
+    cut: bool,
+    drafts: &[Draft],
+    text: Numbered,
+) -> Result<Outcome, NoMemory>
+    requires { cut ≡ false → (ts : List (List ℕ)) × AreTexts drafts.now ts × (text.number < length ts) }
+    ensures cut { IfOk result (λ o. cut ≡ true → o ≡ TooLong) }
+    ensures text { IfOk result (λ o. cut ≡ false → (ts : List (List ℕ)) (t : List ℕ) → AreTexts drafts.now ts → IsNumbered ts text t → IsText o t) }
+{
+    if cut || text.size > PAGE_LIMIT {
         return Ok(Outcome::TooLong);
     }
     let bytes = written(alloc, drafts, text.number)?;
     Ok(Outcome::Page(Str::of(alloc, bytes)?))
 }
 
-/// The outcome of the frame's value.
+/// The outcome of the frame's value. Once the page is longer than a page may be, whatever its values' texts are, no more
+/// bytes are kept of them.
 fn run<V: SiteView>(
     alloc: Global,
     view: &mut V,
@@ -169,7 +214,7 @@ fn run<V: SiteView>(
     frame: Frame,
 ) -> Result<Outcome, NoMemory>
     requires file { file_of templates.now ≡ V.templates (V.fixed view.old) }
-    requires frame { (ts : List (List ℕ)) → IsFrame (V.site (V.fixed view.old)) (V.templates (V.fixed view.old)) ts frame }
+    requires frame { IsBegun (V.site (V.fixed view.old)) (V.templates (V.fixed view.old)) 0 frame.value frame }
     requires own { V.Own view.old }
     ensures own { V.Own view.new }
     ensures fixed { V.fixed view.new ≡ V.fixed view.old }
@@ -180,15 +225,18 @@ fn run<V: SiteView>(
     mark(&mut known, copy(alloc, &frame.value)?, Known::Open)?;
     let mut drafts = Vec::new(alloc);
     let mut stack = Vec::new(alloc);
+    let mut cut = is_cut(&frame);
     let mut top = frame;
     'taking: loop {
         match take(alloc, &*view, &known, &mut top)? {
             Taken::Again(value) => return Ok(Outcome::Cyclic(value)),
             Taken::Enter(value) => {
                 mark(&mut known, copy(alloc, &value)?, Known::Open)?;
-                match frame_of(alloc, view, templates, value)? {
+                let beside = beside(cut, &top);
+                match frame_of(alloc, view, templates, value, beside)? {
                     None => unreachable!(),
                     Some(inner) => {
+                        cut = is_cut(&inner);
                         stack.push(top)?;
                         top = inner;
                     }
@@ -199,7 +247,7 @@ fn run<V: SiteView>(
                 let text = keep(&mut drafts, draft)?;
                 match stack.pop() {
                     None => {
-                        let outcome = outcome_of(alloc, drafts.as_slice(), text)?;
+                        let outcome = outcome_of(alloc, cut, drafts.as_slice(), text)?;
                         return Ok(outcome);
                     }
                     Some(outer) => {
@@ -231,7 +279,7 @@ pub fn render<V: SiteView>(
         return Ok(Outcome::Missing);
     }
     let value = Value::Page(term.copy(alloc)?);
-    match frame_of(alloc, view, templates, value)? {
+    match frame_of(alloc, view, templates, value, 0)? {
         None => Ok(Outcome::Missing),
         Some(frame) => {
             let outcome = run(alloc, view, templates, frame)?;

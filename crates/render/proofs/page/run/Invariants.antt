@@ -9,7 +9,7 @@ abbrev pub invariant-taking : goal.invariant-taking
 invariant-taking g l = record {
   own : g.V.SiteView.Own l.view;
   fixed : g.V.SiteView.fixed l.view ≡ g.V.SiteView.fixed l.fn.view;
-  state : IsUnderway (g.V.SiteView.site (g.V.SiteView.fixed l.fn.view)) (g.V.SiteView.templates (g.V.SiteView.fixed l.fn.view)) l.fn.frame.value l.known l.drafts.items l.stack.items l.top;
+  state : IsUnderway (g.V.SiteView.site (g.V.SiteView.fixed l.fn.view)) (g.V.SiteView.templates (g.V.SiteView.fixed l.fn.view)) l.fn.frame.value l.cut l.known l.drafts.items l.stack.items l.top;
   kept : KeepsOnly (LedAsks (g.V.SiteView.site (g.V.SiteView.fixed l.fn.view)) (g.V.SiteView.templates (g.V.SiteView.fixed l.fn.view)) l.fn.frame.value) (g.V.SiteView.kept l.fn.view) (g.V.SiteView.kept l.view);
 }
 
