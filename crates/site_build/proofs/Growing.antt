@@ -7,7 +7,7 @@ use Rattle.std.proofs.lemmas.List.Elements.{Contains-append_left, Contains-push_
 use Rattle.sd_value.specs.Members.{Contains-nil, Contains-here}
 use Rattle.site_spec.specs.Site.{SomeOf}
 use Rattle.site_asks.proofs.Some.{some_from, some_left, some_right, some_either, some_cons}
-use Rattle.site_build.specs.Gains.{Gains, listed}
+use Rattle.site_build.specs.Gains.{Gains}
 
 pub gains_none : {X : Type 0} (P : X → Type 0) (xs : List X) → ((x : X) → P x → ⊥) → Gains P xs xs
 gains_none P xs none = record { to = λ x h. inl h; kept = λ x h. h; gained = λ x p. absurd (none x p) }
@@ -27,9 +27,17 @@ gains_push P old m p single = record {
 }
 
 -- the one item that has P, if there is one
-pub gains_one : {X : Type 0} (P : X → Type 0) (old : List X) (o : Option X) → MatchOption o ((x : X) → P x → ⊥) (λ x. P x) → ((x y : X) → P x → P y → x ≡ y) → Gains P old (old ++ listed o)
-gains_one P old None none single = subst (Gains P old) (sym (append-nil old)) (gains_none P old none)
-gains_one P old (Some m) p single = gains_push P old m p (λ x q. single m x p q)
+pub gains_one : {X : Type 0} (P : X → Type 0) (old new : List X) (o : Option X) → MatchOption o ((x : X) → P x → ⊥) (λ x. P x) → ((x y : X) → P x → P y → x ≡ y) → Gains (λ x. o ≡ Some x) old new → Gains P old new
+gains_one P old new None none single g = gains_as (λ x. None ≡ Some x) P old new g (λ x e. cc) (λ x p. absurd (none x p))
+gains_one P old new (Some m) p single g = gains_as (λ x. Some m ≡ Some x) P old new g (λ x e. let same : m ≡ x = cc in subst P same p) (λ x q. ap Some (single m x p q))
+
+some_turned : {S T : Type 0} (Q : S → T → Type 0) (ss : List S) (ts : List T) → SomeOf (λ t. SomeOf (λ s. Q s t) ss) ts → SomeOf (λ s. SomeOf (λ t. Q s t) ts) ss
+some_turned Q ss ts h = some_from (λ s. SomeOf (λ t. Q s t) ts) ss h.holds.item h.holds.within (some_from (λ t. Q h.holds.item t) ts h.item h.within h.holds.holds)
+
+-- of two lists of givers, either way round
+pub gains_turned : {X S T : Type 0} (Q : S → T → X → Type 0) (ss : List S) (ts : List T) (a b : List X) → Gains (λ x. SomeOf (λ t. SomeOf (λ s. Q s t x) ss) ts) a b → Gains (λ x. SomeOf (λ s. SomeOf (λ t. Q s t x) ts) ss) a b
+gains_turned Q ss ts a b g = gains_as (λ x. SomeOf (λ t. SomeOf (λ s. Q s t x) ss) ts) (λ x. SomeOf (λ s. SomeOf (λ t. Q s t x) ts) ss) a b g
+    (λ x h. some_turned (λ s t. Q s t x) ss ts h) (λ x h. some_turned (λ t s. Q s t x) ts ss h)
 
 -- of one list of givers, and then of another
 pub gains_both : {X T : Type 0} (Q : T → X → Type 0) (ss ts : List T) (a b c : List X) → Gains (λ x. SomeOf (λ t. Q t x) ss) a b → Gains (λ x. SomeOf (λ t. Q t x) ts) b c → Gains (λ x. SomeOf (λ t. Q t x) (ss ++ ts)) a c

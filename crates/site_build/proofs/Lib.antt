@@ -1,4 +1,5 @@
 pub mod Growing
+pub mod Sets
 pub mod Under
 pub mod Site
 pub mod Picks

@@ -29,7 +29,7 @@ use Rattle.site_asks.proofs.Some.{some_from, map_from, map_to}
 use Rattle.site_asks.proofs.Blocks.{from_creates, from_links, from_collects, in_clauses, bodies_from, bodies_to}
 use Rattle.site_build.specs.declared.ordered.Joined.{Joined}
 use Rattle.site_build.specs.declared.ordered.Put.{Put}
-use Rattle.site_build.specs.declared.contents.Contents.{Contents}
+use Rattle.site_build.specs.declared.contents.Made.{Made}
 use Rattle.site_build.specs.Ordered.{joined_cmp, put_cmp}
 use Rattle.site_build.specs.Gains.{Gains}
 use Rattle.site_build.specs.Materialised.{IsJoin, IsPutUnder, BlockAdds, BlocksAdd, IsContents, HasPageTemplate}
@@ -111,18 +111,18 @@ puts_of_block G b rows old new exact g =
 
 -- ---- block after block
 
-pub none_added : (G : DataGraph) (c : Contents) → BlocksAdd G [] c c
+pub none_added : (G : DataGraph) (c : Made) → BlocksAdd G [] c c
 none_added G c = record {
-  terms = gains_nil (λ (b : Scoped) (p : Term). SomeOf (IsNamed G b.chain p) (terms_of (body_of b))) c.terms.items;
-  links = gains_nil (λ (b : Scoped) (j : Joined). BlockJoins G (Page j.from) j.label b j.to) c.links.items;
-  puts = gains_nil (λ (b : Scoped) (p : Put). BlockPuts G p.collection b p.value) c.puts.items;
+  terms = gains_nil (λ (b : Scoped) (p : Term). SomeOf (IsNamed G b.chain p) (terms_of (body_of b))) c.terms.keys;
+  links = gains_nil (λ (b : Scoped) (j : Joined). BlockJoins G (Page j.from) j.label b j.to) c.links.keys;
+  puts = gains_nil (λ (b : Scoped) (p : Put). BlockPuts G p.collection b p.value) c.puts.keys;
 }
 
-pub one_more : (G : DataGraph) (bs : List Scoped) (i : ℕ) (b : Scoped) (old now new : Contents) → i < length bs → b ≡ get_or bs i b → BlocksAdd G (take i bs) old now → BlockAdds G b now new → BlocksAdd G (take (i + 1) bs) old new
+pub one_more : (G : DataGraph) (bs : List Scoped) (i : ℕ) (b : Scoped) (old now new : Made) → i < length bs → b ≡ get_or bs i b → BlocksAdd G (take i bs) old now → BlockAdds G b now new → BlocksAdd G (take (i + 1) bs) old new
 one_more G bs i b old now new l is all more = record {
-  terms = gains_next (λ (b : Scoped) (p : Term). SomeOf (IsNamed G b.chain p) (terms_of (body_of b))) bs i b old.terms.items now.terms.items new.terms.items l is all.terms more.terms;
-  links = gains_next (λ (b : Scoped) (j : Joined). BlockJoins G (Page j.from) j.label b j.to) bs i b old.links.items now.links.items new.links.items l is all.links more.links;
-  puts = gains_next (λ (b : Scoped) (p : Put). BlockPuts G p.collection b p.value) bs i b old.puts.items now.puts.items new.puts.items l is all.puts more.puts;
+  terms = gains_next (λ (b : Scoped) (p : Term). SomeOf (IsNamed G b.chain p) (terms_of (body_of b))) bs i b old.terms.keys now.terms.keys new.terms.keys l is all.terms more.terms;
+  links = gains_next (λ (b : Scoped) (j : Joined). BlockJoins G (Page j.from) j.label b j.to) bs i b old.links.keys now.links.keys new.links.keys l is all.links more.links;
+  puts = gains_next (λ (b : Scoped) (p : Put). BlockPuts G p.collection b p.value) bs i b old.puts.keys now.puts.keys new.puts.keys l is all.puts more.puts;
 }
 
 -- ---- all blocks: the relations of the site
@@ -154,17 +154,17 @@ module _ (G : DataGraph) (q : Scope) (blocks : List Scoped) (checked : (b : Scop
       let s = bodies_to (λ c b. SomeOf (IsPut G c name v) b.collects) q blocks checked e l in
       some_from (λ b. BlockPuts G name b v) blocks s.item s.within (map_to (IsPut G s.item.chain name v) collect_of s.item.collects.items s.holds)
 
-  pub contents_made : (old now : Contents) (terms : List Term) (links : List Joined) (puts : List Put) → old.terms.items ≡ [] → old.links.items ≡ [] → old.puts.items ≡ [] → BlocksAdd G blocks old now
-      → ListsExactly term_cmp (Contains now.terms.items) terms → ListsExactly joined_cmp (Contains now.links.items) links → ListsExactly put_cmp (Contains now.puts.items) puts → IsContents G q terms links puts
+  pub contents_made : (old now : Made) (terms : List Term) (links : List Joined) (puts : List Put) → old.terms.keys ≡ [] → old.links.keys ≡ [] → old.puts.keys ≡ [] → BlocksAdd G blocks old now
+      → ListsExactly term_cmp (Contains now.terms.keys) terms → ListsExactly joined_cmp (Contains now.links.keys) links → ListsExactly put_cmp (Contains now.puts.keys) puts → IsContents G q terms links puts
   contents_made old now terms links puts et el ep all ts ls ps = record {
     all_terms = listed_as ts
-        (λ p h. in_site_from p (gained_to (λ p. SomeOf (λ b. SomeOf (IsNamed G b.chain p) (terms_of (body_of b))) blocks) old.terms.items now.terms.items et all.terms p h))
+        (λ p h. in_site_from p (gained_to (λ p. SomeOf (λ b. SomeOf (IsNamed G b.chain p) (terms_of (body_of b))) blocks) old.terms.keys now.terms.keys et all.terms p h))
         (λ p s. all.terms.gained p (in_site_to p s));
     all_links = listed_as ls
-        (λ j h. linked_from (Page j.from) j.label j.to (gained_to (λ (j : Joined). SomeOf (λ b. BlockJoins G (Page j.from) j.label b j.to) blocks) old.links.items now.links.items el all.links j h))
+        (λ j h. linked_from (Page j.from) j.label j.to (gained_to (λ (j : Joined). SomeOf (λ b. BlockJoins G (Page j.from) j.label b j.to) blocks) old.links.keys now.links.keys el all.links j h))
         (λ j s. all.links.gained j (linked_to (Page j.from) j.label j.to s));
     all_puts = listed_as ps
-        (λ p h. collected_from p.collection p.value (gained_to (λ (p : Put). SomeOf (λ b. BlockPuts G p.collection b p.value) blocks) old.puts.items now.puts.items ep all.puts p h))
+        (λ p h. collected_from p.collection p.value (gained_to (λ (p : Put). SomeOf (λ b. BlockPuts G p.collection b p.value) blocks) old.puts.keys now.puts.keys ep all.puts p h))
         (λ p s. all.puts.gained p (collected_to p.collection p.value s));
   }
 
@@ -180,20 +180,22 @@ link_start G q blocks u label v checked e l =
     let at : IsTargetUnder (value_in s.item.chain.variables s.holds.holds.row) (made m.0) u = subst (λ x. IsTargetUnder (value_in s.item.chain.variables s.holds.holds.row) x u) m.1 s.holds.holds.holds.from in
     (at.0, at.2)
 
--- the labels of the links
+-- these are the labels of the links
+abbrev pub LabelsOf : List Joined → List Name → Type 0
+LabelsOf links labels = Gains (λ l. SomeOf (λ (j : Joined). j.label ≡ l) links) [] labels
+
 pub labels_listed : (G : DataGraph) (q : Scope) (blocks : List Scoped) (links : List Joined) (all out : List Name) → ((b : Scoped) → Contains blocks b → IsScoped q.version b) → q.bodies ≡ map body_of blocks
-    → ListsExactly joined_cmp (λ (j : Joined). Linked G q (Page j.from) j.label j.to) links → all ≡ map (λ (j : Joined). j.label) links → ListsExactly bytes_cmp (Contains all) out
+    → ListsExactly joined_cmp (λ (j : Joined). Linked G q (Page j.from) j.label j.to) links → LabelsOf links all → ListsExactly bytes_cmp (Contains all) out
     → ListsExactly bytes_cmp (λ l. (u : Value) × (v : Value) × Linked G q u l v) out
-labels_listed G q blocks links all out checked e exact is x = listed_as x
+labels_listed G q blocks links all out checked e exact g x = listed_as x
     (λ l h.
-    let s = map_to (λ m. m ≡ l) (λ (j : Joined). j.label) links (some_from (λ m. m ≡ l) (map (λ (j : Joined). j.label) links) l (subst (λ (ls : List Name). Contains ls l) is h) refl) in
+    let s = gained_to (λ l. SomeOf (λ (j : Joined). j.label ≡ l) links) [] all refl g l h in
     (Page s.item.from, s.item.to, subst (λ m. Linked G q (Page s.item.from) m s.item.to) s.holds (exact.sound s.item s.within)))
     (λ l h.
     let start = link_start G q blocks h.0 l h.1 checked e h.2 in
     let j : Joined = record { from = start.0; label = l; to = h.1 } in
     let at = exact.complete j (subst (λ u. Linked G q u l h.1) start.1 h.2) in
-    let s = map_from (λ m. m ≡ l) (λ (j : Joined). j.label) links (some_from (λ (j : Joined). j.label ≡ l) links j at refl) in
-    subst (λ (ls : List Name). Contains ls l) (sym is) (subst (Contains (map (λ (j : Joined). j.label) links)) s.holds s.within))
+    g.gained l (some_from (λ (j : Joined). j.label ≡ l) links j at refl))
 
 -- members of the data, and then what COLLECTs put under the name
 pub collected_all : (G : DataGraph) (q : Scope) (name : Name) (puts : List Put) (ms ps all out : List Value) → ListsExactly put_cmp (λ (p : Put). CollectedBy G q p.collection p.value) puts

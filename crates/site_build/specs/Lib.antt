@@ -1,4 +1,5 @@
 pub mod Ordered
+pub mod Hashes
 pub mod Gains
 pub mod Materialised
 pub mod Places

@@ -17,6 +17,7 @@ use Rattle.site_asks.specs.Ends.{BlockJoins, BlockPuts}
 use Rattle.site_build.specs.declared.ordered.Joined.{Joined}
 use Rattle.site_build.specs.declared.ordered.Put.{Put}
 use Rattle.site_build.specs.declared.contents.Contents.{Contents}
+use Rattle.site_build.specs.declared.contents.Made.{Made}
 use Rattle.site_build.specs.Ordered.{joined_cmp, put_cmp}
 use Rattle.site_build.specs.Gains.{Gains}
 
@@ -29,16 +30,16 @@ abbrev pub IsPutUnder : Collect → Assignment → Put → Type 0
 IsPutUnder k s p = (k.collection ≡ p.collection) × IsTargetUnder s k.target p.value
 
 -- what the rows of one block add
-pub record BlockAdds (G : DataGraph) (b : Scoped) (old new : Contents) : Type 0 where
-  pub terms : Gains (λ p. SomeOf (IsNamed G b.chain p) (terms_of (body_of b))) old.terms.items new.terms.items
-  pub links : Gains (λ (j : Joined). BlockJoins G (Page j.from) j.label b j.to) old.links.items new.links.items
-  pub puts : Gains (λ (p : Put). BlockPuts G p.collection b p.value) old.puts.items new.puts.items
+pub record BlockAdds (G : DataGraph) (b : Scoped) (old new : Made) : Type 0 where
+  pub terms : Gains (λ p. SomeOf (IsNamed G b.chain p) (terms_of (body_of b))) old.terms.keys new.terms.keys
+  pub links : Gains (λ (j : Joined). BlockJoins G (Page j.from) j.label b j.to) old.links.keys new.links.keys
+  pub puts : Gains (λ (p : Put). BlockPuts G p.collection b p.value) old.puts.keys new.puts.keys
 
 -- what the rows of these blocks add
-pub record BlocksAdd (G : DataGraph) (bs : List Scoped) (old new : Contents) : Type 0 where
-  pub terms : Gains (λ p. SomeOf (λ b. SomeOf (IsNamed G b.chain p) (terms_of (body_of b))) bs) old.terms.items new.terms.items
-  pub links : Gains (λ (j : Joined). SomeOf (λ b. BlockJoins G (Page j.from) j.label b j.to) bs) old.links.items new.links.items
-  pub puts : Gains (λ (p : Put). SomeOf (λ b. BlockPuts G p.collection b p.value) bs) old.puts.items new.puts.items
+pub record BlocksAdd (G : DataGraph) (bs : List Scoped) (old new : Made) : Type 0 where
+  pub terms : Gains (λ p. SomeOf (λ b. SomeOf (IsNamed G b.chain p) (terms_of (body_of b))) bs) old.terms.keys new.terms.keys
+  pub links : Gains (λ (j : Joined). SomeOf (λ b. BlockJoins G (Page j.from) j.label b j.to) bs) old.links.keys new.links.keys
+  pub puts : Gains (λ (p : Put). SomeOf (λ b. BlockPuts G p.collection b p.value) bs) old.puts.keys new.puts.keys
 
 -- the ascending lists of exactly the site's terms, links, and values put under names
 pub record IsContents (G : DataGraph) (q : Scope) (terms : List Term) (links : List Joined) (puts : List Put) : Type 0 where

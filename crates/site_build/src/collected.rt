@@ -6,8 +6,9 @@ ghost use Rattle.site_build.specs.declared.ordered.Put.{Put as AnyPut};
 ghost use Rattle.site_build.specs.Gains.{Gains};
 ghost use Rattle.site_build.specs.Materialised.{IsPutUnder};
 
-use crate::made::{Clause, push_one};
+use crate::made::{Clause, insert_one};
 use crate::ordered::Put;
+use indexmap::IndexSet;
 use query_spec::Variable;
 use sd_value::{NoMemory, Value};
 use site_asks::target_under;
@@ -35,12 +36,12 @@ fn add_put(
     variables: &[Variable],
     row: &[Value],
     collect: &Collect,
-    made: &mut Vec<Put>,
+    made: &mut IndexSet<Put>,
 ) -> Result<(), NoMemory>
-    ensures { OnOk result (Gains (IsPutUnder (collect_of collect.now) (value_in variables.now row.now)) made.old.items made.new.items) }
+    ensures { OnOk result (Gains (IsPutUnder (collect_of collect.now) (value_in variables.now row.now)) made.old.keys made.new.keys) }
 {
     let one = put_under(alloc, variables, row, collect)?;
-    push_one(made, one)?;
+    insert_one(made, one)?;
     Ok(())
 }
 
@@ -52,7 +53,7 @@ impl Clause<Put> for Collect {
         alloc: Global,
         variables: &[Variable],
         row: &[Value],
-        made: &mut Vec<Put>,
+        made: &mut IndexSet<Put>,
     ) -> Result<(), NoMemory> {
         add_put(alloc, variables, row, self, made)
     }

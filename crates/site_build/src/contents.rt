@@ -9,12 +9,14 @@ ghost use Rattle.query_site.specs.Blocks.{AreScoped, body_of, scope_of};
 ghost use Rattle.site_build.specs.Gains.{Gains};
 ghost use Rattle.site_build.specs.Materialised.{IsJoin, IsPutUnder, BlockAdds, BlocksAdd, IsContents};
 
+use crate::ascending::ascending;
 use crate::made::add_rows;
 use crate::ordered::{Joined, Put};
 use asker::Asker;
+use indexmap::IndexSet;
 use query_site::{Scoped, Scopes};
 use query_spec::Row;
-use sd_value::{NoMemory, Term, sort_and_dedup};
+use sd_value::{NoMemory, Term};
 use site_asks::rows_of;
 use std::alloc::Global;
 
@@ -26,13 +28,21 @@ pub struct Contents {
     pub puts: Vec<Put>,
 }
 
+/// What rows have made so far. A set tells by a hash what was made before, and its items stand as they came.
+#[derive(Drop)]
+pub(crate) struct Made {
+    pub terms: IndexSet<Term>,
+    pub links: IndexSet<Joined>,
+    pub puts: IndexSet<Put>,
+}
+
 fn add_terms(
     alloc: Global,
     block: &Scoped,
     rows: &[Row],
-    terms: &mut Vec<Term>,
+    terms: &mut IndexSet<Term>,
 ) -> Result<(), NoMemory>
-    ensures { OnOk result (Gains (λ p. SomeOf (λ row. SomeOf (λ t. IsTermUnder (value_in block.now.chain.variables row) t p) (terms_of (body_of block.now))) rows.now) terms.old.items terms.new.items) }
+    ensures { OnOk result (Gains (λ p. SomeOf (λ row. SomeOf (λ t. IsTermUnder (value_in block.now.chain.variables row) t p) (terms_of (body_of block.now))) rows.now) terms.old.keys terms.new.keys) }
 {
     let variables = block.chain.variables();
     add_rows(alloc, variables, rows, block.creates.as_slice(), terms)?;
@@ -45,9 +55,9 @@ fn add_links(
     alloc: Global,
     block: &Scoped,
     rows: &[Row],
-    links: &mut Vec<Joined>,
+    links: &mut IndexSet<Joined>,
 ) -> Result<(), NoMemory>
-    ensures { OnOk result (Gains (λ j. SomeOf (λ row. SomeOf (λ k. IsJoin (link_of k) (value_in block.now.chain.variables row) j) block.now.links.items) rows.now) links.old.items links.new.items) }
+    ensures { OnOk result (Gains (λ j. SomeOf (λ row. SomeOf (λ k. IsJoin (link_of k) (value_in block.now.chain.variables row) j) block.now.links.items) rows.now) links.old.keys links.new.keys) }
 {
     add_rows(
         alloc,
@@ -63,9 +73,9 @@ fn add_puts(
     alloc: Global,
     block: &Scoped,
     rows: &[Row],
-    puts: &mut Vec<Put>,
+    puts: &mut IndexSet<Put>,
 ) -> Result<(), NoMemory>
-    ensures { OnOk result (Gains (λ p. SomeOf (λ row. SomeOf (λ k. IsPutUnder (collect_of k) (value_in block.now.chain.variables row) p) block.now.collects.items) rows.now) puts.old.items puts.new.items) }
+    ensures { OnOk result (Gains (λ p. SomeOf (λ row. SomeOf (λ k. IsPutUnder (collect_of k) (value_in block.now.chain.variables row) p) block.now.collects.items) rows.now) puts.old.keys puts.new.keys) }
 {
     add_rows(
         alloc,
@@ -82,17 +92,17 @@ fn add_block<A: Asker>(
     alloc: Global,
     asker: &mut A,
     block: &Scoped,
-    contents: &mut Contents,
+    made: &mut Made,
 ) -> Result<(), NoMemory>
     requires { IsWellMade block.now.chain }
     ensures graph { A.graph asker.new ≡ A.graph asker.old }
-    ensures adds { OnOk result (BlockAdds (A.graph asker.old) block.now contents.old contents.new) }
+    ensures adds { OnOk result (BlockAdds (A.graph asker.old) block.now made.old made.new) }
 {
     let rows = rows_of(alloc, asker, &block.chain)?;
     let rows = rows.as_slice();
-    add_terms(alloc, block, rows, &mut contents.terms)?;
-    add_links(alloc, block, rows, &mut contents.links)?;
-    add_puts(alloc, block, rows, &mut contents.puts)?;
+    add_terms(alloc, block, rows, &mut made.terms)?;
+    add_links(alloc, block, rows, &mut made.links)?;
+    add_puts(alloc, block, rows, &mut made.puts)?;
     Ok(())
 }
 
@@ -100,14 +110,14 @@ fn add_blocks<A: Asker>(
     alloc: Global,
     asker: &mut A,
     blocks: &[Scoped],
-    contents: &mut Contents,
+    made: &mut Made,
 ) -> Result<(), NoMemory>
     requires { (b : AnyScoped) → Contains blocks.now b → IsWellMade b.chain }
     ensures graph { A.graph asker.new ≡ A.graph asker.old }
-    ensures adds { OnOk result (BlocksAdd (A.graph asker.old) blocks.now contents.old contents.new) }
+    ensures adds { OnOk result (BlocksAdd (A.graph asker.old) blocks.now made.old made.new) }
 {
     for block in blocks {
-        add_block(alloc, asker, block, contents)?;
+        add_block(alloc, asker, block, made)?;
     }
     Ok(())
 }
@@ -122,14 +132,16 @@ pub fn contents_of<A: Asker>(
     ensures graph { A.graph asker.new ≡ A.graph asker.old }
     ensures contents { IfOk result (λ c. IsContents (A.graph asker.old) (scope_of scopes.now) c.terms.items c.links.items c.puts.items) }
 {
-    let mut contents = Contents {
-        terms: Vec::new(alloc),
-        links: Vec::new(alloc),
-        puts: Vec::new(alloc),
+    let mut made = Made {
+        terms: IndexSet::new(alloc),
+        links: IndexSet::new(alloc),
+        puts: IndexSet::new(alloc),
     };
-    add_blocks(alloc, asker, scopes.blocks.as_slice(), &mut contents)?;
-    sort_and_dedup(&mut contents.terms);
-    sort_and_dedup(&mut contents.links);
-    sort_and_dedup(&mut contents.puts);
-    Ok(contents)
+    add_blocks(alloc, asker, scopes.blocks.as_slice(), &mut made)?;
+    let Made { terms, links, puts } = made;
+    Ok(Contents {
+        terms: ascending(alloc, terms)?,
+        links: ascending(alloc, links)?,
+        puts: ascending(alloc, puts)?,
+    })
 }

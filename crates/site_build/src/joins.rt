@@ -10,8 +10,9 @@ ghost use Rattle.site_build.specs.declared.ordered.Joined.{Joined as AnyJoined};
 ghost use Rattle.site_build.specs.Gains.{Gains};
 ghost use Rattle.site_build.specs.Materialised.{IsJoin};
 
-use crate::made::{Clause, push_one};
+use crate::made::{Clause, insert_one};
 use crate::ordered::Joined;
+use indexmap::IndexSet;
 use query_spec::Variable;
 use sd_value::{Datum, NoMemory, Str, Term, Value};
 use site_asks::target_under;
@@ -99,12 +100,12 @@ fn add_join(
     variables: &[Variable],
     row: &[Value],
     link: &Link,
-    made: &mut Vec<Joined>,
+    made: &mut IndexSet<Joined>,
 ) -> Result<(), NoMemory>
-    ensures { OnOk result (Gains (IsJoin (link_of link.now) (value_in variables.now row.now)) made.old.items made.new.items) }
+    ensures { OnOk result (Gains (IsJoin (link_of link.now) (value_in variables.now row.now)) made.old.keys made.new.keys) }
 {
     let one = join_under(alloc, variables, row, link)?;
-    push_one(made, one)?;
+    insert_one(made, one)?;
     Ok(())
 }
 
@@ -116,7 +117,7 @@ impl Clause<Joined> for Link {
         alloc: Global,
         variables: &[Variable],
         row: &[Value],
-        made: &mut Vec<Joined>,
+        made: &mut IndexSet<Joined>,
     ) -> Result<(), NoMemory> {
         add_join(alloc, variables, row, self, made)
     }

@@ -1,6 +1,7 @@
 //! The whole site of a query over data, made from all rows of its blocks.
 #![tactic(auto)]
 
+mod ascending;
 mod collected;
 mod contents;
 mod joins;

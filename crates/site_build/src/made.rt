@@ -1,16 +1,18 @@
-// What the clauses of a block make of its rows.
-ghost use Rattle.std.specs.Prelude.{◌≡◌, ◌++◌, OnOk};
+// What the clauses of a block make of its rows, each thing once.
+ghost use Rattle.std.specs.Prelude.{◌≡◌, Some, OnOk};
 ghost use Rattle.query_spec.specs.Holds.{Assignment};
 ghost use Rattle.query_spec.specs.Rows.{value_in};
 ghost use Rattle.site_spec.specs.Site.{SomeOf};
-ghost use Rattle.site_build.specs.Gains.{Gains, listed};
+ghost use Rattle.site_build.specs.Gains.{Gains};
 
+use indexmap::IndexSet;
 use query_spec::{Row, Variable};
-use sd_value::{NoMemory, Value};
+use sd_value::{ExactOrd, NoMemory, Value};
 use std::alloc::Global;
+use std::hash::Hash;
 
 /// A clause of a block, as it makes terms, links or collected values of a row.
-pub trait Clause<M> {
+pub trait Clause<M: Eq + Hash> {
     ghost makes: { Self → Assignment → M → Type 0 };
 
     /// Adds what the clause makes of the row.
@@ -19,52 +21,55 @@ pub trait Clause<M> {
         alloc: Global,
         variables: &[Variable],
         row: &[Value],
-        made: &mut Vec<M>,
+        made: &mut IndexSet<M>,
     ) -> Result<(), NoMemory>
-        ensures { OnOk result (Gains (makes self.now (value_in variables.now row.now)) made.old.items made.new.items) };
+        ensures { OnOk result (Gains (makes self.now (value_in variables.now row.now)) made.old.keys made.new.keys) };
 }
 
 /// Adds one item, where there is one.
-pub fn push_one<M: Drop>(made: &mut Vec<M>, one: Option<M>) -> Result<(), NoMemory>
-    ensures { OnOk result (made.new.items ≡ made.old.items ++ listed one) }
+pub fn insert_one<M: ExactOrd + Hash + Drop>(
+    made: &mut IndexSet<M>,
+    one: Option<M>,
+) -> Result<(), NoMemory>
+    ensures { OnOk result (Gains (λ m. one ≡ Some m) made.old.keys made.new.keys) }
 {
     match one {
         Some(one) => {
-            made.push(one)?;
+            made.insert(one)?;
             Ok(())
         }
         None => Ok(()),
     }
 }
 
-// Adds what the clauses make of one row.
-fn add_row<M, C: Clause<M>>(
+// Adds what the clause makes of the rows. Rows ascend, so what it makes mostly ascends too.
+fn add_clause<M: Eq + Hash, C: Clause<M>>(
     alloc: Global,
     variables: &[Variable],
-    row: &[Value],
-    clauses: &[C],
-    made: &mut Vec<M>,
+    rows: &[Row],
+    clause: &C,
+    made: &mut IndexSet<M>,
 ) -> Result<(), NoMemory>
-    ensures { OnOk result (Gains (λ m. SomeOf (λ k. C.makes k (value_in variables.now row.now) m) clauses.now) made.old.items made.new.items) }
+    ensures { OnOk result (Gains (λ m. SomeOf (λ row. C.makes clause.now (value_in variables.now row) m) rows.now) made.old.keys made.new.keys) }
 {
-    for clause in clauses {
-        clause.add(alloc, variables, row, made)?;
+    for row in rows {
+        clause.add(alloc, variables, row.values(), made)?;
     }
     Ok(())
 }
 
-/// Adds what the clauses make of the rows.
-pub fn add_rows<M, C: Clause<M>>(
+/// Adds what the clauses make of the rows, clause by clause.
+pub fn add_rows<M: Eq + Hash, C: Clause<M>>(
     alloc: Global,
     variables: &[Variable],
     rows: &[Row],
     clauses: &[C],
-    made: &mut Vec<M>,
+    made: &mut IndexSet<M>,
 ) -> Result<(), NoMemory>
-    ensures { OnOk result (Gains (λ m. SomeOf (λ row. SomeOf (λ k. C.makes k (value_in variables.now row) m) clauses.now) rows.now) made.old.items made.new.items) }
+    ensures { OnOk result (Gains (λ m. SomeOf (λ row. SomeOf (λ k. C.makes k (value_in variables.now row) m) clauses.now) rows.now) made.old.keys made.new.keys) }
 {
-    for row in rows {
-        add_row(alloc, variables, row.values(), clauses, made)?;
+    for clause in clauses {
+        add_clause(alloc, variables, rows, clause, made)?;
     }
     Ok(())
 }

@@ -5,7 +5,8 @@ ghost use Rattle.struql_ast.specs.Reading.{term_of, target_of, link_of, collect_
 ghost use Rattle.site_spec.specs.Site.{IsTermUnder, SomeOf, target_terms, ends_of};
 ghost use Rattle.site_build.specs.Gains.{Gains};
 
-use crate::made::{Clause, push_one};
+use crate::made::{Clause, insert_one};
+use indexmap::IndexSet;
 use query_spec::Variable;
 use sd_value::{NoMemory, Term, Value};
 use skolem::instance;
@@ -17,12 +18,12 @@ fn add_term(
     variables: &[Variable],
     row: &[Value],
     written: &Term0,
-    made: &mut Vec<Term>,
+    made: &mut IndexSet<Term>,
 ) -> Result<(), NoMemory>
-    ensures { OnOk result (Gains (λ p. IsTermUnder (value_in variables.now row.now) (term_of written.now) p) made.old.items made.new.items) }
+    ensures { OnOk result (Gains (λ p. IsTermUnder (value_in variables.now row.now) (term_of written.now) p) made.old.keys made.new.keys) }
 {
     let one = instance(alloc, written, variables, row)?;
-    push_one(made, one)?;
+    insert_one(made, one)?;
     Ok(())
 }
 
@@ -31,9 +32,9 @@ fn add_target(
     variables: &[Variable],
     row: &[Value],
     target: &Target,
-    made: &mut Vec<Term>,
+    made: &mut IndexSet<Term>,
 ) -> Result<(), NoMemory>
-    ensures { OnOk result (Gains (λ p. SomeOf (λ t. IsTermUnder (value_in variables.now row.now) t p) (target_terms (target_of target.now))) made.old.items made.new.items) }
+    ensures { OnOk result (Gains (λ p. SomeOf (λ t. IsTermUnder (value_in variables.now row.now) t p) (target_terms (target_of target.now))) made.old.keys made.new.keys) }
 {
     match target {
         Target::Plain(_) => Ok(()),
@@ -49,9 +50,9 @@ fn add_link_terms(
     variables: &[Variable],
     row: &[Value],
     link: &Link,
-    made: &mut Vec<Term>,
+    made: &mut IndexSet<Term>,
 ) -> Result<(), NoMemory>
-    ensures { OnOk result (Gains (λ p. SomeOf (λ t. IsTermUnder (value_in variables.now row.now) t p) (ends_of (link_of link.now))) made.old.items made.new.items) }
+    ensures { OnOk result (Gains (λ p. SomeOf (λ t. IsTermUnder (value_in variables.now row.now) t p) (ends_of (link_of link.now))) made.old.keys made.new.keys) }
 {
     add_target(alloc, variables, row, &link.source, made)?;
     add_target(alloc, variables, row, &link.target, made)?;
@@ -66,7 +67,7 @@ impl Clause<Term> for Term0 {
         alloc: Global,
         variables: &[Variable],
         row: &[Value],
-        made: &mut Vec<Term>,
+        made: &mut IndexSet<Term>,
     ) -> Result<(), NoMemory> {
         add_term(alloc, variables, row, self, made)
     }
@@ -80,7 +81,7 @@ impl Clause<Term> for Link {
         alloc: Global,
         variables: &[Variable],
         row: &[Value],
-        made: &mut Vec<Term>,
+        made: &mut IndexSet<Term>,
     ) -> Result<(), NoMemory> {
         add_link_terms(alloc, variables, row, self, made)
     }
@@ -94,7 +95,7 @@ impl Clause<Term> for Collect {
         alloc: Global,
         variables: &[Variable],
         row: &[Value],
-        made: &mut Vec<Term>,
+        made: &mut IndexSet<Term>,
     ) -> Result<(), NoMemory> {
         add_target(alloc, variables, row, &self.target, made)
     }

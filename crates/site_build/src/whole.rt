@@ -1,5 +1,6 @@
 // The whole site as a view, and its pages.
-ghost use Rattle.std.specs.Prelude.{◌≡◌, ◌↔◌, ℕ, [], map, Contains, IfOk, IsTrue, MatchOption};
+ghost use Rattle.std.specs.Prelude.{◌≡◌, ◌↔◌, ℕ, [], Contains, IfOk, IsTrue};
+ghost use Rattle.std.specs.List.Sorted.{IsStrictlySortedBy};
 ghost use Rattle.sd_value.specs.declared.Term.{Term as AnyTerm};
 ghost use Rattle.sd_value.specs.declared.Value.{Value as AnyValue};
 ghost use Rattle.sd_value.specs.declared.Value.TheVariants.{Page};
@@ -10,13 +11,16 @@ ghost use Rattle.page_spec.specs.Site.{MayStart};
 ghost use Rattle.site_spec.specs.Site.{InSite, SiteEdge, Collected, SomeOf};
 ghost use Rattle.query_site.specs.Blocks.{scope_of};
 ghost use Rattle.site_build.specs.Materialised.{HasPageTemplate, IsWhole};
+ghost use Rattle.site_build.specs.Gains.{Gains};
 ghost use Rattle.site_build.specs.Fixed.{Fixed as AnyFixed, fixed_site};
 
+use crate::ascending::ascending;
 use crate::contents::{Contents, contents_of};
-use crate::made::push_one;
+use crate::made::insert_one;
 use crate::ordered::Joined;
 use crate::picked::{ends_from, has_term, put_values};
 use asker::Asker;
+use indexmap::IndexSet;
 use page_spec::Outcome;
 use query_site::Scopes;
 use render::render;
@@ -123,27 +127,18 @@ fn has_page_template(templates: &Templates, term: &Term) -> bool
     }
 }
 
-// The term, where its function has a template.
-fn page_term(alloc: Global, templates: &Templates, term: &Term) -> Result<Option<Term>, NoMemory>
-    ensures { IfOk result (λ o. MatchOption o ((p : AnyTerm) → (term.now ≡ p) × HasPageTemplate (file_of templates.now) term.now → ⊥) (λ p. (term.now ≡ p) × HasPageTemplate (file_of templates.now) term.now)) }
-{
-    if has_page_template(templates, term) {
-        Ok(Some(term.copy(alloc)?))
-    } else {
-        Ok(None)
-    }
-}
-
-// Those of the terms whose function has a template.
+// Those of the terms whose function has a template, in their order.
 fn page_terms(alloc: Global, templates: &Templates, terms: &[Term]) -> Result<Vec<Term>, NoMemory>
+    requires { IsStrictlySortedBy term_cmp terms.now }
     ensures { IfOk result (λ ps. ListsExactly term_cmp (λ p. Contains terms.now p × HasPageTemplate (file_of templates.now) p) ps.items) }
 {
     let mut pages = Vec::new(alloc);
     for term in terms {
-        let one = page_term(alloc, templates, term)?;
-        push_one(&mut pages, one)?;
+        if !has_page_template(templates, term) {
+            continue;
+        }
+        pages.push(term.copy(alloc)?)?;
     }
-    sort_and_dedup(&mut pages);
     Ok(pages)
 }
 
@@ -157,12 +152,14 @@ fn copy_terms(alloc: Global, terms: &[Term]) -> Result<Vec<Term>, NoMemory>
     Ok(copied)
 }
 
-fn labels_in(alloc: Global, links: &[Joined]) -> Result<Vec<Str>, NoMemory>
-    ensures { IfOk result (λ ls. ls.items ≡ map (λ j. j.label) links.now) }
+// The labels of the links, each once.
+fn labels_in(alloc: Global, links: &[Joined]) -> Result<IndexSet<Str>, NoMemory>
+    ensures { IfOk result (λ labels. Gains (λ l. SomeOf (λ j. j.label ≡ l) links.now) [] labels.keys) }
 {
-    let mut labels = Vec::with_capacity(alloc, links.len())?;
+    let mut labels = IndexSet::new(alloc);
     for link in links {
-        labels.push(link.label.copy(alloc)?)?;
+        let label = link.label.copy(alloc)?;
+        insert_one(&mut labels, Some(label))?;
     }
     Ok(labels)
 }
@@ -226,8 +223,8 @@ impl<'q, A: Asker + Drop> Whole<'q, A> {
         requires { IsWhole (A.graph self.now.asker) self.now.scopes.now self.now.contents }
         ensures { IfOk result (λ ls. ListsExactly bytes_cmp (λ l. (u : AnyValue) × (v : AnyValue) × Linked (A.graph self.now.asker) (scope_of self.now.scopes.now) u l v) ls.items) }
     {
-        let mut labels = labels_in(alloc, self.contents.links.as_slice())?;
-        sort_and_dedup(&mut labels);
+        let labels = labels_in(alloc, self.contents.links.as_slice())?;
+        let labels = ascending(alloc, labels)?;
         Ok(labels)
     }
 }

@@ -11,9 +11,7 @@ add_blocks-requires g c = λ b h. (c.requires.scoped b (subst (λ (bs : List Sco
 
 pub returns-clause-contents : goal.returns-clause-contents
 returns-clause-contents g c =
-    contents_made (g.A.Asker.graph c.args.asker.now) (scope_of c.args.scopes.now) c.args.scopes.now.blocks.items c.requires.scoped refl (record { terms = c.new.result; links = c.new-2.result; puts = c.new-3.result }) c.add_blocks.new.contents _ _ _
-    c.new.ensures.items c.new-2.ensures.items c.new-3.ensures.items
-    (subst (λ (bs : List Scoped). BlocksAdd (g.A.Asker.graph c.args.asker.now) bs (record { terms = c.new.result; links = c.new-2.result; puts = c.new-3.result }) c.add_blocks.new.contents) c.as_slice.ensures.value c.in_ok-add_blocks.ensures.adds)
-    record { ascending = c.sort_and_dedup.ensures.ascending; sound = λ v h. c.sort_and_dedup.ensures.sound v h; complete = λ v h. c.sort_and_dedup.ensures.complete v h }
-    record { ascending = c.sort_and_dedup-2.ensures.ascending; sound = λ v h. c.sort_and_dedup-2.ensures.sound v h; complete = λ v h. c.sort_and_dedup-2.ensures.complete v h }
-    record { ascending = c.sort_and_dedup-3.ensures.ascending; sound = λ v h. c.sort_and_dedup-3.ensures.sound v h; complete = λ v h. c.sort_and_dedup-3.ensures.complete v h }
+    contents_made (g.A.Asker.graph c.args.asker.now) (scope_of c.args.scopes.now) c.args.scopes.now.blocks.items c.requires.scoped refl (record { terms = c.new.result; links = c.new-2.result; puts = c.new-3.result }) c.add_blocks.new.made _ _ _
+    c.new.ensures.empty c.new-2.ensures.empty c.new-3.ensures.empty
+    (subst (λ (bs : List Scoped). BlocksAdd (g.A.Asker.graph c.args.asker.now) bs (record { terms = c.new.result; links = c.new-2.result; puts = c.new-3.result }) c.add_blocks.new.made) c.as_slice.ensures.value c.in_ok-add_blocks.ensures.adds)
+    c.in_ok-ascending.ensures c.in_ok-ascending-2.ensures c.in_ok-ascending-3.ensures

@@ -1,19 +1,19 @@
-use Rattle.std.proofs.Common.{List, subst}
+use Rattle.std.proofs.Common.{List}
 use Rattle.sd_value.specs.declared.Value.{Value}
 use Rattle.query_spec.specs.Rows.{value_in}
 use Rattle.site_spec.specs.Site.{SomeOf}
-use Rattle.site_build.specs.Gains.{Gains}
-use Rattle.site_build.proofs.Growing.{gains_nil, gains_next, gains_end}
+use Rattle.site_build.proofs.Growing.{gains_nil, gains_next, gains_end, gains_turned}
 use Rattle.site_build.proofs.made.add_rows.Goals as goal
 
-pub loop-row-init : goal.loop-row-init
-loop-row-init g c = gains_nil (λ (row : List Value) m. SomeOf (λ k. g.C.Clause.makes k (value_in c.args.variables.now row) m) c.args.clauses.now) _
+pub loop-clause-init : goal.loop-clause-init
+loop-clause-init g c = gains_nil (λ k m. SomeOf (λ (row : List Value). g.C.Clause.makes k (value_in c.args.variables.now row) m) c.args.rows.now) _
 
-pub loop-row-preserved : goal.loop-row-preserved
-loop-row-preserved g c =
-    gains_next (λ (row : List Value) m. SomeOf (λ k. g.C.Clause.makes k (value_in c.args.variables.now row) m) c.args.clauses.now) c.args.rows.now c.loop-row.row-index c.row-item.result _ c.loop-row.made.items _
-    c.loop-row-test.true c.row-item.is c.loop-row.invariant
-    (subst (λ (row : List Value). Gains (λ m. SomeOf (λ k. g.C.Clause.makes k (value_in c.args.variables.now row) m) c.args.clauses.now) c.loop-row.made.items c.add_row.new.made.items) c.values.ensures c.in_ok-add_row.ensures)
+pub loop-clause-preserved : goal.loop-clause-preserved
+loop-clause-preserved g c =
+    gains_next (λ k m. SomeOf (λ (row : List Value). g.C.Clause.makes k (value_in c.args.variables.now row) m) c.args.rows.now) c.args.clauses.now c.loop-clause.clause-index c.clause-item.result _ c.loop-clause.made.keys _
+    c.loop-clause-test.true c.clause-item.is c.loop-clause.invariant c.in_ok-add_clause.ensures
 
 pub returns : goal.returns
-returns g c = gains_end (λ (row : List Value) m. SomeOf (λ k. g.C.Clause.makes k (value_in c.args.variables.now row) m) c.args.clauses.now) c.args.rows.now c.loop-row.row-index _ c.loop-row.made.items c.loop-row-test.false c.loop-row.invariant
+returns g c =
+    gains_turned (λ (row : List Value) k m. g.C.Clause.makes k (value_in c.args.variables.now row) m) c.args.rows.now c.args.clauses.now _ c.loop-clause.made.keys
+    (gains_end (λ k m. SomeOf (λ (row : List Value). g.C.Clause.makes k (value_in c.args.variables.now row) m) c.args.rows.now) c.args.clauses.now c.loop-clause.clause-index _ c.loop-clause.made.keys c.loop-clause-test.false c.loop-clause.invariant)
