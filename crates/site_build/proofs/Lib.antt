@@ -1,5 +1,6 @@
 pub mod Growing
 pub mod Sets
+pub mod Written
 pub mod Under
 pub mod Site
 pub mod Picks

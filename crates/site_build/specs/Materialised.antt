@@ -1,6 +1,7 @@
 -- What stands in a site, from the rows of its blocks.
-use Rattle.std.specs.Prelude.{◌≡◌, ℕ, List}
+use Rattle.std.specs.Prelude.{◌≡◌, ℕ, List, Contains}
 use Rattle.sd_value.specs.declared.Term.{Term}
+use Rattle.sd_value.specs.declared.Value.{Value}
 use Rattle.sd_value.specs.declared.Value.TheVariants.{Page}
 use Rattle.sd_value.specs.Order.{term_cmp}
 use Rattle.sd_value.specs.Ascending.{ListsExactly}
@@ -9,7 +10,11 @@ use Rattle.tmpl.specs.Body.{TemplateFile}
 use Rattle.page_spec.specs.Pieces.{First}
 use Rattle.query_spec.specs.Query.{Link, Collect}
 use Rattle.query_spec.specs.Holds.{Assignment}
-use Rattle.site_spec.specs.Site.{Scope, SomeOf, Joins, IsTargetUnder, IsNamed, InSite, Linked, CollectedBy, terms_of}
+use Rattle.query_spec.specs.Rows.{value_in}
+use Rattle.query_spec.specs.declared.Variable.{Variable}
+use Rattle.struql_ast.specs.declared.Term0.{Term0}
+use Rattle.struql_ast.specs.Reading.{term_of}
+use Rattle.site_spec.specs.Site.{Scope, SomeOf, Joins, IsTermUnder, IsTargetUnder, IsNamed, InSite, Linked, CollectedBy, terms_of}
 use Rattle.query_site.specs.declared.Scoped.{Scoped}
 use Rattle.query_site.specs.declared.Scopes.{Scopes}
 use Rattle.query_site.specs.Blocks.{body_of, scope_of, AreScoped}
@@ -28,6 +33,10 @@ IsJoin k s j = Joins s k (Page j.from) j.label j.to
 -- the COLLECT puts the value under an assignment
 abbrev pub IsPutUnder : Collect → Assignment → Put → Type 0
 IsPutUnder k s p = (k.collection ≡ p.collection) × IsTargetUnder s k.target p.value
+
+-- the terms have all that these CREATEs name under the rows
+abbrev pub HasCreated : List Variable → List (List Value) → List Term0 → List Term → Type 0
+HasCreated variables rows creates terms = (p : Term) → SomeOf (λ row. SomeOf (λ w. IsTermUnder (value_in variables row) (term_of w) p) creates) rows → Contains terms p
 
 -- what the rows of one block add
 pub record BlockAdds (G : DataGraph) (b : Scoped) (old new : Made) : Type 0 where

@@ -12,6 +12,7 @@ ghost use Rattle.site_build.specs.Materialised.{IsJoin, IsPutUnder, BlockAdds, B
 use crate::ascending::ascending;
 use crate::made::add_rows;
 use crate::ordered::{Joined, Put};
+use crate::terms::{add_collect_terms, add_link_terms};
 use asker::Asker;
 use indexmap::IndexSet;
 use query_site::{Scoped, Scopes};
@@ -45,9 +46,24 @@ fn add_terms(
     ensures { OnOk result (Gains (λ p. SomeOf (λ row. SomeOf (λ t. IsTermUnder (value_in block.now.chain.variables row) t p) (terms_of (body_of block.now))) rows.now) terms.old.keys terms.new.keys) }
 {
     let variables = block.chain.variables();
-    add_rows(alloc, variables, rows, block.creates.as_slice(), terms)?;
-    add_rows(alloc, variables, rows, block.links.as_slice(), terms)?;
-    add_rows(alloc, variables, rows, block.collects.as_slice(), terms)?;
+    let creates = block.creates.as_slice();
+    add_rows(alloc, variables, rows, creates, terms)?;
+    add_link_terms(
+        alloc,
+        variables,
+        rows,
+        creates,
+        block.links.as_slice(),
+        terms,
+    )?;
+    add_collect_terms(
+        alloc,
+        variables,
+        rows,
+        creates,
+        block.collects.as_slice(),
+        terms,
+    )?;
     Ok(())
 }
 

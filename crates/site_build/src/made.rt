@@ -42,8 +42,8 @@ pub fn insert_one<M: ExactOrd + Hash + Drop>(
     }
 }
 
-// Adds what the clause makes of the rows. Rows ascend, so what it makes mostly ascends too.
-fn add_clause<M: Eq + Hash, C: Clause<M>>(
+/// Adds what the clause makes of the rows. Rows ascend, so what it makes mostly ascends too.
+pub fn add_clause<M: Eq + Hash, C: Clause<M>>(
     alloc: Global,
     variables: &[Variable],
     rows: &[Row],

@@ -26,7 +26,11 @@ impl<'a> Query<Joined> for LinksFrom<'a> {
     ghost gives = { λ j. j.to };
 
     fn place(&self, item: &Joined) -> Ordering {
-        item.from.cmp(self.from).then(item.label.cmp(self.label))
+        let by_page = item.from.cmp(self.from);
+        if by_page.is_ne() {
+            return by_page;
+        }
+        item.label.cmp(self.label)
     }
 
     fn give(&self, alloc: Global, item: &Joined) -> Result<Value, NoMemory> {

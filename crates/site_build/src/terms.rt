@@ -1,17 +1,18 @@
-// The terms that clauses name under a row.
-ghost use Rattle.std.specs.Prelude.{OnOk};
+// The terms that clauses name under rows.
+ghost use Rattle.std.specs.Prelude.{◌≡◌, IsTrue, OnOk};
 ghost use Rattle.query_spec.specs.Rows.{value_in};
-ghost use Rattle.struql_ast.specs.Reading.{term_of, target_of, link_of, collect_of};
+ghost use Rattle.struql_ast.specs.Reading.{operand_of, term_of, target_of, link_of, collect_of};
 ghost use Rattle.site_spec.specs.Site.{IsTermUnder, SomeOf, target_terms, ends_of};
 ghost use Rattle.site_build.specs.Gains.{Gains};
+ghost use Rattle.site_build.specs.Materialised.{HasCreated};
 
-use crate::made::{Clause, insert_one};
+use crate::made::{Clause, add_clause, insert_one};
 use indexmap::IndexSet;
-use query_spec::Variable;
+use query_spec::{Row, Variable};
 use sd_value::{NoMemory, Term, Value};
 use skolem::instance;
 use std::alloc::Global;
-use struql_ast::{Collect, Link, Target, Term0};
+use struql_ast::{Collect, Link, Operand, Target, Term0};
 
 fn add_term(
     alloc: Global,
@@ -24,38 +25,6 @@ fn add_term(
 {
     let one = instance(alloc, written, variables, row)?;
     insert_one(made, one)?;
-    Ok(())
-}
-
-fn add_target(
-    alloc: Global,
-    variables: &[Variable],
-    row: &[Value],
-    target: &Target,
-    made: &mut IndexSet<Term>,
-) -> Result<(), NoMemory>
-    ensures { OnOk result (Gains (λ p. SomeOf (λ t. IsTermUnder (value_in variables.now row.now) t p) (target_terms (target_of target.now))) made.old.keys made.new.keys) }
-{
-    match target {
-        Target::Plain(_) => Ok(()),
-        Target::Made(written) => {
-            add_term(alloc, variables, row, written, made)?;
-            Ok(())
-        }
-    }
-}
-
-fn add_link_terms(
-    alloc: Global,
-    variables: &[Variable],
-    row: &[Value],
-    link: &Link,
-    made: &mut IndexSet<Term>,
-) -> Result<(), NoMemory>
-    ensures { OnOk result (Gains (λ p. SomeOf (λ t. IsTermUnder (value_in variables.now row.now) t p) (ends_of (link_of link.now))) made.old.keys made.new.keys) }
-{
-    add_target(alloc, variables, row, &link.source, made)?;
-    add_target(alloc, variables, row, &link.target, made)?;
     Ok(())
 }
 
@@ -73,30 +42,117 @@ impl Clause<Term> for Term0 {
     }
 }
 
-impl Clause<Term> for Link {
-    ghost makes = { λ k s p. SomeOf (λ t. IsTermUnder s t p) (ends_of (link_of k)) };
-
-    fn add(
-        &self,
-        alloc: Global,
-        variables: &[Variable],
-        row: &[Value],
-        made: &mut IndexSet<Term>,
-    ) -> Result<(), NoMemory> {
-        add_link_terms(alloc, variables, row, self, made)
+fn same_operand(a: &Operand, b: &Operand) -> bool
+    ensures { IsTrue result → operand_of a.now ≡ operand_of b.now }
+{
+    match (a, b) {
+        (Operand::Variable(x, _), Operand::Variable(y, _)) => *x == *y,
+        (Operand::Constant(v, _), Operand::Constant(w, _)) => *v == *w,
+        _ => false,
     }
 }
 
-impl Clause<Term> for Collect {
-    ghost makes = { λ k s p. SomeOf (λ t. IsTermUnder s t p) (target_terms (collect_of k).target) };
-
-    fn add(
-        &self,
-        alloc: Global,
-        variables: &[Variable],
-        row: &[Value],
-        made: &mut IndexSet<Term>,
-    ) -> Result<(), NoMemory> {
-        add_target(alloc, variables, row, &self.target, made)
+// Whether the terms are written alike.
+fn same_term(a: &Term0, b: &Term0) -> bool
+    ensures { IsTrue result → term_of a.now ≡ term_of b.now }
+{
+    if a.function != b.function {
+        return false;
     }
+    if a.args.len() != b.args.len() {
+        return false;
+    }
+    for i in 0..a.args.len() {
+        if !same_operand(&a.args[i], &b.args[i]) {
+            return false;
+        }
+    }
+    true
+}
+
+fn is_among(terms: &[Term0], term: &Term0) -> bool
+    ensures { IsTrue result → SomeOf (λ w. term_of w ≡ term_of term.now) terms.now }
+{
+    for other in terms {
+        if same_term(other, term) {
+            return true;
+        }
+    }
+    false
+}
+
+// Adds what the target names under the rows. What a CREATE of the block names too is there already.
+fn add_target(
+    alloc: Global,
+    variables: &[Variable],
+    rows: &[Row],
+    creates: &[Term0],
+    target: &Target,
+    made: &mut IndexSet<Term>,
+) -> Result<(), NoMemory>
+    requires { HasCreated variables.now rows.now creates.now made.old.keys }
+    ensures { OnOk result (Gains (λ p. SomeOf (λ row. SomeOf (λ t. IsTermUnder (value_in variables.now row) t p) (target_terms (target_of target.now))) rows.now) made.old.keys made.new.keys) }
+{
+    match target {
+        Target::Plain(_) => Ok(()),
+        Target::Made(written) => {
+            if is_among(creates, written) {
+                return Ok(());
+            }
+            add_clause(alloc, variables, rows, written, made)?;
+            Ok(())
+        }
+    }
+}
+
+fn add_ends(
+    alloc: Global,
+    variables: &[Variable],
+    rows: &[Row],
+    creates: &[Term0],
+    link: &Link,
+    made: &mut IndexSet<Term>,
+) -> Result<(), NoMemory>
+    requires { HasCreated variables.now rows.now creates.now made.old.keys }
+    ensures { OnOk result (Gains (λ p. SomeOf (λ row. SomeOf (λ t. IsTermUnder (value_in variables.now row) t p) (ends_of (link_of link.now))) rows.now) made.old.keys made.new.keys) }
+{
+    add_target(alloc, variables, rows, creates, &link.source, made)?;
+    add_target(alloc, variables, rows, creates, &link.target, made)?;
+    Ok(())
+}
+
+/// Adds the terms that the links name under the rows, beside those of the block's CREATEs.
+pub(crate) fn add_link_terms(
+    alloc: Global,
+    variables: &[Variable],
+    rows: &[Row],
+    creates: &[Term0],
+    links: &[Link],
+    made: &mut IndexSet<Term>,
+) -> Result<(), NoMemory>
+    requires { HasCreated variables.now rows.now creates.now made.old.keys }
+    ensures { OnOk result (Gains (λ p. SomeOf (λ row. SomeOf (λ k. SomeOf (λ t. IsTermUnder (value_in variables.now row) t p) (ends_of (link_of k))) links.now) rows.now) made.old.keys made.new.keys) }
+{
+    for link in links {
+        add_ends(alloc, variables, rows, creates, link, made)?;
+    }
+    Ok(())
+}
+
+/// Adds the terms that the COLLECTs name under the rows, beside those of the block's CREATEs.
+pub(crate) fn add_collect_terms(
+    alloc: Global,
+    variables: &[Variable],
+    rows: &[Row],
+    creates: &[Term0],
+    collects: &[Collect],
+    made: &mut IndexSet<Term>,
+) -> Result<(), NoMemory>
+    requires { HasCreated variables.now rows.now creates.now made.old.keys }
+    ensures { OnOk result (Gains (λ p. SomeOf (λ row. SomeOf (λ k. SomeOf (λ t. IsTermUnder (value_in variables.now row) t p) (target_terms (collect_of k).target)) collects.now) rows.now) made.old.keys made.new.keys) }
+{
+    for collect in collects {
+        add_target(alloc, variables, rows, creates, &collect.target, made)?;
+    }
+    Ok(())
 }
