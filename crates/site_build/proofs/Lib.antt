@@ -1,6 +1,7 @@
 pub mod Growing
 pub mod Sets
 pub mod Written
+pub mod RowReads
 pub mod Under
 pub mod Site
 pub mod Picks

@@ -3,4 +3,5 @@ pub mod Hashes
 pub mod Gains
 pub mod Materialised
 pub mod Places
+pub mod Widths
 pub mod Fixed

@@ -11,7 +11,7 @@ use sd_value::{ExactOrd, NoMemory, Value};
 use std::alloc::Global;
 use std::hash::Hash;
 
-/// A clause of a block, as it makes terms, links or collected values of a row.
+/// A clause of a block, as it makes links or collected values of a row.
 pub trait Clause<M: Eq + Hash> {
     ghost makes: { Self → Assignment → M → Type 0 };
 
@@ -42,8 +42,8 @@ pub fn insert_one<M: ExactOrd + Hash + Drop>(
     }
 }
 
-/// Adds what the clause makes of the rows. Rows ascend, so what it makes mostly ascends too.
-pub fn add_clause<M: Eq + Hash, C: Clause<M>>(
+// Adds what the clause makes of the rows. Rows ascend, so what it makes mostly ascends too.
+fn add_clause<M: Eq + Hash, C: Clause<M>>(
     alloc: Global,
     variables: &[Variable],
     rows: &[Row],

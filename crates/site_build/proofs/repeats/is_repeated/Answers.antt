@@ -1,0 +1,1 @@
+use Rattle.site_build.proofs.repeats.is_repeated.Goals as goal
