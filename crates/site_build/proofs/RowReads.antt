@@ -8,17 +8,23 @@ use Rattle.sd_value.specs.Members.{Contains-nil, Contains-here, Contains-there, 
 use Rattle.sd_value.specs.declared.Term.{Term}
 use Rattle.sd_value.specs.declared.Datum.{Datum}
 use Rattle.sd_value.specs.declared.Value.{Value}
-use Rattle.sd_value.specs.declared.Value.TheVariants.{Data}
+use Rattle.sd_value.specs.declared.Value.TheVariants.{Data, Page}
 use Rattle.query_spec.specs.declared.Variable.{Variable}
-use Rattle.query_spec.specs.Query.{Operand, SkolemTerm}
+use Rattle.graph_spec.specs.DataGraph.{Name}
+use Rattle.query_spec.specs.Query.{Operand, SkolemTerm, plain, made, label_variable, Link, Collect}
 use Rattle.query_spec.specs.Holds.{Assignment, operand_value}
 use Rattle.query_spec.specs.Rows.{value_in}
 use Rattle.struql_ast.specs.declared.Operand.{Operand as Written}
 use Rattle.struql_ast.specs.Reading.{operand_of}
-use Rattle.site_spec.specs.Site.{SomeOf, IsTermUnder}
+use Rattle.site_spec.specs.Site.{SomeOf, IsTermUnder, IsTargetUnder, IsLabelUnder}
 use Rattle.site_asks.proofs.Some.{some_from}
 use Rattle.site_build.specs.Gains.{Gains}
-use Rattle.site_build.specs.Widths.{OnlyReads, ReadsTerm}
+use Rattle.site_build.specs.Materialised.{IsJoin, IsPutUnder}
+use Rattle.site_build.specs.Widths.{OnlyReads, OnlyAsks}
+
+-- each of the operands is read of the first values
+abbrev pub ReadsTerm : List Variable → ℕ → List Operand → Type 0
+ReadsTerm vs width operands = (operand : Operand) → Contains operands operand → OnlyReads width (λ row. operand_value (value_in vs row) operand)
 
 -- more of a row decides no less
 pub reads_wider : {X : Type 0} (f : List Value → X) (n m : ℕ) → n ≤ m → OnlyReads n f → OnlyReads m f
@@ -54,11 +60,37 @@ same_named vs n t row other p reads same named = record {
   args = same_args (value_in vs row) (value_in vs other) t.args p.args (λ o h. reads o h row other same) named.args;
 }
 
--- a row that begins like one before it names nothing new
-pub names_again : (vs : List Variable) (n : ℕ) (t : SkolemTerm) (before : List (List Value)) (row : List Value) (old made : List Term) → ReadsTerm vs n t.args → SomeOf (λ other. take n other ≡ take n row) before
-    → Gains (λ p. SomeOf (λ other. IsTermUnder (value_in vs other) t p) before) old made → Gains (λ p. IsTermUnder (value_in vs row) t p) made made
-names_again vs n t before row old made reads again g = record {
-  to = λ p h. inl h;
-  kept = λ p h. h;
-  gained = λ p named. g.gained p (some_from (λ other. IsTermUnder (value_in vs other) t p) before again.item again.within (same_named vs n t row again.item p reads (sym again.holds) named));
+pub asks_term : (vs : List Variable) (n : ℕ) (t : SkolemTerm) → ReadsTerm vs n t.args → OnlyAsks n (λ row p. IsTermUnder (value_in vs row) t p)
+asks_term vs n t reads row other same p named = same_named vs n t row other p reads same named
+
+pub asks_plain : (vs : List Variable) (n : ℕ) (o : Operand) → OnlyReads n (λ row. operand_value (value_in vs row) o) → OnlyAsks n (λ row v. IsTargetUnder (value_in vs row) (plain o) v)
+asks_plain vs n o reads row other same v h = sym (reads row other same) ∙ h
+
+pub asks_made : (vs : List Variable) (n : ℕ) (t : SkolemTerm) → OnlyAsks n (λ row p. IsTermUnder (value_in vs row) t p) → OnlyAsks n (λ row v. IsTargetUnder (value_in vs row) (made t) v)
+asks_made vs n t asks row other same v h = (h.0, asks row other same h.0 h.1, h.2)
+
+pub asks_label : (vs : List Variable) (n : ℕ) (x : Name) → OnlyReads n (λ row. value_in vs row x) → OnlyAsks n (λ row l. IsLabelUnder (value_in vs row) (label_variable x) l)
+asks_label vs n x reads row other same l h = sym (reads row other same) ∙ h
+
+pub asks_link : (vs : List Variable) (k : Link) (from label to n : ℕ) → from ≤ n → label ≤ n → to ≤ n → OnlyAsks from (λ row v. IsTargetUnder (value_in vs row) k.source v)
+    → OnlyAsks label (λ row l. IsLabelUnder (value_in vs row) k.label l) → OnlyAsks to (λ row v. IsTargetUnder (value_in vs row) k.target v) → OnlyAsks n (λ row j. IsJoin k (value_in vs row) j)
+asks_link vs k from label to n f l t starts labels ends row other same j h = record {
+  from = starts row other (fewer from f) (Page j.from) h.from;
+  by = labels row other (fewer label l) j.label h.by;
+  to = ends row other (fewer to t) j.to h.to;
+}
+  where
+    fewer : (m : ℕ) → m ≤ n → take m row ≡ take m other
+    fewer m below = sym (take-take m n row below) ∙ ap (take m) same ∙ take-take m n other below
+
+pub asks_put : (vs : List Variable) (k : Collect) (n : ℕ) → OnlyAsks n (λ row v. IsTargetUnder (value_in vs row) k.target v) → OnlyAsks n (λ row p. IsPutUnder k (value_in vs row) p)
+asks_put vs k n asks row other same p h = (h.0, asks row other same p.value h.1)
+
+-- of a row that begins like one before it nothing new is made
+pub gains_again : {X : Type 0} (Q : List Value → X → Type 0) (n : ℕ) (before : List (List Value)) (row : List Value) (old now : List X) → OnlyAsks n Q → SomeOf (λ other. take n other ≡ take n row) before
+    → Gains (λ x. SomeOf (λ other. Q other x) before) old now → Gains (Q row) now now
+gains_again Q n before row old now asks again g = record {
+  to = λ x h. inl h;
+  kept = λ x h. h;
+  gained = λ x q. g.gained x (some_from (λ other. Q other x) before again.item again.within (asks row again.item (sym again.holds) x q));
 }

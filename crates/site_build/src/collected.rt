@@ -8,6 +8,7 @@ ghost use Rattle.site_build.specs.Materialised.{IsPutUnder};
 
 use crate::made::{Clause, insert_one};
 use crate::ordered::Put;
+use crate::repeats::put_width;
 use indexmap::IndexSet;
 use query_spec::Variable;
 use sd_value::{NoMemory, Value};
@@ -47,6 +48,10 @@ fn add_put(
 
 impl Clause<Put> for Collect {
     ghost makes = { λ k s p. IsPutUnder (collect_of k) s p };
+
+    fn width(&self, variables: &[Variable]) -> usize {
+        put_width(variables, self)
+    }
 
     fn add(
         &self,

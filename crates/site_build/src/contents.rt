@@ -12,7 +12,7 @@ ghost use Rattle.site_build.specs.Materialised.{IsJoin, IsPutUnder, BlockAdds, B
 use crate::ascending::ascending;
 use crate::made::add_rows;
 use crate::ordered::{Joined, Put};
-use crate::terms::{add_collect_terms, add_created_terms, add_link_terms};
+use crate::terms::{add_collect_terms, add_link_terms};
 use asker::Asker;
 use indexmap::IndexSet;
 use query_site::{Scoped, Scopes};
@@ -47,7 +47,7 @@ fn add_terms(
 {
     let variables = block.chain.variables();
     let creates = block.creates.as_slice();
-    add_created_terms(alloc, variables, rows, creates, terms)?;
+    add_rows(alloc, variables, rows, creates, terms)?;
     add_link_terms(
         alloc,
         variables,

@@ -12,6 +12,7 @@ ghost use Rattle.site_build.specs.Materialised.{IsJoin};
 
 use crate::made::{Clause, insert_one};
 use crate::ordered::Joined;
+use crate::repeats::link_width;
 use indexmap::IndexSet;
 use query_spec::Variable;
 use sd_value::{Datum, NoMemory, Str, Term, Value};
@@ -111,6 +112,10 @@ fn add_join(
 
 impl Clause<Joined> for Link {
     ghost makes = { λ k s j. IsJoin (link_of k) s j };
+
+    fn width(&self, variables: &[Variable]) -> usize {
+        link_width(variables, self)
+    }
 
     fn add(
         &self,

@@ -4,16 +4,22 @@ ghost use Rattle.query_spec.specs.Holds.{Assignment};
 ghost use Rattle.query_spec.specs.Rows.{value_in};
 ghost use Rattle.site_spec.specs.Site.{SomeOf};
 ghost use Rattle.site_build.specs.Gains.{Gains};
+ghost use Rattle.site_build.specs.Widths.{OnlyAsks};
 
+use crate::repeats::is_repeated;
 use indexmap::IndexSet;
 use query_spec::{Row, Variable};
 use sd_value::{ExactOrd, NoMemory, Value};
 use std::alloc::Global;
 use std::hash::Hash;
 
-/// A clause of a block, as it makes links or collected values of a row.
+/// A clause of a block, as it makes terms, links or collected values of a row.
 pub trait Clause<M: Eq + Hash> {
     ghost makes: { Self → Assignment → M → Type 0 };
+
+    /// How many of a row's first values decide what the clause makes of it.
+    fn width(&self, variables: &[Variable]) -> usize
+        ensures { OnlyAsks result (λ row m. makes self.now (value_in variables.now row) m) };
 
     /// Adds what the clause makes of the row.
     fn add(
@@ -42,8 +48,8 @@ pub fn insert_one<M: ExactOrd + Hash + Drop>(
     }
 }
 
-// Adds what the clause makes of the rows. Rows ascend, so what it makes mostly ascends too.
-fn add_clause<M: Eq + Hash, C: Clause<M>>(
+/// Adds what the clause makes of the rows. Rows ascend, so what it makes mostly ascends too.
+pub fn add_clause<M: Eq + Hash, C: Clause<M>>(
     alloc: Global,
     variables: &[Variable],
     rows: &[Row],
@@ -52,8 +58,13 @@ fn add_clause<M: Eq + Hash, C: Clause<M>>(
 ) -> Result<(), NoMemory>
     ensures { OnOk result (Gains (λ m. SomeOf (λ row. C.makes clause.now (value_in variables.now row) m) rows.now) made.old.keys made.new.keys) }
 {
-    for row in rows {
-        clause.add(alloc, variables, row.values(), made)?;
+    let width = clause.width(variables);
+    for i in 0..rows.len() {
+        let row = rows[i].values();
+        if is_repeated(&rows[..i], row, width) {
+            continue;
+        }
+        clause.add(alloc, variables, row, made)?;
     }
     Ok(())
 }

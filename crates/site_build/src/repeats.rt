@@ -1,14 +1,15 @@
-// Rows that give a term the values which the row before gave it. Rows ascend, so such rows stand together.
-ghost use Rattle.std.specs.Prelude.{◌≡◌, ◌≤◌, IsTrue, length, take, Contains};
+// Rows that give a clause the values which the row before gave it. Rows ascend, so such rows stand together.
+ghost use Rattle.std.specs.Prelude.{◌≡◌, ◌≤◌, IsTrue, length, take};
 ghost use Rattle.query_spec.specs.Holds.{operand_value};
 ghost use Rattle.query_spec.specs.Rows.{value_in};
-ghost use Rattle.struql_ast.specs.Reading.{operand_of, term_of};
-ghost use Rattle.site_spec.specs.Site.{SomeOf};
-ghost use Rattle.site_build.specs.Widths.{OnlyReads, ReadsTerm};
+ghost use Rattle.struql_ast.specs.Reading.{operand_of, term_of, target_of, label_of, link_of, collect_of};
+ghost use Rattle.site_spec.specs.Site.{SomeOf, IsTermUnder, IsTargetUnder, IsLabelUnder};
+ghost use Rattle.site_build.specs.Materialised.{IsJoin, IsPutUnder};
+ghost use Rattle.site_build.specs.Widths.{OnlyReads, OnlyAsks};
 
 use query_spec::{Row, Variable};
 use sd_value::{Str, Value};
-use struql_ast::{Operand, Term0};
+use struql_ast::{Collect, Link, LinkLabel, Operand, Target, Term0};
 
 // How many of a row's first values decide the name's.
 fn name_width(variables: &[Variable], name: &Str) -> usize
@@ -42,7 +43,7 @@ fn larger(a: usize, b: usize) -> usize
 
 /// How many of a row's first values decide what the term names.
 pub(crate) fn term_width(variables: &[Variable], written: &Term0) -> usize
-    ensures { ReadsTerm variables.now result (term_of written.now).args }
+    ensures { OnlyAsks result (λ row p. IsTermUnder (value_in variables.now row) (term_of written.now) p) }
 {
     let mut width = 0;
     for operand in written.args.as_slice() {
@@ -51,10 +52,46 @@ pub(crate) fn term_width(variables: &[Variable], written: &Term0) -> usize
     width
 }
 
+fn target_width(variables: &[Variable], target: &Target) -> usize
+    ensures { OnlyAsks result (λ row v. IsTargetUnder (value_in variables.now row) (target_of target.now) v) }
+{
+    match target {
+        Target::Plain(operand) => operand_width(variables, operand),
+        Target::Made(written) => term_width(variables, written),
+    }
+}
+
+fn label_width(variables: &[Variable], label: &LinkLabel) -> usize
+    ensures { OnlyAsks result (λ row l. IsLabelUnder (value_in variables.now row) (label_of label.now) l) }
+{
+    match label {
+        LinkLabel::Quoted(_) => 0,
+        LinkLabel::Variable(name, _) => name_width(variables, name),
+    }
+}
+
+/// How many of a row's first values decide what the link joins.
+pub(crate) fn link_width(variables: &[Variable], link: &Link) -> usize
+    ensures { OnlyAsks result (λ row j. IsJoin (link_of link.now) (value_in variables.now row) j) }
+{
+    let from = target_width(variables, &link.source);
+    let label = label_width(variables, &link.label);
+    let to = target_width(variables, &link.target);
+    larger(from, larger(label, to))
+}
+
+/// How many of a row's first values decide what the COLLECT puts.
+pub(crate) fn put_width(variables: &[Variable], collect: &Collect) -> usize
+    ensures { OnlyAsks result (λ row p. IsPutUnder (collect_of collect.now) (value_in variables.now row) p) }
+{
+    target_width(variables, &collect.target)
+}
+
+// Whether the first values are the same. All rows differ, so where all of a row is asked for no value is looked at.
 fn starts_alike(a: &[Value], b: &[Value], width: usize) -> bool
     ensures { IsTrue result → take width a.now ≡ take width b.now }
 {
-    if a.len() < width {
+    if a.len() <= width {
         return false;
     }
     if b.len() < width {

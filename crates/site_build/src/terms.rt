@@ -6,8 +6,8 @@ ghost use Rattle.site_spec.specs.Site.{IsTermUnder, SomeOf, target_terms, ends_o
 ghost use Rattle.site_build.specs.Gains.{Gains};
 ghost use Rattle.site_build.specs.Materialised.{HasCreated};
 
-use crate::made::insert_one;
-use crate::repeats::{is_repeated, term_width};
+use crate::made::{Clause, add_clause, insert_one};
+use crate::repeats::term_width;
 use indexmap::IndexSet;
 use query_spec::{Row, Variable};
 use sd_value::{NoMemory, Term, Value};
@@ -29,41 +29,22 @@ fn add_term(
     Ok(())
 }
 
-// Adds what the term names under the rows.
-fn add_named(
-    alloc: Global,
-    variables: &[Variable],
-    rows: &[Row],
-    written: &Term0,
-    made: &mut IndexSet<Term>,
-) -> Result<(), NoMemory>
-    ensures { OnOk result (Gains (λ p. SomeOf (λ row. IsTermUnder (value_in variables.now row) (term_of written.now) p) rows.now) made.old.keys made.new.keys) }
-{
-    let width = term_width(variables, written);
-    for i in 0..rows.len() {
-        let row = rows[i].values();
-        if is_repeated(&rows[..i], row, width) {
-            continue;
-        }
-        add_term(alloc, variables, row, written, made)?;
-    }
-    Ok(())
-}
+impl Clause<Term> for Term0 {
+    ghost makes = { λ w s p. IsTermUnder s (term_of w) p };
 
-/// Adds the terms that the CREATEs name under the rows.
-pub(crate) fn add_created_terms(
-    alloc: Global,
-    variables: &[Variable],
-    rows: &[Row],
-    creates: &[Term0],
-    made: &mut IndexSet<Term>,
-) -> Result<(), NoMemory>
-    ensures { OnOk result (Gains (λ p. SomeOf (λ row. SomeOf (λ w. IsTermUnder (value_in variables.now row) (term_of w) p) creates.now) rows.now) made.old.keys made.new.keys) }
-{
-    for written in creates {
-        add_named(alloc, variables, rows, written, made)?;
+    fn width(&self, variables: &[Variable]) -> usize {
+        term_width(variables, self)
     }
-    Ok(())
+
+    fn add(
+        &self,
+        alloc: Global,
+        variables: &[Variable],
+        row: &[Value],
+        made: &mut IndexSet<Term>,
+    ) -> Result<(), NoMemory> {
+        add_term(alloc, variables, row, self, made)
+    }
 }
 
 fn same_operand(a: &Operand, b: &Operand) -> bool
@@ -123,7 +104,7 @@ fn add_target(
             if is_among(creates, written) {
                 return Ok(());
             }
-            add_named(alloc, variables, rows, written, made)?;
+            add_clause(alloc, variables, rows, written, made)?;
             Ok(())
         }
     }

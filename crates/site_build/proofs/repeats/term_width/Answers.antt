@@ -1,9 +1,8 @@
 use Rattle.std.proofs.Common.{List, subst}
 use Rattle.struql_ast.specs.declared.Operand.{Operand}
-use Rattle.struql_ast.specs.Reading.{operand_of}
+use Rattle.struql_ast.specs.Reading.{operand_of, term_of}
 use Rattle.std.proofs.Common.{map}
-use Rattle.site_build.specs.Widths.{ReadsTerm}
-use Rattle.site_build.proofs.RowReads.{reads_nothing, reads_one_more, reads_all}
+use Rattle.site_build.proofs.RowReads.{ReadsTerm, reads_nothing, reads_one_more, reads_all, asks_term}
 use Rattle.site_build.proofs.repeats.term_width.Goals as goal
 
 pub loop-operand-init : goal.loop-operand-init
@@ -16,5 +15,6 @@ loop-operand-preserved c =
 
 pub returns : goal.returns
 returns c =
-    subst (λ (os : List Operand). ReadsTerm c.args.variables.now c.loop-operand.width (map operand_of os)) c.as_slice-operand-items.ensures.value
-    (reads_all c.args.variables.now c.loop-operand.width c.as_slice-operand-items.result.now c.loop-operand.operand-index c.loop-operand-test.false c.loop-operand.invariant)
+    asks_term c.args.variables.now c.loop-operand.width (term_of c.args.written.now)
+    (subst (λ (os : List Operand). ReadsTerm c.args.variables.now c.loop-operand.width (map operand_of os)) c.as_slice-operand-items.ensures.value
+    (reads_all c.args.variables.now c.loop-operand.width c.as_slice-operand-items.result.now c.loop-operand.operand-index c.loop-operand-test.false c.loop-operand.invariant))

@@ -1,6 +1,6 @@
 use Rattle.std.proofs.Common.{map, take}
 use Rattle.struql_ast.specs.Reading.{operand_of}
-use Rattle.site_build.specs.Widths.{ReadsTerm}
+use Rattle.site_build.proofs.RowReads.{ReadsTerm}
 use Rattle.site_build.proofs.repeats.term_width.Given as goal
 
 abbrev pub invariant-loop-operand : goal.invariant-loop-operand

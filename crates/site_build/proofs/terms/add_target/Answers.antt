@@ -9,5 +9,5 @@ pub returns-then-is_among : goal.returns-then-is_among
 returns-then-is_among c =
     rw c.in-Made.is (names_known c.args.variables.now c.args.rows.now c.args.creates.now (term_of c.in-Made.written) c.args.made.now.keys c.requires (c.is_among.ensures c.if-is_among.true))
 
-pub returns-in_ok-add_named-in-Made : goal.returns-in_ok-add_named-in-Made
-returns-in_ok-add_named-in-Made c = rw c.in-Made.is (names_one c.args.variables.now c.args.rows.now (term_of c.in-Made.written) _ _ c.in_ok-add_named-in-Made.ensures)
+pub returns-in_ok-add_clause-in-Made : goal.returns-in_ok-add_clause-in-Made
+returns-in_ok-add_clause-in-Made c = rw c.in-Made.is (names_one c.args.variables.now c.args.rows.now (term_of c.in-Made.written) _ _ c.in_ok-add_clause-in-Made.ensures)
