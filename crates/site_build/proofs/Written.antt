@@ -1,5 +1,5 @@
 -- Terms that are written alike, and what they name under rows.
-use Rattle.std.proofs.Common.{◌≡◌, ◌⊎◌, ℕ, ◌+◌, ◌<◌, ◌≤◌, List, [], ◌∷◌, ◌++◌, map, length, get_or, take, arith, inl, inr, ⊎_elim, sym, ap, ◌∙◌, refl, subst}
+use Rattle.std.proofs.Common.{◌≡◌, ℕ, ◌+◌, ◌<◌, ◌≤◌, List, [], ◌∷◌, ◌++◌, map, length, get_or, take, arith, inl, ⊎_elim, sym, ap, ◌∙◌, refl, subst}
 use Rattle.std.specs.Prelude.{Bool, true, false, not, Contains}
 use Rattle.std.specs.Ordering.{eq_by_cmp}
 use Rattle.std.proofs.lemmas.List.{take_all, take_more_same, length-map, get_or-map}
@@ -18,7 +18,7 @@ use Rattle.site_spec.specs.Site.{SomeOf, IsTermUnder}
 use Rattle.site_asks.proofs.Some.{some_from, some_cons}
 use Rattle.site_build.specs.Gains.{Gains}
 use Rattle.site_build.specs.Materialised.{HasCreated}
-use Rattle.site_build.proofs.Growing.{gains_none, gains_as, gains_both, gains_only, gains_turned}
+use Rattle.site_build.proofs.Growing.{gains_none, gains_both, gains_only, gains_turned}
 
 pub one_operand_more : (xs ys : List Operand) (i : ℕ) (x y : Operand) → i < length xs → i < length ys → x ≡ get_or xs i x → y ≡ get_or ys i y → operand_of x ≡ operand_of y
     → take i (map operand_of xs) ≡ take i (map operand_of ys) → take (i + 1) (map operand_of xs) ≡ take (i + 1) (map operand_of ys)

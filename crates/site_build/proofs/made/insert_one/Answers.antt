@@ -1,4 +1,4 @@
-use Rattle.std.proofs.Common.{true, ◌≡◌, sym, ◌∙◌, subst, List}
+use Rattle.std.proofs.Common.{true, ◌≡◌, sym, ◌∙◌, subst}
 use Rattle.std.specs.Prelude.{Some}
 use Rattle.std.specs.Cmp.{Equal-is}
 use Rattle.site_build.specs.Gains.{Gains}

@@ -1,9 +1,6 @@
-use Rattle.std.proofs.Common.{◌≡◌, [], List, ap, sym, subst, ◌∙◌}
+use Rattle.std.proofs.Common.{◌≡◌, [], ap, sym, ◌∙◌}
 use Rattle.std.specs.Prelude.{Some}
-use Rattle.graph_spec.specs.DataGraph.{Name}
-use Rattle.site_spec.specs.Site.{SomeOf}
 use Rattle.site_build.specs.declared.ordered.Joined.{Joined}
-use Rattle.site_build.specs.Gains.{Gains}
 use Rattle.site_build.proofs.Growing.{gains_nil, gains_next, gains_end, gains_as}
 use Rattle.site_build.proofs.whole.labels_in.Goals as goal
 

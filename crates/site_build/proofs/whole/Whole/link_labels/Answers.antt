@@ -1,5 +1,4 @@
-use Rattle.std.proofs.Common.{[], List, refl, subst}
-use Rattle.graph_spec.specs.DataGraph.{Name}
+use Rattle.std.proofs.Common.{List, refl, subst}
 use Rattle.query_site.specs.Blocks.{scope_of}
 use Rattle.site_build.specs.declared.ordered.Joined.{Joined}
 use Rattle.site_build.proofs.Site.{LabelsOf, labels_listed}
