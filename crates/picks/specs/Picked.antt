@@ -27,6 +27,11 @@ pub record EndsAt {X : Type 0} (test : X → Bool) (xs : List X) (n : ℕ) : Typ
   pub before : AllWithin (λ x. test x ≡ true) xs 0 n
   pub after : AllWithin (λ x. test x ≡ false) xs n (length xs)
 
+-- from n on no item passes
+pub record EndsBy {X : Type 0} (test : X → Bool) (xs : List X) (n : ℕ) : Type 0 where
+  pub fits : n ≤ length xs
+  pub after : AllWithin (λ x. test x ≡ false) xs n (length xs)
+
 -- an item lies in the place
 abbrev pub HasOne : {X : Type 0} → (X → Ordering) → List X → Type 0
 HasOne {X} place xs = (x : X) × Contains xs x × (place x ≡ Equal)

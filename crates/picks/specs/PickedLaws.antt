@@ -9,11 +9,11 @@ use Rattle.std.proofs.Common.{arith, refl, sym, ap, ◌∙◌, subst, inl, inr, 
 use Rattle.std.proofs.lemmas.List.Elements.{All-from_recursion, recursion_from_All, All-contains, All-head, All-tail, All-cons, All-nil, filter-append, Contains-push_cases}
 use Rattle.std.proofs.lemmas.Grind.{take_at_read}
 use Rattle.std.proofs.lemmas.Bool.{cases_lt}
-use Rattle.std.proofs.lemmas.List.{get_or_default, get_or-take, get_or-drop, take-append-drop}
+use Rattle.std.proofs.lemmas.List.{get_or_default, get_or-take, get_or-drop, take-append-drop, take_rest}
 use Rattle.std.proofs.Common.{length-take, length-drop, append-nil}
 use Rattle.sd_value.specs.Members.{Contains-nil, Contains-cons_cases, Contains-here, Contains-there, Contains-map, Contains-mapped}
 use Rattle.sd_value.specs.Ascending.{ListsExactly}
-use Rattle.picks.specs.Picked.{in_place, picked, IsPlaced, passes, EndsAt, HasOne}
+use Rattle.picks.specs.Picked.{in_place, picked, IsPlaced, passes, EndsAt, EndsBy, HasOne}
 
 module _ {X : Type 0} (test : X → Bool) where
   pub filter-sound : (xs : List X) (z : X) → Contains (filter test xs) z → Contains xs z × (test z ≡ true)
@@ -159,6 +159,14 @@ module _ {X : Type 0} (place : X → Ordering) (xs : List X) (placed : IsPlaced 
       let other : passes through (place (get_or xs i d)) ≡ false = ap (λ y. passes through (place y)) here ∙ h in
       cc)
 
+-- from an item on that does not pass, none does
+pub ends_by : {X : Type 0} (place : X → Ordering) (xs : List X) → IsPlaced place xs → (i : ℕ) (x : X) → i < length xs → x ≡ get_or xs i x → passes true (place x) ≡ false
+    → EndsBy (λ y. passes true (place y)) xs i
+ends_by place xs placed i x l is h = record {
+  fits = omega arith;
+  after = none_after place xs placed true i x l is h;
+}
+
 from_le : (o : Ordering) → passes true o ≡ true → passes false o ≡ false → is_eq o ≡ true
 from_le Less h k = cc
 from_le Equal h k = refl
@@ -205,6 +213,58 @@ part-is {X} place xs lo hi start end = (up, sym (filter-window (λ x. is_eq (pla
 
     above : AllWithin (λ x. is_eq (place x) ≡ false) xs hi (length xs)
     above k d l m = above_not (place (get_or xs k d)) (end.after k d l m)
+
+-- where the first items of a rest end is where the rest ends, and so the list
+pub end-of_rest : {X : Type 0} (place : X → Ordering) (xs : List X) (lo near n : ℕ)
+    → EndsAt (λ x. passes false (place x)) xs lo
+    → EndsBy (λ x. passes true (place x)) (drop lo xs) near
+    → EndsAt (λ x. passes true (place x)) (take near (drop lo xs)) n
+    → EndsAt (λ x. passes true (place x)) xs (lo + n)
+end-of_rest {X} place xs lo near n start by end = record {
+  fits = omega (arith, start.fits, by.fits, end.fits, length-take {A = X}, length-drop {A = X});
+  before = before;
+  after = after;
+}
+  where
+    through : X → Bool
+    through x = passes true (place x)
+
+    at : (k : ℕ) (d : X) → lo ≤ k → get_or (drop lo xs) (k - lo) d ≡ get_or xs k d
+    at k d l = let i : lo + (k - lo) ≡ k = omega arith in get_or-drop lo xs (k - lo) d ∙ ap (λ j. get_or xs j d) i
+
+    before : AllWithin (λ x. through x ≡ true) xs 0 (lo + n)
+    before k d l m = elim (cases_lt k lo) [
+      | inl below ↦ below_through (place (get_or xs k d)) (start.before k d l below)
+      | inr up ↦
+          let short : k - lo < near = omega (arith, end.fits, length-take {A = X}) in
+          ap through (sym (at k d up) ∙ sym (get_or-take near (drop lo xs) (k - lo) d short)) ∙ end.before (k - lo) d (omega arith) (omega arith)
+    ]
+
+    after : AllWithin (λ x. through x ≡ false) xs (lo + n) (length xs)
+    after k d l m = elim (cases_lt (k - lo) near) [
+      | inl short ↦
+          let up : lo ≤ k = omega arith in
+          let first : k - lo < length (take near (drop lo xs)) = omega (arith, by.fits, length-take {A = X}, length-drop {A = X}) in
+          ap through (sym (at k d up) ∙ sym (get_or-take near (drop lo xs) (k - lo) d short)) ∙ end.after (k - lo) d (omega arith) first
+      | inr far ↦
+          let up : lo ≤ k = omega arith in
+          let within : k - lo < length (drop lo xs) = omega (arith, length-drop {A = X}) in
+          ap through (sym (at k d up)) ∙ by.after (k - lo) d far within
+    ]
+
+-- the first items of a rest that end there are what lies in the place
+pub part-of_rest : {X : Type 0} (place : X → Ordering) (xs : List X) (lo near n : ℕ)
+    → EndsAt (λ x. passes false (place x)) xs lo
+    → EndsBy (λ x. passes true (place x)) (take (length xs - lo) (drop lo xs)) near
+    → EndsAt (λ x. passes true (place x)) (take near (take (length xs - lo) (drop lo xs))) n
+    → take n (take (length xs - lo) (drop lo xs)) ≡ in_place place xs
+part-of_rest {X} place xs lo near n start by end =
+    let rest : take (length xs - lo) (drop lo xs) ≡ drop lo xs = take_rest xs lo in
+    let by′ = subst (λ ys. EndsBy (λ x. passes true (place x)) ys near) rest by in
+    let end′ = subst (λ ys. EndsAt (λ x. passes true (place x)) (take near ys) n) rest end in
+    let n_is : lo + n - lo ≡ n = omega arith in
+    ap (take n) rest ∙ sym (ap (λ k. take k (drop lo xs)) n_is)
+    ∙ (part-is place xs lo (lo + n) start (end-of_rest place xs lo near n start by′ end′)).1
 
 -- the part has no item exactly where none lies in the place
 pub none_in_place : {X : Type 0} (place : X → Ordering) (xs : List X) → length (in_place place xs) ≡ 0 → HasOne place xs → ⊥

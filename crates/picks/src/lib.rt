@@ -1,10 +1,10 @@
 //! Picking from lists: what a query gives of each item that lies in its place.
 #![tactic(auto)]
 
-ghost use Rattle.std.specs.Prelude.{◌≡◌, ◌↔◌, IfOk, IsTrue, length, map};
+ghost use Rattle.std.specs.Prelude.{◌≡◌, ◌↔◌, IfOk, IsTrue, true, length, map};
 ghost use Rattle.std.specs.Ordering.{is_eq};
 ghost use Rattle.std.specs.declared.cmp.Ordering.{Ordering};
-ghost use Rattle.picks.specs.Picked.{in_place, picked, IsPlaced, passes, EndsAt, HasOne};
+ghost use Rattle.picks.specs.Picked.{in_place, picked, IsPlaced, passes, EndsAt, EndsBy, HasOne};
 
 use sd_value::NoMemory;
 use std::alloc::Global;
@@ -59,14 +59,32 @@ pub fn count<T, Q: Query<T>>(items: &[T], query: &Q) -> u64
     number
 }
 
-/// The items in the query's place, of items that are ordered by it. They are found by halves.
+/// The items in the query's place, of items that are ordered by it. Where they start is found by halves, and where they
+/// end by doubling from there, so that a short part costs one search.
 pub fn part<'a, T, Q: Query<T>>(items: &'a [T], query: &Q) -> &'a [T]
     requires { IsPlaced (Q.at query.now) items.now }
     ensures { result.now ≡ in_place (Q.at query.now) items.now }
 {
     let start = first_past(items, query, false);
-    let end = first_past(items, query, true);
-    &items[start..end]
+    let rest = &items[start..];
+    let near = reach(rest, query);
+    let end = first_past(&rest[..near], query, true);
+    &rest[..end]
+}
+
+// A length from which on no item is below the query's place or in it: at most twice as many as are, and one.
+fn reach<T, Q: Query<T>>(items: &[T], query: &Q) -> usize
+    requires { IsPlaced (Q.at query.now) items.now }
+    ensures { EndsBy (λ item. passes true (Q.at query.now item)) items.now result }
+{
+    let mut near = 1;
+    while near < items.len() {
+        if !is_passed(query.place(&items[near]), true) {
+            return near;
+        }
+        near = near.saturating_mul(2);
+    }
+    items.len()
 }
 
 // Where the items end that are below the query's place, or those in it too.
