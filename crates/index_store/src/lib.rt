@@ -10,9 +10,9 @@ mod ranks;
 
 use crate::orders::{by_end, by_label};
 use crate::positions::{count_at, pick_at};
-use crate::ranks::sorted_set;
+use crate::ranks::{is_among, sorted_set};
 use edge_queries::{
-    EdgeAt, Incoming, IncomingBy, Labelled, MemberAt, Members, NameAt, Out, OutAll, ValueAt,
+    EdgeAt, Incoming, IncomingBy, Labelled, MemberAt, Members, Out, OutAll,
     copy_names, copy_values,
 };
 use indexmap::IndexSet;
@@ -119,11 +119,11 @@ impl Store for IndexStore {
     }
 
     fn is_value(&self, value: &Value) -> bool {
-        has(self.values.as_slice(), &ValueAt { value })
+        is_among(&self.values, value)
     }
 
     fn is_label(&self, label: &Str) -> bool {
-        has(self.labels.as_slice(), &NameAt { name: label })
+        is_among(&self.labels, label)
     }
 
     fn sizes(&self) -> Sizes {

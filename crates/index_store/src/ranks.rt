@@ -1,5 +1,5 @@
 // Sets in order, in which a key's index is its rank; and the places of a list in the order of such ranks.
-ghost use Rattle.std.specs.Prelude.{◌≡◌, ◌<◌, Some, IfOk, Contains, length, map, slice_get, refl};
+ghost use Rattle.std.specs.Prelude.{◌≡◌, ◌↔◌, ◌<◌, Some, IfOk, IsTrue, Contains, length, map, slice_get, refl};
 ghost use Rattle.std.specs.Ordering.{eq_by_cmp, as_partial_cmp};
 ghost use Rattle.std.specs.Cmp.{partial_equiv_from_equiv, eq_by_cmp_equiv, partial_order_from_agreeing_total};
 ghost use Rattle.sd_value.specs.Ascending.{ListsExactly};
@@ -32,6 +32,13 @@ pub(crate) fn rank_of<K: ExactOrd + Hash>(set: &IndexSet<K>, key: &K) -> usize
     ensures { slice_get set.now.keys result ≡ Some key.now }
 {
     set.get_index_of(key).unwrap()
+}
+
+/// Whether the key is one of the set's.
+pub(crate) fn is_among<K: ExactOrd + Hash>(set: &IndexSet<K>, key: &K) -> bool
+    ensures { IsTrue result ↔ Contains set.now.keys key.now }
+{
+    set.contains(key)
 }
 
 /// A place of a list, in the order of its rank and then of the places.
