@@ -57,7 +57,6 @@ impl Givings {
         }
     }
 
-    /// The kinds that were given to an attribute.
     /// Whether no kind was given. Only a true answer tells something.
     fn is_empty(&self) -> bool
         ensures { IsTrue result → (collection attribute : Name) → told_in self.now collection attribute ≡ NothingTold }
@@ -65,6 +64,7 @@ impl Givings {
         self.told.is_empty()
     }
 
+    /// The kinds that were given to an attribute.
     pub(crate) fn told(
         &self,
         alloc: Global,
@@ -134,6 +134,7 @@ impl Kinds {
     }
 
     /// The kinds that directives of the object's collections give the attribute.
+    /// The kinds that were given to an attribute.
     pub(crate) fn told(
         &self,
         alloc: Global,
