@@ -12,8 +12,7 @@ use crate::orders::{by_end, by_label};
 use crate::positions::{count_at, pick_at};
 use crate::ranks::{is_among, sorted_set};
 use edge_queries::{
-    EdgeAt, Incoming, IncomingBy, Labelled, MemberAt, Members, Out, OutAll,
-    copy_names, copy_values,
+    EdgeAt, Incoming, IncomingBy, Labelled, MemberAt, Members, Out, OutAll, copy_names, copy_values,
 };
 use indexmap::IndexSet;
 use list_store::{all_labels, all_values};
