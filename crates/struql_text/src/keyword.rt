@@ -1,6 +1,7 @@
 //! The words of the grammar, and other names.
 
-ghost use Rattle.std.specs.Prelude.{◌≡◌};
+ghost use Rattle.std.specs.Prelude.{◌≡◌, ◌||◌};
+ghost use Rattle.std.specs.Str.{bytes_eq};
 ghost use Rattle.struql_text.specs.Terminals.{keyword_of};
 
 use sd_lex::Span;
@@ -27,28 +28,34 @@ pub struct Word {
     pub span: Span,
 }
 
+fn is_either(word: &[u8], upper: &[u8], lower: &[u8]) -> bool
+    ensures { result ≡ (bytes_eq word.now upper.now || bytes_eq word.now lower.now) }
+{
+    word == upper || word == lower
+}
+
 /// The keyword that this word is, in all upper or all lower case.
 #[tactic(auto, unfolding(crate::specs::Terminals::keyword_of))]
 pub fn keyword_of(word: &[u8]) -> Option<Keyword>
     ensures { result ≡ keyword_of word.now }
 {
-    if word == b"INPUT".as_slice() || word == b"input".as_slice() {
+    if is_either(word, b"INPUT", b"input") {
         Some(Keyword::Input)
-    } else if word == b"OUTPUT".as_slice() || word == b"output".as_slice() {
+    } else if is_either(word, b"OUTPUT", b"output") {
         Some(Keyword::Output)
-    } else if word == b"WHERE".as_slice() || word == b"where".as_slice() {
+    } else if is_either(word, b"WHERE", b"where") {
         Some(Keyword::Where)
-    } else if word == b"CREATE".as_slice() || word == b"create".as_slice() {
+    } else if is_either(word, b"CREATE", b"create") {
         Some(Keyword::Create)
-    } else if word == b"LINK".as_slice() || word == b"link".as_slice() {
+    } else if is_either(word, b"LINK", b"link") {
         Some(Keyword::Link)
-    } else if word == b"COLLECT".as_slice() || word == b"collect".as_slice() {
+    } else if is_either(word, b"COLLECT", b"collect") {
         Some(Keyword::Collect)
-    } else if word == b"NOT".as_slice() || word == b"not".as_slice() {
+    } else if is_either(word, b"NOT", b"not") {
         Some(Keyword::Not)
-    } else if word == b"IN".as_slice() || word == b"in".as_slice() {
+    } else if is_either(word, b"IN", b"in") {
         Some(Keyword::In)
-    } else if word == b"TRUE".as_slice() || word == b"true".as_slice() {
+    } else if is_either(word, b"TRUE", b"true") {
         Some(Keyword::True)
     } else {
         None

@@ -28,17 +28,34 @@ pub fn sign_at(tokens: &[Token], sign: Sign) -> Result<(Span, &[Token]), Halt>
     Err(Halt::Expected(tokens))
 }
 
+fn is_keyword(token: &Token, keyword: Keyword) -> bool
+    ensures { result ≡ is_keyword keyword token.now }
+{
+    match &token.kind {
+        TokenKind::Name(text) => match keyword_of(text.bytes()) {
+            Some(found) => found == keyword,
+            None => false,
+        },
+        _ => false,
+    }
+}
+
+fn is_name(token: &Token) -> bool
+    ensures { result ≡ is_name token.now }
+{
+    match &token.kind {
+        TokenKind::Name(text) => keyword_of(text.bytes()).is_none(),
+        _ => false,
+    }
+}
+
 /// This keyword at the front, and its place.
 pub fn keyword_at(tokens: &[Token], keyword: Keyword) -> Result<(Span, &[Token]), Halt>
     ensures { Gives (λ x. x.0) (λ x. x.1.now) result (take_one true (keyword_value keyword) tokens.now) }
 {
     if let [first, rest @ ..] = tokens {
-        if let TokenKind::Name(text) = &first.kind {
-            if let Some(found) = keyword_of(text.bytes()) {
-                if found == keyword {
-                    return Ok((first.span, rest));
-                }
-            }
+        if is_keyword(first, keyword) {
+            return Ok((first.span, rest));
         }
     }
     Err(Halt::Expected(tokens))
@@ -50,13 +67,7 @@ pub fn has_keyword(tokens: &[Token], keyword: Keyword) -> bool
 {
     match tokens {
         [] => false,
-        [first, ..] => match &first.kind {
-            TokenKind::Name(text) => match keyword_of(text.bytes()) {
-                Some(found) => found == keyword,
-                None => false,
-            },
-            TokenKind::Sign(_) | TokenKind::Quoted(_) | TokenKind::Int(_) => false,
-        },
+        [first, ..] => is_keyword(first, keyword),
     }
 }
 
@@ -66,13 +77,7 @@ pub fn has_name(tokens: &[Token]) -> bool
 {
     match tokens {
         [] => false,
-        [first, ..] => match &first.kind {
-            TokenKind::Name(text) => match keyword_of(text.bytes()) {
-                Some(_) => false,
-                None => true,
-            },
-            TokenKind::Sign(_) | TokenKind::Quoted(_) | TokenKind::Int(_) => false,
-        },
+        [first, ..] => is_name(first),
     }
 }
 
