@@ -5,7 +5,7 @@ ghost use Rattle.struql_check.specs.Faults.{number};
 ghost use Rattle.struql_check.specs.First.{earlier, comes_before};
 
 /// A check of a query, in the order of their numbers.
-#[derive(Clone, Copy, Debug, PartialEq, Eq)]
+#[derive(Clone, Copy)]
 pub enum Check {
     TooManyPositions,
     Unbound,
@@ -19,7 +19,7 @@ pub enum Check {
 }
 
 /// A check that fails, and where.
-#[derive(Clone, Copy, Debug, PartialEq, Eq)]
+#[derive(Clone, Copy)]
 pub struct Fault {
     pub check: Check,
     pub at: u64,

@@ -11,7 +11,7 @@ use std::alloc::Global;
 use struql_ast::{Collect, Condition, Link, LinkLabel, Operand, PathStep, Target, Term0};
 
 /// The part that a variable plays where it stands.
-#[derive(Clone, Copy, Debug, PartialEq, Eq)]
+#[derive(Clone, Copy)]
 pub enum Role {
     /// Between the arrows of a path.
     Arc,
@@ -24,7 +24,7 @@ pub enum Role {
 }
 
 /// A variable where it stands.
-#[derive(Debug, Drop)]
+#[derive(Drop)]
 pub struct Mention {
     pub name: Str,
     pub role: Role,

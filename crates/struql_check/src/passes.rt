@@ -1,6 +1,7 @@
 //! The checks of one block.
 
 ghost use Rattle.std.specs.Prelude.{◌≡◌, ◌||◌, List, if◌then◌else◌, min, map};
+ghost use Rattle.std.specs.Str.{bytes_eq};
 ghost use Rattle.path_spec.specs.Language.{positions};
 ghost use Rattle.rpe.specs.Reading.{regex_of};
 ghost use Rattle.struql_ast.specs.Written.{condition_written, link_written, collect_written, target_written};
@@ -166,17 +167,22 @@ pub(crate) fn first_of_links(links: &[Link]) -> Option<Fault>
     first
 }
 
+fn is_word(name: &Str, word: &[u8]) -> bool
+    ensures { result ≡ bytes_eq name.now word.now }
+{
+    name.bytes() == word
+}
+
 /// Whether the name is that of a test of kinds.
 #[tactic(auto, unfolding(crate::specs::Faults::is_test))]
 pub(crate) fn is_test(name: &Str) -> bool
     ensures { result ≡ is_test name.now }
 {
-    let bytes = name.bytes();
-    bytes == b"isInt".as_slice()
-        || bytes == b"isText".as_slice()
-        || bytes == b"isUrl".as_slice()
-        || bytes == b"isFile".as_slice()
-        || bytes == b"isNode".as_slice()
+    is_word(name, b"isInt")
+        || is_word(name, b"isText")
+        || is_word(name, b"isUrl")
+        || is_word(name, b"isFile")
+        || is_word(name, b"isNode")
 }
 
 /// Whether the name is that of the root page's address.
@@ -184,7 +190,7 @@ pub(crate) fn is_test(name: &Str) -> bool
 pub(crate) fn is_index(name: &Str) -> bool
     ensures { result ≡ is_index name.now }
 {
-    name.bytes() == b"index".as_slice()
+    is_word(name, b"index")
 }
 
 fn collect_fault(collect: &Collect) -> Option<Fault>

@@ -10,7 +10,7 @@ use std::alloc::Global;
 use struql_ast::{Block, Collect, Link, Target, Term0};
 
 /// A term where it stands.
-#[derive(Debug, Drop)]
+#[derive(Drop)]
 pub struct SeenTerm {
     pub function: Str,
     /// How many arguments it has.
