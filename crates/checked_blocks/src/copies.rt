@@ -1,11 +1,15 @@
 //! Equal parts of queries.
 
 ghost use Rattle.std.specs.Prelude.{◌≡◌, ◌++◌, IfOk, map};
+ghost use Rattle.path_spec.specs.Regex.{seq, alt, star};
+ghost use Rattle.query_spec.specs.Query.{member, path, compare, one_of, kind, negation};
 ghost use Rattle.rpe.specs.Reading.{regex_of};
 ghost use Rattle.struql_ast.specs.Reading.{operand_of, step_of, condition_of, term_of, target_of, label_of, link_of, collect_of};
 
+use query_spec::{Op, Test};
 use rpe::Rpe;
-use sd_value::{NoMemory, Value};
+use sd_lex::Span;
+use sd_value::{NoMemory, Str, Value};
 use std::alloc::Global;
 use struql_ast::{
     Collect, Condition, Constants, Link, LinkLabel, Operand, PathStep, Target, Term0,
@@ -42,6 +46,24 @@ fn values(alloc: Global, values: &[Value]) -> Result<Vec<Value>, NoMemory>
     Ok(copies)
 }
 
+fn sequence(alloc: Global, one: Rpe, other: Rpe) -> Result<Rpe, NoMemory>
+    ensures { IfOk result (λ whole. regex_of whole ≡ seq (regex_of one) (regex_of other)) }
+{
+    Ok(Rpe::Seq(Box::new(alloc, one)?, Box::new(alloc, other)?))
+}
+
+fn choice(alloc: Global, one: Rpe, other: Rpe) -> Result<Rpe, NoMemory>
+    ensures { IfOk result (λ whole. regex_of whole ≡ alt (regex_of one) (regex_of other)) }
+{
+    Ok(Rpe::Alt(Box::new(alloc, one)?, Box::new(alloc, other)?))
+}
+
+fn repetition(alloc: Global, inner: Rpe) -> Result<Rpe, NoMemory>
+    ensures { IfOk result (λ whole. regex_of whole ≡ star (regex_of inner)) }
+{
+    Ok(Rpe::Star(Box::new(alloc, inner)?))
+}
+
 fn rpe(alloc: Global, expression: &Rpe) -> Result<Rpe, NoMemory>
     ensures { IfOk result (λ copy. regex_of copy ≡ regex_of expression.now) }
 {
@@ -51,18 +73,13 @@ fn rpe(alloc: Global, expression: &Rpe) -> Result<Rpe, NoMemory>
         Rpe::Empty => Ok(Rpe::Empty),
         Rpe::Seq(one, other) => {
             let one = rpe(alloc, one)?;
-            let other = rpe(alloc, other)?;
-            Ok(Rpe::Seq(Box::new(alloc, one)?, Box::new(alloc, other)?))
+            sequence(alloc, one, rpe(alloc, other)?)
         }
         Rpe::Alt(one, other) => {
             let one = rpe(alloc, one)?;
-            let other = rpe(alloc, other)?;
-            Ok(Rpe::Alt(Box::new(alloc, one)?, Box::new(alloc, other)?))
+            choice(alloc, one, rpe(alloc, other)?)
         }
-        Rpe::Star(inner) => {
-            let inner = rpe(alloc, inner)?;
-            Ok(Rpe::Star(Box::new(alloc, inner)?))
-        }
+        Rpe::Star(inner) => repetition(alloc, rpe(alloc, inner)?),
     }
 }
 
@@ -77,6 +94,95 @@ fn step(alloc: Global, step: &PathStep) -> Result<PathStep, NoMemory>
     }
 }
 
+fn member_condition(
+    alloc: Global,
+    collection: &Str,
+    variable: &Str,
+    variable_span: Span,
+    span: Span,
+) -> Result<Condition, NoMemory>
+    ensures { IfOk result (λ copy. condition_of copy ≡ member collection.now variable.now) }
+{
+    Ok(Condition::Member {
+        collection: collection.copy(alloc)?,
+        variable: variable.copy(alloc)?,
+        variable_span,
+        span,
+    })
+}
+
+fn path_condition(
+    alloc: Global,
+    from: &Operand,
+    along: &PathStep,
+    to: &Operand,
+    span: Span,
+) -> Result<Condition, NoMemory>
+    ensures { IfOk result (λ copy. condition_of copy ≡ path (operand_of from.now) (step_of along.now) (operand_of to.now)) }
+{
+    Ok(Condition::Path {
+        from: operand(alloc, from)?,
+        step: step(alloc, along)?,
+        to: operand(alloc, to)?,
+        span,
+    })
+}
+
+fn comparison(
+    alloc: Global,
+    left: &Operand,
+    op: Op,
+    right: &Operand,
+    span: Span,
+) -> Result<Condition, NoMemory>
+    ensures { IfOk result (λ copy. condition_of copy ≡ compare (operand_of left.now) op (operand_of right.now)) }
+{
+    Ok(Condition::Compare {
+        left: operand(alloc, left)?,
+        op,
+        right: operand(alloc, right)?,
+        span,
+    })
+}
+
+fn one_of_condition(
+    alloc: Global,
+    left: &Operand,
+    constants: &Constants,
+    span: Span,
+) -> Result<Condition, NoMemory>
+    ensures { IfOk result (λ copy. condition_of copy ≡ one_of (operand_of left.now) constants.now) }
+{
+    Ok(Condition::OneOf {
+        operand: operand(alloc, left)?,
+        constants: Constants::new(values(alloc, constants.items())?),
+        span,
+    })
+}
+
+fn kind_condition(
+    alloc: Global,
+    test: Test,
+    variable: &Str,
+    variable_span: Span,
+    span: Span,
+) -> Result<Condition, NoMemory>
+    ensures { IfOk result (λ copy. condition_of copy ≡ kind test variable.now) }
+{
+    Ok(Condition::Kind {
+        test,
+        variable: variable.copy(alloc)?,
+        variable_span,
+        span,
+    })
+}
+
+fn negated(alloc: Global, inner: Condition, span: Span) -> Result<Condition, NoMemory>
+    ensures { IfOk result (λ whole. condition_of whole ≡ negation (condition_of inner)) }
+{
+    Ok(Condition::Not(Box::new(alloc, inner)?, span))
+}
+
 fn condition(alloc: Global, original: &Condition) -> Result<Condition, NoMemory>
     ensures { IfOk result (λ copy. condition_of copy ≡ condition_of original.now) }
 {
@@ -86,58 +192,31 @@ fn condition(alloc: Global, original: &Condition) -> Result<Condition, NoMemory>
             variable,
             variable_span,
             span,
-        } => Ok(Condition::Member {
-            collection: collection.copy(alloc)?,
-            variable: variable.copy(alloc)?,
-            variable_span: *variable_span,
-            span: *span,
-        }),
+        } => member_condition(alloc, collection, variable, *variable_span, *span),
         Condition::Path {
             from,
-            step: along,
+            step,
             to,
             span,
-        } => Ok(Condition::Path {
-            from: operand(alloc, from)?,
-            step: step(alloc, along)?,
-            to: operand(alloc, to)?,
-            span: *span,
-        }),
+        } => path_condition(alloc, from, step, to, *span),
         Condition::Compare {
             left,
             op,
             right,
             span,
-        } => Ok(Condition::Compare {
-            left: operand(alloc, left)?,
-            op: *op,
-            right: operand(alloc, right)?,
-            span: *span,
-        }),
+        } => comparison(alloc, left, *op, right, *span),
         Condition::OneOf {
-            operand: left,
+            operand,
             constants,
             span,
-        } => Ok(Condition::OneOf {
-            operand: operand(alloc, left)?,
-            constants: Constants::new(values(alloc, constants.items())?),
-            span: *span,
-        }),
+        } => one_of_condition(alloc, operand, constants, *span),
         Condition::Kind {
             test,
             variable,
             variable_span,
             span,
-        } => Ok(Condition::Kind {
-            test: *test,
-            variable: variable.copy(alloc)?,
-            variable_span: *variable_span,
-            span: *span,
-        }),
-        Condition::Not(inner, span) => {
-            let inner = condition(alloc, inner)?;
-            Ok(Condition::Not(Box::new(alloc, inner)?, *span))
-        }
+        } => kind_condition(alloc, *test, variable, *variable_span, *span),
+        Condition::Not(inner, span) => negated(alloc, condition(alloc, inner)?, *span),
     }
 }
 
