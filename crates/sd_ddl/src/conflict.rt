@@ -15,7 +15,7 @@ use sd_value::{Datum, NoMemory, Str, Value};
 use std::alloc::Global;
 
 /// Why adding what a text states ended early, and where.
-#[derive(Clone, Copy, Debug, PartialEq, Eq)]
+#[derive(Clone, Copy)]
 pub enum Stop {
     KindConflict(u64),
     TooManyEdges(u64),
@@ -35,7 +35,7 @@ impl From<NoMemory> for Stop {
 }
 
 /// A conflict of kinds: how many parts stand before it, and its place.
-#[derive(Clone, Copy, Debug)]
+#[derive(Clone, Copy)]
 pub(crate) struct Conflict {
     count: usize,
     place: u64,

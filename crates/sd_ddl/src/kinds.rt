@@ -14,7 +14,7 @@ use std::alloc::Global;
 use std::collections::BTreeMap;
 
 /// Which kinds are told.
-#[derive(Clone, Copy, PartialEq, Eq)]
+#[derive(Clone, Copy)]
 pub enum Told {
     Nothing,
     One(Kind),
@@ -39,6 +39,12 @@ impl Told {
     {
         matches!(self, Told::Several)
     }
+}
+
+fn key_of(alloc: Global, collection: &Str, attribute: &Str) -> Result<(Str, Str), NoMemory>
+    ensures { IfOk result (λ key. key ≡ (collection.now, attribute.now)) }
+{
+    Ok((collection.copy(alloc)?, attribute.copy(alloc)?))
 }
 
 /// The kinds that were given so far, by collection and attribute.
@@ -73,10 +79,16 @@ impl Givings {
     ) -> Result<Told, NoMemory>
         ensures { IfOk result (λ told. told ≡ told_in self.now collection.now attribute.now) }
     {
-        let key = (collection.copy(alloc)?, attribute.copy(alloc)?);
-        match self.told.get(&key) {
-            Some(told) => Ok(*told),
-            None => Ok(Told::Nothing),
+        let key = key_of(alloc, collection, attribute)?;
+        Ok(self.told_at(&key))
+    }
+
+    fn told_at(&self, key: &(Str, Str)) -> Told
+        ensures { result ≡ told_in self.now key.now.0 key.now.1 }
+    {
+        match self.told.get(key) {
+            Some(told) => *told,
+            None => Told::Nothing,
         }
     }
 

@@ -1,25 +1,38 @@
 // A data graph as it is written.
-ghost use Rattle.std.specs.Prelude.{◌≡◌, ◌++◌, OnOk};
+ghost use Rattle.std.specs.Prelude.{◌≡◌, ◌∷◌, ◌++◌, [], OnOk, IfSome, IfNone};
 ghost use Rattle.std.specs.List.{flat_map};
-ghost use Rattle.sd_ddl.specs.Written.{quoted_byte, quoted, value_text, step_line, further_text, in_text, object_text, graph_text};
+ghost use Rattle.std.specs.Fmt.{signed_decimal};
+ghost use Rattle.sd_ddl.specs.Kinds.{Name};
+ghost use Rattle.sd_ddl.specs.Groups.{items_of};
+ghost use Rattle.sd_ddl.specs.Written.{quoted_byte, quoted, value_text, step_line, further_text, in_text, object_text, collections_of, steps_out, graph_text};
 
-use crate::groups::{group_edges, group_members};
+use crate::groups::{Groups, group_edges, group_members};
 use itoa::Buffer;
 use sd_graph::{Graph, Step};
 use sd_value::{Datum, NoMemory, Str, Value};
 use std::alloc::Global;
 
-// A byte of a text in quotes.
+// What stands for a byte of a text in quotes, where that is not the byte itself.
+fn escape(byte: u8) -> Option<&'static [u8]>
+    ensures some { IfSome result (λ text. text.now ≡ quoted_byte byte) }
+    ensures none { IfNone result (quoted_byte byte ≡ byte ∷ []) }
+{
+    match byte {
+        b'"' => Some(b"\\\""),
+        b'\\' => Some(b"\\\\"),
+        b'\n' => Some(b"\\n"),
+        b'\r' => Some(b"\\r"),
+        b'\t' => Some(b"\\t"),
+        _ => None,
+    }
+}
+
 fn push_byte(out: &mut Vec<u8>, byte: u8) -> Result<(), NoMemory>
     ensures { OnOk result (out.new.items ≡ out.old.items ++ quoted_byte byte) }
 {
-    match byte {
-        b'"' => out.extend_from_slice(b"\\\"")?,
-        b'\\' => out.extend_from_slice(b"\\\\")?,
-        b'\n' => out.extend_from_slice(b"\\n")?,
-        b'\r' => out.extend_from_slice(b"\\r")?,
-        b'\t' => out.extend_from_slice(b"\\t")?,
-        _ => out.push(byte)?,
+    match escape(byte) {
+        Some(text) => out.extend_from_slice(text)?,
+        None => out.push(byte)?,
     }
     Ok(())
 }
@@ -43,15 +56,19 @@ fn push_kinded(out: &mut Vec<u8>, word: &[u8], text: &Str) -> Result<(), NoMemor
     push_quoted(out, text)
 }
 
+fn push_int(out: &mut Vec<u8>, number: i64) -> Result<(), NoMemory>
+    ensures { OnOk result (out.new.items ≡ out.old.items ++ signed_decimal number) }
+{
+    let mut buffer = Buffer::new();
+    out.extend_from_slice(buffer.format(number).as_bytes())?;
+    Ok(())
+}
+
 fn push_value(out: &mut Vec<u8>, value: &Value) -> Result<(), NoMemory>
     ensures { OnOk result (out.new.items ≡ out.old.items ++ value_text value.now) }
 {
     match value {
-        Value::Data(Datum::Int(n)) => {
-            let mut buffer = Buffer::new();
-            out.extend_from_slice(buffer.format(*n).as_bytes())?;
-            Ok(())
-        }
+        Value::Data(Datum::Int(number)) => push_int(out, *number),
         Value::Data(Datum::Text(text)) => push_quoted(out, text),
         Value::Data(Datum::Url(text)) => push_kinded(out, b"url ", text),
         Value::Data(Datum::File(text)) => push_kinded(out, b"file ", text),
@@ -70,11 +87,17 @@ fn push_step(out: &mut Vec<u8>, step: &Step) -> Result<(), NoMemory>
     Ok(())
 }
 
+fn push_further_name(out: &mut Vec<u8>, name: &Str) -> Result<(), NoMemory>
+    ensures { OnOk result (out.new.items ≡ out.old.items ++ further_text name.now) }
+{
+    push_kinded(out, b", ", name)
+}
+
 fn push_further(out: &mut Vec<u8>, names: &[Str]) -> Result<(), NoMemory>
     ensures { OnOk result (out.new.items ≡ out.old.items ++ flat_map further_text names.now) }
 {
     for name in names {
-        push_kinded(out, b", ", name)?;
+        push_further_name(out, name)?;
     }
     Ok(())
 }
@@ -91,6 +114,15 @@ fn push_collections(out: &mut Vec<u8>, names: &[Str]) -> Result<(), NoMemory>
     }
 }
 
+fn push_steps(out: &mut Vec<u8>, steps: &[Step]) -> Result<(), NoMemory>
+    ensures { OnOk result (out.new.items ≡ out.old.items ++ flat_map step_line steps.now) }
+{
+    for step in steps {
+        push_step(out, step)?;
+    }
+    Ok(())
+}
+
 fn push_object(
     out: &mut Vec<u8>,
     node: &Str,
@@ -102,10 +134,25 @@ fn push_object(
     push_kinded(out, b"object ", node)?;
     push_collections(out, collections)?;
     out.extend_from_slice(b" {\n")?;
-    for step in steps {
-        push_step(out, step)?;
-    }
+    push_steps(out, steps)?;
     out.extend_from_slice(b"}\n")?;
+    Ok(())
+}
+
+// The objects of a graph, whose edges and members are grouped.
+fn push_nodes(
+    out: &mut Vec<u8>,
+    graph: &Graph,
+    collections: &Groups<Str>,
+    steps: &Groups<Step>,
+) -> Result<(), NoMemory>
+    requires collections { (n : Name) → items_of collections.now n ≡ collections_of graph.now.members n }
+    requires steps { (n : Name) → items_of steps.now n ≡ steps_out graph.now.edges n }
+    ensures { OnOk result (out.new.items ≡ out.old.items ++ graph_text graph.now) }
+{
+    for node in graph.nodes() {
+        push_object(out, node, collections.at(node), steps.at(node))?;
+    }
     Ok(())
 }
 
@@ -115,8 +162,5 @@ pub fn write_ddl(alloc: Global, graph: &Graph, out: &mut Vec<u8>) -> Result<(), 
 {
     let collections = group_members(alloc, graph.member_pairs())?;
     let steps = group_edges(alloc, graph.edges())?;
-    for node in graph.nodes() {
-        push_object(out, node, collections.at(node), steps.at(node))?;
-    }
-    Ok(())
+    push_nodes(out, graph, &collections, &steps)
 }
