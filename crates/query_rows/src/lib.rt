@@ -1,12 +1,18 @@
-//! The rows of chains, as the planner's evaluator finds them over both stores, beside those that a look through all
-//! assignments finds.
+//! Queries over small data: the rows of chains over both stores, beside those that a look through all assignments finds,
+//! and beside rows worked by hand; the text of their plans; and queries that are parsed, refused and printed.
 #![tactic(auto)]
 
 #[cfg(test)]
-mod compared;
+mod chains;
 #[cfg(test)]
-mod conditions;
+mod inputs;
 #[cfg(test)]
-mod paths;
+mod looked;
 #[cfg(test)]
-mod plain;
+mod parsed;
+#[cfg(test)]
+mod plans;
+#[cfg(test)]
+mod printed;
+#[cfg(test)]
+mod rows;

@@ -1,17 +1,12 @@
-//! Every page of small sites of each kind, from its own demand and from the whole site, beside a text worked by hand.
+//! Pages of small sites of each kind, from their own demand and from the whole site; both stores and the walks over
+//! them; and queries that are refused: each beside an answer worked by hand.
 #![tactic(auto)]
 
 #[cfg(test)]
-mod blocks;
+mod inputs;
 #[cfg(test)]
-mod compared;
+mod refused;
 #[cfg(test)]
-mod conditions;
+mod sites;
 #[cfg(test)]
-mod embeds;
-#[cfg(test)]
-mod shown;
-#[cfg(test)]
-mod told;
-#[cfg(test)]
-mod weight;
+mod stores;

@@ -1,0 +1,5 @@
+// Queries, conditions and links that are printed, beside canonical texts worked by hand from the grammar.
+mod built;
+mod limits;
+mod parts;
+mod queries;
