@@ -1,7 +1,9 @@
 // Addresses by example.
+use crate::inputs::{check, check_text};
 use address::{FileRefusal, address, file_of, show, term_of};
 use sd_value::{Args, Datum, NoMemory, Str, Term, Value};
 use std::alloc::Global;
+use std::test::Fail;
 
 // The address of the term that the target names, or nothing.
 fn named(alloc: Global, target: &[u8], root: Option<&Str>) -> Result<Vec<u8>, NoMemory> {
@@ -10,6 +12,45 @@ fn named(alloc: Global, target: &[u8], root: Option<&Str>) -> Result<Vec<u8>, No
         address(alloc, &term, &mut out)?;
     }
     Ok(out)
+}
+
+// Compares the address of the term that each target names.
+fn check_targets(alloc: Global, root: Option<&Str>, rows: &[(&[u8], &[u8])]) -> Result<(), Fail> {
+    for (target, wanted) in rows {
+        check_text(&named(alloc, target, root)?, wanted)?;
+    }
+    Ok(())
+}
+
+const TARGETS: &[(&[u8], &[u8])] = &[
+    (b"/%59earPage/i1998.html?x=1", b"/YearPage/i1998.html"),
+    (b"HTTP://a?x/YearPage/i1998.html", b"/YearPage/i1998.html"),
+    (b"/F/t%252F.html", b""),
+    (b"/", b""),
+    // A text with a blank, and numbers in other forms.
+    (b"/F/ta%20b.html", b""),
+    (b"/F/i01.html", b""),
+    (b"/F/i9223372036854775808.html", b""),
+];
+
+#[test]
+fn targets(rt: HostRuntime) -> Result<(), Fail> {
+    check_targets(rt.alloc(), None, TARGETS)
+}
+
+const ROOTED: &[(&[u8], &[u8])] = &[
+    (b"http://a", b"/RootPage.html"),
+    (b"/index%2Ehtml", b"/RootPage.html"),
+];
+
+fn check_rooted(alloc: Global, root: &[u8], rows: &[(&[u8], &[u8])]) -> Result<(), Fail> {
+    let root = Str::new(alloc, root)?;
+    check_targets(alloc, Some(&root), rows)
+}
+
+#[test]
+fn the_root(rt: HostRuntime) -> Result<(), Fail> {
+    check_rooted(rt.alloc(), b"RootPage", ROOTED)
 }
 
 fn one(alloc: Global, function: &[u8], arg: Datum) -> Result<Term, NoMemory> {
@@ -21,76 +62,72 @@ fn one(alloc: Global, function: &[u8], arg: Datum) -> Result<Term, NoMemory> {
     })
 }
 
-#[test]
-fn a_text_with_a_blank(rt: HostRuntime) -> Result<(), NoMemory> {
-    let alloc = rt.alloc();
-    let term = one(alloc, b"F", Datum::Text(Str::new(alloc, b"a b")?))?;
-    let same = term_of(alloc, b"/F/ta~20b.html", None)? == Some(term.copy(alloc)?);
-    let escaped = term_of(alloc, b"/F/ta%7E20b.html", None)? == Some(term);
-    let blank = term_of(alloc, b"/F/ta%20b.html", None)?.is_none();
-    assert!(rt; same && escaped && blank);
-    Ok(())
+fn check_text_term(alloc: Global, text: &[u8], target: &[u8]) -> Result<(), Fail> {
+    let text = Datum::Text(Str::new(alloc, text)?);
+    let term = one(alloc, b"F", text)?;
+    check(term_of(alloc, target, None)? == Some(term), "another term")
 }
 
 #[test]
-fn numbers_in_one_form(rt: HostRuntime) -> Result<(), NoMemory> {
-    let alloc = rt.alloc();
-    let least = one(alloc, b"F", Datum::Int(-9223372036854775808))?;
-    let read = term_of(alloc, b"/F/i-9223372036854775808.html", None)? == Some(least);
-    let zero = term_of(alloc, b"/F/i01.html", None)?.is_none();
-    let beyond = term_of(alloc, b"/F/i9223372036854775808.html", None)?.is_none();
-    assert!(rt; read && zero && beyond);
-    Ok(())
+fn a_text_with_a_blank(rt: HostRuntime) -> Result<(), Fail> {
+    check_text_term(rt.alloc(), b"a b", b"/F/ta~20b.html")
 }
 
 #[test]
-fn targets(rt: HostRuntime) -> Result<(), NoMemory> {
-    let alloc = rt.alloc();
-    let year = named(alloc, b"/%59earPage/i1998.html?x=1", None)?;
-    let host = named(alloc, b"HTTP://a?x/YearPage/i1998.html", None)?;
-    let once = named(alloc, b"/F/t%252F.html", None)?;
-    assert!(rt; year.as_slice() == b"/YearPage/i1998.html".as_slice());
-    assert!(rt; host.as_slice() == b"/YearPage/i1998.html".as_slice());
-    assert!(rt; once.is_empty());
-    Ok(())
+fn a_text_with_an_escaped_blank(rt: HostRuntime) -> Result<(), Fail> {
+    check_text_term(rt.alloc(), b"a b", b"/F/ta%7E20b.html")
+}
+
+fn check_int_term(alloc: Global, number: i64, target: &[u8]) -> Result<(), Fail> {
+    let term = one(alloc, b"F", Datum::Int(number))?;
+    check(term_of(alloc, target, None)? == Some(term), "another term")
 }
 
 #[test]
-fn the_root(rt: HostRuntime) -> Result<(), NoMemory> {
-    let alloc = rt.alloc();
-    let root = Str::new(alloc, b"RootPage")?;
-    let slash = named(alloc, b"http://a", Some(&root))?;
-    let index = named(alloc, b"/index%2Ehtml", Some(&root))?;
-    let none = named(alloc, b"/", None)?;
-    assert!(rt; slash.as_slice() == b"/RootPage.html".as_slice());
-    assert!(rt; index.as_slice() == b"/RootPage.html".as_slice());
-    assert!(rt; none.is_empty());
-    Ok(())
+fn the_least_number(rt: HostRuntime) -> Result<(), Fail> {
+    check_int_term(
+        rt.alloc(),
+        -9223372036854775808,
+        b"/F/i-9223372036854775808.html",
+    )
 }
 
-#[test]
-fn files(rt: HostRuntime) -> Result<(), NoMemory> {
-    let alloc = rt.alloc();
-    let longest = Str::of(alloc, vec![in alloc; b'a'; 249]?)?;
-    let longer = Str::of(alloc, vec![in alloc; b'a'; 250]?)?;
+// Compares the end and the length of the file's name for a text of so many letters.
+fn check_file(
+    alloc: Global,
+    letters: usize,
+    end: Result<(), FileRefusal>,
+    length: usize,
+) -> Result<(), Fail> {
+    let text = Datum::Text(Str::of(alloc, b"a".repeat(alloc, letters)?)?);
+    let term = one(alloc, b"F", text)?;
     let mut out = Vec::new(alloc);
-    let refused = file_of(alloc, &one(alloc, b"F", Datum::Text(longer))?, &mut out);
-    assert!(rt; refused == Err(FileRefusal::LongName) && out.is_empty());
-    let taken = file_of(alloc, &one(alloc, b"F", Datum::Text(longest))?, &mut out);
-    assert!(rt; taken.is_ok() && out.len() == 257);
-    Ok(())
+    let found = file_of(alloc, &term, &mut out);
+    check(found == end && out.len() == length, "another file")
 }
 
 #[test]
-fn shown(rt: HostRuntime) -> Result<(), NoMemory> {
-    let alloc = rt.alloc();
+fn the_longest_file_name(rt: HostRuntime) -> Result<(), Fail> {
+    check_file(rt.alloc(), 249, Ok(()), 257)
+}
+
+#[test]
+fn a_file_name_that_is_too_long(rt: HostRuntime) -> Result<(), Fail> {
+    check_file(rt.alloc(), 250, Err(FileRefusal::LongName), 0)
+}
+
+// Shows two values one after the other.
+fn check_shown(alloc: Global, first: &Value, second: &Value, text: &[u8]) -> Result<(), Fail> {
     let mut out = Vec::new(alloc);
-    show(alloc, &Value::Data(Datum::Int(-5)), &mut out)?;
-    show(
-        alloc,
-        &Value::Page(one(alloc, b"P", Datum::Node(Str::new(alloc, b"x/.")?))?),
-        &mut out,
-    )?;
-    assert!(rt; out.as_slice() == b"-5/P/nx~2F~2E.html".as_slice());
-    Ok(())
+    show(alloc, first, &mut out)?;
+    show(alloc, second, &mut out)?;
+    check_text(&out, text)
+}
+
+#[test]
+fn shown(rt: HostRuntime) -> Result<(), Fail> {
+    let node = Datum::Node(Str::new(rt.alloc(), b"x/.")?);
+    let page = Value::Page(one(rt.alloc(), b"P", node)?);
+    let number = Value::Data(Datum::Int(-5));
+    check_shown(rt.alloc(), &number, &page, b"-5/P/nx~2F~2E.html")
 }

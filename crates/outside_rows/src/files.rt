@@ -1,39 +1,65 @@
 // Each call of the forms in memory once, with ample memory, and a failing one of each kind.
+use crate::inputs::{check, check_text};
 use edge_io::{Failed, Files, MemFile, MemFiles, MemSink, ReadEnd, Sink};
-use sd_value::Str;
+use sd_value::{NoMemory, Str};
+use std::alloc::Global;
 use std::test::Fail;
+
+// One file, where the fourth call fails.
+fn one_file(alloc: Global, path: &Str, bytes: &[u8]) -> Result<MemFiles, NoMemory> {
+    let mut files = Vec::new(alloc);
+    files.push(MemFile {
+        path: path.copy(alloc)?,
+        bytes: Str::new(alloc, bytes)?,
+    })?;
+    Ok(MemFiles::new(alloc, files, [4].to_vec(alloc)?))
+}
+
+// Writes the text, and compares the end and what the file holds then.
+fn check_written(
+    files: &mut MemFiles,
+    path: &Str,
+    text: &[u8],
+    end: Result<(), Failed>,
+) -> Result<(), Fail> {
+    check(files.write(path, text) == end, "another end")?;
+    check_text(files.bytes(path).unwrap_or(b""), b"two")
+}
+
+fn check_calls(alloc: Global, files: &mut MemFiles, path: &Str, missing: &Str) -> Result<(), Fail> {
+    let start = files.read(alloc, path, 2)?;
+    check_text(&start, b"on")?;
+    check_written(files, path, b"two", Ok(()))?;
+    let end = files.read(alloc, missing, 9);
+    check(end == Err(ReadEnd::Failed), "a missing file")?;
+    check_written(files, path, b"x", Err(Failed))?;
+    let faults = files.write_faults(path);
+    check(faults == 1 && !files.short(), "other faults")
+}
+
+fn check_files(alloc: Global, path: &[u8], bytes: &[u8], missing: &[u8]) -> Result<(), Fail> {
+    let path = Str::new(alloc, path)?;
+    let missing = Str::new(alloc, missing)?;
+    let mut files = one_file(alloc, &path, bytes)?;
+    check_calls(alloc, &mut files, &path, &missing)
+}
 
 #[test]
 fn files_are_read_and_written(rt: HostRuntime) -> Result<(), Fail> {
-    let alloc = rt.alloc();
-    let path = Str::new(alloc, b"a")?;
-    let bytes = Str::new(alloc, b"one")?;
-    let mut list = Vec::new(alloc);
-    list.push(MemFile {
-        path: path.copy(alloc)?,
-        bytes,
-    })?;
-    let mut files = MemFiles::new(alloc, list, [4].to_vec(alloc)?);
-    assert_eq!(rt; files.read(alloc, &path, 2)?.as_slice(), b"on".as_slice());
-    assert_eq!(rt; files.write(&path, b"two"), Ok(()));
-    assert_eq!(rt; files.bytes(&path), Some(b"two".as_slice()));
-    assert!(rt; files.read(alloc, &Str::new(alloc, b"b")?, 9) == Err(ReadEnd::Failed));
-    assert_eq!(rt; files.write(&path, b"x"), Err(Failed));
-    assert_eq!(rt; files.bytes(&path), Some(b"two".as_slice()));
-    assert_eq!(rt; files.write_faults(&path), 1);
-    assert_eq!(rt; files.short(), false);
-    Ok(())
+    check_files(rt.alloc(), b"a", b"one", b"b")
+}
+
+// The second call fails.
+fn check_sink(sink: &mut MemSink) -> Result<(), Fail> {
+    check(sink.put(b"ab") == Ok(()), "another end")?;
+    check(sink.put(b"cd") == Err(Failed), "another end")?;
+    check(sink.put(b"e") == Ok(()), "another end")?;
+    check_text(sink.bytes(), b"abe")?;
+    check(sink.faults() == 1 && !sink.short(), "other faults")
 }
 
 #[test]
 fn a_sink_gathers(rt: HostRuntime) -> Result<(), Fail> {
-    let alloc = rt.alloc();
-    let mut sink = MemSink::new(alloc, [2].to_vec(alloc)?);
-    assert_eq!(rt; sink.put(b"ab"), Ok(()));
-    assert_eq!(rt; sink.put(b"cd"), Err(Failed));
-    assert_eq!(rt; sink.put(b"e"), Ok(()));
-    assert_eq!(rt; sink.bytes(), b"abe".as_slice());
-    assert_eq!(rt; sink.faults(), 1);
-    assert_eq!(rt; sink.short(), false);
-    Ok(())
+    let mut sink = MemSink::new(rt.alloc(), [2].to_vec(rt.alloc())?);
+    check_sink(&mut sink)
 }

@@ -1,13 +1,24 @@
-//! What the outside is told and asked: files, reports, addresses, requests and scripts.
+//! What the outside is told and asked, by worked rows: files, outputs, lines of reports, addresses, heads and replies,
+//! scripts, connections over a wire, data sources of every format, and files of templates that are refused.
 #![tactic(auto)]
 
 #[cfg(test)]
 mod addresses;
 #[cfg(test)]
+mod connections;
+#[cfg(test)]
 mod files;
+#[cfg(test)]
+mod inputs;
+#[cfg(test)]
+mod replies;
 #[cfg(test)]
 mod reports;
 #[cfg(test)]
 mod requests;
 #[cfg(test)]
 mod scripts;
+#[cfg(test)]
+mod sources;
+#[cfg(test)]
+mod templates;

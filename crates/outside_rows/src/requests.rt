@@ -1,105 +1,95 @@
-use http_reply::{Fed, NO_MEMORY_REPLY, Reading, no_memory_reply, reply};
+// Heads of requests, and what they ask for.
+use crate::inputs::{check, check_text, repeated};
+use http_reply::Reading;
 use http_spec::{Ask, AskKind};
-use page_spec::Outcome;
-use sd_value::{Datum, Str, Value};
+use std::alloc::Global;
 use std::test::Fail;
 
-const YEAR_PAGE: &[u8] = b"GET /YearPage/i1998.html HTTP/1.1\r\nHost: a\r\n\r\n";
+macro_rules! ask {
+    ($kind:ident, $no_body:literal, $close:literal) => {
+        Ask {
+            kind: AskKind::$kind,
+            no_body: $no_body,
+            close: $close,
+        }
+    };
+}
 
-const GET: Option<Ask> = Some(Ask {
-    kind: AskKind::Get,
-    no_body: false,
-    close: false,
-});
+pub const GET: Ask = ask!(Get, false, false);
 
-const GET_AND_CLOSE: Option<Ask> = Some(Ask {
-    kind: AskKind::Get,
-    no_body: false,
-    close: true,
-});
+const GET_AND_CLOSE: Ask = ask!(Get, false, true);
 
-const HEAD: Option<Ask> = Some(Ask {
-    kind: AskKind::Head,
-    no_body: true,
-    close: false,
-});
+pub const HEAD: Ask = ask!(Head, true, false);
 
-const HEAD_AND_CLOSE: Option<Ask> = Some(Ask {
-    kind: AskKind::Head,
-    no_body: true,
-    close: true,
-});
+const HEAD_AND_CLOSE: Ask = ask!(Head, true, true);
 
-const BAD: Option<Ask> = Some(Ask {
-    kind: AskKind::BadRequest,
-    no_body: false,
-    close: true,
-});
+pub const BAD: Ask = ask!(BadRequest, false, true);
 
-const BAD_HEAD: Option<Ask> = Some(Ask {
-    kind: AskKind::BadRequest,
-    no_body: true,
-    close: true,
-});
+const BAD_HEAD: Ask = ask!(BadRequest, true, true);
 
-const WRONG: Option<Ask> = Some(Ask {
-    kind: AskKind::WrongMethod,
-    no_body: false,
-    close: true,
-});
+pub const WRONG: Ask = ask!(WrongMethod, false, true);
 
-const HEADS: [(&[u8], Option<Ask>); 15] = [
-    (b"\r\n\n\r\nGET / HTTP/1.1\nhOST:\n\n", GET),
-    (b"GET / HTTP/1.1\r\n\r\n", BAD),
-    (b"GET / HTTP/1.1\r\nHost: a\r\nhost: a\r\n\r\n", BAD),
-    (b"GET / HTTP/1.0\r\n\r\n", GET_AND_CLOSE),
+const HEADS: &[(&[u8], Option<Ask>)] = &[
+    (b"\r\n\n\r\nGET / HTTP/1.1\nhOST:\n\n", Some(GET)),
+    (b"GET / HTTP/1.1\r\n\r\n", Some(BAD)),
+    (b"GET / HTTP/1.1\r\nHost: a\r\nhost: a\r\n\r\n", Some(BAD)),
+    (b"GET / HTTP/1.0\r\n\r\n", Some(GET_AND_CLOSE)),
     (
         b"POST / HTTP/1.1\r\nHost: a\r\nContent-Length: 3\r\n\r\n",
-        WRONG,
+        Some(WRONG),
     ),
-    (b"POST / HTTP/1.1\r\n\r\n", BAD),
-    (b"get / HTTP/1.1\r\nHost: a\r\n\r\n", WRONG),
+    (b"POST / HTTP/1.1\r\n\r\n", Some(BAD)),
+    (b"get / HTTP/1.1\r\nHost: a\r\n\r\n", Some(WRONG)),
     (
         b"GET / HTTP/1.1\r\nHost: a\r\nContent-Length: 3\r\n\r\n",
-        BAD,
+        Some(BAD),
     ),
     (
         b"GET / HTTP/1.1\r\nHost: a\r\nContent-Length:\t0 \r\n\r\n",
-        GET,
+        Some(GET),
     ),
     (
         b"GET / HTTP/1.1\r\nHost: a\r\nTransfer-Encoding: x\r\n\r\n",
-        BAD,
+        Some(BAD),
     ),
     (
         b"HEAD / HTTP/1.1\r\nHost: a\r\nConnection: x , CLOSE\t\r\n\r\n",
-        HEAD_AND_CLOSE,
+        Some(HEAD_AND_CLOSE),
     ),
     (
         b"HEAD / HTTP/1.1\r\nHost: a\r\nConnection: xclose\r\n\r\n",
-        HEAD,
+        Some(HEAD),
     ),
-    (b"HEAD / HTTP/1.1\r\n\r\n", BAD_HEAD),
-    (b"GET / HTTP/2.0\r\n", BAD),
+    (b"HEAD / HTTP/1.1\r\n\r\n", Some(BAD_HEAD)),
+    (b"GET / HTTP/2.0\r\n", Some(BAD)),
     (b"GET / HT", None),
 ];
 
-#[test]
-fn kinds_of_heads(rt: HostRuntime) -> Result<(), Fail> {
-    let mut reading = Reading::new(rt.alloc())?;
-    for (text, ask) in HEADS {
-        assert_eq!(rt;
-            reading.feed(text),
-            Fed {
-                taken: text.len(),
-                ask
-            }
-        );
+fn check_ask(found: Option<Ask>, wanted: Option<Ask>) -> Result<(), Fail> {
+    check(found == wanted, "another request")
+}
+
+// Feeds the text, which is taken as a whole, and compares what it asks for.
+fn check_fed(reading: &mut Reading, text: &[u8], ask: Option<Ask>) -> Result<(), Fail> {
+    let fed = reading.feed(text);
+    check(fed.taken == text.len(), "not all is taken")?;
+    check_ask(fed.ask, ask)
+}
+
+fn check_heads(alloc: Global, rows: &[(&[u8], Option<Ask>)]) -> Result<(), Fail> {
+    let mut reading = Reading::new(alloc)?;
+    for (text, ask) in rows {
+        check_fed(&mut reading, text, *ask)?;
     }
     Ok(())
 }
 
-const TARGETS: [(&[u8], &[u8]); 2] = [
+#[test]
+fn kinds_of_heads(rt: HostRuntime) -> Result<(), Fail> {
+    check_heads(rt.alloc(), HEADS)
+}
+
+const TARGETS: &[(&[u8], &[u8])] = &[
     (
         b"GET /%59earPage/i1998.html?x=1 HTTP/1.1\r\nHost: a\r\n\r\n",
         b"/%59earPage/i1998.html?x=1",
@@ -110,145 +100,116 @@ const TARGETS: [(&[u8], &[u8]); 2] = [
     ),
 ];
 
-#[test]
-fn targets(rt: HostRuntime) -> Result<(), Fail> {
-    let mut reading = Reading::new(rt.alloc())?;
-    for (text, target) in TARGETS {
+fn check_targets(alloc: Global, rows: &[(&[u8], &[u8])]) -> Result<(), Fail> {
+    let mut reading = Reading::new(alloc)?;
+    for (text, target) in rows {
         let _ = reading.feed(text);
-        assert_eq!(rt; reading.target(), target);
+        check_text(reading.target(), target)?;
     }
     Ok(())
+}
+
+#[test]
+fn targets(rt: HostRuntime) -> Result<(), Fail> {
+    check_targets(rt.alloc(), TARGETS)
+}
+
+// Feeds the bytes one at a time, of which none ends a head.
+fn feed_bytes(reading: &mut Reading, bytes: &[u8]) -> Result<(), Fail> {
+    for byte in bytes.chunks(1) {
+        check_fed(reading, byte, None)?;
+    }
+    Ok(())
+}
+
+fn check_byte_by_byte(alloc: Global, head: &[u8], last: &[u8], target: &[u8]) -> Result<(), Fail> {
+    let mut reading = Reading::new(alloc)?;
+    feed_bytes(&mut reading, head)?;
+    check_fed(&mut reading, last, Some(GET))?;
+    check_text(reading.target(), target)?;
+    check_ask(reading.end(), None)
 }
 
 #[test]
 fn one_byte_at_a_time(rt: HostRuntime) -> Result<(), Fail> {
-    let mut reading = Reading::new(rt.alloc())?;
-    for (at, byte) in YEAR_PAGE.iter().enumerate() {
-        let ask = if at + 1 == YEAR_PAGE.len() { GET } else { None };
-        assert_eq!(rt; reading.feed(&[*byte]), Fed { taken: 1, ask });
-    }
-    assert_eq!(rt; reading.target(), b"/YearPage/i1998.html".as_slice());
-    assert_eq!(rt; reading.end(), None);
-    Ok(())
+    let head = b"GET /YearPage/i1998.html HTTP/1.1\r\nHost: a\r\n\r";
+    check_byte_by_byte(rt.alloc(), head, b"\n", b"/YearPage/i1998.html")
 }
 
-// A head of 32 bytes and the letters of a header's value.
-fn long_head(rt: &HostRuntime, letters: usize) -> Result<Vec<u8>, Fail> {
-    let mut head = Vec::from_slice(rt.alloc(), b"GET / HTTP/1.1\r\nHost: a\r\nX: ")?;
-    let value = vec![in rt.alloc(); b'z'; letters]?;
-    head.extend_from_slice(&value)?;
-    head.extend_from_slice(b"\r\n\r\n")?;
-    Ok(head)
+// Texts that are repeated between a head and a tail, and what all of it asks for.
+type LongHead<'a> = (&'a [u8], &'a [u8], usize, &'a [u8], Ask);
+
+const HEAD_OF_LETTERS: &[u8] = b"GET / HTTP/1.1\r\nHost: a\r\nX: ";
+
+const LONG_HEADS: &[LongHead] = &[
+    (HEAD_OF_LETTERS, b"z", 16352, b"\r\n\r\n", GET),
+    (HEAD_OF_LETTERS, b"z", 16353, b"\r\n\r\n", BAD),
+    (b"", b"A", 16384, b"", BAD),
+    (b"", b"\n", 16384, b"", BAD),
+];
+
+fn check_long_head(alloc: Global, reading: &mut Reading, row: &LongHead) -> Result<(), Fail> {
+    let (head, text, count, tail, ask) = *row;
+    let bytes = repeated(alloc, head, text, count, tail)?;
+    check_fed(reading, &bytes, Some(ask))
+}
+
+fn check_long_heads(alloc: Global, rows: &[LongHead]) -> Result<(), Fail> {
+    let mut reading = Reading::new(alloc)?;
+    for row in rows {
+        check_long_head(alloc, &mut reading, row)?;
+    }
+    Ok(())
 }
 
 #[test]
 fn the_longest_head(rt: HostRuntime) -> Result<(), Fail> {
-    let mut reading = Reading::new(rt.alloc())?;
-    for (letters, ask) in [(16352, GET), (16353, BAD)] {
-        let head = long_head(&rt, letters)?;
-        assert_eq!(rt;
-            reading.feed(&head),
-            Fed {
-                taken: head.len(),
-                ask
-            }
-        );
-    }
-    for byte in [b'A', b'\n'] {
-        let bytes = vec![in rt.alloc(); byte; 16384]?;
-        assert_eq!(rt;
-            reading.feed(&bytes),
-            Fed {
-                taken: 16384,
-                ask: BAD
-            }
-        );
-    }
-    Ok(())
+    check_long_heads(rt.alloc(), LONG_HEADS)
 }
 
-// A head with one Host line and other lines, without the empty line that ends it.
-fn head_of_lines(rt: &HostRuntime, others: usize) -> Result<Vec<u8>, Fail> {
-    let mut head = Vec::from_slice(rt.alloc(), b"GET / HTTP/1.1\r\nHost: a\r\n")?;
-    for _ in 0..others {
-        head.extend_from_slice(b"X: y\r\n")?;
+// How many lines stand beside one Host line, and what is asked for before the empty line and after it.
+type Lines = (usize, Option<Ask>, Option<Ask>);
+
+const LINES: &[Lines] = &[(63, None, Some(GET)), (64, Some(BAD), None)];
+
+fn check_lines(alloc: Global, reading: &mut Reading, row: &Lines) -> Result<(), Fail> {
+    let (others, before, after) = *row;
+    let start = b"GET / HTTP/1.1\r\nHost: a\r\n";
+    let head = repeated(alloc, start, b"X: y\r\n", others, b"")?;
+    check_ask(reading.feed(&head).ask, before)?;
+    check_ask(reading.feed(b"\r\n").ask, after)
+}
+
+fn check_each_lines(alloc: Global, rows: &[Lines]) -> Result<(), Fail> {
+    let mut reading = Reading::new(alloc)?;
+    for row in rows {
+        check_lines(alloc, &mut reading, row)?;
     }
-    Ok(head)
+    Ok(())
 }
 
 #[test]
 fn the_most_lines(rt: HostRuntime) -> Result<(), Fail> {
-    let mut reading = Reading::new(rt.alloc())?;
-    for (others, before, after) in [(63, None, GET), (64, BAD, None)] {
-        let head = head_of_lines(&rt, others)?;
-        assert_eq!(rt; reading.feed(&head).ask, before);
-        assert_eq!(rt; reading.feed(b"\r\n").ask, after);
-    }
-    Ok(())
+    check_each_lines(rt.alloc(), LINES)
 }
 
-const ENDS: [(&[u8], Option<Ask>); 4] = [
-    (b"GET / HT", BAD),
+const ENDS: &[(&[u8], Option<Ask>)] = &[
+    (b"GET / HT", Some(BAD)),
     (b"\r\n\r\n", None),
-    (b"\r\n\r", BAD),
+    (b"\r\n\r", Some(BAD)),
     (b"", None),
 ];
 
+fn check_ends(alloc: Global, rows: &[(&[u8], Option<Ask>)]) -> Result<(), Fail> {
+    let mut reading = Reading::new(alloc)?;
+    for (rest, ask) in rows {
+        check_ask(reading.feed(rest).ask, None)?;
+        check_ask(reading.end(), *ask)?;
+    }
+    Ok(())
+}
+
 #[test]
 fn ends(rt: HostRuntime) -> Result<(), Fail> {
-    let mut reading = Reading::new(rt.alloc())?;
-    for (rest, ask) in ENDS {
-        assert_eq!(rt; reading.feed(rest).ask, None);
-        assert_eq!(rt; reading.end(), ask);
-    }
-    Ok(())
-}
-
-fn bytes_of(
-    rt: &HostRuntime,
-    ask: Option<Ask>,
-    outcome: Outcome,
-    close: bool,
-) -> Result<Vec<u8>, Fail> {
-    let mut out = Vec::new(rt.alloc());
-    if let Some(ask) = ask {
-        reply(rt.alloc(), &ask, &outcome, close, &mut out)?;
-    }
-    Ok(out)
-}
-
-#[test]
-fn replies_with_pages(rt: HostRuntime) -> Result<(), Fail> {
-    let text = b"<h1>1998</h1><a href=\"/PaperPage/npub1.html\">Strudel</a>";
-    let page = Outcome::Page(Str::new(rt.alloc(), text)?);
-    assert_eq!(rt; bytes_of(&rt, GET, page, true)?.len(), 154);
-    let page = Outcome::Page(Str::new(rt.alloc(), text)?);
-    assert_eq!(rt;
-        bytes_of(&rt, GET, page, false)?.as_slice(),
-        b"HTTP/1.1 200 OK\r\nContent-Type: text/html; charset=utf-8\r\nContent-Length: 56\r\nConnection: keep-alive\r\n\r\n<h1>1998</h1><a href=\"/PaperPage/npub1.html\">Strudel</a>".as_slice()
-    );
-    assert_eq!(rt;
-        bytes_of(&rt, HEAD, Outcome::Missing, true)?.as_slice(),
-        b"HTTP/1.1 404 Not Found\r\nContent-Type: text/plain; charset=utf-8\r\nContent-Length: 10\r\nConnection: close\r\n\r\n".as_slice()
-    );
-    Ok(())
-}
-
-#[test]
-fn replies_with_faults(rt: HostRuntime) -> Result<(), Fail> {
-    assert_eq!(rt;
-        bytes_of(&rt, BAD, Outcome::Missing, true)?.as_slice(),
-        b"HTTP/1.1 400 Bad Request\r\nContent-Type: text/plain; charset=utf-8\r\nContent-Length: 12\r\nConnection: close\r\n\r\nbad request\n".as_slice()
-    );
-    assert_eq!(rt;
-        bytes_of(&rt, WRONG, Outcome::TooLong, true)?.as_slice(),
-        b"HTTP/1.1 405 Method Not Allowed\r\nContent-Type: text/plain; charset=utf-8\r\nAllow: GET, HEAD\r\nContent-Length: 19\r\nConnection: close\r\n\r\nmethod not allowed\n".as_slice()
-    );
-    let cyclic = Outcome::Cyclic(Value::Data(Datum::Int(-3)));
-    assert_eq!(rt;
-        bytes_of(&rt, GET, cyclic, false)?.as_slice(),
-        b"HTTP/1.1 500 Internal Server Error\r\nContent-Type: text/plain; charset=utf-8\r\nContent-Length: 23\r\nConnection: keep-alive\r\n\r\ncyclic embedding at -3\n".as_slice()
-    );
-    assert_eq!(rt; no_memory_reply(), NO_MEMORY_REPLY.as_slice());
-    Ok(())
+    check_ends(rt.alloc(), ENDS)
 }

@@ -1,0 +1,7 @@
+// The commands `serve` and `replay` over files and a wire in memory.
+mod exchange;
+mod large;
+mod long_heads;
+mod requests;
+mod runs;
+mod sites;
