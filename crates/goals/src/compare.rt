@@ -14,60 +14,16 @@ use std::alloc::Global;
 use std::cmp::Ordering;
 use struql_ast::Constants;
 
-fn is_int(v: &Value) -> bool
-    ensures { IsTrue result ↔ HasKind Test.IsInt v.now }
-{
-    match v {
-        Value::Data(Datum::Int(_)) => true,
-        _ => false,
-    }
-}
-
-fn is_text(v: &Value) -> bool
-    ensures { IsTrue result ↔ HasKind Test.IsText v.now }
-{
-    match v {
-        Value::Data(Datum::Text(_)) => true,
-        _ => false,
-    }
-}
-
-fn is_url(v: &Value) -> bool
-    ensures { IsTrue result ↔ HasKind Test.IsUrl v.now }
-{
-    match v {
-        Value::Data(Datum::Url(_)) => true,
-        _ => false,
-    }
-}
-
-fn is_file(v: &Value) -> bool
-    ensures { IsTrue result ↔ HasKind Test.IsFile v.now }
-{
-    match v {
-        Value::Data(Datum::File(_)) => true,
-        _ => false,
-    }
-}
-
-fn is_node(v: &Value) -> bool
-    ensures { IsTrue result ↔ HasKind Test.IsNode v.now }
-{
-    match v {
-        Value::Data(Datum::Node(_)) => true,
-        _ => false,
-    }
-}
-
 pub(crate) fn has_kind(test: Test, v: &Value) -> bool
     ensures { IsTrue result ↔ HasKind test v.now }
 {
-    match test {
-        Test::IsInt => is_int(v),
-        Test::IsText => is_text(v),
-        Test::IsUrl => is_url(v),
-        Test::IsFile => is_file(v),
-        Test::IsNode => is_node(v),
+    match (test, v) {
+        (Test::IsInt, Value::Data(Datum::Int(_))) => true,
+        (Test::IsText, Value::Data(Datum::Text(_))) => true,
+        (Test::IsUrl, Value::Data(Datum::Url(_))) => true,
+        (Test::IsFile, Value::Data(Datum::File(_))) => true,
+        (Test::IsNode, Value::Data(Datum::Node(_))) => true,
+        _ => false,
     }
 }
 
@@ -106,30 +62,16 @@ fn twin_number(alloc: Global, version: u8, text: &Str) -> Result<Option<i64>, No
     }
 }
 
-fn is_twin_of_number(alloc: Global, version: u8, n: i64, v: &Value) -> Result<bool, NoMemory>
-    ensures { IfOk result (λ b. IsTrue b ↔ IsTwinOf version (Value.Data (Datum.Int n)) v.now) }
-{
-    match v {
-        Value::Data(Datum::Text(s)) => are_twins(alloc, version, n, s),
-        _ => Ok(false),
-    }
-}
-
-fn is_twin_of_text(alloc: Global, version: u8, s: &Str, v: &Value) -> Result<bool, NoMemory>
-    ensures { IfOk result (λ b. IsTrue b ↔ IsTwinOf version (Value.Data (Datum.Text s.now)) v.now) }
-{
-    match v {
-        Value::Data(Datum::Int(n)) => are_twins(alloc, version, *n, s),
-        _ => Ok(false),
-    }
-}
-
 fn is_twin_of(alloc: Global, version: u8, u: &Value, v: &Value) -> Result<bool, NoMemory>
     ensures { IfOk result (λ b. IsTrue b ↔ IsTwinOf version u.now v.now) }
 {
-    match u {
-        Value::Data(Datum::Int(n)) => is_twin_of_number(alloc, version, *n, v),
-        Value::Data(Datum::Text(s)) => is_twin_of_text(alloc, version, s, v),
+    match (u, v) {
+        (Value::Data(Datum::Int(n)), Value::Data(Datum::Text(s))) => Ok(are_twins(
+            alloc, version, *n, s,
+        )?),
+        (Value::Data(Datum::Text(s)), Value::Data(Datum::Int(n))) => Ok(are_twins(
+            alloc, version, *n, s,
+        )?),
         _ => Ok(false),
     }
 }
@@ -250,14 +192,13 @@ fn order_of_data(
 fn order_of(alloc: Global, version: u8, u: &Value, v: &Value) -> Result<Option<Ordering>, NoMemory>
     ensures { IfOk result (λ r. (o : PlainOrdering) → StandIn version o u.now v.now ↔ (r ≡ Some o)) }
 {
-    let Value::Data(d) = u else {
-        return Ok(None);
-    };
-    let Value::Data(e) = v else {
-        return Ok(None);
-    };
-    let order = order_of_data(alloc, version, d, e)?;
-    Ok(order)
+    match (u, v) {
+        (Value::Data(d), Value::Data(e)) => {
+            let order = order_of_data(alloc, version, d, e)?;
+            Ok(order)
+        }
+        _ => Ok(None),
+    }
 }
 
 // Whether the comparison holds.
@@ -283,24 +224,15 @@ pub(crate) fn compares(
     }
 }
 
-fn is_order(order: Option<Ordering>, wanted: Ordering) -> bool
-    ensures { IsTrue result ↔ (order ≡ Some wanted) }
-{
-    match order {
-        Some(order) => order == wanted,
-        None => false,
-    }
-}
-
 // Whether one of the four orders holds of values that stand so.
 fn allows(op: Op, order: Option<Ordering>) -> bool
     ensures { IsTrue result ↔ Allows op order }
 {
-    match op {
-        Op::Lt => is_order(order, Ordering::Less),
-        Op::Le => is_order(order, Ordering::Less) || is_order(order, Ordering::Equal),
-        Op::Gt => is_order(order, Ordering::Greater),
-        Op::Ge => is_order(order, Ordering::Greater) || is_order(order, Ordering::Equal),
+    match (op, order) {
+        (Op::Lt, Some(Ordering::Less)) => true,
+        (Op::Le, Some(Ordering::Less | Ordering::Equal)) => true,
+        (Op::Gt, Some(Ordering::Greater)) => true,
+        (Op::Ge, Some(Ordering::Greater | Ordering::Equal)) => true,
         _ => false,
     }
 }

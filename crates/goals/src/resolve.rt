@@ -2,7 +2,7 @@
 ghost use Rattle.std.specs.Prelude.{◌≡◌, ◌<◌, ◌≤◌, ℕ, length, map, IfOk, Contains};
 ghost use Rattle.path_spec.specs.Language.{positions};
 ghost use Rattle.query_spec.specs.Mentions.{condition_positions};
-ghost use Rattle.query_spec.specs.Query.{member, path, compare, one_of, kind};
+ghost use Rattle.query_spec.specs.Query.{path};
 ghost use Rattle.rpe.specs.Reading.{regex_of};
 ghost use Rattle.struql_ast.specs.Reading.{operand_of, step_of, condition_of};
 ghost use Rattle.goals.specs.Resolved.{IsNumberOf, IsPlaceOf, IsAtomOf, IsRelationOf, IsReady, IsPlain, StandsFor, arcs_of, operand_declared, step_declared, declared};
@@ -10,7 +10,7 @@ ghost use Rattle.goals.specs.Places.{PlaceInRange, AtomInRange};
 
 use crate::literal::{Atom, Goal, Literal, Place, Property, Relation};
 use automaton::{Automaton, RpeRefusal};
-use query_spec::{Op, Test, Variable};
+use query_spec::Variable;
 use rpe::Rpe;
 use sd_value::{NoMemory, Str, Value, copy};
 use std::alloc::Global;
@@ -115,62 +115,6 @@ fn path_of(
     }
 }
 
-fn member_of(
-    alloc: Global,
-    variables: &[Variable],
-    collection: &Str,
-    name: &Str,
-) -> Result<Atom, NoMemory>
-    requires { Contains (map (λ v. v.name) variables.now) name.now }
-    ensures atom { IfOk result (λ a. (version : ℕ) → IsAtomOf version variables.now (member collection.now name.now) a) }
-    ensures in_range { IfOk result (λ a. AtomInRange (length variables.now) a) }
-{
-    let slot = index_of(variables, name);
-    let collection = collection.copy(alloc)?;
-    Ok(Atom::One(Place::Variable(slot), Property::Member(collection)))
-}
-
-fn compare_of(
-    alloc: Global,
-    variables: &[Variable],
-    left: &Operand,
-    op: Op,
-    right: &Operand,
-) -> Result<Atom, NoMemory>
-    requires left { operand_declared variables.now (operand_of left.now) }
-    requires right { operand_declared variables.now (operand_of right.now) }
-    ensures atom { IfOk result (λ a. (version : ℕ) → IsAtomOf version variables.now (compare (operand_of left.now) op (operand_of right.now)) a) }
-    ensures in_range { IfOk result (λ a. AtomInRange (length variables.now) a) }
-{
-    let first = place_of(alloc, variables, left)?;
-    let last = place_of(alloc, variables, right)?;
-    Ok(Atom::Two(first, Relation::Compare(op), last))
-}
-
-fn choice_of(
-    alloc: Global,
-    variables: &[Variable],
-    operand: &Operand,
-    constants: &Constants,
-) -> Result<Atom, NoMemory>
-    requires { operand_declared variables.now (operand_of operand.now) }
-    ensures atom { IfOk result (λ a. (version : ℕ) → IsAtomOf version variables.now (one_of (operand_of operand.now) constants.now) a) }
-    ensures in_range { IfOk result (λ a. AtomInRange (length variables.now) a) }
-{
-    let place = place_of(alloc, variables, operand)?;
-    let constants = constants_of(alloc, constants.items())?;
-    Ok(Atom::One(place, Property::OneOf(constants)))
-}
-
-fn kind_of(variables: &[Variable], test: Test, name: &Str) -> Atom
-    requires { Contains (map (λ v. v.name) variables.now) name.now }
-    ensures atom { (version : ℕ) → IsAtomOf version variables.now (kind test name.now) result }
-    ensures in_range { AtomInRange (length variables.now) result }
-{
-    let slot = index_of(variables, name);
-    Atom::One(Place::Variable(slot), Property::Kind(test))
-}
-
 // The atom of a condition without `not`.
 fn atom_of(alloc: Global, variables: &[Variable], condition: &Condition) -> Result<Atom, NoMemory>
     requires names { declared variables.now (condition_of condition.now) }
@@ -184,20 +128,38 @@ fn atom_of(alloc: Global, variables: &[Variable], condition: &Condition) -> Resu
             collection,
             variable,
             ..
-        } => member_of(alloc, variables, collection, variable),
-        Condition::Path { from, step, to, .. } => path_of(alloc, variables, from, step, to),
+        } => {
+            let slot = index_of(variables, variable);
+            let collection = collection.copy(alloc)?;
+            Ok(Atom::One(Place::Variable(slot), Property::Member(collection)))
+        }
+        Condition::Path { from, step, to, .. } => {
+            let atom = path_of(alloc, variables, from, step, to)?;
+            Ok(atom)
+        }
         Condition::Compare {
             left,
             op,
             right,
             ..
-        } => compare_of(alloc, variables, left, *op, right),
+        } => {
+            let first = place_of(alloc, variables, left)?;
+            let last = place_of(alloc, variables, right)?;
+            Ok(Atom::Two(first, Relation::Compare(*op), last))
+        }
         Condition::OneOf {
             operand,
             constants,
             ..
-        } => choice_of(alloc, variables, operand, constants),
-        Condition::Kind { test, variable, .. } => Ok(kind_of(variables, *test, variable)),
+        } => {
+            let place = place_of(alloc, variables, operand)?;
+            let constants = constants_of(alloc, constants.items())?;
+            Ok(Atom::One(place, Property::OneOf(constants)))
+        }
+        Condition::Kind { test, variable, .. } => {
+            let slot = index_of(variables, variable);
+            Ok(Atom::One(Place::Variable(slot), Property::Kind(*test)))
+        }
         Condition::Not(..) => unreachable!(),
     }
 }

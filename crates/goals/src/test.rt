@@ -1,11 +1,12 @@
 // Tests of conditions whose variables all have values.
-ghost use Rattle.std.specs.Prelude.{◌≡◌, ◌↔◌, ◌<◌, ℕ, IfOk, IsTrue, Contains, length};
+ghost use Rattle.std.specs.Prelude.{◌≡◌, ◌↔◌, IfOk, IsTrue, Contains, length};
 ghost use Rattle.query_spec.specs.Holds.{IsEqual, Compares, HasKind};
 ghost use Rattle.goals.specs.Meaning.{Has, HasArc, Relates};
-ghost use Rattle.goals.specs.Places.{AtomInRange, PlaceInRange, IsGround, IsWhole, Decides};
+ghost use Rattle.goals.specs.Places.{AtomInRange, IsGround};
+ghost use Rattle.goals.specs.Places.{Decides};
 
 use crate::compare::{compares, has_kind, is_one_of};
-use crate::literal::{Atom, Place, Property, Relation};
+use crate::literal::{Atom, Property, Relation};
 use crate::place::{known, value_of};
 use sd_value::{Datum, NoMemory, Value};
 use std::alloc::Global;
@@ -54,73 +55,6 @@ fn has_arc<S: Store>(store: &S, u: &Value, label: &Value, v: &Value) -> bool
     }
 }
 
-fn test_one<S: Store>(
-    alloc: Global,
-    store: &S,
-    version: u8,
-    place: &Place,
-    property: &Property,
-    current: &[Option<Value>],
-) -> Result<bool, NoMemory>
-    requires in_range { PlaceInRange (length current.now) place.now }
-    requires whole { IsWhole place.now current.now }
-    ensures { IfOk result (Decides (S.graph store.now) version (Atom.One place.now property.now) current.now) }
-{
-    let Some(v) = known(place, current) else {
-        return Ok(false);
-    };
-    let holds = has(alloc, store, version, property, v)?;
-    Ok(holds)
-}
-
-fn test_two<S: Store>(
-    alloc: Global,
-    store: &S,
-    version: u8,
-    from: &Place,
-    relation: &Relation,
-    to: &Place,
-    current: &[Option<Value>],
-) -> Result<bool, NoMemory>
-    requires from_in_range { PlaceInRange (length current.now) from.now }
-    requires to_in_range { PlaceInRange (length current.now) to.now }
-    requires from_whole { IsWhole from.now current.now }
-    requires to_whole { IsWhole to.now current.now }
-    ensures { IfOk result (Decides (S.graph store.now) version (Atom.Two from.now relation.now to.now) current.now) }
-{
-    match (known(from, current), known(to, current)) {
-        (Some(u), Some(v)) => Ok(relates(alloc, store, version, relation, u, v)?),
-        _ => Ok(false),
-    }
-}
-
-fn test_arc<S: Store>(
-    store: &S,
-    from: &Place,
-    arc: usize,
-    to: &Place,
-    current: &[Option<Value>],
-) -> bool
-    requires from_in_range { PlaceInRange (length current.now) from.now }
-    requires arc_in_range { arc < length current.now }
-    requires to_in_range { PlaceInRange (length current.now) to.now }
-    requires from_whole { IsWhole from.now current.now }
-    requires arc_whole { IsWhole (Place.Variable arc) current.now }
-    requires to_whole { IsWhole to.now current.now }
-    ensures { (version : ℕ) → Decides (S.graph store.now) version (Atom.Arc from.now arc to.now) current.now result }
-{
-    let Some(u) = known(from, current) else {
-        return false;
-    };
-    let Some(label) = value_of(arc, current) else {
-        return false;
-    };
-    let Some(v) = known(to, current) else {
-        return false;
-    };
-    has_arc(store, u, label, v)
-}
-
 /// Whether the atom holds, where all its variables have values.
 pub fn test<S: Store>(
     alloc: Global,
@@ -134,10 +68,21 @@ pub fn test<S: Store>(
     ensures { IfOk result (Decides (S.graph store.now) version atom.now current.now) }
 {
     match atom {
-        Atom::One(place, property) => test_one(alloc, store, version, place, property, current),
-        Atom::Two(from, relation, to) => test_two(
-            alloc, store, version, from, relation, to, current,
-        ),
-        Atom::Arc(from, arc, to) => Ok(test_arc(store, from, *arc, to, current)),
+        Atom::One(place, property) => match known(place, current) {
+            Some(v) => Ok(has(alloc, store, version, property, v)?),
+            None => Ok(false),
+        },
+        Atom::Two(from, relation, to) => match (known(from, current), known(to, current)) {
+            (Some(u), Some(v)) => Ok(relates(alloc, store, version, relation, u, v)?),
+            _ => Ok(false),
+        },
+        Atom::Arc(from, arc, to) => match (
+            known(from, current),
+            value_of(*arc, current),
+            known(to, current),
+        ) {
+            (Some(u), Some(label), Some(v)) => Ok(has_arc(store, u, label, v)),
+            _ => Ok(false),
+        },
     }
 }
