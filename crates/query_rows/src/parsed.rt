@@ -114,18 +114,15 @@ fn reads_a_query_with_its_places(rt: HostRuntime) -> Result<(), Fail> {
     Ok(())
 }
 
-fn empty_query(alloc: Global) -> Result<Query, NoMemory> {
-    Ok(Query {
-        version: 1,
-        input: Str::new(alloc, b"D")?,
-        blocks: Vec::new(alloc),
-        output: Str::new(alloc, b"S")?,
-    })
-}
-
 #[test]
 fn a_query_without_blocks_has_none(rt: HostRuntime) -> Result<(), Fail> {
-    let checked = struql_check::check(rt.alloc(), empty_query(rt.alloc())?)?;
+    let query = Query {
+        version: 1,
+        input: Str::new(rt.alloc(), b"D")?,
+        blocks: Vec::new(rt.alloc()),
+        output: Str::new(rt.alloc(), b"S")?,
+    };
+    let checked = struql_check::check(rt.alloc(), query)?;
     let blocks = scoped_blocks(rt.alloc(), &checked)?;
     assert_eq!(rt; blocks.len(), 0);
     Ok(())
