@@ -5,4 +5,5 @@ pub mod RowReads
 pub mod Under
 pub mod Site
 pub mod Picks
+pub mod RangeLaws
 pub mod Pages

@@ -5,7 +5,8 @@ use Rattle.std.specs.declared.cmp.Ordering.TheVariants.{Less, Equal, Greater}
 use Rattle.std.specs.Ordering.{on, then_cmp, ordering_then, ordering_index, ordering_reverse}
 use Rattle.std.specs.Cmp.{IsTotalOrder}
 use Rattle.std.specs.List.Sorted.{IsStrictlySortedBy}
-use Rattle.std.proofs.Common.{arith, refl, sym, ap, ◌∙◌, subst, inl, inr, get_or}
+use Rattle.std.proofs.Common.{ℕ, take, drop, arith, refl, sym, ap, ◌∙◌, subst, inl, inr, get_or}
+use Rattle.std.proofs.lemmas.List.Sorted.{IsNonDecreasingBy-drop, IsNonDecreasingBy-take}
 use Rattle.std.proofs.lemmas.Bool.{cases_lt}
 use Rattle.std.proofs.lemmas.Cmp.{on_total, then_total, tied_itself}
 use Rattle.std.proofs.lemmas.Map.Keys.{Less-from_sorted}
@@ -85,6 +86,12 @@ pub placed-link : (from : Term) (label : Name) (js : List Joined) → IsStrictly
 placed-link from label js up =
     placed joined_cmp key_cmp key_cmp-total (λ j. (j.from, j.label)) (from, label) js
     (λ x y h k. two_not_above (term_cmp x.from y.from) (bytes_cmp x.label y.label) (value_cmp x.to y.to) h k) up
+
+-- a part of the links is in order too
+pub placed-near : (from : Term) (label : Name) (js : List Joined) (n lo : ℕ) → IsStrictlySortedBy joined_cmp js → IsPlaced (at_link from label) (take n (drop lo js))
+placed-near from label js n lo up =
+    let index : Joined → ℕ = λ j. ordering_index (at_link from label j) in
+    IsNonDecreasingBy-take index n (drop lo js) (IsNonDecreasingBy-drop index lo js (placed-link from label js up))
 
 pub placed-name : (name : Name) (ps : List Put) → IsStrictlySortedBy put_cmp ps → IsPlaced (at_name name) ps
 placed-name name ps up =

@@ -1,5 +1,5 @@
 -- What stands in a site, from the rows of its blocks.
-use Rattle.std.specs.Prelude.{◌≡◌, ℕ, List, Contains}
+use Rattle.std.specs.Prelude.{◌≡◌, ℕ, List, Contains, length}
 use Rattle.sd_value.specs.declared.Term.{Term}
 use Rattle.sd_value.specs.declared.Value.{Value}
 use Rattle.sd_value.specs.declared.Value.TheVariants.{Page}
@@ -25,6 +25,7 @@ use Rattle.site_build.specs.declared.contents.Contents.{Contents}
 use Rattle.site_build.specs.declared.contents.Made.{Made}
 use Rattle.site_build.specs.Ordered.{joined_cmp, put_cmp}
 use Rattle.site_build.specs.Gains.{Gains}
+use Rattle.site_build.specs.Ranges.{AreRanges, range_at}
 
 -- the link joins the page to the value under an assignment
 abbrev pub IsJoin : Link → Assignment → Joined → Type 0
@@ -56,11 +57,12 @@ pub record IsContents (G : DataGraph) (q : Scope) (terms : List Term) (links : L
   pub all_links : ListsExactly joined_cmp (λ j. Linked G q (Page j.from) j.label j.to) links
   pub all_puts : ListsExactly put_cmp (λ p. CollectedBy G q p.collection p.value) puts
 
--- the contents are those of the site of these blocks over the graph
+-- the contents are those of the site of these blocks over the graph, and the links of each page stand in its range
 pub record IsWhole (G : DataGraph) (scopes : Scopes) (contents : Contents) : Type 0 where
   pub well_formed : IsWellFormed G
   pub scoped : AreScoped scopes.version scopes.blocks.items
   pub made : IsContents G (scope_of scopes) contents.terms.items contents.links.items contents.puts.items
+  pub ranges : AreRanges contents.links.items (length contents.links.items) (range_at contents.ranges)
 
 -- the term's function has a template
 abbrev pub HasPageTemplate : TemplateFile → Term → Type 0

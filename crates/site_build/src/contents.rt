@@ -1,5 +1,5 @@
 // What stands in a site: every block's rows are asked for once.
-ghost use Rattle.std.specs.Prelude.{◌≡◌, Contains, IfOk, OnOk};
+ghost use Rattle.std.specs.Prelude.{◌≡◌, Contains, IfOk, OnOk, length};
 ghost use Rattle.query_spec.specs.Mentions.{IsWellMade};
 ghost use Rattle.query_spec.specs.Rows.{value_in};
 ghost use Rattle.struql_ast.specs.Reading.{link_of, collect_of};
@@ -7,26 +7,29 @@ ghost use Rattle.site_spec.specs.Site.{IsTermUnder, SomeOf, terms_of};
 ghost use Rattle.query_site.specs.declared.Scoped.{Scoped as AnyScoped};
 ghost use Rattle.query_site.specs.Blocks.{AreScoped, body_of, scope_of};
 ghost use Rattle.site_build.specs.Gains.{Gains};
+ghost use Rattle.site_build.specs.Ranges.{AreRanges, range_at};
 ghost use Rattle.site_build.specs.Materialised.{IsJoin, IsPutUnder, BlockAdds, BlocksAdd, IsContents};
 
 use crate::ascending::ascending;
 use crate::made::add_rows;
 use crate::ordered::{Joined, Put};
+use crate::ranges::{Range, ranges_of};
 use crate::terms::{add_collect_terms, add_link_terms};
 use asker::Asker;
-use indexmap::IndexSet;
+use indexmap::{IndexMap, IndexSet};
 use query_site::{Scoped, Scopes};
 use query_spec::Row;
 use sd_value::{NoMemory, Term};
 use site_asks::rows_of;
 use std::alloc::Global;
 
-/// Terms, links, and the values that COLLECTs put under names.
+/// Terms, links, the values that COLLECTs put under names, and where each page's links stand.
 #[derive(Debug, Drop)]
 pub struct Contents {
     pub terms: Vec<Term>,
     pub links: Vec<Joined>,
     pub puts: Vec<Put>,
+    pub ranges: IndexMap<Term, Range>,
 }
 
 /// What rows have made so far. A set tells by a hash what was made before, and its items stand as they came.
@@ -147,6 +150,7 @@ pub fn contents_of<A: Asker>(
     requires scoped { AreScoped scopes.now.version scopes.now.blocks.items }
     ensures graph { A.graph asker.new ≡ A.graph asker.old }
     ensures contents { IfOk result (λ c. IsContents (A.graph asker.old) (scope_of scopes.now) c.terms.items c.links.items c.puts.items) }
+    ensures ranges { IfOk result (λ c. AreRanges c.links.items (length c.links.items) (range_at c.ranges)) }
 {
     let mut made = Made {
         terms: IndexSet::new(alloc),
@@ -155,9 +159,12 @@ pub fn contents_of<A: Asker>(
     };
     add_blocks(alloc, asker, scopes.blocks.as_slice(), &mut made)?;
     let Made { terms, links, puts } = made;
+    let links = ascending(alloc, links)?;
+    let ranges = ranges_of(alloc, links.as_slice())?;
     Ok(Contents {
         terms: ascending(alloc, terms)?,
-        links: ascending(alloc, links)?,
+        links,
         puts: ascending(alloc, puts)?,
+        ranges,
     })
 }

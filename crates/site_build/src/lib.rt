@@ -8,6 +8,7 @@ mod joins;
 mod made;
 mod ordered;
 mod picked;
+mod ranges;
 mod repeats;
 mod terms;
 mod whole;

@@ -1,12 +1,15 @@
 // Look-ups by halves in the ascending lists of a site's contents.
-ghost use Rattle.std.specs.Prelude.{◌↔◌, Contains, IfOk, IsTrue};
+ghost use Rattle.std.specs.Prelude.{◌↔◌, Contains, IfOk, IsTrue, length};
 ghost use Rattle.std.specs.List.Sorted.{IsStrictlySortedBy};
 ghost use Rattle.sd_value.specs.Order.{bytes_cmp, term_cmp, value_cmp};
 ghost use Rattle.sd_value.specs.Ascending.{ListsExactly};
 ghost use Rattle.site_build.specs.Ordered.{joined_cmp, put_cmp};
 ghost use Rattle.site_build.specs.Places.{at_link, at_name, at_term};
+ghost use Rattle.site_build.specs.Ranges.{AreRanges, range_at};
 
 use crate::ordered::{Joined, Put};
+use crate::ranges::Range;
+use indexmap::IndexMap;
 use picks::{Query, give_all, has, part};
 use sd_value::{NoMemory, Str, Term, Value, copy};
 use std::alloc::Global;
@@ -80,18 +83,24 @@ impl<'a> Query<Term> for TermAt<'a> {
     }
 }
 
-/// Where the links lead from the page by the label.
+/// Where the links lead from the page by the label. Only the range of the page's links is looked through.
 pub fn ends_from(
     alloc: Global,
     links: &[Joined],
+    ranges: &IndexMap<Term, Range>,
     from: &Term,
     label: &Str,
 ) -> Result<Vec<Value>, NoMemory>
-    requires { IsStrictlySortedBy joined_cmp links.now }
+    requires ascending { IsStrictlySortedBy joined_cmp links.now }
+    requires ranges { AreRanges links.now (length links.now) (range_at ranges.now) }
     ensures { IfOk result (λ vs. ListsExactly value_cmp (λ v. Contains links.now (record { from = from.now; label = label.now; to = v })) vs.items) }
 {
+    let Some(range) = ranges.get(from) else {
+        return Ok(Vec::new(alloc));
+    };
     let query = LinksFrom { from, label };
-    give_all(alloc, part(links, &query), &query)
+    let near = &links[range.start..range.stop];
+    give_all(alloc, part(near, &query), &query)
 }
 
 /// The values that are put under the name.

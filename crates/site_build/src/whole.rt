@@ -55,7 +55,13 @@ fn edge_ends<A: Asker>(
 {
     match value {
         Value::Page(term) => {
-            let ends = ends_from(alloc, contents.links.as_slice(), term, label)?;
+            let ends = ends_from(
+                alloc,
+                contents.links.as_slice(),
+                &contents.ranges,
+                term,
+                label,
+            )?;
             Ok(ends)
         }
         Value::Data(_) => {

@@ -14,4 +14,4 @@ returns-clause-contents g c =
     contents_made (g.A.Asker.graph c.args.asker.now) (scope_of c.args.scopes.now) c.args.scopes.now.blocks.items c.requires.scoped refl (record { terms = c.new.result; links = c.new-2.result; puts = c.new-3.result }) c.add_blocks.new.made _ _ _
     c.new.ensures.empty c.new-2.ensures.empty c.new-3.ensures.empty
     (subst (λ (bs : List Scoped). BlocksAdd (g.A.Asker.graph c.args.asker.now) bs (record { terms = c.new.result; links = c.new-2.result; puts = c.new-3.result }) c.add_blocks.new.made) c.as_slice.ensures.value c.in_ok-add_blocks.ensures.adds)
-    c.in_ok-ascending.ensures c.in_ok-ascending-2.ensures c.in_ok-ascending-3.ensures
+    c.in_ok-ascending.ensures c.in_ok-links.ensures c.in_ok-ascending-2.ensures

@@ -6,8 +6,8 @@ use Rattle.site_build.specs.Ordered.{joined_cmp}
 use Rattle.site_build.proofs.Site.{ends_listed}
 use Rattle.site_build.proofs.whole.edge_ends.Goals as goal
 
-pub ends_from-requires : goal.ends_from-requires
-ends_from-requires g c = subst (IsStrictlySortedBy joined_cmp) (sym c.as_slice.ensures.value) c.requires.made.all_links.ascending
+pub ends_from-requires-clause-ascending : goal.ends_from-requires-clause-ascending
+ends_from-requires-clause-ascending g c = subst (IsStrictlySortedBy joined_cmp) (sym c.as_slice.ensures.value) c.requires.made.all_links.ascending
 
 pub returns-in_ok-ends-in-Page-clause-ends : goal.returns-in_ok-ends-in-Page-clause-ends
 returns-in_ok-ends-in-Page-clause-ends g c =
