@@ -11,6 +11,3 @@ mod tables;
 pub use position_set::{MAX_POSITIONS, PositionSet};
 pub use rpe::Rpe;
 pub use tables::{Automaton, RpeRefusal};
-
-#[cfg(test)]
-mod tests;

@@ -5,3 +5,4 @@ pub mod Codes
 pub mod Members
 pub mod AscendingLaws
 pub mod Hashes
+pub mod HeldBytes

@@ -15,9 +15,11 @@ use std::rc::Rc;
 
 mod ascending;
 mod hashes;
+mod held;
 mod orders;
 
 pub use ascending::{ExactOrd, sort_and_dedup};
+use held::{Held, short};
 
 /// Memory ran out.
 #[derive(Clone, Copy, Debug, PartialEq, Eq)]
@@ -35,18 +37,20 @@ impl<T: Drop> From<AllocFailed<T>> for NoMemory {
     }
 }
 
-/// A name or a text: any bytes, UTF-8 or not. Copies share the bytes, so a copy is a count.
+/// A name or a text: any bytes, UTF-8 or not. A copy takes no memory: a short text lies in the value itself, and copies
+/// of a longer one share its bytes.
 #[derive(Debug, Drop)]
 pub struct Str {
-    bytes: Rc<Vec<u8>>,
+    held: Held,
 }
 
 impl Model for Str {
     ghost use Rattle.std.specs.Prelude.{ℕ, List};
+    ghost use Rattle.sd_value.specs.HeldBytes.{held_bytes};
 
     ghost Value = { List ℕ };
 
-    ghost view = { λ s. s.bytes.value.items };
+    ghost view = { λ s. held_bytes s.held };
 }
 
 impl Str {
@@ -54,31 +58,42 @@ impl Str {
     pub fn new(alloc: Global, bytes: &[u8]) -> Result<Str, NoMemory>
         ensures { IfOk result (λ s. s ≡ bytes.now) }
     {
+        if let Some(held) = short(bytes) {
+            return Ok(Str { held });
+        }
         let bytes = Vec::from_slice(alloc, bytes)?;
-        Str::of(alloc, bytes)
+        let bytes = Rc::new(alloc, bytes)?;
+        Ok(Str {
+            held: Held::Long(bytes),
+        })
     }
 
     /// The text of these bytes, which are not copied.
     pub fn of(alloc: Global, bytes: Vec<u8>) -> Result<Str, NoMemory>
         ensures { IfOk result (λ s. s ≡ bytes.items) }
     {
+        if let Some(held) = short(bytes.as_slice()) {
+            return Ok(Str { held });
+        }
         let bytes = Rc::new(alloc, bytes)?;
-        Ok(Str { bytes })
+        Ok(Str {
+            held: Held::Long(bytes),
+        })
     }
 
     /// Its bytes.
     pub fn bytes(&self) -> &[u8]
         ensures { result.now ≡ self.now }
     {
-        self.bytes.as_slice()
+        self.held.bytes()
     }
 
-    /// An equal text. The bytes are shared, so only a count rises; a caller can't rest on it.
+    /// An equal text. Only a count of a long text's copies can't be passed; a caller can't rest on it.
     pub fn copy(&self, _alloc: Global) -> Result<Str, NoMemory>
         ensures { IfOk result (λ s. s ≡ self.now) }
     {
-        let bytes = self.bytes.clone()?;
-        Ok(Str { bytes })
+        let held = self.held.copy()?;
+        Ok(Str { held })
     }
 }
 
@@ -139,7 +154,7 @@ impl Args {
     pub fn copy(&self, alloc: Global) -> Result<Args, NoMemory>
         ensures { IfOk result (λ a. a ≡ self.now) }
     {
-        let mut items = Vec::new(alloc);
+        let mut items = Vec::with_capacity(alloc, self.items.len())?;
         for item in self.items() {
             items.push(item.copy(alloc)?)?;
         }

@@ -62,19 +62,3 @@ fn put_escaped_byte(byte: u8, out: &mut Vec<u8>) -> Result<(), NoMemory>
         }
     }
 }
-
-#[cfg(test)]
-mod tests {
-    use super::*;
-
-    #[test]
-    fn writes_tokens(rt: HostRuntime) {
-        let mut out = Vec::new(rt.alloc());
-        let _ = put(b"x ", &mut out);
-        let _ = put_int(-9223372036854775808, &mut out);
-        let _ = put_quoted(b"a\"\\\n\r\t\xff", &mut out);
-        assert!(rt;
-            out.as_slice() == b"x -9223372036854775808\"a\\\"\\\\\\n\\r\\t\xff\"".as_slice()
-        );
-    }
-}
