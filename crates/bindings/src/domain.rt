@@ -63,7 +63,7 @@ pub(crate) fn within<S: Store>(
 ) -> Result<Vec<Value>, NoMemory>
     ensures { IfOk result (λ kept. IsPartOf (IsCandidate (S.graph store.now) arc) values.items kept.items) }
 {
-    let mut kept = Vec::new(alloc);
+    let mut kept = Vec::with_capacity(alloc, values.len())?;
     while let Some(value) = values.pop() {
         let good = in_domain(store, arc, &value);
         keep_if(&mut kept, good, value)?;

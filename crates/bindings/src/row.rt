@@ -10,7 +10,7 @@ use std::alloc::Global;
 pub(crate) fn row_of(alloc: Global, current: &[Option<Value>]) -> Result<Row, NoMemory>
     ensures { IfOk result (λ row. row ≡ known_part current.now) }
 {
-    let mut values = Vec::new(alloc);
+    let mut values = Vec::with_capacity(alloc, current.len())?;
     for known in current {
         if let Some(value) = known {
             values.push(copy(alloc, value)?)?;

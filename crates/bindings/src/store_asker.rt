@@ -46,7 +46,7 @@ fn copy_of(alloc: Global, value: &Option<Value>) -> Result<Option<Value>, NoMemo
 fn copy_bound(alloc: Global, bound: &[Option<Value>]) -> Result<Vec<Option<Value>>, NoMemory>
     ensures { IfOk result (λ values. values.items ≡ bound.now) }
 {
-    let mut values = Vec::new(alloc);
+    let mut values = Vec::with_capacity(alloc, bound.len())?;
     for value in bound {
         let value = copy_of(alloc, value)?;
         values.push(value)?;

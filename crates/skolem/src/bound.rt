@@ -34,7 +34,7 @@ fn copied_value(alloc: Global, value: &Option<Value>) -> Result<Option<Value>, N
 fn copied(alloc: Global, bound: &[Option<Value>]) -> Result<Vec<Option<Value>>, NoMemory>
     ensures { IfOk result (λ values. values.items ≡ bound.now) }
 {
-    let mut values = Vec::new(alloc);
+    let mut values = Vec::with_capacity(alloc, bound.len())?;
     for value in bound {
         let value = copied_value(alloc, value)?;
         values.push(value)?;

@@ -64,7 +64,7 @@ fn all_free(alloc: Global, count: usize) -> Result<Vec<Option<Value>>, NoMemory>
     ensures long { IfOk result (λ values. length values.items ≡ count) }
     ensures free { IfOk result (λ values. (row : List AnyValue) → length row ≡ count → Agrees row values.items) }
 {
-    let mut values = Vec::new(alloc);
+    let mut values = Vec::with_capacity(alloc, count)?;
     for _number in 0..count {
         values.push(None)?;
     }

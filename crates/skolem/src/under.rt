@@ -68,7 +68,7 @@ pub fn instance(
     ensures { IfOk result (λ o. MatchOption o ((p : AnyTerm) → IsTermUnder (value_in variables.now row.now) (term_of term0.now) p → ⊥) (λ p. IsTermUnder (value_in variables.now row.now) (term_of term0.now) p)) }
 {
     let written = term0.args.as_slice();
-    let mut args = Vec::new(alloc);
+    let mut args = Vec::with_capacity(alloc, written.len())?;
     for operand in written {
         let Some(datum) = datum_of(variables, row, operand) else {
             return Ok(None);
