@@ -1,4 +1,4 @@
-// One row for each status, over the forms in memory.
+// Runs of each command beside their status, their output and their line; 6, 8 and 10 are no row's status.
 use crate::inputs::{BIB, file, no_connections, texts};
 use command_run::strudel;
 use edge_io::{MemFiles, MemSink};
