@@ -1,14 +1,7 @@
 //! Web pages from data, a query and templates.
 #![tactic(auto)]
 
-mod data;
-mod explain;
-#[cfg(test)]
-mod page_tests;
-#[cfg(test)]
-mod tests;
-mod top;
-
+use command_run::strudel;
 use edge_io::{RealFiles, RealOut};
 use run_report::{Status, report};
 use sd_value::Str;
@@ -36,7 +29,7 @@ fn main(rt: HostRuntime) -> ExitCode {
     let mut err = RealOut::new(rt.stderr());
     let mut wire = TcpWire::new(&rt);
     let status = match given_words(&rt) {
-        Ok(words) => top::strudel(alloc, &words, &mut files, &mut out, &mut err, &mut wire),
+        Ok(words) => strudel(alloc, &words, &mut files, &mut out, &mut err, &mut wire),
         Err(error) if error.kind() == io::ErrorKind::OutOfMemory => {
             report(alloc, Status::NoMemory, &mut err)
         }

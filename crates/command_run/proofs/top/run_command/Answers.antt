@@ -1,0 +1,78 @@
+use Rattle.std.proofs.Common.{refl}
+use Rattle.command_run.proofs.Ends.{page_told, data_told, explain_told, build_told, serve_told, replay_told, build_writes, serve_uses, serve_read_rose, replay_read_rose, serve_write_rose, replay_write_rose, page_read_rose, data_read_rose, explain_read_rose, build_read_rose, page_write_rose, data_write_rose, explain_write_rose, build_write_rose, trial_told, trial_read_rose, trial_write_rose}
+use Rattle.command_run.proofs.top.run_command.Goals as goal
+
+pub returns-in-Page-clause-ends : goal.returns-in-Page-clause-ends
+returns-in-Page-clause-ends g c = λ map told. page_told _ _ map _ _ _ c.args.command.now c.in-Page.command c.page-answer.result _ _ _ c.page-answer.ensures.same told c.in-Page.is (c.page-answer.ensures.ends map told) c.put_answer.ensures.ends
+
+pub returns-in-Page-clause-read_cause : goal.returns-in-Page-clause-read_cause
+returns-in-Page-clause-read_cause g c = page_read_rose c.args.command.now c.in-Page.command c.page-answer.result _ _ _ _ _ c.in-Page.is c.put_answer.ensures.ends c.page-answer.ensures.cause
+
+pub returns-in-Page-clause-write_cause : goal.returns-in-Page-clause-write_cause
+returns-in-Page-clause-write_cause g c = λ e. page_write_rose c.args.command.now c.in-Page.command _ _ _ c.in-Page.is (c.put_answer.ensures.write_cause e)
+
+pub returns-in-Build-clause-ends : goal.returns-in-Build-clause-ends
+returns-in-Build-clause-ends g c = λ map told. build_told _ map _ _ _ c.args.command.now c.in-Build.command _ _ _ c.in-Build.is (c.build.ensures.ends map told)
+
+pub returns-in-Build-clause-read_cause : goal.returns-in-Build-clause-read_cause
+returns-in-Build-clause-read_cause g c = build_read_rose c.args.command.now c.in-Build.command _ _ _ c.in-Build.is c.build.ensures.read_cause
+
+pub returns-in-Build-clause-files : goal.returns-in-Build-clause-files
+returns-in-Build-clause-files g c = λ none. absurd (build_writes c.args.command.now c.in-Build.command c.in-Build.is none)
+
+pub returns-in-Build-clause-write_cause : goal.returns-in-Build-clause-write_cause
+returns-in-Build-clause-write_cause g c = λ e. build_write_rose c.args.command.now c.in-Build.command _ _ _ c.in-Build.is (c.build.ensures.write_cause e)
+
+pub returns-in-Data-clause-ends : goal.returns-in-Data-clause-ends
+returns-in-Data-clause-ends g c = λ map told. data_told _ _ map _ _ _ c.args.command.now c.in-Data.command c.data-answer.result _ _ _ c.data-answer.ensures.same told c.in-Data.is (c.data-answer.ensures.ends map told) c.put_answer-in-Data.ensures.ends
+
+pub returns-in-Data-clause-read_cause : goal.returns-in-Data-clause-read_cause
+returns-in-Data-clause-read_cause g c = data_read_rose c.args.command.now c.in-Data.command c.data-answer.result _ _ _ _ _ c.in-Data.is c.put_answer-in-Data.ensures.ends c.data-answer.ensures.cause
+
+pub returns-in-Data-clause-write_cause : goal.returns-in-Data-clause-write_cause
+returns-in-Data-clause-write_cause g c = λ e. data_write_rose c.args.command.now c.in-Data.command _ _ _ c.in-Data.is (c.put_answer-in-Data.ensures.write_cause e)
+
+pub returns-in-Explain-clause-ends : goal.returns-in-Explain-clause-ends
+returns-in-Explain-clause-ends g c = λ map told. explain_told _ _ map _ _ _ c.args.command.now c.in-Explain.command c.explain-answer.result _ _ _ c.explain-answer.ensures.same told c.in-Explain.is (c.explain-answer.ensures.ends map told) c.put_answer-in-Explain.ensures.ends
+
+pub returns-in-Explain-clause-read_cause : goal.returns-in-Explain-clause-read_cause
+returns-in-Explain-clause-read_cause g c = explain_read_rose c.args.command.now c.in-Explain.command c.explain-answer.result _ _ _ _ _ c.in-Explain.is c.put_answer-in-Explain.ensures.ends c.explain-answer.ensures.cause
+
+pub returns-in-Explain-clause-write_cause : goal.returns-in-Explain-clause-write_cause
+returns-in-Explain-clause-write_cause g c = λ e. explain_write_rose c.args.command.now c.in-Explain.command _ _ _ c.in-Explain.is (c.put_answer-in-Explain.ensures.write_cause e)
+
+pub returns-in-Serve-clause-ends : goal.returns-in-Serve-clause-ends
+returns-in-Serve-clause-ends g c = λ map told. serve_told _ _ map _ _ _ c.args.command.now c.in-Serve.command _ _ _ c.serve.ensures.same told c.in-Serve.is (c.serve.ensures.ends map told)
+
+pub returns-in-Serve-clause-wire : goal.returns-in-Serve-clause-wire
+returns-in-Serve-clause-wire g c = λ none. absurd (serve_uses c.args.command.now c.in-Serve.command c.in-Serve.is none)
+
+pub returns-in-Serve-clause-read_cause : goal.returns-in-Serve-clause-read_cause
+returns-in-Serve-clause-read_cause g c = serve_read_rose c.args.command.now c.in-Serve.command _ _ _ c.in-Serve.is c.serve.ensures.read_cause
+
+pub returns-in-Serve-clause-write_cause : goal.returns-in-Serve-clause-write_cause
+returns-in-Serve-clause-write_cause g c = λ e. serve_write_rose c.args.command.now c.in-Serve.command _ _ _ c.in-Serve.is (c.serve.ensures.write_cause e)
+
+pub returns-in-Replay-clause-ends : goal.returns-in-Replay-clause-ends
+returns-in-Replay-clause-ends g c = λ map told. replay_told _ _ map _ _ _ c.args.command.now c.in-Replay.command _ _ _ c.replay.ensures.same told c.in-Replay.is (c.replay.ensures.ends map told)
+
+pub returns-in-Replay-clause-read_cause : goal.returns-in-Replay-clause-read_cause
+returns-in-Replay-clause-read_cause g c = replay_read_rose c.args.command.now c.in-Replay.command _ _ _ c.in-Replay.is c.replay.ensures.read_cause
+
+pub returns-in-Replay-clause-write_cause : goal.returns-in-Replay-clause-write_cause
+returns-in-Replay-clause-write_cause g c = λ e. replay_write_rose c.args.command.now c.in-Replay.command _ _ _ c.in-Replay.is (c.replay.ensures.write_cause e)
+
+pub returns-in-Build-clause-wire_cause : goal.returns-in-Build-clause-wire_cause
+returns-in-Build-clause-wire_cause g c = λ e. absurd (c.build.ensures.no_wire e)
+
+pub returns-in-Replay-clause-wire_cause : goal.returns-in-Replay-clause-wire_cause
+returns-in-Replay-clause-wire_cause g c = λ e. absurd (c.replay.ensures.no_wire e)
+
+pub returns-in-Trial-clause-ends : goal.returns-in-Trial-clause-ends
+returns-in-Trial-clause-ends g c = λ map told. trial_told _ _ map _ _ _ c.args.command.now c.in-Trial.command c.trial-answer.result _ _ _ refl told c.in-Trial.is c.trial-answer.ensures c.put_answer-in-Trial.ensures.ends
+
+pub returns-in-Trial-clause-read_cause : goal.returns-in-Trial-clause-read_cause
+returns-in-Trial-clause-read_cause g c = trial_read_rose c.args.command.now c.in-Trial.command c.trial-answer.result _ _ _ _ _ c.in-Trial.is c.put_answer-in-Trial.ensures.ends c.trial-answer.ensures
+
+pub returns-in-Trial-clause-write_cause : goal.returns-in-Trial-clause-write_cause
+returns-in-Trial-clause-write_cause g c = λ e. trial_write_rose c.args.command.now c.in-Trial.command _ _ _ c.in-Trial.is (c.put_answer-in-Trial.ensures.write_cause e)

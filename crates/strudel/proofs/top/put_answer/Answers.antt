@@ -1,8 +1,0 @@
-use Rattle.strudel.proofs.Ends.{fault_told, no_usage}
-use Rattle.strudel.proofs.top.put_answer.Goals as goal
-
-pub returns-clause-ends : goal.returns-clause-ends
-returns-clause-ends g c = fault_told c.in-Err.fault c.args.answer _ _ c.in-Err.is c.from.ensures
-
-pub returns-clause-words : goal.returns-clause-words
-returns-clause-words g c = no_usage c.in-Err.fault _ c.from.ensures
