@@ -1,6 +1,5 @@
 -- Lists with commas between, with their readers.
 use Rattle.std.proofs.Common.{◌≡◌, true, List, [], ◌∷◌, ◌++◌, length, refl, sym, subst, ap, arith, length-append}
-use Rattle.sd_lex.specs.declared.token.Span.{Span}
 use Rattle.sd_lex.specs.declared.token.Token.{Token}
 use Rattle.sd_lex.specs.declared.token.Sign.TheVariants as signs
 use Rattle.grammar.proofs.Parts.{Opens, opens_then, Part, ◌>>=◌, give_part, then_part, weaken_part, iterate_part, iterate_follow}

@@ -6,7 +6,6 @@ ghost use Rattle.sd_lex.specs.declared.token.Token.{Token};
 ghost use Rattle.struql_laws.specs.Conditions.{IsReadAsSpelled};
 
 /// A condition is read exactly where tokens in front spell it within the limits.
-#[tactic(auto, using(crate::proofs::ConditionParts::read_as_spelled))]
 pub fn conditions_are_read_as_spelled()
     ensures { (tokens : List Token) → IsReadAsSpelled tokens }
 {}

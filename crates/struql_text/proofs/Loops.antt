@@ -12,7 +12,7 @@ use Rattle.token_reader.specs.declared.halt.Halt.TheVariants.{Expected, TooDeep,
 use Rattle.token_reader.specs.Gives.{Fails}
 use Rattle.struql_text.specs.Terminals.{sign_value}
 use Rattle.struql_text.specs.Expression.{Counted, bounded, leaf_value}
-use Rattle.struql_text.specs.Reading.{read_sign, read_empty_close, read_inner_close, read_star_step, read_post, read_seq, read_bar_step, read_dot_step, read_atom, read_leaf, read_paren, read_alt}
+use Rattle.struql_text.specs.Reading.{read_empty_close, read_inner_close, read_star_step, read_post, read_seq, read_bar_step, read_dot_step, read_atom, read_leaf, read_paren, read_alt}
 use Rattle.struql_text.proofs.Shorter.{Takes, takes_keeps, give_keeps, past_takes, one_takes, guard_takes, choose_takes, then_takes, then_keeps, iterate_keeps}
 
 -- a loop that ends by an error
