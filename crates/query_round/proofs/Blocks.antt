@@ -16,7 +16,7 @@ use Rattle.struql_text.specs.declared.keyword.Keyword.TheVariants as words
 use Rattle.struql_text.specs.Terminals.{from_to, is_keyword, keyword_of}
 use Rattle.struql_text.specs.Expression.{expression_within, sign}
 use Rattle.struql_text.specs.Grammar as text
-use Rattle.struql_text.proofs.TokenParts.{is_that}
+use Rattle.struql_laws.proofs.TokenParts.{is_that}
 use Rattle.struql_parse.specs.Blocks as blocks
 use Rattle.struql_print.specs.Texts.{condition_text, term_text, link_text, collect_text, clause_text, body_text, block_texts}
 use Rattle.struql_round.specs.ShownParts.{condition_kept, term_kept}

@@ -13,7 +13,7 @@ use Rattle.token_reader.specs.Terminals.{is_sign_kind}
 use Rattle.struql_text.specs.declared.keyword.Keyword.TheVariants as words
 use Rattle.struql_text.specs.Terminals.{keyword_of, is_found}
 use Rattle.struql_text.specs.Expression.{Counted, Leaf, leaf_kind, leaf_value, bounded, leaf, star_step, post, dot_step, seq, bar_step, alt, expression, expression_within}
-use Rattle.struql_text.proofs.ExpressionParts.{atoms}
+use Rattle.struql_laws.proofs.ExpressionParts.{atoms}
 use Rattle.struql_print.specs.Texts.{is_alt, is_alt_or_seq}
 use Rattle.struql_round.specs.Shown.{signs_after, FitsIn, Fits}
 

@@ -17,7 +17,7 @@ use Rattle.struql_text.specs.declared.keyword.Keyword.{Keyword}
 use Rattle.struql_text.specs.Terminals.{from_to, is_keyword, label_value}
 use Rattle.struql_text.specs.Expression.{keyword}
 use Rattle.struql_text.specs.Grammar as text
-use Rattle.struql_text.proofs.TokenParts.{is_that}
+use Rattle.struql_laws.proofs.TokenParts.{is_that}
 use Rattle.struql_parse.specs.Blocks as blocks
 use Rattle.struql_print.specs.Texts.{label_text, link_text, collect_text, clause_text}
 use Rattle.struql_round.specs.ShownParts.{ShowsName}

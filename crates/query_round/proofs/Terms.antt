@@ -17,7 +17,7 @@ use Rattle.struql_text.specs.declared.keyword.Keyword.{Keyword}
 use Rattle.struql_text.specs.declared.keyword.Word.{Word}
 use Rattle.struql_text.specs.Terminals.{keyword_of, operand_kind_value, name_kind_value, named}
 use Rattle.struql_text.specs.Grammar as text
-use Rattle.struql_text.proofs.TokenParts.{is_that}
+use Rattle.struql_laws.proofs.TokenParts.{is_that}
 use Rattle.struql_print.specs.Texts.{operand_text, further, joined, term_text, target_text}
 use Rattle.struql_round.specs.ShownParts.{ShowsName, ShowsOperand, ShowsMoreOperands, ShowsArguments, ShowsTerm, term_kept}
 use Rattle.struql_round.proofs.Conditions.{name_is, operand_is}

@@ -13,7 +13,7 @@ use Rattle.struql_ast.specs.Written as tree
 use Rattle.struql_text.specs.declared.keyword.Keyword.TheVariants as words
 use Rattle.struql_text.specs.Terminals.{from_to, is_keyword, keyword_of}
 use Rattle.struql_text.specs.Expression.{expression_within, sign}
-use Rattle.struql_text.proofs.TokenParts.{is_that}
+use Rattle.struql_laws.proofs.TokenParts.{is_that}
 use Rattle.struql_parse.specs.Blocks as blocks
 use Rattle.struql_print.specs.Texts.{block_texts, query_text}
 use Rattle.struql_round.specs.ShownParts.{ShowsName}

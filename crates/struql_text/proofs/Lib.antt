@@ -1,6 +1,3 @@
-pub mod TokenParts
-pub mod ExpressionParts
+pub mod Shorter
 pub mod Loops
-pub mod ListParts
-pub mod TermParts
-pub mod ConditionParts
+pub mod Lists

@@ -7,22 +7,23 @@ use Rattle.grammar.proofs.Loop.{is_done}
 use Rattle.struql_ast.specs.Written.{collect_written}
 use Rattle.token_reader.specs.Terminals.{is_sign}
 use Rattle.struql_text.specs.Reading.{read_further, read_collect}
-use Rattle.struql_text.proofs.TermParts.{collect_part}
-use Rattle.struql_text.proofs.ListParts.{list_shrinks, list_ends, list_goes_on, list_smaller}
+use Rattle.struql_laws.proofs.TermParts.{collect_part}
+use Rattle.struql_laws.proofs.ListParts.{part_keeps}
+use Rattle.struql_text.proofs.Lists.{list_shrinks, list_ends, list_goes_on, list_smaller}
 use Rattle.struql_parse.proofs.clauses.collects_from.Goals as goal
 
 pub returns-in_err-item : goal.returns-in_err-item
 returns-in_err-item c =
     let p = err_from_is_err_and c.from_residual-in_err-item.result c.from_residual-in_err-item.ensures.1 in
-    rw (p.1, p.2) (list_ends collect_part (λ _ _ _. tt) c.in_err-item.field-0.0 (map collect_written c.list.items.items) c.list.rest.now _ (sym c.has_sign.ensures ∙ c.list-test.true) c.in_err-item.ensures c.list.invariant)
+    rw (p.1, p.2) (list_ends (part_keeps collect_part) c.in_err-item.field-0.0 (map collect_written c.list.items.items) c.list.rest.now _ (sym c.has_sign.ensures ∙ c.list-test.true) c.in_err-item.ensures c.list.invariant)
 
 pub list-smaller : goal.list-smaller
-list-smaller c = list_smaller collect_part (λ _ _ _. tt) c.list.rest.now (collect_written c.in_ok-item.item) c.in_ok-item.after.now (sym c.has_sign.ensures ∙ c.list-test.true) c.in_ok-item.ensures
+list-smaller c = list_smaller (part_keeps collect_part) c.list.rest.now (collect_written c.in_ok-item.item) c.in_ok-item.after.now (sym c.has_sign.ensures ∙ c.list-test.true) c.in_ok-item.ensures
 
 pub list-preserved : goal.list-preserved
 list-preserved c =
     rw (c.in_ok-push-2.ensures.items, map-append collect_written c.list.items.items (c.in_ok-item.item ∷ []))
-    (list_goes_on collect_part (λ _ _ _. tt) (map collect_written c.list.items.items) c.list.rest.now (collect_written c.in_ok-item.item) c.in_ok-item.after.now _ (sym c.has_sign.ensures ∙ c.list-test.true) c.in_ok-item.ensures c.list.invariant)
+    (list_goes_on (part_keeps collect_part) (map collect_written c.list.items.items) c.list.rest.now (collect_written c.in_ok-item.item) c.in_ok-item.after.now _ (sym c.has_sign.ensures ∙ c.list-test.true) c.in_ok-item.ensures c.list.invariant)
 
 pub returns : goal.returns
-returns c = is_done (is_sign signs.Comma) (read_further read_collect) (list_shrinks collect_part (λ _ _ _. tt)) (map collect_written c.list.items.items) c.list.rest.now _ (sym c.has_sign.ensures ∙ c.list-test.false) c.list.invariant
+returns c = is_done (is_sign signs.Comma) (read_further read_collect) (list_shrinks (part_keeps collect_part)) (map collect_written c.list.items.items) c.list.rest.now _ (sym c.has_sign.ensures ∙ c.list-test.false) c.list.invariant

@@ -15,9 +15,9 @@ use Rattle.token_reader.specs.Terminals.{is_sign}
 use Rattle.struql_text.specs.Expression.{sign}
 use Rattle.struql_text.specs.Grammar.{listed, operand, term_of, no_arguments, some_arguments, arguments, term, made, variable_of, named_target, source, operand_target, target, target_span, link, collect}
 use Rattle.struql_text.specs.Reading.{read_no_arguments, read_some_arguments, read_arguments, read_term, read_made, read_named_target, read_source, read_operand_target, read_target, read_link, read_collect}
-use Rattle.struql_text.proofs.TokenParts.{sign_part, sign_opens, name_part, operand_part, label_part, operand_opens_no_sign}
+use Rattle.struql_laws.proofs.TokenParts.{sign_part, sign_opens, name_part, operand_part, label_part, operand_opens_no_sign}
 use Rattle.token_reader.proofs.Terminals.{other_sign}
-use Rattle.struql_text.proofs.ListParts.{listed_part}
+use Rattle.struql_laws.proofs.ListParts.{listed_part}
 use Rattle.token_reader.specs.Gives.{IsReal}
 
 -- a phrase, or nothing where none begins

@@ -15,12 +15,13 @@ use Rattle.token_reader.specs.Terminals.{is_sign}
 use Rattle.struql_text.specs.Expression.{sign, keyword, Counted, expression_within, expression_spelled}
 use Rattle.struql_text.specs.Grammar.{name, operand, call_with, call, between, comparison, membership, arc_step, expression_step, step, path, relation, behind, plain, negated, condition}
 use Rattle.struql_text.specs.Reading.{read_call, read_comparison, read_membership, read_arc_step, read_expression_step, read_step, read_path, read_relation, read_behind, read_plain, read_negated, read_condition}
-use Rattle.struql_text.proofs.TokenParts.{sign_part, sign_opens, keyword_opens, keyword_no_sign, in_part, not_part, name_part, name_opens, operand_part, constant_part, op_part, operand_opens_no_keyword, op_opens_no_keyword, op_opens_no_sign}
+use Rattle.struql_laws.proofs.TokenParts.{sign_part, sign_opens, keyword_opens, keyword_no_sign, in_part, not_part, name_part, name_opens, operand_part, constant_part, op_part, operand_opens_no_keyword, op_opens_no_keyword, op_opens_no_sign}
 use Rattle.token_reader.proofs.Terminals.{other_sign}
-use Rattle.struql_text.proofs.ExpressionParts.{AfterAlt, limited_part, expression_opens_no_name}
-use Rattle.struql_text.proofs.ListParts.{listed_part}
-use Rattle.struql_text.proofs.TermParts.{ends_with}
+use Rattle.struql_laws.proofs.ExpressionParts.{AfterAlt, limited_part, expression_opens_no_name}
+use Rattle.struql_laws.proofs.ListParts.{listed_part}
+use Rattle.struql_laws.proofs.TermParts.{ends_with}
 use Rattle.token_reader.specs.Gives.{IsReal}
+use Rattle.struql_laws.specs.Conditions.{IsReadAsSpelled}
 
 -- within the limits, and at all
 abbrev pub E : List Token → Counted → Type 0
@@ -144,3 +145,9 @@ condition_part =
     either_part (is_keyword words.Not) negated_part plain_part
     (opens_then (keyword words.Not) _ _ (keyword_opens words.Not _ (λ k is. is)))
     (opens_then operand _ _ (operand_opens_no_keyword words.Not))
+
+-- a condition is read exactly where it is spelled
+pub read_as_spelled : (tokens : List Token) → IsReadAsSpelled tokens
+read_as_spelled tokens =
+    let r = condition_part.reads tokens in
+    (r.sound, λ front value rest is h. r.complete front value rest is h tt)

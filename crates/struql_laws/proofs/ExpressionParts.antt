@@ -18,7 +18,7 @@ use Rattle.struql_text.specs.Terminals.{from_to, is_name, is_name_kind, is_free,
 use Rattle.token_reader.specs.Terminals.{is_sign, is_sign_kind, number}
 use Rattle.struql_text.specs.Expression.{sign, Leaf, Counted, Limits, bounded, unbounded, leaf_kind, leaf_value, leaf, empty_close, inner_close, paren, star_step, post, dot_step, seq, bar_step, alt, expression, expression_within, expression_spelled}
 use Rattle.struql_text.specs.Reading.{read_leaf, read_empty_close, read_inner_close, read_paren, read_star_step, read_post, read_dot_step, read_seq, read_bar_step, read_alt, read_atom, read_expression}
-use Rattle.struql_text.proofs.TokenParts.{somewhere, sign_no_name, sign_opens, sign_part, is_that}
+use Rattle.struql_laws.proofs.TokenParts.{somewhere, sign_no_name, sign_opens, sign_part, is_that}
 use Rattle.token_reader.proofs.Terminals.{made, other_sign}
 use Rattle.token_reader.specs.Gives.{IsReal}
 use Rattle.grammar.specs.Fault.{Every}

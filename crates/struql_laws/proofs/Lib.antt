@@ -1,0 +1,5 @@
+pub mod TokenParts
+pub mod ExpressionParts
+pub mod ListParts
+pub mod TermParts
+pub mod ConditionParts
