@@ -17,7 +17,7 @@ use Rattle.tmpl.specs.declared.Expr.{Expr}
 use Rattle.tmpl_read.specs.declared.words.Bound.{Bound}
 use Rattle.tmpl_read.specs.Terminals.{number, is_mark, is_text, text_value, is_compare, compare_value, is_not, not_value, has_keyword, mode_of, order_of, no_settings, loop_settings, IsReal}
 use Rattle.tmpl_read.specs.Template.{mark, expr, any_expr, settings, text_part, format_part, leaf, chain, compared, not_compared, comparison, other_branch, no_other, branches, tested, negated_test, choice_rest, repeat_rest, block, body_of, body}
-use Rattle.tmpl_read.specs.Reading.{read_text, read_format, read_leaf, read_compared, read_not_compared, read_comparing, read_comparison, read_other_branch, read_no_other, read_ending, read_branches, read_tested, read_negated, read_choice_rest, read_repeat_rest, read_choice, read_repeat, read_block, is_block, is_part, read_part, read_body_of, read_body, read_block_at}
+use Rattle.tmpl_read.specs.Reading.{read_text, read_format, read_leaf, read_compared, read_not_compared, read_comparing, read_comparison, read_other_branch, read_no_other, read_ending, read_branches, read_tested, read_negated, read_choice_rest, read_repeated, read_repeat_rest, read_choice, read_repeat, read_block, is_block, is_part, read_part, read_body_of, read_body, read_block_at}
 use Rattle.tmpl_read.proofs.Known.{known_or}
 use Rattle.tmpl_read.proofs.ItemFacts.{guard, has_value, some_value, mark_part, text_item_part, constant_part, not_part, in_part, variable_part, mark_opens, text_opens, other_mark, mark_no_text, text_no_mark, compare_is_keyword, mark_is_no_compare}
 use Rattle.tmpl_read.proofs.WordParts.{expr_part, expr_is_no_not}
@@ -157,7 +157,7 @@ module _ {I V : List Bound → List Item → Body → Type 0} {read : List Bound
       (opens_then (any_expr scope) _ _ (expr_is_no_not scope))
 
   repeat_rest_part : (scope : List Bound) (n : ℕ) → Part IsReal (repeat_rest expr I scope n) (repeat_rest any_expr V scope n) Always (read_repeat_rest read scope n)
-  unfolding read_repeat_rest
+  unfolding read_repeat_rest read_repeated
   repeat_rest_part scope n = do
     name ← variable_part
     _ ← in_part

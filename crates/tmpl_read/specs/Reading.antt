@@ -12,6 +12,7 @@ use Rattle.tmpl.specs.declared.Cmp.{Cmp}
 use Rattle.tmpl.specs.declared.Expr.{Expr}
 use Rattle.tmpl.specs.declared.Mode.TheVariants.{Link}
 use Rattle.tmpl.specs.declared.WordRoot.TheVariants.{Here, Loop, Collection}
+use Rattle.tmpl.specs.declared.Order.{Order}
 use Rattle.tmpl_read.specs.declared.words.Bound.{Bound}
 use Rattle.tmpl_read.specs.declared.settings.Setting.{Setting}
 use Rattle.tmpl_read.specs.declared.settings.Setting.TheVariants as setting
@@ -201,15 +202,19 @@ module _ (body : List Bound → List Item → Outcome Item Body) where
   unfoldable pub read_choice_rest : List Bound → List Item → Outcome Item Body
   read_choice_rest scope = choose is_not (read_negated scope) (read_tested scope false)
 
+  unfoldable pub read_repeated : List Bound → Bound → Expr → Order → List Item → Outcome Item Body
+  read_repeated scope bound e order = do
+    inner ← body (scope ++ bound ∷ [])
+    read_mark marks.EndRepeat
+    give (repeat bound.number e order inner done)
+
   unfoldable pub read_repeat_rest : List Bound → ℕ → List Item → Outcome Item Body
   read_repeat_rest scope number = do
     name ← take_one true variable_value
     take_one true in_value
     e ← read_expr scope
     s ← read_settings 3 loop_settings
-    inner ← body (scope ++ record { name = name; number = number } ∷ [])
-    read_mark marks.EndRepeat
-    give (repeat number e (order_of s) inner done)
+    read_repeated scope (record { name = name; number = number }) e (order_of s)
 
   unfoldable pub read_choice : List Bound → List Item → Outcome Item Body
   read_choice scope = do

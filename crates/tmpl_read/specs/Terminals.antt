@@ -38,19 +38,23 @@ setting_word w =
     if bytes_eq w (codes "EMBED") then Some words.Embed else (
     if bytes_eq w (codes "LINK") then Some words.Link else None))))
 
+-- the keyword of a comparison, or of a setting, that a word is
+unfoldable pub compare_word : List ℕ → Option Keyword
+compare_word w =
+    if bytes_eq w (codes "EQ") then Some words.Eq else (
+    if bytes_eq w (codes "NE") then Some words.Ne else (
+    if bytes_eq w (codes "LT") then Some words.Lt else (
+    if bytes_eq w (codes "LE") then Some words.Le else (
+    if bytes_eq w (codes "GT") then Some words.Gt else (
+    if bytes_eq w (codes "GE") then Some words.Ge else setting_word w)))))
+
 -- the keyword that a word is
 unfoldable pub keyword_of : List ℕ → Option Keyword
 keyword_of w =
     if bytes_eq w (codes "TEMPLATE") || (bytes_eq w (codes "SFMT") || (bytes_eq w (codes "SIF") || (bytes_eq w (codes "SFOR") || bytes_eq w (codes "SELSE")))) then Some words.Tag else (
     if bytes_eq w (codes "COLLECTION") then Some words.Collection else (
     if bytes_eq w (codes "NOT") then Some words.Not else (
-    if bytes_eq w (codes "IN") then Some words.In else (
-    if bytes_eq w (codes "EQ") then Some words.Eq else (
-    if bytes_eq w (codes "NE") then Some words.Ne else (
-    if bytes_eq w (codes "LT") then Some words.Lt else (
-    if bytes_eq w (codes "LE") then Some words.Le else (
-    if bytes_eq w (codes "GT") then Some words.Gt else (
-    if bytes_eq w (codes "GE") then Some words.Ge else setting_word w)))))))))
+    if bytes_eq w (codes "IN") then Some words.In else compare_word w)))
 
 -- the number of the innermost loop with a variable of this name; the innermost loop is the last one
 abbrev pub find : Option ℕ → List Bound → List ℕ → Option ℕ

@@ -7,7 +7,7 @@ ghost use Rattle.tmpl.specs.Body.{body_of, done, choice, repeat};
 ghost use Rattle.tmpl_read.specs.Gives.{Gives, single};
 ghost use Rattle.tmpl_read.specs.Terminals.{no_settings, loop_settings};
 ghost use Rattle.tmpl_read.specs.Template.{chain};
-ghost use Rattle.tmpl_read.specs.Reading.{read_text, read_format, read_leaf, read_compared, read_not_compared, read_comparing, read_comparison, read_other_branch, read_no_other, read_ending, read_branches, read_tested, read_negated, read_choice_rest, read_repeat_rest, read_choice, read_repeat, read_block, is_block, is_part, read_part, read_body_of, read_body, read_block_at};
+ghost use Rattle.tmpl_read.specs.Reading.{read_text, read_format, read_leaf, read_compared, read_not_compared, read_comparing, read_comparison, read_other_branch, read_no_other, read_ending, read_branches, read_tested, read_negated, read_choice_rest, read_repeated, read_repeat_rest, read_choice, read_repeat, read_block, is_block, is_part, read_part, read_body_of, read_body, read_block_at};
 
 use crate::expression::{expression_at, settings_at};
 use crate::halt::Halt;
@@ -311,7 +311,7 @@ fn choice_rest_at<'a>(
 
 /// A choice from its expression on.
 #[cycle(body)]
-#[tactic(auto, unfolding(crate::specs::Reading::read_tested, crate::specs::Reading::read_branches))]
+#[tactic(auto, unfolding(crate::specs::Reading::read_tested))]
 fn tested_at<'a>(
     alloc: Global,
     depth: u32,
@@ -323,7 +323,24 @@ fn tested_at<'a>(
 {
     let (values, rest) = expression_at(alloc, scope, items)?;
     let (against, rest) = comparison_at(alloc, rest)?;
-    let (taken, rest) = body_at(alloc, depth, scope, rest)?;
+    branches_at(alloc, depth, scope, negated, values, against, rest)
+}
+
+/// A choice from its first branch on.
+#[cycle(body)]
+#[tactic(auto, unfolding(crate::specs::Reading::read_branches))]
+fn branches_at<'a>(
+    alloc: Global,
+    depth: u32,
+    scope: &[Bound],
+    negated: bool,
+    values: Expr,
+    against: Option<Against>,
+    items: &'a [Item],
+) -> Result<(Part, &'a [Item]), Halt<'a>>
+    ensures { Gives (λ x. single x.0) (λ x. x.1.now) result (read_branches (read_body depth scope.now) negated values against items.now) }
+{
+    let (taken, rest) = body_at(alloc, depth, scope, items)?;
     let (other, rest) = ending_at(alloc, depth, scope, rest)?;
     Ok((choice_of(negated, values, against, taken, other), rest))
 }
@@ -380,8 +397,34 @@ fn repeat_rest_at<'a>(
     let (values, rest) = expression_at(alloc, scope, rest)?;
     let (settings, rest) = settings_at(alloc, 3, loop_settings(), rest)?;
     let (_, order) = mode_and_order(settings);
+    repeated_at(
+        alloc,
+        depth,
+        scope,
+        Bound { name, number },
+        values,
+        order,
+        rest,
+    )
+}
+
+/// A loop of this variable from its body on.
+#[cycle(body)]
+#[tactic(auto, unfolding(crate::specs::Reading::read_repeated))]
+fn repeated_at<'a>(
+    alloc: Global,
+    depth: u32,
+    scope: &[Bound],
+    bound: Bound,
+    values: Expr,
+    order: Order,
+    items: &'a [Item],
+) -> Result<(Part, &'a [Item]), Halt<'a>>
+    ensures { Gives (λ x. single x.0) (λ x. x.1.now) result (read_repeated (read_body depth) scope.now bound values order items.now) }
+{
+    let Bound { name, number } = bound;
     let inner = extended(alloc, scope, name, number)?;
-    let (body, rest) = body_at(alloc, depth, inner.as_slice(), rest)?;
+    let (body, rest) = body_at(alloc, depth, inner.as_slice(), items)?;
     let (_, rest) = mark_at(rest, Mark::EndRepeat)?;
     Ok((repeat_of(number, values, order, body), rest))
 }

@@ -1,7 +1,7 @@
 //! The words of the grammar, and the loops whose variables are in scope.
 
 ghost use Rattle.std.specs.Prelude.{◌≡◌, None};
-ghost use Rattle.tmpl_read.specs.Terminals.{keyword_of, setting_word, find};
+ghost use Rattle.tmpl_read.specs.Terminals.{keyword_of, compare_word, setting_word, find};
 
 use sd_value::Str;
 
@@ -44,7 +44,17 @@ pub fn keyword_of(word: &[u8]) -> Option<Keyword>
         Some(Keyword::Not)
     } else if word == b"IN".as_slice() {
         Some(Keyword::In)
-    } else if word == b"EQ".as_slice() {
+    } else {
+        compare_word(word)
+    }
+}
+
+/// The keyword of a comparison, or of a setting, that this word is.
+#[tactic(auto, unfolding(crate::specs::Terminals::compare_word))]
+fn compare_word(word: &[u8]) -> Option<Keyword>
+    ensures { result ≡ compare_word word.now }
+{
+    if word == b"EQ".as_slice() {
         Some(Keyword::Eq)
     } else if word == b"NE".as_slice() {
         Some(Keyword::Ne)

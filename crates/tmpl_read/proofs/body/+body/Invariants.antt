@@ -17,16 +17,19 @@ abbrev pub decreases-block_at : goal.decreases-block_at
 decreases-block_at l = 16 * l.depth + 5
 
 abbrev pub decreases-tag_at : goal.decreases-tag_at
-decreases-tag_at l = 16 * l.depth + 13
+decreases-tag_at l = 16 * l.depth + 14
 
 abbrev pub decreases-choice_at : goal.decreases-choice_at
-decreases-choice_at l = 16 * l.depth + 12
+decreases-choice_at l = 16 * l.depth + 13
 
 abbrev pub decreases-choice_rest_at : goal.decreases-choice_rest_at
-decreases-choice_rest_at l = 16 * l.depth + 11
+decreases-choice_rest_at l = 16 * l.depth + 12
 
 abbrev pub decreases-tested_at : goal.decreases-tested_at
-decreases-tested_at l = 16 * l.depth + 10
+decreases-tested_at l = 16 * l.depth + 11
+
+abbrev pub decreases-branches_at : goal.decreases-branches_at
+decreases-branches_at l = 16 * l.depth + 10
 
 abbrev pub decreases-ending_at : goal.decreases-ending_at
 decreases-ending_at l = 16 * l.depth + 9
@@ -36,6 +39,9 @@ decreases-repeat_at l = 16 * l.depth + 12
 
 abbrev pub decreases-repeat_rest_at : goal.decreases-repeat_rest_at
 decreases-repeat_rest_at l = 16 * l.depth + 11
+
+abbrev pub decreases-repeated_at : goal.decreases-repeated_at
+decreases-repeated_at l = 16 * l.depth + 10
 
 abbrev pub invariant-parts_at-list : goal.invariant-parts_at-list
 invariant-parts_at-list l = with_front (map single l.parts.items) (repeat is_part (read_part (read_block_at l.depth) l.scope) l.rest) ≡ repeat is_part (read_part (read_block_at l.depth) l.scope) l.items
