@@ -15,4 +15,5 @@ mod whole;
 
 pub use contents::Contents;
 pub use ordered::{Joined, Put};
+pub use ranges::Range;
 pub use whole::Whole;

@@ -170,6 +170,19 @@ fn has_kind(test: Test, value: &Value) -> bool {
     }
 }
 
+fn are_compared(
+    alloc: Global,
+    at: Assigned<'_>,
+    left: &Operand,
+    op: Op,
+    right: &Operand,
+) -> Result<bool, NoMemory> {
+    match (value_of(at, left), value_of(at, right)) {
+        (Some(a), Some(b)) => compares(alloc, at.version, a, op, b),
+        _ => Ok(false),
+    }
+}
+
 fn holds_without_not(
     alloc: Global,
     at: Assigned<'_>,
@@ -193,10 +206,7 @@ fn holds_without_not(
             op,
             right,
             ..
-        } => match (value_of(at, left), value_of(at, right)) {
-            (Some(a), Some(b)) => compares(alloc, at.version, a, *op, b),
-            _ => Ok(false),
-        },
+        } => are_compared(alloc, at, left, *op, right),
         Condition::OneOf {
             operand,
             constants,
