@@ -9,7 +9,7 @@ use Rattle.skolem.proofs.Args.{zipped_none, zipped_more, no_instance}
 use Rattle.skolem.proofs.under.instance.Goals as goal
 
 pub loop-operand-init : goal.loop-operand-init
-loop-operand-init c = rw c.new-args.ensures.items (zipped_none (λ operand d. operand_value (value_in c.args.variables.now c.args.row.now) operand ≡ Some (Data d)))
+loop-operand-init c = rw c.in_ok-args.ensures.items (zipped_none (λ operand d. operand_value (value_in c.args.variables.now c.args.row.now) operand ≡ Some (Data d)))
 
 pub loop-operand-preserved : goal.loop-operand-preserved
 loop-operand-preserved c =
