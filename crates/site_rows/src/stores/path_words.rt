@@ -1,10 +1,11 @@
 // Words of path expressions: each public call of an automaton once, over `"a"."b"*`, and an expression at the limit of
 // positions and one past it.
+use crate::inputs::check;
 use crate::stores::printed::name;
 use crate::stores::walk_rows::one_and_repeated;
 use automaton::{Automaton, RpeRefusal};
 use rpe::Rpe;
-use sd_value::NoMemory;
+use sd_value::{NoMemory, Str};
 use std::alloc::Global;
 use std::test::Fail;
 
@@ -18,42 +19,86 @@ fn doubled(alloc: Global, times: u32) -> Result<Rpe, NoMemory> {
     Ok(Rpe::Seq(one, other))
 }
 
+// Words of `a` and `b` by their letters, and whether the expression has each.
+const WORDS: &[(&str, bool)] = &[
+    ("", false),
+    ("a", true),
+    ("abb", true),
+    ("abba", false),
+    ("b", false),
+];
+
+fn push_letters(alloc: Global, word: &mut Vec<Str>, letters: &str) -> Result<(), NoMemory> {
+    for letter in letters.as_bytes() {
+        word.push(Str::new(alloc, &[*letter])?)?;
+    }
+    Ok(())
+}
+
+fn check_word(
+    alloc: Global,
+    automaton: &Automaton,
+    letters: &str,
+    accepted: bool,
+) -> Result<(), Fail> {
+    let mut word = Vec::new(alloc);
+    push_letters(alloc, &mut word, letters)?;
+    check(automaton.accepts(word.as_slice()) == accepted, letters)
+}
+
 #[test]
 fn words_of_a_sequence(rt: HostRuntime) -> Result<(), Fail> {
     let alloc = rt.alloc();
-    let a = name(alloc, "a")?;
-    let b = name(alloc, "b")?;
     let automaton = Automaton::of(alloc, &one_and_repeated(alloc)?)?;
-    let mut word = Vec::new(alloc);
-    assert!(rt; !automaton.has_empty() && !automaton.accepts(word.as_slice()));
-    word.push(a.copy(alloc)?)?;
-    assert!(rt; automaton.accepts(word.as_slice()));
-    word.push(b.copy(alloc)?)?;
-    word.push(b.copy(alloc)?)?;
-    assert!(rt; automaton.accepts(word.as_slice()));
-    word.push(a.copy(alloc)?)?;
-    assert!(rt; !automaton.accepts(word.as_slice()));
-    assert_eq!(rt; automaton.positions(), 2);
-    assert!(rt; automaton.first(0) && !automaton.first(1));
-    assert!(rt; automaton.last(0) && automaton.last(1));
-    assert!(rt; automaton.follows(0, 1) && automaton.follows(1, 1) && !automaton.follows(1, 0));
-    assert!(rt; automaton.letter(1).is_some());
-    let second = automaton.reading(&automaton.after(&automaton.begins()), &b);
-    assert!(rt; automaton.ends(&second) && !automaton.starts(&second));
-    assert!(rt; automaton.starts(&automaton.before(&automaton.endings())));
+    for (letters, accepted) in WORDS {
+        check_word(alloc, &automaton, letters, *accepted)?;
+    }
     Ok(())
+}
+
+fn has_two_positions(automaton: &Automaton) -> bool {
+    automaton.positions() == 2
+        && !automaton.has_empty()
+        && automaton.first(0)
+        && !automaton.first(1)
+        && automaton.letter(1).is_some()
+}
+
+fn has_their_order(automaton: &Automaton) -> bool {
+    automaton.last(0)
+        && automaton.last(1)
+        && automaton.follows(0, 1)
+        && automaton.follows(1, 1)
+        && !automaton.follows(1, 0)
+}
+
+fn steps_to_its_end(automaton: &Automaton, label: &Str) -> bool {
+    let second = automaton.reading(&automaton.after(&automaton.begins()), label);
+    automaton.ends(&second)
+        && !automaton.starts(&second)
+        && automaton.starts(&automaton.before(&automaton.endings()))
+}
+
+#[test]
+fn positions_of_a_sequence(rt: HostRuntime) -> Result<(), Fail> {
+    let alloc = rt.alloc();
+    let automaton = Automaton::of(alloc, &one_and_repeated(alloc)?)?;
+    check(has_two_positions(&automaton), "positions")?;
+    check(has_their_order(&automaton), "what follows")?;
+    let label = name(alloc, "b")?;
+    check(steps_to_its_end(&automaton, &label), "steps")
+}
+
+fn is_refused(alloc: Global, expression: &Rpe) -> bool {
+    matches!(Automaton::of(alloc, expression), Err(refusal) if refusal == RpeRefusal::TooManyPositions)
 }
 
 #[test]
 fn limit_of_positions(rt: HostRuntime) -> Result<(), Fail> {
     let alloc = rt.alloc();
     let most = doubled(alloc, 8)?;
-    assert!(rt; Automaton::of(alloc, &most).is_ok());
+    check(Automaton::of(alloc, &most).is_ok(), "the most are refused")?;
     let label = Box::new(alloc, Rpe::Label(name(alloc, "a")?))?;
     let more = Rpe::Seq(Box::new(alloc, most)?, label);
-    match Automaton::of(alloc, &more) {
-        Ok(_) => assert!(rt; false),
-        Err(refusal) => assert_eq!(rt; refusal, RpeRefusal::TooManyPositions),
-    }
-    Ok(())
+    check(is_refused(alloc, &more), "one more is taken")
 }
