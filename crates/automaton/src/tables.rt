@@ -17,7 +17,7 @@ use std::alloc::Global;
 use std::marker::Model;
 
 /// The tables of a path expression. Positions are numbered from 0, from the left.
-#[derive(Debug, Drop)]
+#[derive(Debug)]
 pub struct Automaton {
     letters: Vec<Option<Str>>,
     has_empty: bool,
@@ -26,6 +26,20 @@ pub struct Automaton {
     next: Vec<PositionSet>,
     // The same turned around: for each position those that it may follow.
     previous: Vec<PositionSet>,
+}
+
+// Written out, so that it is proved here once, and not again in each crate that drops one.
+impl Drop for Automaton {
+    fn drop(self) {
+        let Automaton {
+            letters: _letters,
+            has_empty: _has_empty,
+            first: _first,
+            last: _last,
+            next: _next,
+            previous: _previous,
+        } = self;
+    }
 }
 
 impl Model for Automaton {

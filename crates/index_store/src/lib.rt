@@ -24,13 +24,26 @@ use std::marker::Model;
 
 /// A graph with the positions of its edges in two more orders, and its values and labels. A value's index is its rank
 /// among them. Names are shared and not copied.
-#[derive(Debug, Drop)]
+#[derive(Debug)]
 pub struct IndexStore {
     graph: Graph,
     by_end: Vec<usize>,
     by_label: Vec<usize>,
     values: IndexSet<Value>,
     labels: IndexSet<Str>,
+}
+
+// Written out, so that it is proved here once, and not again in each crate that drops one.
+impl Drop for IndexStore {
+    fn drop(self) {
+        let IndexStore {
+            graph: _graph,
+            by_end: _by_end,
+            by_label: _by_label,
+            values: _values,
+            labels: _labels,
+        } = self;
+    }
 }
 
 impl Model for IndexStore {

@@ -19,11 +19,22 @@ use std::marker::Model;
 
 /// The plain store of a graph. It looks through all edges or members for each question, so it is for small graphs and
 /// for comparison.
-#[derive(Debug, Drop)]
+#[derive(Debug)]
 pub struct ListStore {
     graph: Graph,
     values: Vec<Value>,
     labels: Vec<Str>,
+}
+
+// Written out, so that it is proved here once, and not again in each crate that drops one.
+impl Drop for ListStore {
+    fn drop(self) {
+        let ListStore {
+            graph: _graph,
+            values: _values,
+            labels: _labels,
+        } = self;
+    }
 }
 
 impl Model for ListStore {

@@ -29,7 +29,6 @@ pub struct FailingSend {
 
 /// A wire in memory: its events are a list, and its calls fail as its lists say. A send to a connection that its
 /// events do not open is taken and forgotten.
-#[derive(Drop)]
 pub struct MemWire {
     events: Vec<WireEvent>,
     /// How many events were given. Done is counted once.
@@ -44,6 +43,25 @@ pub struct MemWire {
     connections: u64,
     entries: BTreeMap<u64, Entry>,
     short: bool,
+}
+
+// Written out, so that it is proved here once, and not again in each crate that drops one.
+impl Drop for MemWire {
+    fn drop(self) {
+        let MemWire {
+            events: _events,
+            count: _count,
+            failing: _failing,
+            sends: _sends,
+            calls: _calls,
+            next_faults: _next_faults,
+            listens: _listens,
+            port: _port,
+            connections: _connections,
+            entries: _entries,
+            short: _short,
+        } = self;
+    }
 }
 
 impl Model for MemWire {

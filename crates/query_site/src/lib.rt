@@ -4,7 +4,6 @@
 use struql_ast::{Chain, Collect, Link, Term0};
 
 /// A block's clauses, and its conditions after those of the blocks round it.
-#[derive(Drop)]
 pub struct Scoped {
     pub chain: Chain,
     pub creates: Vec<Term0>,
@@ -12,9 +11,30 @@ pub struct Scoped {
     pub collects: Vec<Collect>,
 }
 
+// Written out, so that it is proved here once, and not again in each crate that drops one.
+impl Drop for Scoped {
+    fn drop(self) {
+        let Scoped {
+            chain: _chain,
+            creates: _creates,
+            links: _links,
+            collects: _collects,
+        } = self;
+    }
+}
+
 /// All blocks of a checked query, in the text's order.
-#[derive(Drop)]
 pub struct Scopes {
     pub version: u8,
     pub blocks: Vec<Scoped>,
+}
+
+// Written out, so that it is proved here once, and not again in each crate that drops one.
+impl Drop for Scopes {
+    fn drop(self) {
+        let Scopes {
+            version: _version,
+            blocks: _blocks,
+        } = self;
+    }
 }

@@ -9,22 +9,11 @@ use std::rc::Rc;
 // How many bytes a text in place may have: with its length and its kind, as much as two words.
 pub(crate) const SHORT: usize = 14;
 
-#[derive(Debug)]
+#[derive(Debug, Drop)]
 pub(crate) enum Held {
     // The first so many of the bytes.
     Short(u8, [u8; SHORT]),
     Long(Rc<Vec<u8>>),
-}
-
-// Written out, so that a place that drops a text has one way through it and not one for each kind.
-impl Drop for Held {
-    #[inline]
-    fn drop(self) {
-        match self {
-            Held::Short(_, _) => {}
-            Held::Long(_) => {}
-        }
-    }
 }
 
 impl Held {

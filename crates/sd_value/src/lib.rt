@@ -1,11 +1,13 @@
 //! Values, and their total order.
 #![tactic(auto)]
 
-ghost use Rattle.std.specs.Prelude.{◌≡◌, IfOk, List, Contains};
+ghost use Rattle.std.specs.Prelude.{◌≡◌, IfOk, List, Contains, MatchOption};
 ghost use Rattle.std.specs.declared.cmp.Ordering.TheVariants.{Less, Equal};
 ghost use Rattle.std.specs.Cmp.{IsTotalOrder};
 ghost use Rattle.std.specs.List.Sorted.{IsStrictlySortedBy};
+ghost use Rattle.sd_value.specs.declared.Term.{Term as AnyTerm};
 ghost use Rattle.sd_value.specs.declared.Value.{Value as AnyValue};
+ghost use Rattle.sd_value.specs.declared.Value.TheVariants.{Page};
 ghost use Rattle.sd_value.specs.Order.{value_cmp};
 
 use std::alloc::{AllocError, AllocFailed, Global};
@@ -39,9 +41,16 @@ impl<T: Drop> From<AllocFailed<T>> for NoMemory {
 
 /// A name or a text: any bytes, UTF-8 or not. A copy takes no memory: a short text lies in the value itself, and copies
 /// of a longer one share its bytes.
-#[derive(Debug, Drop)]
+#[derive(Debug)]
 pub struct Str {
     held: Held,
+}
+
+// Written out, so that it is proved here once, and not again in each crate that drops one.
+impl Drop for Str {
+    fn drop(self) {
+        let Str { held: _held } = self;
+    }
 }
 
 impl Model for Str {
@@ -98,13 +107,26 @@ impl Str {
 }
 
 /// What data is made of: an atom or the name of a node.
-#[derive(Debug, Drop)]
+#[derive(Debug)]
 pub enum Datum {
     Int(i64),
     Text(Str),
     Url(Str),
     File(Str),
     Node(Str),
+}
+
+// Written out, so that it is proved here once, and not again in each crate that drops one.
+impl Drop for Datum {
+    fn drop(self) {
+        match self {
+            Datum::Int(_) => {}
+            Datum::Text(_) => {}
+            Datum::Url(_) => {}
+            Datum::File(_) => {}
+            Datum::Node(_) => {}
+        }
+    }
 }
 
 impl Datum {
@@ -123,9 +145,16 @@ impl Datum {
 }
 
 /// The arguments of a term, none of which is a page.
-#[derive(Debug, Drop)]
+#[derive(Debug)]
 pub struct Args {
     items: Vec<Datum>,
+}
+
+// Written out, so that it is proved here once, and not again in each crate that drops one.
+impl Drop for Args {
+    fn drop(self) {
+        let Args { items: _items } = self;
+    }
 }
 
 impl Model for Args {
@@ -163,10 +192,20 @@ impl Args {
 }
 
 /// A page: a function's name and its arguments.
-#[derive(Debug, Drop)]
+#[derive(Debug)]
 pub struct Term {
     pub function: Str,
     pub args: Args,
+}
+
+// Written out, so that it is proved here once, and not again in each crate that drops one.
+impl Drop for Term {
+    fn drop(self) {
+        let Term {
+            function: _function,
+            args: _args,
+        } = self;
+    }
 }
 
 impl Term {
@@ -181,10 +220,32 @@ impl Term {
 }
 
 /// What a graph or a site has at an edge's end.
-#[derive(Debug, Drop)]
+#[derive(Debug)]
 pub enum Value {
     Data(Datum),
     Page(Term),
+}
+
+// Written out, so that it is proved here once, and not again in each crate that drops one.
+impl Drop for Value {
+    fn drop(self) {
+        match self {
+            Value::Data(_) => {}
+            Value::Page(_) => {}
+        }
+    }
+}
+
+impl Value {
+    /// The page that it is, if it is one.
+    pub fn into_page(self) -> Option<Term>
+        ensures { MatchOption result ((p : AnyTerm) → self ≡ Page p → ⊥) (λ p. self ≡ Page p) }
+    {
+        match self {
+            Value::Data(_) => None,
+            Value::Page(term) => Some(term),
+        }
+    }
 }
 
 /// The order of values: by kind, as the kinds stand in `Datum` with `Page` last, then by number,

@@ -69,10 +69,7 @@ fn page_under(
     let Some(value) = target_under(alloc, variables, row, target)? else {
         return Ok(None);
     };
-    match value {
-        Value::Page(term) => Ok(Some(term)),
-        Value::Data(_) => Ok(None),
-    }
+    Ok(value.into_page())
 }
 
 // What the link joins under the row, if it joins something.

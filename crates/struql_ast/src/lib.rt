@@ -18,16 +18,32 @@ pub enum Operand {
 }
 
 /// What stands between the arrows of a path.
-#[derive(Drop)]
 pub enum PathStep {
     ArcVariable(Str, Span),
     Expression(Rpe, Span),
 }
 
+// Written out, so that it is proved here once, and not again in each crate that drops one.
+impl Drop for PathStep {
+    fn drop(self) {
+        match self {
+            PathStep::ArcVariable(_, _) => {}
+            PathStep::Expression(_, _) => {}
+        }
+    }
+}
+
 /// The constants of an `in`.
-#[derive(Debug, Drop)]
+#[derive(Debug)]
 pub struct Constants {
     items: Vec<Value>,
+}
+
+// Written out, so that it is proved here once, and not again in each crate that drops one.
+impl Drop for Constants {
+    fn drop(self) {
+        let Constants { items: _items } = self;
+    }
 }
 
 impl Model for Constants {
@@ -88,11 +104,22 @@ pub enum Condition {
 }
 
 /// A function's name and its arguments.
-#[derive(Debug, Drop)]
+#[derive(Debug)]
 pub struct Term0 {
     pub function: Str,
     pub args: Vec<Operand>,
     pub span: Span,
+}
+
+// Written out, so that it is proved here once, and not again in each crate that drops one.
+impl Drop for Term0 {
+    fn drop(self) {
+        let Term0 {
+            function: _function,
+            args: _args,
+            span: _span,
+        } = self;
+    }
 }
 
 #[derive(Debug, Drop)]
@@ -101,13 +128,23 @@ pub enum Target {
     Made(Term0),
 }
 
-#[derive(Debug, Drop)]
+#[derive(Debug)]
 pub enum LinkLabel {
     Quoted(Str),
     Variable(Str, Span),
 }
 
-#[derive(Debug, Drop)]
+// Written out, so that it is proved here once, and not again in each crate that drops one.
+impl Drop for LinkLabel {
+    fn drop(self) {
+        match self {
+            LinkLabel::Quoted(_) => {}
+            LinkLabel::Variable(_, _) => {}
+        }
+    }
+}
+
+#[derive(Debug)]
 pub struct Link {
     pub source: Target,
     pub label: LinkLabel,
@@ -115,11 +152,34 @@ pub struct Link {
     pub span: Span,
 }
 
-#[derive(Debug, Drop)]
+// Written out, so that it is proved here once, and not again in each crate that drops one.
+impl Drop for Link {
+    fn drop(self) {
+        let Link {
+            source: _source,
+            label: _label,
+            target: _target,
+            span: _span,
+        } = self;
+    }
+}
+
+#[derive(Debug)]
 pub struct Collect {
     pub collection: Str,
     pub target: Target,
     pub span: Span,
+}
+
+// Written out, so that it is proved here once, and not again in each crate that drops one.
+impl Drop for Collect {
+    fn drop(self) {
+        let Collect {
+            collection: _collection,
+            target: _target,
+            span: _span,
+        } = self;
+    }
 }
 
 /// A block's clauses, and the blocks in it.
@@ -133,7 +193,6 @@ pub struct Block {
     pub span: Span,
 }
 
-#[derive(Drop)]
 pub struct Query {
     pub version: u8,
     pub input: Str,
@@ -141,13 +200,35 @@ pub struct Query {
     pub output: Str,
 }
 
+// Written out, so that it is proved here once, and not again in each crate that drops one.
+impl Drop for Query {
+    fn drop(self) {
+        let Query {
+            version: _version,
+            input: _input,
+            blocks: _blocks,
+            output: _output,
+        } = self;
+    }
+}
+
 /// Variables, and the conditions that they have to meet: a block's own after those of the blocks
 /// round it.
-#[derive(Drop)]
 pub struct Chain {
     version: u8,
     variables: Vec<Variable>,
     conditions: Vec<Condition>,
+}
+
+// Written out, so that it is proved here once, and not again in each crate that drops one.
+impl Drop for Chain {
+    fn drop(self) {
+        let Chain {
+            version: _version,
+            variables: _variables,
+            conditions: _conditions,
+        } = self;
+    }
 }
 
 impl Model for Chain {

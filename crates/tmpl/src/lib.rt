@@ -122,13 +122,23 @@ pub struct NamedTemplate {
 }
 
 /// A file of templates, its function templates and its collection templates each in the order of the file.
-#[derive(Drop)]
 pub struct Templates {
     functions: Vec<NamedTemplate>,
     collections: Vec<NamedTemplate>,
     bodies: Vec<Template>,
     pub ghost functions_in_range: { All (λ n. n.template < length bodies.items) functions.items },
     pub ghost collections_in_range: { All (λ n. n.template < length bodies.items) collections.items },
+}
+
+// Written out, so that it is proved here once, and not again in each crate that drops one.
+impl Drop for Templates {
+    fn drop(self) {
+        let Templates {
+            functions: _functions,
+            collections: _collections,
+            bodies: _bodies,
+        } = self;
+    }
 }
 
 impl Templates {
