@@ -3,9 +3,8 @@ use Rattle.std.proofs.Common.{◌≡◌, ◌∙◌, sym, subst}
 use Rattle.std.specs.Prelude.{Option, Some, None}
 use Rattle.std.specs.Option.{MatchOption}
 use Rattle.sd_value.specs.declared.Term.{Term}
-use Rattle.sd_value.specs.declared.Datum.{Datum}
 use Rattle.sd_value.specs.declared.Value.{Value}
-use Rattle.sd_value.specs.declared.Value.TheVariants.{Data, Page}
+use Rattle.sd_value.specs.declared.Value.TheVariants.{Page}
 use Rattle.graph_spec.specs.DataGraph.{Name, text}
 use Rattle.query_spec.specs.Query.{LinkLabel, quoted, label_variable, Link, Collect, Target}
 use Rattle.query_spec.specs.Holds.{Assignment}
@@ -24,18 +23,17 @@ at_some {X} P o x e m = subst (λ (o : Option X). MatchOption o ((x : X) → P x
 page_same : (p q : Term) → Page p ≡ Page q → p ≡ q
 page_same p q e = cc
 
-page_is_no_datum : (d : Datum) (p : Term) → Data d ≡ Page p → ⊥
-page_is_no_datum d p e = cc
-
 text_same : (l m : Name) → text l ≡ text m → l ≡ m
 text_same l m e = cc
 
 some_same : (v w : Value) → Some v ≡ Some w → v ≡ w
 some_same v w e = cc
 
--- a target that is a datum is no page
-pub not_page : (s : Assignment) (t : Target) (v : Value) (d : Datum) (p : Term) → v ≡ Data d → IsTargetUnder s t v → IsTargetUnder s t (Page p) → ⊥
-not_page s t v d p e h i = page_is_no_datum d p (sym e ∙ target_same s t v (Page p) h i)
+-- the page that a target's value is
+pub page_alone : (s : Assignment) (t : Target) (v : Value) (o : Option Term) → MatchOption o ((p : Term) → v ≡ Page p → ⊥) (λ p. v ≡ Page p) → IsTargetUnder s t v
+    → MatchOption o ((p : Term) → IsTargetUnder s t (Page p) → ⊥) (λ p. IsTargetUnder s t (Page p))
+page_alone s t v None none is = λ p h. none p (target_same s t v (Page p) is h)
+page_alone s t v (Some p) some is = subst (IsTargetUnder s t) some is
 
 label_same : (s : Assignment) (k : LinkLabel) (l m : Name) → IsLabelUnder s k l → IsLabelUnder s k m → l ≡ m
 label_same s (quoted n) l m h i = h ∙ sym i
