@@ -67,6 +67,11 @@ fn one_token_alone(rt: HostRuntime) -> Result<(), Fail> {
     )
 }
 
+// The tokens behind the first so many.
+fn behind(all: &[Token], count: usize) -> &[Token] {
+    all.get(count..).unwrap_or(&[])
+}
+
 fn is_a_name(all: &[Token]) -> bool {
     has_name(all) && !has_sign(all, Sign::Comma) && has_word(all, b"a")
 }
@@ -74,18 +79,18 @@ fn is_a_name(all: &[Token]) -> bool {
 fn reads_texts(alloc: Global, all: &[Token]) -> bool {
     matches!(name_at(alloc, all), Ok((name, _)) if name.place == 0)
         && quoted_at(alloc, all).is_err()
-        && matches!(quoted_at(alloc, &all[1..]), Ok((text, _)) if text.place == 2)
+        && matches!(quoted_at(alloc, behind(all, 1)), Ok((text, _)) if text.place == 2)
 }
 
 fn reads_signs(all: &[Token]) -> bool {
-    matches!(int_at(&all[2..]), Ok((7, _)))
-        && matches!(sign_at(&all[3..], Sign::OpenBrace), Ok((8, _)))
+    matches!(int_at(behind(all, 2)), Ok((7, _)))
+        && matches!(sign_at(behind(all, 3), Sign::OpenBrace), Ok((8, _)))
 }
 
 fn reads_words(all: &[Token]) -> bool {
-    matches!(word_at(&all[4..], b"in"), Ok((10, _)))
-        && word_at(&all[4..], b"out").is_err()
-        && place_of(&all[5..], 12) == 12
+    matches!(word_at(behind(all, 4), b"in"), Ok((10, _)))
+        && word_at(behind(all, 4), b"out").is_err()
+        && place_of(behind(all, 5), 12) == 12
 }
 
 fn check_readers(alloc: Global, all: &[Token]) -> Result<(), Fail> {
