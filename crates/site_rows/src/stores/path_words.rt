@@ -65,7 +65,8 @@ fn has_two_positions(automaton: &Automaton) -> bool {
 }
 
 fn has_their_order(automaton: &Automaton) -> bool {
-    automaton.last(0)
+    automaton.positions() == 2
+        && automaton.last(0)
         && automaton.last(1)
         && automaton.follows(0, 1)
         && automaton.follows(1, 1)
