@@ -22,10 +22,13 @@ pub struct StoreAsker<S> {
 }
 
 impl<S: Store> StoreAsker<S> {
+    ghost use Rattle.std.specs.Prelude.{◌≡◌};
+    ghost use Rattle.bindings.specs.Asked.{store_of, handed_out};
+
     /// An asker over the store. It takes no memory.
     pub fn of(store: S) -> StoreAsker<S>
-        ensures store { result.store ≡ store }
-        ensures given { result.given ≡ 0 }
+        ensures store { store_of result ≡ store }
+        ensures given { handed_out result ≡ 0 }
     {
         StoreAsker { store, given: 0 }
     }
@@ -103,9 +106,11 @@ fn some_row<S: Store>(
 }
 
 impl<S: Store> Asker for StoreAsker<S> {
-    ghost graph = { λ a. S.graph a.store };
+    ghost use Rattle.bindings.specs.Asked.{store_of, handed_out};
 
-    ghost count = { λ a. a.given };
+    ghost graph = { λ a. S.graph (store_of a) };
+
+    ghost count = { handed_out };
 
     fn ask(&mut self, alloc: Global, chain: &Chain, bound: &Bound) -> Result<Vec<Row>, NoMemory> {
         let rows = rows_of(alloc, &self.store, chain, bound)?;

@@ -93,11 +93,3 @@ pub fn check_text<R: AllocGlobal + Abort>(
     check_bytes(rt, found, bytes.as_slice(), wanted);
     Ok(())
 }
-
-/// Fails with the reason where a row doesn't hold.
-pub fn check(holds: bool, reason: &str) -> Result<(), Fail> {
-    if holds {
-        return Ok(());
-    }
-    Err(Fail::new(reason))
-}

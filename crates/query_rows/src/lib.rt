@@ -1,5 +1,5 @@
 //! Queries over small data: the rows of chains over both stores, beside those that a look through all assignments finds,
-//! and beside rows worked by hand; the text of their plans; queries that are parsed, refused and printed; and tokens of texts.
+//! and beside rows worked by hand; the text of their plans; and queries that are parsed, refused and printed.
 #![tactic(auto)]
 
 #[cfg(test)]
@@ -16,5 +16,3 @@ mod plans;
 mod printed;
 #[cfg(test)]
 mod rows;
-#[cfg(test)]
-mod tokens;

@@ -1,5 +1,5 @@
 //! Pages of small sites of each kind, from their own demand and from the whole site; both stores and the walks over
-//! them; words of path expressions; and queries that are refused: each beside an answer worked by hand.
+//! them; and queries that are refused: each beside an answer worked by hand.
 #![tactic(auto)]
 
 #[cfg(test)]

@@ -1,5 +1,4 @@
-// Both stores over the same graphs, the walks over them, and the words of path expressions.
+// Both stores over the same graphs, and the walks over them.
 mod calls;
-mod path_words;
 mod printed;
 mod walk_rows;

@@ -19,8 +19,8 @@ fn any_word(alloc: Global) -> Result<Rpe, NoMemory> {
     star(alloc, Rpe::Any)
 }
 
-/// One label and any number of another: `"a"."b"*`.
-pub fn one_and_repeated(alloc: Global) -> Result<Rpe, NoMemory> {
+// One label and any number of another: `"a"."b"*`.
+fn one_and_repeated(alloc: Global) -> Result<Rpe, NoMemory> {
     let first = Box::new(alloc, Rpe::Label(name(alloc, "a")?))?;
     let repeated = star(alloc, Rpe::Label(name(alloc, "b")?))?;
     let repeated = Box::new(alloc, repeated)?;

@@ -1,4 +1,4 @@
-use Rattle.site_rows.proofs.stores.path_words.+doubled.Given as goal
+use Rattle.word_rows.proofs.path_words.+doubled.Given as goal
 
 abbrev pub decreases-doubled : goal.decreases-doubled
 decreases-doubled l = l.times

@@ -1,5 +1,5 @@
 // Tokens of texts, worked out by hand: as they are split, read one after another, and written back.
-use crate::inputs::check;
+use crate::checks::check;
 use sd_lex::{LexRefusal, Sign, Token, TokenKind, token_at, tokens};
 use std::alloc::Global;
 use std::test::Fail;

@@ -1,13 +1,21 @@
 // Words of path expressions: each public call of an automaton once, over `"a"."b"*`, and an expression at the limit of
 // positions and one past it.
-use crate::inputs::check;
-use crate::stores::printed::name;
-use crate::stores::walk_rows::one_and_repeated;
+use crate::checks::check;
 use automaton::{Automaton, RpeRefusal};
 use rpe::Rpe;
 use sd_value::{NoMemory, Str};
 use std::alloc::Global;
 use std::test::Fail;
+
+fn label(alloc: Global, name: &str) -> Result<Box<Rpe>, NoMemory> {
+    Ok(Box::new(alloc, Rpe::Label(Str::new(alloc, name.as_bytes())?))?)
+}
+
+// One label and any number of another: `"a"."b"*`.
+fn one_and_repeated(alloc: Global) -> Result<Rpe, NoMemory> {
+    let repeated = Box::new(alloc, Rpe::Star(label(alloc, "b")?))?;
+    Ok(Rpe::Seq(label(alloc, "a")?, repeated))
+}
 
 // A wildcard, doubled as often.
 fn doubled(alloc: Global, times: u32) -> Result<Rpe, NoMemory> {
@@ -86,7 +94,7 @@ fn positions_of_a_sequence(rt: HostRuntime) -> Result<(), Fail> {
     let automaton = Automaton::of(alloc, &one_and_repeated(alloc)?)?;
     check(has_two_positions(&automaton), "positions")?;
     check(has_their_order(&automaton), "what follows")?;
-    let label = name(alloc, "b")?;
+    let label = Str::new(alloc, b"b")?;
     check(steps_to_its_end(&automaton, &label), "steps")
 }
 
@@ -99,7 +107,6 @@ fn limit_of_positions(rt: HostRuntime) -> Result<(), Fail> {
     let alloc = rt.alloc();
     let most = doubled(alloc, 8)?;
     check(Automaton::of(alloc, &most).is_ok(), "the most are refused")?;
-    let label = Box::new(alloc, Rpe::Label(name(alloc, "a")?))?;
-    let more = Rpe::Seq(Box::new(alloc, most)?, label);
+    let more = Rpe::Seq(Box::new(alloc, most)?, label(alloc, "a")?);
     check(is_refused(alloc, &more), "one more is taken")
 }

@@ -1,0 +1,10 @@
+// How rows are compared.
+use std::test::Fail;
+
+/// Fails with the reason where a row doesn't hold.
+pub fn check(holds: bool, reason: &str) -> Result<(), Fail> {
+    if holds {
+        return Ok(());
+    }
+    Err(Fail::new(reason))
+}
