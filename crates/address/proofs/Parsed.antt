@@ -1,23 +1,17 @@
 -- Arguments of an address, read one by one.
 use Rattle.std.proofs.Common.{◌≡◌, ◌⊎◌, ℕ, suc, ◌+◌, ◌*◌, ◌/◌, ◌%◌, ◌<◌, ◌≤◌, List, [], ◌∷◌, ◌++◌, length, inl, inr, ⊎_elim, sym, ap, ◌∙◌, refl, subst, arith, append_assoc, append-nil}
-use Rattle.std.specs.Prelude.{codes}
+use Rattle.std.specs.Prelude.{codes, All}
 use Rattle.std.specs.Fmt.{signed_decimal}
 use Rattle.std.specs.Str.{IsAscii}
 use Rattle.std.proofs.lemmas.Fmt.{IsAscii-signed}
-use Rattle.std.proofs.lemmas.List.Elements.{All-head, All-tail}
+use Rattle.std.proofs.lemmas.List.Elements.{All-head, All-tail, All-nil, All-cons}
 use Rattle.sd_value.specs.declared.Datum.{Datum}
 use Rattle.sd_value.specs.declared.Datum.TheVariants.{Int, Text, Url, File, Node}
 use Rattle.sd_value.specs.declared.Term.{Term}
 use Rattle.page_spec.specs.Show.{hex_digit, in_address, show_datum, argument, arguments, address}
-use Rattle.page_spec.specs.Address.{Every, IsBytes, IsDatum}
+use Rattle.page_spec.specs.Address.{IsBytes, IsDatum}
 use Rattle.page_spec.proofs.Addresses.{NoStops, byte_cases, byte_not_empty, not_tilde, argument_no_stops, head_same, rests_same}
 use Rattle.address.specs.Segments.{HasNoSlash, IsEndOrSlash}
-
--- lists of which P holds
-
-pub every_append : {X : Type 0} (P : X → Type 0) (xs ys : List X) → Every P xs → Every P ys → Every P (xs ++ ys)
-every_append P [] ys h g = g
-every_append P (x ∷ xs) ys h g = (h.0, every_append P xs ys h.1 g)
 
 -- the text of a term's address, but its first slash and `.html`
 
@@ -41,17 +35,17 @@ segments_same (x ∷ xs) (y ∷ ys) rs ss n m r s e =
 -- whoever wrote the text wrote these arguments first, and then `left`
 abbrev pub AreLeft : List ℕ → List Datum → List ℕ → Type 0
 AreLeft whole args left =
-    (ds : List Datum) → Every IsDatum ds → arguments ds ≡ whole → (es : List Datum) × (ds ≡ args ++ es) × Every IsDatum es × (arguments es ≡ left)
+    (ds : List Datum) → All IsDatum ds → arguments ds ≡ whole → (es : List Datum) × (ds ≡ args ++ es) × All IsDatum es × (arguments es ≡ left)
 
 pub all_left : (whole : List ℕ) → AreLeft whole [] whole
 all_left whole = λ ds h e. (ds, refl, h, e)
 
 -- the first argument that is left
-next_argument : (es : List Datum) (x : ℕ) (after part rest : List ℕ) → arguments es ≡ x ∷ after → after ≡ part ++ rest → HasNoSlash part → IsEndOrSlash rest → Every IsDatum es → (d : Datum) × (ds : List Datum) × (es ≡ d ∷ ds) × IsDatum d × Every IsDatum ds × (argument d ≡ part) × (arguments ds ≡ rest)
+next_argument : (es : List Datum) (x : ℕ) (after part rest : List ℕ) → arguments es ≡ x ∷ after → after ≡ part ++ rest → HasNoSlash part → IsEndOrSlash rest → All IsDatum es → (d : Datum) × (ds : List Datum) × (es ≡ d ∷ ds) × IsDatum d × All IsDatum ds × (argument d ≡ part) × (arguments ds ≡ rest)
 next_argument [] x after part rest e parts n r h = let f : ⊥ = cc in absurd f
 next_argument (d ∷ ds) x after part rest e parts n r h =
     let q = segments_same part (argument d) rest (arguments ds) n (argument_no_stops d) r (ends_or_slash ds) (sym parts ∙ sym (rests_same 47 x (argument d ++ arguments ds) after e)) in
-    (d, ds, refl, h.0, h.1, sym q.0, sym q.1)
+    (d, ds, refl, All-head IsDatum d ds h, All-tail IsDatum d ds h, sym q.0, sym q.1)
 
 pub one_less : (whole : List ℕ) (args : List Datum) (x : ℕ) (after part rest : List ℕ) (datum : Datum) → AreLeft whole args (x ∷ after) → after ≡ part ++ rest → HasNoSlash part → IsEndOrSlash rest → ((d : Datum) → IsDatum d → argument d ≡ part → datum ≡ d) → AreLeft whole (args ++ datum ∷ []) rest
 one_less whole args x after part rest datum left parts n r is = λ ds h e.
@@ -59,7 +53,7 @@ one_less whole args x after part rest datum left parts n r is = λ ds h e.
     let (d, fs, same, kd, ks, a, b) = next_argument es x after part rest q parts n r k in
     (fs, p ∙ ap (λ z. args ++ z) (same ∙ ap (λ z. z ∷ fs) (sym (is d kd a))) ∙ sym (append_assoc args (datum ∷ []) fs), ks, b)
 
-pub no_argument : (whole : List ℕ) (args : List Datum) (x : ℕ) (after part rest : List ℕ) → AreLeft whole args (x ∷ after) → after ≡ part ++ rest → HasNoSlash part → IsEndOrSlash rest → ((d : Datum) → IsDatum d → argument d ≡ part → ⊥) → (ds : List Datum) → Every IsDatum ds → arguments ds ≡ whole → ⊥
+pub no_argument : (whole : List ℕ) (args : List Datum) (x : ℕ) (after part rest : List ℕ) → AreLeft whole args (x ∷ after) → after ≡ part ++ rest → HasNoSlash part → IsEndOrSlash rest → ((d : Datum) → IsDatum d → argument d ≡ part → ⊥) → (ds : List Datum) → All IsDatum ds → arguments ds ≡ whole → ⊥
 no_argument whole args x after part rest left parts n r is ds h e =
     let (es, p, k, q) = left ds h e in
     let (d, fs, same, kd, ks, a, b) = next_argument es x after part rest q parts n r k in
@@ -69,7 +63,7 @@ no_arguments : (es : List Datum) → arguments es ≡ [] → es ≡ []
 no_arguments [] e = refl
 no_arguments (d ∷ ds) e = let f : ⊥ = cc in absurd f
 
-pub none_left : (whole : List ℕ) (args : List Datum) (left : List ℕ) → left ≡ [] → AreLeft whole args left → (ds : List Datum) → Every IsDatum ds → arguments ds ≡ whole → args ≡ ds
+pub none_left : (whole : List ℕ) (args : List Datum) (left : List ℕ) → left ≡ [] → AreLeft whole args left → (ds : List Datum) → All IsDatum ds → arguments ds ≡ whole → args ≡ ds
 none_left whole args left none h ds k e =
     let (es, p, ks, q) = h ds k e in
     sym (p ∙ ap (λ z. args ++ z) (no_arguments es (q ∙ none)) ∙ append-nil args)
@@ -95,15 +89,18 @@ IsFirst u x rest =
     (b : ℕ) × (v : List ℕ) × (u ≡ b ∷ v) × (b < 256) × IsBytes v
     × (((x ≡ b) × (x ≡ 126 → ⊥) × (rest ≡ in_address v)) ⊎ ((x ≡ 126) × (rest ≡ hex_digit (b / 16) ∷ hex_digit (b % 16) ∷ in_address v)))
 
+abbrev IsByte : ℕ → Type 0
+IsByte b = b < 256
+
 first_left : (u : List ℕ) (x : ℕ) (rest : List ℕ) → IsBytes u → in_address u ≡ x ∷ rest → IsFirst u x rest
 first_left [] x rest h e = let f : ⊥ = cc in absurd f
 first_left (b ∷ v) x rest h e =
     ⊎_elim
     (λ c. let e' : b ∷ in_address v ≡ x ∷ rest = ap (λ z. z ++ in_address v) (sym c.1) ∙ e in
     let same = head_same b x (in_address v) rest e' in
-    (b, v, refl, h.0, h.1, inl (sym same, (λ t. not_tilde b c.0 (same ∙ t)), sym (rests_same b x (in_address v) rest e'))))
+    (b, v, refl, All-head IsByte b v h, All-tail IsByte b v h, inl (sym same, (λ t. not_tilde b c.0 (same ∙ t)), sym (rests_same b x (in_address v) rest e'))))
     (λ c. let e' : 126 ∷ hex_digit (b / 16) ∷ hex_digit (b % 16) ∷ in_address v ≡ x ∷ rest = ap (λ z. z ++ in_address v) (sym c.1) ∙ e in
-    (b, v, refl, h.0, h.1, inr (sym (head_same 126 x _ rest e'), sym (rests_same 126 x _ rest e'))))
+    (b, v, refl, All-head IsByte b v h, All-tail IsByte b v h, inr (sym (head_same 126 x _ rest e'), sym (rests_same 126 x _ rest e'))))
     (byte_cases b)
 
 pub plain_taken : (whole bytes : List ℕ) (x : ℕ) (rest : List ℕ) → (x ≡ 126 → length rest ≤ 1) → IsLeft whole bytes (x ∷ rest) → IsLeft whole (bytes ++ x ∷ []) rest
@@ -129,8 +126,8 @@ escape_taken whole bytes x h l n m rest tilde high low left = λ s k e.
 -- the bytes of a datum that an address can have
 
 ascii_bytes : (bs : List ℕ) → IsAscii bs → IsBytes bs
-ascii_bytes [] h = tt
-ascii_bytes (b ∷ bs) h = (omega (arith, h 0), ascii_bytes bs (λ i. h (suc i)))
+ascii_bytes [] h = All-nil IsByte
+ascii_bytes (b ∷ bs) h = All-cons IsByte b bs (omega (arith, h 0)) (ascii_bytes bs (λ i. h (suc i)))
 
 pub datum_bytes : (d : Datum) → IsDatum d → IsBytes (show_datum d)
 datum_bytes (Int i) h = ascii_bytes (signed_decimal i) (IsAscii-signed i h)

@@ -4,29 +4,15 @@ use Rattle.std.specs.Prelude.{codes, nat_eq, ◌==◌, ◌&&◌, if◌then◌els
 use Rattle.std.specs.Char as chars
 use Rattle.std.proofs.lemmas.Bool.Decides.{nat_tests}
 use Rattle.std.proofs.lemmas.List.{take_all, length-map}
-use lib.Pointwise.{pointwise, bytes_decides}
+use Rattle.std.specs.Str.{bytes_eq}
+use lib.Pointwise.{bytes_decides}
 use Rattle.percent_encoding.specs.Percent.{percent_decode, is_escape}
-use Rattle.page_spec.specs.Address.{hex_value, escape_or, decoded, from_slash, lower, same_bytes, without_host}
+use Rattle.page_spec.specs.Address.{hex_value, escape_or, decoded, from_slash, without_host}
 
 pub drop_step : (xs : List ℕ) (i x : ℕ) → i < length xs → x ≡ get_or xs i x → drop i xs ≡ x ∷ drop (i + 1) xs
 drop_step [] i x l is = absurd (omega arith)
 drop_step (y ∷ ys) zero x l is = ap (λ z. z ∷ ys) (sym is)
 drop_step (y ∷ ys) (suc i) x l is = rw add-one (rw add-one at (drop_step ys i x (omega arith) is))
-
-pub same_pointwise : (xs ys : List ℕ) → same_bytes xs ys ≡ pointwise nat_eq xs ys
-same_pointwise [] [] = refl
-same_pointwise [] (y ∷ ys) = refl
-same_pointwise (x ∷ xs) [] = refl
-same_pointwise (x ∷ xs) (y ∷ ys) = ap (λ t. x == y && t) (same_pointwise xs ys)
-
--- letters in lower case
-
-pub lower_ascii : (b : ℕ) → lower b ≡ chars.to_ascii_lowercase b
-lower_ascii b = grind (arith, nat_tests)
-
-pub lower_all : (xs : List ℕ) → map lower xs ≡ map chars.to_ascii_lowercase xs
-lower_all [] = refl
-lower_all (x ∷ xs) = let h = lower_ascii x in let t = lower_all xs in cc
 
 -- percent escapes
 
@@ -68,21 +54,17 @@ three_here xs i l =
 
 -- the scheme and the host
 
-same_is : (xs ys : List ℕ) → same_bytes xs ys ≡ true → xs ≡ ys
-same_is xs ys e = (bytes_decides xs ys).0 (sym (same_pointwise xs ys) ∙ e)
-
-same_self : (xs ys : List ℕ) → xs ≡ ys → same_bytes xs ys ≡ true
-same_self xs ys e = same_pointwise xs ys ∙ (bytes_decides xs ys).1 e
-
 by_same : (b : Bool) (xs ys : List ℕ) → (b ≡ true → ⊥) → (if b then xs else ys) ≡ ys
 by_same true xs ys h = absurd (h refl)
 by_same false xs ys h = refl
 
 pub with_host : (t : List ℕ) → map chars.to_ascii_lowercase (take 7 t) ≡ codes "http://" → without_host t ≡ from_slash (drop 7 t)
-with_host t e = ap (λ b. if b then from_slash (drop 7 t) else t) (same_self (map lower (take 7 t)) (codes "http://") (lower_all (take 7 t) ∙ e))
+with_host t e =
+    let f : bytes_eq (map chars.to_ascii_lowercase (take 7 t)) (codes "http://") ≡ true = (bytes_decides (map chars.to_ascii_lowercase (take 7 t)) (codes "http://")).1 e in
+    ap (λ b. if b then from_slash (drop 7 t) else t) f
 
 pub no_host : (t : List ℕ) → (map chars.to_ascii_lowercase (take 7 t) ≡ codes "http://" → ⊥) → without_host t ≡ t
-no_host t h = by_same (same_bytes (map lower (take 7 t)) (codes "http://")) (from_slash (drop 7 t)) t (λ e. h (sym (lower_all (take 7 t)) ∙ same_is (map lower (take 7 t)) (codes "http://") e))
+no_host t h = by_same (bytes_eq (map chars.to_ascii_lowercase (take 7 t)) (codes "http://")) (from_slash (drop 7 t)) t (λ e. h ((bytes_decides (map chars.to_ascii_lowercase (take 7 t)) (codes "http://")).0 e))
 
 pub short_target : (t : List ℕ) → length t < 7 → map chars.to_ascii_lowercase (take 7 t) ≡ codes "http://" → ⊥
 short_target t l e =

@@ -13,9 +13,11 @@ abbrev pub IsEndOrSlash : List ℕ → Type 0
 IsEndOrSlash [] = Unit {0}
 IsEndOrSlash (b ∷ bs) = b ≡ 47
 
--- more bytes than a file's name may have stand in a row without a slash
+-- more bytes than a file's name may have are in a row without a slash
 abbrev pub HasLongSegment : List ℕ → Type 0
-HasLongSegment path = (before segment after : List ℕ) × (path ≡ before ++ segment ++ after) × HasNoSlash segment × (NAME_LIMIT < length segment)
+HasLongSegment path =
+    (before segment after : List ℕ) × (path ≡ before ++ segment ++ after) × HasNoSlash segment
+    × (NAME_LIMIT < length segment)
 
 -- the answer for a file's path
 abbrev pub FileEnds : {T : Type 0} → List ℕ → Result T FileRefusal → Type 0

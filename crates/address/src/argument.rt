@@ -12,7 +12,8 @@ use std::alloc::Global;
 
 /// The datum that is written so, if one is. For what is no argument it may answer any datum.
 pub fn argument(alloc: Global, text: &[u8]) -> Result<Option<Datum>, NoMemory>
-    ensures is { IfOk result (λ r. (d : Datum) → IsDatum d → spec.argument d ≡ text.now → IsSame d r) }
+    ensures is { IfOk result
+        (λ r. (d : Datum) → IsDatum d → spec.argument d ≡ text.now → IsSame d r) }
     ensures data { IfOk result (λ r. IfSome r IsDatum) }
 {
     match text.split_first() {
@@ -28,7 +29,9 @@ pub fn argument(alloc: Global, text: &[u8]) -> Result<Option<Datum>, NoMemory>
 /// The datum whose kind has the letter and whose text these bytes are, if one is.
 fn datum_of(alloc: Global, letter: u8, bytes: Vec<u8>) -> Result<Option<Datum>, NoMemory>
     requires { IsBytes bytes.items }
-    ensures is { IfOk result (λ r. (d : Datum) → IsDatum d → spec.kind_letter d ≡ letter → spec.show_datum d ≡ bytes.items → IsSame d r) }
+    ensures is { IfOk result
+        (λ r. (d : Datum) → IsDatum d → spec.kind_letter d ≡ letter
+        → spec.show_datum d ≡ bytes.items → IsSame d r) }
     ensures data { IfOk result (λ r. IfSome r IsDatum) }
 {
     match letter {
@@ -53,7 +56,8 @@ fn number_of(text: &[u8]) -> Option<i64>
 
 /// The bytes of which this is the text in an address.
 fn unescaped(alloc: Global, text: &[u8]) -> Result<Vec<u8>, NoMemory>
-    ensures is { IfOk result (λ v. (s : List ℕ) → IsBytes s → spec.in_address s ≡ text.now → v.items ≡ s) }
+    ensures is { IfOk result
+        (λ v. (s : List ℕ) → IsBytes s → spec.in_address s ≡ text.now → v.items ≡ s) }
     ensures bytes { IfOk result (λ v. IsBytes v.items) }
 {
     let mut bytes = Vec::new(alloc);

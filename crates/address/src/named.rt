@@ -1,9 +1,9 @@
 // The term that a target names.
-ghost use Rattle.std.specs.Prelude.{◌≡◌, ◌↔◌, ℕ, List, ◌∷◌, ◌++◌, IfOk, IfSome, IsTrue, MatchOption, codes, ◌||◌};
+ghost use Rattle.std.specs.Prelude.{◌≡◌, ◌↔◌, ℕ, List, ◌∷◌, ◌++◌, All, IfOk, IfSome, IsTrue, MatchOption, codes, ◌||◌};
 ghost use Rattle.sd_value.specs.declared.Datum.{Datum};
 ghost use Rattle.sd_value.specs.declared.Term.{Term};
 ghost use Rattle.page_spec.specs.Show as spec;
-ghost use Rattle.page_spec.specs.Address.{Every, IsDatum, IsName, IsAddressable, Named, TermOf, is_letter as spec_is_letter, is_digit as spec_is_digit, asks_root as spec_asks_root};
+ghost use Rattle.page_spec.specs.Address.{IsDatum, IsName, IsAddressable, Named, TermOf, is_letter as spec_is_letter, is_digit as spec_is_digit, asks_root as spec_asks_root};
 ghost use Rattle.address.specs.Segments.{HasNoSlash, IsEndOrSlash};
 ghost use Rattle.address.specs.Targets.{root_name, IsOnly, IsSame};
 
@@ -22,7 +22,7 @@ pub fn term_of(alloc: Global, target: &[u8], root: Option<&Str>) -> Result<Optio
     match root {
         Some(function) if asks_root(path.as_slice()) => Ok(Some(Term {
             function: function.copy(alloc)?,
-            args: Args::new(Vec::new(alloc)),
+            args: Args::new(alloc, Vec::new(alloc))?,
         })),
         _ => named(alloc, path.as_slice()),
     }
@@ -68,7 +68,7 @@ fn is_letter(b: u8) -> bool
 }
 
 fn are_in_names(text: &[u8]) -> bool
-    ensures { IsTrue result ↔ Every (λ b. IsTrue (spec_is_letter b || spec_is_digit b)) text.now }
+    ensures { IsTrue result ↔ All (λ b. IsTrue (spec_is_letter b || spec_is_digit b)) text.now }
 {
     for b in text {
         if !(is_letter(*b) || b.is_ascii_digit()) {
@@ -80,8 +80,9 @@ fn are_in_names(text: &[u8]) -> bool
 
 /// The term that has the address `path`, if one has it. For what is no address it may answer any term.
 fn candidate(alloc: Global, path: &[u8]) -> Result<Option<Term>, NoMemory>
-    ensures is { IfOk result (λ r. (t : Term) → IsAddressable t → spec.address t ≡ path.now → IsSame t r) }
-    ensures data { IfOk result (λ r. IfSome r (λ t. Every IsDatum t.args)) }
+    ensures is { IfOk result
+        (λ r. (t : Term) → IsAddressable t → spec.address t ≡ path.now → IsSame t r) }
+    ensures data { IfOk result (λ r. IfSome r (λ t. All IsDatum t.args)) }
 {
     match within(path) {
         None => Ok(None),
@@ -92,7 +93,7 @@ fn candidate(alloc: Global, path: &[u8]) -> Result<Option<Term>, NoMemory>
                 None => Ok(None),
                 Some(args) => Ok(Some(Term {
                     function,
-                    args: Args::new(args),
+                    args: Args::new(alloc, args)?,
                 })),
             }
         }
@@ -101,7 +102,8 @@ fn candidate(alloc: Global, path: &[u8]) -> Result<Option<Term>, NoMemory>
 
 /// The path without its first byte and its last five, which are a slash and `.html` in every address.
 fn within(path: &[u8]) -> Option<&[u8]>
-    ensures { (text : List ℕ) → path.now ≡ 47 ∷ (text ++ codes ".html") → MatchOption result ⊥ (λ r. r.now ≡ text) }
+    ensures { (text : List ℕ) → path.now ≡ 47 ∷ (text ++ codes ".html")
+        → MatchOption result ⊥ (λ r. r.now ≡ text) }
 {
     if path.len() < 6 {
         None
@@ -112,8 +114,10 @@ fn within(path: &[u8]) -> Option<&[u8]>
 
 /// The arguments that are written so, if any are. For what is no list of arguments it may answer any.
 fn arguments(alloc: Global, text: &[u8]) -> Result<Option<Vec<Datum>>, NoMemory>
-    ensures is { IfOk result (λ r. (ds : List Datum) → Every IsDatum ds → spec.arguments ds ≡ text.now → MatchOption r ⊥ (λ v. v.items ≡ ds)) }
-    ensures data { IfOk result (λ r. IfSome r (λ v. Every IsDatum v.items)) }
+    ensures is { IfOk result
+        (λ r. (ds : List Datum) → All IsDatum ds → spec.arguments ds ≡ text.now
+        → MatchOption r ⊥ (λ v. v.items ≡ ds)) }
+    ensures data { IfOk result (λ r. IfSome r (λ v. All IsDatum v.items)) }
 {
     let mut args = Vec::new(alloc);
     let mut left = text;
@@ -128,7 +132,7 @@ fn arguments(alloc: Global, text: &[u8]) -> Result<Option<Vec<Datum>>, NoMemory>
     Ok(Some(args))
 }
 
-/// What stands before the first slash, and the rest.
+/// What is before the first slash, and the rest.
 fn segment(text: &[u8]) -> (&[u8], &[u8])
     ensures parts { text.now ≡ result.0.now ++ result.1.now }
     ensures first { HasNoSlash result.0.now }

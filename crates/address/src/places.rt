@@ -31,7 +31,8 @@ impl From<NoMemory> for FileRefusal {
 /// The path of the term's file is put after what `out` has: the address without its first `/`. It is `LongName`
 /// exactly where a segment between slashes has more than 255 bytes. After a refusal `out` is as it was.
 pub fn file_of(alloc: Global, term: &Term, out: &mut Vec<u8>) -> Result<(), FileRefusal>
-    ensures out { out.new.items ≡ (if is_ok result then out.old.items ++ drop 1 (spec.address term.now) else out.old.items) }
+    ensures out { out.new.items
+        ≡ (if is_ok result then out.old.items ++ drop 1 (spec.address term.now) else out.old.items) }
     ensures ends { FileEnds (drop 1 (spec.address term.now)) result }
 {
     let mut text = Vec::new(alloc);

@@ -26,7 +26,7 @@ fn without_host(target: &[u8]) -> &[u8]
     }
 }
 
-/// What stands from the first slash on, or `/` where there is none.
+/// What is from the first slash on, or `/` where there is none.
 fn from_slash(text: &[u8]) -> &[u8]
     ensures { result.now ≡ spec.from_slash text.now }
 {
@@ -38,14 +38,12 @@ fn from_slash(text: &[u8]) -> &[u8]
     b"/"
 }
 
-/// What stands before the first `?`.
+/// What is before the first `?`.
 fn before_query(text: &[u8]) -> &[u8]
     ensures { result.now ≡ spec.before_query text.now }
 {
-    for i in 0..text.len() {
-        if text[i] == b'?' {
-            return &text[..i];
-        }
+    match text.iter().position(|b| *b == b'?') {
+        Some(end) => &text[..end],
+        None => text,
     }
-    text
 }

@@ -10,7 +10,8 @@ use std::alloc::Global;
 /// argument is its kind's letter and then its text, a byte other than A-Z a-z 0-9 `-` and `_` as `~XX`. `out` is as
 /// it was where memory runs out.
 pub fn address(alloc: Global, term: &Term, out: &mut Vec<u8>) -> Result<(), NoMemory>
-    ensures { out.new.items ≡ (if is_ok result then out.old.items ++ spec.address term.now else out.old.items) }
+    ensures { out.new.items
+        ≡ (if is_ok result then out.old.items ++ spec.address term.now else out.old.items) }
 {
     let mut text = Vec::new(alloc);
     push_address(alloc, &mut text, term)?;
@@ -21,7 +22,8 @@ pub fn address(alloc: Global, term: &Term, out: &mut Vec<u8>) -> Result<(), NoMe
 /// The value as text is put after what `out` has: an Int in decimal, another datum's bytes, a page's address. `out`
 /// is as it was where memory runs out.
 pub fn show(alloc: Global, value: &Value, out: &mut Vec<u8>) -> Result<(), NoMemory>
-    ensures { out.new.items ≡ (if is_ok result then out.old.items ++ spec.show value.now else out.old.items) }
+    ensures { out.new.items
+        ≡ (if is_ok result then out.old.items ++ spec.show value.now else out.old.items) }
 {
     let mut text = Vec::new(alloc);
     push_shown(alloc, &mut text, value)?;

@@ -10,6 +10,6 @@ pub record Gives (old n new : ℕ) : Type 0 where
   pub low : old ≤ new
   pub high : new ≤ old + n
 
--- the count stands where it was, or has risen by at most a number with P
+-- the count is where it was, or has risen by at most a number with P
 abbrev pub Spends : (ℕ → Type 0) → ℕ → ℕ → Type 0
 Spends P old new = (new ≡ old) ⊎ ((n : ℕ) × P n × Gives old n new)

@@ -26,24 +26,34 @@ pub trait Asker {
         requires well_made { IsWellMade chain.now }
         requires one_each { length bound.now ≡ length chain.now.variables }
         ensures graph { graph self.new ≡ graph self.old }
-        ensures rows { IfOk result (λ rows. ListsExactly row_cmp (IsAnswer (graph self.old) chain.now bound.now) rows.items) }
-        ensures counted { MatchResult result (λ rows. IsCounted (count self.old) (length rows.items) (count self.new)) (λ _. count self.new ≡ count self.old) };
+        ensures rows { IfOk result
+            (λ rows. ListsExactly row_cmp
+            (IsAnswer (graph self.old) chain.now bound.now) rows.items) }
+        ensures counted { MatchResult result
+            (λ rows. IsCounted (count self.old) (length rows.items) (count self.new))
+            (λ _. count self.new ≡ count self.old) };
 
     /// Whether the chain has such a row. The answer counts as one.
     fn exists(&mut self, alloc: Global, chain: &Chain, bound: &Bound) -> Result<bool, NoMemory>
         requires well_made { IsWellMade chain.now }
         requires one_each { length bound.now ≡ length chain.now.variables }
         ensures graph { graph self.new ≡ graph self.old }
-        ensures answer { IfOk result (λ b. IsTrue b ↔ SomeAnswer (graph self.old) chain.now bound.now) }
-        ensures counted { MatchResult result (λ _. IsCounted (count self.old) 1 (count self.new)) (λ _. count self.new ≡ count self.old) };
+        ensures answer { IfOk result
+            (λ b. IsTrue b ↔ SomeAnswer (graph self.old) chain.now bound.now) }
+        ensures counted { MatchResult result (λ _. IsCounted (count self.old) 1 (count self.new))
+            (λ _. count self.new ≡ count self.old) };
 
     /// The ends of the data edges from the value by the label, strictly ascending. Each end is counted.
     fn out(&mut self, alloc: Global, node: &Value, label: &Str) -> Result<Vec<Value>, NoMemory>
         ensures graph { graph self.new ≡ graph self.old }
-        ensures ends { IfOk result (λ ends. ListsExactly value_cmp (HasEdge (graph self.old) node.now label.now) ends.items) }
-        ensures counted { MatchResult result (λ ends. IsCounted (count self.old) (length ends.items) (count self.new)) (λ _. count self.new ≡ count self.old) };
+        ensures ends { IfOk result
+            (λ ends. ListsExactly value_cmp
+            (HasEdge (graph self.old) node.now label.now) ends.items) }
+        ensures counted { MatchResult result
+            (λ ends. IsCounted (count self.old) (length ends.items) (count self.new))
+            (λ _. count self.new ≡ count self.old) };
 
-    /// How much was handed out. The graph is well formed, which this call tells too.
+    /// How much was handed out. The graph is well formed, which this call reports too.
     fn given(&self) -> u128
         ensures count { result ≡ count self.now }
         ensures well_formed { IsWellFormed (graph self.now) };

@@ -1,8 +1,8 @@
 -- The tables of an expression from those of its parts.
 use Rattle.std.proofs.Common.{◌≡◌, ℕ, ◌+◌, ◌<◌, ◌≤◌, true, List, ◌++◌, ◌⊎◌, ◌↔◌, inl, inr, length, Option, refl, sym, ◌∙◌, ap, arith, append_assoc, length-append}
 use Rattle.automaton.specs.declared.build.Ends.{Ends}
-use Rattle.path_spec.specs.Language.{positions}
-use Rattle.path_spec.specs.Regex.{Label, Regex, seq, alt, star}
+use Rattle.rpe.specs.Language.{positions}
+use Rattle.rpe.specs.Regex.{Label, Regex, seq, alt, star}
 use Rattle.automaton.specs.PositionSet.{Has}
 use Rattle.automaton.specs.Positions.{letters_of, Above, BothAbove, IsFirst, IsLast, Follows}
 use Rattle.automaton.specs.Table.{row}

@@ -3,8 +3,8 @@ use Rattle.std.proofs.Common.{◌≡◌, ◌≢◌, ℕ, zero, suc, ◌+◌, ◌
 use Rattle.std.specs.List.{All, AllByRecursion}
 use Rattle.std.proofs.lemmas.Option.{slice_get_within}
 use Rattle.std.proofs.lemmas.List.Elements.{All-head, All-tail, All-cons}
-use Rattle.path_spec.specs.Regex.{Label, Word, Regex, label, any, empty, seq, alt, star}
-use Rattle.path_spec.specs.Language.{InLanguage, concat, positions}
+use Rattle.rpe.specs.Regex.{Label, Word, Regex, label, any, empty, seq, alt, star}
+use Rattle.rpe.specs.Language.{InLanguage, concat, positions}
 use Rattle.automaton.specs.Positions.{letters_of, has_empty_of, IsFirst, IsLast, Follows, Fits, Reads}
 
 -- what is left of a word after p can be read up to a last position

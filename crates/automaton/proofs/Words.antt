@@ -1,8 +1,8 @@
 -- The words of an automaton's tables.
 use Rattle.std.proofs.Common.{◌≡◌, ℕ, zero, suc, ◌+◌, ◌<◌, ◌%◌, get_or, drop, drop-cons, add-one, IsTrue, List, [], ◌∷◌, ◌⊎◌, ◌↔◌, inl, inr, length, Option, Some, slice_get, sym, ◌∙◌, ap, subst, arith}
 use Rattle.automaton.specs.declared.build.Ends.{Ends}
-use Rattle.path_spec.specs.Regex.{Label, Word, Regex}
-use Rattle.path_spec.specs.Language.{InLanguage, positions}
+use Rattle.rpe.specs.Regex.{Label, Word, Regex}
+use Rattle.rpe.specs.Language.{InLanguage, positions}
 use Rattle.automaton.specs.PositionSet.{Has}
 use Rattle.automaton.specs.Positions.{IsFirst, IsLast, Follows, Fits, ReadsIn}
 use Rattle.automaton.specs.Table.{Table, row, GoesOn, ReadsAll, HasWord, StandsFor, IsBefore, IsTurned}

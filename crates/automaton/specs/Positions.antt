@@ -1,9 +1,9 @@
 -- The positions of an expression: its labels and wildcards, numbered from 0, from the left.
 use Rattle.std.specs.Prelude.{◌≡◌, ℕ, ◌+◌, Bool, true, false, ◌&&◌, ◌||◌, IsTrue, List, [], ◌∷◌, ◌++◌, ◌⊎◌, Option, Some, None, slice_get}
-use Rattle.path_spec.specs.Regex.{Label, Regex, label, any, empty, seq, alt, star}
-use Rattle.path_spec.specs.Language.{positions}
+use Rattle.rpe.specs.Regex.{Label, Regex, label, any, empty, seq, alt, star}
+use Rattle.rpe.specs.Language.{positions}
 
--- what stands at each position: a label, or none for a wildcard
+-- what is at each position: a label, or none for a wildcard
 abbrev pub letters_of : Regex → List (Option Label)
 letters_of (label l) = Some l ∷ []
 letters_of any = None ∷ []
@@ -47,17 +47,18 @@ IsLast (star a) p = IsLast a p
 abbrev pub BothAbove : ℕ → (ℕ → ℕ → Type 0) → ℕ → ℕ → Type 0
 BothAbove n R p q = Above n (λ r. Above n (R r) q) p
 
--- q may stand right after p in a word
+-- q may be right after p in a word
 abbrev pub Follows : Regex → ℕ → ℕ → Type 0
 Follows (label l) p q = ⊥
 Follows any p q = ⊥
 Follows empty p q = ⊥
 Follows (seq a b) p q =
-    Follows a p q ⊎ BothAbove (positions a) (Follows b) p q ⊎ (IsLast a p × Above (positions a) (IsFirst b) q)
+    Follows a p q ⊎ BothAbove (positions a) (Follows b) p q
+    ⊎ (IsLast a p × Above (positions a) (IsFirst b) q)
 Follows (alt a b) p q = Follows a p q ⊎ BothAbove (positions a) (Follows b) p q
 Follows (star a) p q = Follows a p q ⊎ (IsLast a p × IsFirst a q)
 
--- the letter stands at a position with this label or none
+-- the letter is at a position with this label or none
 abbrev pub Fits : Option Label → Label → Type 0
 Fits None l = Unit {0}
 Fits (Some k) l = k ≡ l

@@ -1,11 +1,11 @@
 -- An automaton as its tables, and the words that its positions spell.
 use Rattle.std.specs.Prelude.{◌≡◌, ℕ, ◌<◌, length, Bool, IsTrue, List, [], ◌∷◌, Option, ◌↔◌}
 use Rattle.std.specs.List.{slice_index_or}
-use Rattle.path_spec.specs.Regex.{Label, Word, Regex}
+use Rattle.rpe.specs.Regex.{Label, Word, Regex}
 use Rattle.automaton.specs.PositionSet.{Has}
 use Rattle.automaton.specs.Positions.{letters_of, has_empty_of, IsFirst, IsLast, Follows, ReadsIn}
 
--- what stands at each position, the sets of positions at which a word may begin and end, and for each position the set of those that may stand right after it
+-- what is at each position, the sets of positions at which a word may begin and end, and for each position the set of those that may be right after it
 pub record Table : Type 0 where
   pub letters : List (Option Label)
   pub has_empty : Bool

@@ -1,7 +1,7 @@
 // Building the tables of an expression, part by part from the left.
 
-ghost use Rattle.std.specs.Prelude.{◌≡◌, ℕ, ◌+◌, ◌<◌, ◌≤◌, ◌⊎◌, ◌↔◌, IsTrue, vec_len, IfOk, min};
-ghost use Rattle.path_spec.specs.Language.{positions};
+ghost use Rattle.std.specs.Prelude.{◌≡◌, ℕ, ◌+◌, ◌<◌, ◌≤◌, ◌⊎◌, ◌↔◌, IsTrue, false, vec_len, IfOk, min};
+ghost use Rattle.rpe.specs.Language.{positions};
 ghost use Rattle.rpe.specs.Reading.{regex_of};
 ghost use Rattle.automaton.specs.PositionSet.{Has};
 ghost use Rattle.automaton.specs.Table.{row, IsBefore};
@@ -39,7 +39,9 @@ fn add_letter(
     next: &mut Vec<PositionSet>,
 ) -> Result<PositionSet, NoMemory>
     requires { vec_len letters.old < 256 }
-    ensures { IfOk result (λ here. AddsLetter letter letters.old.items letters.new.items next.old.items next.new.items here) }
+    ensures { IfOk result
+        (λ here. AddsLetter letter letters.old.items letters.new.items next.old.items
+        next.new.items here) }
 {
     let mut here = PositionSet::new();
     here.insert(letters.len() as u32);
@@ -82,6 +84,16 @@ fn joined(mut ones: PositionSet, others: &PositionSet) -> PositionSet
 impl Ends {
     ghost use Rattle.automaton.specs.Building.{IsSequence, IsChoice};
 
+    fn of_position(here: PositionSet) -> Ends
+        ensures { result ≡ record { has_empty = false; first = here; last = here } }
+    {
+        Ends {
+            has_empty: false,
+            first: here,
+            last: here,
+        }
+    }
+
     fn in_sequence(one: Ends, other: Ends) -> Ends
         ensures { IsSequence one other result }
     {
@@ -114,7 +126,8 @@ pub fn add(
     requires paired { vec_len next.old ≡ vec_len letters.old }
     ensures added { IfOk result (IsAdded (regex_of expression.now)
         letters.old.items letters.new.items next.old.items next.new.items) }
-    ensures len { IfOk result (λ _. vec_len letters.new ≡ vec_len letters.old + positions (regex_of expression.now)) }
+    ensures len { IfOk result
+        (λ _. vec_len letters.new ≡ vec_len letters.old + positions (regex_of expression.now)) }
     ensures paired { IfOk result (λ _. vec_len next.new ≡ vec_len letters.new) }
     ensures within { IfOk result (λ ends. (p : ℕ) → Has ends.last p → p < vec_len next.new) }
 {
@@ -122,19 +135,11 @@ pub fn add(
         Rpe::Label(label) => {
             let label = label.copy(alloc)?;
             let here = add_letter(Some(label), letters, next)?;
-            Ok(Ends {
-                has_empty: false,
-                first: here,
-                last: here,
-            })
+            Ok(Ends::of_position(here))
         }
         Rpe::Any => {
             let here = add_letter(None, letters, next)?;
-            Ok(Ends {
-                has_empty: false,
-                first: here,
-                last: here,
-            })
+            Ok(Ends::of_position(here))
         }
         Rpe::Empty => Ok(Ends {
             has_empty: true,
@@ -183,7 +188,9 @@ fn before(rows: &Vec<PositionSet>, p: u32) -> PositionSet
 pub fn transposed(alloc: Global, rows: &Vec<PositionSet>) -> Result<Vec<PositionSet>, NoMemory>
     requires { vec_len rows.now ≤ 256 }
     ensures len { IfOk result (λ turned. vec_len turned ≡ vec_len rows.now) }
-    ensures turned { IfOk result (λ turned. (p : ℕ) → p < vec_len rows.now → IsBefore rows.now.items p (row turned.items p)) }
+    ensures turned { IfOk result
+        (λ turned. (p : ℕ) → p < vec_len rows.now
+        → IsBefore rows.now.items p (row turned.items p)) }
 {
     let mut turned = Vec::new(alloc);
     for p in 0..rows.len() {

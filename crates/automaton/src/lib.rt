@@ -1,7 +1,7 @@
-//! Automata of path expressions: one state for each position at which a label or a wildcard stands.
+//! Automata of path expressions: one state for each position at which a label or a wildcard is.
 //!
-//! An automaton's meaning is its table: what stands at each position, where a word may begin and end, and which position
-//! may stand right after which. `Automaton::of` alone speaks of the expression; what searches, speaks of the table.
+//! An automaton's meaning is its table: what is at each position, where a word may begin and end, and which position
+//! may be right after which. `Automaton::of` alone speaks of the expression; what searches, speaks of the table.
 #![tactic(auto)]
 
 mod build;

@@ -2,8 +2,8 @@
 
 ghost use Rattle.std.specs.Prelude.{◌≡◌, ℕ, ◌<◌, ◌≤◌, ◌↔◌, IsTrue, length, vec_len, IfOk, slice_get};
 ghost use Rattle.std.specs.Option.{option_copied};
-ghost use Rattle.path_spec.specs.Regex.{Word};
-ghost use Rattle.path_spec.specs.Language.{InLanguage, positions};
+ghost use Rattle.rpe.specs.Regex.{Word};
+ghost use Rattle.rpe.specs.Language.{InLanguage, positions};
 ghost use Rattle.rpe.specs.Reading.{regex_of};
 ghost use Rattle.automaton.specs.PositionSet.{Has};
 ghost use Rattle.automaton.specs.Positions.{Fits, ReadsIn};
@@ -48,22 +48,29 @@ impl Model for Automaton {
 
     ghost Value = { Table };
 
-    ghost view = { λ a. record { letters = a.letters.items; has_empty = a.has_empty; first = a.first; last = a.last; next = a.next.items } };
+    ghost view = { λ a. record {
+      letters = a.letters.items;
+      has_empty = a.has_empty;
+      first = a.first;
+      last = a.last;
+      next = a.next.items;
+    } };
 
-    ghost invariant = { λ a. (length a.next.items ≡ length a.letters.items) × (length a.previous.items ≡ length a.letters.items)
+    ghost invariant = { λ a. (length a.next.items ≡ length a.letters.items)
+        × (length a.previous.items ≡ length a.letters.items)
         × (length a.letters.items ≤ 256) × IsTurned a.next.items a.previous.items };
 }
 
 /// Why an expression has no automaton.
 #[derive(Clone, Copy, Debug, PartialEq, Eq)]
 pub enum RpeRefusal {
-    /// Labels and wildcards together stand in it more than 256 times.
+    /// Labels and wildcards together are in it more than 256 times.
     TooManyPositions,
     /// Memory ran out.
     NoMemory,
 }
 
-// Whether the label may stand where the letter stands.
+// Whether the label may be where the letter is.
 fn fits(letter: &Option<Str>, label: &Str) -> bool
     ensures { IsTrue result ↔ Fits letter.now label.now }
 {
@@ -88,12 +95,15 @@ fn union_of(rows: &Vec<PositionSet>, set: &PositionSet) -> PositionSet
 }
 
 impl Automaton {
-    /// The automaton whose words are those of the expression. An expression in which labels and wildcards together stand
+    /// The automaton whose words are those of the expression. An expression in which labels and wildcards together are
     /// more than 256 times is refused, before any memory is asked for.
     pub fn of(alloc: Global, expression: &Rpe) -> Result<Automaton, RpeRefusal>
-        ensures words { IfOk result (λ a. (w : Word) → HasWord a w ↔ InLanguage (regex_of expression.now) w) }
-        ensures positions { IfOk result (λ a. length a.letters ≡ positions (regex_of expression.now)) }
-        ensures too_many { (result ≡ Err RpeRefusal.TooManyPositions) ↔ (256 < positions (regex_of expression.now)) }
+        ensures words { IfOk result
+            (λ a. (w : Word) → HasWord a w ↔ InLanguage (regex_of expression.now) w) }
+        ensures positions { IfOk result
+            (λ a. length a.letters ≡ positions (regex_of expression.now)) }
+        ensures too_many { (result ≡ Err RpeRefusal.TooManyPositions)
+            ↔ (256 < positions (regex_of expression.now)) }
     {
         if count_positions(expression) > MAX_POSITIONS {
             return Err(RpeRefusal::TooManyPositions);
@@ -156,7 +166,7 @@ impl Automaton {
         self.last.contains(p)
     }
 
-    /// Whether `q` may stand right after `p`.
+    /// Whether `q` may be right after `p`.
     pub fn follows(&self, p: u32, q: u32) -> bool
         requires p { p < length self.now.letters }
         requires q { q < length self.now.letters }
@@ -216,21 +226,21 @@ impl Automaton {
         set.meets(&self.last)
     }
 
-    /// The positions that may stand right after one of the set.
+    /// The positions that may be right after one of the set.
     pub fn after(&self, set: &PositionSet) -> PositionSet
         ensures { (q : ℕ) → Has result q ↔ ((p : ℕ) × Has set.now p × Has (row self.now.next p) q) }
     {
         union_of(&self.next, set)
     }
 
-    /// The positions that may stand right before one of the set.
+    /// The positions that may be right before one of the set.
     pub fn before(&self, set: &PositionSet) -> PositionSet
         ensures { (p : ℕ) → Has result p ↔ ((q : ℕ) × Has set.now q × Has (row self.now.next p) q) }
     {
         union_of(&self.previous, set)
     }
 
-    /// The positions of the set at which the label may stand.
+    /// The positions of the set at which the label may be.
     pub fn reading(&self, set: &PositionSet, label: &Str) -> PositionSet
         ensures { (q : ℕ) → Has result q ↔ (Has set.now q × ReadsIn self.now.letters q label.now) }
     {

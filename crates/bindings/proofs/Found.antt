@@ -8,10 +8,10 @@ use Rattle.sd_value.specs.Ascending.{ListsExactly}
 use Rattle.query_spec.specs.Rows.{row_cmp}
 use Rattle.sd_value.specs.declared.Value.{Value}
 use Rattle.graph_spec.specs.DataGraph.{DataGraph}
-use Rattle.goals.specs.Known.{known_part, Agrees, InDomains, KnownInDomains, IsCandidate, is_arc}
-use Rattle.goals.specs.Meaning.{GoalHolds}
+use Rattle.condition_tests.specs.Known.{known_part, Agrees, InDomains, KnownInDomains, IsCandidate, is_arc}
+use Rattle.condition_tests.specs.Meaning.{GoalHolds}
 use Rattle.bindings.specs.Fits.{Fits, SomeFits, Adds, IsPassed, IsChoice, IsComplete}
-use Rattle.goals.specs.declared.literal.Goal.{Goal}
+use Rattle.condition_tests.specs.declared.literal.Goal.{Goal}
 use Rattle.bindings.proofs.Known.{slice_get-set_same, slice_get-set_cases, set_back, length-set, known_part-agrees, agrees-known_part}
 
 pub Adds-none : {X : Type 0} (P : X → Type 0) (xs : List X) → ((x : X) → P x → ⊥) → Adds P xs xs

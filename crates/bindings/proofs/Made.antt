@@ -14,13 +14,13 @@ use Rattle.query_spec.specs.Holds.{Holds}
 use Rattle.query_spec.specs.Rows.{value_in}
 use Rattle.struql_ast.specs.declared.Condition.{Condition as Written}
 use Rattle.struql_ast.specs.Reading.{condition_of}
-use Rattle.goals.specs.declared.literal.Goal.{Goal}
-use Rattle.goals.specs.Meaning.{GoalHolds}
-use Rattle.goals.specs.Places.{GoalInRange, GoalsInRange}
-use Rattle.goals.specs.Resolved.{IsGoalOf, AreGoalsOf, StandsFor, declared, operand_declared, step_declared}
-use Rattle.planner.specs.declared.steps.PlanStep.{PlanStep}
-use Rattle.planner.specs.declared.steps.PlanStep.TheVariants.{Use, Domain}
-use Rattle.planner.specs.Plan.{Uses, AreStepsOver}
+use Rattle.condition_tests.specs.declared.literal.Goal.{Goal}
+use Rattle.condition_tests.specs.Meaning.{GoalHolds}
+use Rattle.condition_tests.specs.Places.{GoalInRange, GoalsInRange}
+use Rattle.condition_tests.specs.Resolved.{IsGoalOf, AreGoalsOf, StandsFor, declared, operand_declared, step_declared}
+use Rattle.plan_spec.specs.declared.PlanStep.{PlanStep}
+use Rattle.plan_spec.specs.declared.PlanStep.TheVariants.{Use, Domain}
+use Rattle.plan_spec.specs.Plan.{Uses, AreStepsOver}
 use Rattle.bindings.specs.Followed.{AreReady, IsStepOver, IsGoalFor}
 
 zip_more : {X Y : Type 0} (R : X → Y → Type 0) (xs : List X) (ys : List Y) (i : ℕ) (x : X) (y : Y) → slice_get xs i ≡ Some x → AllZip R (take i xs) ys → R x y → AllZip R (take (suc i) xs) (ys ++ y ∷ [])

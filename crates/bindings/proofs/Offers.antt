@@ -7,15 +7,15 @@ use Rattle.sd_value.specs.declared.Value.TheVariants.{Data, Page}
 use Rattle.sd_value.specs.Ascending.{ListsExactly}
 use Rattle.sd_value.specs.Order.{bytes_cmp, value_cmp}
 use Rattle.graph_spec.specs.DataGraph.{DataGraph, node, text, HasEdge, IsLabelOf, IsLabelValueOf}
-use Rattle.goals.specs.declared.literal.Place.{Place}
-use Rattle.goals.specs.declared.literal.Place.TheVariants.{Variable, Fixed}
-use Rattle.goals.specs.declared.literal.Property.{Property}
-use Rattle.goals.specs.declared.literal.Relation.{Relation}
-use Rattle.goals.specs.declared.literal.Atom.{Atom}
-use Rattle.goals.specs.declared.literal.Atom.TheVariants.{One, Two, Arc}
-use Rattle.goals.specs.Known.{Agrees, InDomains, IsCandidate, is_arc}
-use Rattle.goals.specs.Places.{IsKnown, IsFree, IsWhole}
-use Rattle.goals.specs.Meaning.{Stands, Has, HasArc, Relates, AtomHolds}
+use Rattle.condition_tests.specs.declared.literal.Place.{Place}
+use Rattle.condition_tests.specs.declared.literal.Place.TheVariants.{Variable, Fixed}
+use Rattle.condition_tests.specs.declared.literal.Property.{Property}
+use Rattle.condition_tests.specs.declared.literal.Relation.{Relation}
+use Rattle.condition_tests.specs.declared.literal.Atom.{Atom}
+use Rattle.condition_tests.specs.declared.literal.Atom.TheVariants.{One, Two, Arc}
+use Rattle.condition_tests.specs.Known.{Agrees, InDomains, IsCandidate, is_arc}
+use Rattle.condition_tests.specs.Places.{IsKnown, IsFree, IsWhole}
+use Rattle.condition_tests.specs.Meaning.{Stands, Has, HasArc, Relates, AtomHolds}
 use Rattle.bindings.specs.Fits.{IsListOf, IsPartOf, IsOffer, Lists, IsSettled, IsAny}
 use Rattle.graph_spec.specs.declared.Step.{Step}
 use Rattle.graph_spec.specs.declared.Edge.{Edge as GraphEdge}
@@ -23,9 +23,9 @@ use Rattle.graph_spec.specs.Orders.{step_cmp, edge_cmp}
 use Rattle.graph_spec.specs.Steps.{IsStepFrom, IsStepTo, IsLabelled}
 use Rattle.query_spec.specs.declared.Op.TheVariants.{Eq}
 use Rattle.query_spec.specs.Holds.{IsEqual}
-use Rattle.goals.proofs.Equal.{equal_turned}
-use Rattle.goals.specs.declared.literal.Relation.TheVariants.{Edge, Walk, Compare}
-use Rattle.goals.proofs.Decided.{known_stands, same_standing, not_free}
+use Rattle.condition_tests.proofs.Equal.{equal_turned}
+use Rattle.condition_tests.specs.declared.literal.Relation.TheVariants.{Edge, Walk, Compare}
+use Rattle.condition_tests.proofs.Decided.{known_stands, same_standing, not_free}
 use Rattle.bindings.proofs.Parts.{Contains-map, from_map}
 
 pub labels_are_domain : (G : DataGraph) (labels : List (List ℕ)) (values : List Value) (arc : Bool) → arc ≡ true → ListsExactly bytes_cmp (IsLabelOf G) labels → values ≡ map text labels → IsListOf (IsCandidate G arc) values

@@ -12,12 +12,12 @@ use Rattle.query_spec.specs.Holds.{Holds}
 use Rattle.sd_value.specs.Ascending.{ListsExactly}
 use Rattle.query_spec.specs.Rows as rows
 use Rattle.query_spec.specs.Rows.{value_in, IsRow, IsInDomain, row_cmp, IsAnswer, SomeAnswer}
-use Rattle.goals.specs.declared.literal.Goal.{Goal}
-use Rattle.goals.specs.Known.{Agrees, InDomains, KnownInDomains, IsCandidate, is_arc}
-use Rattle.goals.specs.Meaning.{GoalHolds}
+use Rattle.condition_tests.specs.declared.literal.Goal.{Goal}
+use Rattle.condition_tests.specs.Known.{Agrees, InDomains, KnownInDomains, IsCandidate, is_arc}
+use Rattle.condition_tests.specs.Meaning.{GoalHolds}
 use Rattle.bindings.specs.Fits.{Fits, SomeFits}
 use Rattle.bindings.proofs.Found.{fits_in_domains}
-use Rattle.goals.specs.Resolved.{arcs_of, AreGoalsOf}
+use Rattle.condition_tests.specs.Resolved.{arcs_of, AreGoalsOf}
 
 tail : (v : Value) (o : Option Value) (t : List Value) (s : List (Option Value)) → Agrees (v ∷ t) (o ∷ s) → Agrees t s
 tail v o t s a = record { as_long = (let e = a.as_long in omega (arith, e)); same = λ k w h. a.same (suc k) w h }

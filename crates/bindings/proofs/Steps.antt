@@ -4,14 +4,14 @@ use Rattle.std.specs.Prelude.{◌⊎◌, ◌↔◌, Contains, Bool, true, false,
 use Rattle.std.proofs.lemmas.Option.{slice_get_within}
 use Rattle.sd_value.specs.declared.Value.{Value}
 use Rattle.graph_spec.specs.DataGraph.{DataGraph}
-use Rattle.goals.specs.declared.literal.Atom.{Atom}
-use Rattle.goals.specs.declared.literal.Literal.{Literal}
-use Rattle.goals.specs.declared.literal.Goal.{Goal}
-use Rattle.goals.specs.declared.literal.Goal.TheVariants.{Holds, Domain}
-use Rattle.goals.specs.Known.{Agrees, InDomains, IsCandidate, is_arc}
-use Rattle.goals.specs.Meaning.{Signed, AtomHolds, LiteralHolds, GoalHolds}
+use Rattle.condition_tests.specs.declared.literal.Atom.{Atom}
+use Rattle.condition_tests.specs.declared.literal.Literal.{Literal}
+use Rattle.condition_tests.specs.declared.literal.Goal.{Goal}
+use Rattle.condition_tests.specs.declared.literal.Goal.TheVariants.{Holds, Domain}
+use Rattle.condition_tests.specs.Known.{Agrees, InDomains, IsCandidate, is_arc}
+use Rattle.condition_tests.specs.Meaning.{Signed, AtomHolds, LiteralHolds, GoalHolds}
 use Rattle.bindings.specs.Fits.{Fits, IsTold, HasFree, IsStopped, IsPassed, IsOffer, IsOpening, IsAny, IsChoice, IsComplete, IsListOf}
-use Rattle.goals.specs.Places.{Decides}
+use Rattle.condition_tests.specs.Places.{Decides}
 
 -- the goals between the two numbers hold of each row that agrees
 pub record IsReached (G : DataGraph) (version : ℕ) (arcs : List Bool) (goals : List Goal) (at next : ℕ) (s : List (Option Value)) : Type 0 where

@@ -2,18 +2,21 @@
 use Rattle.std.specs.Prelude.{◌≡◌, ◌≤◌, ◌⊎◌, ℕ, List, length, Option, None, Some, Bool, false, slice_get, Contains, IsTrue, ◌↔◌}
 use Rattle.sd_value.specs.declared.Value.{Value}
 use Rattle.graph_spec.specs.DataGraph.{DataGraph}
-use Rattle.goals.specs.Known.{Agrees, InDomains, IsCandidate, is_arc}
-use Rattle.goals.specs.Meaning.{GoalHolds, AtomHolds}
-use Rattle.goals.specs.declared.literal.Atom.{Atom}
-use Rattle.goals.specs.declared.literal.Goal.{Goal}
+use Rattle.condition_tests.specs.Known.{Agrees, InDomains, IsCandidate, is_arc}
+use Rattle.condition_tests.specs.Meaning.{GoalHolds, AtomHolds}
+use Rattle.condition_tests.specs.declared.literal.Atom.{Atom}
+use Rattle.condition_tests.specs.declared.literal.Goal.{Goal}
 
 -- the row agrees with what is known, each value is in its variable's domain, and the goals from `at` on hold
-pub record Fits (G : DataGraph) (version : ℕ) (arcs : List Bool) (goals : List Goal) (at : ℕ) (s : List (Option Value)) (t : List Value) : Type 0 where
+pub record Fits (G : DataGraph) (version : ℕ) (arcs : List Bool) (goals : List Goal) (at : ℕ)
+    (s : List (Option Value)) (t : List Value) : Type 0 where
   pub agrees : Agrees t s
   pub in_domains : InDomains G arcs t
-  pub goals_hold : (k : ℕ) (g : Goal) → at ≤ k → slice_get goals k ≡ Some g → GoalHolds G version g t
+  pub goals_hold : (k : ℕ) (g : Goal) → at ≤ k → slice_get goals k ≡ Some g
+      → GoalHolds G version g t
 
-pub record SomeFits (G : DataGraph) (version : ℕ) (arcs : List Bool) (goals : List Goal) (at : ℕ) (s : List (Option Value)) : Type 0 where
+pub record SomeFits (G : DataGraph) (version : ℕ) (arcs : List Bool) (goals : List Goal) (at : ℕ)
+    (s : List (Option Value)) : Type 0 where
   pub row : List Value
   pub fits : Fits G version arcs goals at s row
 
@@ -40,37 +43,45 @@ pub record IsPartOf {X : Type 0} (P : X → Type 0) (xs ys : List X) : Type 0 wh
   pub complete : (x : X) → Contains xs x → P x → Contains ys x
 
 -- those of the listed values that the variable may take
-pub record IsSettled (G : DataGraph) (arcs : List Bool) (slot : ℕ) (all : List Value) (exact : Bool) (slot2 : ℕ) (values : List Value) (settled : Bool) : Type 0 where
+pub record IsSettled (G : DataGraph) (arcs : List Bool) (slot : ℕ) (all : List Value)
+    (exact : Bool) (slot2 : ℕ) (values : List Value) (settled : Bool) : Type 0 where
   pub same_slot : slot2 ≡ slot
   pub same_exact : settled ≡ exact
   pub part : IsPartOf (IsCandidate G (is_arc arcs slot)) all values
 
 -- all values that the variable may take
-pub record IsAny (G : DataGraph) (arcs : List Bool) (slot slot2 : ℕ) (values : List Value) (settled : Bool) : Type 0 where
+pub record IsAny (G : DataGraph) (arcs : List Bool) (slot slot2 : ℕ) (values : List Value)
+    (settled : Bool) : Type 0 where
   pub same_slot : slot2 ≡ slot
   pub not_settled : settled ≡ false
   pub all : IsListOf (IsCandidate G (is_arc arcs slot)) values
 
 -- a free variable of an atom, with values of which each row that agrees and meets the atom has one; settled where each row
 -- that agrees and has one of them meets the atom
-pub record IsOffer (G : DataGraph) (version : ℕ) (arcs : List Bool) (atom : Atom) (s : List (Option Value)) (slot : ℕ) (values : List Value) (settled : Bool) : Type 0 where
+pub record IsOffer (G : DataGraph) (version : ℕ) (arcs : List Bool) (atom : Atom)
+    (s : List (Option Value)) (slot : ℕ) (values : List Value) (settled : Bool) : Type 0 where
   pub free : slice_get s slot ≡ Some None
   pub within : (v : Value) → Contains values v → IsCandidate G (is_arc arcs slot) v
-  pub complete : (t : List Value) (v : Value) → Agrees t s → InDomains G arcs t → AtomHolds G version atom t → slice_get t slot ≡ Some v → Contains values v
-  pub exact : IsTrue settled → (t : List Value) (v : Value) → Contains values v → slice_get t slot ≡ Some v → Agrees t s → AtomHolds G version atom t
+  pub complete : (t : List Value) (v : Value) → Agrees t s → InDomains G arcs t
+      → AtomHolds G version atom t → slice_get t slot ≡ Some v → Contains values v
+  pub exact : IsTrue settled → (t : List Value) (v : Value) → Contains values v
+      → slice_get t slot ≡ Some v → Agrees t s → AtomHolds G version atom t
 
 -- the same for any condition P on rows
-pub record IsOpening (G : DataGraph) (arcs : List Bool) (P : List Value → Type 0) (s : List (Option Value)) (slot : ℕ) (values : List Value) (settled : Bool) : Type 0 where
+pub record IsOpening (G : DataGraph) (arcs : List Bool) (P : List Value → Type 0)
+    (s : List (Option Value)) (slot : ℕ) (values : List Value) (settled : Bool) : Type 0 where
   pub free : slice_get s slot ≡ Some None
   pub within : (v : Value) → Contains values v → IsCandidate G (is_arc arcs slot) v
-  pub complete : (t : List Value) (v : Value) → Agrees t s → InDomains G arcs t → P t → slice_get t slot ≡ Some v → Contains values v
-  pub exact : IsTrue settled → (t : List Value) (v : Value) → Contains values v → slice_get t slot ≡ Some v → Agrees t s → P t
+  pub complete : (t : List Value) (v : Value) → Agrees t s → InDomains G arcs t → P t
+      → slice_get t slot ≡ Some v → Contains values v
+  pub exact : IsTrue settled → (t : List Value) (v : Value) → Contains values v
+      → slice_get t slot ≡ Some v → Agrees t s → P t
 
 -- some variable has no value yet
 abbrev pub HasFree : List (Option Value) → Type 0
 HasFree s = (k : ℕ) × (slice_get s k ≡ Some None)
 
--- what a test of a goal tells of all rows that agree
+-- what a test of a goal reports of all rows that agree
 abbrev pub IsTold : DataGraph → ℕ → Goal → List (Option Value) → Option Bool → Type 0
 IsTold G version g s None = HasFree s
 IsTold G version g s (Some b) = (t : List Value) → Agrees t s → (IsTrue b ↔ GoalHolds G version g t)
@@ -80,10 +91,12 @@ abbrev pub IsStopped : List Goal → ℕ → List (Option Value) → Type 0
 IsStopped goals at s = (length goals ≤ at) ⊎ HasFree s
 
 -- the same rows fit from `next` on, or none fits
-abbrev pub IsPassed : DataGraph → ℕ → List Bool → List Goal → ℕ → List (Option Value) → Option ℕ → Type 0
+abbrev pub IsPassed : DataGraph → ℕ → List Bool → List Goal → ℕ → List (Option Value) → Option ℕ
+    → Type 0
 IsPassed G version arcs goals at s None = (t : List Value) → Fits G version arcs goals at s t → ⊥
 IsPassed G version arcs goals at s (Some next) =
-    (at ≤ next) × IsStopped goals next s × ((t : List Value) → Fits G version arcs goals next s t → Fits G version arcs goals at s t)
+    (at ≤ next) × IsStopped goals next s
+    × ((t : List Value) → Fits G version arcs goals next s t → Fits G version arcs goals at s t)
 
 -- all goals are met, and all variables have a value
 pub record IsComplete (goals : List Goal) (at : ℕ) (s : List (Option Value)) : Type 0 where
@@ -91,9 +104,12 @@ pub record IsComplete (goals : List Goal) (at : ℕ) (s : List (Option Value)) :
   pub no_variable : (k : ℕ) → slice_get s k ≡ Some None → ⊥
 
 -- a free variable, with values of which each fitting row has one; from `next` on nothing more is asked of a row with one of them
-pub record IsChoice (G : DataGraph) (version : ℕ) (arcs : List Bool) (goals : List Goal) (at : ℕ) (s : List (Option Value)) (slot : ℕ) (values : List Value) (next : ℕ) : Type 0 where
+pub record IsChoice (G : DataGraph) (version : ℕ) (arcs : List Bool) (goals : List Goal) (at : ℕ)
+    (s : List (Option Value)) (slot : ℕ) (values : List Value) (next : ℕ) : Type 0 where
   pub free : slice_get s slot ≡ Some None
   pub forward : at ≤ next
   pub within : (v : Value) → Contains values v → IsCandidate G (is_arc arcs slot) v
-  pub complete : (t : List Value) (v : Value) → Fits G version arcs goals at s t → slice_get t slot ≡ Some v → Contains values v
-  pub exact : (t : List Value) (v : Value) → Contains values v → slice_get t slot ≡ Some v → Fits G version arcs goals next s t → Fits G version arcs goals at s t
+  pub complete : (t : List Value) (v : Value) → Fits G version arcs goals at s t
+      → slice_get t slot ≡ Some v → Contains values v
+  pub exact : (t : List Value) (v : Value) → Contains values v → slice_get t slot ≡ Some v
+      → Fits G version arcs goals next s t → Fits G version arcs goals at s t

@@ -3,22 +3,25 @@ use Rattle.std.specs.Prelude.{◌≡◌, ◌<◌, ℕ, List, length, Some, slice
 use Rattle.query_spec.specs.declared.Variable.{Variable}
 use Rattle.struql_ast.specs.declared.Condition.{Condition}
 use Rattle.struql_ast.specs.Reading.{condition_of}
-use Rattle.planner.specs.declared.steps.PlanStep.{PlanStep}
-use Rattle.planner.specs.declared.steps.PlanStep.TheVariants.{Use, Domain}
-use Rattle.goals.specs.declared.literal.Goal.{Goal}
-use Rattle.goals.specs.declared.literal.Goal.TheVariants.{Domain as DomainGoal}
-use Rattle.goals.specs.Resolved.{IsReady, StandsFor}
+use Rattle.plan_spec.specs.declared.PlanStep.{PlanStep}
+use Rattle.plan_spec.specs.declared.PlanStep.TheVariants.{Use, Domain}
+use Rattle.condition_tests.specs.declared.literal.Goal.{Goal}
+use Rattle.condition_tests.specs.declared.literal.Goal.TheVariants.{Domain as DomainGoal}
+use Rattle.condition_tests.specs.Resolved.{IsReady, StandsFor}
 
 -- a search can work on each of the conditions
 pub record AreReady (variables : List Variable) (conditions : List Condition) : Type 0 where
-  pub each : (i : ℕ) (k : Condition) → slice_get conditions i ≡ Some k → IsReady variables (condition_of k)
+  pub each : (i : ℕ) (k : Condition) → slice_get conditions i ≡ Some k
+      → IsReady variables (condition_of k)
 
--- the step names one of so many conditions, or one of so many variables
+-- the step names one of this many conditions, or one of this many variables
 abbrev pub IsStepOver : ℕ → ℕ → PlanStep → Type 0
 IsStepOver conditions variables (Use i cost) = i < conditions
 IsStepOver conditions variables (Domain x cost) = x < variables
 
 -- the goal does what the step says: it stands for the condition, or has the variable take its domain
 abbrev pub IsGoalFor : List Variable → List Condition → PlanStep → Goal → Type 0
-IsGoalFor variables conditions (Use i cost) g = (k : Condition) × (slice_get conditions i ≡ Some k) × ((version : ℕ) → StandsFor version variables (condition_of k) g)
+IsGoalFor variables conditions (Use i cost) g =
+    (k : Condition) × (slice_get conditions i ≡ Some k)
+    × ((version : ℕ) → StandsFor version variables (condition_of k) g)
 IsGoalFor variables conditions (Domain x cost) g = (g ≡ DomainGoal x) × (x < length variables)

@@ -1,6 +1,6 @@
 // Domains of variables.
 ghost use Rattle.std.specs.Prelude.{◌≡◌, ◌↔◌, IfOk, IsTrue, map, if◌then◌else◌, ◌++◌, ◌∷◌, []};
-ghost use Rattle.goals.specs.Known.{IsCandidate};
+ghost use Rattle.condition_tests.specs.Known.{IsCandidate};
 ghost use Rattle.bindings.specs.Fits.{IsListOf, IsPartOf};
 ghost use Rattle.graph_spec.specs.DataGraph.{text};
 
@@ -46,7 +46,8 @@ pub(crate) fn domain<S: Store>(alloc: Global, store: &S, arc: bool) -> Result<Ve
 }
 
 pub(crate) fn keep_if(kept: &mut Vec<Value>, good: bool, value: Value) -> Result<(), NoMemory>
-    ensures { IfOk result (λ _. kept.new.items ≡ (if good then kept.old.items ++ value ∷ [] else kept.old.items)) }
+    ensures { IfOk result
+        (λ _. kept.new.items ≡ (if good then kept.old.items ++ value ∷ [] else kept.old.items)) }
 {
     if good {
         kept.push(value)?;
@@ -61,7 +62,8 @@ pub(crate) fn within<S: Store>(
     arc: bool,
     mut values: Vec<Value>,
 ) -> Result<Vec<Value>, NoMemory>
-    ensures { IfOk result (λ kept. IsPartOf (IsCandidate (S.graph store.now) arc) values.items kept.items) }
+    ensures { IfOk result
+        (λ kept. IsPartOf (IsCandidate (S.graph store.now) arc) values.items kept.items) }
 {
     let mut kept = Vec::with_capacity(alloc, values.len())?;
     while let Some(value) = values.pop() {

@@ -2,13 +2,14 @@
 ghost use Rattle.std.specs.Prelude.{◌≡◌, ◌<◌, length, Some, IfOk, slice_get};
 ghost use Rattle.std.specs.List.{AllZip};
 ghost use Rattle.query_spec.specs.Mentions.{IsWellMade};
-ghost use Rattle.planner.specs.Plan.{AreStepsOver};
-ghost use Rattle.goals.specs.Resolved.{AreGoalsOf};
-ghost use Rattle.goals.specs.Places.{GoalsInRange};
+ghost use Rattle.plan_spec.specs.Plan.{AreStepsOver};
+ghost use Rattle.condition_tests.specs.Resolved.{AreGoalsOf};
+ghost use Rattle.condition_tests.specs.Places.{GoalsInRange};
 ghost use Rattle.bindings.specs.Followed.{AreReady, IsStepOver, IsGoalFor};
 
-use goals::{Goal, goal_of};
-use planner::{PlanStep, counts_of, plan};
+use condition_tests::{Goal, goal_of};
+use plan_spec::PlanStep;
+use planner::{counts_of, plan};
 use query_spec::{Bound, Variable};
 use sd_value::{NoMemory, Value};
 use std::alloc::Global;
@@ -62,7 +63,8 @@ fn goals_along(
 ) -> Result<Vec<Goal>, NoMemory>
     requires ready { AreReady variables.now conditions.now }
     requires in_range { AreStepsOver (length conditions.now) (length variables.now) steps.now }
-    ensures { IfOk result (λ goals. AllZip (IsGoalFor variables.now conditions.now) steps.now goals.items) }
+    ensures { IfOk result
+        (λ goals. AllZip (IsGoalFor variables.now conditions.now) steps.now goals.items) }
 {
     let mut goals = Vec::new(alloc);
     for step in steps {
@@ -82,7 +84,8 @@ pub(crate) fn goals_of<S: Store>(
     requires well_made { IsWellMade chain.now }
     requires one_each { length bound.now ≡ length chain.now.variables }
     ensures goals { IfOk result (λ goals. AreGoalsOf chain.now goals.items) }
-    ensures in_range { IfOk result (λ goals. GoalsInRange (length chain.now.variables) goals.items) }
+    ensures in_range { IfOk result
+        (λ goals. GoalsInRange (length chain.now.variables) goals.items) }
 {
     let counts = counts_of(alloc, store, chain)?;
     let flags = bound_at_first(alloc, bound.values())?;

@@ -3,15 +3,17 @@ ghost use Rattle.std.specs.Prelude.{◌≡◌, ◌<◌, ℕ, IfOk, IfSome, Match
 ghost use Rattle.sd_value.specs.Ascending.{ListsExactly};
 ghost use Rattle.sd_value.specs.Order.{value_cmp};
 ghost use Rattle.graph_spec.specs.DataGraph.{node, text};
-ghost use Rattle.goals.specs.Known.{IsCandidate, is_arc};
+ghost use Rattle.condition_tests.specs.Known.{IsCandidate, is_arc};
 ghost use Rattle.query_spec.specs.Holds.{Compares};
-ghost use Rattle.goals.specs.Meaning.{Has, HasArc, Relates};
-ghost use Rattle.goals.specs.Places.{AtomInRange, IsGround, PlaceInRange};
+ghost use Rattle.condition_tests.specs.Meaning.{Has, HasArc, Relates};
+ghost use Rattle.condition_tests.specs.Places.{AtomInRange, IsGround, PlaceInRange};
 ghost use Rattle.bindings.specs.Fits.{IsListOf, IsPartOf, IsOffer, Lists, IsSettled, IsAny};
 
 use crate::domain::{domain, within};
 use crate::search::Search;
-use goals::{Atom, Place, Property, Relation, equals_of, equals_of_any, free_at, known, value_of};
+use condition_tests::{
+    Atom, Place, Property, Relation, equals_of, equals_of_any, free_at, known, value_of,
+};
 use graph_spec::{Edge, Step};
 use query_spec::Op;
 use sd_value::{Datum, NoMemory, Value, sort_and_dedup};
@@ -55,7 +57,9 @@ fn all_labels(alloc: Global, steps: Vec<Step>) -> Result<Vec<Value>, NoMemory>
 
 // The starts of the edges, each once.
 fn starts_of(alloc: Global, edges: Vec<Edge>) -> Result<Vec<Value>, NoMemory>
-    ensures { IfOk result (λ starts. ListsExactly value_cmp (Contains (map (λ e. node e.from) edges.items)) starts.items) }
+    ensures { IfOk result
+        (λ starts. ListsExactly value_cmp
+        (Contains (map (λ e. node e.from) edges.items)) starts.items) }
 {
     let mut starts = all_starts(alloc, edges)?;
     sort_and_dedup(&mut starts);
@@ -64,7 +68,9 @@ fn starts_of(alloc: Global, edges: Vec<Edge>) -> Result<Vec<Value>, NoMemory>
 
 // The labels of the steps, as texts, each once.
 fn labels_of(alloc: Global, steps: Vec<Step>) -> Result<Vec<Value>, NoMemory>
-    ensures { IfOk result (λ labels. ListsExactly value_cmp (Contains (map (λ s. text s.label) steps.items)) labels.items) }
+    ensures { IfOk result
+        (λ labels. ListsExactly value_cmp
+        (Contains (map (λ s. text s.label) steps.items)) labels.items) }
 {
     let mut labels = all_labels(alloc, steps)?;
     sort_and_dedup(&mut labels);
@@ -79,7 +85,10 @@ pub(crate) fn after<S: Store>(
     relation: &Relation,
     u: &Value,
 ) -> Result<Option<Ends>, NoMemory>
-    ensures { IfOk result (λ r. IfSome r (λ ends. Lists (Relates (S.graph store.now) version relation.now u.now) ends.values.items ends.exact)) }
+    ensures { IfOk result
+        (λ r. IfSome r
+        (λ ends. Lists
+        (Relates (S.graph store.now) version relation.now u.now) ends.values.items ends.exact)) }
 {
     match relation {
         Relation::Edge(label) => {
@@ -107,9 +116,11 @@ pub(crate) fn after<S: Store>(
     }
 }
 
-// The values that compare so with `v`, where the comparison tells few.
+// The values that compare so with `v`, where the comparison narrows little.
 fn compared_before(alloc: Global, version: u8, op: Op, v: &Value) -> Result<Option<Ends>, NoMemory>
-    ensures { IfOk result (λ r. IfSome r (λ ends. Lists (λ u. Compares version op u v.now) ends.values.items ends.exact)) }
+    ensures { IfOk result
+        (λ r. IfSome r
+        (λ ends. Lists (λ u. Compares version op u v.now) ends.values.items ends.exact)) }
 {
     match op {
         Op::Eq => {
@@ -131,7 +142,11 @@ pub(crate) fn before<S: Store>(
     relation: &Relation,
     v: &Value,
 ) -> Result<Option<Ends>, NoMemory>
-    ensures { IfOk result (λ r. IfSome r (λ ends. Lists (λ u. Relates (S.graph store.now) version relation.now u v.now) ends.values.items ends.exact)) }
+    ensures { IfOk result
+        (λ r. IfSome r
+        (λ ends. Lists
+        (λ u. Relates (S.graph store.now) version relation.now u v.now) ends.values.items
+        ends.exact)) }
 {
     match relation {
         Relation::Edge(label) => {
@@ -163,7 +178,10 @@ fn settle<S: Store>(
     ends: Ends,
 ) -> Result<Offer, NoMemory>
     requires { slot < length search.now.arcs.now }
-    ensures { IfOk result (λ o. IsSettled (S.graph search.now.store.now) search.now.arcs.now slot ends.values.items ends.exact o.slot o.values.items o.settled) }
+    ensures { IfOk result
+        (λ o. IsSettled
+        (S.graph search.now.store.now) search.now.arcs.now slot ends.values.items ends.exact o.slot
+        o.values.items o.settled) }
 {
     let Ends { values, exact } = ends;
     let values = within(alloc, search.store, search.arcs[slot], values)?;
@@ -181,7 +199,9 @@ pub(crate) fn any<S: Store>(
     slot: usize,
 ) -> Result<Offer, NoMemory>
     requires { slot < length search.now.arcs.now }
-    ensures { IfOk result (λ o. IsAny (S.graph search.now.store.now) search.now.arcs.now slot o.slot o.values.items o.settled) }
+    ensures { IfOk result
+        (λ o. IsAny (S.graph search.now.store.now) search.now.arcs.now slot o.slot o.values.items
+        o.settled) }
 {
     let values = domain(alloc, search.store, search.arcs[slot])?;
     Ok(Offer {
@@ -203,7 +223,10 @@ fn offer_after<S: Store>(
     requires as_long { length search.now.arcs.now ≡ length current.now }
     requires from_in_range { PlaceInRange (length current.now) from.now }
     requires to_in_range { PlaceInRange (length current.now) to.now }
-    ensures { IfOk result (λ r. IfSome r (λ o. IsOffer (S.graph search.now.store.now) search.now.version search.now.arcs.now (Atom.Two from.now relation.now to.now) current.now o.slot o.values.items o.settled)) }
+    ensures { IfOk result
+        (λ r. IfSome r
+        (λ o. IsOffer (S.graph search.now.store.now) search.now.version search.now.arcs.now
+        (Atom.Two from.now relation.now to.now) current.now o.slot o.values.items o.settled)) }
 {
     let Some(u) = known(from, current) else {
         return Ok(None);
@@ -230,7 +253,10 @@ fn offer_before<S: Store>(
     requires as_long { length search.now.arcs.now ≡ length current.now }
     requires from_in_range { PlaceInRange (length current.now) from.now }
     requires to_in_range { PlaceInRange (length current.now) to.now }
-    ensures { IfOk result (λ r. IfSome r (λ o. IsOffer (S.graph search.now.store.now) search.now.version search.now.arcs.now (Atom.Two from.now relation.now to.now) current.now o.slot o.values.items o.settled)) }
+    ensures { IfOk result
+        (λ r. IfSome r
+        (λ o. IsOffer (S.graph search.now.store.now) search.now.version search.now.arcs.now
+        (Atom.Two from.now relation.now to.now) current.now o.slot o.values.items o.settled)) }
 {
     let Some(v) = known(to, current) else {
         return Ok(None);
@@ -252,7 +278,10 @@ fn property_values<S: Store>(
     version: u8,
     property: &Property,
 ) -> Result<Option<Ends>, NoMemory>
-    ensures { IfOk result (λ r. IfSome r (λ ends. Lists (Has (S.graph store.now) version property.now) ends.values.items ends.exact)) }
+    ensures { IfOk result
+        (λ r. IfSome r
+        (λ ends. Lists
+        (Has (S.graph store.now) version property.now) ends.values.items ends.exact)) }
 {
     match property {
         Property::Member(collection) => {
@@ -284,7 +313,9 @@ fn offer_one<S: Store>(
     requires as_long { length search.now.arcs.now ≡ length current.now }
     requires in_range { PlaceInRange (length current.now) place.now }
     requires free { slice_get current.now slot ≡ Some None }
-    ensures { IfOk result (λ o. IsOffer (S.graph search.now.store.now) search.now.version search.now.arcs.now (Atom.One place.now property.now) current.now o.slot o.values.items o.settled) }
+    ensures { IfOk result
+        (λ o. IsOffer (S.graph search.now.store.now) search.now.version search.now.arcs.now
+        (Atom.One place.now property.now) current.now o.slot o.values.items o.settled) }
 {
     let Some(slot) = free_at(place, current) else {
         let offer = any(alloc, search, slot)?;
@@ -310,7 +341,10 @@ fn offer_starts<S: Store>(
     requires as_long { length search.now.arcs.now ≡ length current.now }
     requires from_in_range { PlaceInRange (length current.now) from.now }
     requires to_in_range { PlaceInRange (length current.now) to.now }
-    ensures { IfOk result (λ r. IfSome r (λ o. IsOffer (S.graph search.now.store.now) search.now.version search.now.arcs.now (Atom.Two from.now relation.now to.now) current.now o.slot o.values.items o.settled)) }
+    ensures { IfOk result
+        (λ r. IfSome r
+        (λ o. IsOffer (S.graph search.now.store.now) search.now.version search.now.arcs.now
+        (Atom.Two from.now relation.now to.now) current.now o.slot o.values.items o.settled)) }
 {
     let Relation::Edge(label) = relation else {
         return Ok(None);
@@ -344,7 +378,9 @@ fn offer_two<S: Store>(
     requires from_in_range { PlaceInRange (length current.now) from.now }
     requires to_in_range { PlaceInRange (length current.now) to.now }
     requires free { slice_get current.now slot ≡ Some None }
-    ensures { IfOk result (λ o. IsOffer (S.graph search.now.store.now) search.now.version search.now.arcs.now (Atom.Two from.now relation.now to.now) current.now o.slot o.values.items o.settled) }
+    ensures { IfOk result
+        (λ o. IsOffer (S.graph search.now.store.now) search.now.version search.now.arcs.now
+        (Atom.Two from.now relation.now to.now) current.now o.slot o.values.items o.settled) }
 {
     if let Some(offer) = offer_after(alloc, search, from, relation, to, current)? {
         return Ok(offer);
@@ -361,7 +397,8 @@ fn offer_two<S: Store>(
 
 // The ends of the edges from a value by a label that is seen as a text.
 fn arc_ends<S: Store>(alloc: Global, store: &S, u: &Value, label: &Value) -> Result<Ends, NoMemory>
-    ensures { IfOk result (λ ends. Lists (HasArc (S.graph store.now) u.now label.now) ends.values.items ends.exact) }
+    ensures { IfOk result
+        (λ ends. Lists (HasArc (S.graph store.now) u.now label.now) ends.values.items ends.exact) }
 {
     match label {
         Value::Data(Datum::Text(label)) => {
@@ -394,7 +431,10 @@ fn offer_arc_from<S: Store>(
     requires from_in_range { PlaceInRange (length current.now) from.now }
     requires arc_in_range { arc < length current.now }
     requires to_in_range { PlaceInRange (length current.now) to.now }
-    ensures { IfOk result (λ r. IfSome r (λ o. IsOffer (S.graph search.now.store.now) search.now.version search.now.arcs.now (Atom.Arc from.now arc to.now) current.now o.slot o.values.items o.settled)) }
+    ensures { IfOk result
+        (λ r. IfSome r
+        (λ o. IsOffer (S.graph search.now.store.now) search.now.version search.now.arcs.now
+        (Atom.Arc from.now arc to.now) current.now o.slot o.values.items o.settled)) }
 {
     let Some(u) = known(from, current) else {
         return Ok(None);
@@ -427,7 +467,9 @@ fn arc_starts<S: Store>(
     label: &Value,
     v: &Value,
 ) -> Result<Ends, NoMemory>
-    ensures { IfOk result (λ starts. Lists (λ u. HasArc (S.graph store.now) u label.now v.now) starts.values.items starts.exact) }
+    ensures { IfOk result
+        (λ starts. Lists
+        (λ u. HasArc (S.graph store.now) u label.now v.now) starts.values.items starts.exact) }
 {
     match label {
         Value::Data(Datum::Text(label)) => {
@@ -460,7 +502,10 @@ fn offer_arc_to<S: Store>(
     requires from_in_range { PlaceInRange (length current.now) from.now }
     requires arc_in_range { arc < length current.now }
     requires to_in_range { PlaceInRange (length current.now) to.now }
-    ensures { IfOk result (λ r. IfSome r (λ o. IsOffer (S.graph search.now.store.now) search.now.version search.now.arcs.now (Atom.Arc from.now arc to.now) current.now o.slot o.values.items o.settled)) }
+    ensures { IfOk result
+        (λ r. IfSome r
+        (λ o. IsOffer (S.graph search.now.store.now) search.now.version search.now.arcs.now
+        (Atom.Arc from.now arc to.now) current.now o.slot o.values.items o.settled)) }
 {
     let Some(v) = known(to, current) else {
         return Ok(None);
@@ -500,7 +545,9 @@ fn offer_arc<S: Store>(
     requires arc_in_range { arc < length current.now }
     requires to_in_range { PlaceInRange (length current.now) to.now }
     requires free { slice_get current.now slot ≡ Some None }
-    ensures { IfOk result (λ o. IsOffer (S.graph search.now.store.now) search.now.version search.now.arcs.now (Atom.Arc from.now arc to.now) current.now o.slot o.values.items o.settled) }
+    ensures { IfOk result
+        (λ o. IsOffer (S.graph search.now.store.now) search.now.version search.now.arcs.now
+        (Atom.Arc from.now arc to.now) current.now o.slot o.values.items o.settled) }
 {
     if let Some(offer) = offer_arc_from(alloc, search, from, arc, to, current)? {
         return Ok(offer);
@@ -523,7 +570,10 @@ pub(crate) fn offer_values<S: Store>(
     requires as_long { length search.now.arcs.now ≡ length current.now }
     requires in_range { AtomInRange (length current.now) atom.now }
     requires free { slice_get current.now slot ≡ Some None }
-    ensures { IfOk result (λ o. IsOffer (S.graph search.now.store.now) search.now.version search.now.arcs.now atom.now current.now o.slot o.values.items o.settled) }
+    ensures { IfOk result
+        (λ o. IsOffer
+        (S.graph search.now.store.now) search.now.version search.now.arcs.now atom.now current.now
+        o.slot o.values.items o.settled) }
 {
     match atom {
         Atom::One(place, property) => offer_one(alloc, search, place, property, slot, current),

@@ -1,6 +1,6 @@
 // The row of a search that has come to its end.
 ghost use Rattle.std.specs.Prelude.{◌≡◌, IfOk};
-ghost use Rattle.goals.specs.Known.{known_part};
+ghost use Rattle.condition_tests.specs.Known.{known_part};
 
 use query_spec::Row;
 use sd_value::{NoMemory, Value, copy};

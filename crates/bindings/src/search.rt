@@ -2,16 +2,16 @@
 ghost use Rattle.std.specs.Prelude.{◌≡◌, ◌↔◌, IsTrue, false, ◌≤◌, ℕ, IfOk, MatchOption, IfSome, length, Some, None, ◌<◌, ◌+◌, slice_set, slice_get, if◌then◌else◌};
 ghost use Rattle.sd_value.specs.Ascending.{ListsExactly};
 ghost use Rattle.query_spec.specs.Rows.{row_cmp, IsAnswer, SomeAnswer};
-ghost use Rattle.goals.specs.Resolved.{arcs_of, AreGoalsOf};
-ghost use Rattle.goals.specs.Meaning.{LiteralHolds};
-ghost use Rattle.goals.specs.Places.{AtomInRange, GoalInRange, GoalsInRange};
-ghost use Rattle.goals.specs.Known.{KnownInDomains};
+ghost use Rattle.condition_tests.specs.Resolved.{arcs_of, AreGoalsOf};
+ghost use Rattle.condition_tests.specs.Meaning.{LiteralHolds};
+ghost use Rattle.condition_tests.specs.Places.{AtomInRange, GoalInRange, GoalsInRange};
+ghost use Rattle.condition_tests.specs.Known.{KnownInDomains};
 ghost use Rattle.bindings.specs.Fits.{Fits, SomeFits, Adds, HasFree, IsTold, IsStopped, IsPassed, IsOpening, IsChoice, IsComplete};
 
 use crate::domain::in_domain;
 use crate::offer::{Offer, any, offer_values};
 use crate::row::row_of;
-use goals::{Goal, Literal, free_slot, test_atom, value_of};
+use condition_tests::{Goal, Literal, free_slot, test_atom, value_of};
 use query_spec::Row;
 use sd_value::{NoMemory, Value, sort_and_dedup};
 use std::alloc::Global;
@@ -42,7 +42,8 @@ fn tested<S: Store>(
     current: &[Option<Value>],
 ) -> Result<Option<bool>, NoMemory>
     requires { GoalInRange (length current.now) goal.now }
-    ensures { IfOk result (IsTold (S.graph search.now.store.now) search.now.version goal.now current.now) }
+    ensures { IfOk result
+        (IsTold (S.graph search.now.store.now) search.now.version goal.now current.now) }
 {
     match goal {
         Goal::Domain(slot) => match value_of(*slot, current) {
@@ -67,7 +68,10 @@ fn passed<S: Store>(
     current: &[Option<Value>],
 ) -> Result<Option<usize>, NoMemory>
     requires { GoalsInRange (length current.now) search.now.goals.now }
-    ensures { IfOk result (λ r. IsPassed (S.graph search.now.store.now) search.now.version search.now.arcs.now search.now.goals.now at current.now r) }
+    ensures { IfOk result
+        (λ r. IsPassed
+        (S.graph search.now.store.now) search.now.version search.now.arcs.now search.now.goals.now
+        at current.now r) }
 {
     let mut next = at;
     while next < search.goals.len() {
@@ -81,7 +85,8 @@ fn passed<S: Store>(
 }
 
 fn first_free(current: &[Option<Value>]) -> Option<usize>
-    ensures { MatchOption result (HasFree current.now → ⊥) (λ k. slice_get current.now k ≡ Some None) }
+    ensures { MatchOption result (HasFree current.now → ⊥)
+        (λ k. slice_get current.now k ≡ Some None) }
 {
     for slot in 0..current.len() {
         if current[slot].is_none() {
@@ -102,7 +107,10 @@ fn offer_literal<S: Store>(
     requires as_long { length search.now.arcs.now ≡ length current.now }
     requires in_range { AtomInRange (length current.now) literal.now.atom }
     requires free { slice_get current.now slot ≡ Some None }
-    ensures { IfOk result (λ o. IsOpening (S.graph search.now.store.now) search.now.arcs.now (LiteralHolds (S.graph search.now.store.now) search.now.version literal.now) current.now o.slot o.values.items o.settled) }
+    ensures { IfOk result
+        (λ o. IsOpening (S.graph search.now.store.now) search.now.arcs.now
+        (LiteralHolds (S.graph search.now.store.now) search.now.version literal.now) current.now
+        o.slot o.values.items o.settled) }
 {
     if literal.negated {
         let offer = any(alloc, search, slot)?;
@@ -131,7 +139,11 @@ fn choose_for<S: Store>(
     requires as_long { length search.now.arcs.now ≡ length current.now }
     requires in_range { GoalsInRange (length current.now) search.now.goals.now }
     requires within { at < length search.now.goals.now }
-    ensures { IfOk result (λ r. IfSome r (λ c. IsChoice (S.graph search.now.store.now) search.now.version search.now.arcs.now search.now.goals.now at current.now c.slot c.values.items c.next)) }
+    ensures { IfOk result
+        (λ r. IfSome r
+        (λ c. IsChoice
+        (S.graph search.now.store.now) search.now.version search.now.arcs.now search.now.goals.now
+        at current.now c.slot c.values.items c.next)) }
 {
     let Goal::Holds(literal) = &search.goals[at] else {
         return Ok(None);
@@ -156,7 +168,11 @@ fn choose_any<S: Store>(
 ) -> Result<Option<Choice>, NoMemory>
     requires as_long { length search.now.arcs.now ≡ length current.now }
     requires stopped { IsStopped search.now.goals.now at current.now }
-    ensures { IfOk result (λ r. MatchOption r (IsComplete search.now.goals.now at current.now) (λ c. IsChoice (S.graph search.now.store.now) search.now.version search.now.arcs.now search.now.goals.now at current.now c.slot c.values.items c.next)) }
+    ensures { IfOk result
+        (λ r. MatchOption r (IsComplete search.now.goals.now at current.now)
+        (λ c. IsChoice
+        (S.graph search.now.store.now) search.now.version search.now.arcs.now search.now.goals.now
+        at current.now c.slot c.values.items c.next)) }
 {
     let Some(slot) = first_free(current) else {
         return Ok(None);
@@ -178,7 +194,11 @@ fn choose<S: Store>(
     requires as_long { length search.now.arcs.now ≡ length current.now }
     requires in_range { GoalsInRange (length current.now) search.now.goals.now }
     requires stopped { IsStopped search.now.goals.now at current.now }
-    ensures { IfOk result (λ r. MatchOption r (IsComplete search.now.goals.now at current.now) (λ c. IsChoice (S.graph search.now.store.now) search.now.version search.now.arcs.now search.now.goals.now at current.now c.slot c.values.items c.next)) }
+    ensures { IfOk result
+        (λ r. MatchOption r (IsComplete search.now.goals.now at current.now)
+        (λ c. IsChoice
+        (S.graph search.now.store.now) search.now.version search.now.arcs.now search.now.goals.now
+        at current.now c.slot c.values.items c.next)) }
 {
     if at < search.goals.len() {
         let choice = choose_for(alloc, search, at, current)?;
@@ -215,7 +235,9 @@ pub(crate) fn rows<S: Store>(
     requires as_long { length search.now.arcs.now ≡ length current.old }
     requires in_range { GoalsInRange (length current.old) search.now.goals.now }
     ensures restored { IfOk result (λ _. current.new ≡ current.old) }
-    ensures exact { IfOk result (λ _. Adds (Fits (S.graph search.now.store.now) search.now.version search.now.arcs.now search.now.goals.now at current.old) found.old.items found.new.items) }
+    ensures exact { IfOk result
+        (λ _. Adds (Fits (S.graph search.now.store.now) search.now.version search.now.arcs.now
+        search.now.goals.now at current.old) found.old.items found.new.items) }
 {
     let Some(at) = passed(alloc, search, at, current)? else {
         return Ok(());
@@ -248,7 +270,10 @@ pub(crate) fn finds<S: Store>(
     requires as_long { length search.now.arcs.now ≡ length current.old }
     requires in_range { GoalsInRange (length current.old) search.now.goals.now }
     ensures restored { IfOk result (λ b. b ≡ false → current.new ≡ current.old) }
-    ensures exact { IfOk result (λ b. IsTrue b ↔ SomeFits (S.graph search.now.store.now) search.now.version search.now.arcs.now search.now.goals.now at current.old) }
+    ensures exact { IfOk result
+        (λ b. IsTrue b
+        ↔ SomeFits (S.graph search.now.store.now) search.now.version search.now.arcs.now
+        search.now.goals.now at current.old) }
 {
     let Some(at) = passed(alloc, search, at, current)? else {
         return Ok(false);
@@ -280,7 +305,10 @@ pub(crate) fn all_rows<S: Store>(
     requires known { KnownInDomains (S.graph search.now.store.now) search.now.arcs.now current.old }
     requires as_long { length search.now.arcs.now ≡ length current.old }
     requires in_range { GoalsInRange (length current.old) search.now.goals.now }
-    ensures { IfOk result (λ found. ListsExactly row_cmp (Fits (S.graph search.now.store.now) search.now.version search.now.arcs.now search.now.goals.now 0 current.old) found.items) }
+    ensures { IfOk result
+        (λ found. ListsExactly row_cmp
+        (Fits (S.graph search.now.store.now) search.now.version search.now.arcs.now
+        search.now.goals.now 0 current.old) found.items) }
 {
     let mut found = Vec::new(alloc);
     rows(alloc, search, 0, current, &mut found)?;
@@ -314,7 +342,9 @@ pub fn answers<S: Store>(
 ) -> Result<Vec<Row>, NoMemory>
     requires as_long { length arcs.now ≡ length bound.items }
     requires in_range { GoalsInRange (length bound.items) goals.now }
-    ensures { IfOk result (λ found. ListsExactly row_cmp (Fits (S.graph store.now) version arcs.now goals.now 0 bound.items) found.items) }
+    ensures { IfOk result
+        (λ found. ListsExactly row_cmp
+        (Fits (S.graph store.now) version arcs.now goals.now 0 bound.items) found.items) }
 {
     let mut current = bound;
     if !are_in_domains(store, arcs, current.as_slice()) {
@@ -343,7 +373,9 @@ pub fn chain_answers<S: Store>(
     requires arcs { arcs.now ≡ arcs_of chain.now.variables }
     requires in_range { GoalsInRange (length bound.items) goals.now }
     requires resolved { AreGoalsOf chain.now goals.now }
-    ensures { IfOk result (λ found. ListsExactly row_cmp (IsAnswer (S.graph store.now) chain.now bound.items) found.items) }
+    ensures { IfOk result
+        (λ found. ListsExactly row_cmp
+        (IsAnswer (S.graph store.now) chain.now bound.items) found.items) }
 {
     let found = answers(alloc, store, chain.version(), arcs, goals, bound)?;
     Ok(found)

@@ -7,9 +7,9 @@ ghost use Rattle.query_spec.specs.Rows.{row_cmp, IsAnswer, SomeAnswer};
 use crate::follow::goals_of;
 use crate::search::{chain_answers, chain_finds};
 use asker::Asker;
-use goals::arcs_of_variables;
+use condition_tests::arcs_of_variables;
 use query_spec::{Bound, Row};
-use sd_value::{NoMemory, Str, Value, copy};
+use sd_value::{NoMemory, Str, Value};
 use std::alloc::Global;
 use store::Store;
 use struql_ast::Chain;
@@ -34,29 +34,6 @@ impl<S: Store> StoreAsker<S> {
     }
 }
 
-fn copy_of(alloc: Global, value: &Option<Value>) -> Result<Option<Value>, NoMemory>
-    ensures { IfOk result (λ v. v ≡ value.now) }
-{
-    match value {
-        Some(value) => {
-            let value = copy(alloc, value)?;
-            Ok(Some(value))
-        }
-        None => Ok(None),
-    }
-}
-
-fn copy_bound(alloc: Global, bound: &[Option<Value>]) -> Result<Vec<Option<Value>>, NoMemory>
-    ensures { IfOk result (λ values. values.items ≡ bound.now) }
-{
-    let mut values = Vec::with_capacity(alloc, bound.len())?;
-    for value in bound {
-        let value = copy_of(alloc, value)?;
-        values.push(value)?;
-    }
-    Ok(values)
-}
-
 fn rows_of<S: Store>(
     alloc: Global,
     store: &S,
@@ -65,11 +42,13 @@ fn rows_of<S: Store>(
 ) -> Result<Vec<Row>, NoMemory>
     requires well_made { IsWellMade chain.now }
     requires one_each { length bound.now ≡ length chain.now.variables }
-    ensures { IfOk result (λ rows. ListsExactly row_cmp (IsAnswer (S.graph store.now) chain.now bound.now) rows.items) }
+    ensures { IfOk result
+        (λ rows. ListsExactly row_cmp
+        (IsAnswer (S.graph store.now) chain.now bound.now) rows.items) }
 {
     let goals = goals_of(alloc, store, chain, bound)?;
     let arcs = arcs_of_variables(alloc, chain.variables())?;
-    let values = copy_bound(alloc, bound.values())?;
+    let values = bound.to_values(alloc)?;
     let rows = chain_answers(
         alloc,
         store,
@@ -93,7 +72,7 @@ fn some_row<S: Store>(
 {
     let goals = goals_of(alloc, store, chain, bound)?;
     let arcs = arcs_of_variables(alloc, chain.variables())?;
-    let values = copy_bound(alloc, bound.values())?;
+    let values = bound.to_values(alloc)?;
     let found = chain_finds(
         alloc,
         store,

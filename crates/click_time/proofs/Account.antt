@@ -13,10 +13,10 @@ use Rattle.graph_spec.specs.DataGraph.{DataGraph, Name}
 use Rattle.tmpl.specs.Body.{TemplateFile}
 use Rattle.page_spec.specs.Question.{Question, in_site, out, collected, template, MayKeep}
 use Rattle.site_spec.specs.Site.{Scope}
-use Rattle.query_site.specs.Site.{site_of}
+use Rattle.weight_spec.specs.Site.{site_of}
 use Rattle.demand_spec.specs.Reads.{MayAsk, KeepsOnly}
-use Rattle.weight_spec.specs.Charges.{IsCause, IsWithinWeight}
-use Rattle.weight_spec.specs.Hands.{Hands}
+use Rattle.weight_spec.specs.Charges.{IsCause, IsAtMostWeight}
+use Rattle.weight_spec.specs.CountsAtMost.{CountsAtMost}
 use Rattle.weight_spec.proofs.Handing.{distinct_append}
 use Rattle.weight_spec.proofs.Causes.{one_cause, charged}
 use Rattle.click_time.specs.Known.{Puts, KeepsKey, AsksOnce, knew, asked}
@@ -140,7 +140,7 @@ module _ (G : DataGraph) (q : Scope) (f : TemplateFile) where
   pub account_none : (n : ℕ) → Account G q f [] n n
   account_none n = record { charges = []; distinct = tt; caused = λ x h. absurd (Contains-nil x h); within = omega arith }
 
-  pub account_more : (x : Question) (old new : List Question) (start a b : ℕ) → Account G q f old start a → AsksOnce x (Hands (IsCause G q f x) a b) old new a b → Account G q f new start b
+  pub account_more : (x : Question) (old new : List Question) (start a b : ℕ) → Account G q f old start a → AsksOnce x (CountsAtMost (IsCause G q f x) a b) old new a b → Account G q f new start b
   account_more x old new start a b acc (knew e c) = subst (λ l. Account G q f l start b) (sym e) (subst (Account G q f old start) (sym c) acc)
   account_more x old new start a b acc (asked fresh keeps h) = record {
     charges = acc.charges ++ h.things;
@@ -152,7 +152,7 @@ module _ (G : DataGraph) (q : Scope) (f : TemplateFile) where
     within = let m = acc.within in let n = h.high in omega (arith, length-append acc.charges h.things, m, n);
   }
 
-  pub account_weight : (p : Term) (kept : List Question) (start now : ℕ) → Account G q f kept start now → KeepsOnly (MayAsk (site_of G q) f p) [] kept → (n : ℕ) × IsWithinWeight G q f p n × (now ≤ start + n)
+  pub account_weight : (p : Term) (kept : List Question) (start now : ℕ) → Account G q f kept start now → KeepsOnly (MayAsk (site_of G q) f p) [] kept → (n : ℕ) × IsAtMostWeight G q f p n × (now ≤ start + n)
   account_weight p kept start now acc only =
       (length acc.charges, (acc.charges, acc.distinct, (λ x h. let (z, among, cause) = acc.caused x h in ⊎_elim (λ none. absurd (Contains-nil z none)) (λ may. charged G q f p z x may cause) (only.only z among)), omega arith), acc.within)
 

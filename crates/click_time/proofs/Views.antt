@@ -12,7 +12,7 @@ use Rattle.tmpl.specs.Body.{TemplateFile}
 use Rattle.page_spec.specs.Question.{in_site, out, collected, template}
 use Rattle.site_spec.specs.Site.{Scope}
 use Rattle.weight_spec.specs.Charges.{IsCause}
-use Rattle.weight_spec.specs.Hands.{Hands}
+use Rattle.weight_spec.specs.CountsAtMost.{CountsAtMost}
 use Rattle.click_time.specs.Known.{AsksOnce}
 use Rattle.click_time.specs.Told.{AreTerms, AreEnds, AreGathered, AreNumbers}
 use Rattle.click_time.specs.Fixed.{Keeps, all_asked}
@@ -20,7 +20,7 @@ use Rattle.click_time.proofs.Account.{asks_as, term_asked, end_asked, name_asked
 
 module _ (G : DataGraph) (q : Scope) (f : TemplateFile) (ts : List (Term × Option Bool)) (es : List ((Value × Name) × Option (Vec Value Global)))
     (cs : List (Name × Option (Vec Value Global))) (vs : List (Value × Option (Option ℕ))) (s a b : ℕ) where
-  pub after_term : (t : Term) (new : List (Term × Option Bool)) → Keeps G q f ts es cs vs s a → AreTerms G q new → AsksOnce t ((f : TemplateFile) → Hands (IsCause G q f (in_site t)) a b) (keys_of ts) (keys_of new) a b → Keeps G q f new es cs vs s b
+  pub after_term : (t : Term) (new : List (Term × Option Bool)) → Keeps G q f ts es cs vs s a → AreTerms G q new → AsksOnce t ((f : TemplateFile) → CountsAtMost (IsCause G q f (in_site t)) a b) (keys_of ts) (keys_of new) a b → Keeps G q f new es cs vs s b
   after_term t new k told asks = record {
     terms = told;
     ends = k.ends;
@@ -28,10 +28,10 @@ module _ (G : DataGraph) (q : Scope) (f : TemplateFile) (ts : List (Term × Opti
     templates = k.templates;
     account =
         account_more G q f (in_site t) (all_asked (keys_of ts) (keys_of es) (keys_of cs) (keys_of vs)) (all_asked (keys_of new) (keys_of es) (keys_of cs) (keys_of vs)) s a b k.account
-        (term_asked t (Hands (IsCause G q f (in_site t)) a b) (keys_of ts) (keys_of new) (keys_of es) (keys_of cs) (keys_of vs) a b (asks_as t ((f : TemplateFile) → Hands (IsCause G q f (in_site t)) a b) (Hands (IsCause G q f (in_site t)) a b) (keys_of ts) (keys_of new) a b (λ r. r f) asks));
+        (term_asked t (CountsAtMost (IsCause G q f (in_site t)) a b) (keys_of ts) (keys_of new) (keys_of es) (keys_of cs) (keys_of vs) a b (asks_as t ((f : TemplateFile) → CountsAtMost (IsCause G q f (in_site t)) a b) (CountsAtMost (IsCause G q f (in_site t)) a b) (keys_of ts) (keys_of new) a b (λ r. r f) asks));
   }
 
-  pub after_end : (v : Value) (l : Name) (new : List ((Value × Name) × Option (Vec Value Global))) → Keeps G q f ts es cs vs s a → AreEnds G q new → AsksOnce (v, l) ((f : TemplateFile) → Hands (IsCause G q f (out v l)) a b) (keys_of es) (keys_of new) a b → Keeps G q f ts new cs vs s b
+  pub after_end : (v : Value) (l : Name) (new : List ((Value × Name) × Option (Vec Value Global))) → Keeps G q f ts es cs vs s a → AreEnds G q new → AsksOnce (v, l) ((f : TemplateFile) → CountsAtMost (IsCause G q f (out v l)) a b) (keys_of es) (keys_of new) a b → Keeps G q f ts new cs vs s b
   after_end v l new k told asks = record {
     terms = k.terms;
     ends = told;
@@ -39,10 +39,10 @@ module _ (G : DataGraph) (q : Scope) (f : TemplateFile) (ts : List (Term × Opti
     templates = k.templates;
     account =
         account_more G q f (out v l) (all_asked (keys_of ts) (keys_of es) (keys_of cs) (keys_of vs)) (all_asked (keys_of ts) (keys_of new) (keys_of cs) (keys_of vs)) s a b k.account
-        (end_asked v l (Hands (IsCause G q f (out v l)) a b) (keys_of ts) (keys_of es) (keys_of new) (keys_of cs) (keys_of vs) a b (asks_as (v, l) ((f : TemplateFile) → Hands (IsCause G q f (out v l)) a b) (Hands (IsCause G q f (out v l)) a b) (keys_of es) (keys_of new) a b (λ r. r f) asks));
+        (end_asked v l (CountsAtMost (IsCause G q f (out v l)) a b) (keys_of ts) (keys_of es) (keys_of new) (keys_of cs) (keys_of vs) a b (asks_as (v, l) ((f : TemplateFile) → CountsAtMost (IsCause G q f (out v l)) a b) (CountsAtMost (IsCause G q f (out v l)) a b) (keys_of es) (keys_of new) a b (λ r. r f) asks));
   }
 
-  pub after_name : (c : Name) (new : List (Name × Option (Vec Value Global))) → Keeps G q f ts es cs vs s a → AreGathered G q new → AsksOnce c ((f : TemplateFile) → Hands (IsCause G q f (collected c)) a b) (keys_of cs) (keys_of new) a b → Keeps G q f ts es new vs s b
+  pub after_name : (c : Name) (new : List (Name × Option (Vec Value Global))) → Keeps G q f ts es cs vs s a → AreGathered G q new → AsksOnce c ((f : TemplateFile) → CountsAtMost (IsCause G q f (collected c)) a b) (keys_of cs) (keys_of new) a b → Keeps G q f ts es new vs s b
   after_name c new k told asks = record {
     terms = k.terms;
     ends = k.ends;
@@ -50,10 +50,10 @@ module _ (G : DataGraph) (q : Scope) (f : TemplateFile) (ts : List (Term × Opti
     templates = k.templates;
     account =
         account_more G q f (collected c) (all_asked (keys_of ts) (keys_of es) (keys_of cs) (keys_of vs)) (all_asked (keys_of ts) (keys_of es) (keys_of new) (keys_of vs)) s a b k.account
-        (name_asked c (Hands (IsCause G q f (collected c)) a b) (keys_of ts) (keys_of es) (keys_of cs) (keys_of new) (keys_of vs) a b (asks_as c ((f : TemplateFile) → Hands (IsCause G q f (collected c)) a b) (Hands (IsCause G q f (collected c)) a b) (keys_of cs) (keys_of new) a b (λ r. r f) asks));
+        (name_asked c (CountsAtMost (IsCause G q f (collected c)) a b) (keys_of ts) (keys_of es) (keys_of cs) (keys_of new) (keys_of vs) a b (asks_as c ((f : TemplateFile) → CountsAtMost (IsCause G q f (collected c)) a b) (CountsAtMost (IsCause G q f (collected c)) a b) (keys_of cs) (keys_of new) a b (λ r. r f) asks));
   }
 
-  pub after_value : (v : Value) (new : List (Value × Option (Option ℕ))) → Keeps G q f ts es cs vs s a → AreNumbers G f new → AsksOnce v ((q : Scope) → Hands (IsCause G q f (template v)) a b) (keys_of vs) (keys_of new) a b → Keeps G q f ts es cs new s b
+  pub after_value : (v : Value) (new : List (Value × Option (Option ℕ))) → Keeps G q f ts es cs vs s a → AreNumbers G f new → AsksOnce v ((q : Scope) → CountsAtMost (IsCause G q f (template v)) a b) (keys_of vs) (keys_of new) a b → Keeps G q f ts es cs new s b
   after_value v new k told asks = record {
     terms = k.terms;
     ends = k.ends;
@@ -61,7 +61,7 @@ module _ (G : DataGraph) (q : Scope) (f : TemplateFile) (ts : List (Term × Opti
     templates = told;
     account =
         account_more G q f (template v) (all_asked (keys_of ts) (keys_of es) (keys_of cs) (keys_of vs)) (all_asked (keys_of ts) (keys_of es) (keys_of cs) (keys_of new)) s a b k.account
-        (value_asked v (Hands (IsCause G q f (template v)) a b) (keys_of ts) (keys_of es) (keys_of cs) (keys_of vs) (keys_of new) a b (asks_as v ((q : Scope) → Hands (IsCause G q f (template v)) a b) (Hands (IsCause G q f (template v)) a b) (keys_of vs) (keys_of new) a b (λ r. r q) asks));
+        (value_asked v (CountsAtMost (IsCause G q f (template v)) a b) (keys_of ts) (keys_of es) (keys_of cs) (keys_of vs) (keys_of new) a b (asks_as v ((q : Scope) → CountsAtMost (IsCause G q f (template v)) a b) (CountsAtMost (IsCause G q f (template v)) a b) (keys_of vs) (keys_of new) a b (λ r. r q) asks));
   }
 
 pub keeps_nothing : (G : DataGraph) (q : Scope) (f : TemplateFile) (ts : List (Term × Option Bool)) (es : List ((Value × Name) × Option (Vec Value Global)))

@@ -2,7 +2,7 @@
 use Rattle.std.specs.Prelude.{◌≡◌, ◌⊎◌, ℕ, List, Contains}
 use Rattle.std.specs.Map.{keys_of}
 
--- the key has what is told, and nothing else is new
+-- the key has what is reported, and nothing else is new
 pub record Puts {K X : Type 0} (key : K) (told : X) (old new : List (K × X)) : Type 0 where
   pub new_one : (e : K × X) → Contains new e → Contains old e ⊎ (e ≡ (key, told))
   pub keys_stay : (k : K) → Contains (keys_of old) k → Contains (keys_of new) k
@@ -15,6 +15,7 @@ pub record KeepsKey {K : Type 0} (key : K) (old new : List K) : Type 0 where
   pub only : (k : K) → Contains new k → Contains old k ⊎ (k ≡ key)
 
 -- nothing is asked, or what was never asked before, and is kept now; then `rises` says by what the count rises
-pub data AsksOnce {K : Type 0} (key : K) (rises : Type 0) (old new : List K) (a b : ℕ) : Type 0 where
+pub data AsksOnce {K : Type 0} (key : K) (rises : Type 0) (old new : List K)
+    (a b : ℕ) : Type 0 where
   knew : new ≡ old → b ≡ a → AsksOnce key rises old new a b
   asked : (Contains old key → ⊥) → KeepsKey key old new → rises → AsksOnce key rises old new a b

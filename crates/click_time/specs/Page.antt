@@ -3,7 +3,7 @@ use Rattle.graph_spec.specs.DataGraph.{DataGraph}
 use Rattle.tmpl.specs.Body.{TemplateFile}
 use Rattle.site_spec.specs.Site.{Scope}
 use Rattle.page_spec.specs.Site.{Site}
-use Rattle.query_site.specs.Site.{site_of}
+use Rattle.weight_spec.specs.Site.{site_of}
 
 pub record PageFixed : Type 0 where
   pub graph : DataGraph

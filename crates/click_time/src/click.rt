@@ -3,8 +3,8 @@ ghost use Rattle.std.specs.Prelude.{◌≡◌, ℕ, ◌≤◌, ◌+◌, IfOk, []
 ghost use Rattle.graph_spec.specs.DataGraph.{IsWellFormed};
 ghost use Rattle.tmpl.specs.Reading.{file_of};
 ghost use Rattle.page_spec.specs.Page.{IsOutcome};
-ghost use Rattle.query_site.specs.Blocks.{AreScoped, scope_of};
-ghost use Rattle.weight_spec.specs.Charges.{IsWithinWeight};
+ghost use Rattle.query_blocks.specs.Blocks.{AreCheckedBlocks, scope_of};
+ghost use Rattle.weight_spec.specs.Charges.{IsAtMostWeight};
 ghost use Rattle.click_time.specs.Fixed.{Fixed as AnyFixed, fixed_site, questions, IsKept};
 ghost use Rattle.click_time.specs.Page.{PageFixed, page_site};
 
@@ -13,7 +13,7 @@ use crate::memo::Memo;
 use crate::recall::{template_once, term_once};
 use asker::Asker;
 use page_spec::Outcome;
-use query_site::Scopes;
+use query_blocks::QueryBlocks;
 use render::render;
 use sd_value::{NoMemory, Str, Term, Value};
 use site_view::{Pages, SiteView};
@@ -25,7 +25,7 @@ use tmpl::Templates;
 #[derive(Drop)]
 pub struct Click<'q, A> {
     asker: A,
-    scopes: &'q Scopes,
+    scopes: &'q QueryBlocks,
     templates: &'q Templates,
     memo: Memo,
     start: u128,
@@ -52,12 +52,21 @@ impl<'q, A: Asker> Click<'q, A> {
     ghost use Rattle.std.specs.Prelude.{◌≡◌, []};
     ghost use Rattle.graph_spec.specs.DataGraph.{IsWellFormed};
     ghost use Rattle.tmpl.specs.Reading.{file_of};
-    ghost use Rattle.query_site.specs.Blocks.{AreScoped, scope_of};
+    ghost use Rattle.query_blocks.specs.Blocks.{AreCheckedBlocks, scope_of};
 
     /// A view of the site. It asks nothing yet.
-    pub fn of(alloc: Global, asker: A, scopes: &'q Scopes, templates: &'q Templates) -> Click<'q, A>
-        requires { AreScoped scopes.now.version scopes.now.blocks.items }
-        ensures fixed { ⟦<Click<'q, A> as Pages>⟧.fixed result ≡ record { graph = A.graph asker; scope = scope_of scopes.now; templates = file_of templates.now } }
+    pub fn of(
+        alloc: Global,
+        asker: A,
+        scopes: &'q QueryBlocks,
+        templates: &'q Templates,
+    ) -> Click<'q, A>
+        requires { AreCheckedBlocks scopes.now.version scopes.now.blocks.items }
+        ensures fixed { ⟦<Click<'q, A> as Pages>⟧.fixed result ≡ record {
+          graph = A.graph asker;
+          scope = scope_of scopes.now;
+          templates = file_of templates.now;
+        } }
         ensures given { ⟦<Click<'q, A> as Given>⟧.given result ≡ A.count asker }
         ensures own { ⟦<Click<'q, A> as Pages>⟧.Own result }
     {
@@ -75,7 +84,12 @@ impl<'q, A: Asker> Click<'q, A> {
 impl<'q, A: Asker> SiteView for Click<'q, A> {
     ghost Fixed = { AnyFixed };
 
-    ghost fixed = { λ c. record { graph = A.graph c.asker; scope = scope_of c.scopes.now; templates = file_of c.templates.now; start = c.start } };
+    ghost fixed = { λ c. record {
+      graph = A.graph c.asker;
+      scope = scope_of c.scopes.now;
+      templates = file_of c.templates.now;
+      start = c.start;
+    } };
 
     ghost site = { fixed_site };
 
@@ -83,8 +97,10 @@ impl<'q, A: Asker> SiteView for Click<'q, A> {
 
     ghost kept = { λ c. questions c.memo };
 
-    ghost Own = { λ c. IsWellFormed (A.graph c.asker) × AreScoped c.scopes.now.version c.scopes.now.blocks.items
-        × IsKept (A.graph c.asker) (scope_of c.scopes.now) (file_of c.templates.now) c.memo c.start (A.count c.asker) };
+    ghost Own = { λ c. IsWellFormed (A.graph c.asker)
+        × AreCheckedBlocks c.scopes.now.version c.scopes.now.blocks.items
+        × IsKept (A.graph c.asker) (scope_of c.scopes.now) (file_of c.templates.now) c.memo c.start
+        (A.count c.asker) };
 
     fn out(&mut self, alloc: Global, value: &Value, label: &Str) -> Result<Vec<Value>, NoMemory> {
         let ends = ends(
@@ -135,23 +151,34 @@ impl<'q, A: Asker> SiteView for Click<'q, A> {
 impl<'q, A: Asker> Pages for Click<'q, A> {
     ghost Fixed = { PageFixed };
 
-    ghost fixed = { λ c. record { graph = A.graph c.asker; scope = scope_of c.scopes.now; templates = file_of c.templates.now } };
+    ghost fixed = { λ c. record {
+      graph = A.graph c.asker;
+      scope = scope_of c.scopes.now;
+      templates = file_of c.templates.now;
+    } };
 
     ghost site = { page_site };
 
     ghost templates = { λ f. f.templates };
 
-    ghost Own = { λ c. IsWellFormed (A.graph c.asker) × AreScoped c.scopes.now.version c.scopes.now.blocks.items × (questions c.memo ≡ []) };
+    ghost Own = { λ c. IsWellFormed (A.graph c.asker)
+        × AreCheckedBlocks c.scopes.now.version c.scopes.now.blocks.items
+        × (questions c.memo ≡ []) };
 
     /// What asking for the page gives. Whatever it gives, the asker has handed out at most the page's weight for it, and
     /// nothing of what was asked is kept.
     fn page(&mut self, alloc: Global, term: &Term) -> Result<Outcome, NoMemory>
         requires own { ⟦<Click<'q, A> as Pages>⟧.Own self.old }
         ensures own { ⟦<Click<'q, A> as Pages>⟧.Own self.new }
-        ensures fixed { ⟦<Click<'q, A> as Pages>⟧.fixed self.new ≡ ⟦<Click<'q, A> as Pages>⟧.fixed self.old }
-        ensures outcome { IfOk result (IsOutcome (page_site (⟦<Click<'q, A> as Pages>⟧.fixed self.old)) (⟦<Click<'q, A> as Pages>⟧.fixed self.old).templates term.now) }
+        ensures fixed { ⟦<Click<'q, A> as Pages>⟧.fixed self.new
+            ≡ ⟦<Click<'q, A> as Pages>⟧.fixed self.old }
+        ensures outcome { IfOk result
+            (IsOutcome (page_site (⟦<Click<'q, A> as Pages>⟧.fixed self.old))
+            (⟦<Click<'q, A> as Pages>⟧.fixed self.old).templates term.now) }
         ensures weight { let f = ⟦<Click<'q, A> as Pages>⟧.fixed self.old in
-            ((n : ℕ) × IsWithinWeight f.graph f.scope f.templates term.now n × (⟦<Click<'q, A> as Given>⟧.given self.new ≤ ⟦<Click<'q, A> as Given>⟧.given self.old + n)) }
+            ((n : ℕ) × IsAtMostWeight f.graph f.scope f.templates term.now n
+            × (⟦<Click<'q, A> as Given>⟧.given self.new
+            ≤ ⟦<Click<'q, A> as Given>⟧.given self.old + n)) }
     {
         self.start = self.asker.given();
         self.memo = Memo::new(alloc);

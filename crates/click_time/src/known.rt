@@ -31,7 +31,7 @@ impl ExactKey for (Value, Str) {
     ghost exact = { edge_key-exact };
 }
 
-/// What was told by key. A key without an answer was asked, and memory was wanted.
+/// What was reported by key. A key without an answer was asked, and memory was wanted.
 #[derive(Drop)]
 pub(crate) struct Known<K: ExactKey, T> {
     told: BTreeMap<K, Option<T>>,
@@ -49,7 +49,8 @@ impl<K: ExactKey + Drop, T: Drop> Known<K, T> {
 
     /// What the key has, where it was asked.
     pub(crate) fn find(&self, key: &K) -> Option<&Option<T>>
-        ensures { MatchOption result (Contains (keys_of self.now.told.entries) key.now → ⊥) (λ t. Contains self.now.told.entries (key.now, t.now)) }
+        ensures { MatchOption result (Contains (keys_of self.now.told.entries) key.now → ⊥)
+            (λ t. Contains self.now.told.entries (key.now, t.now)) }
     {
         match self.told.get(key) {
             Some(told) => Some(told),
@@ -59,7 +60,9 @@ impl<K: ExactKey + Drop, T: Drop> Known<K, T> {
 
     /// Gives the key this in place of what it had.
     pub(crate) fn put(&mut self, key: K, told: Option<T>) -> Result<(), NoMemory>
-        ensures { MatchResult result (λ _. Puts key told self.old.told.entries self.new.told.entries) (λ _. self.new.told.entries ≡ self.old.told.entries) }
+        ensures { MatchResult result
+            (λ _. Puts key told self.old.told.entries self.new.told.entries)
+            (λ _. self.new.told.entries ≡ self.old.told.entries) }
     {
         match self.told.insert(key, told) {
             Ok(_old) => Ok(()),

@@ -10,17 +10,17 @@ ghost use Rattle.tmpl.specs.Body.{TemplateFile};
 ghost use Rattle.tmpl.specs.Reading.{file_of};
 ghost use Rattle.page_spec.specs.Question.{in_site as asks_term, out as asks_out, collected as asks_collected, template as asks_template};
 ghost use Rattle.site_spec.specs.Site.{Scope, InSite, SiteEdge, Collected};
-ghost use Rattle.query_site.specs.Blocks.{AreScoped, scope_of};
+ghost use Rattle.query_blocks.specs.Blocks.{AreCheckedBlocks, scope_of};
 ghost use Rattle.weight_spec.specs.Charges.{IsCause};
-ghost use Rattle.weight_spec.specs.Hands.{Hands};
+ghost use Rattle.weight_spec.specs.CountsAtMost.{CountsAtMost};
 ghost use Rattle.click_time.specs.Known.{AsksOnce};
 ghost use Rattle.click_time.specs.Told.{AreTerms, AreEnds, AreGathered, AreNumbers, Numbers};
 
 use crate::known::Known;
 use asker::Asker;
-use query_site::Scopes;
+use query_blocks::QueryBlocks;
 use sd_value::{NoMemory, Str, Term, Value, copy};
-use site_asks::{collected, edges_out, in_site, template};
+use site_lookups::{collected, edges_out, in_site, template};
 use std::alloc::Global;
 use tmpl::Templates;
 
@@ -40,7 +40,7 @@ fn edge_key(alloc: Global, value: &Value, label: &Str) -> Result<(Value, Str), N
     Ok((copy(alloc, value)?, label.copy(alloc)?))
 }
 
-// What was told before, if anything was.
+// What was reported before, if anything was.
 fn recalled(alloc: Global, told: &Option<Vec<Value>>) -> Result<Vec<Value>, NoMemory>
     ensures { IfOk result (λ vs. IsSomeAnd told.now (λ kept. vs.items ≡ kept.items)) }
 {
@@ -55,18 +55,22 @@ fn term_first<A: Asker>(
     alloc: Global,
     asker: &mut A,
     known: &mut Known<Term, bool>,
-    scopes: &Scopes,
+    scopes: &QueryBlocks,
     term: &Term,
 ) -> Result<bool, NoMemory>
-    requires scoped { AreScoped scopes.now.version scopes.now.blocks.items }
+    requires scoped { AreCheckedBlocks scopes.now.version scopes.now.blocks.items }
     requires told { AreTerms (A.graph asker.old) (scope_of scopes.now) known.old.told.entries }
     requires fresh { Contains (keys_of known.old.told.entries) term.now → ⊥ }
     ensures graph { A.graph asker.new ≡ A.graph asker.old }
     ensures told { AreTerms (A.graph asker.old) (scope_of scopes.now) known.new.told.entries }
     ensures asked { AsksOnce term.now
-        ((f : TemplateFile) → Hands (IsCause (A.graph asker.old) (scope_of scopes.now) f (asks_term term.now)) (A.count asker.old) (A.count asker.new))
-        (keys_of known.old.told.entries) (keys_of known.new.told.entries) (A.count asker.old) (A.count asker.new) }
-    ensures answer { IfOk result (λ b. IsTrue b ↔ InSite (A.graph asker.old) (scope_of scopes.now) term.now) }
+        ((f : TemplateFile)
+        → CountsAtMost (IsCause (A.graph asker.old) (scope_of scopes.now) f (asks_term term.now))
+        (A.count asker.old) (A.count asker.new))
+        (keys_of known.old.told.entries) (keys_of known.new.told.entries) (A.count asker.old)
+        (A.count asker.new) }
+    ensures answer { IfOk result
+        (λ b. IsTrue b ↔ InSite (A.graph asker.old) (scope_of scopes.now) term.now) }
 {
     let first = term.copy(alloc)?;
     let again = term.copy(alloc)?;
@@ -81,17 +85,21 @@ pub(crate) fn term_once<A: Asker>(
     alloc: Global,
     asker: &mut A,
     known: &mut Known<Term, bool>,
-    scopes: &Scopes,
+    scopes: &QueryBlocks,
     term: &Term,
 ) -> Result<bool, NoMemory>
-    requires scoped { AreScoped scopes.now.version scopes.now.blocks.items }
+    requires scoped { AreCheckedBlocks scopes.now.version scopes.now.blocks.items }
     requires told { AreTerms (A.graph asker.old) (scope_of scopes.now) known.old.told.entries }
     ensures graph { A.graph asker.new ≡ A.graph asker.old }
     ensures told { AreTerms (A.graph asker.old) (scope_of scopes.now) known.new.told.entries }
     ensures asked { AsksOnce term.now
-        ((f : TemplateFile) → Hands (IsCause (A.graph asker.old) (scope_of scopes.now) f (asks_term term.now)) (A.count asker.old) (A.count asker.new))
-        (keys_of known.old.told.entries) (keys_of known.new.told.entries) (A.count asker.old) (A.count asker.new) }
-    ensures answer { IfOk result (λ b. IsTrue b ↔ InSite (A.graph asker.old) (scope_of scopes.now) term.now) }
+        ((f : TemplateFile)
+        → CountsAtMost (IsCause (A.graph asker.old) (scope_of scopes.now) f (asks_term term.now))
+        (A.count asker.old) (A.count asker.new))
+        (keys_of known.old.told.entries) (keys_of known.new.told.entries) (A.count asker.old)
+        (A.count asker.new) }
+    ensures answer { IfOk result
+        (λ b. IsTrue b ↔ InSite (A.graph asker.old) (scope_of scopes.now) term.now) }
 {
     match known.find(term) {
         Some(told) => match told {
@@ -110,19 +118,25 @@ fn ends_first<A: Asker>(
     alloc: Global,
     asker: &mut A,
     known: &mut Known<(Value, Str), Vec<Value>>,
-    scopes: &Scopes,
+    scopes: &QueryBlocks,
     value: &Value,
     label: &Str,
 ) -> Result<Vec<Value>, NoMemory>
-    requires scoped { AreScoped scopes.now.version scopes.now.blocks.items }
+    requires scoped { AreCheckedBlocks scopes.now.version scopes.now.blocks.items }
     requires told { AreEnds (A.graph asker.old) (scope_of scopes.now) known.old.told.entries }
     requires fresh { Contains (keys_of known.old.told.entries) (value.now, label.now) → ⊥ }
     ensures graph { A.graph asker.new ≡ A.graph asker.old }
     ensures told { AreEnds (A.graph asker.old) (scope_of scopes.now) known.new.told.entries }
     ensures asked { AsksOnce (value.now, label.now)
-        ((f : TemplateFile) → Hands (IsCause (A.graph asker.old) (scope_of scopes.now) f (asks_out value.now label.now)) (A.count asker.old) (A.count asker.new))
-        (keys_of known.old.told.entries) (keys_of known.new.told.entries) (A.count asker.old) (A.count asker.new) }
-    ensures ends { IfOk result (λ vs. ListsExactly value_cmp (SiteEdge (A.graph asker.old) (scope_of scopes.now) value.now label.now) vs.items) }
+        ((f : TemplateFile)
+        → CountsAtMost
+        (IsCause (A.graph asker.old) (scope_of scopes.now) f (asks_out value.now label.now))
+        (A.count asker.old) (A.count asker.new))
+        (keys_of known.old.told.entries) (keys_of known.new.told.entries) (A.count asker.old)
+        (A.count asker.new) }
+    ensures ends { IfOk result
+        (λ vs. ListsExactly value_cmp
+        (SiteEdge (A.graph asker.old) (scope_of scopes.now) value.now label.now) vs.items) }
 {
     let first = edge_key(alloc, value, label)?;
     let again = edge_key(alloc, value, label)?;
@@ -138,18 +152,24 @@ pub(crate) fn ends_once<A: Asker>(
     alloc: Global,
     asker: &mut A,
     known: &mut Known<(Value, Str), Vec<Value>>,
-    scopes: &Scopes,
+    scopes: &QueryBlocks,
     value: &Value,
     label: &Str,
 ) -> Result<Vec<Value>, NoMemory>
-    requires scoped { AreScoped scopes.now.version scopes.now.blocks.items }
+    requires scoped { AreCheckedBlocks scopes.now.version scopes.now.blocks.items }
     requires told { AreEnds (A.graph asker.old) (scope_of scopes.now) known.old.told.entries }
     ensures graph { A.graph asker.new ≡ A.graph asker.old }
     ensures told { AreEnds (A.graph asker.old) (scope_of scopes.now) known.new.told.entries }
     ensures asked { AsksOnce (value.now, label.now)
-        ((f : TemplateFile) → Hands (IsCause (A.graph asker.old) (scope_of scopes.now) f (asks_out value.now label.now)) (A.count asker.old) (A.count asker.new))
-        (keys_of known.old.told.entries) (keys_of known.new.told.entries) (A.count asker.old) (A.count asker.new) }
-    ensures ends { IfOk result (λ vs. ListsExactly value_cmp (SiteEdge (A.graph asker.old) (scope_of scopes.now) value.now label.now) vs.items) }
+        ((f : TemplateFile)
+        → CountsAtMost
+        (IsCause (A.graph asker.old) (scope_of scopes.now) f (asks_out value.now label.now))
+        (A.count asker.old) (A.count asker.new))
+        (keys_of known.old.told.entries) (keys_of known.new.told.entries) (A.count asker.old)
+        (A.count asker.new) }
+    ensures ends { IfOk result
+        (λ vs. ListsExactly value_cmp
+        (SiteEdge (A.graph asker.old) (scope_of scopes.now) value.now label.now) vs.items) }
 {
     let key = edge_key(alloc, value, label)?;
     match known.find(&key) {
@@ -166,19 +186,25 @@ fn gathered_first<A: Asker>(
     alloc: Global,
     asker: &mut A,
     known: &mut Known<Str, Vec<Value>>,
-    scopes: &Scopes,
+    scopes: &QueryBlocks,
     name: &Str,
 ) -> Result<Vec<Value>, NoMemory>
-    requires scoped { AreScoped scopes.now.version scopes.now.blocks.items }
+    requires scoped { AreCheckedBlocks scopes.now.version scopes.now.blocks.items }
     requires well_formed { IsWellFormed (A.graph asker.old) }
     requires told { AreGathered (A.graph asker.old) (scope_of scopes.now) known.old.told.entries }
     requires fresh { Contains (keys_of known.old.told.entries) name.now → ⊥ }
     ensures graph { A.graph asker.new ≡ A.graph asker.old }
     ensures told { AreGathered (A.graph asker.old) (scope_of scopes.now) known.new.told.entries }
     ensures asked { AsksOnce name.now
-        ((f : TemplateFile) → Hands (IsCause (A.graph asker.old) (scope_of scopes.now) f (asks_collected name.now)) (A.count asker.old) (A.count asker.new))
-        (keys_of known.old.told.entries) (keys_of known.new.told.entries) (A.count asker.old) (A.count asker.new) }
-    ensures values { IfOk result (λ vs. ListsExactly value_cmp (Collected (A.graph asker.old) (scope_of scopes.now) name.now) vs.items) }
+        ((f : TemplateFile)
+        → CountsAtMost
+        (IsCause (A.graph asker.old) (scope_of scopes.now) f (asks_collected name.now))
+        (A.count asker.old) (A.count asker.new))
+        (keys_of known.old.told.entries) (keys_of known.new.told.entries) (A.count asker.old)
+        (A.count asker.new) }
+    ensures values { IfOk result
+        (λ vs. ListsExactly value_cmp
+        (Collected (A.graph asker.old) (scope_of scopes.now) name.now) vs.items) }
 {
     let first = name.copy(alloc)?;
     let again = name.copy(alloc)?;
@@ -194,18 +220,24 @@ pub(crate) fn gathered_once<A: Asker>(
     alloc: Global,
     asker: &mut A,
     known: &mut Known<Str, Vec<Value>>,
-    scopes: &Scopes,
+    scopes: &QueryBlocks,
     name: &Str,
 ) -> Result<Vec<Value>, NoMemory>
-    requires scoped { AreScoped scopes.now.version scopes.now.blocks.items }
+    requires scoped { AreCheckedBlocks scopes.now.version scopes.now.blocks.items }
     requires well_formed { IsWellFormed (A.graph asker.old) }
     requires told { AreGathered (A.graph asker.old) (scope_of scopes.now) known.old.told.entries }
     ensures graph { A.graph asker.new ≡ A.graph asker.old }
     ensures told { AreGathered (A.graph asker.old) (scope_of scopes.now) known.new.told.entries }
     ensures asked { AsksOnce name.now
-        ((f : TemplateFile) → Hands (IsCause (A.graph asker.old) (scope_of scopes.now) f (asks_collected name.now)) (A.count asker.old) (A.count asker.new))
-        (keys_of known.old.told.entries) (keys_of known.new.told.entries) (A.count asker.old) (A.count asker.new) }
-    ensures values { IfOk result (λ vs. ListsExactly value_cmp (Collected (A.graph asker.old) (scope_of scopes.now) name.now) vs.items) }
+        ((f : TemplateFile)
+        → CountsAtMost
+        (IsCause (A.graph asker.old) (scope_of scopes.now) f (asks_collected name.now))
+        (A.count asker.old) (A.count asker.new))
+        (keys_of known.old.told.entries) (keys_of known.new.told.entries) (A.count asker.old)
+        (A.count asker.new) }
+    ensures values { IfOk result
+        (λ vs. ListsExactly value_cmp
+        (Collected (A.graph asker.old) (scope_of scopes.now) name.now) vs.items) }
 {
     match known.find(name) {
         Some(told) => recalled(alloc, told),
@@ -230,8 +262,12 @@ fn template_first<A: Asker>(
     ensures graph { A.graph asker.new ≡ A.graph asker.old }
     ensures told { AreNumbers (A.graph asker.old) (file_of templates.now) known.new.told.entries }
     ensures asked { AsksOnce value.now
-        ((q : Scope) → Hands (IsCause (A.graph asker.old) q (file_of templates.now) (asks_template value.now)) (A.count asker.old) (A.count asker.new))
-        (keys_of known.old.told.entries) (keys_of known.new.told.entries) (A.count asker.old) (A.count asker.new) }
+        ((q : Scope)
+        → CountsAtMost
+        (IsCause (A.graph asker.old) q (file_of templates.now) (asks_template value.now))
+        (A.count asker.old) (A.count asker.new))
+        (keys_of known.old.told.entries) (keys_of known.new.told.entries) (A.count asker.old)
+        (A.count asker.new) }
     ensures answer { IfOk result (Numbers (A.graph asker.old) (file_of templates.now) value.now) }
 {
     let first = copy(alloc, value)?;
@@ -255,8 +291,12 @@ pub(crate) fn template_once<A: Asker>(
     ensures graph { A.graph asker.new ≡ A.graph asker.old }
     ensures told { AreNumbers (A.graph asker.old) (file_of templates.now) known.new.told.entries }
     ensures asked { AsksOnce value.now
-        ((q : Scope) → Hands (IsCause (A.graph asker.old) q (file_of templates.now) (asks_template value.now)) (A.count asker.old) (A.count asker.new))
-        (keys_of known.old.told.entries) (keys_of known.new.told.entries) (A.count asker.old) (A.count asker.new) }
+        ((q : Scope)
+        → CountsAtMost
+        (IsCause (A.graph asker.old) q (file_of templates.now) (asks_template value.now))
+        (A.count asker.old) (A.count asker.new))
+        (keys_of known.old.told.entries) (keys_of known.new.told.entries) (A.count asker.old)
+        (A.count asker.new) }
     ensures answer { IfOk result (Numbers (A.graph asker.old) (file_of templates.now) value.now) }
 {
     match known.find(value) {

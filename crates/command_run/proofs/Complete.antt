@@ -5,56 +5,70 @@ use Rattle.std.specs.Option.{IsSomeAnd}
 use Rattle.edge_io.specs.Files.{FileMap}
 use Rattle.run_report.specs.declared.status.Status.{Status}
 use Rattle.run_report.specs.declared.status.Status.TheVariants as status
-use Rattle.command_words.specs.declared.Command.{Command}
-use Rattle.command_words.specs.declared.Command.TheVariants.{Page, Build, Data, Explain, Serve, Replay, Trial}
+use Rattle.command_spec.specs.declared.Command.{Command}
+use Rattle.command_spec.specs.declared.Command.TheVariants.{Page, Build, Data, Explain, Serve, Replay, Trial}
 use Rattle.site_inputs.specs.Statuses.{ReadRose}
-use Rattle.serve_command.specs.Serves.{Story}
-use Rattle.command_laws.specs.Counts.{Outside, PutsRose, EventsRose, AllRead}
-use Rattle.command_laws.proofs.Builds.{build_ends_well}
-use Rattle.command_laws.proofs.Serves.{serving_ends_well}
-use Rattle.command_laws.proofs.Replays.{replay_ends_well}
-use Rattle.command_run.specs.Top.{Ends, RunEnds, WriteRose, inputs_of_command, given_inputs}
+use Rattle.edge_io.specs.Counts.{Rose}
+use Rattle.wire.specs.Told.{Told}
+use Rattle.site_inputs.specs.Outside.{Outside, PutsRose, EventsRose, host, outside}
+use Rattle.command_build.proofs.Law.{build_ends_well}
+use Rattle.command_serve.proofs.Law.{serving_ends_well}
+use Rattle.command_replay.proofs.Law.{replay_ends_well}
+use Rattle.command_spec.specs.Inputs.{inputs_of_command, given_inputs}
+use Rattle.command_run.specs.Top.{Ends, RunEnds, WriteRose}
 use Rattle.command_run.specs.Complete.{IsDecidedRun, IsComplete}
 
-abbrev Wrote : Option Command → Outside → Type 0
-Wrote given o = WriteRose given o.writes_before o.writes_now (PutsRose o)
+module _ (before after : Outside) where
+  abbrev Wrote : Option Command → Type 0
+  Wrote given = WriteRose given before.host.failed_writes after.host.failed_writes (PutsRose before.host after.host)
 
-complete_end : (map now : FileMap) (before after : Story) (command : Command) (old new : Option (List ℕ)) (o : Outside) (reached : Status)
-    → Ends map now before after (PutsRose o) command old new reached → ReadRose (inputs_of_command command) o.reads_before o.reads_now reached → (reached ≡ status.WriteFault → Wrote (Some command) o) → (reached ≡ status.WireFault → EventsRose o)
-    → IsComplete map command before o reached
-complete_end map now before after (Build command) old new o reached ends read write wire = λ all. build_ends_well map now command old new o reached ends read write all
-complete_end map now before after (Serve command) old new o reached ends read write wire = λ all. serving_ends_well map command before after old new o reached ends read write wire all
-complete_end map now before after (Replay command) old new o reached ends read write wire = λ all. replay_ends_well map command old new o reached ends read write all
-complete_end map now before after (Page command) old new o reached ends read write wire = λ all. tt
-complete_end map now before after (Data command) old new o reached ends read write wire = λ all. tt
-complete_end map now before after (Explain command) old new o reached ends read write wire = λ all. tt
-complete_end map now before after (Trial command) old new o reached ends read write wire = λ all. tt
+  abbrev Read : List (List ℕ) → Status → Type 0
+  Read paths = ReadRose paths before.host.failed_reads after.host.failed_reads
 
-complete_run : (map now : FileMap) (before after : Story) (given : Option Command) (command : Command) (old new : Option (List ℕ)) (o : Outside) (reached : Status)
-    → given ≡ Some command → RunEnds map now before after (PutsRose o) given old new reached → ReadRose (given_inputs given) o.reads_before o.reads_now reached → (reached ≡ status.WriteFault → Wrote given o) → (reached ≡ status.WireFault → EventsRose o)
-    → IsComplete map command before o reached
-complete_run map now before after given command old new o reached is_given ends read write wire =
-    complete_end map now before after command old new o reached (subst (λ (g : Option Command). RunEnds map now before after (PutsRose o) g old new reached) is_given ends)
-    (subst (λ (g : Option Command). ReadRose (given_inputs g) o.reads_before o.reads_now reached) is_given read)
-    (λ e. subst (λ (g : Option Command). Wrote g o) is_given (write e)) wire
+  complete_end : (command : Command) (reached : Status)
+      → Ends command before after reached → Read (inputs_of_command command) reached → (reached ≡ status.WriteFault → Wrote (Some command)) → (reached ≡ status.WireFault → EventsRose before.wire after.wire)
+      → IsComplete command before after reached
+  complete_end (Build command) reached ends read write wire = λ all. build_ends_well command before.host after.host reached ends read write all
+  complete_end (Serve command) reached ends read write wire = λ all. serving_ends_well command before after reached ends read write wire all
+  complete_end (Replay command) reached ends read write wire = λ all. replay_ends_well command before.host after.host reached ends read write all
+  complete_end (Page command) reached ends read write wire = λ all. tt
+  complete_end (Data command) reached ends read write wire = λ all. tt
+  complete_end (Explain command) reached ends read write wire = λ all. tt
+  complete_end (Trial command) reached ends read write wire = λ all. tt
 
-pub complete_told : (n : Option FileMap) (map : FileMap) (before after : Story) (given : Option Command) (command : Command) (old new : Option (List ℕ)) (o : Outside) (reached : Status)
-    → given ≡ Some command → IsSomeAnd n (λ now. RunEnds map now before after (PutsRose o) given old new reached) → ReadRose (given_inputs given) o.reads_before o.reads_now reached → (reached ≡ status.WriteFault → Wrote given o) → (reached ≡ status.WireFault → EventsRose o)
-    → IsComplete map command before o reached
-complete_told None map before after given command old new o reached is_given ends read write wire = absurd ends
-complete_told (Some now) map before after given command old new o reached is_given ends read write wire = complete_run map now before after given command old new o reached is_given ends read write wire
+  complete_run : (given : Option Command) (command : Command) (reached : Status)
+      → given ≡ Some command → RunEnds given before after reached → Read (given_inputs given) reached → (reached ≡ status.WriteFault → Wrote given) → (reached ≡ status.WireFault → EventsRose before.wire after.wire)
+      → IsComplete command before after reached
+  complete_run given command reached is_given ends read write wire =
+      complete_end command reached (subst (λ (g : Option Command). RunEnds g before after reached) is_given ends)
+      (subst (λ (g : Option Command). Read (given_inputs g) reached) is_given read)
+      (λ e. subst (λ (g : Option Command). Wrote g) is_given (write e)) wire
 
--- ---- want of memory for the report
+  -- memory ran out for the report
+  short_run : (command : Command) (reached : Status) → reached ≡ status.NoMemory → IsDecidedRun command before after reached
+  short_run (Build command) reached memory = record { accepted = λ s taken can no_put no_write. inr memory; refused = λ reason ended decided. inr memory }
+  short_run (Serve command) reached memory = record { accepted = λ s taken turns no_put no_event. inr memory; refused = λ reason ended decided. inr memory }
+  short_run (Replay command) reached memory = record { accepted = λ s taken room no_put. inr memory; refused = λ reason ended decided. inr memory }
+  short_run (Page command) reached memory = tt
+  short_run (Data command) reached memory = tt
+  short_run (Explain command) reached memory = tt
+  short_run (Trial command) reached memory = tt
 
-short_run : (map : FileMap) (command : Command) (before : Story) (o : Outside) (reached : Status) → reached ≡ status.NoMemory → IsDecidedRun map command before o reached
-short_run map (Build command) before o reached memory = record { accepted = λ s taken can no_put no_write. inr memory; refused = λ reason ended decided. inr memory }
-short_run map (Serve command) before o reached memory = record { accepted = λ s taken turns no_put no_event. inr memory; refused = λ reason ended decided. inr memory }
-short_run map (Replay command) before o reached memory = record { accepted = λ s taken room no_put. inr memory; refused = λ reason ended decided. inr memory }
-short_run map (Page command) before o reached memory = tt
-short_run map (Data command) before o reached memory = tt
-short_run map (Explain command) before o reached memory = tt
-short_run map (Trial command) before o reached memory = tt
+  reported_complete : (command : Command) (reached reported : Status) → IsComplete command before after reached → (reported ≡ reached) ⊎ (reported ≡ status.NoMemory) → IsComplete command before after reported
+  reported_complete command reached reported complete (inl same) = rw same complete
+  reported_complete command reached reported complete (inr memory) = λ all. short_run command reported memory
 
-pub reported_complete : (map : FileMap) (command : Command) (before : Story) (o : Outside) (reached reported : Status) → IsComplete map command before o reached → (reported ≡ reached) ⊎ (reported ≡ status.NoMemory) → IsComplete map command before o reported
-reported_complete map command before o reached reported complete (inl same) = rw same complete
-reported_complete map command before o reached reported complete (inr memory) = λ all. short_run map command before o reported memory
+module _ (reads reads_now writes writes_now : List ℕ → ℕ) (output output_now : Option (List ℕ)) (puts puts_now : ℕ) (wire wire_now : Told) where
+  abbrev pub Before : FileMap → Outside
+  Before map = outside map reads writes output puts wire
+
+  abbrev pub After : FileMap → Outside
+  After map = outside map reads_now writes_now output_now puts_now wire_now
+
+  pub complete_told : (n : Option FileMap) (map : FileMap) (given : Option Command) (command : Command) (reached reported : Status)
+      → given ≡ Some command → IsSomeAnd n (λ now. RunEnds given (Before map) (After now) reached) → ReadRose (given_inputs given) reads reads_now reached
+      → (reached ≡ status.WriteFault → WriteRose given writes writes_now (Rose puts puts_now)) → (reached ≡ status.WireFault → Rose wire.next_faults wire_now.next_faults)
+      → (reported ≡ reached) ⊎ (reported ≡ status.NoMemory) → IsSomeAnd n (λ now. IsComplete command (Before map) (After now) reported)
+  complete_told None map given command reached reported is_given ends read write wire_rose is = ends
+  complete_told (Some now) map given command reached reported is_given ends read write wire_rose is =
+      reported_complete (Before map) (After now) command reached reported (complete_run (Before map) (After now) given command reached is_given ends read write wire_rose) is

@@ -8,33 +8,38 @@ use Rattle.site_inputs.specs.declared.fault.Fault.{Fault}
 use Rattle.site_inputs.specs.declared.fault.Fault.TheVariants as fault
 use Rattle.run_report.specs.declared.status.Status.{Status}
 use Rattle.run_report.specs.declared.status.Status.TheVariants.{Ok, NotAllYes, Usage, Refused, ReadFault, WriteFault, WireFault, PageFault, NoMemory, NotFound, TurnsSpent}
-use Rattle.command_words.specs.declared.Command.{Command}
-use Rattle.command_words.specs.declared.Command.TheVariants.{Page, Build, Data, Explain, Serve, Replay, Trial}
-use Rattle.command_words.specs.declared.BuildCommand.{BuildCommand}
-use Rattle.command_words.specs.declared.PageCommand.{PageCommand}
-use Rattle.command_words.specs.declared.DataCommand.{DataCommand}
-use Rattle.command_words.specs.declared.ExplainCommand.{ExplainCommand}
-use Rattle.command_words.specs.declared.ServeCommand.{ServeCommand}
-use Rattle.command_words.specs.declared.ReplayCommand.{ReplayCommand}
-use Rattle.command_words.specs.declared.TrialCommand.{TrialCommand}
+use Rattle.command_spec.specs.declared.Command.{Command}
+use Rattle.command_spec.specs.declared.Command.TheVariants.{Page, Build, Data, Explain, Serve, Replay, Trial}
+use Rattle.command_spec.specs.declared.BuildCommand.{BuildCommand}
+use Rattle.command_spec.specs.declared.PageCommand.{PageCommand}
+use Rattle.command_spec.specs.declared.DataCommand.{DataCommand}
+use Rattle.command_spec.specs.declared.ExplainCommand.{ExplainCommand}
+use Rattle.command_spec.specs.declared.ServeCommand.{ServeCommand}
+use Rattle.command_spec.specs.declared.ReplayCommand.{ReplayCommand}
+use Rattle.command_spec.specs.declared.TrialCommand.{TrialCommand}
 use Rattle.site_inputs.specs.Sites.{InputsEnd}
 use Rattle.site_inputs.specs.Sources.{GraphEnds, empty_building}
 use Rattle.sd_graph.specs.Statement.{Building}
-use Rattle.replay_command.specs.Scripts.{ScriptedEnd, replay_paths}
-use Rattle.replay_command.specs.Replays.{ReplayEnds}
-use Rattle.serve_command.specs.Serves.{Story, ServeEnds}
+use Rattle.command_spec.specs.Inputs.{replay_paths}
+use Rattle.command_replay.specs.Scripts.{ScriptedEnd}
+use Rattle.command_replay.specs.Ends.{ReplayEnds}
+use Rattle.command_serve.specs.Ends.{ServeEnds}
+use Rattle.site_inputs.specs.Outside.{Host, Outside, host, outside}
+use Rattle.wire.specs.Told.{Told}
 use Rattle.run_report.specs.Report.{IsFixed}
 use Rattle.site_inputs.specs.Runs.{ReadsHaveCause, UnreadRose}
-use Rattle.site_inputs.specs.Sites.{input_paths}
+use Rattle.command_spec.specs.Inputs.{input_paths}
 use Rattle.site_inputs.specs.Statuses.{ReadRose, IsSilent, status_of}
-use Rattle.page_command.specs.Pages.{PageEnds}
-use Rattle.build_command.specs.Builds.{BuildEnds, FolderRose}
-use Rattle.build_command.proofs.Built.{faulty_is_no_memory}
-use Rattle.serve_command.proofs.Told.{never_silent}
-use Rattle.trial_command.specs.Trials.{TrialEnds}
-use Rattle.command_run.specs.Data.{DataEnds}
-use Rattle.command_run.specs.Explain.{ExplainEnds, explain_paths}
-use Rattle.command_run.specs.Top.{TextEnds, Ends, RunEnds, WriteRose, WritesNoFile, UsesNoWire, inputs_of_command, given_inputs}
+use Rattle.command_page.specs.Ends.{PageEnds}
+use Rattle.command_build.specs.Ends.{BuildEnds, FolderRose}
+use Rattle.command_build.proofs.Built.{faulty_is_no_memory}
+use Rattle.command_serve.proofs.Told.{never_silent}
+use Rattle.command_trial.specs.Ends.{TrialEnds}
+use Rattle.command_data.specs.Ends.{DataEnds}
+use Rattle.command_spec.specs.Inputs.{explain_paths}
+use Rattle.command_explain.specs.Ends.{ExplainEnds}
+use Rattle.command_spec.specs.Inputs.{inputs_of_command, given_inputs}
+use Rattle.command_run.specs.Top.{TextEnds, Ends, RunEnds, WriteRose, WritesNoFile, UsesNoWire}
 
 -- a text command whose answers are told in another way
 pub text_as : (P Q : Result (List ℕ) Fault → Type 0) (old new : Option (List ℕ)) (status : Status) → ((a : Result (List ℕ) Fault) → P a → Q a) → TextEnds P old new status → TextEnds Q old new status
@@ -125,7 +130,7 @@ pub given_read_rose : (given : Option Command) (command : Command) (before now :
     → ReadRose (inputs_of_command command) before now status → ReadRose (given_inputs given) before now status
 given_read_rose given command before now status is h = subst (λ (g : Option Command). ReadRose (given_inputs g) before now status) (sym is) h
 
--- want of memory before anything was done
+-- memory ran out before anything was done
 graph_no_memory : (map : FileMap) (b : Building) (sources : List (List ℕ)) → GraphEnds map b sources (prelude.Err fault.NoMemory)
 graph_no_memory map b [] = inr refl
 graph_no_memory map b (path ∷ paths) = inl (inl tt)
@@ -133,23 +138,25 @@ graph_no_memory map b (path ∷ paths) = inl (inl tt)
 inputs_no_memory : (map : FileMap) (sources : List (List ℕ)) (query templates : List ℕ) → InputsEnd map sources query templates (prelude.Err fault.NoMemory)
 inputs_no_memory map sources query templates = inl (graph_no_memory map empty_building sources)
 
-replay_no_memory : (map : FileMap) (command : ReplayCommand) (text : Option (List ℕ)) (P : Type 0) → ReplayEnds map command text text P NoMemory
-replay_no_memory map command text P =
-    let none : ScriptedEnd map command (prelude.Err fault.NoMemory) = inl (inputs_no_memory map command.sources command.query command.templates) in
-    inr (record { reason = fault.NoMemory; taken = none; its = refl; out = refl })
+replay_no_memory : (command : ReplayCommand) (before after : Host) → after.output ≡ before.output → ReplayEnds command before after NoMemory
+replay_no_memory command before after out =
+    let none : ScriptedEnd before.files command (prelude.Err fault.NoMemory) = inl (inputs_no_memory before.files command.sources command.query command.templates) in
+    inr (record { reason = fault.NoMemory; taken = none; its = refl; out = out })
 
-serve_no_memory : (map : FileMap) (command : ServeCommand) (wire : Story) (text : Option (List ℕ)) (P : Type 0) → ServeEnds map command wire wire text text P NoMemory
-serve_no_memory map command wire text P = inr (record { reason = fault.NoMemory; taken = inputs_no_memory map command.sources command.query command.templates; its = refl; wire = refl; out = refl })
+serve_no_memory : (command : ServeCommand) (before after : Outside) → after.wire ≡ before.wire → after.host.output ≡ before.host.output → ServeEnds command before after NoMemory
+serve_no_memory command before after wire out =
+    inr (record { reason = fault.NoMemory; taken = inputs_no_memory before.host.files command.sources command.query command.templates; its = refl; wire = wire; out = out })
 
-pub no_memory_ends : (map : FileMap) (wire : Story) (P : Type 0) (given : Option Command) (text : Option (List ℕ)) → RunEnds map map wire wire P given text text NoMemory
-no_memory_ends map wire P None text = inr refl
-no_memory_ends map wire P (Some (Page command)) text = refl
-no_memory_ends map wire P (Some (Data command)) text = refl
-no_memory_ends map wire P (Some (Explain command)) text = refl
-no_memory_ends map wire P (Some (Trial command)) text = refl
-no_memory_ends map wire P (Some (Build command)) text = (inl refl, refl)
-no_memory_ends map wire P (Some (Serve command)) text = serve_no_memory map command wire text P
-no_memory_ends map wire P (Some (Replay command)) text = replay_no_memory map command text P
+no_memory_ends : (given : Option Command) (before after : Outside)
+    → after.host.files ≡ before.host.files → after.host.output ≡ before.host.output → after.wire ≡ before.wire → RunEnds given before after NoMemory
+no_memory_ends None before after files out wire = inr refl
+no_memory_ends (Some (Page command)) before after files out wire = out
+no_memory_ends (Some (Data command)) before after files out wire = out
+no_memory_ends (Some (Explain command)) before after files out wire = out
+no_memory_ends (Some (Trial command)) before after files out wire = out
+no_memory_ends (Some (Build command)) before after files out wire = (inl files, out)
+no_memory_ends (Some (Serve command)) before after files out wire = serve_no_memory command before after wire out
+no_memory_ends (Some (Replay command)) before after files out wire = replay_no_memory command before.host after.host out
 
 ok_no_memory : (reported : Status) → reported ≡ Ok → reported ≡ NoMemory → ⊥
 ok_no_memory reported ok memory = cc
@@ -169,154 +176,158 @@ memory_text_ends P old new WireFault reported ends silent fixed memory = absurd 
 memory_text_ends P old new TurnsSpent reported ends silent fixed memory = absurd ends
 memory_text_ends P old new status reported ends silent fixed memory = silent tt
 
-memory_build_ends : (map now : FileMap) (command : BuildCommand) (old new : Option (List ℕ)) (status reported : Status)
-    → BuildEnds map now command old new status → (IsSilent status → new ≡ old) → (IsFixed status → reported ≡ status) → reported ≡ NoMemory → BuildEnds map now command old new NoMemory
-memory_build_ends map now command old new Ok reported ends silent fixed memory = absurd (ok_no_memory reported (fixed tt) memory)
-memory_build_ends map now command old new WriteFault reported ends silent fixed memory = absurd (write_no_memory reported (fixed tt) memory)
-memory_build_ends map now command old new NoMemory reported ends silent fixed memory = ends
-memory_build_ends map now command old new (PageFault term kind) reported ends silent fixed memory = (inr (faulty_is_no_memory map now command term kind ends), silent tt)
-memory_build_ends map now command old new (Refused file number place) reported ends silent fixed memory = (inl ends.1, silent tt)
-memory_build_ends map now command old new (ReadFault path) reported ends silent fixed memory = (inl ends.1, silent tt)
-memory_build_ends map now command old new Usage reported ends silent fixed memory = absurd ends
-memory_build_ends map now command old new NotAllYes reported ends silent fixed memory = absurd ends
-memory_build_ends map now command old new WireFault reported ends silent fixed memory = absurd ends
-memory_build_ends map now command old new TurnsSpent reported ends silent fixed memory = absurd ends
-memory_build_ends map now command old new NotFound reported ends silent fixed memory = absurd ends
+module _ (command : BuildCommand) (before after : Host) where
+  memory_build_ends : (status reported : Status)
+      → BuildEnds command before after status → (IsSilent status → after.output ≡ before.output) → (IsFixed status → reported ≡ status) → reported ≡ NoMemory → BuildEnds command before after NoMemory
+  memory_build_ends Ok reported ends silent fixed memory = absurd (ok_no_memory reported (fixed tt) memory)
+  memory_build_ends WriteFault reported ends silent fixed memory = absurd (write_no_memory reported (fixed tt) memory)
+  memory_build_ends NoMemory reported ends silent fixed memory = ends
+  memory_build_ends (PageFault term kind) reported ends silent fixed memory = (inr (faulty_is_no_memory before.files after.files command term kind ends), silent tt)
+  memory_build_ends (Refused file number place) reported ends silent fixed memory = (inl ends.1, silent tt)
+  memory_build_ends (ReadFault path) reported ends silent fixed memory = (inl ends.1, silent tt)
+  memory_build_ends Usage reported ends silent fixed memory = absurd ends
+  memory_build_ends NotAllYes reported ends silent fixed memory = absurd ends
+  memory_build_ends WireFault reported ends silent fixed memory = absurd ends
+  memory_build_ends TurnsSpent reported ends silent fixed memory = absurd ends
+  memory_build_ends NotFound reported ends silent fixed memory = absurd ends
 
--- a status whose line has no part of its own is told as it is
+-- a status whose line has no part of its own is reported as it is
 fixed_memory : (status reported : Status) → IsFixed status → (IsFixed status → reported ≡ status) → reported ≡ NoMemory → status ≡ NoMemory
 fixed_memory status reported is fixed memory = sym (fixed is) ∙ memory
 
-module _ (map : FileMap) (command : ReplayCommand) (old new : Option (List ℕ)) (P : Type 0) (reported : Status) where
-  silent_replay : new ≡ old → ReplayEnds map command old new P NoMemory
-  silent_replay same = subst (λ (text : Option (List ℕ)). ReplayEnds map command old text P NoMemory) (sym same) (replay_no_memory map command old P)
+module _ (command : ReplayCommand) (before after : Host) (reported : Status) where
+  memory_replay_ends : (status : Status) → ReplayEnds command before after status → (IsSilent status → after.output ≡ before.output) → (IsFixed status → reported ≡ status) → reported ≡ NoMemory → ReplayEnds command before after NoMemory
+  memory_replay_ends Ok ends silent fixed memory = subst (ReplayEnds command before after) (fixed_memory Ok reported tt fixed memory) ends
+  memory_replay_ends WriteFault ends silent fixed memory = subst (ReplayEnds command before after) (fixed_memory WriteFault reported tt fixed memory) ends
+  memory_replay_ends WireFault ends silent fixed memory = subst (ReplayEnds command before after) (fixed_memory WireFault reported tt fixed memory) ends
+  memory_replay_ends TurnsSpent ends silent fixed memory = subst (ReplayEnds command before after) (fixed_memory TurnsSpent reported tt fixed memory) ends
+  memory_replay_ends NoMemory ends silent fixed memory = subst (ReplayEnds command before after) (fixed_memory NoMemory reported tt fixed memory) ends
+  memory_replay_ends Usage ends silent fixed memory = subst (ReplayEnds command before after) (fixed_memory Usage reported tt fixed memory) ends
+  memory_replay_ends NotAllYes ends silent fixed memory = subst (ReplayEnds command before after) (fixed_memory NotAllYes reported tt fixed memory) ends
+  memory_replay_ends NotFound ends silent fixed memory = subst (ReplayEnds command before after) (fixed_memory NotFound reported tt fixed memory) ends
+  memory_replay_ends (Refused file number place) ends silent fixed memory = replay_no_memory command before after (silent tt)
+  memory_replay_ends (ReadFault path) ends silent fixed memory = replay_no_memory command before after (silent tt)
+  memory_replay_ends (PageFault term kind) ends silent fixed memory = replay_no_memory command before after (silent tt)
 
-  memory_replay_ends : (status : Status) → ReplayEnds map command old new P status → (IsSilent status → new ≡ old) → (IsFixed status → reported ≡ status) → reported ≡ NoMemory → ReplayEnds map command old new P NoMemory
-  memory_replay_ends Ok ends silent fixed memory = subst (ReplayEnds map command old new P) (fixed_memory Ok reported tt fixed memory) ends
-  memory_replay_ends WriteFault ends silent fixed memory = subst (ReplayEnds map command old new P) (fixed_memory WriteFault reported tt fixed memory) ends
-  memory_replay_ends WireFault ends silent fixed memory = subst (ReplayEnds map command old new P) (fixed_memory WireFault reported tt fixed memory) ends
-  memory_replay_ends TurnsSpent ends silent fixed memory = subst (ReplayEnds map command old new P) (fixed_memory TurnsSpent reported tt fixed memory) ends
-  memory_replay_ends NoMemory ends silent fixed memory = subst (ReplayEnds map command old new P) (fixed_memory NoMemory reported tt fixed memory) ends
-  memory_replay_ends Usage ends silent fixed memory = subst (ReplayEnds map command old new P) (fixed_memory Usage reported tt fixed memory) ends
-  memory_replay_ends NotAllYes ends silent fixed memory = subst (ReplayEnds map command old new P) (fixed_memory NotAllYes reported tt fixed memory) ends
-  memory_replay_ends NotFound ends silent fixed memory = subst (ReplayEnds map command old new P) (fixed_memory NotFound reported tt fixed memory) ends
-  memory_replay_ends (Refused file number place) ends silent fixed memory = silent_replay (silent tt)
-  memory_replay_ends (ReadFault path) ends silent fixed memory = silent_replay (silent tt)
-  memory_replay_ends (PageFault term kind) ends silent fixed memory = silent_replay (silent tt)
-
-module _ (map : FileMap) (command : ServeCommand) (before after : Story) (old new : Option (List ℕ)) (P : Type 0) (reported : Status) where
-  silent_serve : after ≡ before → new ≡ old → ServeEnds map command before after old new P NoMemory
-  silent_serve stays same =
-      subst (λ (wire : Story). ServeEnds map command before wire old new P NoMemory) (sym stays)
-      (subst (λ (text : Option (List ℕ)). ServeEnds map command before before old text P NoMemory) (sym same) (serve_no_memory map command before old P))
-
+module _ (command : ServeCommand) (before after : Outside) (reported : Status) where
   -- only an input ends a run so
-  unread_serve : (status : Status) → IsSilent status → ServeEnds map command before after old new P status → ServeEnds map command before after old new P NoMemory
-  unread_serve status quiet (inl over) = absurd (never_silent over.inputs command.options before after old new P status over.ends quiet)
-  unread_serve status quiet (inr unread) = silent_serve unread.wire unread.out
+  unread_serve : (status : Status) → IsSilent status → ServeEnds command before after status → ServeEnds command before after NoMemory
+  unread_serve status quiet (inl over) = absurd (never_silent over.inputs command.options before after status over.ends quiet)
+  unread_serve status quiet (inr unread) = serve_no_memory command before after unread.wire unread.out
 
-  memory_serve_ends : (status : Status) → ServeEnds map command before after old new P status → (IsFixed status → reported ≡ status) → reported ≡ NoMemory → ServeEnds map command before after old new P NoMemory
-  memory_serve_ends Ok ends fixed memory = subst (ServeEnds map command before after old new P) (fixed_memory Ok reported tt fixed memory) ends
-  memory_serve_ends WriteFault ends fixed memory = subst (ServeEnds map command before after old new P) (fixed_memory WriteFault reported tt fixed memory) ends
-  memory_serve_ends WireFault ends fixed memory = subst (ServeEnds map command before after old new P) (fixed_memory WireFault reported tt fixed memory) ends
-  memory_serve_ends TurnsSpent ends fixed memory = subst (ServeEnds map command before after old new P) (fixed_memory TurnsSpent reported tt fixed memory) ends
-  memory_serve_ends NoMemory ends fixed memory = subst (ServeEnds map command before after old new P) (fixed_memory NoMemory reported tt fixed memory) ends
-  memory_serve_ends Usage ends fixed memory = subst (ServeEnds map command before after old new P) (fixed_memory Usage reported tt fixed memory) ends
-  memory_serve_ends NotAllYes ends fixed memory = subst (ServeEnds map command before after old new P) (fixed_memory NotAllYes reported tt fixed memory) ends
-  memory_serve_ends NotFound ends fixed memory = subst (ServeEnds map command before after old new P) (fixed_memory NotFound reported tt fixed memory) ends
+  memory_serve_ends : (status : Status) → ServeEnds command before after status → (IsFixed status → reported ≡ status) → reported ≡ NoMemory → ServeEnds command before after NoMemory
+  memory_serve_ends Ok ends fixed memory = subst (ServeEnds command before after) (fixed_memory Ok reported tt fixed memory) ends
+  memory_serve_ends WriteFault ends fixed memory = subst (ServeEnds command before after) (fixed_memory WriteFault reported tt fixed memory) ends
+  memory_serve_ends WireFault ends fixed memory = subst (ServeEnds command before after) (fixed_memory WireFault reported tt fixed memory) ends
+  memory_serve_ends TurnsSpent ends fixed memory = subst (ServeEnds command before after) (fixed_memory TurnsSpent reported tt fixed memory) ends
+  memory_serve_ends NoMemory ends fixed memory = subst (ServeEnds command before after) (fixed_memory NoMemory reported tt fixed memory) ends
+  memory_serve_ends Usage ends fixed memory = subst (ServeEnds command before after) (fixed_memory Usage reported tt fixed memory) ends
+  memory_serve_ends NotAllYes ends fixed memory = subst (ServeEnds command before after) (fixed_memory NotAllYes reported tt fixed memory) ends
+  memory_serve_ends NotFound ends fixed memory = subst (ServeEnds command before after) (fixed_memory NotFound reported tt fixed memory) ends
   memory_serve_ends (Refused file number place) ends fixed memory = unread_serve (Refused file number place) tt ends
   memory_serve_ends (ReadFault path) ends fixed memory = unread_serve (ReadFault path) tt ends
   memory_serve_ends (PageFault term kind) ends fixed memory = unread_serve (PageFault term kind) tt ends
 
-memory_run_ends : (map now : FileMap) (before after : Story) (P : Type 0) (given : Option Command) (old new : Option (List ℕ)) (status reported : Status)
-    → RunEnds map now before after P given old new status → (IsSilent status → new ≡ old) → (IsFixed status → reported ≡ status) → reported ≡ NoMemory → RunEnds map now before after P given old new NoMemory
-memory_run_ends map now before after P None old new status reported ends silent fixed memory = inr refl
-memory_run_ends map now before after P (Some (Page command)) old new status reported ends silent fixed memory = memory_text_ends (PageEnds map command) old new status reported ends silent fixed memory
-memory_run_ends map now before after P (Some (Data command)) old new status reported ends silent fixed memory = memory_text_ends (DataEnds map command.sources) old new status reported ends silent fixed memory
-memory_run_ends map now before after P (Some (Explain command)) old new status reported ends silent fixed memory = memory_text_ends (ExplainEnds map command) old new status reported ends silent fixed memory
-memory_run_ends map now before after P (Some (Trial command)) old new status reported ends silent fixed memory = memory_text_ends (TrialEnds command) old new status reported ends silent fixed memory
-memory_run_ends map now before after P (Some (Build command)) old new status reported ends silent fixed memory = memory_build_ends map now command old new status reported ends silent fixed memory
-memory_run_ends map now before after P (Some (Serve command)) old new status reported ends silent fixed memory = memory_serve_ends map command before after old new P reported status ends fixed memory
-memory_run_ends map now before after P (Some (Replay command)) old new status reported ends silent fixed memory = memory_replay_ends map command old new P reported status ends silent fixed memory
+module _ (before after : Outside) where
+  memory_run_ends : (given : Option Command) (status reported : Status)
+      → RunEnds given before after status → (IsSilent status → after.host.output ≡ before.host.output) → (IsFixed status → reported ≡ status) → reported ≡ NoMemory → RunEnds given before after NoMemory
+  memory_run_ends None status reported ends silent fixed memory = inr refl
+  memory_run_ends (Some (Page command)) status reported ends silent fixed memory = memory_text_ends (PageEnds before.host.files command) before.host.output after.host.output status reported ends silent fixed memory
+  memory_run_ends (Some (Data command)) status reported ends silent fixed memory = memory_text_ends (DataEnds before.host.files command) before.host.output after.host.output status reported ends silent fixed memory
+  memory_run_ends (Some (Explain command)) status reported ends silent fixed memory = memory_text_ends (ExplainEnds before.host.files command) before.host.output after.host.output status reported ends silent fixed memory
+  memory_run_ends (Some (Trial command)) status reported ends silent fixed memory = memory_text_ends (TrialEnds command) before.host.output after.host.output status reported ends silent fixed memory
+  memory_run_ends (Some (Build command)) status reported ends silent fixed memory = memory_build_ends command before.host after.host status reported ends silent fixed memory
+  memory_run_ends (Some (Serve command)) status reported ends silent fixed memory = memory_serve_ends command before after reported status ends fixed memory
+  memory_run_ends (Some (Replay command)) status reported ends silent fixed memory = memory_replay_ends command before.host after.host reported status ends silent fixed memory
 
--- the status after its line: itself, or want of memory where nothing was put
-pub reported_run_ends : (map now : FileMap) (before after : Story) (P : Type 0) (given : Option Command) (old new : Option (List ℕ)) (status reported : Status)
-    → RunEnds map now before after P given old new status → (IsSilent status → new ≡ old) → (IsFixed status → reported ≡ status)
-    → (reported ≡ status) ⊎ (reported ≡ NoMemory) → RunEnds map now before after P given old new reported
-reported_run_ends map now before after P given old new status reported ends silent fixed (inl same) = rw same ends
-reported_run_ends map now before after P given old new status reported ends silent fixed (inr memory) = rw memory (memory_run_ends map now before after P given old new status reported ends silent fixed memory)
+  -- the status after its line: itself, or that memory ran out where nothing was put
+  reported_run_ends : (given : Option Command) (status reported : Status)
+      → RunEnds given before after status → (IsSilent status → after.host.output ≡ before.host.output) → (IsFixed status → reported ≡ status)
+      → (reported ≡ status) ⊎ (reported ≡ NoMemory) → RunEnds given before after reported
+  reported_run_ends given status reported ends silent fixed (inl same) = rw same ends
+  reported_run_ends given status reported ends silent fixed (inr memory) = rw memory (memory_run_ends given status reported ends silent fixed memory)
 
 pub reported_silent : {P : Type 0} (status reported : Status) → (IsSilent status → P) → (reported ≡ status) ⊎ (reported ≡ NoMemory) → IsSilent reported → P
 reported_silent status reported silent (inl same) quiet = silent (rw same at quiet)
 reported_silent status reported silent (inr memory) quiet = absurd (rw memory at quiet)
 
-pub reported_told : (n : Option FileMap) (map : FileMap) (before after : Story) (P : Type 0) (given : Option Command) (old new : Option (List ℕ)) (status reported : Status)
-    → IsSomeAnd n (λ now. RunEnds map now before after P given old new status) → (IsSilent status → new ≡ old) → (IsFixed status → reported ≡ status)
-    → (reported ≡ status) ⊎ (reported ≡ NoMemory) → IsSomeAnd n (λ now. RunEnds map now before after P given old new reported)
-reported_told None map before after P given old new status reported ends silent fixed is = ends
-reported_told (Some now) map before after P given old new status reported ends silent fixed is = reported_run_ends map now before after P given old new status reported ends silent fixed is
+-- ---- what the files report before and after, with the counts, the output and the wire
 
--- ---- where files stay
+module _ (reads reads_now writes writes_now : List ℕ → ℕ) (output output_now : Option (List ℕ)) (puts puts_now : ℕ) (wire wire_now : Told) where
+  abbrev pub Before : FileMap → Outside
+  Before map = outside map reads writes output puts wire
 
-kept : (o n : Option FileMap) (map : FileMap) (wire : Story) (P : Type 0) (given : Option Command) (old new : Option (List ℕ)) (status : Status) → n ≡ o → o ≡ Some map → RunEnds map map wire wire P given old new status → IsSomeAnd n (λ now. RunEnds map now wire wire P given old new status)
-kept o n map wire P given old new status same told h =
-    let at : n ≡ Some map = same ∙ told in
-    subst (λ (x : Option FileMap). IsSomeAnd x (λ now. RunEnds map now wire wire P given old new status)) (sym at) h
+  abbrev pub After : FileMap → Outside
+  After map = outside map reads_now writes_now output_now puts_now wire_now
 
-pub no_memory_told : (o : Option FileMap) (map : FileMap) (wire : Story) (P : Type 0) (given : Option Command) (text : Option (List ℕ)) → o ≡ Some map → IsSomeAnd o (λ now. RunEnds map now wire wire P given text text NoMemory)
-no_memory_told o map wire P given text told = kept o o map wire P given text text NoMemory refl told (no_memory_ends map wire P given text)
+  pub reported_told : (n : Option FileMap) (map : FileMap) (given : Option Command) (status reported : Status)
+      → IsSomeAnd n (λ now. RunEnds given (Before map) (After now) status) → (IsSilent status → output_now ≡ output) → (IsFixed status → reported ≡ status)
+      → (reported ≡ status) ⊎ (reported ≡ NoMemory) → IsSomeAnd n (λ now. RunEnds given (Before map) (After now) reported)
+  reported_told None map given status reported ends silent fixed is = ends
+  reported_told (Some now) map given status reported ends silent fixed is = reported_run_ends (Before map) (After now) given status reported ends silent fixed is
 
-pub no_command_told : (o : Option FileMap) (map : FileMap) (wire : Story) (P : Type 0) (given : Option Command) (text : Option (List ℕ)) → given ≡ None → o ≡ Some map → IsSomeAnd o (λ now. RunEnds map now wire wire P given text text Usage)
-no_command_told o map wire P given text is told = kept o o map wire P given text text Usage refl told (subst (λ (g : Option Command). RunEnds map map wire wire P g text text Usage) (sym is) (inl refl))
+  -- files that stay
+  kept : (o n : Option FileMap) (map : FileMap) (given : Option Command) (status : Status) → n ≡ o → o ≡ Some map
+      → RunEnds given (Before map) (After map) status → IsSomeAnd n (λ now. RunEnds given (Before map) (After now) status)
+  kept o n map given status same told h =
+      let at : n ≡ Some map = same ∙ told in
+      subst (λ (x : Option FileMap). IsSomeAnd x (λ now. RunEnds given (Before map) (After now) status)) (sym at) h
 
-pub command_told : (n : Option FileMap) (map : FileMap) (before after : Story) (P : Type 0) (given : Option Command) (command : Command) (old new : Option (List ℕ)) (status : Status) → given ≡ Some command → IsSomeAnd n (λ now. Ends map now before after P command old new status) → IsSomeAnd n (λ now. RunEnds map now before after P given old new status)
-command_told None map before after P given command old new status is h = h
-command_told (Some now) map before after P given command old new status is h = subst (λ (g : Option Command). RunEnds map now before after P g old new status) (sym is) h
+  pub no_memory_told : (o : Option FileMap) (map : FileMap) (given : Option Command) → output_now ≡ output → wire_now ≡ wire → o ≡ Some map
+      → IsSomeAnd o (λ now. RunEnds given (Before map) (After now) NoMemory)
+  no_memory_told o map given out same told = kept o o map given NoMemory refl told (no_memory_ends given (Before map) (After map) refl out same)
 
--- a command that answers with a text
-pub page_told : (o n : Option FileMap) (map : FileMap) (before after : Story) (P : Type 0) (command : Command) (c : PageCommand) (answer : Result (List ℕ) Fault) (old new : Option (List ℕ)) (status : Status) → n ≡ o → o ≡ Some map → command ≡ Page c → PageEnds map c answer → TextEnds (λ a. a ≡ answer) old new status
-    → IsSomeAnd n (λ now. Ends map now before after P command old new status)
-page_told o n map before after P command c answer old new status same told is ends put =
-    let at : n ≡ Some map = same ∙ told in
-    subst (λ (x : Option FileMap). IsSomeAnd x (λ now. Ends map now before after P command old new status)) (sym at)
-    (subst (λ (d : Command). Ends map map before after P d old new status) (sym is) (text_as (λ a. a ≡ answer) (PageEnds map c) old new status (λ a e. subst (PageEnds map c) (sym e) ends) put))
+  pub no_command_told : (o : Option FileMap) (map : FileMap) (given : Option Command) → given ≡ None → o ≡ Some map
+      → IsSomeAnd o (λ now. RunEnds given (Before map) (After now) Usage)
+  no_command_told o map given is told = kept o o map given Usage refl told (subst (λ (g : Option Command). RunEnds g (Before map) (After map) Usage) (sym is) (inl refl))
 
-pub data_told : (o n : Option FileMap) (map : FileMap) (before after : Story) (P : Type 0) (command : Command) (c : DataCommand) (answer : Result (List ℕ) Fault) (old new : Option (List ℕ)) (status : Status) → n ≡ o → o ≡ Some map → command ≡ Data c → DataEnds map c.sources answer → TextEnds (λ a. a ≡ answer) old new status
-    → IsSomeAnd n (λ now. Ends map now before after P command old new status)
-data_told o n map before after P command c answer old new status same told is ends put =
-    let at : n ≡ Some map = same ∙ told in
-    subst (λ (x : Option FileMap). IsSomeAnd x (λ now. Ends map now before after P command old new status)) (sym at)
-    (subst (λ (d : Command). Ends map map before after P d old new status) (sym is) (text_as (λ a. a ≡ answer) (DataEnds map c.sources) old new status (λ a e. subst (DataEnds map c.sources) (sym e) ends) put))
+  pub command_told : (n : Option FileMap) (map : FileMap) (given : Option Command) (command : Command) (status : Status) → given ≡ Some command
+      → IsSomeAnd n (λ now. Ends command (Before map) (After now) status) → IsSomeAnd n (λ now. RunEnds given (Before map) (After now) status)
+  command_told None map given command status is h = h
+  command_told (Some now) map given command status is h = subst (λ (g : Option Command). RunEnds g (Before map) (After now) status) (sym is) h
 
-pub explain_told : (o n : Option FileMap) (map : FileMap) (before after : Story) (P : Type 0) (command : Command) (c : ExplainCommand) (answer : Result (List ℕ) Fault) (old new : Option (List ℕ)) (status : Status) → n ≡ o → o ≡ Some map → command ≡ Explain c → ExplainEnds map c answer → TextEnds (λ a. a ≡ answer) old new status
-    → IsSomeAnd n (λ now. Ends map now before after P command old new status)
-explain_told o n map before after P command c answer old new status same told is ends put =
-    let at : n ≡ Some map = same ∙ told in
-    subst (λ (x : Option FileMap). IsSomeAnd x (λ now. Ends map now before after P command old new status)) (sym at)
-    (subst (λ (d : Command). Ends map map before after P d old new status) (sym is) (text_as (λ a. a ≡ answer) (ExplainEnds map c) old new status (λ a e. subst (ExplainEnds map c) (sym e) ends) put))
+  -- a command that writes no file
+  stays : (o n : Option FileMap) (map : FileMap) (command other : Command) (status : Status) → n ≡ o → o ≡ Some map → command ≡ other
+      → Ends other (Before map) (After map) status → IsSomeAnd n (λ now. Ends command (Before map) (After now) status)
+  stays o n map command other status same told is h =
+      let at : n ≡ Some map = same ∙ told in
+      subst (λ (x : Option FileMap). IsSomeAnd x (λ now. Ends command (Before map) (After now) status)) (sym at)
+      (subst (λ (d : Command). Ends d (Before map) (After map) status) (sym is) h)
 
-pub trial_told : (o n : Option FileMap) (map : FileMap) (before after : Story) (P : Type 0) (command : Command) (c : TrialCommand) (answer : Result (List ℕ) Fault) (old new : Option (List ℕ)) (status : Status) → n ≡ o → o ≡ Some map → command ≡ Trial c → TrialEnds c answer → TextEnds (λ a. a ≡ answer) old new status
-    → IsSomeAnd n (λ now. Ends map now before after P command old new status)
-trial_told o n map before after P command c answer old new status same told is ends put =
-    let at : n ≡ Some map = same ∙ told in
-    subst (λ (x : Option FileMap). IsSomeAnd x (λ now. Ends map now before after P command old new status)) (sym at)
-    (subst (λ (d : Command). Ends map map before after P d old new status) (sym is) (text_as (λ a. a ≡ answer) (TrialEnds c) old new status (λ a e. subst (TrialEnds c) (sym e) ends) put))
+  -- a command that answers with a text
+  answered : (P : Result (List ℕ) Fault → Type 0) (answer : Result (List ℕ) Fault) (status : Status) → P answer
+      → TextEnds (λ a. a ≡ answer) output output_now status → TextEnds P output output_now status
+  answered P answer status ends put = text_as (λ a. a ≡ answer) P output output_now status (λ a e. subst P (sym e) ends) put
 
-pub build_told : (n : Option FileMap) (map : FileMap) (before after : Story) (P : Type 0) (command : Command) (c : BuildCommand) (old new : Option (List ℕ)) (status : Status) → command ≡ Build c → IsSomeAnd n (λ now. BuildEnds map now c old new status) → IsSomeAnd n (λ now. Ends map now before after P command old new status)
-build_told None map before after P command c old new status is h = h
-build_told (Some now) map before after P command c old new status is h = subst (λ (d : Command). Ends map now before after P d old new status) (sym is) h
+  pub page_told : (o n : Option FileMap) (map : FileMap) (command : Command) (c : PageCommand) (answer : Result (List ℕ) Fault) (status : Status) → n ≡ o → o ≡ Some map → command ≡ Page c
+      → PageEnds map c answer → TextEnds (λ a. a ≡ answer) output output_now status → IsSomeAnd n (λ now. Ends command (Before map) (After now) status)
+  page_told o n map command c answer status same told is ends put = stays o n map command (Page c) status same told is (answered (PageEnds map c) answer status ends put)
 
-pub serve_told : (o n : Option FileMap) (map : FileMap) (before after : Story) (P : Type 0) (command : Command) (c : ServeCommand) (old new : Option (List ℕ)) (status : Status) → n ≡ o → o ≡ Some map → command ≡ Serve c → ServeEnds map c before after old new P status
-    → IsSomeAnd n (λ now. Ends map now before after P command old new status)
-serve_told o n map before after P command c old new status same told is ends =
-    let at : n ≡ Some map = same ∙ told in
-    subst (λ (x : Option FileMap). IsSomeAnd x (λ now. Ends map now before after P command old new status)) (sym at) (subst (λ (d : Command). Ends map map before after P d old new status) (sym is) ends)
+  pub data_told : (o n : Option FileMap) (map : FileMap) (command : Command) (c : DataCommand) (answer : Result (List ℕ) Fault) (status : Status) → n ≡ o → o ≡ Some map → command ≡ Data c
+      → DataEnds map c answer → TextEnds (λ a. a ≡ answer) output output_now status → IsSomeAnd n (λ now. Ends command (Before map) (After now) status)
+  data_told o n map command c answer status same told is ends put = stays o n map command (Data c) status same told is (answered (DataEnds map c) answer status ends put)
 
-pub replay_told : (o n : Option FileMap) (map : FileMap) (before after : Story) (P : Type 0) (command : Command) (c : ReplayCommand) (old new : Option (List ℕ)) (status : Status) → n ≡ o → o ≡ Some map → command ≡ Replay c → ReplayEnds map c old new P status
-    → IsSomeAnd n (λ now. Ends map now before after P command old new status)
-replay_told o n map before after P command c old new status same told is ends =
-    let at : n ≡ Some map = same ∙ told in
-    subst (λ (x : Option FileMap). IsSomeAnd x (λ now. Ends map now before after P command old new status)) (sym at) (subst (λ (d : Command). Ends map map before after P d old new status) (sym is) ends)
+  pub explain_told : (o n : Option FileMap) (map : FileMap) (command : Command) (c : ExplainCommand) (answer : Result (List ℕ) Fault) (status : Status) → n ≡ o → o ≡ Some map → command ≡ Explain c
+      → ExplainEnds map c answer → TextEnds (λ a. a ≡ answer) output output_now status → IsSomeAnd n (λ now. Ends command (Before map) (After now) status)
+  explain_told o n map command c answer status same told is ends put = stays o n map command (Explain c) status same told is (answered (ExplainEnds map c) answer status ends put)
+
+  pub trial_told : (o n : Option FileMap) (map : FileMap) (command : Command) (c : TrialCommand) (answer : Result (List ℕ) Fault) (status : Status) → n ≡ o → o ≡ Some map → command ≡ Trial c
+      → TrialEnds c answer → TextEnds (λ a. a ≡ answer) output output_now status → IsSomeAnd n (λ now. Ends command (Before map) (After now) status)
+  trial_told o n map command c answer status same told is ends put = stays o n map command (Trial c) status same told is (answered (TrialEnds c) answer status ends put)
+
+  pub build_told : (n : Option FileMap) (map : FileMap) (command : Command) (c : BuildCommand) (status : Status) → command ≡ Build c
+      → IsSomeAnd n (λ now. BuildEnds c (host map reads writes output puts) (host now reads_now writes_now output_now puts_now) status)
+      → IsSomeAnd n (λ now. Ends command (Before map) (After now) status)
+  build_told None map command c status is h = h
+  build_told (Some now) map command c status is h = subst (λ (d : Command). Ends d (Before map) (After now) status) (sym is) h
+
+  pub serve_told : (o n : Option FileMap) (map : FileMap) (command : Command) (c : ServeCommand) (status : Status) → n ≡ o → o ≡ Some map → command ≡ Serve c
+      → ServeEnds c (Before map) (After map) status → IsSomeAnd n (λ now. Ends command (Before map) (After now) status)
+  serve_told o n map command c status same told is ends = stays o n map command (Serve c) status same told is ends
+
+  pub replay_told : (o n : Option FileMap) (map : FileMap) (command : Command) (c : ReplayCommand) (status : Status) → n ≡ o → o ≡ Some map → command ≡ Replay c
+      → ReplayEnds c (host map reads writes output puts) (host map reads_now writes_now output_now puts_now) status → IsSomeAnd n (λ now. Ends command (Before map) (After now) status)
+  replay_told o n map command c status same told is ends = stays o n map command (Replay c) status same told is ends
 
 pub serve_uses : (command : Command) (c : ServeCommand) → command ≡ Serve c → UsesNoWire (Some command) → ⊥
 serve_uses command c is h = subst (λ (d : Command). UsesNoWire (Some d)) is h

@@ -1,5 +1,4 @@
 pub mod Ends
-pub mod Explained
 pub mod Decided
 pub mod Exact
 pub mod Complete

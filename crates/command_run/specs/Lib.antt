@@ -1,4 +1,2 @@
-pub mod Data
-pub mod Explain
 pub mod Top
 pub mod Complete

@@ -1,8 +1,6 @@
 //! A whole run of the program: the command of the words, over any files, outputs and wire.
 #![tactic(auto)]
 
-mod data;
-mod explain;
 mod top;
 
 pub use top::strudel;

@@ -3,32 +3,34 @@ ghost use Rattle.std.specs.Prelude.{◌≡◌, ◌⊎◌, None, Some};
 ghost use Rattle.std.specs.Option.{ForSome, IsSomeAnd};
 ghost use Rattle.edge_io.specs.Counts.{Rose};
 ghost use Rattle.edge_io.specs.Sink.{Gains, GainsPart};
-ghost use Rattle.command_words.specs.Words.{command};
-ghost use Rattle.command_words.specs.Ranges.{IsInRange};
+ghost use Rattle.command_spec.specs.Words.{command};
+ghost use Rattle.command_spec.specs.Ranges.{IsInRange};
 ghost use Rattle.run_report.specs.Report.{line};
 ghost use Rattle.site_inputs.specs.Runs.{ReadsHaveCause};
 ghost use Rattle.site_inputs.specs.Statuses.{ReadRose, IsSilent};
-ghost use Rattle.serve_run.specs.Serving.{told};
-ghost use Rattle.serve_command.specs.Serves.{story};
-ghost use Rattle.command_run.specs.Complete.{outside, IsComplete};
-ghost use Rattle.command_run.specs.Top.{inputs_of_command, given_inputs, Ends, TextEnds, RunEnds, WriteRose, WritesNoFile, UsesNoWire, IsExact};
+ghost use Rattle.site_inputs.specs.Outside.{host, outside};
+ghost use Rattle.command_run.specs.Complete.{IsComplete};
+ghost use Rattle.command_spec.specs.Inputs.{inputs_of_command, given_inputs};
+ghost use Rattle.command_run.specs.Top.{Ends, TextEnds, RunEnds, IsExact};
+ghost use Rattle.command_run.specs.Top.{WriteRose, WritesNoFile, UsesNoWire};
 
-use crate::data::data;
-use crate::explain::explain;
-use build_command::build;
-use command_words::{Command, read_command};
+use command_build::build;
+use command_data::data;
+use command_explain::explain;
+use command_page::page;
+use command_replay::replay;
+use command_serve::serve;
+use command_spec::Command;
+use command_trial::trial;
+use command_words::read_command;
 use edge_io::{Files, Sink};
-use page_command::page;
-use replay_command::replay;
 use run_report::{Status, report};
 use sd_value::{NoMemory, Str};
-use serve_command::serve;
 use site_inputs::Fault;
 use std::alloc::Global;
-use trial_command::trial;
 use wire::Wire;
 
-// Puts the text that a command is answered, or tells why there is none.
+// Puts the text that a command is answered, or gives the status of the fault.
 fn put_answer<O: Sink>(answer: Result<Str, Fault>, out: &mut O) -> Status
     ensures ends { TextEnds (λ a. a ≡ answer) (O.text out.old) (O.text out.new) result }
     ensures words { result ≡ Status.Usage → ⊥ }
@@ -54,14 +56,24 @@ fn run_command<F: Files, O: Sink, W: Wire>(
 ) -> Status
     requires { IsInRange command.now }
     ensures words { result ≡ Status.Usage → ⊥ }
-    ensures ends { ForSome (F.contents files.old) (λ map. IsSomeAnd (F.contents files.new) (λ now. Ends map now (story (told (W.account wire.old) (W.faults wire.old) (W.given wire.old) (W.left wire.old)) (W.listens wire.old)) (story (told (W.account wire.new) (W.faults wire.new) (W.given wire.new) (W.left wire.new)) (W.listens wire.new)) (Rose (O.failed out.old) (O.failed out.new)) command.now (O.text out.old) (O.text out.new) result)) }
+    ensures ends { ForSome (F.contents files.old) (λ map. IsSomeAnd (F.contents files.new) (λ now.
+        Ends command.now
+        (outside map (F.failed_reads files.old) (F.failed_writes files.old)
+        (O.text out.old) (O.failed out.old) (W.told wire.old))
+        (outside now (F.failed_reads files.new) (F.failed_writes files.new)
+        (O.text out.new) (O.failed out.new) (W.told wire.new))
+        result)) }
     ensures silent { IsSilent result → out.new ≡ out.old }
     ensures files { WritesNoFile (Some command.now) → F.contents files.new ≡ F.contents files.old }
     ensures wire { UsesNoWire (Some command.now) → wire.new ≡ wire.old }
     ensures quiet { IsSilent result → wire.new ≡ wire.old }
-    ensures wire_cause { result ≡ Status.WireFault → Rose (W.next_faults wire.old) (W.next_faults wire.new) }
-    ensures read_cause { ReadRose (inputs_of_command command.now) (F.failed_reads files.old) (F.failed_reads files.new) result }
-    ensures write_cause { result ≡ Status.WriteFault → WriteRose (Some command.now) (F.failed_writes files.old) (F.failed_writes files.new) (Rose (O.failed out.old) (O.failed out.new)) }
+    ensures wire_cause { result ≡ Status.WireFault
+        → Rose (W.told wire.old).next_faults (W.told wire.new).next_faults }
+    ensures read_cause { ReadRose (inputs_of_command command.now)
+        (F.failed_reads files.old) (F.failed_reads files.new) result }
+    ensures write_cause { result ≡ Status.WriteFault
+        → WriteRose (Some command.now) (F.failed_writes files.old) (F.failed_writes files.new)
+        (Rose (O.failed out.old) (O.failed out.new)) }
 {
     match command {
         Command::Page(command) => {
@@ -95,16 +107,27 @@ fn run<F: Files, O: Sink, W: Wire>(
     wire: &mut W,
 ) -> Status
     ensures usage { result ≡ Status.Usage → command words.now ≡ None }
-    ensures no_command { command words.now ≡ None → (result ≡ Status.Usage) ⊎ (result ≡ Status.NoMemory) }
+    ensures no_command { command words.now
+        ≡ None → (result ≡ Status.Usage) ⊎ (result ≡ Status.NoMemory) }
     ensures no_words { command words.now ≡ None → out.new ≡ out.old }
-    ensures ends { ForSome (F.contents files.old) (λ map. IsSomeAnd (F.contents files.new) (λ now. RunEnds map now (story (told (W.account wire.old) (W.faults wire.old) (W.given wire.old) (W.left wire.old)) (W.listens wire.old)) (story (told (W.account wire.new) (W.faults wire.new) (W.given wire.new) (W.left wire.new)) (W.listens wire.new)) (Rose (O.failed out.old) (O.failed out.new)) (command words.now) (O.text out.old) (O.text out.new) result)) }
+    ensures ends { ForSome (F.contents files.old) (λ map. IsSomeAnd (F.contents files.new) (λ now.
+        RunEnds (command words.now)
+        (outside map (F.failed_reads files.old) (F.failed_writes files.old)
+        (O.text out.old) (O.failed out.old) (W.told wire.old))
+        (outside now (F.failed_reads files.new) (F.failed_writes files.new)
+        (O.text out.new) (O.failed out.new) (W.told wire.new))
+        result)) }
     ensures silent { IsSilent result → out.new ≡ out.old }
     ensures files { WritesNoFile (command words.now) → F.contents files.new ≡ F.contents files.old }
     ensures wire { UsesNoWire (command words.now) → wire.new ≡ wire.old }
     ensures quiet { IsSilent result → wire.new ≡ wire.old }
-    ensures wire_cause { result ≡ Status.WireFault → Rose (W.next_faults wire.old) (W.next_faults wire.new) }
-    ensures read_cause { ReadRose (given_inputs (command words.now)) (F.failed_reads files.old) (F.failed_reads files.new) result }
-    ensures write_cause { result ≡ Status.WriteFault → WriteRose (command words.now) (F.failed_writes files.old) (F.failed_writes files.new) (Rose (O.failed out.old) (O.failed out.new)) }
+    ensures wire_cause { result ≡ Status.WireFault
+        → Rose (W.told wire.old).next_faults (W.told wire.new).next_faults }
+    ensures read_cause { ReadRose (given_inputs (command words.now))
+        (F.failed_reads files.old) (F.failed_reads files.new) result }
+    ensures write_cause { result ≡ Status.WriteFault
+        → WriteRose (command words.now) (F.failed_writes files.old) (F.failed_writes files.new)
+        (Rose (O.failed out.old) (O.failed out.new)) }
 {
     let command = match read_command(alloc, words) {
         Ok(Some(command)) => command,
@@ -115,7 +138,7 @@ fn run<F: Files, O: Sink, W: Wire>(
 }
 
 /// Does all that the program does. `words` are those after the program's name. The answer is put on `out`, and a line
-/// on `err` tells any other end; the status has the exit code. `serve` takes its connections from `wire`.
+/// on `err` reports any other end; the status has the exit code. `serve` takes its connections from `wire`.
 pub fn strudel<F: Files, O: Sink, E: Sink, W: Wire>(
     alloc: Global,
     words: &[Str],
@@ -124,35 +147,59 @@ pub fn strudel<F: Files, O: Sink, E: Sink, W: Wire>(
     err: &mut E,
     wire: &mut W,
 ) -> Status
-    // Wrong words are told, and nothing else is told as wrong words.
+    // Wrong words are reported, and nothing else is reported as wrong words.
     ensures usage { result ≡ Status.Usage → command words.now ≡ None }
-    ensures no_command { command words.now ≡ None → (result ≡ Status.Usage) ⊎ (result ≡ Status.NoMemory) }
+    ensures no_command { command words.now
+        ≡ None → (result ≡ Status.Usage) ⊎ (result ≡ Status.NoMemory) }
     ensures no_words { command words.now ≡ None → out.new ≡ out.old }
 
     // Why the run has this status, and what it has put.
-    ensures ends { ForSome (F.contents files.old) (λ map. IsSomeAnd (F.contents files.new) (λ now. RunEnds map now (story (told (W.account wire.old) (W.faults wire.old) (W.given wire.old) (W.left wire.old)) (W.listens wire.old)) (story (told (W.account wire.new) (W.faults wire.new) (W.given wire.new) (W.left wire.new)) (W.listens wire.new)) (Rose (O.failed out.old) (O.failed out.new)) (command words.now) (O.text out.old) (O.text out.new) result)) }
+    ensures ends { ForSome (F.contents files.old) (λ map. IsSomeAnd (F.contents files.new) (λ now.
+        RunEnds (command words.now)
+        (outside map (F.failed_reads files.old) (F.failed_writes files.old)
+        (O.text out.old) (O.failed out.old) (W.told wire.old))
+        (outside now (F.failed_reads files.new) (F.failed_writes files.new)
+        (O.text out.new) (O.failed out.new) (W.told wire.new))
+        result)) }
     ensures silent { IsSilent result → out.new ≡ out.old }
     ensures files { WritesNoFile (command words.now) → F.contents files.new ≡ F.contents files.old }
     ensures wire { UsesNoWire (command words.now) → wire.new ≡ wire.old }
     ensures quiet { IsSilent result → wire.new ≡ wire.old }
-    ensures wire_cause { result ≡ Status.WireFault → Rose (W.next_faults wire.old) (W.next_faults wire.new) }
+    ensures wire_cause { result ≡ Status.WireFault
+        → Rose (W.told wire.old).next_faults (W.told wire.new).next_faults }
 
-    // Where the command's files and the output have no fault, the inputs decide the end, but for want of memory.
-    ensures exact { ForSome (F.contents files.old) (λ map. ForSome (command words.now) (λ command. IsExact map command (O.text out.old) (O.text out.new)
-        (λ path. Rose (F.failed_reads files.old path) (F.failed_reads files.new path)) (Rose (O.failed out.old) (O.failed out.new)) result)) }
+    // Where the command's files and the output have no fault, the inputs decide the end, unless memory runs out.
+    ensures exact { ForSome (F.contents files.old) (λ map. ForSome (command words.now) (λ command.
+        IsSomeAnd (F.contents files.new) (λ now.
+        IsExact command
+        (host map (F.failed_reads files.old) (F.failed_writes files.old)
+        (O.text out.old) (O.failed out.old))
+        (host now (F.failed_reads files.new) (F.failed_writes files.new)
+        (O.text out.new) (O.failed out.new))
+        result))) }
 
-    // A build and a run over connections end well where their inputs are accepted and nothing outside fails, but for want of
-    // memory, and a refused input ends them.
-    ensures complete { ForSome (F.contents files.old) (λ map. ForSome (command words.now) (λ command. IsComplete map command
-        (story (told (W.account wire.old) (W.faults wire.old) (W.given wire.old) (W.left wire.old)) (W.listens wire.old))
-        (outside (F.failed_reads files.old) (F.failed_reads files.new) (F.failed_writes files.old) (F.failed_writes files.new) (O.failed out.old) (O.failed out.new) (W.next_faults wire.old) (W.next_faults wire.new)) result)) }
+    // A build and a run over connections end well where their inputs are accepted and nothing outside fails, unless memory
+    // runs out, and a refused input ends them.
+    ensures complete { ForSome (F.contents files.old) (λ map.
+        ForSome (command words.now) (λ command.
+        IsSomeAnd (F.contents files.new) (λ now.
+        IsComplete command
+        (outside map (F.failed_reads files.old) (F.failed_writes files.old)
+        (O.text out.old) (O.failed out.old) (W.told wire.old))
+        (outside now (F.failed_reads files.new) (F.failed_writes files.new)
+        (O.text out.new) (O.failed out.new) (W.told wire.new))
+        result))) }
 
     // A fault of the outside comes only where its count rose, and one of reading only of a file of the command.
-    ensures read_cause { ReadRose (given_inputs (command words.now)) (F.failed_reads files.old) (F.failed_reads files.new) result }
-    ensures write_cause { result ≡ Status.WriteFault → WriteRose (command words.now) (F.failed_writes files.old) (F.failed_writes files.new) (Rose (O.failed out.old) (O.failed out.new)) }
+    ensures read_cause { ReadRose (given_inputs (command words.now))
+        (F.failed_reads files.old) (F.failed_reads files.new) result }
+    ensures write_cause { result ≡ Status.WriteFault
+        → WriteRose (command words.now) (F.failed_writes files.old) (F.failed_writes files.new)
+        (Rose (O.failed out.old) (O.failed out.new)) }
 
     // The line on `err`.
-    ensures line { ¬ Rose (E.failed err.old) (E.failed err.new) → Gains (E.text err.old) (E.text err.new) (line result) }
+    ensures line { ¬ Rose (E.failed err.old) (E.failed err.new)
+        → Gains (E.text err.old) (E.text err.new) (line result) }
     ensures part { GainsPart (E.text err.old) (E.text err.new) (line result) }
 {
     let status = run(alloc, words, files, out, wire);

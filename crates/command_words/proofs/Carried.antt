@@ -1,10 +1,10 @@
 -- What was taken, before what the later words say.
 use Rattle.std.proofs.Common.{◌≡◌, ℕ, zero, suc, ◌+◌, ◌<◌, List, [], ◌∷◌, ◌++◌, length, drop, get_or, refl, sym, ap, ◌∙◌, arith, add-one, append_assoc}
 use Rattle.std.specs.Prelude.{Option, None, Some}
-use Rattle.command_words.specs.declared.options.Setting.{Setting}
-use Rattle.command_words.specs.declared.options.Role.{Role}
-use Rattle.command_words.specs.declared.options.Role.TheVariants.{Plain, Dashes, Complete, Open, Misplaced}
-use Rattle.command_words.specs.Options.{Parts, role_of, parts_of, with_setting, with_word}
+use Rattle.command_spec.specs.declared.options.Setting.{Setting}
+use Rattle.command_spec.specs.declared.options.Role.{Role}
+use Rattle.command_spec.specs.declared.options.Role.TheVariants.{Plain, Dashes, Complete, Open, Misplaced}
+use Rattle.command_spec.specs.Options.{Parts, role_of, parts_of, with_setting, with_word}
 use Rattle.command_words.specs.Carried.{carried}
 
 with_setting_carried : (settings : List Setting) (words : List (List ℕ)) (setting : Setting) (rest : Option Parts) → carried settings words (with_setting setting rest) ≡ carried (settings ++ setting ∷ []) words rest

@@ -1,9 +1,9 @@
 -- The words of `replay`.
 use Rattle.std.proofs.Common.{◌≡◌, ℕ, ◌-◌, ◌<◌, ◌≤◌, List, [], ◌∷◌, length, take, drop, get_or, refl, subst, arith}
 use Rattle.std.specs.Prelude.{Bool, false, nat_eq, Some}
-use Rattle.command_words.specs.declared.RunLimits.{RunLimits}
-use Rattle.command_words.specs.declared.Command.TheVariants.{Replay}
-use Rattle.command_words.specs.Words.{replay_command}
+use Rattle.command_spec.specs.declared.RunLimits.{RunLimits}
+use Rattle.command_spec.specs.declared.Command.TheVariants.{Replay}
+use Rattle.command_spec.specs.Words.{replay_command}
 
 take_all : {X : Type 0} (xs : List X) → take (length xs) xs ≡ xs
 take_all [] = refl

@@ -4,145 +4,24 @@
 ghost use Rattle.std.specs.Prelude.{◌≡◌, Some, IfOk, IfSome};
 ghost use Rattle.std.specs.List.{list_all};
 ghost use Rattle.std.specs.Str.{is_utf8};
-ghost use Rattle.command_words.specs.Words as specs;
-ghost use Rattle.command_words.specs.Ranges.{IsInRange, AreLimits, AreServeOptions};
+ghost use Rattle.command_spec.specs.Words as specs;
+ghost use Rattle.command_spec.specs.Ranges.{IsInRange, AreLimits, AreServeOptions};
 
 mod numbers;
 mod options;
 
-use numbers::{NumberOption, are_among, number, number_of};
-use options::{Parts, Setting, parts_of};
+use command_spec::{
+    BuildCommand, Command, DataCommand, ExplainCommand, NumberOption, PageCommand, Parts, Paths,
+    ReplayCommand, RunLimits, ServeCommand, ServeOptions, Setting, TrialCommand,
+};
+use numbers::{are_among, number, number_of};
+use options::parts_of;
 use sd_value::{NoMemory, Str};
 use std::alloc::Global;
-use std::marker::Model;
 use std::str;
 
 // The most entries of a trial.
 const MAX_ENTRIES: u64 = 20_000;
-
-/// Paths, in the order of the words.
-#[derive(Debug, Drop)]
-pub struct Paths {
-    items: Vec<Str>,
-}
-
-impl Model for Paths {
-    ghost use Rattle.std.specs.Prelude.{List, ℕ};
-
-    ghost Value = { List (List ℕ) };
-
-    ghost view = { λ p. p.items.items };
-}
-
-impl Paths {
-    /// Copies of these words.
-    pub fn of(alloc: Global, words: &[Str]) -> Result<Paths, NoMemory>
-        ensures { IfOk result (λ paths. paths ≡ words.now) }
-    {
-        let mut items = Vec::with_capacity(alloc, words.len())?;
-        for word in words {
-            items.push(word.copy(alloc)?)?;
-        }
-        Ok(Paths { items })
-    }
-
-    /// The paths.
-    pub fn items(&self) -> &[Str]
-        ensures { result.now ≡ self.now }
-    {
-        self.items.as_slice()
-    }
-}
-
-/// `page QUERY TEMPLATES ADDRESS DATA..`: one page is printed.
-#[derive(Debug, Drop)]
-pub struct PageCommand {
-    pub query: Str,
-    pub templates: Str,
-    pub address: Str,
-    pub sources: Paths,
-}
-
-/// `build QUERY TEMPLATES DIR DATA..`: the whole site is written to files under a folder.
-#[derive(Debug, Drop)]
-pub struct BuildCommand {
-    pub query: Str,
-    pub templates: Str,
-    pub folder: Str,
-    pub sources: Paths,
-}
-
-/// `data DATA..`: the union of the data is printed.
-#[derive(Debug, Drop)]
-pub struct DataCommand {
-    pub sources: Paths,
-}
-
-/// `explain QUERY DATA..`: the plan of each block of the query over the data is printed.
-#[derive(Debug, Drop)]
-pub struct ExplainCommand {
-    pub query: Str,
-    pub sources: Paths,
-}
-
-/// The limits of a run over connections.
-#[derive(Clone, Copy, Debug, PartialEq, Eq)]
-pub struct RunLimits {
-    /// Replies per connection, 1 to 4,294,967,296.
-    pub requests: u64,
-    /// Events that are taken, 1 to 4,294,967,296.
-    pub turns: u64,
-    /// Pages that are kept, 1 to 4,096.
-    pub cache: u32,
-}
-
-/// The options of `serve`.
-#[derive(Clone, Copy, Debug, PartialEq, Eq)]
-pub struct ServeOptions {
-    /// The port that is listened at, 1 to 65,535.
-    pub port: u16,
-    /// Connections that are taken, 1 to 4,294,967,296.
-    pub connections: u64,
-    pub limits: RunLimits,
-}
-
-/// `serve QUERY TEMPLATES DATA..`: pages are served over HTTP.
-#[derive(Debug, Drop)]
-pub struct ServeCommand {
-    pub query: Str,
-    pub templates: Str,
-    pub sources: Paths,
-    pub options: ServeOptions,
-}
-
-/// `replay QUERY TEMPLATES SCRIPT DATA..`: the same over the events of a script.
-#[derive(Debug, Drop)]
-pub struct ReplayCommand {
-    pub query: Str,
-    pub templates: Str,
-    pub script: Str,
-    pub sources: Paths,
-    pub limits: RunLimits,
-}
-
-/// `trial N`: requests for the pages of a site of made data are served, and counted.
-#[derive(Clone, Copy, Debug, PartialEq, Eq)]
-pub struct TrialCommand {
-    /// Entries of the data, 1 to 20,000.
-    pub entries: u32,
-}
-
-/// What the program is asked to do.
-#[derive(Debug, Drop)]
-pub enum Command {
-    Page(PageCommand),
-    Build(BuildCommand),
-    Data(DataCommand),
-    Explain(ExplainCommand),
-    Serve(ServeCommand),
-    Replay(ReplayCommand),
-    Trial(TrialCommand),
-}
 
 fn is_text(word: &[u8]) -> bool
     ensures { result ≡ is_utf8 word.now }
@@ -419,7 +298,7 @@ fn named_command(alloc: Global, name: &[u8], parts: &Parts) -> Result<Option<Com
 ///
 /// The first word is a command's name. Of the words behind it, those before `--` that have two bytes or more and begin
 /// with a dash are options: `--name=value`, or `--name` with the next word as its value, which is no option itself. The
-/// first `--` is dropped, and the words behind it are no options. Each option is one of the command's, stands at most
+/// first `--` is dropped, and the words behind it are no options. Each option is one of the command's, occurs at most
 /// once, and has a number of 1 to 10 digits within its range. The other words are as many as the command wants. Every
 /// word is a text, and none is empty.
 pub fn read_command(alloc: Global, words: &[Str]) -> Result<Option<Command>, NoMemory>

@@ -4,59 +4,11 @@ ghost use Rattle.std.specs.Prelude.{◌≡◌, IfSome, MatchOption, length, true
 ghost use Rattle.std.specs.Char.{is_ascii_digit};
 ghost use Rattle.std.specs.List.{list_all};
 ghost use Rattle.std.specs.Str.Parse.{digits_value};
-ghost use Rattle.command_words.specs.Numbers as specs;
-ghost use Rattle.command_words.specs.Ranges.{IsFrom1To};
+ghost use Rattle.command_spec.specs.Numbers as specs;
+ghost use Rattle.command_spec.specs.Ranges.{IsFrom1To};
 
-use crate::options::Setting;
+use command_spec::{NumberOption, Setting};
 use std::str;
-
-/// An option whose value is a number from 1 on.
-#[derive(Clone, Copy, Debug, PartialEq, Eq)]
-pub enum NumberOption {
-    Port,
-    Connections,
-    Requests,
-    Turns,
-    Cache,
-}
-
-impl NumberOption {
-    fn word(self) -> &'static [u8]
-        ensures { result.now ≡ specs.option_word self }
-    {
-        match self {
-            NumberOption::Port => b"--port",
-            NumberOption::Connections => b"--connections",
-            NumberOption::Requests => b"--requests",
-            NumberOption::Turns => b"--turns",
-            NumberOption::Cache => b"--cache",
-        }
-    }
-
-    fn greatest(self) -> u64
-        ensures { result ≡ specs.greatest self }
-    {
-        match self {
-            NumberOption::Port => 65_535,
-            NumberOption::Connections | NumberOption::Requests | NumberOption::Turns => {
-                4_294_967_296
-            }
-            NumberOption::Cache => 4_096,
-        }
-    }
-
-    /// The number where the option isn't given.
-    fn otherwise(self) -> u64
-        ensures { result ≡ specs.default_of self }
-    {
-        match self {
-            NumberOption::Port => 8_080,
-            NumberOption::Connections | NumberOption::Turns => 4_294_967_296,
-            NumberOption::Requests => 1,
-            NumberOption::Cache => 256,
-        }
-    }
-}
 
 fn are_digits(text: &[u8]) -> bool
     ensures { result ≡ list_all is_ascii_digit text.now }
@@ -106,7 +58,7 @@ pub fn number(most: u64, text: &[u8]) -> Option<u64>
     }
 }
 
-/// What the option is: its default where it isn't given, and nothing where it stands twice or its value is no such
+/// What the option is: its default where it isn't given, and nothing where it occurs twice or its value is no such
 /// number.
 pub fn number_of(option: NumberOption, settings: &[Setting]) -> Option<u64>
     ensures exact { result ≡ specs.number_of option settings.now }

@@ -1,48 +1,12 @@
 //! The options among the words behind a command's name.
 
 ghost use Rattle.std.specs.Prelude.{◌≡◌, ◌++◌, ◌<◌, [], None, Some, IfOk, IfSome, position, length};
-ghost use Rattle.command_words.specs.Options as specs;
+ghost use Rattle.command_spec.specs.Options as specs;
 ghost use Rattle.command_words.specs.Carried.{carried};
 
+use command_spec::{Parts, Role, Setting};
 use sd_value::{NoMemory, Str};
 use std::alloc::Global;
-use std::marker::Model;
-
-/// An option with its value: `--name=value`, or `--name value`.
-#[derive(Debug, Drop)]
-pub struct Setting {
-    pub name: Str,
-    pub value: Str,
-}
-
-/// The words behind a command's name: its options with their values, and the others, each in order.
-#[derive(Debug, Drop)]
-pub struct Parts {
-    pub settings: Vec<Setting>,
-    pub words: Vec<Str>,
-}
-
-impl Model for Parts {
-    ghost use Rattle.command_words.specs.Options.{Parts as AnyParts};
-
-    ghost Value = { AnyParts };
-
-    ghost view = { λ p. record { settings = p.settings.items; words = p.words.items } };
-}
-
-/// What a word is.
-#[derive(Debug, Drop)]
-pub enum Role {
-    Plain,
-    /// The `--` behind which no word is an option.
-    Dashes,
-    /// An option with its value.
-    Complete(Setting),
-    /// An option whose value is the next word.
-    Open,
-    /// It can't stand here.
-    Misplaced,
-}
 
 fn is_option(word: &[u8]) -> bool
     ensures { result ≡ specs.is_option word.now }
@@ -150,7 +114,8 @@ fn with_rest(
     words: Vec<Str>,
     rest: &[Str],
 ) -> Result<Option<Parts>, NoMemory>
-    ensures { IfOk result (λ parts. parts ≡ Some (record { settings = settings.items; words = words.items ++ rest.now })) }
+    ensures { IfOk result (λ parts. parts
+        ≡ Some (record { settings = settings.items; words = words.items ++ rest.now })) }
 {
     let mut words = words;
     for word in rest {

@@ -22,7 +22,8 @@ number_of = signed_digits_value 10
 
 -- whether the field is the decimal form of an integer of 64 bits
 abbrev pub is_integer : Field → Bool
-is_integer f = pointwise nat_eq f (signed_decimal (number_of f)) && nat_lt (mag (number_of f)) (2 ^ 63)
+is_integer f =
+    pointwise nat_eq f (signed_decimal (number_of f)) && nat_lt (mag (number_of f)) (2 ^ 63)
 
 abbrev pub value_of : Field → Value
 value_of f = if is_integer f then Data (Int (number_of f)) else Data (Text f)

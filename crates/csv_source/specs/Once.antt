@@ -1,4 +1,4 @@
--- A text has one answer, beside want of memory.
+-- A text has one answer, besides out of memory.
 use Rattle.std.specs.Prelude.{◌≡◌, ℕ, List, Result, Ok, Err, ⊤}
 use Rattle.std.proofs.Common.{refl, sym, ◌∙◌, ap}
 use Rattle.graph_spec.specs.DataGraph.{Name}
@@ -38,5 +38,6 @@ told (Err NoMemory) h = h refl
 
 pub has_one_answer : (stem : Name) (bytes : List ℕ) (b : Building) → HasOneAnswer stem bytes b
 has_one_answer stem bytes b c d r s h k left right =
-    let same = ends_once b c d (text_steps stem (records_of bytes)) (csv_ending r) (csv_ending s) (told r left) (told s right) h k in
+    let same = ends_once b c d (text_steps stem (records_of bytes)) (csv_ending r) (csv_ending s)
+    (told r left) (told s right) h k in
     (same.0, sym (answer_back r) ∙ ap answer_of same.1 ∙ answer_back s)

@@ -17,7 +17,7 @@ bytes_left r = or_none (source_of (λ s. Some s.now) r)
 abbrev pub records_left : Reader (Bor (List ℕ)) → List (List (List ℕ))
 records_left r = records_after r.state (bytes_left r)
 
--- a reader that stands between two records of a text, and gives every record as it is
+-- a reader that is between two records of a text, and gives every record as it is
 pub record IsOpen (r : Reader (Bor (List ℕ))) : Type 0 where
   pub config : r.config ≡ default_config
   pub trim : r.trim ≡ trim.None
@@ -27,6 +27,9 @@ pub record IsOpen (r : Reader (Bor (List ℕ))) : Type 0 where
   pub known : (xs : List ℕ) × (source_of (λ s. Some s.now) r ≡ Some xs)
 
 -- what a reader gives next
-abbrev pub GivesFields : Reader (Bor (List ℕ)) → Reader (Bor (List ℕ)) → Option (List (List ℕ)) → Type 0
+abbrev pub GivesFields : Reader (Bor (List ℕ)) → Reader (Bor (List ℕ)) → Option (List (List ℕ))
+    → Type 0
 GivesFields a b None = records_left a ≡ []
-GivesFields a b (Some fields) = (records_left a ≡ fields ∷ records_left b) × IsOpen b × (length (bytes_left b) < length (bytes_left a))
+GivesFields a b (Some fields) =
+    (records_left a ≡ fields ∷ records_left b) × IsOpen b
+    × (length (bytes_left b) < length (bytes_left a))

@@ -23,16 +23,19 @@ records_of bytes = records default_config (strip_bom (without_mark bytes))
 
 -- a field that is not empty, under its column's label
 abbrev pub field_step : ℕ → Name → Name → Field → List CsvStep
-field_step k n label field = if length field == 0 then [] else says k (an_edge n label (value_of field)) ∷ []
+field_step k n label field =
+    if length field == 0 then [] else says k (an_edge n label (value_of field)) ∷ []
 
 abbrev pub field_steps : ℕ → Name → List Name → CsvRecord → List CsvStep
 field_steps k n [] fields = []
 field_steps k n (label ∷ labels) [] = []
-field_steps k n (label ∷ labels) (field ∷ fields) = field_step k n label field ++ field_steps k n labels fields
+field_steps k n (label ∷ labels) (field ∷ fields) =
+    field_step k n label field ++ field_steps k n labels fields
 
 -- record k: its node, its member and its fields in this order
 abbrev pub row_statements : Name → Name → List Name → ℕ → CsvRecord → List CsvStep
-row_statements stem name labels k fields = says k (a_node name) ∷ says k (a_member stem name) ∷ field_steps k name labels fields
+row_statements stem name labels k fields =
+    says k (a_node name) ∷ says k (a_member stem name) ∷ field_steps k name labels fields
 
 -- record k under a header: of two faults, the length comes first
 abbrev pub row_steps : Name → List Name → ℕ → CsvRecord → List CsvStep
@@ -44,15 +47,19 @@ row_steps stem labels k fields =
 -- the records from number k on
 abbrev pub rows_steps : Name → List Name → ℕ → List CsvRecord → List CsvStep
 rows_steps stem labels k [] = []
-rows_steps stem labels k (fields ∷ rows) = row_steps stem labels k fields ++ rows_steps stem labels (k + 1) rows
+rows_steps stem labels k (fields ∷ rows) =
+    row_steps stem labels k fields ++ rows_steps stem labels (k + 1) rows
 
 -- a fault at each label that is empty
 abbrev pub label_faults : ℕ → List Name → List CsvStep
 label_faults column [] = []
-label_faults column (label ∷ labels) = (if length label == 0 then fails (EmptyLabel column) ∷ [] else []) ++ label_faults (column + 1) labels
+label_faults column (label ∷ labels) =
+    (if length label == 0 then fails (EmptyLabel column) ∷ [] else [])
+    ++ label_faults (column + 1) labels
 
 abbrev pub header_steps : List Name → List CsvStep
-header_steps labels = if not (list_all is_utf8 labels) then fails (NotUtf8 0) ∷ [] else label_faults 0 labels
+header_steps labels =
+    if not (list_all is_utf8 labels) then fails (NotUtf8 0) ∷ [] else label_faults 0 labels
 
 -- the first record is the header
 abbrev pub text_steps : Name → List CsvRecord → List CsvStep

@@ -21,7 +21,7 @@ use std::alloc::Global;
 
 /// Adds what a CSV text states. The first record is the header, and record k from 1 is the node
 /// `STEM_k`, a member of STEM, with an edge for each field that isn't empty. After a refusal the
-/// graph has what stood before its place. The records are those of the crate `csv`, which follows
+/// graph has what was before its place. The records are those of the crate `csv`, which follows
 /// RFC 4180.
 pub fn read_csv(
     alloc: Global,
@@ -39,7 +39,7 @@ pub fn read_csv(
     add_rows(alloc, graph, stem, labels.as_slice(), &mut reader)
 }
 
-/// A text read into a graph has one answer, beside want of memory, and leaves one graph with it.
+/// A text read into a graph has one answer, besides out of memory, and leaves one graph with it.
 pub fn texts_have_one_answer()
     ensures { (stem bytes : List ℕ) (b : Building) → HasOneAnswer stem bytes b }
 {}

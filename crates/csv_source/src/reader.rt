@@ -24,7 +24,8 @@ pub(crate) fn next_fields(
     reader: &mut Reader<&[u8]>,
 ) -> Result<Option<Vec<Str>>, NoMemory>
     requires { IsOpen reader.old }
-    ensures { IfOk result (λ o. GivesFields reader.old reader.new (option_map (λ fields. fields.items) o)) }
+    ensures { IfOk result
+        (λ o. GivesFields reader.old reader.new (option_map (λ fields. fields.items) o)) }
 {
     let mut row = ByteRecord::new(alloc);
     match reader.read_byte_record(&mut row) {

@@ -50,7 +50,8 @@ fn state_member(
     collection: &Str,
     name: &Str,
 ) -> Result<(), CsvRefusal>
-    ensures { Ends graph.old (says row (a_member collection.now name.now) ∷ []) graph.new (csv_ending result) }
+    ensures { Ends graph.old (says row (a_member collection.now name.now) ∷ []) graph.new
+        (csv_ending result) }
 {
     at_row(graph.add_member(alloc, collection, name), row)
 }
@@ -65,7 +66,8 @@ fn state_edge(
     value: &Value,
 ) -> Result<(), CsvRefusal>
     requires { IsData value.now }
-    ensures { Ends graph.old (says row (an_edge name.now label.now value.now) ∷ []) graph.new (csv_ending result) }
+    ensures { Ends graph.old (says row (an_edge name.now label.now value.now) ∷ []) graph.new
+        (csv_ending result) }
 {
     at_row(graph.add_edge(alloc, name, label, value), row)
 }
@@ -95,7 +97,8 @@ fn add_field(
     label: &Str,
     field: &Str,
 ) -> Result<(), CsvRefusal>
-    ensures { Ends graph.old (field_step row name.now label.now field.now) graph.new (csv_ending result) }
+    ensures { Ends graph.old (field_step row name.now label.now field.now) graph.new
+        (csv_ending result) }
 {
     if field.bytes().is_empty() {
         return Ok(());
@@ -113,7 +116,8 @@ fn add_fields(
     labels: &[Str],
     fields: &[Str],
 ) -> Result<(), CsvRefusal>
-    ensures { Ends graph.old (field_steps row name.now labels.now fields.now) graph.new (csv_ending result) }
+    ensures { Ends graph.old (field_steps row name.now labels.now fields.now) graph.new
+        (csv_ending result) }
 {
     let mut labels_left = labels;
     let mut fields_left = fields;
@@ -138,7 +142,8 @@ fn state_row(
     row: u64,
     fields: &[Str],
 ) -> Result<(), CsvRefusal>
-    ensures { Ends graph.old (row_statements stem.now name.now labels.now row fields.now) graph.new (csv_ending result) }
+    ensures { Ends graph.old (row_statements stem.now name.now labels.now row fields.now) graph.new
+        (csv_ending result) }
 {
     state_node(alloc, graph, row, name)?;
     state_member(alloc, graph, row, stem, name)?;
@@ -154,7 +159,8 @@ fn add_row(
     row: u64,
     fields: &[Str],
 ) -> Result<(), CsvRefusal>
-    ensures { Ends graph.old (row_steps stem.now labels.now row fields.now) graph.new (csv_ending result) }
+    ensures { Ends graph.old (row_steps stem.now labels.now row fields.now) graph.new
+        (csv_ending result) }
 {
     if fields.len() != labels.len() {
         return Err(CsvRefusal::Ragged(row));
@@ -195,7 +201,8 @@ pub(crate) fn add_rows(
 ) -> Result<(), CsvRefusal>
     requires open { IsOpen reader.old }
     requires small { length (bytes_left reader.old) < 2 ^ 64 - 1 }
-    ensures { Ends graph.old (rows_steps stem.now labels.now 1 (records_left reader.old)) graph.new (csv_ending result) }
+    ensures { Ends graph.old (rows_steps stem.now labels.now 1 (records_left reader.old)) graph.new
+        (csv_ending result) }
 {
     let mut row = 1;
     'rows: while let Some(fields) = next_fields(alloc, reader)? {

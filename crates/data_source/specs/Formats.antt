@@ -1,4 +1,4 @@
--- The format that a path tells.
+-- The format that a path reports.
 use Rattle.std.specs.Prelude.{◌-◌, ℕ, Bool, nat_eq, List, [], ◌∷◌, length, drop, take, codes, if◌then◌else◌}
 use Rattle.std.specs.List.{list_any}
 use Rattle.std.specs.Cmp.Lexicographic.{pointwise}
@@ -8,15 +8,16 @@ use Rattle.data_source.specs.declared.format.Format.TheVariants.{DataText, Csv, 
 abbrev pub is_slash : ℕ → Bool
 is_slash b = nat_eq b 47
 
--- what stands behind the last slash, or all where there is none
+-- what is behind the last slash, or all where there is none
 abbrev pub behind_slashes : List ℕ → List ℕ
 behind_slashes [] = []
-behind_slashes (b ∷ bs) = if list_any is_slash bs then behind_slashes bs else if is_slash b then bs else b ∷ bs
+behind_slashes (b ∷ bs) =
+    if list_any is_slash bs then behind_slashes bs else if is_slash b then bs else b ∷ bs
 
 abbrev pub ends_with : List ℕ → List ℕ → Bool
 ends_with path suffix = pointwise nat_eq (drop (length path - length suffix) path) suffix
 
--- what stands between the last slash and the suffix
+-- what is between the last slash and the suffix
 abbrev pub stem_of : List ℕ → List ℕ → List ℕ
 stem_of path suffix = behind_slashes (take (length path - length suffix) path)
 

@@ -10,9 +10,11 @@ use Rattle.data_source.specs.declared.refusal.SourceRefusal.{SourceRefusal}
 use Rattle.data_source.specs.Formats.{format_of}
 use Rattle.data_source.specs.Told.{ddl_told, csv_told, json_told, answer_told}
 
--- the answer tells one of these answers of a reader
-abbrev pub Tells : {E : Type 0} → (Result ⊤ E → Type 0) → (E → SourceRefusal) → Result ⊤ SourceRefusal → Type 0
-Tells {E} Answers told result = (answer : Result ⊤ E) × Answers answer × (result ≡ answer_told told answer)
+-- the answer reports one of these answers of a reader
+abbrev pub Tells : {E : Type 0} → (Result ⊤ E → Type 0) → (E → SourceRefusal)
+    → Result ⊤ SourceRefusal → Type 0
+Tells {E} Answers told result =
+    (answer : Result ⊤ E) × Answers answer × (result ≡ answer_told told answer)
 
 -- the bytes are read by the format
 abbrev pub TakesAs : Format → ℕ → List ℕ → Building → Building → Result ⊤ SourceRefusal → Type 0

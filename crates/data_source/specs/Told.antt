@@ -37,7 +37,7 @@ json_told (json.TooManyEdges path) = Refused 11 (Path path)
 json_told (json.TooManyNodes path) = Refused 12 (Path path)
 json_told json.NoMemory = NoMemory
 
--- a reader's answer, with its refusal told
+-- a reader's answer, with its refusal reported
 abbrev pub answer_told : {E : Type 0} → (E → SourceRefusal) → Result ⊤ E → Result ⊤ SourceRefusal
 answer_told told (Ok u) = Ok tt
 answer_told told (Err e) = Err (told e)

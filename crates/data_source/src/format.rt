@@ -13,7 +13,7 @@ pub enum Format {
     Json(Str),
 }
 
-// What stands behind the last slash.
+// What is behind the last slash.
 fn behind_slashes(path: &[u8]) -> &[u8]
     ensures { result.now ≡ name_in path.now }
 {
@@ -28,7 +28,7 @@ fn behind_slashes(path: &[u8]) -> &[u8]
     name
 }
 
-/// The format that a path's end tells: `.csv`, `.json`, or any other for the data text. The stem is what stands between
+/// The format that a path's end reports: `.csv`, `.json`, or any other for the data text. The stem is what is between
 /// the last slash and that end.
 pub fn format_of(alloc: Global, path: &Str) -> Result<Format, NoMemory>
     ensures { IfOk result (λ format. format ≡ format_named path.now) }

@@ -5,3 +5,4 @@ pub mod Written
 pub mod Kindless
 pub mod Rebuilt
 pub mod Again
+pub mod DataText

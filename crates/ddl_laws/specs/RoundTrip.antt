@@ -23,5 +23,9 @@ empty limits = record { limits = limits; graph = record { nodes = []; edges = []
 
 -- the graph's text, read into an empty builder with room, gives the graph again
 abbrev pub IsReadAgain : DataGraph → Type 0
-IsReadAgain G = (limits : Limits) (limit : ℕ) → length (graph_text G) ≤ limit → IsWithin (record { limits = limits; graph = G })
+IsReadAgain G =
+    (limits : Limits) (limit : ℕ) → length (graph_text G) ≤ limit → IsWithin (record {
+      limits = limits;
+      graph = G;
+    })
     → Reads limit (graph_text G) (empty limits) (record { limits = limits; graph = G }) (Ok tt)

@@ -41,7 +41,8 @@ read_node = do
   give (record { content = Node n.text; place = place })
 
 unfoldable pub read_value : List Token → Outcome Token Given
-read_value = choose is_plain (take_one true plain_value) (choose (is_sign signs.Amp) read_node read_kinded)
+read_value =
+    choose is_plain (take_one true plain_value) (choose (is_sign signs.Amp) read_node read_kinded)
 
 unfoldable pub read_field : List Token → Outcome Token Field
 read_field = do

@@ -13,7 +13,8 @@ use Rattle.ddl_text.specs.DataText.{file}
 -- spelled begins with the tokens up to and with it and goes on with tokens that a text can have.
 abbrev pub States : List Token → ℕ → Result (Vec Statement) Refusal → Type 0
 States tokens text_end (Ok v) = file tokens v.items
-States tokens text_end (Err (Expected at)) = (rest : List Token) × FirstFault IsReal file file tokens rest × (at ≡ place text_end rest)
+States tokens text_end (Err (Expected at)) =
+    (rest : List Token) × FirstFault IsReal file file tokens rest × (at ≡ place text_end rest)
 States tokens text_end (Err NoMemory) = Unit {0}
 
 -- What is spelled is the answer, unless memory runs out.

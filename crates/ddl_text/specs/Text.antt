@@ -14,13 +14,16 @@ use Rattle.ddl_text.specs.DataText.{file}
 -- `Ok` has the statements that the text's tokens spell. A text that has no tokens has the lexer's fault. `Expected` has the
 -- place of the first token such that nothing that is spelled begins with the tokens up to and with it.
 abbrev pub TextStates : ℕ → List ℕ → Result (Vec Statement) TextRefusal → Type 0
-TextStates limit bytes (Ok v) = (tokens : List Token) × IsTextOrFault limit bytes (Ok tokens) × file tokens v.items
+TextStates limit bytes (Ok v) =
+    (tokens : List Token) × IsTextOrFault limit bytes (Ok tokens) × file tokens v.items
 TextStates limit bytes (Err (TooLong at)) = IsTextOrFault limit bytes (Err (lexer.TooLong at))
 TextStates limit bytes (Err (BadByte at)) = IsTextOrFault limit bytes (Err (lexer.BadByte at))
 TextStates limit bytes (Err (OpenString at)) = IsTextOrFault limit bytes (Err (lexer.OpenString at))
-TextStates limit bytes (Err (IntOutOfRange at)) = IsTextOrFault limit bytes (Err (lexer.IntOutOfRange at))
+TextStates limit bytes (Err (IntOutOfRange at)) =
+    IsTextOrFault limit bytes (Err (lexer.IntOutOfRange at))
 TextStates limit bytes (Err (Expected at)) =
-    (tokens : List Token) × IsTextOrFault limit bytes (Ok tokens) × (rest : List Token) × FirstFault IsReal file file tokens rest × (at ≡ place (length bytes) rest)
+    (tokens : List Token) × IsTextOrFault limit bytes (Ok tokens) × (rest : List Token)
+    × FirstFault IsReal file file tokens rest × (at ≡ place (length bytes) rest)
 TextStates limit bytes (Err NoMemory) = Unit {0}
 
 -- What a text spells is the answer, unless memory runs out.

@@ -196,7 +196,8 @@ fn further_names_at(
     first: Word,
     tokens: &[Token],
 ) -> Result<(Vec<Word>, &[Token]), Halt>
-    ensures { Gives (λ x. x.0.items) (λ x. x.1.now) result (with_front (first ∷ []) (repeat (is_sign signs.Comma) read_further_name tokens.now)) }
+    ensures { Gives (λ x. x.0.items) (λ x. x.1.now) result
+        (with_front (first ∷ []) (repeat (is_sign signs.Comma) read_further_name tokens.now)) }
 {
     let mut names = Vec::new(alloc);
     names.push(first)?;
@@ -253,7 +254,8 @@ fn has_statement(tokens: &[Token]) -> bool
 }
 
 fn statements_at(alloc: Global, tokens: &[Token]) -> Result<(Vec<Statement>, &[Token]), Halt>
-    ensures { Gives (λ x. x.0.items) (λ x. x.1.now) result (repeat begins_statement read_statement tokens.now) }
+    ensures { Gives (λ x. x.0.items) (λ x. x.1.now) result
+        (repeat begins_statement read_statement tokens.now) }
 {
     let mut statements = Vec::new(alloc);
     let mut rest = tokens;

@@ -16,7 +16,8 @@ use std::alloc::Global;
 /// The statements of a text of at most `limit` bytes.
 pub fn statements_of(alloc: Global, bytes: &[u8], limit: u64) -> Result<Vec<Statement>, TextRefusal>
     ensures exact { TextStates limit bytes.now result }
-    ensures only { (tokens : List Token) (found : List AnyStatement) → IsTextOrFault limit bytes.now (Ok tokens) → file tokens found → TextGives found result }
+    ensures only { (tokens : List Token) (found : List AnyStatement)
+        → IsTextOrFault limit bytes.now (Ok tokens) → file tokens found → TextGives found result }
 {
     let tokens = tokens(alloc, bytes, limit)?;
     let found = statements(alloc, tokens.as_slice(), bytes.len() as u64)?;

@@ -8,7 +8,7 @@ use Rattle.sd_value.specs.declared.Value.{Value}
 use Rattle.sd_value.specs.declared.Value.TheVariants.{Data, Page}
 use Rattle.sd_value.specs.Members.{IsOneOf, IsOneOf-from_Contains}
 use Rattle.sd_value.specs.Ascending.{ListsExactly}
-use Rattle.path_spec.specs.Regex.{any, star}
+use Rattle.rpe.specs.Regex.{any, star}
 use Rattle.graph_spec.specs.DataGraph.{DataGraph, IsValueOf}
 use Rattle.graph_spec.specs.Walk.{Walk}
 use Rattle.query_spec.specs.Query.{variable, constant, expression, path}

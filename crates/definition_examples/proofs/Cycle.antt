@@ -11,7 +11,7 @@ use Rattle.page_spec.specs.declared.Keyed.{Keyed}
 use Rattle.page_spec.specs.declared.Outcome.TheVariants.{Cyclic}
 use Rattle.page_spec.specs.Site.{InRange, HasKey, keyed_cmp}
 use Rattle.page_spec.specs.Pieces.{embed, HasTemplate, Pieces}
-use Rattle.page_spec.specs.Page.{Embeds, nowhere, on, Loops, Next, again, later, IsCyclicAt, IsOutcome}
+use Rattle.page_spec.specs.Page.{Embeds, nowhere, on, Loops, FirstLooping, again, later, IsCyclicAt, IsOutcome}
 use Rattle.page_spec.proofs.Texts.{cyclic_unique}
 use Rattle.definition_examples.proofs.Tools.{listed, names_differ}
 use Rattle.definition_examples.specs.Cycle.{p, q, r, e, term, page, edges, site, ends, templates}
@@ -112,13 +112,13 @@ loops_q = (page q, page r, nowhere, q_embeds, on r_embeds nowhere)
 loops_r : Loops site templates (page r)
 loops_r = (page r, page q, nowhere, r_embeds, on q_embeds nowhere)
 
-after_p : Next site templates (page p) (page q)
+after_p : FirstLooping site templates (page p) (page q)
 after_p = (embed (page q) ∷ [], of_p, inl (loops_q, refl))
 
-after_q : Next site templates (page q) (page r)
+after_q : FirstLooping site templates (page q) (page r)
 after_q = (embed (page r) ∷ [], of_q, inl (loops_r, refl))
 
-after_r : Next site templates (page r) (page q)
+after_r : FirstLooping site templates (page r) (page q)
 after_r = (embed (page q) ∷ [], of_r, inl (loops_q, refl))
 
 unseen_q : Contains (page p ∷ []) (page q) → ⊥

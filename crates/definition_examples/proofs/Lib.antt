@@ -11,3 +11,6 @@ pub mod Twins
 pub mod WellFormed
 pub mod Keys
 pub mod Cycle
+pub mod Counting
+pub mod Reading
+pub mod Charged

@@ -9,8 +9,8 @@ use Rattle.sd_value.specs.declared.Value.TheVariants.{Data, Page}
 use Rattle.sd_value.specs.Order.{value_cmp, datum_cmp}
 use Rattle.sd_value.specs.Members.{IsOneOf, IsOneOf-from_Contains}
 use Rattle.sd_value.specs.Ascending.{ListsExactly}
-use Rattle.path_spec.specs.Regex.{Word, label, seq, star}
-use Rattle.path_spec.specs.Language.{concat, InLanguage}
+use Rattle.rpe.specs.Regex.{Word, label, seq, star}
+use Rattle.rpe.specs.Language.{concat, InLanguage}
 use Rattle.graph_spec.specs.declared.Edge.{Edge}
 use Rattle.graph_spec.specs.DataGraph.{Name, node, HasEdge}
 use Rattle.graph_spec.specs.Walk.{Walk}

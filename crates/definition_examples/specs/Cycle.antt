@@ -11,21 +11,27 @@ use Rattle.tmpl.specs.Body.{Body, done, format, TemplateFile}
 use Rattle.graph_spec.specs.DataGraph.{Name}
 use Rattle.page_spec.specs.Site.{Site}
 
+-- the first function
 abbrev pub p : Name
 p = codes "P"
 
+-- the second function
 abbrev pub q : Name
 q = codes "Q"
 
+-- the third function
 abbrev pub r : Name
 r = codes "R"
 
+-- the label of all edges
 abbrev pub e : Name
 e = codes "e"
 
+-- a term without arguments
 abbrev pub term : Name → Term
 term f = record { function = f; args = [] }
 
+-- its page
 abbrev pub page : Name → Value
 page f = Page (term f)
 
@@ -33,6 +39,7 @@ page f = Page (term f)
 abbrev pub edges : List (Value × Value)
 edges = (page p, page q) ∷ (page q, page r) ∷ (page r, page q) ∷ []
 
+-- the site of the three pages
 abbrev pub site : Site
 site = record {
   has = Contains (term p ∷ term q ∷ term r ∷ []);
@@ -41,9 +48,11 @@ site = record {
   member = λ name n. ⊥;
 }
 
+-- the expression `@e`
 abbrev pub ends : Expr
 ends = record { root = Here; word = e ∷ [] }
 
+-- no key, and nothing between two values
 abbrev pub plain_order : orders.Order
 plain_order = record { key = None; descend = false; delimiter = None }
 
@@ -51,9 +60,12 @@ plain_order = record { key = None; descend = false; delimiter = None }
 abbrev pub body : Body
 body = format ends Embed plain_order done
 
+-- the file of templates
 abbrev pub templates : TemplateFile
 templates = record {
   bodies = body ∷ [];
-  functions = record { name = p; number = 0 } ∷ record { name = q; number = 0 } ∷ record { name = r; number = 0 } ∷ [];
+  functions =
+      record { name = p; number = 0 } ∷ record { name = q; number = 0 }
+      ∷ record { name = r; number = 0 } ∷ [];
   collections = [];
 }

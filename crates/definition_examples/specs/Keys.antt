@@ -4,25 +4,31 @@ use Rattle.tmpl.specs.declared.Expr.{Expr}
 use Rattle.tmpl.specs.declared.Order as orders
 use Rattle.tmpl.specs.declared.WordRoot.TheVariants.{Here}
 use Rattle.graph_spec.specs.DataGraph.{DataGraph, Name, node, HasEdge}
-use Rattle.page_spec.specs.Site.{Site, Scene}
+use Rattle.page_spec.specs.Site.{Site, Env}
 use Rattle.definition_examples.specs.Tools.{edge}
 use Rattle.definition_examples.specs.Bibliography.{int}
 
+-- the node that is presented
 abbrev pub a : Name
 a = codes "a"
 
+-- the node without a key
 abbrev pub b : Name
 b = codes "b"
 
+-- the node with a key
 abbrev pub c : Name
 c = codes "c"
 
+-- the label of the edges
 abbrev pub e : Name
 e = codes "e"
 
+-- the label of the key
 abbrev pub k : Name
 k = codes "k"
 
+-- the three nodes and their edges
 abbrev pub graph : DataGraph
 graph = record {
   nodes = a ∷ b ∷ c ∷ [];
@@ -30,10 +36,12 @@ graph = record {
   members = [];
 }
 
+-- the graph as a site without pages
 abbrev pub site : Site
 site = record { has = λ t. ⊥; edge = HasEdge graph; collected = λ name v. ⊥; member = λ name n. ⊥ }
 
-abbrev pub at_a : Scene
+-- at `&a`, outside loops
+abbrev pub at_a : Env
 at_a = record { here = node a; loops = [] }
 
 -- `@e`
@@ -44,5 +52,6 @@ ends = record { root = Here; word = e ∷ [] }
 abbrev pub ascending : orders.Order
 ascending = record { key = Some (k ∷ []); descend = false; delimiter = None }
 
+-- the same, turned round
 abbrev pub descending : orders.Order
 descending = record { key = Some (k ∷ []); descend = true; delimiter = None }

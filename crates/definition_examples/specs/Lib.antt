@@ -8,3 +8,4 @@ pub mod BibliographySite
 pub mod Agreement
 pub mod Keys
 pub mod Cycle
+pub mod YearPage

@@ -1,4 +1,5 @@
-//! Small graphs and queries, and what the definitions say of them, so that a wrong definition is noticed.
+//! Small graphs and queries, and what the definitions say of them, so that a wrong definition is
+//! noticed.
 #![tactic(auto)]
 
 ghost use Rattle.std.specs.Prelude.{◌≡◌, [], ◌∷◌, List, Some, codes};
@@ -22,9 +23,11 @@ ghost use Rattle.definition_examples.specs.BibliographySite as site;
 
 mod laws;
 mod pages;
+mod weights;
 
 pub use laws::{AnySite, comparisons_agree, one_answer};
 pub use pages::{cycle_of_pages, missing_keys, worked_addresses};
+pub use weights::year_page_weighs_ten;
 
 /// `object a { e &a }`, `x -> * -> y`: exactly (a, a).
 pub fn loop_row()
@@ -36,24 +39,29 @@ pub fn negation_rows()
     ensures { ListsExactly row_cmp (IsRow negation.graph negation.chain) negation.rows }
 {}
 
-/// `object p { a &q } object q { b &r } object r { b &q }`, `x -> "a"."b"* -> y`: exactly (p, q) and (p, r).
+/// `object p { a &q } object q { b &r } object r { b &q }`, `x -> "a"."b"* -> y`: exactly (p, q)
+/// and (p, r).
 pub fn repetition_rows()
     ensures { ListsExactly row_cmp (IsRow repetition.graph repetition.chain) repetition.rows }
 {}
 
-/// `1997 -> * -> y`: over the two papers exactly 1997, by the empty word; over the empty graph no row, since `y` has no value to take.
+/// `1997 -> * -> y`: over the two papers exactly 1997, by the empty word; over the empty graph no
+/// row, since `y` has no value to take.
 pub fn constant_start()
-    ensures papers { ListsExactly row_cmp (IsRow papers.graph papers.from_1997) ((papers.int 1997 ∷ []) ∷ []) }
+    ensures papers { ListsExactly row_cmp (IsRow papers.graph papers.from_1997)
+        ((papers.int 1997 ∷ []) ∷ []) }
     ensures nothing { (row : List Value) → IsRow papers.empty_graph papers.from_1997 row → ⊥ }
 {}
 
-/// `object o { v 1 v 2 }`, `WHERE y -> "v" -> x CREATE F(x, x)`: F(1, 1) is a page, and F(1, 2) is not.
+/// `object o { v 1 v 2 }`, `WHERE y -> "v" -> x CREATE F(x, x)`: F(1, 1) is a page, and F(1, 2) is
+/// not.
 pub fn repeated_arguments()
     ensures equal { InSite repeated.graph (scope_of repeated.query) (repeated.page 1 1) }
     ensures different { InSite repeated.graph (scope_of repeated.query) (repeated.page 1 2) → ⊥ }
 {}
 
-/// A home page, and a page for each paper and for each year: the nested block has the conditions of the block round it.
+/// A home page, and a page for each paper and for each year: the nested block has the conditions of
+/// the block round it.
 pub fn bibliography_site()
     ensures blocks { blocks_in_scope site.query ≡ site.home ∷ site.papers ∷ site.scoped_years ∷ [] }
     ensures variables { variables_of site.in_scope ≡ site.variables }
@@ -61,10 +69,12 @@ pub fn bibliography_site()
     ensures years { ListsExactly row_cmp (IsRow papers.graph site.chain) site.rows }
     ensures year_1998 { InSite papers.graph site.scope (site.year_term 1998) }
     ensures year_1996 { InSite papers.graph site.scope (site.year_term 1996) → ⊥ }
-    ensures its_paper { Linked papers.graph site.scope (Page (site.year_term 1998)) (codes "Paper") (Page (site.paper_term papers.pub1)) }
+    ensures its_paper { Linked papers.graph site.scope
+        (Page (site.year_term 1998)) (codes "Paper") (Page (site.paper_term papers.pub1)) }
 {}
 
-/// The papers' graph and the nested block's chain are what the definitions ask of every graph and chain.
+/// The papers' graph and the nested block's chain are what the definitions ask of every graph and
+/// chain.
 pub fn well_formed_and_well_made()
     ensures graph { IsWellFormed papers.graph }
     ensures chain { IsWellMade site.chain }
@@ -79,8 +89,8 @@ pub fn comparisons_of_kinds()
     ensures by_bytes { Compares 1 Lt (text (codes "10")) (text (codes "9")) }
 {}
 
-/// Version 2 takes a number and the text that spells it for equal, and puts them in the order of numbers; two texts
-/// keep the order of their bytes.
+/// Version 2 takes a number and the text that spells it for equal, and puts them in the order of
+/// numbers; two texts keep the order of their bytes.
 pub fn twins_of_version_2()
     ensures equal { Compares 2 Eq (papers.int 7) (text (codes "7")) }
     ensures turned { Compares 2 Eq (text (codes "7")) (papers.int 7) }

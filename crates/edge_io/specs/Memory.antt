@@ -7,9 +7,10 @@ use Rattle.edge_io.specs.Files.{FileMap}
 -- the bytes at a path: those of the first file of this path
 abbrev pub bytes_at : List MemFile → FileMap
 bytes_at [] path = None
-bytes_at (file ∷ files) path = if bytes_eq file.path path then Some file.bytes else bytes_at files path
+bytes_at (file ∷ files) path =
+    if bytes_eq file.path path then Some file.bytes else bytes_at files path
 
--- how often a path stands in a list
+-- how often a path is in a list
 abbrev pub times : List (List ℕ) → List ℕ → ℕ
 times paths path = count_by (λ p. bytes_eq p path) paths
 

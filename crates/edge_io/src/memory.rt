@@ -24,7 +24,7 @@ pub struct MemFile {
 #[derive(Drop)]
 pub struct MemFiles {
     alloc: Global,
-    // the newest first: the first file of a path is the one that stands
+    // the newest first: the first file of a path is the one that is
     files: Vec<MemFile>,
     failing: Vec<u64>,
     calls: u64,
@@ -35,7 +35,8 @@ pub struct MemFiles {
 }
 
 fn find<'f>(files: &'f [MemFile], path: &[u8]) -> Option<&'f MemFile>
-    ensures { MatchOption result (bytes_at files.now path.now ≡ None) (λ file. bytes_at files.now path.now ≡ Some file.now.bytes) }
+    ensures { MatchOption result (bytes_at files.now path.now ≡ None)
+        (λ file. bytes_at files.now path.now ≡ Some file.now.bytes) }
 {
     for file in files {
         if file.path.bytes() == path {
@@ -62,7 +63,8 @@ fn is_named(failing: &Vec<u64>, call: u64) -> bool
 
 // The file of a path, unless the call is to fail.
 fn readable<'f>(files: &'f Vec<MemFile>, fails: bool, path: &Str) -> Option<&'f MemFile>
-    ensures { MatchOption result ((fails ≡ true) ⊎ (bytes_at files.now.items path.now ≡ None)) (λ file. (fails ≡ false) × (bytes_at files.now.items path.now ≡ Some file.now.bytes)) }
+    ensures { MatchOption result ((fails ≡ true) ⊎ (bytes_at files.now.items path.now ≡ None))
+        (λ file. (fails ≡ false) × (bytes_at files.now.items path.now ≡ Some file.now.bytes)) }
 {
     if fails {
         return None;
@@ -81,7 +83,8 @@ fn note_path(alloc: Global, paths: &mut Vec<Str>, path: &Str) -> Result<(), NoMe
 // Notes that a read of the path failed.
 fn missed(alloc: Global, paths: &mut Vec<Str>, path: &Str) -> ReadEnd
     ensures later { NoneFell (times paths.old.items) (times paths.new.items) }
-    ensures rose { result ≡ ReadEnd.Failed → Rose (times paths.old.items path.now) (times paths.new.items path.now) }
+    ensures rose { result ≡ ReadEnd.Failed
+        → Rose (times paths.old.items path.now) (times paths.new.items path.now) }
 {
     match note_path(alloc, paths, path) {
         Ok(()) => ReadEnd::Failed,
@@ -101,7 +104,10 @@ fn put_file(
     path: &Str,
     bytes: &[u8],
 ) -> Result<(), NoMemory>
-    ensures ok { OnOk result (files.new.items ≡ record { path = path.now; bytes = bytes.now } ∷ files.old.items) }
+    ensures ok { OnOk result (files.new.items ≡ record {
+      path = path.now;
+      bytes = bytes.now;
+    } ∷ files.old.items) }
     ensures err { OnErr result (files.new.items ≡ files.old.items) }
 {
     let file = MemFile {
@@ -128,9 +134,16 @@ impl Model for MemFiles {
 }
 
 impl MemFiles {
-    /// These files. Of two with one path the first stands.
+    /// These files. Of two with one path the first is.
     pub fn new(alloc: Global, files: Vec<MemFile>, failing: Vec<u64>) -> MemFiles
-        ensures { result ≡ record { files = files.items; failing = failing.items; calls = 0; missed = []; lost = 0; is_short = false } }
+        ensures { result ≡ record {
+          files = files.items;
+          failing = failing.items;
+          calls = 0;
+          missed = [];
+          lost = 0;
+          is_short = false;
+        } }
     {
         MemFiles {
             alloc,
@@ -143,7 +156,7 @@ impl MemFiles {
         }
     }
 
-    /// What stands at a path.
+    /// What is at a path.
     pub fn bytes(&self, path: &Str) -> Option<&[u8]>
         ensures { option_copied result ≡ bytes_at self.now.files path.now }
     {
@@ -168,12 +181,17 @@ impl Files for MemFiles {
     /// Fails exactly where `failing` names the call or no file has the path.
     fn read(&mut self, alloc: Global, path: &Str, at_most: u64) -> Result<Vec<u8>, ReadEnd>
         ensures bound { IfOk result (λ bytes. length bytes.items ≤ at_most) }
-        ensures bytes { IfOk result (λ bytes. ForSome (Some (bytes_at self.old.files)) (λ map. IsStartOf (map path.now) at_most bytes.items)) }
+        ensures bytes { IfOk result
+            (λ bytes. ForSome (Some (bytes_at self.old.files))
+            (λ map. IsStartOf (map path.now) at_most bytes.items)) }
         ensures same { Some (bytes_at self.new.files) ≡ Some (bytes_at self.old.files) }
-        ensures cause { HasReadCause (times self.old.missed) (times self.new.missed) path.now result }
+        ensures cause { HasReadCause (times self.old.missed)
+            (times self.new.missed) path.now result }
         ensures writes { lost_of self.new ≡ lost_of self.old }
-        ensures failed { IsErrOf result ReadEnd.Failed → IsNamed self.old ⊎ (bytes_at self.old.files path.now ≡ None) }
-        ensures fails { IsNamed self.old ⊎ (bytes_at self.old.files path.now ≡ None) → IsErr result }
+        ensures failed { IsErrOf result ReadEnd.Failed → IsNamed self.old
+            ⊎ (bytes_at self.old.files path.now ≡ None) }
+        ensures fails { IsNamed self.old ⊎ (bytes_at self.old.files path.now ≡ None)
+            → IsErr result }
         ensures calls { self.new.calls ≡ next_call self.old }
     {
         self.calls = self.calls.saturating_add(1);
@@ -189,11 +207,15 @@ impl Files for MemFiles {
 
     /// Fails exactly where `failing` names the call, which then leaves the files as they are, or memory was refused.
     fn write(&mut self, path: &Str, bytes: &[u8]) -> Result<(), Failed>
-        ensures written { OnOk result (PutsFile (Some (bytes_at self.old.files)) (Some (bytes_at self.new.files)) path.now bytes.now) }
-        ensures elsewhere { LeavesOthers (Some (bytes_at self.old.files)) (Some (bytes_at self.new.files)) path.now }
+        ensures written { OnOk result
+            (PutsFile (Some (bytes_at self.old.files))
+            (Some (bytes_at self.new.files)) path.now bytes.now) }
+        ensures elsewhere { LeavesOthers (Some (bytes_at self.old.files))
+            (Some (bytes_at self.new.files)) path.now }
         ensures cause { HasWriteCause (lost_of self.old) (lost_of self.new) path.now result }
         ensures reads { times self.new.missed ≡ times self.old.missed }
-        ensures failed { OnErr result ((IsNamed self.old ⊎ (self.new.is_short ≡ true)) × (self.new.files ≡ self.old.files)) }
+        ensures failed { OnErr result
+            ((IsNamed self.old ⊎ (self.new.is_short ≡ true)) × (self.new.files ≡ self.old.files)) }
         ensures fails { IsNamed self.old → IsErr result }
         ensures calls { self.new.calls ≡ next_call self.old }
     {
@@ -246,7 +268,13 @@ impl Model for MemSink {
 impl MemSink {
     /// No bytes yet.
     pub fn new(alloc: Global, failing: Vec<u64>) -> MemSink
-        ensures { result ≡ record { text = []; failing = failing.items; calls = 0; faults = 0; is_short = false } }
+        ensures { result ≡ record {
+          text = [];
+          failing = failing.items;
+          calls = 0;
+          faults = 0;
+          is_short = false;
+        } }
     {
         MemSink {
             text: Vec::new(alloc),
@@ -282,7 +310,9 @@ impl Sink for MemSink {
         ensures whole { OnOk result (Gains (Some self.old.text) (Some self.new.text) bytes.now) }
         ensures part { GainsPart (Some self.old.text) (Some self.new.text) bytes.now }
         ensures cause { HasCause self.old.faults self.new.faults result }
-        ensures failed { OnErr result ((IsSinkNamed self.old ⊎ (self.new.is_short ≡ true)) × (self.new.text ≡ self.old.text)) }
+        ensures failed { OnErr result
+            ((IsSinkNamed self.old ⊎ (self.new.is_short ≡ true))
+            × (self.new.text ≡ self.old.text)) }
         ensures fails { IsSinkNamed self.old → IsErr result }
         ensures calls { self.new.calls ≡ next_put self.old }
     {

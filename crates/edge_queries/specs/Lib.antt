@@ -1,3 +1,4 @@
 pub mod Places
 pub mod Ordered
 pub mod Listed
+pub mod Contents

@@ -1,15 +1,13 @@
 -- What each query picks from the edges and members of a graph is exactly what is asked for, in its order.
-use Rattle.std.specs.Prelude.{◌≡◌, ◌≤◌, ℕ, List, length, Contains}
+use Rattle.std.specs.Prelude.{◌≡◌, ℕ, List, length, Contains}
 use Rattle.std.specs.declared.cmp.Ordering.{Ordering}
-use Rattle.std.specs.declared.cmp.Ordering.TheVariants.{Less, Equal, Greater}
-use Rattle.std.specs.Ordering.{on, then_cmp, ordering_then, ordering_index, ordering_reverse}
+use Rattle.std.specs.declared.cmp.Ordering.TheVariants.{Equal}
+use Rattle.std.specs.Ordering.{on, then_cmp, ordering_then}
 use Rattle.std.specs.Cmp.{IsTotalOrder}
 use Rattle.std.specs.List.Sorted.{IsStrictlySortedBy}
-use Rattle.std.proofs.Common.{arith, refl, sym, ap, ◌∙◌, subst, inl, inr, get_or}
+use Rattle.std.proofs.Common.{refl, sym, ap, ◌∙◌, subst}
 use Rattle.std.proofs.lemmas.List.{length-map}
-use Rattle.std.proofs.lemmas.Bool.{cases_lt}
-use Rattle.std.proofs.lemmas.Cmp.{on_total, then_total, tied_itself}
-use Rattle.std.proofs.lemmas.Map.Keys.{Less-from_sorted}
+use Rattle.std.proofs.lemmas.Cmp.{on_total, then_total}
 use Rattle.sd_value.specs.declared.Datum.TheVariants.{Node}
 use Rattle.sd_value.specs.declared.Value.{Value}
 use Rattle.sd_value.specs.declared.Value.TheVariants.{Data, Page}
@@ -22,41 +20,11 @@ use Rattle.graph_spec.specs.Steps.{IsStepFrom, IsStepTo, IsStart, IsLabelled, Is
 use Rattle.graph_spec.specs.declared.Edge.{Edge}
 use Rattle.graph_spec.specs.declared.Member.{Member}
 use Rattle.graph_spec.specs.declared.Step.{Step}
-use Rattle.picks.specs.Picked.{picked, in_place, IsPlaced, HasOne}
-use Rattle.picks.specs.PickedLaws.{picked-lists, picked-sound, picked-complete}
+use Rattle.list_lookup.specs.Picked.{picked, in_place, IsPlaced, HasOne}
+use Rattle.list_lookup.specs.PickedLaws.{picked-lists, picked-sound, picked-complete}
+use Rattle.list_lookup.proofs.Placed.{then_tied, after_tie, first_not_above, two_not_above, not_both, names_tied, values_tied, placed}
 use Rattle.edge_queries.specs.Places.{at_start, at_label, at_end, at_start_label, at_edge, at_end_label, at_collection, at_member, step_from, step_to}
 use Rattle.edge_queries.specs.Ordered.{by_end_cmp, by_label_cmp}
-
--- Orders that go on after a tie.
-then_tied : (p q : Ordering) → p ≡ Equal → q ≡ Equal → ordering_then p q ≡ Equal
-then_tied p q h k = ap (λ r. ordering_then r q) h ∙ k
-
-after_tie : (p q : Ordering) → p ≡ Equal → ordering_then p q ≡ q
-after_tie p q h = ap (λ r. ordering_then r q) h
-
-tie_after : (p q : Ordering) → q ≡ Equal → ordering_then p q ≡ Less → p ≡ Less
-tie_after Less q h k = refl
-tie_after Equal q h k = cc
-tie_after Greater q h k = cc
-
-first_not_above : (p q : Ordering) → ordering_then p q ≡ Less → p ≡ Greater → ⊥
-first_not_above Less q h k = cc
-first_not_above Equal q h k = cc
-first_not_above Greater q h k = cc
-
-two_not_above : (p q r : Ordering) → ordering_then p (ordering_then q r) ≡ Less → ordering_then p q ≡ Greater → ⊥
-two_not_above Less q r h k = cc
-two_not_above Equal q r h k = first_not_above q r h k
-two_not_above Greater q r h k = cc
-
-not_both : (p : Ordering) → p ≡ Less → p ≡ Greater → ⊥
-not_both p h k = cc
-
-names_tied : (m n : Name) → m ≡ n → bytes_cmp m n ≡ Equal
-names_tied m n e = ap (bytes_cmp m) (sym e) ∙ tied_itself bytes_cmp-total m
-
-values_tied : (u v : Value) → u ≡ v → value_cmp u v ≡ Equal
-values_tied u v e = ap (value_cmp u) (sym e) ∙ tied_itself value_cmp-total u
 
 -- nodes are in the order of their names
 node_order : (m n : Name) → value_cmp (node m) (node n) ≡ bytes_cmp m n
@@ -65,33 +33,6 @@ node_order m n = refl
 
 node_name : (m n : Name) → node m ≡ node n → m ≡ n
 node_name m n e = cc
-
--- A list in an order is placed by each query for a first part of that order.
-order_up : {K : Type 0} (A : K → K → Ordering) → IsTotalOrder A → (a b q : K) → (A a b ≡ Greater → ⊥) → ordering_index (A a q) ≤ ordering_index (A b q)
-order_up A total a b q up = by (A a b) (A b q) refl refl
-  where
-    by : (r s : Ordering) → A a b ≡ r → A b q ≡ s → ordering_index (A a q) ≤ ordering_index (A b q)
-    by Greater s e f = absurd (up e)
-    by Equal s e f = let same = total.congr a b q e in let t : ordering_index (A a q) ≡ ordering_index (A b q) = ap ordering_index same in omega arith
-    by Less Less e f = let t : ordering_index (A a q) ≡ 0 = ap ordering_index (total.trans a b q e f) in omega arith
-    by Less Equal e f =
-        let turned : A b a ≡ Greater = total.antisymm b a ∙ ap ordering_reverse e in
-        let below : A a q ≡ Less = total.antisymm a q ∙ ap ordering_reverse (sym (total.congr b q a f) ∙ turned) in
-        let t : ordering_index (A a q) ≡ 0 = ap ordering_index below in omega arith
-    by Less Greater e f = let t : ordering_index (A b q) ≡ 2 = ap ordering_index f in let u = at_most_two (A a q) in omega arith
-      where
-        at_most_two : (o : Ordering) → ordering_index o ≤ 2
-        at_most_two Less = omega arith
-        at_most_two Equal = omega arith
-        at_most_two Greater = omega arith
-
-placed : {X K : Type 0} (R : X → X → Ordering) (A : K → K → Ordering) → IsTotalOrder A → (key : X → K) (q : K) (xs : List X)
-    → ((x y : X) → R x y ≡ Less → A (key x) (key y) ≡ Greater → ⊥) → IsStrictlySortedBy R xs → IsPlaced (λ x. A (key x) q) xs
-placed R A total key q xs up sorted i j d l m =
-    elim (cases_lt i j) [
-      | inl below ↦ order_up A total (key (get_or xs i d)) (key (get_or xs j d)) q (up (get_or xs i d) (get_or xs j d) (Less-from_sorted R xs i j d sorted below m))
-      | inr above ↦ let same : i ≡ j = omega arith in rw same (omega arith)
-    ]
 
 -- the orders of a value and a label, of an edge's three parts, and of a collection and a value
 abbrev pair_cmp : Value × Name → Value × Name → Ordering
@@ -115,39 +56,47 @@ member_key_cmp-total = then_total (on_total (λ p. p.0) bytes_cmp-total) (on_tot
 starts : (e : Edge) (d : Edge) → value_cmp (node e.from) (node d.from) ≡ bytes_cmp e.from d.from
 starts e d = node_order e.from d.from
 
+-- edges in their order are ordered by their start
 pub placed-start : (u : Value) (es : List Edge) → IsStrictlySortedBy edge_cmp es → IsPlaced (at_start u) es
 placed-start u es up =
     placed edge_cmp value_cmp value_cmp-total (λ e. node e.from) u es
     (λ x y h k. first_not_above (bytes_cmp x.from y.from) _ h (sym (starts x y) ∙ k)) up
 
+-- and by start and label
 pub placed-start_label : (u : Value) (label : Name) (es : List Edge) → IsStrictlySortedBy edge_cmp es → IsPlaced (at_start_label u label) es
 placed-start_label u label es up =
     placed edge_cmp pair_cmp pair_cmp-total (λ e. (node e.from, e.label)) (u, label) es
     (λ x y h k. two_not_above (bytes_cmp x.from y.from) (bytes_cmp x.label y.label) (value_cmp x.to y.to) h
     (ap (λ r. ordering_then r (bytes_cmp x.label y.label)) (sym (starts x y)) ∙ k)) up
 
+-- and as whole edges
 pub placed-edge : (u : Value) (label : Name) (v : Value) (es : List Edge) → IsStrictlySortedBy edge_cmp es → IsPlaced (at_edge u label v) es
 placed-edge u label v es up =
     placed edge_cmp three_cmp three_cmp-total (λ e. (node e.from, (e.label, e.to))) (u, (label, v)) es
     (λ x y h k. not_both (edge_cmp x y) h (ap (λ r. ordering_then r (ordering_then (bytes_cmp x.label y.label) (value_cmp x.to y.to))) (sym (starts x y)) ∙ k)) up
 
+-- edges in the order of their ends are ordered by their end
 pub placed-end : (v : Value) (bs : List Edge) → IsStrictlySortedBy by_end_cmp bs → IsPlaced (at_end v) bs
 placed-end v bs up =
     placed by_end_cmp value_cmp value_cmp-total (λ e. e.to) v bs (λ x y h k. first_not_above (value_cmp x.to y.to) _ h k) up
 
+-- and by end and label
 pub placed-end_label : (v : Value) (label : Name) (bs : List Edge) → IsStrictlySortedBy by_end_cmp bs → IsPlaced (at_end_label v label) bs
 placed-end_label v label bs up =
     placed by_end_cmp pair_cmp pair_cmp-total (λ e. (e.to, e.label)) (v, label) bs
     (λ x y h k. two_not_above (value_cmp x.to y.to) (bytes_cmp x.label y.label) _ h k) up
 
+-- edges in the order of their labels are ordered by their label
 pub placed-label : (label : Name) (bs : List Edge) → IsStrictlySortedBy by_label_cmp bs → IsPlaced (at_label label) bs
 placed-label label bs up =
     placed by_label_cmp bytes_cmp bytes_cmp-total (λ e. e.label) label bs (λ x y h k. first_not_above (bytes_cmp x.label y.label) _ h k) up
 
+-- members in their order are ordered by their collection
 pub placed-collection : (collection : Name) (ms : List Member) → IsStrictlySortedBy member_cmp ms → IsPlaced (at_collection collection) ms
 placed-collection collection ms up =
     placed member_cmp bytes_cmp bytes_cmp-total (λ m. m.collection) collection ms (λ x y h k. first_not_above (bytes_cmp x.collection y.collection) _ h k) up
 
+-- and by collection and node
 pub placed-member : (collection : Name) (v : Value) (ms : List Member) → IsStrictlySortedBy member_cmp ms → IsPlaced (at_member collection v) ms
 placed-member collection v ms up =
     placed member_cmp member_key_cmp member_key_cmp-total (λ m. (m.collection, node m.node)) (collection, v) ms
@@ -306,6 +255,7 @@ edge_found G u label v = (
       (e, is.at, then_tied (at_start u e) _ (values_tied (node e.from) u is.start) (then_tied (at_label label e) _ (names_tied e.label label is.label_is) (values_tied e.to v is.end_is))),
 )
 
+-- and one member
 pub member_found : (G : DataGraph) (collection : Name) (v : Value) → (HasOne (at_member collection v) G.members → IsMemberValue G collection v) × (IsMemberValue G collection v → HasOne (at_member collection v) G.members)
 member_found G collection v = (
   λ (m, at, h). let p = both_tie (at_collection collection m) _ h in
@@ -317,13 +267,16 @@ member_found G collection v = (
 pub placed-value : (v : Value) (vs : List Value) → IsStrictlySortedBy value_cmp vs → IsPlaced (λ w. value_cmp w v) vs
 placed-value v vs up = placed value_cmp value_cmp value_cmp-total (λ w. w) v vs (λ x y h k. not_both (value_cmp x y) h k) up
 
+-- names in their order
 pub placed-name : (n : Name) (ns : List Name) → IsStrictlySortedBy bytes_cmp ns → IsPlaced (λ m. bytes_cmp m n) ns
 placed-name n ns up = placed bytes_cmp bytes_cmp bytes_cmp-total (λ m. m) n ns (λ x y h k. not_both (bytes_cmp x y) h k) up
 
+-- a value is found where it is one of all
 pub value_found : {P : Value → Type 0} (v : Value) (vs : List Value) → ListsExactly value_cmp P vs → (HasOne (λ w. value_cmp w v) vs → P v) × (P v → HasOne (λ w. value_cmp w v) vs)
 value_found {P} v vs all =
     (λ (w, at, h). subst P (value_cmp-exact w v h) (all.sound w at), λ p. (v, all.complete v p, values_tied v v refl))
 
+-- and a name
 pub name_found : {P : Name → Type 0} (n : Name) (ns : List Name) → ListsExactly bytes_cmp P ns → (HasOne (λ m. bytes_cmp m n) ns → P n) × (P n → HasOne (λ m. bytes_cmp m n) ns)
 name_found {P} n ns all =
     (λ (m, at, h). subst P (bytes_cmp-exact m n h) (all.sound m at), λ p. (n, all.complete n p, names_tied n n refl))
@@ -332,6 +285,7 @@ name_found {P} n ns all =
 pub listed-is : {X : Type 0} {R : X → X → Ordering} {P : X → Type 0} (xs ys : List X) → xs ≡ ys → ListsExactly R P ys → ListsExactly R P xs
 listed-is {X} {R} {P} xs ys same all = subst (ListsExactly R P) (sym same) all
 
+-- the number of items in their place is the count of what they give
 pub counted : {X Y : Type 0} {R : Y → Y → Ordering} {P : Y → Type 0} (place : X → Ordering) (gives : X → Y) (xs : List X) (n : ℕ)
     → n ≡ length (in_place place xs) → ListsExactly R P (picked place gives xs) → IsCountOf R P n
 counted place gives xs n is all = (picked place gives xs, all, length-map (in_place place xs) gives ∙ sym is)

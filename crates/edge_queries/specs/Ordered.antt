@@ -6,8 +6,12 @@ use Rattle.graph_spec.specs.declared.Edge.{Edge}
 
 -- by end, then label, then start
 abbrev pub by_end_cmp : Edge → Edge → Ordering
-by_end_cmp = then_cmp (on (λ e. e.to) value_cmp) (then_cmp (on (λ e. e.label) bytes_cmp) (on (λ e. e.from) bytes_cmp))
+by_end_cmp =
+    then_cmp (on (λ e. e.to) value_cmp)
+    (then_cmp (on (λ e. e.label) bytes_cmp) (on (λ e. e.from) bytes_cmp))
 
 -- by label, then start, then end
 abbrev pub by_label_cmp : Edge → Edge → Ordering
-by_label_cmp = then_cmp (on (λ e. e.label) bytes_cmp) (then_cmp (on (λ e. e.from) bytes_cmp) (on (λ e. e.to) value_cmp))
+by_label_cmp =
+    then_cmp (on (λ e. e.label) bytes_cmp)
+    (then_cmp (on (λ e. e.from) bytes_cmp) (on (λ e. e.to) value_cmp))

@@ -2,7 +2,7 @@
 ghost use Rattle.std.specs.Prelude.{◌≡◌, IfOk};
 ghost use Rattle.sd_value.specs.Order.{bytes_cmp, value_cmp};
 
-use picks::Query;
+use list_lookup::Query;
 use sd_value::{NoMemory, Str, Value, copy};
 use std::alloc::Global;
 use std::cmp::Ordering;

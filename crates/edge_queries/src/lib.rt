@@ -6,16 +6,18 @@ ghost use Rattle.sd_value.specs.Order.{value_cmp};
 ghost use Rattle.graph_spec.specs.DataGraph.{node};
 ghost use Rattle.edge_queries.specs.Places.{at_start, at_label, at_end, at_start_label, at_edge, at_end_label, at_collection, at_member, step_from, step_to};
 
+mod contents;
 mod itself;
 
+pub use contents::{all_labels, all_values};
 use graph_spec::{Edge, Member, Step};
 pub use itself::{NameAt, ValueAt, copy_names, copy_values};
-use picks::Query;
+use list_lookup::Query;
 use sd_value::{Datum, NoMemory, Str, Value, copy};
 use std::alloc::Global;
 use std::cmp::Ordering;
 
-// The order of a node, told by its name, and a value.
+// The order of a node, reported by its name, and a value.
 #[tactic(auto, unfolding(sd_value::specs::Order::value_cmp, sd_value::specs::Order::datum_cmp))]
 fn compare_node(name: &Str, value: &Value) -> Ordering
     ensures { result ≡ value_cmp (node name.now) value.now }

@@ -7,7 +7,7 @@ use Rattle.http_reply.specs.declared.buffer.Buffer.{Buffer}
 use Rattle.http_reply.specs.declared.reading.Fed.{Fed}
 use Rattle.http_spec.specs.Asks.{bad_request}
 use Rattle.http_reply.specs.Feeding.{Held, nothing_held, Feeds}
-use Rattle.http_spec.specs.Heads.{max_head, HasNoHead, IsDoomed}
+use Rattle.http_spec.specs.Heads.{max_head, HasNoHead, CannotBecomeHead}
 use Rattle.http_reply.specs.Kept.{IsOpen, IsKept, held_in}
 use Rattle.http_spec.proofs.HeadLemmas.{doomed_more, no_head_stays}
 use Rattle.http_reply.proofs.ReadingLemmas.{open_empty}
@@ -26,17 +26,17 @@ fed_whole rest piece bytes n e =
 -- what a refusal says
 pub refused : (rest piece old bytes : List ℕ) (i : ℕ) (fed : Fed) (after : Held)
     → i < length piece → old ≡ rest ++ take i piece → bytes ≡ old ++ get_or piece i 0 ∷ []
-    → HasNoHead bytes → (max_head ≤ length bytes) ⊎ IsDoomed bytes
+    → HasNoHead bytes → (max_head ≤ length bytes) ⊎ CannotBecomeHead bytes
     → fed ≡ record { taken = length piece; ask = Some bad_request } → after ≡ nothing_held → Feeds rest piece fed after
 refused rest piece old bytes i fed after inside before e none why is held =
     let more = drop (i + 1) piece in
     let whole : bytes ++ more ≡ rest ++ piece = fed_whole rest piece bytes (i + 1) (fed_so_far rest piece old bytes i inside before e) in
-    let later : (max_head ≤ length (bytes ++ more)) ⊎ IsDoomed (bytes ++ more) =
+    let later : (max_head ≤ length (bytes ++ more)) ⊎ CannotBecomeHead (bytes ++ more) =
     elim why [ inl full ↦ inl (omega (arith, length-append bytes more)) | inr doomed ↦ inr (doomed_more bytes more doomed) ] in
     subst (λ f. Feeds rest piece f after) (sym is) (inr (record {
       all = refl;
       none = subst HasNoHead whole (no_head_stays bytes more none why);
-      why = subst (λ s. (max_head ≤ length s) ⊎ IsDoomed s) whole later;
+      why = subst (λ s. (max_head ≤ length s) ⊎ CannotBecomeHead s) whole later;
       ask_is = refl;
       after_is = held;
     }))

@@ -6,7 +6,7 @@ use Rattle.httparse.specs.Grammar.{LineEnd, lf, print_version, RequestHead, IsRe
 use Rattle.httparse.specs.Grammar.{IsField, is_token_byte, is_uri_byte}
 use Rattle.httparse.specs.Spans.{RequestOverflows}
 use Rattle.httparse.proofs.GrammarLemmas.{print_request-append}
-use Rattle.http_spec.specs.Heads.{HasNoHead, IsDoomed, is_line_end_byte}
+use Rattle.http_spec.specs.Heads.{HasNoHead, CannotBecomeHead, is_line_end_byte}
 use Rattle.http_spec.proofs.HeadLemmas.{head_space}
 use Rattle.http_reply.specs.Kept.{AllLineEndBytes}
 
@@ -46,7 +46,7 @@ short_head_valid ends = record {
 }
 
 -- and it is doomed
-pub overflow_doomed : (bytes : List ℕ) → RequestOverflows 64 bytes → IsDoomed bytes
+pub overflow_doomed : (bytes : List ℕ) → RequestOverflows 64 bytes → CannotBecomeHead bytes
 overflow_doomed bytes over = record {
   no_head = λ more h head e.
       let lines = head.lines in

@@ -5,7 +5,7 @@ use Rattle.httparse.specs.declared.spans.HeaderSpan.{HeaderSpan}
 use Rattle.httparse.specs.declared.spans.RequestSpans.{RequestSpans}
 use Rattle.httparse.specs.Grammar.{RequestHead, print_request}
 use Rattle.httparse.specs.Spans.{IsRequestWithin, IsRequestOf, header_bytes, name_and_value, span_bytes}
-use Rattle.http_spec.specs.declared.Ask.{Ask}
+use Rattle.http_spec.specs.declared.ParsedRequest.{ParsedRequest}
 use Rattle.http_reply.specs.declared.parsing.Parsed.TheVariants.{Head}
 use Rattle.http_spec.specs.Asks.{ask_with}
 use Rattle.http_reply.specs.Parsing.{Parses}
@@ -57,7 +57,7 @@ head_is_whole bytes h rest some before reads =
     ]
 
 -- what the parser's answer says, where there was no head before the last byte
-pub whole_from_parser : (bytes : List ℕ) (headers : List HeaderSpan) (spans : RequestSpans) (ask : Ask)
+pub whole_from_parser : (bytes : List ℕ) (headers : List HeaderSpan) (spans : RequestSpans) (ask : ParsedRequest)
     → 0 < length bytes → length bytes ≤ 16384 → length headers ≤ 64 → HasNoHead (take (length bytes - 1) bytes)
     → IsRequestWithin bytes headers spans → IsRequestOf bytes headers spans
     → ask ≡ ask_with (span_bytes bytes spans.method) spans.version (map (header_bytes bytes) (take spans.headers headers))

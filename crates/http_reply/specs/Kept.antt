@@ -6,7 +6,7 @@ use Rattle.httparse.specs.Spans.{span_bytes, IsWithin}
 use Rattle.http_reply.specs.Feeding.{Held}
 use Rattle.http_spec.specs.Heads.{max_head, HasNoHead, is_line_end_byte}
 
--- each byte may stand in a line end
+-- each byte may be in a line end
 abbrev pub AllLineEndBytes : List ℕ → Type 0
 AllLineEndBytes bytes = AllPass is_line_end_byte bytes
 

@@ -1,11 +1,11 @@
--- What the parser tells of bytes.
+-- What the parser reports of bytes.
 use Rattle.std.specs.Prelude.{◌≡◌, ℕ, List, length}
 use Rattle.httparse.specs.Grammar.{RequestHead, print_request}
 use Rattle.httparse.specs.Spans.{span_bytes, IsWithin}
 use Rattle.http_reply.specs.declared.parsing.Parsed.{Parsed}
 use Rattle.http_reply.specs.declared.parsing.Parsed.TheVariants.{Head, Unfinished, Impossible}
 use Rattle.http_spec.specs.Asks.{ask_of}
-use Rattle.http_spec.specs.Heads.{IsHead, HasNoHead, IsDoomed}
+use Rattle.http_spec.specs.Heads.{IsHead, HasNoHead, CannotBecomeHead}
 
 -- what bytes are, none of whose proper fronts is a head
 abbrev pub Parses : List ℕ → Parsed → Type 0
@@ -13,4 +13,4 @@ Parses bytes (Head ask target) =
     (h : RequestHead) × IsHead h × (bytes ≡ print_request h) × (ask ≡ ask_of h)
     × (span_bytes bytes target ≡ h.target) × IsWithin (length bytes) target
 Parses bytes Unfinished = HasNoHead bytes
-Parses bytes Impossible = HasNoHead bytes × IsDoomed bytes
+Parses bytes Impossible = HasNoHead bytes × CannotBecomeHead bytes

@@ -1,42 +1,44 @@
 // What a whole head asks for.
-ghost use Rattle.std.specs.Prelude.{◌≡◌, ◌+◌, ◌<◌, ◌≤◌, length, take, map, codes, All, count_by};
+ghost use Rattle.std.specs.Prelude.{◌≡◌, ◌+◌, ◌<◌, ◌≤◌, length, take, map, reverse, codes, All, count_by};
 ghost use Rattle.std.specs.List.{list_any};
-ghost use Rattle.httparse.specs.Grammar.{trim_ows, is_ows};
+ghost use Rattle.httparse.specs.Grammar.{trim_ows, skip_ows, is_ows};
 ghost use Rattle.httparse.specs.Spans.{IsRequestWithin, IsHeaderWithin, header_bytes, span_bytes};
 ghost use Rattle.http_spec.specs.Asks.{ask_with, is_fault};
 ghost use Rattle.http_spec.specs.Words.{is_named, same_word, has_close_word, host_count, announces_body, is_close_line};
 
-use http_spec::{Ask, AskKind};
+use http_spec::{ParsedRequest, RequestKind};
 use httparse::spans::{HeaderSpan, RequestSpans};
 
 /// The ask of bytes that are no head.
-pub(crate) const BAD_REQUEST: Ask = Ask {
-    kind: AskKind::BadRequest,
+pub(crate) const BAD_REQUEST: ParsedRequest = ParsedRequest {
+    kind: RequestKind::BadRequest,
     no_body: false,
     close: true,
 };
 
 /// What a head asks for, whose parts lie at these places.
-pub(crate) fn ask_at(bytes: &[u8], spans: &RequestSpans, headers: &[HeaderSpan]) -> Ask
+pub(crate) fn ask_at(bytes: &[u8], spans: &RequestSpans, headers: &[HeaderSpan]) -> ParsedRequest
     requires within { IsRequestWithin bytes.now headers.now spans.now }
-    ensures { result ≡ ask_with (span_bytes bytes.now spans.now.method) spans.now.version (map (header_bytes bytes.now) (take spans.now.headers headers.now)) }
+    ensures { result
+        ≡ ask_with (span_bytes bytes.now spans.now.method) spans.now.version
+        (map (header_bytes bytes.now) (take spans.now.headers headers.now)) }
 {
     let headers = &headers[..spans.headers];
     let method = spans.method.of(bytes);
     let hosts = count_hosts(bytes, headers);
     let is_head = method == b"HEAD".as_slice();
     let kind = if hosts > 1 || (spans.version == 1 && hosts == 0) {
-        AskKind::BadRequest
+        RequestKind::BadRequest
     } else if !is_head && method != b"GET".as_slice() {
-        AskKind::WrongMethod
+        RequestKind::WrongMethod
     } else if some_announces_body(bytes, headers) {
-        AskKind::BadRequest
+        RequestKind::BadRequest
     } else if is_head {
-        AskKind::Head
+        RequestKind::Head
     } else {
-        AskKind::Get
+        RequestKind::Get
     };
-    Ask {
+    ParsedRequest {
         kind,
         no_body: is_head,
         close: is_fault(kind) || spans.version == 0 || some_is_close_line(bytes, headers),
@@ -44,10 +46,10 @@ pub(crate) fn ask_at(bytes: &[u8], spans: &RequestSpans, headers: &[HeaderSpan])
 }
 
 /// Whether a request of this kind is refused.
-fn is_fault(kind: AskKind) -> bool
+fn is_fault(kind: RequestKind) -> bool
     ensures { result ≡ is_fault kind }
 {
-    matches!(kind, AskKind::BadRequest | AskKind::WrongMethod)
+    matches!(kind, RequestKind::BadRequest | RequestKind::WrongMethod)
 }
 
 /// Whether the header line has this name, in any case.
@@ -133,15 +135,29 @@ fn is_close(word: &[u8]) -> bool
 fn trim_blanks(word: &[u8]) -> &[u8]
     ensures { result.now ≡ trim_ows word.now }
 {
+    trim_blanks_end(trim_blanks_start(word))
+}
+
+/// The word without the spaces and tabs before it.
+fn trim_blanks_start(word: &[u8]) -> &[u8]
+    ensures { result.now ≡ skip_ows word.now }
+{
     let mut start = 0;
-    let mut end = word.len();
-    while start < end && is_blank(word[start]) {
+    while start < word.len() && is_blank(word[start]) {
         start += 1;
     }
-    while start < end && is_blank(word[end - 1]) {
+    &word[start..]
+}
+
+/// The word without the spaces and tabs after it.
+fn trim_blanks_end(word: &[u8]) -> &[u8]
+    ensures { result.now ≡ reverse (skip_ows (reverse word.now)) }
+{
+    let mut end = word.len();
+    while end > 0 && is_blank(word[end - 1]) {
         end -= 1;
     }
-    &word[start..end]
+    &word[..end]
 }
 
 /// Whether the byte is a space or a tab.

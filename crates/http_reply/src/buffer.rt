@@ -15,7 +15,7 @@ use httparse::spans::Span;
 pub(crate) struct Buffer {
     /// They never grow past their first room.
     pub(crate) bytes: Vec<u8>,
-    /// Whether a byte came that stands in no line end.
+    /// Whether a byte came that is in no line end.
     pub(crate) started: bool,
     /// Where the target of the whole head is.
     pub(crate) target: Option<Span>,
@@ -41,7 +41,7 @@ impl Buffer {
         self.target.is_some() || are_line_ends(self.bytes.as_slice())
     }
 
-    /// Forgets the bytes, which are no head, and says that so many of a piece were taken.
+    /// Forgets the bytes, which are no head, and says that this many of a piece were taken.
     pub(crate) fn refuse(&mut self, taken: usize) -> Fed
         ensures fed { result ≡ record { taken = taken; ask = Some bad_request } }
         ensures bytes { self.new.bytes.items ≡ [] }
@@ -56,7 +56,7 @@ impl Buffer {
         }
     }
 
-    /// Adds a byte to a head that is not whole, and tells what the bytes are then.
+    /// Adds a byte to a head that is not whole, and reports what the bytes are then.
     pub(crate) fn add(&mut self, byte: u8) -> Parsed
         requires room { max_head ≤ vec_capacity self.old.bytes }
         requires open { IsOpen self.old.bytes.items self.old.started }
@@ -74,7 +74,7 @@ impl Buffer {
     }
 }
 
-/// Whether the byte may stand in a line end.
+/// Whether the byte may be in a line end.
 fn is_line_end_byte(byte: u8) -> bool
     ensures { result ≡ is_line_end_byte byte }
 {

@@ -5,7 +5,7 @@ ghost use Rattle.http_reply.specs.Kept.{AllLineEndBytes};
 ghost use Rattle.http_reply.specs.Parsing.{Parses};
 
 use crate::ask::ask_at;
-use http_spec::Ask;
+use http_spec::ParsedRequest;
 use httparse::Status;
 use httparse::spans::{EMPTY_HEADER_SPAN, Span, parse_request};
 
@@ -15,7 +15,7 @@ const MAX_LINES: usize = 64;
 /// What bytes are, none of whose proper fronts is a head.
 pub(crate) enum Parsed {
     /// A head, what it asks for, and where its target is.
-    Head(Ask, Span),
+    Head(ParsedRequest, Span),
     /// No head, or not yet.
     Unfinished,
     /// No head, and none can come.

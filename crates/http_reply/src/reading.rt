@@ -6,7 +6,7 @@ ghost use Rattle.http_spec.specs.Heads.{max_head, HasNoHead};
 use crate::ask::BAD_REQUEST;
 use crate::buffer::Buffer;
 use crate::parsing::Parsed;
-use http_spec::Ask;
+use http_spec::ParsedRequest;
 use sd_value::NoMemory;
 use std::alloc::Global;
 use std::marker::Model;
@@ -18,7 +18,7 @@ pub const MAX_HEAD: usize = 16384;
 #[derive(Clone, Copy, Debug, PartialEq, Eq)]
 pub struct Fed {
     pub taken: usize,
-    pub ask: Option<Ask>,
+    pub ask: Option<ParsedRequest>,
 }
 
 /// A reader of the requests of one connection.
@@ -37,7 +37,8 @@ impl Model for Reading {
 
     ghost view = { λ r. held_in r.buffer.bytes.items r.buffer.target };
 
-    ghost invariant = { λ r. (max_head ≤ vec_capacity r.buffer.bytes) × IsKept r.buffer.bytes.items r.buffer.started r.buffer.target };
+    ghost invariant = { λ r. (max_head ≤ vec_capacity r.buffer.bytes)
+        × IsKept r.buffer.bytes.items r.buffer.started r.buffer.target };
 }
 
 impl Reading {
@@ -86,7 +87,7 @@ impl Reading {
 
     /// Takes the end of the bytes. It asks for a 400 where the rest is more than line ends, and takes
     /// no memory. Everything is forgotten.
-    pub fn end(&mut self) -> Option<Ask>
+    pub fn end(&mut self) -> Option<ParsedRequest>
         ensures ask { EndsWith self.old.rest result }
         ensures held { self.new ≡ nothing_held }
     {

@@ -3,7 +3,7 @@ ghost use Rattle.std.specs.Prelude.{◌≡◌, ◌++◌, OnOk, OnErr, IfOk, stri
 ghost use Rattle.http_spec.specs.Replies.{status, page_status, content_type, page_type, allow_line, reply_body, page_body, connection, head_bytes, reply_bytes, no_memory_bytes};
 
 use address::show;
-use http_spec::{Ask, AskKind};
+use http_spec::{ParsedRequest, RequestKind};
 use page_spec::Outcome;
 use sd_value::{NoMemory, Value};
 use std::alloc::Global;
@@ -17,32 +17,41 @@ const PLAIN: &str = "text/plain; charset=utf-8";
 /// Adds the reply to an ask, whose page has this outcome. An `Err` adds nothing.
 pub fn reply(
     alloc: Global,
-    ask: &Ask,
+    ask: &ParsedRequest,
     outcome: &Outcome,
     close: bool,
     out: &mut Vec<u8>,
 ) -> Result<(), NoMemory>
-    ensures ok { OnOk result (out.new.items ≡ out.old.items ++ reply_bytes ask.now outcome.now close) }
+    ensures ok { OnOk result
+        (out.new.items ≡ out.old.items ++ reply_bytes ask.now outcome.now close) }
     ensures err { OnErr result (out.new.items ≡ out.old.items) }
 {
     match ask.kind {
-        AskKind::Get => page_reply(alloc, ask, outcome, close, out),
-        AskKind::Head => page_reply(alloc, ask, outcome, close, out),
-        AskKind::BadRequest => respond(alloc, ask, outcome, b"bad request\n", close, out),
-        AskKind::WrongMethod => respond(alloc, ask, outcome, b"method not allowed\n", close, out),
+        RequestKind::Get => page_reply(alloc, ask, outcome, close, out),
+        RequestKind::Head => page_reply(alloc, ask, outcome, close, out),
+        RequestKind::BadRequest => respond(alloc, ask, outcome, b"bad request\n", close, out),
+        RequestKind::WrongMethod => respond(
+            alloc,
+            ask,
+            outcome,
+            b"method not allowed\n",
+            close,
+            out,
+        ),
     }
 }
 
 /// The same where the page was looked up.
 fn page_reply(
     alloc: Global,
-    ask: &Ask,
+    ask: &ParsedRequest,
     outcome: &Outcome,
     close: bool,
     out: &mut Vec<u8>,
 ) -> Result<(), NoMemory>
     requires { reply_body ask.now.kind outcome.now ≡ page_body outcome.now }
-    ensures ok { OnOk result (out.new.items ≡ out.old.items ++ reply_bytes ask.now outcome.now close) }
+    ensures ok { OnOk result
+        (out.new.items ≡ out.old.items ++ reply_bytes ask.now outcome.now close) }
     ensures err { OnErr result (out.new.items ≡ out.old.items) }
 {
     match outcome {
@@ -69,14 +78,15 @@ fn cyclic_body(alloc: Global, value: &Value) -> Result<Vec<u8>, NoMemory>
 /// Adds the reply with this body. An `Err` adds nothing.
 fn respond(
     alloc: Global,
-    ask: &Ask,
+    ask: &ParsedRequest,
     outcome: &Outcome,
     body: &[u8],
     close: bool,
     out: &mut Vec<u8>,
 ) -> Result<(), NoMemory>
     requires { body.now ≡ reply_body ask.now.kind outcome.now }
-    ensures ok { OnOk result (out.new.items ≡ out.old.items ++ reply_bytes ask.now outcome.now close) }
+    ensures ok { OnOk result
+        (out.new.items ≡ out.old.items ++ reply_bytes ask.now outcome.now close) }
     ensures err { OnErr result (out.new.items ≡ out.old.items) }
 {
     let head = head(
@@ -94,14 +104,14 @@ fn respond(
     Ok(())
 }
 
-fn status(kind: AskKind, outcome: &Outcome) -> &'static str
+fn status(kind: RequestKind, outcome: &Outcome) -> &'static str
     ensures { result.now ≡ status kind outcome.now }
 {
     match kind {
-        AskKind::Get => page_status(outcome),
-        AskKind::Head => page_status(outcome),
-        AskKind::BadRequest => "400 Bad Request",
-        AskKind::WrongMethod => "405 Method Not Allowed",
+        RequestKind::Get => page_status(outcome),
+        RequestKind::Head => page_status(outcome),
+        RequestKind::BadRequest => "400 Bad Request",
+        RequestKind::WrongMethod => "405 Method Not Allowed",
     }
 }
 
@@ -116,14 +126,14 @@ fn page_status(outcome: &Outcome) -> &'static str
     }
 }
 
-fn content_type(kind: AskKind, outcome: &Outcome) -> &'static str
+fn content_type(kind: RequestKind, outcome: &Outcome) -> &'static str
     ensures { result.now ≡ content_type kind outcome.now }
 {
     match kind {
-        AskKind::Get => page_type(outcome),
-        AskKind::Head => page_type(outcome),
-        AskKind::BadRequest => PLAIN,
-        AskKind::WrongMethod => PLAIN,
+        RequestKind::Get => page_type(outcome),
+        RequestKind::Head => page_type(outcome),
+        RequestKind::BadRequest => PLAIN,
+        RequestKind::WrongMethod => PLAIN,
     }
 }
 
@@ -138,14 +148,14 @@ fn page_type(outcome: &Outcome) -> &'static str
     }
 }
 
-fn allow_line(kind: AskKind) -> &'static str
+fn allow_line(kind: RequestKind) -> &'static str
     ensures { result.now ≡ allow_line kind }
 {
     match kind {
-        AskKind::Get => "",
-        AskKind::Head => "",
-        AskKind::BadRequest => "",
-        AskKind::WrongMethod => "Allow: GET, HEAD\r\n",
+        RequestKind::Get => "",
+        RequestKind::Head => "",
+        RequestKind::BadRequest => "",
+        RequestKind::WrongMethod => "Allow: GET, HEAD\r\n",
     }
 }
 
@@ -158,7 +168,9 @@ fn head(
     length: usize,
     close: bool,
 ) -> Result<String, NoMemory>
-    ensures { IfOk result (λ head. string_bytes head ≡ head_bytes status.now content_type.now allow.now length close) }
+    ensures { IfOk result
+        (λ head. string_bytes head
+        ≡ head_bytes status.now content_type.now allow.now length close) }
 {
     let connection = connection(close);
     let head = format!(in alloc;

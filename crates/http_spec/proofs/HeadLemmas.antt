@@ -9,7 +9,7 @@ use Rattle.httparse.specs.Grammar.{LineEnd, crlf, lf, print_end, print_blank, pr
 use Rattle.httparse.specs.Grammar.{IsToken, is_token_byte}
 use Rattle.httparse.proofs.PieceLemmas.{token_is_no_newline}
 use Rattle.httparse.proofs.GrammarLemmas.{request_unique, print_request-append}
-use Rattle.http_spec.specs.Heads.{max_head, IsHead, ReadsHead, HasNoHead, IsDoomed, Cuts, print_heads, is_line_end_byte}
+use Rattle.http_spec.specs.Heads.{max_head, IsHead, ReadsHead, HasNoHead, CannotBecomeHead, Cuts, print_heads, is_line_end_byte}
 
 -- a line end has a line feed last
 pub end_last : (e : LineEnd) → (front : List ℕ) × (print_end e ≡ front ++ 10 ∷ [])
@@ -72,7 +72,7 @@ no_line_feed_no_head bytes b h other e =
     let last = head_last h in other (same_from_push bytes last.0 b 10 (e ∙ last.1)).1
 
 -- what follows a doomed rest does not help
-pub doomed_more : (bytes more : List ℕ) → IsDoomed bytes → IsDoomed (bytes ++ more)
+pub doomed_more : (bytes more : List ℕ) → CannotBecomeHead bytes → CannotBecomeHead (bytes ++ more)
 doomed_more bytes more doomed = record {
   no_head = λ next h head e. doomed.no_head (more ++ next) h head (sym (append_assoc bytes more next) ∙ e);
   no_line_ends = λ next ends. doomed.no_line_ends (more ++ next) (ends.0, sym (append_assoc bytes more next) ∙ ends.1);
@@ -166,7 +166,7 @@ later_cut a b c d e short =
     )
 
 -- where no head stands and none can come, none stands in a longer text
-pub no_head_stays : (bytes more : List ℕ) → HasNoHead bytes → (max_head ≤ length bytes) ⊎ IsDoomed bytes → HasNoHead (bytes ++ more)
+pub no_head_stays : (bytes more : List ℕ) → HasNoHead bytes → (max_head ≤ length bytes) ⊎ CannotBecomeHead bytes → HasNoHead (bytes ++ more)
 no_head_stays bytes more none why h rest reads = by_length (cases_lt (length bytes) (length text))
   where
     text : List ℕ
@@ -177,7 +177,7 @@ no_head_stays bytes more none why h rest reads = by_length (cases_lt (length byt
         let cut = later_cut text rest bytes more (sym reads.whole) short in
         none h (drop (length text) bytes) (record { head = reads.head; whole = cut.0 })
 
-    by_why : length bytes < length text → (max_head ≤ length bytes) ⊎ IsDoomed bytes → ⊥
+    by_why : length bytes < length text → (max_head ≤ length bytes) ⊎ CannotBecomeHead bytes → ⊥
     by_why long (inl full) = let size = reads.head.size in absurd (omega arith)
     by_why long (inr doomed) =
         let cut = later_cut bytes more text rest reads.whole (omega arith) in

@@ -4,14 +4,14 @@ use Rattle.std.specs.Prelude.{MatchBool}
 use Rattle.std.proofs.lemmas.List.{append-nil}
 use Rattle.httparse.specs.Grammar.{RequestHead}
 use Rattle.page_spec.specs.declared.Outcome.{Outcome}
-use Rattle.http_spec.specs.declared.AskKind.{AskKind}
-use Rattle.http_spec.specs.declared.AskKind.TheVariants.{Get, Head, BadRequest, WrongMethod}
+use Rattle.http_spec.specs.declared.RequestKind.{RequestKind}
+use Rattle.http_spec.specs.declared.RequestKind.TheVariants.{Get, Head, BadRequest, WrongMethod}
 use Rattle.http_spec.specs.declared.Standing.TheVariants.{Open, Closed}
 use Rattle.http_spec.specs.Asks.{ask_of}
-use Rattle.http_spec.specs.Heads.{max_head, HasNoHead, IsDoomed, AreLineEnds}
+use Rattle.http_spec.specs.Heads.{max_head, HasNoHead, CannotBecomeHead, AreLineEnds}
 use Rattle.http_spec.specs.Replies.{response, status, content_type, allow_line, reply_body}
 use Rattle.http_spec.specs.Sessions.{OutcomeAt, HasOneOutcome, IsLookedUp, IsReply, closes_after, refusal, HasReplies, Session, Ends, Answers}
-use Rattle.http_spec.specs.Streams.{Dated, Request, bytes_in, IsCutTo}
+use Rattle.http_spec.specs.Streams.{Timed, Request, bytes_in, IsCutTo}
 use Rattle.http_spec.proofs.StreamLemmas.{cut_first, begins_once, begins_some, cut_once}
 
 -- a choice whose two forms agree
@@ -20,7 +20,7 @@ choose true X Y A C R x y f g = f x y
 choose false X Y A C R a c f g = g a c
 
 -- the same head gets the same reply
-shown_once : (page : OutcomeAt) (kind : AskKind) (target : List ℕ) (o p : Outcome) (no_body close : Bool) → HasOneOutcome page
+shown_once : (page : OutcomeAt) (kind : RequestKind) (target : List ℕ) (o p : Outcome) (no_body close : Bool) → HasOneOutcome page
     → IsLookedUp page kind target o → IsLookedUp page kind target p
     → response (status kind o) (content_type kind o) (allow_line kind) (reply_body kind o) no_body close
     ≡ response (status kind p) (content_type kind p) (allow_line kind) (reply_body kind p) no_body close
@@ -39,7 +39,7 @@ abbrev Once : {D : Type 0} → (D → OutcomeAt) → Type 0
 Once page = (d : _) → HasOneOutcome (page d)
 
 -- two lists of replies to the requests of one stream, the last of which closes
-both_closed : {D : Type 0} (page : D → OutcomeAt) (left : ℕ) (stream : List (Dated D)) (rs qs : List (Request D)) (x y : List (Dated D)) (a b : List (List ℕ))
+both_closed : {D : Type 0} (page : D → OutcomeAt) (left : ℕ) (stream : List (Timed D)) (rs qs : List (Request D)) (x y : List (Timed D)) (a b : List (List ℕ))
     → Once page → IsCutTo stream rs x → IsCutTo stream qs y → HasReplies page left rs a true → HasReplies page left qs b true → a ≡ b
 both_closed page left stream [] qs x y [] b once c d s t = cc
 both_closed page left stream [] qs x y (r ∷ a) b once c d s t = absurd s
@@ -59,7 +59,7 @@ both_closed page left stream (r ∷ rs) (q ∷ qs) x y (u ∷ a) (v ∷ b) once 
     λ i. head i ∷ tail i
 
 -- where one list closes, no other goes on to a rest without a head
-closed_not_open : {D : Type 0} (page : D → OutcomeAt) (left : ℕ) (stream : List (Dated D)) (rs qs : List (Request D)) (x y : List (Dated D)) (a b : List (List ℕ))
+closed_not_open : {D : Type 0} (page : D → OutcomeAt) (left : ℕ) (stream : List (Timed D)) (rs qs : List (Request D)) (x y : List (Timed D)) (a b : List (List ℕ))
     → IsCutTo stream rs x → IsCutTo stream qs y → HasNoHead (bytes_in y) → HasReplies page left rs a true → HasReplies page left qs b false → ⊥
 closed_not_open page left stream [] qs x y [] b c d none s t = cc
 closed_not_open page left stream [] qs x y (_ ∷ a) b c d none s t = s
@@ -91,9 +91,9 @@ open_once page left (r ∷ rs) (u ∷ a) (v ∷ b) once s t =
     λ i. head i ∷ tail i
 
 -- a session that nothing closed, and what was sent at its end
-record IsTail {D : Type 0} (page : D → OutcomeAt) (limit : ℕ) (stream : List (Dated D)) (sent : List (List ℕ)) : Type 0 where
+record IsTail {D : Type 0} (page : D → OutcomeAt) (limit : ℕ) (stream : List (Timed D)) (sent : List (List ℕ)) : Type 0 where
   requests : List (Request D)
-  rest : List (Dated D)
+  rest : List (Timed D)
   answered : List (List ℕ)
   session : Session page limit stream requests rest answered false
   none : HasNoHead (bytes_in rest)
@@ -111,32 +111,32 @@ how_once rest a b p q e (inl (inr within, is)) (inr y) = absurd (within y.1)
 how_once rest a b p q e (inr x) (inl (inl full, is)) = let room = x.0 in absurd (omega arith)
 how_once rest a b p q e (inr x) (inl (inr within, is)) = absurd (within x.1)
 
-tail_once : {D : Type 0} (page : D → OutcomeAt) (limit : ℕ) (stream : List (Dated D)) (a b : List (List ℕ)) → Once page
+tail_once : {D : Type 0} (page : D → OutcomeAt) (limit : ℕ) (stream : List (Timed D)) (a b : List (List ℕ)) → Once page
     → IsTail page limit stream a → IsTail page limit stream b → a ≡ b
 tail_once page limit stream a b once x y =
     let same = cut_once stream y.requests x.requests y.rest x.rest y.session.cut x.session.cut y.none x.none in
     let Requests : List (Request _) → Type 0 = λ rs. HasReplies page limit rs y.answered false in
     let replies = open_once page limit x.requests x.answered y.answered once x.session.answered (subst Requests same.0 y.session.answered) in
-    let How : List (Dated _) → Type 0 = λ r. (((max_head ≤ length (bytes_in r)) ⊎ ¬ (AreLineEnds (bytes_in r))) × (b ≡ y.answered ++ refusal ∷ []))
+    let How : List (Timed _) → Type 0 = λ r. (((max_head ≤ length (bytes_in r)) ⊎ ¬ (AreLineEnds (bytes_in r))) × (b ≡ y.answered ++ refusal ∷ []))
     ⊎ ((length (bytes_in r) < max_head) × AreLineEnds (bytes_in r) × (b ≡ y.answered)) in
     how_once (bytes_in x.rest) a b x.answered y.answered replies x.how (subst How same.1 y.how)
 
 -- a session that a reply has closed
-record IsOver {D : Type 0} (page : D → OutcomeAt) (limit : ℕ) (stream : List (Dated D)) (sent : List (List ℕ)) : Type 0 where
+record IsOver {D : Type 0} (page : D → OutcomeAt) (limit : ℕ) (stream : List (Timed D)) (sent : List (List ℕ)) : Type 0 where
   requests : List (Request D)
-  rest : List (Dated D)
+  rest : List (Timed D)
   session : Session page limit stream requests rest sent true
 
-abbrev Normal : {D : Type 0} → (D → OutcomeAt) → ℕ → List (Dated D) → List (List ℕ) → Type 0
+abbrev Normal : {D : Type 0} → (D → OutcomeAt) → ℕ → List (Timed D) → List (List ℕ) → Type 0
 Normal page limit stream sent = IsOver page limit stream sent ⊎ IsTail page limit stream sent
 
-refused_how : (ended : Bool) (rest : List ℕ) → (max_head ≤ length rest) ⊎ IsDoomed rest ⊎ ((ended ≡ true) × ¬ (AreLineEnds rest))
+refused_how : (ended : Bool) (rest : List ℕ) → (max_head ≤ length rest) ⊎ CannotBecomeHead rest ⊎ ((ended ≡ true) × ¬ (AreLineEnds rest))
     → (max_head ≤ length rest) ⊎ ¬ (AreLineEnds rest)
 refused_how ended rest (inl full) = inl full
 refused_how ended rest (inr (inl doomed)) = inr (λ ends. doomed.no_line_ends [] (subst AreLineEnds (sym (append-nil rest)) ends))
 refused_how ended rest (inr (inr within)) = inr within.1
 
-normal_of : {D : Type 0} (page : D → OutcomeAt) (limit : ℕ) (stream : List (Dated D)) (sent : List (List ℕ))
+normal_of : {D : Type 0} (page : D → OutcomeAt) (limit : ℕ) (stream : List (Timed D)) (sent : List (List ℕ))
     → Answers page limit stream true Closed sent → Normal page limit stream sent
 normal_of {D} page limit stream sent a = by_end a.closed a.session a.ends
   where
@@ -168,7 +168,7 @@ normal_of {D} page limit stream sent a = by_end a.closed a.session a.ends
         })
 
 -- at the end of its input a connection has one answer
-pub answers_once : {D : Type 0} (page : D → OutcomeAt) → Once page → (limit : ℕ) (stream : List (Dated D)) (a b : List (List ℕ))
+pub answers_once : {D : Type 0} (page : D → OutcomeAt) → Once page → (limit : ℕ) (stream : List (Timed D)) (a b : List (List ℕ))
     → Answers page limit stream true Closed a → Answers page limit stream true Closed b → a ≡ b
 answers_once page once limit stream a b x y = by_cases (normal_of page limit stream a x) (normal_of page limit stream b y)
   where
@@ -179,7 +179,7 @@ answers_once page once limit stream a b x y = by_cases (normal_of page limit str
     by_cases (inr s) (inr t) = tail_once page limit stream a b once s t
 
 -- an open connection has one too
-pub open_answers_once : {D : Type 0} (page : D → OutcomeAt) → Once page → (limit : ℕ) (stream : List (Dated D)) (a b : List (List ℕ))
+pub open_answers_once : {D : Type 0} (page : D → OutcomeAt) → Once page → (limit : ℕ) (stream : List (Timed D)) (a b : List (List ℕ))
     → Answers page limit stream false Open a → Answers page limit stream false Open b → a ≡ b
 open_answers_once page once limit stream a b x y =
     let same = cut_once stream y.requests x.requests y.rest x.rest y.session.cut x.session.cut y.ends.2.0 x.ends.2.0 in

@@ -3,13 +3,13 @@ use Rattle.std.specs.Prelude.{ℕ, Bool, true, false, ◌||◌, not, List, if◌
 use Rattle.std.specs.List.{list_any}
 use Rattle.std.specs.Str.{bytes_eq}
 use Rattle.httparse.specs.Grammar.{RequestHead}
-use Rattle.http_spec.specs.declared.AskKind.{AskKind}
-use Rattle.http_spec.specs.declared.AskKind.TheVariants.{Get, Head, BadRequest, WrongMethod}
-use Rattle.http_spec.specs.declared.Ask.{Ask}
+use Rattle.http_spec.specs.declared.RequestKind.{RequestKind}
+use Rattle.http_spec.specs.declared.RequestKind.TheVariants.{Get, Head, BadRequest, WrongMethod}
+use Rattle.http_spec.specs.declared.ParsedRequest.{ParsedRequest}
 use Rattle.http_spec.specs.Words.{Line, header_lines, has_wrong_host, announces_body, is_close_line}
 
 -- the case of a head: the first that applies
-abbrev pub kind_of : List ℕ → ℕ → List Line → AskKind
+abbrev pub kind_of : List ℕ → ℕ → List Line → RequestKind
 kind_of method minor lines =
     if has_wrong_host minor lines then BadRequest
     else if not (bytes_eq method (codes "GET") || bytes_eq method (codes "HEAD")) then WrongMethod
@@ -17,15 +17,15 @@ kind_of method minor lines =
     else if bytes_eq method (codes "HEAD") then Head
     else Get
 
--- the connection closes after the reply to an ask of this kind
-abbrev pub is_fault : AskKind → Bool
+-- the connection closes after the reply to a request of this kind
+abbrev pub is_fault : RequestKind → Bool
 is_fault Get = false
 is_fault Head = false
 is_fault BadRequest = true
 is_fault WrongMethod = true
 
 -- what a head with this method, minor version and header lines asks for
-abbrev pub ask_with : List ℕ → ℕ → List Line → Ask
+abbrev pub ask_with : List ℕ → ℕ → List Line → ParsedRequest
 ask_with method minor lines = record {
   kind = kind_of method minor lines;
   no_body = bytes_eq method (codes "HEAD");
@@ -33,9 +33,9 @@ ask_with method minor lines = record {
 }
 
 -- what the head asks for
-abbrev pub ask_of : RequestHead → Ask
+abbrev pub ask_of : RequestHead → ParsedRequest
 ask_of h = ask_with h.method h.minor (header_lines h)
 
--- the ask of bytes that are no head
-abbrev pub bad_request : Ask
+-- what bytes that are no head ask for
+abbrev pub bad_request : ParsedRequest
 bad_request = record { kind = BadRequest; no_body = false; close = true }

@@ -12,8 +12,8 @@ max_lines = 64
 abbrev pub max_head : ℕ
 max_head = 16384
 
--- A head: line ends, perhaps none, and then a request head of HTTP/1.0 or HTTP/1.1. The line ends are those of
--- the tree's field `blank`.
+-- A head: line ends, perhaps none, and then a request head of HTTP/1.0 or HTTP/1.1. The line ends
+-- are those of the tree's field `blank`.
 pub record IsHead (h : RequestHead) : Type 0 where
   pub valid : IsRequestHead h
   pub lines : length h.fields ≤ max_lines
@@ -33,7 +33,7 @@ abbrev pub AreLineEnds : List ℕ → Type 0
 AreLineEnds bytes = (ends : List LineEnd) × (bytes ≡ print_blank ends)
 
 -- whatever bytes follow, there is neither a head nor a list of line ends
-pub record IsDoomed (rest : List ℕ) : Type 0 where
+pub record CannotBecomeHead (rest : List ℕ) : Type 0 where
   pub no_head : (more : List ℕ) (h : RequestHead) → IsHead h → ¬ (rest ++ more ≡ print_request h)
   pub no_line_ends : (more : List ℕ) → ¬ (AreLineEnds (rest ++ more))
 
@@ -41,13 +41,13 @@ pub record IsDoomed (rest : List ℕ) : Type 0 where
 abbrev pub print_heads : List RequestHead → List ℕ
 print_heads heads = flat_map print_request heads
 
--- The bytes are these heads and then a rest that does not begin with a head: so no longer list of heads stands at
--- their front.
+-- The bytes are these heads and then a rest that does not begin with a head: so no longer list of
+-- heads is at their front.
 pub record Cuts (bytes : List ℕ) (heads : List RequestHead) (rest : List ℕ) : Type 0 where
   pub each : All IsHead heads
   pub whole : bytes ≡ print_heads heads ++ rest
   pub last : HasNoHead rest
 
--- the byte may stand in a line end
+-- the byte may be in a line end
 abbrev pub is_line_end_byte : ℕ → Bool
 is_line_end_byte b = b == carriage_return || b == line_feed

@@ -1,4 +1,5 @@
--- Tests of the version and the header lines of a head (RFC 9110, section 5.1: names are compared without case).
+-- Tests of the version and the header lines of a head (RFC 9110, section 5.1: names are compared
+-- without case).
 use Rattle.std.specs.Prelude.{ℕ, Bool, ◌&&◌, ◌||◌, not, List, map, ◌==◌, nat_lt, codes, count_by}
 use Rattle.std.specs.Char.{to_ascii_lowercase}
 use Rattle.std.specs.List.{list_any, slice_split}
@@ -27,7 +28,7 @@ is_named name line = same_word line.0 name
 abbrev pub host_count : List Line → ℕ
 host_count lines = count_by (is_named (codes "host")) lines
 
--- Host stands more than once, or not at all in HTTP/1.1
+-- Host occurs more than once, or not at all in HTTP/1.1
 abbrev pub has_wrong_host : ℕ → List Line → Bool
 has_wrong_host minor lines = nat_lt 1 (host_count lines) || (minor == 1 && host_count lines == 0)
 
@@ -39,7 +40,9 @@ announces_body line =
 
 -- one of the words between the commas is `close`
 unfoldable pub has_close_word : List ℕ → Bool
-has_close_word value = list_any (λ word. same_word (trim_ows word) (codes "close")) (slice_split (λ b. b == comma) value)
+has_close_word value =
+    list_any (λ word. same_word (trim_ows word) (codes "close"))
+    (slice_split (λ b. b == comma) value)
 
 -- the line asks that the connection be closed
 abbrev pub is_close_line : Line → Bool

@@ -9,7 +9,7 @@ pub use laws::{
 
 /// What a request asks for.
 #[derive(Clone, Copy, Debug, PartialEq, Eq)]
-pub enum AskKind {
+pub enum RequestKind {
     /// A page, with its text.
     Get,
     /// A page, without its text.
@@ -22,22 +22,22 @@ pub enum AskKind {
 
 /// What a request asks for, and how its reply is sent.
 #[derive(Clone, Copy, Debug, PartialEq, Eq)]
-pub struct Ask {
-    pub kind: AskKind,
+pub struct ParsedRequest {
+    pub kind: RequestKind,
     /// The reply has no body: the request is a whole head whose method is HEAD.
     pub no_body: bool,
     /// The connection closes after the reply, whatever else holds.
     pub close: bool,
 }
 
-/// How a connection stands.
+/// The state of a connection.
 #[derive(Clone, Copy, Debug, PartialEq, Eq)]
 pub enum Standing {
     /// More may be sent.
     Open,
     /// The last reply has closed it, or its input has ended.
     Closed,
-    /// Memory was missing for a reply, and a 503 stands in its place.
+    /// Memory was missing for a reply, and a 503 is in its place.
     Short,
     /// A send has failed, or the connection was lost.
     Lost,

@@ -6,18 +6,18 @@ use Rattle.std.proofs.lemmas.List.Elements.{All-head, All-tail}
 use Rattle.httparse.specs.Grammar.{RequestHead, print_request}
 use Rattle.http_spec.specs.Heads.{IsHead, HasNoHead, print_heads}
 use Rattle.http_spec.specs.Sessions.{OutcomeAt, closes_after, HasReplies, Session}
-use Rattle.http_spec.specs.Streams.{Dated, Request, dated, bytes_in, IsCutTo}
+use Rattle.http_spec.specs.Streams.{Timed, Request, timed, bytes_in, IsCutTo}
 use Rattle.http_spec.proofs.HeadLemmas.{head_last, last_of, later_cut}
 use Rattle.http_spec.proofs.StreamLemmas.{bytes-append, cut_later}
 use Rattle.hub.specs.Pieces.{AreReplies}
 
-pub dated-append : {D : Type 0} (d : D) (a b : List ℕ) → dated d (a ++ b) ≡ dated d a ++ dated d b
-dated-append d [] b = refl
-dated-append d (x ∷ a) b = ap (λ s. record { byte = x; current = d } ∷ s) (dated-append d a b)
+pub timed-append : {D : Type 0} (d : D) (a b : List ℕ) → timed d (a ++ b) ≡ timed d a ++ timed d b
+timed-append d [] b = refl
+timed-append d (x ∷ a) b = ap (λ s. record { byte = x; current = d } ∷ s) (timed-append d a b)
 
-pub bytes-dated : {D : Type 0} (d : D) (a : List ℕ) → bytes_in (dated d a) ≡ a
-bytes-dated d [] = refl
-bytes-dated d (x ∷ a) = ap (λ s. x ∷ s) (bytes-dated d a)
+pub bytes-timed : {D : Type 0} (d : D) (a : List ℕ) → bytes_in (timed d a) ≡ a
+bytes-timed d [] = refl
+bytes-timed d (x ∷ a) = ap (λ s. x ∷ s) (bytes-timed d a)
 
 -- the requests whose heads came while these data were current
 abbrev pub requests_of : {D : Type 0} → D → List RequestHead → List (Request D)
@@ -29,7 +29,7 @@ requests-length d [] = refl
 requests-length d (h ∷ heads) = ap suc (requests-length d heads)
 
 -- a cut, and a cut of its rest with more bytes
-pub cut_on : {D : Type 0} (stream p rest after : List (Dated D)) (requests more : List (Request D)) → IsCutTo stream requests rest → IsCutTo (rest ++ p) more after
+pub cut_on : {D : Type 0} (stream p rest after : List (Timed D)) (requests more : List (Request D)) → IsCutTo stream requests rest → IsCutTo (rest ++ p) more after
     → IsCutTo (stream ++ p) (requests ++ more) after
 cut_on stream p rest after [] more first second = subst (λ s. IsCutTo (s ++ p) more after) (sym first) second
 cut_on stream p rest after (request ∷ requests) more (front, last, tail, head, whole, bytes, d, cut) second = (
@@ -45,30 +45,30 @@ cut_on stream p rest after (request ∷ requests) more (front, last, tail, head,
 
 -- heads whose bytes came in one event
 pub cut_dated : {D : Type 0} (d : D) (heads : List RequestHead) (rest : List ℕ) → All IsHead heads
-    → IsCutTo (dated d (print_heads heads ++ rest)) (requests_of d heads) (dated d rest)
+    → IsCutTo (timed d (print_heads heads ++ rest)) (requests_of d heads) (timed d rest)
 cut_dated d [] rest each = refl
 cut_dated d (h ∷ heads) rest each =
     let last = head_last h in
     let tail = print_heads heads ++ rest in
-    let whole : dated d ((print_request h ++ print_heads heads) ++ rest) ≡ dated d last.0 ++ record { byte = 10; current = d } ∷ dated d tail =
-    ap (dated d) (append_assoc (print_request h) (print_heads heads) rest ∙ ap (λ s. s ++ tail) last.1 ∙ append_assoc last.0 (10 ∷ []) tail)
-    ∙ dated-append d last.0 (10 ∷ tail) in (
-      dated d last.0,
+    let whole : timed d ((print_request h ++ print_heads heads) ++ rest) ≡ timed d last.0 ++ record { byte = 10; current = d } ∷ timed d tail =
+    ap (timed d) (append_assoc (print_request h) (print_heads heads) rest ∙ ap (λ s. s ++ tail) last.1 ∙ append_assoc last.0 (10 ∷ []) tail)
+    ∙ timed-append d last.0 (10 ∷ tail) in (
+      timed d last.0,
       record { byte = 10; current = d },
-      dated d tail,
+      timed d tail,
       All-head IsHead h heads each,
       whole,
-      bytes-append (dated d last.0) (record { byte = 10; current = d } ∷ []) ∙ ap (λ s. s ++ 10 ∷ []) (bytes-dated d last.0) ∙ sym last.1,
+      bytes-append (timed d last.0) (record { byte = 10; current = d } ∷ []) ∙ ap (λ s. s ++ 10 ∷ []) (bytes-timed d last.0) ∙ sym last.1,
       refl,
       cut_dated d heads rest (All-tail IsHead h heads each),
     )
 
 -- A rest with no head, and more bytes that came in one event: the heads that are whole then have its data.
-pub cut_more : {D : Type 0} (d : D) (rest : List (Dated D)) (piece x : List ℕ) (heads : List RequestHead) → HasNoHead (bytes_in rest) → All IsHead heads
+pub cut_more : {D : Type 0} (d : D) (rest : List (Timed D)) (piece x : List ℕ) (heads : List RequestHead) → HasNoHead (bytes_in rest) → All IsHead heads
     → bytes_in rest ++ piece ≡ print_heads heads ++ x
-    → (after : List (Dated D)) × (bytes_in after ≡ x) × IsCutTo (rest ++ dated d piece) (requests_of d heads) after
+    → (after : List (Timed D)) × (bytes_in after ≡ x) × IsCutTo (rest ++ timed d piece) (requests_of d heads) after
 cut_more {D} d rest piece x [] none each whole =
-    (rest ++ dated d piece, bytes-append rest (dated d piece) ∙ ap (λ s. bytes_in rest ++ s) (bytes-dated d piece) ∙ whole, refl)
+    (rest ++ timed d piece, bytes-append rest (timed d piece) ∙ ap (λ s. bytes_in rest ++ s) (bytes-timed d piece) ∙ whole, refl)
 cut_more {D} d rest piece x (h ∷ heads) none each whole =
     by_length (le_or_lt (length (bytes_in rest)) (length (print_request h)))
   where
@@ -82,7 +82,7 @@ cut_more {D} d rest piece x (h ∷ heads) none each whole =
     le_or_lt a b = grind arith
 
     Found : Type 0
-    Found = (after : List (Dated D)) × (bytes_in after ≡ x) × IsCutTo (rest ++ dated d piece) (requests_of d (h ∷ heads)) after
+    Found = (after : List (Timed D)) × (bytes_in after ≡ x) × IsCutTo (rest ++ timed d piece) (requests_of d (h ∷ heads)) after
 
     by_last : (m : List ℕ) → print_request h ≡ bytes_in rest ++ m → piece ≡ m ++ tail → (m ≡ []) ⊎ ((front : List ℕ) × (z : ℕ) × (m ≡ front ++ z ∷ [])) → Found
     by_last m head_is piece_is (inl empty) =
@@ -91,17 +91,17 @@ cut_more {D} d rest piece x (h ∷ heads) none each whole =
           whole = sym (append-nil (print_request h) ∙ head_is ∙ ap (λ s. bytes_in rest ++ s) empty ∙ append-nil (bytes_in rest));
         })
     by_last m head_is piece_is (inr (front, z, m_is)) = (
-      dated d x,
-      bytes-dated d x,
+      timed d x,
+      bytes-timed d x,
       (
-        rest ++ dated d front,
+        rest ++ timed d front,
         record { byte = z; current = d },
-        dated d tail,
+        timed d tail,
         All-head IsHead h heads each,
-        ap (λ s. rest ++ dated d s) (piece_is ∙ ap (λ s. s ++ tail) m_is ∙ append_assoc front (z ∷ []) tail)
-            ∙ ap (λ s. rest ++ s) (dated-append d front (z ∷ tail)) ∙ sym (append_assoc rest (dated d front) (record { byte = z; current = d } ∷ dated d tail)),
-        bytes-append (rest ++ dated d front) (record { byte = z; current = d } ∷ [])
-            ∙ ap (λ s. s ++ z ∷ []) (bytes-append rest (dated d front) ∙ ap (λ s. bytes_in rest ++ s) (bytes-dated d front))
+        ap (λ s. rest ++ timed d s) (piece_is ∙ ap (λ s. s ++ tail) m_is ∙ append_assoc front (z ∷ []) tail)
+            ∙ ap (λ s. rest ++ s) (timed-append d front (z ∷ tail)) ∙ sym (append_assoc rest (timed d front) (record { byte = z; current = d } ∷ timed d tail)),
+        bytes-append (rest ++ timed d front) (record { byte = z; current = d } ∷ [])
+            ∙ ap (λ s. s ++ z ∷ []) (bytes-append rest (timed d front) ∙ ap (λ s. bytes_in rest ++ s) (bytes-timed d front))
             ∙ append_assoc (bytes_in rest) front (z ∷ []) ∙ ap (λ s. bytes_in rest ++ s) (sym m_is) ∙ sym head_is,
         refl,
         cut_dated d heads x (All-tail IsHead h heads each),
@@ -150,23 +150,23 @@ has_append page limit left (h ∷ hs) more (r ∷ rs) others closed e first seco
 )
 
 -- one event more of a session that nothing closed
-pub session_more : {D : Type 0} (page : D → OutcomeAt) (d : D) (limit left : ℕ) (stream rest : List (Dated D)) (requests : List (Request D)) (replies others : List (List ℕ)) (piece x : List ℕ)
+pub session_more : {D : Type 0} (page : D → OutcomeAt) (d : D) (limit left : ℕ) (stream rest : List (Timed D)) (requests : List (Request D)) (replies others : List (List ℕ)) (piece x : List ℕ)
     (heads : List RequestHead) (closed : Bool)
     → Session page limit stream requests rest replies false → left + length requests ≡ limit → HasNoHead (bytes_in rest)
     → All IsHead heads → bytes_in rest ++ piece ≡ print_heads heads ++ x → AreReplies (page d) left heads others closed
-    → (after : List (Dated D)) × (bytes_in after ≡ x) × Session page limit (stream ++ dated d piece) (requests ++ requests_of d heads) after (replies ++ others) closed
+    → (after : List (Timed D)) × (bytes_in after ≡ x) × Session page limit (stream ++ timed d piece) (requests ++ requests_of d heads) after (replies ++ others) closed
 session_more page d limit left stream rest requests replies others piece x heads closed session count none each whole answered =
     let more = cut_more d rest piece x heads none each whole in (
       more.0,
       more.1,
       record {
-        cut = cut_on stream (dated d piece) rest more.0 requests (requests_of d heads) session.cut more.2;
+        cut = cut_on stream (timed d piece) rest more.0 requests (requests_of d heads) session.cut more.2;
         answered = has_append page limit left requests (requests_of d heads) replies others closed count session.answered (replies_dated page d left heads others closed answered);
       },
     )
 
 -- bytes that come later are in its rest
-pub session_later : {D : Type 0} (page : D → OutcomeAt) (limit : ℕ) (stream later rest : List (Dated D)) (requests : List (Request D)) (replies : List (List ℕ)) (closed : Bool)
+pub session_later : {D : Type 0} (page : D → OutcomeAt) (limit : ℕ) (stream later rest : List (Timed D)) (requests : List (Request D)) (replies : List (List ℕ)) (closed : Bool)
     → Session page limit stream requests rest replies closed → Session page limit (stream ++ later) requests (rest ++ later) replies closed
 session_later page limit stream later rest requests replies closed session = record {
   cut = cut_later stream later rest requests session.cut;

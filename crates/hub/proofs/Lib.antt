@@ -1,8 +1,8 @@
-mod MadeLemmas
+pub mod MadeLemmas
 mod PieceLemmas
 mod StepLemmas
 mod DateLemmas
 mod ServeLemmas
-mod StandLemmas
-mod TurnLemmas
-mod RunLemmas
+pub mod StandLemmas
+pub mod TurnLemmas
+pub mod RunLemmas

@@ -2,14 +2,15 @@
 use Rattle.std.proofs.Common.{◌≡◌, ℕ, ◌+◌, ◌-◌, ◌≤◌, ◌⊎◌, List, [], ◌∷◌, ◌++◌, length, zero, suc, refl, sym, ap, ◌∙◌, subst, arith, append_assoc, append-nil, inl, inr, Some, length-append, lit≤}
 use Rattle.httparse.specs.Grammar.{RequestHead}
 use Rattle.sd_value.specs.declared.Term.{Term}
-use Rattle.http_spec.specs.declared.Ask.{Ask}
-use Rattle.http_spec.specs.declared.AskKind.{AskKind}
-use Rattle.http_spec.specs.declared.AskKind.TheVariants.{Get, Head, BadRequest, WrongMethod}
+use Rattle.http_spec.specs.declared.ParsedRequest.{ParsedRequest}
+use Rattle.http_spec.specs.declared.RequestKind.{RequestKind}
+use Rattle.http_spec.specs.declared.RequestKind.TheVariants.{Get, Head, BadRequest, WrongMethod}
 use Rattle.http_spec.specs.declared.Standing.TheVariants.{Open, Short}
 use Rattle.http_spec.specs.Asks.{ask_of}
 use Rattle.http_reply.specs.Feeding.{Held, FedCase}
 use Rattle.wire.specs.Accounts.{up, up_by}
-use Rattle.hub.specs.Made.{Made, replies_in, NamedBy, LooksUp, LooksUpAll, AllLooked}
+use Rattle.serving_spec.specs.Made.{Made, replies_in, NamedBy, LooksUp, AllLooked}
+use Rattle.hub.specs.Makes.{LooksUpAll}
 use Rattle.hub.proofs.StepLemmas.{heads_after}
 
 -- so many more, and then so many
@@ -33,15 +34,15 @@ looks_more Names (k ∷ heads) looked h terms (first, others, own, rest, is) one
     (first, others ++ terms, own, looks_more Names heads others h terms rest one, ap (λ l. l ++ terms) is ∙ append_assoc first others terms)
 
 -- the look-ups for the head that an ask is for, or for none
-pub looks_asked : (Names : List ℕ → Term → Type 0) (rest p : List ℕ) (taken : ℕ) (ask : Ask) (after : Held) (fed : FedCase rest p taken (Some ask) after)
+pub looks_asked : (Names : List ℕ → Term → Type 0) (rest p : List ℕ) (taken : ℕ) (ask : ParsedRequest) (after : Held) (fed : FedCase rest p taken (Some ask) after)
     (heads : List RequestHead) (looked terms : List Term) → LooksUpAll Names heads looked → LooksUp Names ask.kind after.target terms
     → LooksUpAll Names (heads_after rest p taken ask after fed heads) (looked ++ terms)
 looks_asked Names rest p taken ask after (inl w) heads looked terms before one =
-    let At : Ask → Type 0 = λ a. LooksUp Names a.kind after.target terms in
+    let At : ParsedRequest → Type 0 = λ a. LooksUp Names a.kind after.target terms in
     let Target : List ℕ → Type 0 = λ t. LooksUp Names (ask_of w.0).kind t terms in
     looks_more Names heads looked w.0 terms before (subst Target (ap (λ (x : Held). x.target) w.1.after_is) (subst At w.1.ask_is one))
 looks_asked Names rest p taken ask after (inr refused) heads looked terms before one =
-    let At : Ask → Type 0 = λ a. LooksUp Names a.kind after.target terms in
+    let At : ParsedRequest → Type 0 = λ a. LooksUp Names a.kind after.target terms in
     let none : terms ≡ [] = subst At refused.ask_is one in
     subst (LooksUpAll Names heads) (sym (ap (λ l. looked ++ l) none ∙ append-nil looked)) before
 
@@ -50,13 +51,13 @@ named_few : (Names : List ℕ → Term → Type 0) (target : List ℕ) (terms : 
 named_few Names target terms (inl (term, is, one)) = subst (λ (l : List Term). length l ≤ 1) (sym one) (lit≤ tt)
 named_few Names target terms (inr (never, none)) = subst (λ (l : List Term). length l ≤ 1) (sym none) (lit≤ tt)
 
-looks_few : (Names : List ℕ → Term → Type 0) (kind : AskKind) (target : List ℕ) (terms : List Term) → LooksUp Names kind target terms → length terms ≤ 1
+looks_few : (Names : List ℕ → Term → Type 0) (kind : RequestKind) (target : List ℕ) (terms : List Term) → LooksUp Names kind target terms → length terms ≤ 1
 looks_few Names Get target terms up = named_few Names target terms up
 looks_few Names Head target terms up = named_few Names target terms up
 looks_few Names BadRequest target terms none = subst (λ (l : List Term). length l ≤ 1) (sym none) (lit≤ tt)
 looks_few Names WrongMethod target terms none = subst (λ (l : List Term). length l ≤ 1) (sym none) (lit≤ tt)
 
-pub short_few : (Names : List ℕ → Term → Type 0) (kind : AskKind) (target : List ℕ) (terms : List Term) → (terms ≡ []) ⊎ LooksUp Names kind target terms
+pub short_few : (Names : List ℕ → Term → Type 0) (kind : RequestKind) (target : List ℕ) (terms : List Term) → (terms ≡ []) ⊎ LooksUp Names kind target terms
     → length terms ≤ 1
 short_few Names kind target terms (inl none) = subst (λ (l : List Term). length l ≤ 1) (sym none) (lit≤ tt)
 short_few Names kind target terms (inr up) = looks_few Names kind target terms up

@@ -9,24 +9,27 @@ use Rattle.wire.specs.Accounts.{Account, up_by}
 use Rattle.wire.specs.Events.{add_event, is_done, IsNextOf, IsDrawn}
 use Rattle.wire.specs.declared.WireEvent.{WireEvent}
 use Rattle.wire.specs.declared.WireEvent.TheVariants.{Opened, Bytes, Ended, Lost as LostEvent, Change, Done}
-use Rattle.hub.specs.Course.{Scene, Rules, scene, Passes, PassesAll, IsCourse}
-use Rattle.hub.specs.HubState.{HubState}
+use Rattle.hub.specs.Course.{Scene, Rules, Passes, PassesAll, IsCourse}
+use Rattle.hub.specs.HubState.{scene, HubState}
 use Rattle.hub.specs.Line.{Line}
-use Rattle.hub.specs.Made.{Made, nothing}
-use Rattle.hub.specs.Moments.{Moment, Unopened, Coming, after_event, moment_after, Stands}
-use Rattle.hub.specs.Turns.{At, at_in, Turned, counts, greatest_after, state_after, opened_after}
+use Rattle.serving_spec.specs.Counted.{no_counts, counts_with, is_of}
+use Rattle.serving_spec.specs.Made.{Made, nothing}
+use Rattle.serving_spec.specs.Inputs.{Moment, Unopened, Coming, after_event, moment_after}
+use Rattle.hub.specs.Moments.{Stands}
+use Rattle.hub.specs.Turns.{At, at_in, Turned, state_after}
+use Rattle.serving_spec.specs.Openings.{counts, greatest_after, opened_after}
 use Rattle.hub.proofs.TurnLemmas.{stands_turn}
 
 -- where a connection stands after these events, with the current and the greatest number as they are then
-pub record Runs {D : Type 0} (page : D → OutcomeAt) (changed : D → List ℕ → D) (limit number : ℕ) (start : Moment D) (events : List WireEvent) (first now : At) (current : D) (greatest : Option ℕ) : Type 0 where
-  pub stands : Stands page limit number (moment_after changed number start events) first now
+pub record Runs {D : Type 0} (page : D → OutcomeAt) (Names : List ℕ → Term → Type 0) (changed : D → List ℕ → D) (limit number : ℕ) (start : Moment D) (events : List WireEvent) (first now : At) (current : D) (greatest : Option ℕ) : Type 0 where
+  pub stands : Stands page Names limit number (moment_after changed number start events) first now
   pub current_is : (moment_after changed number start events).current ≡ current
   pub greatest_is : (moment_after changed number start events).greatest ≡ greatest
 
-pub runs_start : {D : Type 0} (page : D → OutcomeAt) (changed : D → List ℕ → D) (limit number : ℕ) (first : At) (current : D) (greatest : Option ℕ) → first.line ≡ None
-    → Runs page changed limit number (record { current = current; greatest = greatest; input = Unopened }) [] first first current greatest
-runs_start page changed limit number first current greatest none =
-    record { stands = record { stands = (none, refl); opened = tt }; current_is = refl; greatest_is = refl }
+pub runs_start : {D : Type 0} (page : D → OutcomeAt) (Names : List ℕ → Term → Type 0) (changed : D → List ℕ → D) (limit number : ℕ) (first : At) (current : D) (greatest : Option ℕ) → first.line ≡ None
+    → Runs page Names changed limit number (record { current = current; greatest = greatest; input = Unopened }) [] first first current greatest
+runs_start page Names changed limit number first current greatest none =
+    record { stands = record { counted = no_counts; is = record { stands = (none, refl, refl); opened = tt } }; current_is = refl; greatest_is = refl }
 
 data_of_event : {D : Type 0} (changed : D → List ℕ → D) (k : ℕ) (m : Moment D) (e : WireEvent) → (after_event changed k m e).current ≡ state_after changed e m.current
 data_of_event changed k m (Opened number) = by_test (counts m.greatest number)
@@ -40,7 +43,7 @@ data_of_event changed k m (LostEvent number) = refl
 data_of_event changed k m (Change text) = refl
 data_of_event changed k m Done = refl
 
-greatest_of_event : {D : Type 0} (changed : D → List ℕ → D) (k : ℕ) (m : Moment D) (e : WireEvent) → (after_event changed k m e).greatest ≡ greatest_after e m.greatest
+pub greatest_of_event : {D : Type 0} (changed : D → List ℕ → D) (k : ℕ) (m : Moment D) (e : WireEvent) → (after_event changed k m e).greatest ≡ greatest_after e m.greatest
 greatest_of_event changed k m (Opened number) = by_test (counts m.greatest number)
   where
     by_test : (t : Bool) → (if t then record { current = m.current; greatest = Some number; input = if number == k then Coming [] else m.input } else m).greatest ≡ (if t then Some number else m.greatest)
@@ -57,18 +60,21 @@ module _ {D : Type 0} (page : D → OutcomeAt) (Names : List ℕ → Term → Ty
   moment_more = fold-append (after_event changed k) start events (e ∷ [])
 
   -- where the event stands for all connections
-  pub stands_more : (before after : ℕ → At) (current : D) (greatest : Option ℕ) → 0 < limit → Runs page changed limit k start events first (before k) current greatest
-      → Turned (page current) Names limit greatest e made before after → Stands page limit k (moment_after changed k start (events ++ e ∷ [])) first (after k)
+  pub stands_more : (before after : ℕ → At) (current : D) (greatest : Option ℕ) → 0 < limit → Runs page Names changed limit k start events first (before k) current greatest
+      → Turned (page current) Names limit greatest e made before after → Stands page Names limit k (moment_after changed k start (events ++ e ∷ [])) first (after k)
   stands_more before after current greatest some runs turned =
       let m = moment_after changed k start events in
       let here : Turned (page m.current) Names limit m.greatest e made before after =
       subst (λ s. Turned (page s) Names limit m.greatest e made before after) (sym runs.current_is)
       (subst (λ g. Turned (page current) Names limit g e made before after) (sym runs.greatest_is) turned) in
-      subst (λ n. Stands page limit k n first (after k)) (sym moment_more) (stands_turn page Names changed limit k m first made before after some runs.stands e here)
+      subst (λ n. Stands page Names limit k n first (after k)) (sym moment_more) record {
+        counted = if is_of k e then counts_with runs.stands.counted m.current made else runs.stands.counted;
+        is = stands_turn page Names changed limit k m runs.stands.counted first made before after some runs.stands.is e here;
+      }
 
-  pub runs_more : (before after : ℕ → At) (current now : D) (greatest later : Option ℕ) → 0 < limit → Runs page changed limit k start events first (before k) current greatest
+  pub runs_more : (before after : ℕ → At) (current now : D) (greatest later : Option ℕ) → 0 < limit → Runs page Names changed limit k start events first (before k) current greatest
       → Turned (page current) Names limit greatest e made before after → now ≡ state_after changed e current → later ≡ greatest_after e greatest
-      → Runs page changed limit k start (events ++ e ∷ []) first (after k) now later
+      → Runs page Names changed limit k start (events ++ e ∷ []) first (after k) now later
   runs_more before after current now greatest later some runs turned current_is greatest_is =
       let m = moment_after changed k start events in
       record {
@@ -78,12 +84,12 @@ module _ {D : Type 0} (page : D → OutcomeAt) (Names : List ℕ → Term → Ty
       }
 
   -- the last event changes nothing
-  pub stands_done : (now : At) (current : D) (greatest : Option ℕ) → e ≡ Done → Runs page changed limit k start events first now current greatest
-      → Stands page limit k (moment_after changed k start (events ++ e ∷ [])) first now
+  pub stands_done : (now : At) (current : D) (greatest : Option ℕ) → e ≡ Done → Runs page Names changed limit k start events first now current greatest
+      → Stands page Names limit k (moment_after changed k start (events ++ e ∷ [])) first now
   stands_done now current greatest is runs =
       let m = moment_after changed k start events in
-      subst (λ n. Stands page limit k n first now) (sym moment_more)
-      (subst (λ x. Stands page limit k (after_event changed k m x) first now) (sym is) runs.stands)
+      subst (λ n. Stands page Names limit k n first now) (sym moment_more)
+      (subst (λ x. Stands page Names limit k (after_event changed k m x) first now) (sym is) runs.stands)
 
 -- one more event was given
 pub given_more : (given now next : Option (List WireEvent)) (events : List WireEvent) (e : WireEvent) → now ≡ fold add_event given events
@@ -109,13 +115,13 @@ done_is (Change text) is = cc
 done_is Done is = refl
 
 -- the wire tells the same of the connections
-pub runs_moved : {D : Type 0} (page : D → OutcomeAt) (changed : D → List ℕ → D) (limit number : ℕ) (start : Moment D) (events : List WireEvent) (first : At) (lines : ℕ → Option Line)
+pub runs_moved : {D : Type 0} (page : D → OutcomeAt) (Names : List ℕ → Term → Type 0) (changed : D → List ℕ → D) (limit number : ℕ) (start : Moment D) (events : List WireEvent) (first : At) (lines : ℕ → Option Line)
     (accounts others : ℕ → Option Account) (faults later : ℕ → ℕ) (current : D) (greatest : Option ℕ) → others ≡ accounts → later ≡ faults
-    → Runs page changed limit number start events first (at_in lines accounts faults number) current greatest
-    → Runs page changed limit number start events first (at_in lines others later number) current greatest
-runs_moved page changed limit number start events first lines accounts others faults later current greatest same fine runs =
-    subst (λ (a : ℕ → Option Account). Runs page changed limit number start events first (at_in lines a later number) current greatest) (sym same)
-    (subst (λ (f : ℕ → ℕ). Runs page changed limit number start events first (at_in lines accounts f number) current greatest) (sym fine) runs)
+    → Runs page Names changed limit number start events first (at_in lines accounts faults number) current greatest
+    → Runs page Names changed limit number start events first (at_in lines others later number) current greatest
+runs_moved page Names changed limit number start events first lines accounts others faults later current greatest same fine runs =
+    subst (λ (a : ℕ → Option Account). Runs page Names changed limit number start events first (at_in lines a later number) current greatest) (sym same)
+    (subst (λ (f : ℕ → ℕ). Runs page Names changed limit number start events first (at_in lines accounts f number) current greatest) (sym fine) runs)
 
 -- the root and the limit are as they were at first
 pub turned_at : {D : Type 0} (page : Option (List ℕ) → D → OutcomeAt) (Names : Option (List ℕ) → List ℕ → Term → Type 0) (current : D) (root here : Option (List ℕ)) (limit first : ℕ) (greatest : Option ℕ) (e : WireEvent) (made : Made)
@@ -170,6 +176,7 @@ counts_stay rules limit start between after events e text made is before turned 
       ap (λ x. events ++ x ∷ []) is,
       before,
       record {
+        ats = here.0;
         opened = opened ∙ ap (λ (x : WireEvent). opened_after x between.greatest between.opened) is;
         replies = replies ∙ ap (λ (m : Made). up_by m.replies between.replies) here.1;
         found = found;

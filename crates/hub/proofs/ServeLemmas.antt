@@ -4,7 +4,7 @@ use Rattle.std.proofs.lemmas.List.{append-nil, take-append-drop}
 use Rattle.edge_io.specs.Counts.{Rose}
 use Rattle.page_spec.specs.declared.Outcome.{Outcome}
 use Rattle.sd_value.specs.declared.Term.{Term}
-use Rattle.http_spec.specs.declared.Ask.{Ask}
+use Rattle.http_spec.specs.declared.ParsedRequest.{ParsedRequest}
 use Rattle.http_spec.specs.declared.Standing.{Standing}
 use Rattle.http_spec.specs.declared.Standing.TheVariants.{Open, Closed, Short, Lost}
 use Rattle.http_spec.specs.Asks.{bad_request}
@@ -14,10 +14,11 @@ use Rattle.http_spec.specs.Sessions.{OutcomeAt, IsLookedUp}
 use Rattle.http_reply.specs.Feeding.{Held, FedCase, EndsWith}
 use Rattle.wire.specs.Accounts.{Account, send_to, gain, up}
 use Rattle.hub.specs.Line.{Line}
-use Rattle.hub.specs.Made.{Made, LooksUp, LooksFor, LooksUpAll, Makes, replies_in}
+use Rattle.serving_spec.specs.Made.{Made, LooksUp, replies_in}
+use Rattle.hub.specs.Makes.{LooksFor, LooksUpAll, Makes}
 use Rattle.hub.proofs.MadeLemmas.{looks_asked, short_few, count_open, count_short}
 use Rattle.hub.specs.Pieces.{Answered, AtEnd, StaysOpen}
-use Rattle.hub.specs.Turns.{IsSent, IsUnopened, IsFinished, EndSteps, Reply, FrontReplies, IsServed, IsAnswered}
+use Rattle.hub.specs.Turns.{IsSent, IsUnopened, IsFinished, EndSteps, Reply, FrontReplies, IsPieceServed, IsAnswered}
 use Rattle.hub.proofs.StepLemmas.{answered_open, answered_closed, answered_short, heads_after}
 
 -- one more reply
@@ -30,7 +31,7 @@ gain_append a [] more = refl
 gain_append a (r ∷ replies) more = gain_append (send_to a r) replies more
 
 -- an answer, after other replies
-shifted : (page : OutcomeAt) (ask : Ask) (target : List ℕ) (last : Bool) (would : Standing) (mid : List (List ℕ)) (reply : List ℕ) → (would ≢ Lost)
+shifted : (page : OutcomeAt) (ask : ParsedRequest) (target : List ℕ) (last : Bool) (would : Standing) (mid : List (List ℕ)) (reply : List ℕ) → (would ≢ Lost)
     → Answered page ask target last would [] (reply ∷ []) → Answered page ask target last would mid (mid ++ reply ∷ [])
 shifted page ask target last Open mid reply fails (outcome, up, close, e) = (outcome, up, close, ap (λ x. mid ++ x) e)
 shifted page ask target last Closed mid reply fails (outcome, up, close, e) = (outcome, up, close, ap (λ x. mid ++ x) e)
@@ -38,7 +39,7 @@ shifted page ask target last Short mid reply fails e = ap (λ x. mid ++ x) e
 shifted page ask target last Lost mid reply fails e = absurd (fails refl)
 
 -- the answer of the reader's ask, with the outcomes as they were at first
-pub answered_now : {D : Type 0} (page : D → OutcomeAt) (Names : List ℕ → Term → Type 0) (made : Made) (standing : Standing) (now first : D) (ask : Ask) (given target : List ℕ) (left : ℕ)
+pub answered_now : {D : Type 0} (page : D → OutcomeAt) (Names : List ℕ → Term → Type 0) (made : Made) (standing : Standing) (now first : D) (ask : ParsedRequest) (given target : List ℕ) (left : ℕ)
     (old new : Option Account) (f h : ℕ) → now ≡ first → given ≡ target → IsAnswered (page now) Names ask given (left == 1) made standing old new f h
     → IsAnswered (page first) Names ask target (left == 1) made standing old new f h
 answered_now {D} page Names made standing now first ask given target left old new f h current same answered =
@@ -48,7 +49,7 @@ answered_now {D} page Names made standing now first ask given target left old ne
 
 module _ (page : OutcomeAt) (Names : List ℕ → Term → Type 0) (before : Line) (piece p : List ℕ) (from taken : ℕ) (held : Line) (after : Held) (mid : List (List ℕ))
     (is : p ≡ drop from piece) (stays : StaysOpen page before (take from piece) held [] mid)
-    (ask : Ask) (fed : FedCase held.rest p taken (Some ask) after) (first now new : Option Account) (f g h : ℕ)
+    (ask : ParsedRequest) (fed : FedCase held.rest p taken (Some ask) after) (first now new : Option Account) (f g h : ℕ)
     (account : now ≡ gain first mid) (fine : g ≡ f) (looked : List Term) (look_ups : LooksUpAll Names stays.heads looked) (made : Made) where
   -- all that was made up to this reply
   abbrev pub so_many : Made
@@ -111,7 +112,7 @@ module _ (page : OutcomeAt) (Names : List ℕ → Term → Type 0) (before : Lin
       )
 
   pub serve_closed : (then : Line) → IsAnswered page Names ask after.target (held.left == 1) made Closed now new g h
-      → IsServed page Names before piece so_many Closed then first new f h
+      → IsPieceServed page Names before piece so_many Closed then first new f h
   serve_closed then (replies, r, account_is, faults_are) = (
     mid ++ r.reply ∷ [],
     (
@@ -125,7 +126,7 @@ module _ (page : OutcomeAt) (Names : List ℕ → Term → Type 0) (before : Lin
   )
 
   pub serve_short : (then : Line) → IsAnswered page Names ask after.target (held.left == 1) made Short now new g h
-      → IsServed page Names before piece so_many Short then first new f h
+      → IsPieceServed page Names before piece so_many Short then first new f h
   serve_short then (replies, r, account_is, faults_are) = (
     mid ++ r.reply ∷ [],
     (
@@ -187,7 +188,7 @@ module _ (page : OutcomeAt) (Names : List ℕ → Term → Type 0) (before : Lin
   only (b ∷ c ∷ before) next reply e = absurd (let never : ⊥ = omega (arith, ap (λ (x : List (List ℕ)). length x) e) in never)
 
   pub serve_lost : (then : Line) → IsAnswered page Names ask after.target (held.left == 1) made Lost now new g h
-      → IsServed page Names before piece so_many Lost then first new f h
+      → IsPieceServed page Names before piece so_many Lost then first new f h
   serve_lost then (would, sent, next, some, r, account_is, rose) =
       let one = only sent next r.reply r.one in
       let same : new ≡ send_to (gain first mid) (take some r.reply) =
@@ -202,7 +203,7 @@ module _ (page : OutcomeAt) (Names : List ℕ → Term → Type 0) (before : Lin
       )
 
 -- the end of the input, after line ends alone
-pub finish_clean : (rest : List ℕ) (asked : Option Ask) (a : Option Account) (f : ℕ) → asked ≡ None → EndsWith rest asked
+pub finish_clean : (rest : List ℕ) (asked : Option ParsedRequest) (a : Option Account) (f : ℕ) → asked ≡ None → EndsWith rest asked
     → IsFinished rest (record { replies = 0; terms = [] }) Closed a a f f
 finish_clean rest asked a f none ends =
     let clean : EndsWith rest None = subst (EndsWith rest) none ends in
@@ -216,14 +217,14 @@ none_looked Names Short target terms fails (inl none) = none
 none_looked Names Short target terms fails (inr none) = none
 none_looked Names Lost target terms fails never = absurd (fails refl)
 
-end_step : (page : OutcomeAt) (Names : List ℕ → Term → Type 0) (rest target : List ℕ) (ask : Ask) (made : Made) (would : Standing) (replies : List (List ℕ)) → ¬ (AreLineEnds rest) → ask ≡ bad_request
+end_step : (page : OutcomeAt) (Names : List ℕ → Term → Type 0) (rest target : List ℕ) (ask : ParsedRequest) (made : Made) (would : Standing) (replies : List (List ℕ)) → ¬ (AreLineEnds rest) → ask ≡ bad_request
     → Reply page Names ask target true made would replies → EndSteps rest made would replies
 end_step page Names rest target ask made would replies within is r =
     subst (EndSteps rest made would) (sym r.one) record {
       fails = r.fails;
       steps = step would r.fails (subst (λ a. Answered page a target true would [] (r.reply ∷ [])) is r.answers);
       count = r.count;
-      none = none_looked Names would target made.terms r.fails (subst (λ (a : Ask). LooksFor Names would a.kind target made.terms) is r.looks);
+      none = none_looked Names would target made.terms r.fails (subst (λ (a : ParsedRequest). LooksFor Names would a.kind target made.terms) is r.looks);
     }
   where
     step : (would : Standing) → (would ≢ Lost) → Answered page bad_request target true would [] (r.reply ∷ []) → AtEnd rest would (r.reply ∷ [])
@@ -233,7 +234,7 @@ end_step page Names rest target ask made would replies within is r =
     step Lost fails answered = absurd (fails refl)
 
 -- the end of the input, after more than line ends
-pub finish_asked : (page : OutcomeAt) (Names : List ℕ → Term → Type 0) (rest target : List ℕ) (asked : Option Ask) (ask : Ask) (made : Made) (standing : Standing) (a b : Option Account) (f g : ℕ)
+pub finish_asked : (page : OutcomeAt) (Names : List ℕ → Term → Type 0) (rest target : List ℕ) (asked : Option ParsedRequest) (ask : ParsedRequest) (made : Made) (standing : Standing) (a b : Option Account) (f g : ℕ)
     → asked ≡ Some ask → EndsWith rest asked → IsAnswered page Names ask target true made standing a b f g → IsFinished rest made standing a b f g
 finish_asked page Names rest target asked ask made standing a b f g some ends answered =
     let ended : EndsWith rest (Some ask) = subst (EndsWith rest) some ends in
@@ -248,12 +249,12 @@ finish_asked page Names rest target asked ask made standing a b f g some ends an
         (would, before, next, some, end_step page Names rest target ask made would (before ++ next ∷ []) within is r, e, k)
 
 -- an answer that left it open had no fault
-pub faults_open : (page : OutcomeAt) (Names : List ℕ → Term → Type 0) (ask : Ask) (target : List ℕ) (last : Bool) (made : Made) (old new : Option Account) (f h : ℕ)
+pub faults_open : (page : OutcomeAt) (Names : List ℕ → Term → Type 0) (ask : ParsedRequest) (target : List ℕ) (last : Bool) (made : Made) (old new : Option Account) (f h : ℕ)
     → IsAnswered page Names ask target last made Open old new f h → h ≡ f
 faults_open page Names ask target last made old new f h (replies, r, account_is, fine) = fine
 
 -- a reply that was made is sent
-pub sent_answer : (page : OutcomeAt) (Names : List ℕ → Term → Type 0) (ask : Ask) (target : List ℕ) (last close : Bool) (reply : List ℕ) (outcome : Outcome) (terms : List Term) (standing : Standing)
+pub sent_answer : (page : OutcomeAt) (Names : List ℕ → Term → Type 0) (ask : ParsedRequest) (target : List ℕ) (last close : Bool) (reply : List ℕ) (outcome : Outcome) (terms : List Term) (standing : Standing)
     (old new : Option Account) (f g : ℕ) → close ≡ (last || ask.close) → IsLookedUp page ask.kind target outcome → reply ≡ reply_bytes ask outcome close
     → LooksUp Names ask.kind target terms
     → IsSent close reply standing old new f g → IsAnswered page Names ask target last (record { replies = 1; terms = terms }) standing old new f g
@@ -280,7 +281,7 @@ sent_answer page Names ask target last close reply outcome terms standing old ne
         (would.0, [], reply, some, would.1, account, rose)
 
 -- a 503 is sent in its place
-pub short_answer : (page : OutcomeAt) (Names : List ℕ → Term → Type 0) (ask : Ask) (target : List ℕ) (last : Bool) (terms : List Term) (standing : Standing) (old new : Option Account) (f g : ℕ)
+pub short_answer : (page : OutcomeAt) (Names : List ℕ → Term → Type 0) (ask : ParsedRequest) (target : List ℕ) (last : Bool) (terms : List Term) (standing : Standing) (old new : Option Account) (f g : ℕ)
     → (standing ≢ Open) → (terms ≡ []) ⊎ LooksUp Names ask.kind target terms → IsUnopened standing old new f g
     → IsAnswered page Names ask target last (record { replies = 0; terms = terms }) standing old new f g
 short_answer page Names ask target last terms standing old new f g over looks = by_standing standing

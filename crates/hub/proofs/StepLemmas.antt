@@ -5,11 +5,11 @@ use Rattle.std.proofs.lemmas.Bool.Decides.{nat_tests}
 use Rattle.std.proofs.lemmas.List.{append-nil, take-append-drop}
 use Rattle.std.proofs.lemmas.List.Elements.{All-nil}
 use Rattle.httparse.specs.Grammar.{RequestHead}
-use Rattle.http_spec.specs.declared.Ask.{Ask}
+use Rattle.http_spec.specs.declared.ParsedRequest.{ParsedRequest}
 use Rattle.http_spec.specs.declared.Standing.{Standing}
 use Rattle.http_spec.specs.declared.Standing.TheVariants.{Open, Closed, Short}
 use Rattle.http_spec.specs.Asks.{ask_of, bad_request}
-use Rattle.http_spec.specs.Heads.{max_head, IsHead, HasNoHead, IsDoomed}
+use Rattle.http_spec.specs.Heads.{max_head, IsHead, HasNoHead, CannotBecomeHead}
 use Rattle.http_spec.specs.Replies.{reply_bytes, no_memory_bytes}
 use Rattle.http_spec.specs.Sessions.{OutcomeAt, IsRefused, IsDue, refusal}
 use Rattle.http_spec.proofs.HeadLemmas.{no_head_nil}
@@ -20,7 +20,7 @@ use Rattle.hub.specs.Pieces.{Answered, OpenAfter, ClosedAfter, RefusedAfter, Sho
 use Rattle.hub.proofs.PieceLemmas.{open_waits, open_replies, open_closes, open_refused, open_short}
 
 -- why the reader refuses bytes
-why_refused : (rest : List ℕ) → HasNoHead rest → (max_head ≤ length rest) ⊎ IsDoomed rest → IsRefused false rest
+why_refused : (rest : List ℕ) → HasNoHead rest → (max_head ≤ length rest) ⊎ CannotBecomeHead rest → IsRefused false rest
 why_refused rest none (inl full) = (none, inl full)
 why_refused rest none (inr doomed) = (none, inr (inl doomed))
 
@@ -52,7 +52,7 @@ not_last : (n : ℕ) → 0 < n → (n == 1) ≡ false → 1 < n
 not_last n some e = grind (arith, nat_tests)
 
 -- the heads that are answered after an ask
-abbrev pub heads_after : (rest p : List ℕ) (taken : ℕ) (ask : Ask) (after : Held) → FedCase rest p taken (Some ask) after → List RequestHead → List RequestHead
+abbrev pub heads_after : (rest p : List ℕ) (taken : ℕ) (ask : ParsedRequest) (after : Held) → FedCase rest p taken (Some ask) after → List RequestHead → List RequestHead
 heads_after rest p taken ask after (inl w) heads = heads ++ w.0 ∷ []
 heads_after rest p taken ask after (inr refused) heads = heads
 
@@ -77,21 +77,21 @@ module _ (page : OutcomeAt) (before : Line) (piece p : List ℕ) (from taken : �
       )
 
   -- what was sent for the head that ended
-  head_answered : (ask : Ask) (h : RequestHead) (standing : Standing) → EndsHead held.rest p taken ask after h
+  head_answered : (ask : ParsedRequest) (h : RequestHead) (standing : Standing) → EndsHead held.rest p taken ask after h
       → Answered page ask after.target (held.left == 1) standing mid new → Answered page (ask_of h) h.target (held.left == 1) standing mid new
   head_answered ask h standing ends answered =
-      let At : Ask → Type 0 = λ a. Answered page a after.target (held.left == 1) standing mid new in
+      let At : ParsedRequest → Type 0 = λ a. Answered page a after.target (held.left == 1) standing mid new in
       let Target : List ℕ → Type 0 = λ t. Answered page (ask_of h) t (held.left == 1) standing mid new in
       subst Target (ap (λ (x : Held). x.target) ends.after_is) (subst At ends.ask_is answered)
 
-  refusal_answered : (ask : Ask) (standing : Standing) → Refuses held.rest p taken ask after
+  refusal_answered : (ask : ParsedRequest) (standing : Standing) → Refuses held.rest p taken ask after
       → Answered page ask after.target (held.left == 1) standing mid new → Answered page bad_request after.target (held.left == 1) standing mid new
   refusal_answered ask standing refused answered =
-      let At : Ask → Type 0 = λ a. Answered page a after.target (held.left == 1) standing mid new in
+      let At : ParsedRequest → Type 0 = λ a. Answered page a after.target (held.left == 1) standing mid new in
       subst At refused.ask_is answered
 
   -- the reply left it open
-  pub answered_open : (ask : Ask) (fed : FedCase held.rest p taken (Some ask) after) → Answered page ask after.target (held.left == 1) Open mid new
+  pub answered_open : (ask : ParsedRequest) (fed : FedCase held.rest p taken (Some ask) after) → Answered page ask after.target (held.left == 1) Open mid new
       → (s : StaysOpen page before (take (from + taken) piece) (record { rest = after.rest; left = held.left - 1 }) old new)
       × (s.heads ≡ heads_after held.rest p taken ask after fed stays.heads)
   answered_open ask (inl w) answered =
@@ -119,7 +119,7 @@ module _ (page : OutcomeAt) (before : Line) (piece p : List ℕ) (from taken : �
   answered_open ask (inr refused) answered = absurd (or_true (held.left == 1) (refusal_answered ask Open refused answered).2)
 
   -- the reply closed it
-  pub answered_closed : (ask : Ask) (then : Line) (fed : FedCase held.rest p taken (Some ask) after) → Answered page ask after.target (held.left == 1) Closed mid new
+  pub answered_closed : (ask : ParsedRequest) (then : Line) (fed : FedCase held.rest p taken (Some ask) after) → Answered page ask after.target (held.left == 1) Closed mid new
       → Steps page before piece (heads_after held.rest p taken ask after fed stays.heads) Closed then old new
   answered_closed ask then (inl w) answered =
       let h = w.0 in
@@ -152,7 +152,7 @@ module _ (page : OutcomeAt) (before : Line) (piece p : List ℕ) (from taken : �
       )
 
   -- a further reply was due
-  due : (ask : Ask) → FedCase held.rest p taken (Some ask) after → IsDue false (held.rest ++ p)
+  due : (ask : ParsedRequest) → FedCase held.rest p taken (Some ask) after → IsDue false (held.rest ++ p)
   due ask (inl w) =
       inl (
         w.0,
@@ -166,7 +166,7 @@ module _ (page : OutcomeAt) (before : Line) (piece p : List ℕ) (from taken : �
   due ask (inr refused) = inr (why_refused (held.rest ++ p) refused.none refused.why)
 
   -- memory was missing for it
-  pub answered_short : (ask : Ask) (then : Line) → FedCase held.rest p taken (Some ask) after → Answered page ask after.target (held.left == 1) Short mid new
+  pub answered_short : (ask : ParsedRequest) (then : Line) → FedCase held.rest p taken (Some ask) after → Answered page ask after.target (held.left == 1) Short mid new
       → Steps page before piece stays.heads Short then old new
   answered_short ask then fed answered =
       let Bytes : List ℕ → Type 0 = λ b. ShortAfter page before.left b (stays.replies ++ no_memory_bytes ∷ []) stays.heads (held.rest ++ p) stays.replies in (
@@ -181,11 +181,11 @@ module _ (page : OutcomeAt) (before : Line) (piece p : List ℕ) (from taken : �
       )
 
 -- what a feed says, where its ask is known
-pub fed_case : (rest p : List ℕ) (fed : Fed) (asked : Option Ask) (after : Held) → fed.ask ≡ asked → Feeds rest p fed after → FedCase rest p fed.taken asked after
+pub fed_case : (rest p : List ℕ) (fed : Fed) (asked : Option ParsedRequest) (after : Held) → fed.ask ≡ asked → Feeds rest p fed after → FedCase rest p fed.taken asked after
 fed_case rest p fed asked after e feeds = subst (λ a. FedCase rest p fed.taken a after) e feeds
 
 -- after an ask nothing is held of the bytes
-pub asked_rest : (rest p : List ℕ) (taken : ℕ) (ask : Ask) (after : Held) → FedCase rest p taken (Some ask) after → after.rest ≡ []
+pub asked_rest : (rest p : List ℕ) (taken : ℕ) (ask : ParsedRequest) (after : Held) → FedCase rest p taken (Some ask) after → after.rest ≡ []
 asked_rest rest p taken ask after (inl w) = ap (λ (x : Held). x.rest) w.1.after_is
 asked_rest rest p taken ask after (inr refused) = ap (λ (x : Held). x.rest) refused.after_is
 

@@ -1,35 +1,39 @@
 -- One event more, for every connection.
-use Rattle.std.proofs.Common.{◌≡◌, ◌≢◌, ℕ, ◌+◌, ◌<◌, ◌≤◌, Bool, true, false, ◌==◌, List, [], ◌∷◌, ◌++◌, refl, sym, ap, ◌∙◌, subst, arith, ◌⊎◌, inl, inr, Option, Some, None, lit<, if◌then◌else◌}
+use Rattle.std.proofs.Common.{◌≡◌, ◌≢◌, ℕ, ◌+◌, ◌<◌, ◌≤◌, Bool, true, false, ◌==◌, List, [], ◌∷◌, ◌++◌, refl, sym, ap, ◌∙◌, subst, arith, ◌⊎◌, inl, inr, append-nil, Option, Some, None, lit<, if◌then◌else◌}
 use Rattle.std.specs.Prelude.{MatchBool}
 use Rattle.std.proofs.lemmas.Bool.Decides.{nat_tests}
 use Rattle.sd_value.specs.declared.Term.{Term}
 use Rattle.http_spec.specs.declared.Standing.{Standing}
 use Rattle.http_spec.specs.declared.Standing.TheVariants.{Open, Closed, Short, Lost}
 use Rattle.http_spec.specs.Replies.{no_memory_bytes}
-use Rattle.http_spec.specs.Sessions.{OutcomeAt, HasAnswer}
-use Rattle.http_spec.specs.Streams.{Dated, dated}
+use Rattle.http_spec.specs.Sessions.{OutcomeAt}
+use Rattle.http_spec.specs.Streams.{Timed, timed}
 use Rattle.http_spec.proofs.HeadLemmas.{no_head_nil}
 use Rattle.wire.specs.Accounts.{Account, up_by}
 use Rattle.wire.specs.declared.WireEvent.{WireEvent}
 use Rattle.wire.specs.declared.WireEvent.TheVariants.{Opened, Bytes, Ended, Lost as LostEvent, Change, Done}
-use Rattle.hub.specs.Delivered.{closing}
+use Rattle.serving_spec.specs.Delivered.{closing}
 use Rattle.hub.specs.Line.{Line}
-use Rattle.hub.specs.Moments.{Input, Unopened, Coming, Over, Moment, more_of, over_of, after_event, FrontAnswer, Settled, IsOpenAt, StandsComing, StandsFor, IsBelow, WasOpened, Stands}
-use Rattle.hub.specs.Made.{Made}
-use Rattle.hub.specs.Turns.{At, EndSteps, PieceReplies, FrontReplies, IsServed, IsFinished, IsUnopened, Opens, TakesPiece, Finishes, OthersStay, Turned, counts, kept_after, Keeps}
+use Rattle.serving_spec.specs.Inputs.{Input, Unopened, Coming, Over, Moment, more_of, over_of, after_event}
+use Rattle.serving_spec.specs.Sent.{FrontOf}
+use Rattle.serving_spec.specs.Counted.{Counts, no_counts, counts_with, HasCounts, is_of}
+use Rattle.hub.specs.Moments.{SettledAt, IsOpenAt, StandsComing, StandsFor, IsBelow, WasOpened, CountedStands}
+use Rattle.serving_spec.specs.Made.{Made, nothing}
+use Rattle.hub.specs.Turns.{At, EndSteps, PieceReplies, FrontReplies, IsPieceServed, IsFinished, IsUnopened, Opens, TakesPiece, Finishes, OthersStay, Turned, kept_after, Keeps}
+use Rattle.serving_spec.specs.Openings.{counts}
 use Rattle.hub.proofs.StandLemmas.{settled_later, settled_over, delivered_map, delivered_on, open_more, answer_more, front_more, end_more, front_end, so_far}
 
 -- memory was missing for the connection
-settled_unopened : {D : Type 0} (page : D → OutcomeAt) (limit : ℕ) (standing : Standing) (account : Option Account) (first now : At) → IsUnopened standing first.account account first.faults now.faults
-    → now.account ≡ closing standing account → (standing ≢ Open) → (s : Settled page limit [] false first now) × (s.standing ≢ Open)
-settled_unopened page limit standing account first now sent closed over = (
+settled_unopened : {D : Type 0} (page : D → OutcomeAt) (Names : List ℕ → Term → Type 0) (limit : ℕ) (standing : Standing) (account : Option Account) (first now : At) → IsUnopened standing first.account account first.faults now.faults
+    → now.account ≡ closing standing account → (standing ≢ Open) → (s : SettledAt page Names limit no_counts [] false first now) × (s.standing ≢ Open)
+settled_unopened page Names limit standing account first now sent closed over = (
   record {
     standing = standing;
     account = account;
     sent = delivered_map (λ s replies. (s ≡ Short) × (replies ≡ no_memory_bytes ∷ [])) (λ s replies. (s ≡ Short) × (replies ≡ no_memory_bytes ∷ []))
-        (HasAnswer page limit [] false) (FrontAnswer page limit [] false) standing first.account account first.faults now.faults
-        (λ replies is. inr is)
-        (λ would replies is. record { front = []; more = []; at_end = false; cut = refl; ends_so = λ e. absurd (let never : false ≡ true = e in cc); answer = inr is })
+        (HasCounts page Names limit no_counts [] false) (FrontOf (HasCounts page Names limit no_counts) [] false) standing first.account account first.faults now.faults
+        (λ replies is. inr (is.0, is.1, refl))
+        (λ would replies is. record { front = []; more = []; at_end = false; cut = refl; ends_so = λ e. absurd (let never : false ≡ true = e in cc); answer = inr (is.0, is.1, refl) })
         sent;
     closed = closed;
   },
@@ -37,9 +41,9 @@ settled_unopened page limit standing account first now sent closed over = (
 )
 
 -- the connection is opened
-turn_opens : {D : Type 0} (page : D → OutcomeAt) (limit : ℕ) (first before after : At) → 0 < limit → before ≡ first → Opens limit before after → StandsComing page limit [] after.line first after
-turn_opens page limit first before after some same (inl opened) =
-    subst (λ (a : At). StandsComing page limit [] a.line first a) (sym opened) record {
+turn_opens : {D : Type 0} (page : D → OutcomeAt) (Names : List ℕ → Term → Type 0) (limit : ℕ) (first before after : At) → 0 < limit → before ≡ first → Opens limit before after → StandsComing page Names limit no_counts [] after.line first after
+turn_opens page Names limit first before after some same (inl opened) =
+    subst (λ (a : At). StandsComing page Names limit no_counts [] a.line first a) (sym opened) record {
       requests = [];
       rest = [];
       replies = [];
@@ -51,136 +55,149 @@ turn_opens page limit first before after some same (inl opened) =
       some = some;
       account = ap (λ (a : At). a.account) same;
       faults = ap (λ (a : At). a.faults) same;
+      count = refl;
+      looks = refl;
     }
-turn_opens page limit first before after some same (inr (standing, account, over, sent, closed, gone)) =
-    subst (λ l. StandsComing page limit [] l first after) (sym gone)
-    (settled_unopened page limit standing account first after (subst (λ (b : At). IsUnopened standing b.account account b.faults after.faults) same sent) closed over)
+turn_opens page Names limit first before after some same (inr (standing, account, over, sent, closed, gone)) =
+    subst (λ l. StandsComing page Names limit no_counts [] l first after) (sym gone)
+    (settled_unopened page Names limit standing account first after (subst (λ (b : At). IsUnopened standing b.account account b.faults after.faults) same sent) closed over)
+
+-- nothing more is counted
+counts_same : {D : Type 0} (counted : Counts D) (d : D) (made : Made) → made ≡ nothing → counts_with counted d made ≡ counted
+counts_same {D} counted d made none =
+    let zero_more : counted.replies + 0 ≡ counted.replies = omega arith in
+    let none_more = append-nil counted.looked in
+    let still : counts_with counted d nothing ≡ counted = λ i. record { replies = zero_more i; looked = none_more i } in
+    ap (λ (m : Made). counts_with counted d m) none ∙ still
 
 -- a piece of an open connection
-piece_open : {D : Type 0} (page : D → OutcomeAt) (Names : List ℕ → Term → Type 0) (made : Made) (d : D) (limit : ℕ) (stream : List (Dated D)) (piece : List ℕ) (line : Line) (first before after : At) (standing : Standing) (held : Line)
-    (account : Option Account) → IsOpenAt page limit stream line first before
-    → IsServed (page d) Names line piece made standing held before.account account before.faults after.faults
+piece_open : {D : Type 0} (page : D → OutcomeAt) (Names : List ℕ → Term → Type 0) (made : Made) (d : D) (limit : ℕ) (counted : Counts D) (stream : List (Timed D)) (piece : List ℕ) (line : Line) (first before after : At) (standing : Standing) (held : Line)
+    (account : Option Account) → IsOpenAt page Names limit counted stream line first before
+    → IsPieceServed (page d) Names line piece made standing held before.account account before.faults after.faults
     → after.account ≡ closing standing account → after.line ≡ kept_after standing held
-    → StandsComing page limit (stream ++ dated d piece) after.line first after
-piece_open page Names made d limit stream piece line first before after Open held account open_at (replies, (heads, step, makes), sent, faults) closed kept =
-    subst (λ l. StandsComing page limit (stream ++ dated d piece) l first after) (sym kept)
-    (open_more page d limit stream line first before open_at piece held replies after step.0 (closed ∙ sent) faults)
-piece_open page Names made d limit stream piece line first before after Closed held account open_at served closed kept =
-    subst (λ l. StandsComing page limit (stream ++ dated d piece) l first after) (sym kept) (
+    → StandsComing page Names limit (counts_with counted d made) (stream ++ timed d piece) after.line first after
+piece_open page Names made d limit counted stream piece line first before after Open held account open_at (replies, (heads, step, makes), sent, faults) closed kept =
+    subst (λ l. StandsComing page Names limit (counts_with counted d made) (stream ++ timed d piece) l first after) (sym kept)
+    (open_more page Names d limit counted stream line first before open_at piece heads held replies made after step makes (closed ∙ sent) faults)
+piece_open page Names made d limit counted stream piece line first before after Closed held account open_at served closed kept =
+    subst (λ l. StandsComing page Names limit (counts_with counted d made) (stream ++ timed d piece) l first after) (sym kept) (
       record {
         standing = Closed;
         account = account;
-        sent = delivered_on page d limit stream line first before open_at (PieceReplies (page d) Names line piece made held) (FrontReplies (page d) Names line piece made)
-            (HasAnswer page limit (stream ++ dated d piece) false) (FrontAnswer page limit (stream ++ dated d piece) false) Closed account after.faults
-            (λ replies is. answer_more page d limit stream line first before open_at piece is.0 Closed held replies is.1 (λ e. cc))
-            (λ would replies is. front_more page d limit stream line first before open_at piece is.0 would replies is.1) served;
+        sent = delivered_on page Names d limit counted stream line first before open_at (PieceReplies (page d) Names line piece made held) (FrontReplies (page d) Names line piece made)
+            (HasCounts page Names limit (counts_with counted d made) (stream ++ timed d piece) false) (FrontOf (HasCounts page Names limit (counts_with counted d made)) (stream ++ timed d piece) false) Closed account after.faults
+            (λ replies is. answer_more page Names d limit counted stream line first before open_at piece is.0 Closed held replies made is.1 is.2 (λ e. cc))
+            (λ would replies is. front_more page Names d limit counted stream line first before open_at piece is.0 would replies made is.1 is.2) served;
         closed = closed;
       },
       λ e. cc,
     )
-piece_open page Names made d limit stream piece line first before after Short held account open_at served closed kept =
-    subst (λ l. StandsComing page limit (stream ++ dated d piece) l first after) (sym kept) (
+piece_open page Names made d limit counted stream piece line first before after Short held account open_at served closed kept =
+    subst (λ l. StandsComing page Names limit (counts_with counted d made) (stream ++ timed d piece) l first after) (sym kept) (
       record {
         standing = Short;
         account = account;
-        sent = delivered_on page d limit stream line first before open_at (PieceReplies (page d) Names line piece made held) (FrontReplies (page d) Names line piece made)
-            (HasAnswer page limit (stream ++ dated d piece) false) (FrontAnswer page limit (stream ++ dated d piece) false) Short account after.faults
-            (λ replies is. answer_more page d limit stream line first before open_at piece is.0 Short held replies is.1 (λ e. cc))
-            (λ would replies is. front_more page d limit stream line first before open_at piece is.0 would replies is.1) served;
+        sent = delivered_on page Names d limit counted stream line first before open_at (PieceReplies (page d) Names line piece made held) (FrontReplies (page d) Names line piece made)
+            (HasCounts page Names limit (counts_with counted d made) (stream ++ timed d piece) false) (FrontOf (HasCounts page Names limit (counts_with counted d made)) (stream ++ timed d piece) false) Short account after.faults
+            (λ replies is. answer_more page Names d limit counted stream line first before open_at piece is.0 Short held replies made is.1 is.2 (λ e. cc))
+            (λ would replies is. front_more page Names d limit counted stream line first before open_at piece is.0 would replies made is.1 is.2) served;
         closed = closed;
       },
       λ e. cc,
     )
-piece_open page Names made d limit stream piece line first before after Lost held account open_at served closed kept =
-    subst (λ l. StandsComing page limit (stream ++ dated d piece) l first after) (sym kept) (
+piece_open page Names made d limit counted stream piece line first before after Lost held account open_at served closed kept =
+    subst (λ l. StandsComing page Names limit (counts_with counted d made) (stream ++ timed d piece) l first after) (sym kept) (
       record {
         standing = Lost;
         account = account;
-        sent = delivered_on page d limit stream line first before open_at (FrontReplies (page d) Names line piece made) (FrontReplies (page d) Names line piece made)
-            (FrontAnswer page limit (stream ++ dated d piece) false) (FrontAnswer page limit (stream ++ dated d piece) false) Lost account after.faults
-            (λ replies is. front_more page d limit stream line first before open_at piece is.0 Lost replies is.1)
-            (λ would replies is. front_more page d limit stream line first before open_at piece is.0 would replies is.1) served;
+        sent = delivered_on page Names d limit counted stream line first before open_at (FrontReplies (page d) Names line piece made) (FrontReplies (page d) Names line piece made)
+            (FrontOf (HasCounts page Names limit (counts_with counted d made)) (stream ++ timed d piece) false) (FrontOf (HasCounts page Names limit (counts_with counted d made)) (stream ++ timed d piece) false) Lost account after.faults
+            (λ replies is. front_more page Names d limit counted stream line first before open_at piece is.0 Lost replies made is.1 is.2)
+            (λ would replies is. front_more page Names d limit counted stream line first before open_at piece is.0 would replies made is.1 is.2) served;
         closed = closed;
       },
       λ e. cc,
     )
 
 -- a piece
-turn_piece : {D : Type 0} (page : D → OutcomeAt) (Names : List ℕ → Term → Type 0) (made : Made) (d : D) (limit : ℕ) (piece : List ℕ) (input : Input D) (line : Option Line) (first before after : At) → before.line ≡ line
-    → StandsFor page limit input first before → TakesPiece (page d) Names piece made line before after → StandsFor page limit (more_of (dated d piece) input) first after
-turn_piece {D} page Names made d limit piece input None first before after is stands (same, none) =
-    subst (λ a. StandsFor page limit (more_of (dated d piece) input) first a) (sym same) (by_input input stands)
+turn_piece : {D : Type 0} (page : D → OutcomeAt) (Names : List ℕ → Term → Type 0) (made : Made) (d : D) (limit : ℕ) (counted : Counts D) (piece : List ℕ) (input : Input D) (line : Option Line) (first before after : At) → before.line ≡ line
+    → StandsFor page Names limit counted input first before → TakesPiece (page d) Names piece made line before after
+    → StandsFor page Names limit (counts_with counted d made) (more_of (timed d piece) input) first after
+turn_piece {D} page Names made d limit counted piece input None first before after is stands (same, none) =
+    subst (λ c. StandsFor page Names limit c (more_of (timed d piece) input) first after) (sym (counts_same counted d made none))
+    (subst (λ a. StandsFor page Names limit counted (more_of (timed d piece) input) first a) (sym same) (by_input input stands))
   where
-    by_input : (input : Input D) → StandsFor page limit input first before → StandsFor page limit (more_of (dated d piece) input) first before
+    by_input : (input : Input D) → StandsFor page Names limit counted input first before → StandsFor page Names limit counted (more_of (timed d piece) input) first before
     by_input Unopened stands = stands
     by_input (Coming stream) stands =
-        let over = subst (λ l. StandsComing page limit stream l first before) is stands in
-        subst (λ l. StandsComing page limit (stream ++ dated d piece) l first before) (sym is)
-        (settled_later page limit stream (dated d piece) first before over.0 over.1)
+        let over = subst (λ l. StandsComing page Names limit counted stream l first before) is stands in
+        subst (λ l. StandsComing page Names limit counted (stream ++ timed d piece) l first before) (sym is)
+        (settled_later page Names limit counted stream (timed d piece) first before over.0 over.1)
     by_input (Over ended stream) stands = stands
-turn_piece {D} page Names made d limit piece Unopened (Some line) first before after is stands step =
+turn_piece {D} page Names made d limit counted piece Unopened (Some line) first before after is stands step =
     absurd (let never : None ≡ Some line = sym stands.0 ∙ sym (ap (λ (a : At). a.line) stands.1) ∙ is in cc)
-turn_piece {D} page Names made d limit piece (Coming stream) (Some line) first before after is stands (standing, held, account, served, closed, kept) =
-    piece_open page Names made d limit stream piece line first before after standing held account
-    (subst (λ l. StandsComing page limit stream l first before) is stands) served closed kept
-turn_piece {D} page Names made d limit piece (Over ended stream) (Some line) first before after is stands step =
+turn_piece {D} page Names made d limit counted piece (Coming stream) (Some line) first before after is stands (standing, held, account, served, closed, kept) =
+    piece_open page Names made d limit counted stream piece line first before after standing held account
+    (subst (λ l. StandsComing page Names limit counted stream l first before) is stands) served closed kept
+turn_piece {D} page Names made d limit counted piece (Over ended stream) (Some line) first before after is stands step =
     absurd (let never : None ≡ Some line = sym stands.0 ∙ is in cc)
 
 -- the end of an open connection's input
-finish_open : {D : Type 0} (page : D → OutcomeAt) (made : Made) (d : D) (limit : ℕ) (stream : List (Dated D)) (line : Line) (first before after : At) (standing : Standing) (account : Option Account)
-    → IsOpenAt page limit stream line first before → IsFinished line.rest made standing before.account account before.faults after.faults
-    → after.account ≡ closing standing account → Settled page limit stream true first after
-finish_open page made d limit stream line first before after standing account open_at sent closed = record {
+finish_open : {D : Type 0} (page : D → OutcomeAt) (Names : List ℕ → Term → Type 0) (made : Made) (d : D) (limit : ℕ) (counted : Counts D) (stream : List (Timed D)) (line : Line) (first before after : At) (standing : Standing) (account : Option Account)
+    → IsOpenAt page Names limit counted stream line first before → IsFinished line.rest made standing before.account account before.faults after.faults
+    → after.account ≡ closing standing account → SettledAt page Names limit (counts_with counted d made) stream true first after
+finish_open page Names made d limit counted stream line first before after standing account open_at sent closed = record {
   standing = standing;
   account = account;
-  sent = delivered_on page d limit stream line first before open_at (EndSteps line.rest made) (EndSteps line.rest made) (HasAnswer page limit stream true) (FrontAnswer page limit stream true)
+  sent = delivered_on page Names d limit counted stream line first before open_at (EndSteps line.rest made) (EndSteps line.rest made) (HasCounts page Names limit (counts_with counted d made) stream true) (FrontOf (HasCounts page Names limit (counts_with counted d made)) stream true)
       standing account after.faults
-      (λ replies is. end_more page d limit stream line first before open_at made standing replies is)
-      (λ would replies is. front_end page d limit stream line first before open_at made would replies is) sent;
+      (λ replies is. end_more page Names d limit counted stream line first before open_at made standing replies is)
+      (λ would replies is. front_end page Names d limit counted stream line first before open_at made would replies is) sent;
   closed = closed;
 }
 
-turn_end : {D : Type 0} (page : D → OutcomeAt) (made : Made) (d : D) (limit : ℕ) (input : Input D) (line : Option Line) (first before after : At) → before.line ≡ line
-    → StandsFor page limit input first before → Finishes made line before after → StandsFor page limit (over_of true input) first after
-turn_end {D} page made d limit input None first before after is stands (same, none) =
-    subst (λ a. StandsFor page limit (over_of true input) first a) (sym same) (by_input input stands)
+turn_end : {D : Type 0} (page : D → OutcomeAt) (Names : List ℕ → Term → Type 0) (made : Made) (d : D) (limit : ℕ) (counted : Counts D) (input : Input D) (line : Option Line) (first before after : At) → before.line ≡ line
+    → StandsFor page Names limit counted input first before → Finishes made line before after → StandsFor page Names limit (counts_with counted d made) (over_of true input) first after
+turn_end {D} page Names made d limit counted input None first before after is stands (same, none) =
+    subst (λ c. StandsFor page Names limit c (over_of true input) first after) (sym (counts_same counted d made none))
+    (subst (λ a. StandsFor page Names limit counted (over_of true input) first a) (sym same) (by_input input stands))
   where
-    by_input : (input : Input D) → StandsFor page limit input first before → StandsFor page limit (over_of true input) first before
+    by_input : (input : Input D) → StandsFor page Names limit counted input first before → StandsFor page Names limit counted (over_of true input) first before
     by_input Unopened stands = stands
     by_input (Coming stream) stands =
-        let over = subst (λ l. StandsComing page limit stream l first before) is stands in
-        (is, settled_over page limit stream first before over.0 over.1)
+        let over = subst (λ l. StandsComing page Names limit counted stream l first before) is stands in
+        (is, settled_over page Names limit counted stream first before over.0 over.1)
     by_input (Over ended stream) stands = stands
-turn_end {D} page made d limit Unopened (Some line) first before after is stands step =
+turn_end {D} page Names made d limit counted Unopened (Some line) first before after is stands step =
     absurd (let never : None ≡ Some line = sym stands.0 ∙ sym (ap (λ (a : At). a.line) stands.1) ∙ is in cc)
-turn_end {D} page made d limit (Coming stream) (Some line) first before after is stands (standing, account, sent, closed, gone) =
-    (gone, finish_open page made d limit stream line first before after standing account (subst (λ l. StandsComing page limit stream l first before) is stands) sent closed)
-turn_end {D} page made d limit (Over ended stream) (Some line) first before after is stands step =
+turn_end {D} page Names made d limit counted (Coming stream) (Some line) first before after is stands (standing, account, sent, closed, gone) =
+    (gone, finish_open page Names made d limit counted stream line first before after standing account (subst (λ l. StandsComing page Names limit counted stream l first before) is stands) sent closed)
+turn_end {D} page Names made d limit counted (Over ended stream) (Some line) first before after is stands step =
     absurd (let never : None ≡ Some line = sym stands.0 ∙ is in cc)
 
 -- the connection is forgotten
 abbrev gone_from : At → At
 gone_from a = record { line = None; account = a.account; faults = a.faults }
 
-turn_lost : {D : Type 0} (page : D → OutcomeAt) (d : D) (limit : ℕ) (input : Input D) (line : Option Line) (first before after : At) → before.line ≡ line
-    → StandsFor page limit input first before → after ≡ gone_from before → StandsFor page limit (over_of false input) first after
-turn_lost {D} page d limit input line first before after is stands same =
-    subst (λ a. StandsFor page limit (over_of false input) first a) (sym same) (by_input input line is stands)
+turn_lost : {D : Type 0} (page : D → OutcomeAt) (Names : List ℕ → Term → Type 0) (d : D) (limit : ℕ) (counted : Counts D) (input : Input D) (line : Option Line) (first before after : At) → before.line ≡ line
+    → StandsFor page Names limit counted input first before → after ≡ gone_from before → StandsFor page Names limit counted (over_of false input) first after
+turn_lost {D} page Names d limit counted input line first before after is stands same =
+    subst (λ a. StandsFor page Names limit counted (over_of false input) first a) (sym same) (by_input input line is stands)
   where
-    by_input : (input : Input D) (line : Option Line) → before.line ≡ line → StandsFor page limit input first before → StandsFor page limit (over_of false input) first (gone_from before)
+    by_input : (input : Input D) (line : Option Line) → before.line ≡ line → StandsFor page Names limit counted input first before → StandsFor page Names limit counted (over_of false input) first (gone_from before)
     by_input Unopened line is stands =
-        (stands.0, ap gone_from stands.1 ∙ ap (λ (l : Option Line). record { line = l; account = first.account; faults = first.faults }) (sym stands.0))
+        (stands.0, ap gone_from stands.1 ∙ ap (λ (l : Option Line). record { line = l; account = first.account; faults = first.faults }) (sym stands.0), stands.2)
     by_input (Coming stream) None is stands =
-        let over = subst (λ l. StandsComing page limit stream l first before) is stands in
+        let over = subst (λ l. StandsComing page Names limit counted stream l first before) is stands in
         let settled = over.0 in
         (refl, record { standing = settled.standing; account = settled.account; sent = settled.sent; closed = settled.closed })
     by_input (Coming stream) (Some line) is stands =
-        let open_at : IsOpenAt page limit stream line first before = subst (λ l. StandsComing page limit stream l first before) is stands in (
+        let open_at : IsOpenAt page Names limit counted stream line first before = subst (λ l. StandsComing page Names limit counted stream l first before) is stands in (
           refl,
           record {
             standing = Open;
             account = before.account;
-            sent = (open_at.replies, so_far page d limit stream line first before open_at, open_at.account, open_at.faults);
+            sent = (open_at.replies, so_far page Names d limit counted stream line first before open_at, open_at.account, open_at.faults);
             closed = refl;
           },
         )
@@ -188,7 +205,7 @@ turn_lost {D} page d limit input line first before after is stands same =
         let settled = stands.1 in
         (refl, record { standing = settled.standing; account = settled.account; sent = settled.sent; closed = settled.closed })
 
-opened_more : {D : Type 0} (k : ℕ) (greatest : Option ℕ) (bytes : List (Dated D)) (input : Input D) → WasOpened k greatest input → WasOpened k greatest (more_of bytes input)
+opened_more : {D : Type 0} (k : ℕ) (greatest : Option ℕ) (bytes : List (Timed D)) (input : Input D) → WasOpened k greatest input → WasOpened k greatest (more_of bytes input)
 opened_more k greatest bytes Unopened was = was
 opened_more k greatest bytes (Coming stream) was = was
 opened_more k greatest bytes (Over ended stream) was = was
@@ -213,11 +230,11 @@ not_below number None counted below = below
 not_below number (Some greatest) counted below = grind (arith, nat_tests)
 
 -- a number that counts was not opened before
-first_time : {D : Type 0} (page : D → OutcomeAt) (limit number : ℕ) (greatest : Option ℕ) (input : Input D) (first before : At) → counts greatest number ≡ true → WasOpened number greatest input
-    → StandsFor page limit input first before → before ≡ first
-first_time page limit number greatest Unopened first before counted was stands = stands.1
-first_time page limit number greatest (Coming stream) first before counted was stands = absurd (not_below number greatest counted was)
-first_time page limit number greatest (Over ended stream) first before counted was stands = absurd (not_below number greatest counted was)
+first_time : {D : Type 0} (page : D → OutcomeAt) (Names : List ℕ → Term → Type 0) (limit number : ℕ) (counted : Counts D) (greatest : Option ℕ) (input : Input D) (first before : At) → counts greatest number ≡ true → WasOpened number greatest input
+    → StandsFor page Names limit counted input first before → (before ≡ first) × (counted ≡ no_counts)
+first_time page Names limit number counted greatest Unopened first before fresh was stands = (stands.1, stands.2)
+first_time page Names limit number counted greatest (Coming stream) first before fresh was stands = absurd (not_below number greatest fresh was)
+first_time page Names limit number counted greatest (Over ended stream) first before fresh was stands = absurd (not_below number greatest fresh was)
 
 -- a test of the number
 test_cases : (a b : ℕ) → (((a == b) ≡ true) × (a ≡ b)) ⊎ (((a == b) ≡ false) × (b ≢ a))
@@ -240,47 +257,57 @@ other true X Y e x = cc
 other false X Y e y = y
 
 -- One event more.
-module _ {D : Type 0} (page : D → OutcomeAt) (Names : List ℕ → Term → Type 0) (changed : D → List ℕ → D) (limit k : ℕ) (m : Moment D) (first : At) (made : Made) (before after : ℕ → At) (some : 0 < limit)
-    (stands : Stands page limit k m first (before k)) where
-  stays_so : (moment : Moment D) → moment.input ≡ m.input → moment.greatest ≡ m.greatest → after k ≡ before k → Stands page limit k moment first (after k)
+module _ {D : Type 0} (page : D → OutcomeAt) (Names : List ℕ → Term → Type 0) (changed : D → List ℕ → D) (limit k : ℕ) (m : Moment D) (counted : Counts D) (first : At) (made : Made) (before after : ℕ → At) (some : 0 < limit)
+    (stands : CountedStands page Names limit k m counted first (before k)) where
+  abbrev counted_then : Counts D
+  counted_then = counts_with counted m.current made
+
+  stays_so : (moment : Moment D) → moment.input ≡ m.input → moment.greatest ≡ m.greatest → after k ≡ before k → CountedStands page Names limit k moment counted first (after k)
   stays_so moment input greatest same = record {
-    stands = subst (λ a. StandsFor page limit moment.input first a) (sym same) (subst (λ i. StandsFor page limit i first (before k)) (sym input) stands.stands);
+    stands = subst (λ a. StandsFor page Names limit counted moment.input first a) (sym same) (subst (λ i. StandsFor page Names limit counted i first (before k)) (sym input) stands.stands);
     opened = subst (λ g. WasOpened k g moment.input) (sym greatest) (subst (λ i. WasOpened k m.greatest i) (sym input) stands.opened);
   }
 
+  -- where nothing was made, it is the same whose event it is
+  either : (t : Bool) (moment : Moment D) → made ≡ nothing → CountedStands page Names limit k moment counted first (after k)
+      → CountedStands page Names limit k moment (if t then counted_then else counted) first (after k)
+  either true moment none there = subst (λ c. CountedStands page Names limit k moment c first (after k)) (sym (counts_same counted m.current made none)) there
+  either false moment none there = there
+
   -- an event of one connection
-  of_number : (number : ℕ) (now : Input D) → (number ≡ k → StandsFor page limit now first (after k)) → WasOpened k m.greatest now → OthersStay number before after
-      → Stands page limit k (record { current = m.current; greatest = m.greatest; input = if number == k then now else m.input }) first (after k)
+  of_number : (number : ℕ) (now : Input D) → (number ≡ k → StandsFor page Names limit counted_then now first (after k)) → WasOpened k m.greatest now → OthersStay number before after
+      → CountedStands page Names limit k (record { current = m.current; greatest = m.greatest; input = if number == k then now else m.input }) (if number == k then counted_then else counted) first (after k)
   of_number number now own was others = by_case (test_cases number k)
     where
       Goal : Bool → Type 0
-      Goal t = Stands page limit k (record { current = m.current; greatest = m.greatest; input = if t then now else m.input }) first (after k)
+      Goal t = CountedStands page Names limit k (record { current = m.current; greatest = m.greatest; input = if t then now else m.input }) (if t then counted_then else counted) first (after k)
 
       by_case : (((number == k) ≡ true) × (number ≡ k)) ⊎ (((number == k) ≡ false) × (k ≢ number)) → Goal (number == k)
       by_case (inl (is, same)) = subst Goal (sym is) record { stands = own same; opened = was }
       by_case (inr (is, apart)) = subst Goal (sym is) (stays_so (record { current = m.current; greatest = m.greatest; input = m.input }) refl refl (others k apart))
 
-  opened_turn : (number : ℕ) → Turned (page m.current) Names limit m.greatest (Opened number) made before after → Stands page limit k (after_event changed k m (Opened number)) first (after k)
+  opened_turn : (number : ℕ) → Turned (page m.current) Names limit m.greatest (Opened number) made before after → CountedStands page Names limit k (after_event changed k m (Opened number)) counted first (after k)
   opened_turn number (own, others, none) = by_count (bool_cases (counts m.greatest number))
     where
       Counted : Bool → Type 0
-      Counted t = Stands page limit k (if t then record { current = m.current; greatest = Some number; input = if number == k then Coming [] else m.input } else m) first (after k)
+      Counted t = CountedStands page Names limit k (if t then record { current = m.current; greatest = Some number; input = if number == k then Coming [] else m.input } else m) counted first (after k)
 
       Numbered : Bool → Type 0
-      Numbered t = Stands page limit k (record { current = m.current; greatest = Some number; input = if t then Coming [] else m.input }) first (after k)
+      Numbered t = CountedStands page Names limit k (record { current = m.current; greatest = Some number; input = if t then Coming [] else m.input }) counted first (after k)
 
       by_number : counts m.greatest number ≡ true → (((number == k) ≡ true) × (number ≡ k)) ⊎ (((number == k) ≡ false) × (k ≢ number)) → Numbered (number == k)
-      by_number counted (inl (is, same)) =
-          let opens : Opens limit (before number) (after number) = chosen (counts m.greatest number) _ _ counted own in
+      by_number fresh (inl (is, same)) =
+          let opens : Opens limit (before number) (after number) = chosen (counts m.greatest number) _ _ fresh own in
           let here : Opens limit (before k) (after k) = subst (λ n. Opens limit (before n) (after n)) same opens in
-          let was : counts m.greatest k ≡ true = subst (λ n. counts m.greatest n ≡ true) same counted in
+          let was : counts m.greatest k ≡ true = subst (λ n. counts m.greatest n ≡ true) same fresh in
+          let start = first_time page Names limit k counted m.greatest m.input first (before k) was stands.opened stands.stands in
           subst Numbered (sym is) record {
-            stands = turn_opens page limit first (before k) (after k) some (first_time page limit k m.greatest m.input first (before k) was stands.opened stands.stands) here;
+            stands = subst (λ c. StandsComing page Names limit c [] (after k).line first (after k)) (sym start.1) (turn_opens page Names limit first (before k) (after k) some start.0 here);
             opened = let le : k ≤ number = omega (arith, same) in le;
           }
-      by_number counted (inr (is, apart)) = subst Numbered (sym is) record {
-        stands = subst (λ a. StandsFor page limit m.input first a) (sym (others k apart)) stands.stands;
-        opened = opened_next k number m.greatest m.input counted stands.opened;
+      by_number fresh (inr (is, apart)) = subst Numbered (sym is) record {
+        stands = subst (λ a. StandsFor page Names limit counted m.input first a) (sym (others k apart)) stands.stands;
+        opened = opened_next k number m.greatest m.input fresh stands.opened;
       }
 
       same_at : after number ≡ before number → after k ≡ before k
@@ -291,25 +318,28 @@ module _ {D : Type 0} (page : D → OutcomeAt) (Names : List ℕ → Term → Ty
           by_same (inr (is, apart)) = others k apart
 
       by_count : (counts m.greatest number ≡ true) ⊎ (counts m.greatest number ≡ false) → Counted (counts m.greatest number)
-      by_count (inl counted) = subst Counted (sym counted) (by_number counted (test_cases number k))
+      by_count (inl fresh) = subst Counted (sym fresh) (by_number fresh (test_cases number k))
       by_count (inr passed) = subst Counted (sym passed) (stays_so m refl refl (same_at (other (counts m.greatest number) _ _ passed own)))
 
-  pub stands_turn : (event : WireEvent) → Turned (page m.current) Names limit m.greatest event made before after → Stands page limit k (after_event changed k m event) first (after k)
-  stands_turn (Opened number) turned = opened_turn number turned
+  pub stands_turn : (event : WireEvent) → Turned (page m.current) Names limit m.greatest event made before after
+      → CountedStands page Names limit k (after_event changed k m event) (if is_of k event then counted_then else counted) first (after k)
+  stands_turn (Opened number) (own, others, none) =
+      either (number == k) (after_event changed k m (Opened number)) none (opened_turn number (own, others, none))
   stands_turn (Bytes number piece) (own, others) =
-      of_number number (more_of (dated m.current piece) m.input)
-      (λ same. turn_piece page Names made m.current limit piece m.input (before k).line first (before k) (after k) refl stands.stands
+      of_number number (more_of (timed m.current piece) m.input)
+      (λ same. turn_piece page Names made m.current limit counted piece m.input (before k).line first (before k) (after k) refl stands.stands
       (subst (λ n. TakesPiece (page m.current) Names piece made (before n).line (before n) (after n)) same own))
-      (opened_more k m.greatest (dated m.current piece) m.input stands.opened) others
+      (opened_more k m.greatest (timed m.current piece) m.input stands.opened) others
   stands_turn (Ended number) (own, others) =
       of_number number (over_of true m.input)
-      (λ same. turn_end page made m.current limit m.input (before k).line first (before k) (after k) refl stands.stands
+      (λ same. turn_end page Names made m.current limit counted m.input (before k).line first (before k) (after k) refl stands.stands
       (subst (λ n. Finishes made (before n).line (before n) (after n)) same own))
       (opened_over k m.greatest true m.input stands.opened) others
   stands_turn (LostEvent number) (own, others, none) =
       of_number number (over_of false m.input)
-      (λ same. turn_lost page m.current limit m.input (before k).line first (before k) (after k) refl stands.stands
-      (subst (λ n. after n ≡ gone_from (before n)) same own))
+      (λ same. subst (λ c. StandsFor page Names limit c (over_of false m.input) first (after k)) (sym (counts_same counted m.current made none))
+      (turn_lost page Names m.current limit counted m.input (before k).line first (before k) (after k) refl stands.stands
+      (subst (λ n. after n ≡ gone_from (before n)) same own)))
       (opened_over k m.greatest false m.input stands.opened) others
   stands_turn (Change text) (turned, none) = stays_so (record { current = changed m.current text; greatest = m.greatest; input = m.input }) refl refl (turned k)
   stands_turn Done (turned, none) = stays_so m refl refl (turned k)

@@ -5,13 +5,13 @@ use Rattle.tmpl.specs.Body.{TemplateFile}
 use Rattle.page_spec.specs.Address.{TermOf}
 use Rattle.page_spec.specs.Site.{Site}
 use Rattle.http_spec.specs.Sessions.{OutcomeAt}
-use Rattle.wire.specs.Accounts.{Account, up_by}
+use Rattle.wire.specs.Accounts.{up_by}
 use Rattle.wire.specs.declared.WireEvent.{WireEvent}
 use Rattle.wire.specs.declared.WireEvent.TheVariants.{Change}
-use Rattle.hub.specs.HubState.{HubState, line_of}
-use Rattle.hub.specs.Made.{Made}
-use Rattle.hub.specs.Shown.{shown_in}
-use Rattle.hub.specs.Turns.{At, ats, Turned, greatest_after, state_after, opened_after, Keeps}
+use Rattle.serving_spec.specs.Made.{Made}
+use Rattle.serving_spec.specs.Shown.{shown_in}
+use Rattle.hub.specs.Turns.{At, Turned, state_after, Keeps}
+use Rattle.serving_spec.specs.Openings.{greatest_after, opened_after}
 
 -- a run at one moment: all connections, the data, the greatest number opened, how many connections were opened and how
 -- many replies made, and what is kept of the pages
@@ -23,7 +23,7 @@ pub record Scene (D C : Type 0) : Type 0 where
   pub replies : ℕ
   pub cache : C
 
--- what the pages of a run tell: outcomes, the term of a target, and what texts and look-ups make of their state and of
+-- what the pages of a run are: outcomes, the term of a target, and what texts and look-ups make of their state and of
 -- what they keep
 pub record Rules (D C : Type 0) : Type 1 where
   pub Page : D → OutcomeAt
@@ -33,19 +33,10 @@ pub record Rules (D C : Type 0) : Type 1 where
   pub Renews : D → List ℕ → C → C → Type 0
   pub found : C → ℕ
 
--- the moment at which a hub and its wire stand
-abbrev pub scene : {P D C : Type 0} → (P → D) → (P → C) → HubState P → (ℕ → Option Account) → (ℕ → ℕ) → Scene D C
-scene state cache hub accounts faults = record {
-  ats = ats (line_of hub) accounts faults;
-  current = state hub.pages;
-  greatest = hub.greatest;
-  opened = hub.opened;
-  replies = hub.replies;
-  cache = cache hub.pages;
-}
-
 -- the rules of pages that are shown under a root
-abbrev pub rules_under : {D C : Type 0} → Option (List ℕ) → (D → Site) → (D → TemplateFile) → (D → List ℕ → D) → (D → C → Term → C → Type 0) → (D → List ℕ → C → C → Type 0) → (C → ℕ) → Rules D C
+abbrev pub rules_under : {D C : Type 0} → Option (List ℕ) → (D → Site) → (D → TemplateFile)
+    → (D → List ℕ → D) → (D → C → Term → C → Type 0) → (D → List ℕ → C → C → Type 0) → (C → ℕ)
+    → Rules D C
 rules_under root site templates changed Looks Renews found = record {
   Page = shown_in root site templates;
   Names = TermOf root;
@@ -56,30 +47,38 @@ rules_under root site templates changed Looks Renews found = record {
 }
 
 -- one event is one step
-pub record Passes {D C : Type 0} (rules : Rules D C) (limit : ℕ) (event : WireEvent) (before after : Scene D C) : Type 0 where
+pub record Passes {D C : Type 0} (rules : Rules D C) (limit : ℕ) (event : WireEvent)
+    (before after : Scene D C) : Type 0 where
   pub made : Made
-  pub turned : Turned (rules.Page before.current) rules.Names limit before.greatest event made before.ats after.ats
+  pub turned : Turned (rules.Page before.current) rules.Names limit before.greatest event made
+      before.ats after.ats
   pub current : after.current ≡ state_after rules.changed event before.current
   pub greatest : after.greatest ≡ greatest_after event before.greatest
   pub opened : after.opened ≡ opened_after event before.greatest before.opened
   pub replies : after.replies ≡ up_by made.replies before.replies
-  pub cache : Keeps (rules.Looks before.current) (rules.Renews before.current) event made before.cache after.cache
+  pub cache : Keeps (rules.Looks before.current) (rules.Renews before.current) event made
+      before.cache after.cache
 
 -- all the events, one after another
-abbrev pub PassesAll : {D C : Type 0} → Rules D C → ℕ → Scene D C → List WireEvent → Scene D C → Type 0
+abbrev pub PassesAll : {D C : Type 0} → Rules D C → ℕ → Scene D C → List WireEvent → Scene D C
+    → Type 0
 PassesAll rules limit before [] after = after ≡ before
 PassesAll {D} {C} rules limit before (event ∷ events) after =
-    (between : Scene D C) × Passes rules limit event before between × PassesAll rules limit between events after
+    (between : Scene D C) × Passes rules limit event before between
+    × PassesAll rules limit between events after
 
--- the counts are as they were
+-- the connections are where they were, and the counts are as they were
 pub record CountsStay {D C : Type 0} (rules : Rules D C) (before after : Scene D C) : Type 0 where
+  pub ats : (number : ℕ) → after.ats number ≡ before.ats number
   pub opened : after.opened ≡ before.opened
   pub replies : after.replies ≡ before.replies
   pub found : rules.found after.cache ≡ rules.found before.cache
 
--- the course of a run; where memory was missing for a change of the data, which is then the last event, the counts stay
-abbrev pub IsCourse : {D C : Type 0} → Rules D C → ℕ → Scene D C → List WireEvent → Scene D C → Type 0
+-- the course of a run; out of memory for a change of the data, which is then the last event, the counts stay
+abbrev pub IsCourse : {D C : Type 0} → Rules D C → ℕ → Scene D C → List WireEvent → Scene D C
+    → Type 0
 IsCourse {D} {C} rules limit before events after =
     PassesAll rules limit before events after
     ⊎ ((front : List WireEvent) × (text : List ℕ) × (between : Scene D C)
-    × (events ≡ front ++ Change text ∷ []) × PassesAll rules limit before front between × CountsStay rules between after)
+    × (events ≡ front ++ Change text ∷ []) × PassesAll rules limit before front between
+    × CountsStay rules between after)

@@ -1,10 +1,7 @@
-pub mod Delivered
-pub mod HubState
 pub mod Course
+pub mod HubState
 pub mod Line
-pub mod Made
+pub mod Makes
 pub mod Moments
 pub mod Pieces
-pub mod Runs
-pub mod Shown
 pub mod Turns

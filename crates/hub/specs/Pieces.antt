@@ -1,8 +1,8 @@
--- What one piece of a connection's bytes asks for, while the data stand still.
+-- What one piece of a connection's bytes asks for, while the data do not change.
 use Rattle.std.specs.Prelude.{◌≡◌, ℕ, ◌+◌, ◌-◌, ◌<◌, ◌⊎◌, Bool, true, false, ◌||◌, ◌==◌, List, [], ◌∷◌, ◌++◌, length, All, MatchBool}
 use Rattle.httparse.specs.Grammar.{RequestHead}
 use Rattle.page_spec.specs.declared.Outcome.{Outcome}
-use Rattle.http_spec.specs.declared.Ask.{Ask}
+use Rattle.http_spec.specs.declared.ParsedRequest.{ParsedRequest}
 use Rattle.http_spec.specs.declared.Standing.{Standing}
 use Rattle.http_spec.specs.declared.Standing.TheVariants.{Open, Closed, Short, Lost}
 use Rattle.http_spec.specs.Heads.{max_head, IsHead, AreLineEnds, Cuts, print_heads}
@@ -22,27 +22,31 @@ AreReplies page left (h ∷ heads) (reply ∷ replies) closed =
     (AreReplies page (left - 1) heads replies closed)
 
 -- the connection is open: none of the replies closed it, and the rest has room for the head that may follow
-pub record OpenAfter (page : OutcomeAt) (limit : ℕ) (bytes : List ℕ) (replies : List (List ℕ)) (rest : List ℕ) (heads : List RequestHead) : Type 0 where
+pub record OpenAfter (page : OutcomeAt) (limit : ℕ) (bytes : List ℕ) (replies : List (List ℕ))
+    (rest : List ℕ) (heads : List RequestHead) : Type 0 where
   pub cut : Cuts bytes heads rest
   pub answered : AreReplies page limit heads replies false
   pub room : length rest < max_head
 
 -- a reply to a head closed the connection; what follows that head has no reply
-pub record ClosedAfter (page : OutcomeAt) (limit : ℕ) (bytes : List ℕ) (replies : List (List ℕ)) (heads : List RequestHead) (more : List ℕ) : Type 0 where
+pub record ClosedAfter (page : OutcomeAt) (limit : ℕ) (bytes : List ℕ) (replies : List (List ℕ))
+    (heads : List RequestHead) (more : List ℕ) : Type 0 where
   pub each : All IsHead heads
   pub whole : bytes ≡ print_heads heads ++ more
   pub answered : AreReplies page limit heads replies true
 
 -- the rest is refused by a 400
-pub record RefusedAfter (page : OutcomeAt) (limit : ℕ) (bytes : List ℕ) (replies : List (List ℕ)) (rest : List ℕ) (heads : List RequestHead) (answered : List (List ℕ)) : Type 0 where
+pub record RefusedAfter (page : OutcomeAt) (limit : ℕ) (bytes : List ℕ) (replies : List (List ℕ))
+    (rest : List ℕ) (heads : List RequestHead) (answered : List (List ℕ)) : Type 0 where
   pub each : All IsHead heads
   pub whole : bytes ≡ print_heads heads ++ rest
   pub answers : AreReplies page limit heads answered false
   pub why : IsRefused false rest
   pub then_refused : replies ≡ answered ++ refusal ∷ []
 
--- memory was missing for the reply after these, and a 503 stands in its place
-pub record ShortAfter (page : OutcomeAt) (limit : ℕ) (bytes : List ℕ) (replies : List (List ℕ)) (heads : List RequestHead) (more : List ℕ) (answered : List (List ℕ)) : Type 0 where
+-- out of memory for the reply after these, which is a 503 in its place
+pub record ShortAfter (page : OutcomeAt) (limit : ℕ) (bytes : List ℕ) (replies : List (List ℕ))
+    (heads : List RequestHead) (more : List ℕ) (answered : List (List ℕ)) : Type 0 where
   pub each : All IsHead heads
   pub whole : bytes ≡ print_heads heads ++ more
   pub answers : AreReplies page limit heads answered false
@@ -50,7 +54,9 @@ pub record ShortAfter (page : OutcomeAt) (limit : ℕ) (bytes : List ℕ) (repli
   pub then_short : replies ≡ answered ++ no_memory_bytes ∷ []
 
 -- what was sent for one ask
-abbrev pub Answered : OutcomeAt → Ask → List ℕ → Bool → Standing → List (List ℕ) → List (List ℕ) → Type 0
+abbrev pub Answered : OutcomeAt → ParsedRequest → List ℕ → Bool → Standing → List (List ℕ)
+    → List (List ℕ)
+    → Type 0
 Answered page ask target last Open old new =
     (outcome : Outcome) × IsLookedUp page ask.kind target outcome × ((last || ask.close) ≡ false)
     × (new ≡ old ++ reply_bytes ask outcome (last || ask.close) ∷ [])
@@ -61,7 +67,8 @@ Answered page ask target last Short old new = new ≡ old ++ no_memory_bytes ∷
 Answered page ask target last Lost old new = new ≡ old
 
 -- the connection stays open
-pub record StaysOpen (page : OutcomeAt) (before : Line) (piece : List ℕ) (after : Line) (old new : List (List ℕ)) : Type 0 where
+pub record StaysOpen (page : OutcomeAt) (before : Line) (piece : List ℕ) (after : Line)
+    (old new : List (List ℕ)) : Type 0 where
   pub replies : List (List ℕ)
   pub heads : List RequestHead
   pub stays : OpenAfter page before.left (before.rest ++ piece) replies after.rest heads
@@ -70,15 +77,19 @@ pub record StaysOpen (page : OutcomeAt) (before : Line) (piece : List ℕ) (afte
   pub sent : new ≡ old ++ replies
 
 -- what one piece does, where these heads are answered
-abbrev pub Steps : OutcomeAt → Line → List ℕ → List RequestHead → Standing → Line → List (List ℕ) → List (List ℕ) → Type 0
-Steps page before piece heads Open after old new = (stays : StaysOpen page before piece after old new) × (stays.heads ≡ heads)
+abbrev pub Steps : OutcomeAt → Line → List ℕ → List RequestHead → Standing → Line → List (List ℕ)
+    → List (List ℕ) → Type 0
+Steps page before piece heads Open after old new =
+    (stays : StaysOpen page before piece after old new) × (stays.heads ≡ heads)
 Steps page before piece heads Closed after old new =
     (replies : List (List ℕ)) × (new ≡ old ++ replies)
     × (((more : List ℕ) × ClosedAfter page before.left (before.rest ++ piece) replies heads more)
-    ⊎ ((rest : List ℕ) × (answered : List (List ℕ)) × RefusedAfter page before.left (before.rest ++ piece) replies rest heads answered))
+    ⊎ ((rest : List ℕ) × (answered : List (List ℕ))
+    × RefusedAfter page before.left (before.rest ++ piece) replies rest heads answered))
 Steps page before piece heads Short after old new =
     (replies : List (List ℕ)) × (new ≡ old ++ replies)
-    × ((more : List ℕ) × (answered : List (List ℕ)) × ShortAfter page before.left (before.rest ++ piece) replies heads more answered)
+    × ((more : List ℕ) × (answered : List (List ℕ))
+    × ShortAfter page before.left (before.rest ++ piece) replies heads more answered)
 Steps page before piece heads Lost after old new =
     (between : List ℕ) × (more : List ℕ) × (piece ≡ between ++ more)
     × ((held : Line) × (stays : StaysOpen page before between held old new) × (stays.heads ≡ heads))
@@ -86,6 +97,7 @@ Steps page before piece heads Lost after old new =
 -- what is sent at the end of the input of an open connection, of which this rest is left
 abbrev pub AtEnd : List ℕ → Standing → List (List ℕ) → Type 0
 AtEnd rest Open sent = ⊥
-AtEnd rest Closed sent = (AreLineEnds rest × (sent ≡ [])) ⊎ (¬ (AreLineEnds rest) × (sent ≡ refusal ∷ []))
+AtEnd rest Closed sent =
+    (AreLineEnds rest × (sent ≡ [])) ⊎ (¬ (AreLineEnds rest) × (sent ≡ refusal ∷ []))
 AtEnd rest Short sent = ¬ (AreLineEnds rest) × (sent ≡ no_memory_bytes ∷ [])
 AtEnd rest Lost sent = ¬ (AreLineEnds rest) × (sent ≡ [])

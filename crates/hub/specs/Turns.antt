@@ -1,22 +1,25 @@
 -- What one event does to the connections.
-use Rattle.std.specs.Prelude.{◌≡◌, ◌≢◌, ℕ, Bool, true, false, ◌⊎◌, List, [], ◌∷◌, ◌++◌, take, Option, Some, None, MatchBool, nat_lt, if◌then◌else◌}
+use Rattle.std.specs.Prelude.{◌≡◌, ◌≢◌, ℕ, Bool, true, false, ◌⊎◌, List, [], ◌∷◌, ◌++◌, take, Option, Some, None, MatchBool}
 use Rattle.edge_io.specs.Counts.{Rose}
 use Rattle.httparse.specs.Grammar.{RequestHead}
 use Rattle.sd_value.specs.declared.Term.{Term}
-use Rattle.http_spec.specs.declared.Ask.{Ask}
+use Rattle.http_spec.specs.declared.ParsedRequest.{ParsedRequest}
 use Rattle.http_spec.specs.declared.Standing.{Standing}
 use Rattle.http_spec.specs.declared.Standing.TheVariants.{Open, Closed, Short, Lost}
 use Rattle.http_spec.specs.Replies.{no_memory_bytes}
 use Rattle.http_spec.specs.Sessions.{OutcomeAt}
-use Rattle.wire.specs.Accounts.{Account, send_to, up}
+use Rattle.wire.specs.Accounts.{Account, send_to}
 use Rattle.wire.specs.declared.WireEvent.{WireEvent}
 use Rattle.wire.specs.declared.WireEvent.TheVariants.{Opened, Bytes, Ended, Lost as LostEvent, Change, Done}
-use Rattle.hub.specs.Delivered.{IsDelivered, closing}
+use Rattle.serving_spec.specs.Delivered.{IsDelivered, closing}
 use Rattle.hub.specs.Line.{Line}
-use Rattle.hub.specs.Made.{Made, nothing, replies_in, LooksFor, Makes, AllLooked}
+use Rattle.serving_spec.specs.Made.{Made, nothing, replies_in, AllLooked}
+use Rattle.hub.specs.Makes.{LooksFor, Makes}
+use Rattle.serving_spec.specs.Openings.{counts}
 use Rattle.hub.specs.Pieces.{Steps, Answered, AtEnd}
+use Rattle.serving_spec.specs.Sent.{Seen}
 
--- where a connection stands, and what the wire tells of it
+-- where a connection is, and what the wire reports of it
 pub record At : Type 0 where
   pub line : Option Line
   pub account : Option Account
@@ -24,13 +27,18 @@ pub record At : Type 0 where
 
 -- the connection of a number
 abbrev pub at_in : (ℕ → Option Line) → (ℕ → Option Account) → (ℕ → ℕ) → ℕ → At
-at_in lines accounts faults number = record { line = lines number; account = accounts number; faults = faults number }
+at_in lines accounts faults number =
+    record { line = lines number; account = accounts number; faults = faults number }
+
+-- what the wire reports of it
+abbrev pub seen_of : At → Seen
+seen_of at = record { account = at.account; faults = at.faults }
 
 -- all connections
 abbrev pub ats : (ℕ → Option Line) → (ℕ → Option Account) → (ℕ → ℕ) → ℕ → At
 ats lines accounts faults = λ number. at_in lines accounts faults number
 
--- the connection as it stands after a step: one that is no longer open is forgotten
+-- the connection as it is after a step: one that is no longer open is forgotten
 abbrev pub kept_after : Standing → Line → Option Line
 kept_after Open after = Some after
 kept_after Closed after = None
@@ -38,7 +46,8 @@ kept_after Short after = None
 kept_after Lost after = None
 
 -- a piece whose replies are made up to some byte of it
-pub record FrontSteps (page : OutcomeAt) (line : Line) (piece : List ℕ) (heads : List RequestHead) (would : Standing) (replies : List (List ℕ)) : Type 0 where
+pub record FrontSteps (page : OutcomeAt) (line : Line) (piece : List ℕ) (heads : List RequestHead)
+    (would : Standing) (replies : List (List ℕ)) : Type 0 where
   pub front : List ℕ
   pub more : List ℕ
   pub held : Line
@@ -47,21 +56,30 @@ pub record FrontSteps (page : OutcomeAt) (line : Line) (piece : List ℕ) (heads
   pub steps : Steps page line front heads would held [] replies
 
 -- the replies to a piece, and what they make
-abbrev pub PieceReplies : OutcomeAt → (List ℕ → Term → Type 0) → Line → List ℕ → Made → Line → Standing → List (List ℕ) → Type 0
+abbrev pub PieceReplies : OutcomeAt → (List ℕ → Term → Type 0) → Line → List ℕ → Made → Line
+    → Standing → List (List ℕ) → Type 0
 PieceReplies page Names line piece made held would replies =
-    (heads : List RequestHead) × Steps page line piece heads would held [] replies × Makes Names would heads replies made
+    (heads : List RequestHead) × Steps page line piece heads would held [] replies
+    × Makes Names would heads replies made
 
-abbrev pub FrontReplies : OutcomeAt → (List ℕ → Term → Type 0) → Line → List ℕ → Made → Standing → List (List ℕ) → Type 0
+-- the same of a piece at whose front a reply failed to be sent
+abbrev pub FrontReplies : OutcomeAt → (List ℕ → Term → Type 0) → Line → List ℕ → Made → Standing
+    → List (List ℕ) → Type 0
 FrontReplies page Names line piece made would replies =
-    (heads : List RequestHead) × FrontSteps page line piece heads would replies × Makes Names would heads replies made
+    (heads : List RequestHead) × FrontSteps page line piece heads would replies
+    × Makes Names would heads replies made
 
 -- a piece of an open connection's bytes came: its replies were sent
-abbrev pub IsServed : OutcomeAt → (List ℕ → Term → Type 0) → Line → List ℕ → Made → Standing → Line → Option Account → Option Account → ℕ → ℕ → Type 0
-IsServed page Names line piece made standing held old new faults later =
-    IsDelivered (PieceReplies page Names line piece made held) (FrontReplies page Names line piece made) standing old new faults later
+abbrev pub IsPieceServed : OutcomeAt → (List ℕ → Term → Type 0) → Line → List ℕ → Made → Standing
+    → Line → Option Account → Option Account → ℕ → ℕ → Type 0
+IsPieceServed page Names line piece made standing held old new faults later =
+    IsDelivered (PieceReplies page Names line piece made held)
+    (FrontReplies page Names line piece made) standing old new faults later
 
 -- one reply to an ask, and what it makes
-pub record Reply (page : OutcomeAt) (Names : List ℕ → Term → Type 0) (ask : Ask) (target : List ℕ) (last : Bool) (made : Made) (would : Standing) (replies : List (List ℕ)) : Type 0 where
+pub record Reply (page : OutcomeAt) (Names : List ℕ → Term → Type 0) (ask : ParsedRequest)
+    (target : List ℕ)
+    (last : Bool) (made : Made) (would : Standing) (replies : List (List ℕ)) : Type 0 where
   pub reply : List ℕ
   pub fails : would ≢ Lost
   pub one : replies ≡ reply ∷ []
@@ -71,44 +89,59 @@ pub record Reply (page : OutcomeAt) (Names : List ℕ → Term → Type 0) (ask 
 
 -- one send of a reply, after which the connection closes or stays open
 abbrev pub IsSent : Bool → List ℕ → Standing → Option Account → Option Account → ℕ → ℕ → Type 0
-IsSent close reply Open old new faults later = (close ≡ false) × (new ≡ send_to old reply) × (later ≡ faults)
-IsSent close reply Closed old new faults later = (close ≡ true) × (new ≡ send_to old reply) × (later ≡ faults)
+IsSent close reply Open old new faults later =
+    (close ≡ false) × (new ≡ send_to old reply) × (later ≡ faults)
+IsSent close reply Closed old new faults later =
+    (close ≡ true) × (new ≡ send_to old reply) × (later ≡ faults)
 IsSent close reply Short old new faults later = ⊥
-IsSent close reply Lost old new faults later = (some : ℕ) × (new ≡ send_to old (take some reply)) × Rose faults later
+IsSent close reply Lost old new faults later =
+    (some : ℕ) × (new ≡ send_to old (take some reply)) × Rose faults later
 
-abbrev pub IsAnswered : OutcomeAt → (List ℕ → Term → Type 0) → Ask → List ℕ → Bool → Made → Standing → Option Account → Option Account → ℕ → ℕ → Type 0
+-- a reply to an ask was sent
+abbrev pub IsAnswered : OutcomeAt → (List ℕ → Term → Type 0) → ParsedRequest → List ℕ → Bool → Made
+    → Standing → Option Account → Option Account → ℕ → ℕ → Type 0
 IsAnswered page Names ask target last made standing old new faults later =
-    IsDelivered (Reply page Names ask target last made) (Reply page Names ask target last made) standing old new faults later
+    IsDelivered (Reply page Names ask target last made) (Reply page Names ask target last made)
+    standing old new faults later
 
 -- what is sent at the end of the input, where nothing is looked up
-pub record EndSteps (rest : List ℕ) (made : Made) (would : Standing) (replies : List (List ℕ)) : Type 0 where
+pub record EndSteps (rest : List ℕ) (made : Made) (would : Standing)
+    (replies : List (List ℕ)) : Type 0 where
   pub fails : would ≢ Lost
   pub steps : AtEnd rest would replies
   pub count : made.replies ≡ replies_in would replies
   pub none : made.terms ≡ []
 
+-- the end of an open connection's input came: what is due then was sent
 abbrev pub IsFinished : List ℕ → Made → Standing → Option Account → Option Account → ℕ → ℕ → Type 0
-IsFinished rest made standing old new faults later = IsDelivered (EndSteps rest made) (EndSteps rest made) standing old new faults later
+IsFinished rest made standing old new faults later =
+    IsDelivered (EndSteps rest made) (EndSteps rest made) standing old new faults later
 
--- memory was missing for the connection
+-- out of memory for the connection
 abbrev pub IsUnopened : Standing → Option Account → Option Account → ℕ → ℕ → Type 0
 IsUnopened standing old new faults later =
-    IsDelivered (λ s replies. (s ≡ Short) × (replies ≡ no_memory_bytes ∷ [])) (λ s replies. (s ≡ Short) × (replies ≡ no_memory_bytes ∷ [])) standing old new faults later
+    IsDelivered (λ s replies. (s ≡ Short) × (replies ≡ no_memory_bytes ∷ []))
+    (λ s replies. (s ≡ Short) × (replies ≡ no_memory_bytes ∷ [])) standing old new faults later
 
--- the connection was opened, or memory was missing for it
+-- the connection was opened, or it was out of memory for it
 abbrev pub Opens : ℕ → At → At → Type 0
 Opens limit before after =
     (after ≡ record before { line = Some (record { rest = []; left = limit }) })
-    ⊎ ((standing : Standing) × (account : Option Account) × (standing ≢ Open) × IsUnopened standing before.account account before.faults after.faults
+    ⊎ ((standing : Standing) × (account : Option Account) × (standing ≢ Open)
+    × IsUnopened standing before.account account before.faults after.faults
     × (after.account ≡ closing standing account) × (after.line ≡ None))
 
-abbrev pub TakesPiece : OutcomeAt → (List ℕ → Term → Type 0) → List ℕ → Made → Option Line → At → At → Type 0
+-- a piece came of a connection, which is open or not
+abbrev pub TakesPiece : OutcomeAt → (List ℕ → Term → Type 0) → List ℕ → Made → Option Line → At
+    → At → Type 0
 TakesPiece page Names piece made None before after = (after ≡ before) × (made ≡ nothing)
 TakesPiece page Names piece made (Some line) before after =
     (standing : Standing) × (held : Line) × (account : Option Account)
-    × IsServed page Names line piece made standing held before.account account before.faults after.faults
+    × IsPieceServed page Names line piece made standing held before.account account before.faults
+    after.faults
     × (after.account ≡ closing standing account) × (after.line ≡ kept_after standing held)
 
+-- the end of the input came of a connection, which is open or not
 abbrev pub Finishes : Made → Option Line → At → At → Type 0
 Finishes made None before after = (after ≡ before) × (made ≡ nothing)
 Finishes made (Some line) before after =
@@ -116,37 +149,31 @@ Finishes made (Some line) before after =
     × IsFinished line.rest made standing before.account account before.faults after.faults
     × (after.account ≡ closing standing account) × (after.line ≡ None)
 
--- the number is above all that were opened before
-abbrev pub counts : Option ℕ → ℕ → Bool
-counts None number = true
-counts (Some greatest) number = nat_lt greatest number
-
+-- every connection is as before, but that of this number
 abbrev pub OthersStay : ℕ → (ℕ → At) → (ℕ → At) → Type 0
 OthersStay number before after = (other : ℕ) → other ≢ number → after other ≡ before other
 
 -- What the event does to all connections, and what it makes. page is the outcomes in the data that are current, and Names
 -- says which term a target names.
-abbrev pub Turned : OutcomeAt → (List ℕ → Term → Type 0) → ℕ → Option ℕ → WireEvent → Made → (ℕ → At) → (ℕ → At) → Type 0
+abbrev pub Turned : OutcomeAt → (List ℕ → Term → Type 0) → ℕ → Option ℕ → WireEvent → Made
+    → (ℕ → At) → (ℕ → At) → Type 0
 Turned page Names limit greatest (Opened number) made before after =
-    MatchBool (counts greatest number) (Opens limit (before number) (after number)) (after number ≡ before number) × OthersStay number before after
+    MatchBool (counts greatest number) (Opens limit (before number) (after number))
+    (after number ≡ before number) × OthersStay number before after
     × (made ≡ nothing)
 Turned page Names limit greatest (Bytes number piece) made before after =
-    TakesPiece page Names piece made (before number).line (before number) (after number) × OthersStay number before after
+    TakesPiece page Names piece made (before number).line (before number) (after number)
+    × OthersStay number before after
 Turned page Names limit greatest (Ended number) made before after =
-    Finishes made (before number).line (before number) (after number) × OthersStay number before after
+    Finishes made (before number).line (before number) (after number)
+    × OthersStay number before after
 Turned page Names limit greatest (LostEvent number) made before after =
-    (after number ≡ record (before number) { line = None }) × OthersStay number before after × (made ≡ nothing)
-Turned page Names limit greatest (Change text) made before after = ((number : ℕ) → after number ≡ before number) × (made ≡ nothing)
-Turned page Names limit greatest Done made before after = ((number : ℕ) → after number ≡ before number) × (made ≡ nothing)
-
--- the greatest number opened, after the event
-abbrev pub greatest_after : WireEvent → Option ℕ → Option ℕ
-greatest_after (Opened number) greatest = if counts greatest number then Some number else greatest
-greatest_after (Bytes number piece) greatest = greatest
-greatest_after (Ended number) greatest = greatest
-greatest_after (LostEvent number) greatest = greatest
-greatest_after (Change text) greatest = greatest
-greatest_after Done greatest = greatest
+    (after number ≡ record (before number) { line = None }) × OthersStay number before after
+    × (made ≡ nothing)
+Turned page Names limit greatest (Change text) made before after =
+    ((number : ℕ) → after number ≡ before number) × (made ≡ nothing)
+Turned page Names limit greatest Done made before after =
+    ((number : ℕ) → after number ≡ before number) × (made ≡ nothing)
 
 -- the state of the pages, after the event
 abbrev pub state_after : {D : Type 0} → (D → List ℕ → D) → WireEvent → D → D
@@ -157,17 +184,9 @@ state_after changed (LostEvent number) current = current
 state_after changed (Change text) current = changed current text
 state_after changed Done current = current
 
--- how many connections were opened, after the event
-abbrev pub opened_after : WireEvent → Option ℕ → ℕ → ℕ
-opened_after (Opened number) greatest opened = if counts greatest number then up opened else opened
-opened_after (Bytes number piece) greatest opened = opened
-opened_after (Ended number) greatest opened = opened
-opened_after (LostEvent number) greatest opened = opened
-opened_after (Change text) greatest opened = opened
-opened_after Done greatest opened = opened
-
 -- what is kept of the pages, after the event: a text renews it, and every look-up is one step of it
-abbrev pub Keeps : {C : Type 0} → (C → Term → C → Type 0) → (List ℕ → C → C → Type 0) → WireEvent → Made → C → C → Type 0
+abbrev pub Keeps : {C : Type 0} → (C → Term → C → Type 0) → (List ℕ → C → C → Type 0) → WireEvent
+    → Made → C → C → Type 0
 Keeps Looks Renews (Opened number) made before after = AllLooked Looks before made.terms after
 Keeps Looks Renews (Bytes number piece) made before after = AllLooked Looks before made.terms after
 Keeps Looks Renews (Ended number) made before after = AllLooked Looks before made.terms after

@@ -4,15 +4,16 @@ ghost use Rattle.sd_value.specs.declared.Term.{Term};
 ghost use Rattle.page_spec.specs.declared.Outcome.{Outcome};
 ghost use Rattle.page_spec.specs.Address.{TermOf};
 ghost use Rattle.wire.specs.Accounts.{up_by};
+ghost use Rattle.wire.specs.Told.{EventsStay, OtherAccountsStay, OtherFaultsStay};
 ghost use Rattle.http_spec.specs.Replies.{reply_bytes};
 ghost use Rattle.http_spec.specs.Sessions.{IsLookedUp};
-ghost use Rattle.hub.specs.Made.{Made, NamedBy, LooksUp, AllLooked};
-ghost use Rattle.hub.specs.Shown.{shown_in};
-ghost use Rattle.hub.specs.Turns.{IsServed, IsFinished, IsUnopened, IsAnswered, IsSent};
+ghost use Rattle.serving_spec.specs.Made.{Made, NamedBy, LooksUp, AllLooked};
+ghost use Rattle.serving_spec.specs.Shown.{shown_in};
+ghost use Rattle.hub.specs.Turns.{IsPieceServed, IsFinished, IsUnopened, IsAnswered, IsSent};
 
 use address::term_of;
 use http_reply::{Reading, no_memory_reply, reply};
-use http_spec::{Ask, AskKind, Standing};
+use http_spec::{ParsedRequest, RequestKind, Standing};
 use page_spec::Outcome;
 use sd_value::{NoMemory, Str};
 use std::alloc::Global;
@@ -37,11 +38,12 @@ impl Model for Connection {
 
     ghost view = { λ c. record { rest = c.reading.rest; left = c.left } };
 
-    ghost invariant = { λ c. HasNoHead c.reading.rest × (length c.reading.rest < max_head) × (0 < c.left) };
+    ghost invariant = { λ c. HasNoHead c.reading.rest × (length c.reading.rest < max_head)
+        × (0 < c.left) };
 }
 
 impl Connection {
-    /// A connection that may have so many replies.
+    /// A connection that may have at most `requests` replies.
     pub(crate) fn new(alloc: Global, requests: u64) -> Result<Connection, NoMemory>
         requires { 0 < requests }
         ensures { IfOk result (λ c. c ≡ record { rest = []; left = requests }) }
@@ -67,14 +69,17 @@ impl Connection {
         requires own { P.Own pages.old }
         ensures own { P.Own pages.new }
         ensures state { P.state pages.new ≡ P.state pages.old }
-        ensures others { (other : ℕ) → other ≢ number → W.account wire.new other ≡ W.account wire.old other }
-        ensures others_fine { (other : ℕ) → other ≢ number → W.faults wire.new other ≡ W.faults wire.old other }
+        ensures others { OtherAccountsStay number (W.told wire.old) (W.told wire.new) }
+        ensures others_fine { OtherFaultsStay number (W.told wire.old) (W.told wire.new) }
         ensures served { (all : Made)
-            × IsServed (shown_in root.now P.site P.templates (P.state pages.old)) (TermOf root.now) self.old piece.now all result self.new
-            (W.account wire.old number) (W.account wire.new number) (W.faults wire.old number) (W.faults wire.new number)
+            × IsPieceServed (shown_in root.now P.site P.templates (P.state pages.old))
+            (TermOf root.now) self.old piece.now all result self.new
+            ((W.told wire.old).account number) ((W.told wire.new).account number)
+            ((W.told wire.old).faults number) ((W.told wire.new).faults number)
             × (made.new ≡ up_by all.replies made.old)
-            × AllLooked (P.looks (P.state pages.old)) (P.cache pages.old) all.terms (P.cache pages.new) }
-        ensures stays { (W.given wire.new ≡ W.given wire.old) × (W.left wire.new ≡ W.left wire.old) × (W.listens wire.new ≡ W.listens wire.old) × (W.next_faults wire.new ≡ W.next_faults wire.old) }
+            × AllLooked (P.looks (P.state pages.old)) (P.cache pages.old) all.terms
+            (P.cache pages.new) }
+        ensures stays { EventsStay (W.told wire.old) (W.told wire.new) }
     {
         let mut from = 0;
         while from < piece.len() {
@@ -117,14 +122,16 @@ impl Connection {
         requires own { P.Own pages.old }
         ensures own { P.Own pages.new }
         ensures state { P.state pages.new ≡ P.state pages.old }
-        ensures others { (other : ℕ) → other ≢ number → W.account wire.new other ≡ W.account wire.old other }
-        ensures others_fine { (other : ℕ) → other ≢ number → W.faults wire.new other ≡ W.faults wire.old other }
+        ensures others { OtherAccountsStay number (W.told wire.old) (W.told wire.new) }
+        ensures others_fine { OtherFaultsStay number (W.told wire.old) (W.told wire.new) }
         ensures finished { (all : Made)
-            × IsFinished self.old.rest all result (W.account wire.old number) (W.account wire.new number)
-            (W.faults wire.old number) (W.faults wire.new number)
+            × IsFinished self.old.rest all result ((W.told wire.old).account number)
+            ((W.told wire.new).account number)
+            ((W.told wire.old).faults number) ((W.told wire.new).faults number)
             × (made.new ≡ up_by all.replies made.old)
-            × AllLooked (P.looks (P.state pages.old)) (P.cache pages.old) all.terms (P.cache pages.new) }
-        ensures stays { (W.given wire.new ≡ W.given wire.old) × (W.left wire.new ≡ W.left wire.old) × (W.listens wire.new ≡ W.listens wire.old) × (W.next_faults wire.new ≡ W.next_faults wire.old) }
+            × AllLooked (P.looks (P.state pages.old)) (P.cache pages.old) all.terms
+            (P.cache pages.new) }
+        ensures stays { EventsStay (W.told wire.old) (W.told wire.new) }
     {
         let Some(ask) = self.reading.end() else {
             return Standing::Closed;
@@ -137,7 +144,7 @@ impl Connection {
 /// 503.
 pub(crate) fn answer<P: Versions, W: Wire>(
     alloc: Global,
-    ask: &Ask,
+    ask: &ParsedRequest,
     target: &[u8],
     last: bool,
     root: &Option<Str>,
@@ -149,14 +156,17 @@ pub(crate) fn answer<P: Versions, W: Wire>(
     requires own { P.Own pages.old }
     ensures own { P.Own pages.new }
     ensures state { P.state pages.new ≡ P.state pages.old }
-    ensures others { (other : ℕ) → other ≢ number → W.account wire.new other ≡ W.account wire.old other }
-    ensures others_fine { (other : ℕ) → other ≢ number → W.faults wire.new other ≡ W.faults wire.old other }
+    ensures others { OtherAccountsStay number (W.told wire.old) (W.told wire.new) }
+    ensures others_fine { OtherFaultsStay number (W.told wire.old) (W.told wire.new) }
     ensures sent { (all : Made)
-        × IsAnswered (shown_in root.now P.site P.templates (P.state pages.old)) (TermOf root.now) ask.now target.now last all result
-        (W.account wire.old number) (W.account wire.new number) (W.faults wire.old number) (W.faults wire.new number)
+        × IsAnswered (shown_in root.now P.site P.templates (P.state pages.old)) (TermOf root.now)
+        ask.now target.now last all result
+        ((W.told wire.old).account number) ((W.told wire.new).account number)
+        ((W.told wire.old).faults number) ((W.told wire.new).faults number)
         × (made.new ≡ up_by all.replies made.old)
-        × AllLooked (P.looks (P.state pages.old)) (P.cache pages.old) all.terms (P.cache pages.new) }
-    ensures stays { (W.given wire.new ≡ W.given wire.old) × (W.left wire.new ≡ W.left wire.old) × (W.listens wire.new ≡ W.listens wire.old) × (W.next_faults wire.new ≡ W.next_faults wire.old) }
+        × AllLooked (P.looks (P.state pages.old)) (P.cache pages.old) all.terms
+        (P.cache pages.new) }
+    ensures stays { EventsStay (W.told wire.old) (W.told wire.new) }
 {
     let close = closes(ask, last);
     match reply_to(alloc, ask, target, close, root, pages) {
@@ -169,7 +179,7 @@ pub(crate) fn answer<P: Versions, W: Wire>(
 }
 
 /// Whether the connection is closed after the reply.
-fn closes(ask: &Ask, last: bool) -> bool
+fn closes(ask: &ParsedRequest, last: bool) -> bool
     ensures { result ≡ (last || ask.now.close) }
 {
     last || ask.close
@@ -177,10 +187,12 @@ fn closes(ask: &Ask, last: bool) -> bool
 
 /// Sends a reply.
 fn send<W: Wire>(reply: &[u8], close: bool, number: u64, wire: &mut W) -> Standing
-    ensures others { (other : ℕ) → other ≢ number → W.account wire.new other ≡ W.account wire.old other }
-    ensures others_fine { (other : ℕ) → other ≢ number → W.faults wire.new other ≡ W.faults wire.old other }
-    ensures sent { IsSent close reply.now result (W.account wire.old number) (W.account wire.new number) (W.faults wire.old number) (W.faults wire.new number) }
-    ensures stays { (W.given wire.new ≡ W.given wire.old) × (W.left wire.new ≡ W.left wire.old) × (W.listens wire.new ≡ W.listens wire.old) × (W.next_faults wire.new ≡ W.next_faults wire.old) }
+    ensures others { OtherAccountsStay number (W.told wire.old) (W.told wire.new) }
+    ensures others_fine { OtherFaultsStay number (W.told wire.old) (W.told wire.new) }
+    ensures sent { IsSent close reply.now result ((W.told wire.old).account number)
+        ((W.told wire.new).account number) ((W.told wire.old).faults number)
+        ((W.told wire.new).faults number) }
+    ensures stays { EventsStay (W.told wire.old) (W.told wire.new) }
 {
     match wire.send(number, reply) {
         Err(_) => Standing::Lost,
@@ -189,13 +201,15 @@ fn send<W: Wire>(reply: &[u8], close: bool, number: u64, wire: &mut W) -> Standi
     }
 }
 
-/// Sends the reply where memory is missing.
+/// Sends the reply that reports out of memory.
 pub(crate) fn cut_short<W: Wire>(number: u64, wire: &mut W) -> Standing
-    ensures others { (other : ℕ) → other ≢ number → W.account wire.new other ≡ W.account wire.old other }
-    ensures others_fine { (other : ℕ) → other ≢ number → W.faults wire.new other ≡ W.faults wire.old other }
+    ensures others { OtherAccountsStay number (W.told wire.old) (W.told wire.new) }
+    ensures others_fine { OtherFaultsStay number (W.told wire.old) (W.told wire.new) }
     ensures over { result ≢ Standing.Open }
-    ensures sent { IsUnopened result (W.account wire.old number) (W.account wire.new number) (W.faults wire.old number) (W.faults wire.new number) }
-    ensures stays { (W.given wire.new ≡ W.given wire.old) × (W.left wire.new ≡ W.left wire.old) × (W.listens wire.new ≡ W.listens wire.old) × (W.next_faults wire.new ≡ W.next_faults wire.old) }
+    ensures sent { IsUnopened result ((W.told wire.old).account number)
+        ((W.told wire.new).account number) ((W.told wire.old).faults number)
+        ((W.told wire.new).faults number) }
+    ensures stays { EventsStay (W.told wire.old) (W.told wire.new) }
 {
     match wire.send(number, no_memory_reply()) {
         Ok(()) => Standing::Short,
@@ -206,7 +220,7 @@ pub(crate) fn cut_short<W: Wire>(number: u64, wire: &mut W) -> Standing
 /// The reply to one ask.
 fn reply_to<P: Versions>(
     alloc: Global,
-    ask: &Ask,
+    ask: &ParsedRequest,
     target: &[u8],
     close: bool,
     root: &Option<Str>,
@@ -216,9 +230,11 @@ fn reply_to<P: Versions>(
     ensures own { P.Own pages.new }
     ensures state { P.state pages.new ≡ P.state pages.old }
     ensures bytes { IfOk result (λ bytes. (outcome : Outcome)
-        × IsLookedUp (shown_in root.now P.site P.templates (P.state pages.old)) ask.now.kind target.now outcome
+        × IsLookedUp (shown_in root.now P.site P.templates (P.state pages.old)) ask.now.kind
+        target.now outcome
         × (bytes.items ≡ reply_bytes ask.now outcome close)) }
-    ensures looked { (terms : List Term) × ((terms ≡ []) ⊎ LooksUp (TermOf root.now) ask.now.kind target.now terms)
+    ensures looked { (terms : List Term)
+        × ((terms ≡ []) ⊎ LooksUp (TermOf root.now) ask.now.kind target.now terms)
         × IfOk result (λ bytes. LooksUp (TermOf root.now) ask.now.kind target.now terms)
         × AllLooked (P.looks (P.state pages.old)) (P.cache pages.old) terms (P.cache pages.new) }
 {
@@ -231,7 +247,7 @@ fn reply_to<P: Versions>(
 /// The outcome that the reply shows. Where no page is asked for, it may be any.
 fn look_up<P: Versions>(
     alloc: Global,
-    kind: AskKind,
+    kind: RequestKind,
     target: &[u8],
     root: &Option<Str>,
     pages: &mut P,
@@ -239,16 +255,18 @@ fn look_up<P: Versions>(
     requires own { P.Own pages.old }
     ensures own { P.Own pages.new }
     ensures state { P.state pages.new ≡ P.state pages.old }
-    ensures found { IfOk result (λ outcome. IsLookedUp (shown_in root.now P.site P.templates (P.state pages.old)) kind target.now outcome) }
-    ensures looked { (terms : List Term) × ((terms ≡ []) ⊎ LooksUp (TermOf root.now) kind target.now terms)
+    ensures found { IfOk result (λ outcome. IsLookedUp
+        (shown_in root.now P.site P.templates (P.state pages.old)) kind target.now outcome) }
+    ensures looked { (terms : List Term)
+        × ((terms ≡ []) ⊎ LooksUp (TermOf root.now) kind target.now terms)
         × IfOk result (λ outcome. LooksUp (TermOf root.now) kind target.now terms)
         × AllLooked (P.looks (P.state pages.old)) (P.cache pages.old) terms (P.cache pages.new) }
 {
     match kind {
-        AskKind::Get => page_at(alloc, target, root, pages),
-        AskKind::Head => page_at(alloc, target, root, pages),
-        AskKind::BadRequest => Ok(Outcome::Missing),
-        AskKind::WrongMethod => Ok(Outcome::Missing),
+        RequestKind::Get => page_at(alloc, target, root, pages),
+        RequestKind::Head => page_at(alloc, target, root, pages),
+        RequestKind::BadRequest => Ok(Outcome::Missing),
+        RequestKind::WrongMethod => Ok(Outcome::Missing),
     }
 }
 
@@ -262,8 +280,10 @@ fn page_at<P: Versions>(
     requires own { P.Own pages.old }
     ensures own { P.Own pages.new }
     ensures state { P.state pages.new ≡ P.state pages.old }
-    ensures found { IfOk result (shown_in root.now P.site P.templates (P.state pages.old) target.now) }
-    ensures looked { (terms : List Term) × ((terms ≡ []) ⊎ NamedBy (TermOf root.now) target.now terms)
+    ensures found { IfOk result (shown_in root.now P.site P.templates (P.state pages.old)
+        target.now) }
+    ensures looked { (terms : List Term)
+        × ((terms ≡ []) ⊎ NamedBy (TermOf root.now) target.now terms)
         × IfOk result (λ outcome. NamedBy (TermOf root.now) target.now terms)
         × AllLooked (P.looks (P.state pages.old)) (P.cache pages.old) terms (P.cache pages.new) }
 {

@@ -4,30 +4,22 @@ ghost use Rattle.std.specs.Ordering.{nat_cmp};
 ghost use Rattle.std.specs.BTreeMap.{get};
 ghost use Rattle.page_spec.specs.Address.{TermOf};
 ghost use Rattle.wire.specs.Accounts.{up_by};
+ghost use Rattle.wire.specs.Told.{EventsStay};
 ghost use Rattle.wire.specs.declared.WireEvent.{WireEvent};
 ghost use Rattle.hub.specs.HubState.{HubState, line_of};
-ghost use Rattle.hub.specs.Made.{Made, nothing};
-ghost use Rattle.hub.specs.Shown.{shown_in};
-ghost use Rattle.hub.specs.Turns.{ats, counts, Turned, greatest_after, state_after, opened_after, Keeps};
+ghost use Rattle.serving_spec.specs.Made.{Made, nothing};
+ghost use Rattle.serving_spec.specs.Shown.{shown_in};
+ghost use Rattle.hub.specs.Turns.{ats, Turned, state_after, Keeps};
+ghost use Rattle.serving_spec.specs.Openings.{counts, greatest_after, opened_after};
 
 use crate::table::{Connections, finish, forget, open, take_piece};
 use sd_value::Str;
+use serving_spec::Tally;
 use std::alloc::Global;
 use std::collections::BTreeMap;
 use std::marker::Model;
 use versions::Versions;
 use wire::{Wire, WireEvent};
-
-/// The counts of a run. Each stays at its last value.
-#[derive(Clone, Copy, Debug, PartialEq, Eq)]
-pub struct Tally {
-    /// The connections that were opened.
-    pub connections: u64,
-    /// The replies that were made and sent, but for those by which a 503 says that memory is missing.
-    pub replies: u64,
-    /// The pages that were kept when they were looked up.
-    pub hits: u64,
-}
 
 /// What a hub holds.
 #[derive(Drop)]
@@ -40,7 +32,7 @@ struct Desk<P> {
     requests: u64,
     /// The function of the term for `/`.
     root: Option<Str>,
-    /// Memory was missing for a change.
+    /// Out of memory for a change.
     spent: bool,
     /// How many connections were opened, and how many replies made.
     opened: u64,
@@ -74,7 +66,7 @@ impl<P> Model for Hub<P> {
 }
 
 impl<P: Versions> Hub<P> {
-    /// A hub without connections, in which each may have so many replies. `root` is the function of the term for `/`.
+    /// A hub without connections, in which each may have at most `requests` replies. `root` is the function of the term for `/`.
     pub fn of(alloc: Global, pages: P, requests: u64, root: Option<Str>) -> Hub<P>
         requires some { 0 < requests }
         ensures pages { result.pages ≡ pages }
@@ -106,28 +98,34 @@ impl<P: Versions> Hub<P> {
         ensures some { 0 < self.old.limit }
         ensures limit { self.new.limit ≡ self.old.limit }
         ensures root { self.new.root ≡ self.old.root }
-        ensures state { self.old.spent ≡ false → self.new.spent ≡ false → P.state self.new.pages ≡ state_after P.changed event.now (P.state self.old.pages) }
-        ensures greatest { self.old.spent ≡ false → self.new.greatest ≡ greatest_after event.now self.old.greatest }
+        ensures state { self.old.spent ≡ false → self.new.spent ≡ false
+            → P.state self.new.pages ≡ state_after P.changed event.now (P.state self.old.pages) }
+        ensures greatest { self.old.spent ≡ false
+            → self.new.greatest ≡ greatest_after event.now self.old.greatest }
         ensures passes { self.old.spent ≡ true → (self.new ≡ self.old) × (wire.new ≡ wire.old) }
         ensures turned { self.old.spent ≡ false → (made : Made)
-            × Turned (shown_in self.old.root P.site P.templates (P.state self.old.pages)) (TermOf self.old.root) self.old.limit self.old.greatest event.now made
-            (ats (line_of self.old) (W.account wire.old) (W.faults wire.old))
-            (ats (line_of self.new) (W.account wire.new) (W.faults wire.new))
+            × Turned (shown_in self.old.root P.site P.templates (P.state self.old.pages))
+            (TermOf self.old.root) self.old.limit self.old.greatest event.now made
+            (ats (line_of self.old) (W.told wire.old).account (W.told wire.old).faults)
+            (ats (line_of self.new) (W.told wire.new).account (W.told wire.new).faults)
             × (self.new.replies ≡ up_by made.replies self.old.replies)
-            × (self.new.spent ≡ false → Keeps (P.looks (P.state self.old.pages)) (P.renews (P.state self.old.pages)) event.now made
+            × (self.new.spent ≡ false
+            → Keeps (P.looks (P.state self.old.pages)) (P.renews (P.state self.old.pages))
+            event.now made
             (P.cache self.old.pages) (P.cache self.new.pages)) }
-        ensures opened { self.old.spent ≡ false → self.new.opened ≡ opened_after event.now self.old.greatest self.old.opened }
-        ensures spends { self.old.spent ≡ false → self.new.spent ≡ true → ((text : List ℕ) × (event.now ≡ WireEvent.Change text))
+        ensures opened { self.old.spent ≡ false
+            → self.new.opened ≡ opened_after event.now self.old.greatest self.old.opened }
+        ensures spends { self.old.spent ≡ false → self.new.spent ≡ true
+            → ((text : List ℕ) × (event.now ≡ WireEvent.Change text))
             × (P.found (P.cache self.new.pages) ≡ P.found (P.cache self.old.pages)) }
-        ensures stays { (W.given wire.new ≡ W.given wire.old) × (W.left wire.new ≡ W.left wire.old) × (W.listens wire.new ≡ W.listens wire.old)
-            × (W.next_faults wire.new ≡ W.next_faults wire.old) }
+        ensures stays { EventsStay (W.told wire.old) (W.told wire.new) }
     {
         if !self.desk.spent {
             self.desk.take(alloc, event, wire);
         }
     }
 
-    /// Whether memory was missing for a change. It takes no memory.
+    /// Whether it was out of memory for a change. It takes no memory.
     pub fn spent(&self) -> bool
         ensures { result ≡ self.now.spent }
     {
@@ -136,7 +134,11 @@ impl<P: Versions> Hub<P> {
 
     /// The counts so far. It takes no memory.
     pub fn tally(&self) -> Tally
-        ensures { result ≡ record { connections = self.now.opened; replies = self.now.replies; hits = P.found (P.cache self.now.pages) } }
+        ensures { result ≡ record {
+          connections = self.now.opened;
+          replies = self.now.replies;
+          hits = P.found (P.cache self.now.pages);
+        } }
     {
         Tally {
             connections: self.desk.opened,
@@ -148,7 +150,8 @@ impl<P: Versions> Hub<P> {
     /// Forgets a connection without a byte. It takes no memory.
     pub fn drop_connection(&mut self, connection: u64)
         ensures gone { line_of self.new connection ≡ None }
-        ensures others { (other : ℕ) → other ≢ connection → line_of self.new other ≡ line_of self.old other }
+        ensures others { (other : ℕ) → other ≢ connection
+            → line_of self.new other ≡ line_of self.old other }
         ensures stays { self.new ≡ record self.old { lines = self.new.lines } }
     {
         forget(&mut self.desk.connections, connection);
@@ -164,20 +167,27 @@ impl<P: Versions> Desk<P> {
         ensures own { P.Own self.new.pages }
         ensures requests { self.new.requests ≡ self.old.requests }
         ensures root { self.new.root ≡ self.old.root }
-        ensures state { self.new.spent ≡ false → P.state self.new.pages ≡ state_after P.changed event.now (P.state self.old.pages) }
+        ensures state { self.new.spent ≡ false
+            → P.state self.new.pages ≡ state_after P.changed event.now (P.state self.old.pages) }
         ensures greatest { self.new.greatest ≡ greatest_after event.now self.old.greatest }
         ensures turned { (made : Made)
-            × Turned (shown_in self.old.root P.site P.templates (P.state self.old.pages)) (TermOf self.old.root) self.old.requests self.old.greatest event.now made
-            (ats (get nat_cmp self.old.connections) (W.account wire.old) (W.faults wire.old))
-            (ats (get nat_cmp self.new.connections) (W.account wire.new) (W.faults wire.new))
+            × Turned (shown_in self.old.root P.site P.templates (P.state self.old.pages))
+            (TermOf self.old.root) self.old.requests self.old.greatest event.now made
+            (ats (get nat_cmp self.old.connections) (W.told wire.old).account
+            (W.told wire.old).faults)
+            (ats (get nat_cmp self.new.connections) (W.told wire.new).account
+            (W.told wire.new).faults)
             × (self.new.replies ≡ up_by made.replies self.old.replies)
-            × (self.new.spent ≡ false → Keeps (P.looks (P.state self.old.pages)) (P.renews (P.state self.old.pages)) event.now made
+            × (self.new.spent ≡ false
+            → Keeps (P.looks (P.state self.old.pages)) (P.renews (P.state self.old.pages))
+            event.now made
             (P.cache self.old.pages) (P.cache self.new.pages)) }
-        ensures opened { self.new.opened ≡ opened_after event.now self.old.greatest self.old.opened }
-        ensures spends { self.new.spent ≡ true → ((text : List ℕ) × (event.now ≡ WireEvent.Change text))
+        ensures opened { self.new.opened
+            ≡ opened_after event.now self.old.greatest self.old.opened }
+        ensures spends { self.new.spent ≡ true
+            → ((text : List ℕ) × (event.now ≡ WireEvent.Change text))
             × (P.found (P.cache self.new.pages) ≡ P.found (P.cache self.old.pages)) }
-        ensures stays { (W.given wire.new ≡ W.given wire.old) × (W.left wire.new ≡ W.left wire.old) × (W.listens wire.new ≡ W.listens wire.old)
-            × (W.next_faults wire.new ≡ W.next_faults wire.old) }
+        ensures stays { EventsStay (W.told wire.old) (W.told wire.new) }
     {
         match event {
             WireEvent::Opened(number) => self.begin(alloc, *number, wire),
@@ -217,14 +227,19 @@ impl<P: Versions> Desk<P> {
         ensures root { self.new.root ≡ self.old.root }
         ensures spent { self.new.spent ≡ self.old.spent }
         ensures pages { self.new.pages ≡ self.old.pages }
-        ensures greatest { self.new.greatest ≡ greatest_after (WireEvent.Opened number) self.old.greatest }
+        ensures greatest { self.new.greatest
+            ≡ greatest_after (WireEvent.Opened number) self.old.greatest }
         ensures replies { self.new.replies ≡ self.old.replies }
-        ensures opened { self.new.opened ≡ opened_after (WireEvent.Opened number) self.old.greatest self.old.opened }
-        ensures turned { Turned (shown_in self.old.root P.site P.templates (P.state self.old.pages)) (TermOf self.old.root) self.old.requests self.old.greatest (WireEvent.Opened number) nothing
-            (ats (get nat_cmp self.old.connections) (W.account wire.old) (W.faults wire.old))
-            (ats (get nat_cmp self.new.connections) (W.account wire.new) (W.faults wire.new)) }
-        ensures stays { (W.given wire.new ≡ W.given wire.old) × (W.left wire.new ≡ W.left wire.old) × (W.listens wire.new ≡ W.listens wire.old)
-            × (W.next_faults wire.new ≡ W.next_faults wire.old) }
+        ensures opened { self.new.opened
+            ≡ opened_after (WireEvent.Opened number) self.old.greatest self.old.opened }
+        ensures turned { Turned (shown_in self.old.root P.site P.templates
+            (P.state self.old.pages)) (TermOf self.old.root) self.old.requests self.old.greatest
+            (WireEvent.Opened number) nothing
+            (ats (get nat_cmp self.old.connections) (W.told wire.old).account
+            (W.told wire.old).faults)
+            (ats (get nat_cmp self.new.connections) (W.told wire.new).account
+            (W.told wire.new).faults) }
+        ensures stays { EventsStay (W.told wire.old) (W.told wire.new) }
     {
         if self.counts(number) {
             self.greatest = Some(number);

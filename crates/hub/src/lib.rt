@@ -6,5 +6,6 @@ mod hub_step;
 mod serving;
 mod table;
 
-pub use hub_step::{Hub, Tally};
-pub use serving::{HubEnd, serve};
+pub use hub_step::Hub;
+pub use serving::serve;
+pub use serving_spec::{HubEnd, Tally};

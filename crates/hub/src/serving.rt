@@ -2,33 +2,24 @@
 ghost use Rattle.std.specs.Prelude.{◌≡◌, ◌<◌, ◌⊎◌, ℕ, List, None, false};
 ghost use Rattle.std.specs.List.{fold};
 ghost use Rattle.edge_io.specs.Counts.{Rose};
+ghost use Rattle.page_spec.specs.Address.{TermOf};
 ghost use Rattle.wire.specs.Events.{add_event, is_done, IsDrawn};
 ghost use Rattle.wire.specs.declared.WireEvent.{WireEvent};
-ghost use Rattle.hub.specs.Course.{scene, rules_under, IsCourse};
-ghost use Rattle.hub.specs.HubState.{line_of};
-ghost use Rattle.hub.specs.Moments.{moment_after, Stands, Unopened};
-ghost use Rattle.hub.specs.Runs.{EndsRun};
-ghost use Rattle.hub.specs.Shown.{shown_in};
+ghost use Rattle.hub.specs.HubState.{scene, line_of};
+ghost use Rattle.hub.specs.Course.{rules_under, IsCourse};
+ghost use Rattle.serving_spec.specs.Inputs.{moment_after, Unopened};
+ghost use Rattle.hub.specs.Moments.{Stands};
+ghost use Rattle.serving_spec.specs.RunEnds.{EndsRun};
+ghost use Rattle.serving_spec.specs.Shown.{shown_in};
 ghost use Rattle.hub.specs.Turns.{at_in};
 
 use crate::hub_step::Hub;
+use serving_spec::HubEnd;
 use std::alloc::Global;
 use versions::Versions;
 use wire::{Wire, WireEnd, WireEvent};
 
-/// Why a run has ended.
-#[derive(Clone, Copy, Debug, PartialEq, Eq)]
-pub enum HubEnd {
-    /// Nothing more comes.
-    Done,
-    WireFailed,
-    /// So many events were taken, and more may come.
-    TurnsSpent,
-    /// Memory was missing for an event or for a change.
-    NoMemory,
-}
-
-/// Takes events until there are no more, at most so many. It never calls `listen`, and it asks for no event after `Done`.
+/// Takes events until there are no more, at most `turns`. It never calls `listen`, and it asks for no event after `Done`.
 pub fn serve<P: Versions, W: Wire>(
     alloc: Global,
     hub: &mut Hub<P>,
@@ -39,21 +30,30 @@ pub fn serve<P: Versions, W: Wire>(
     requires alive { hub.old.spent ≡ false }
     ensures own { P.Own hub.new.pages }
 
-    // However the events interleave, each connection stands as its own bytes ask for.
-    ensures stands { (events : List WireEvent) × (W.given wire.new ≡ fold add_event (W.given wire.old) events)
-        × IsDrawn (W.left wire.old) events (W.left wire.new)
+    // However the events interleave, each connection is as its own bytes ask for.
+    ensures stands { (events : List WireEvent)
+        × ((W.told wire.new).given ≡ fold add_event (W.told wire.old).given events)
+        × IsDrawn (W.told wire.old).left events (W.told wire.new).left
         × EndsRun turns events result
-        × IsCourse (rules_under hub.old.root P.site P.templates P.changed P.looks P.renews P.found) hub.old.limit
-        (scene P.state P.cache hub.old (W.account wire.old) (W.faults wire.old)) events
-        (scene P.state P.cache hub.new (W.account wire.new) (W.faults wire.new))
+        × IsCourse (rules_under hub.old.root P.site P.templates P.changed P.looks P.renews P.found)
+        hub.old.limit
+        (scene P.state P.cache hub.old (W.told wire.old).account (W.told wire.old).faults) events
+        (scene P.state P.cache hub.new (W.told wire.new).account (W.told wire.new).faults)
         × ((number : ℕ) → line_of hub.old number ≡ None
-        → Stands (shown_in hub.old.root P.site P.templates) hub.old.limit number
-        (moment_after P.changed number (record { current = P.state hub.old.pages; greatest = hub.old.greatest; input = Unopened }) events)
-        (at_in (line_of hub.old) (W.account wire.old) (W.faults wire.old) number)
-        (at_in (line_of hub.new) (W.account wire.new) (W.faults wire.new) number)) }
-    ensures failed { result ≡ HubEnd.WireFailed → Rose (W.next_faults wire.old) (W.next_faults wire.new) }
-    ensures fine { (result ≡ HubEnd.Done) ⊎ (result ≡ HubEnd.TurnsSpent) → W.next_faults wire.new ≡ W.next_faults wire.old }
-    ensures listens { W.listens wire.new ≡ W.listens wire.old }
+        → Stands (shown_in hub.old.root P.site P.templates) (TermOf hub.old.root)
+        hub.old.limit number
+        (moment_after P.changed number (record {
+          current = P.state hub.old.pages;
+          greatest = hub.old.greatest;
+          input = Unopened;
+        }) events)
+        (at_in (line_of hub.old) (W.told wire.old).account (W.told wire.old).faults number)
+        (at_in (line_of hub.new) (W.told wire.new).account (W.told wire.new).faults number)) }
+    ensures failed { result ≡ HubEnd.WireFailed
+        → Rose (W.told wire.old).next_faults (W.told wire.new).next_faults }
+    ensures fine { (result ≡ HubEnd.Done) ⊎ (result ≡ HubEnd.TurnsSpent)
+        → (W.told wire.new).next_faults ≡ (W.told wire.old).next_faults }
+    ensures listens { (W.told wire.new).listens ≡ (W.told wire.old).listens }
     ensures stays { (hub.new.limit ≡ hub.old.limit) × (hub.new.root ≡ hub.old.root) }
 {
     for _ in 0..turns {

@@ -4,9 +4,10 @@ ghost use Rattle.std.specs.Ordering.{nat_cmp};
 ghost use Rattle.std.specs.BTreeMap.{get};
 ghost use Rattle.page_spec.specs.Address.{TermOf};
 ghost use Rattle.wire.specs.Accounts.{up_by};
-ghost use Rattle.hub.specs.Delivered.{closing};
-ghost use Rattle.hub.specs.Made.{Made, AllLooked};
-ghost use Rattle.hub.specs.Shown.{shown_in};
+ghost use Rattle.wire.specs.Told.{EventsStay, OtherAccountsStay};
+ghost use Rattle.serving_spec.specs.Delivered.{closing};
+ghost use Rattle.serving_spec.specs.Made.{Made, AllLooked};
+ghost use Rattle.serving_spec.specs.Shown.{shown_in};
 ghost use Rattle.hub.specs.Turns.{At, ats, at_in, Opens, TakesPiece, Finishes, OthersStay};
 
 use crate::connection::{Connection, cut_short};
@@ -20,7 +21,7 @@ use wire::Wire;
 /// The open connections by their numbers.
 pub(crate) type Connections = BTreeMap<u64, Connection>;
 
-/// Opens a connection. Where memory is missing for it, it is sent a 503.
+/// Opens a connection. Out of memory for it, it is sent a 503.
 pub(crate) fn open<W: Wire>(
     connections: &mut Connections,
     alloc: Global,
@@ -29,11 +30,14 @@ pub(crate) fn open<W: Wire>(
     wire: &mut W,
 )
     requires { 0 < requests }
-    ensures others { OthersStay number (ats (get nat_cmp connections.old) (W.account wire.old) (W.faults wire.old))
-        (ats (get nat_cmp connections.new) (W.account wire.new) (W.faults wire.new)) }
-    ensures opened { Opens requests (at_in (get nat_cmp connections.old) (W.account wire.old) (W.faults wire.old) number)
-        (at_in (get nat_cmp connections.new) (W.account wire.new) (W.faults wire.new) number) }
-    ensures stays { (W.given wire.new ≡ W.given wire.old) × (W.left wire.new ≡ W.left wire.old) × (W.listens wire.new ≡ W.listens wire.old) × (W.next_faults wire.new ≡ W.next_faults wire.old) }
+    ensures others { OthersStay number (ats (get nat_cmp connections.old) (W.told wire.old).account
+        (W.told wire.old).faults)
+        (ats (get nat_cmp connections.new) (W.told wire.new).account (W.told wire.new).faults) }
+    ensures opened { Opens requests (at_in (get nat_cmp connections.old) (W.told wire.old).account
+        (W.told wire.old).faults number)
+        (at_in (get nat_cmp connections.new) (W.told wire.new).account (W.told wire.new).faults
+        number) }
+    ensures stays { EventsStay (W.told wire.old) (W.told wire.new) }
 {
     if let Ok(connection) = Connection::new(alloc, requests)
         && connections.insert(number, connection).is_ok()
@@ -59,15 +63,20 @@ pub(crate) fn take_piece<P: Versions, W: Wire>(
     requires own { P.Own pages.old }
     ensures own { P.Own pages.new }
     ensures state { P.state pages.new ≡ P.state pages.old }
-    ensures others { OthersStay number (ats (get nat_cmp connections.old) (W.account wire.old) (W.faults wire.old))
-        (ats (get nat_cmp connections.new) (W.account wire.new) (W.faults wire.new)) }
+    ensures others { OthersStay number (ats (get nat_cmp connections.old) (W.told wire.old).account
+        (W.told wire.old).faults)
+        (ats (get nat_cmp connections.new) (W.told wire.new).account (W.told wire.new).faults) }
     ensures taken { (all : Made)
-        × TakesPiece (shown_in root.now P.site P.templates (P.state pages.old)) (TermOf root.now) piece.now all (get nat_cmp connections.old number)
-        (at_in (get nat_cmp connections.old) (W.account wire.old) (W.faults wire.old) number)
-        (at_in (get nat_cmp connections.new) (W.account wire.new) (W.faults wire.new) number)
+        × TakesPiece (shown_in root.now P.site P.templates (P.state pages.old)) (TermOf root.now)
+        piece.now all (get nat_cmp connections.old number)
+        (at_in (get nat_cmp connections.old) (W.told wire.old).account (W.told wire.old).faults
+        number)
+        (at_in (get nat_cmp connections.new) (W.told wire.new).account (W.told wire.new).faults
+        number)
         × (made.new ≡ up_by all.replies made.old)
-        × AllLooked (P.looks (P.state pages.old)) (P.cache pages.old) all.terms (P.cache pages.new) }
-    ensures stays { (W.given wire.new ≡ W.given wire.old) × (W.left wire.new ≡ W.left wire.old) × (W.listens wire.new ≡ W.listens wire.old) × (W.next_faults wire.new ≡ W.next_faults wire.old) }
+        × AllLooked (P.looks (P.state pages.old)) (P.cache pages.old) all.terms
+        (P.cache pages.new) }
+    ensures stays { EventsStay (W.told wire.old) (W.told wire.new) }
 {
     let standing = match connections.get_mut(&number) {
         None => return,
@@ -95,15 +104,19 @@ pub(crate) fn finish<P: Versions, W: Wire>(
     requires own { P.Own pages.old }
     ensures own { P.Own pages.new }
     ensures state { P.state pages.new ≡ P.state pages.old }
-    ensures others { OthersStay number (ats (get nat_cmp connections.old) (W.account wire.old) (W.faults wire.old))
-        (ats (get nat_cmp connections.new) (W.account wire.new) (W.faults wire.new)) }
+    ensures others { OthersStay number (ats (get nat_cmp connections.old) (W.told wire.old).account
+        (W.told wire.old).faults)
+        (ats (get nat_cmp connections.new) (W.told wire.new).account (W.told wire.new).faults) }
     ensures finished { (all : Made)
         × Finishes all (get nat_cmp connections.old number)
-        (at_in (get nat_cmp connections.old) (W.account wire.old) (W.faults wire.old) number)
-        (at_in (get nat_cmp connections.new) (W.account wire.new) (W.faults wire.new) number)
+        (at_in (get nat_cmp connections.old) (W.told wire.old).account (W.told wire.old).faults
+        number)
+        (at_in (get nat_cmp connections.new) (W.told wire.new).account (W.told wire.new).faults
+        number)
         × (made.new ≡ up_by all.replies made.old)
-        × AllLooked (P.looks (P.state pages.old)) (P.cache pages.old) all.terms (P.cache pages.new) }
-    ensures stays { (W.given wire.new ≡ W.given wire.old) × (W.left wire.new ≡ W.left wire.old) × (W.listens wire.new ≡ W.listens wire.old) × (W.next_faults wire.new ≡ W.next_faults wire.old) }
+        × AllLooked (P.looks (P.state pages.old)) (P.cache pages.old) all.terms
+        (P.cache pages.new) }
+    ensures stays { EventsStay (W.told wire.old) (W.told wire.new) }
 {
     let standing = match connections.get_mut(&number) {
         None => return,
@@ -115,10 +128,11 @@ pub(crate) fn finish<P: Versions, W: Wire>(
 
 /// Closes the connection where a reply has closed it.
 fn settle<W: Wire>(standing: Standing, number: u64, wire: &mut W)
-    ensures closed { W.account wire.new number ≡ closing standing (W.account wire.old number) }
-    ensures others { (other : ℕ) → other ≢ number → W.account wire.new other ≡ W.account wire.old other }
-    ensures faults { (other : ℕ) → W.faults wire.new other ≡ W.faults wire.old other }
-    ensures stays { (W.given wire.new ≡ W.given wire.old) × (W.left wire.new ≡ W.left wire.old) × (W.listens wire.new ≡ W.listens wire.old) × (W.next_faults wire.new ≡ W.next_faults wire.old) }
+    ensures closed { (W.told wire.new).account number
+        ≡ closing standing ((W.told wire.old).account number) }
+    ensures others { OtherAccountsStay number (W.told wire.old) (W.told wire.new) }
+    ensures faults { (other : ℕ) → (W.told wire.new).faults other ≡ (W.told wire.old).faults other }
+    ensures stays { EventsStay (W.told wire.old) (W.told wire.new) }
 {
     match standing {
         Standing::Open => {}
@@ -131,7 +145,8 @@ fn settle<W: Wire>(standing: Standing, number: u64, wire: &mut W)
 /// Forgets a connection.
 pub(crate) fn forget(connections: &mut Connections, number: u64)
     ensures gone { get nat_cmp connections.new number ≡ None }
-    ensures others { (other : ℕ) → other ≢ number → get nat_cmp connections.new other ≡ get nat_cmp connections.old other }
+    ensures others { (other : ℕ) → other ≢ number
+        → get nat_cmp connections.new other ≡ get nat_cmp connections.old other }
 {
     let _ = connections.remove(&number);
 }

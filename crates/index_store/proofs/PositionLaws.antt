@@ -9,7 +9,7 @@ use Rattle.std.proofs.lemmas.Bool.Decides.{nat_tests}
 use Rattle.std.proofs.lemmas.List.{get_or-map, length-map}
 use Rattle.std.proofs.lemmas.List.Elements.{All-head, All-tail, All-cons}
 use Rattle.graph_spec.specs.declared.Edge.{Edge}
-use Rattle.picks.specs.Picked.{in_place, IsPlaced}
+use Rattle.list_lookup.specs.Picked.{in_place, IsPlaced}
 use Rattle.sd_value.specs.Ascending.{ListsExactly}
 use Rattle.index_store.specs.Indexed.{edge_at, edges_at, place_at, IsOrder}
 

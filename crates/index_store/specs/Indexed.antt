@@ -7,12 +7,13 @@ use Rattle.sd_value.specs.declared.Value.{Value}
 use Rattle.graph_spec.specs.DataGraph.{DataGraph, Name, node}
 use Rattle.graph_spec.specs.declared.Edge.{Edge}
 use Rattle.edge_queries.specs.Ordered.{by_end_cmp, by_label_cmp}
-use Rattle.list_store.specs.Contents.{IsStored}
+use Rattle.edge_queries.specs.Contents.{IsStored}
 
 -- the edge at a position. No list here has a position past its end
 abbrev pub edge_at : List Edge → ℕ → Edge
 edge_at es i = slice_index_or es i (record { from = []; label = []; to = node [] })
 
+-- the edges at these positions
 abbrev pub edges_at : List Edge → List ℕ → List Edge
 edges_at es positions = map (edge_at es) positions
 
@@ -21,7 +22,9 @@ pub record IsOrder (R : Edge → Edge → Ordering) (es : List Edge) (positions 
   pub fits : All (λ i. i < length es) positions
   pub lists : ListsExactly R (Contains es) (edges_at es positions)
 
-pub record IsIndexed (G : DataGraph) (ends labelled : List ℕ) (vs : List Value) (ns : List Name) : Type 0 where
+-- all that an indexed store keeps
+pub record IsIndexed (G : DataGraph) (ends labelled : List ℕ) (vs : List Value)
+    (ns : List Name) : Type 0 where
   pub stored : IsStored G vs ns
   pub by_end : IsOrder by_end_cmp G.edges ends
   pub by_label : IsOrder by_label_cmp G.edges labelled

@@ -1,4 +1,4 @@
-//! The store of the program: a graph whose edges stand in order by start, by end and by label, so that each question
+//! The store of the program: a graph whose edges are in order by start, by end and by label, so that each question
 //! is a look-up by halves.
 #![tactic(auto)]
 
@@ -12,11 +12,11 @@ use crate::orders::{by_end, by_label};
 use crate::positions::{count_at, pick_at};
 use crate::ranks::{is_among, sorted_set};
 use edge_queries::{
-    EdgeAt, Incoming, IncomingBy, Labelled, MemberAt, Members, Out, OutAll, copy_names, copy_values,
+    EdgeAt, Incoming, IncomingBy, Labelled, MemberAt, Members, Out, OutAll, all_labels, all_values,
+    copy_names, copy_values,
 };
 use indexmap::IndexSet;
-use list_store::{all_labels, all_values};
-use picks::{give_all, has, part};
+use list_lookup::{give_all, has, part};
 use sd_graph::{Edge, Graph, Sizes, Step, Store};
 use sd_value::{NoMemory, Str, Value};
 use std::alloc::Global;
@@ -54,7 +54,8 @@ impl Model for IndexStore {
 
     ghost view = { λ s. s.graph };
 
-    ghost invariant = { λ s. IsIndexed s.graph s.by_end.items s.by_label.items s.values.keys s.labels.keys };
+    ghost invariant = { λ s. IsIndexed s.graph s.by_end.items s.by_label.items s.values.keys
+        s.labels.keys };
 }
 
 impl IndexStore {

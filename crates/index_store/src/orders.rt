@@ -20,7 +20,8 @@ fn label_ranks(
     labels: &IndexSet<Str>,
 ) -> Result<Vec<usize>, NoMemory>
     requires { (e : AnyEdge) → Contains edges.now e → Contains labels.now.keys e.label }
-    ensures { IfOk result (λ ranks. map (slice_get labels.now.keys) ranks.items ≡ map (λ e. Some e.label) edges.now) }
+    ensures { IfOk result (λ ranks. map (slice_get labels.now.keys) ranks.items
+        ≡ map (λ e. Some e.label) edges.now) }
 {
     let mut ranks = Vec::with_capacity(alloc, edges.len())?;
     for edge in edges {
@@ -53,7 +54,8 @@ fn end_ranks(
 ) -> Result<Vec<usize>, NoMemory>
     requires fits { All (λ i. i < length edges.now) positions.now }
     requires known { (e : AnyEdge) → Contains edges.now e → Contains values.now.keys e.to }
-    ensures { IfOk result (λ ranks. map (slice_get values.now.keys) ranks.items ≡ map (λ e. Some e.to) (edges_at edges.now positions.now)) }
+    ensures { IfOk result (λ ranks. map (slice_get values.now.keys) ranks.items
+        ≡ map (λ e. Some e.to) (edges_at edges.now positions.now)) }
 {
     let mut ranks = Vec::with_capacity(alloc, positions.len())?;
     for position in positions {

@@ -1,9 +1,9 @@
-// Queries over edges that stand by their positions in the query's order.
+// Queries over edges that are by their positions in the query's order.
 ghost use Rattle.std.specs.Prelude.{◌≡◌, ◌<◌, IfOk, All, length, map};
-ghost use Rattle.picks.specs.Picked.{in_place, picked, IsPlaced};
+ghost use Rattle.list_lookup.specs.Picked.{in_place, picked, IsPlaced};
 ghost use Rattle.index_store.specs.Indexed.{edge_at, edges_at, place_at};
 
-use picks::{Query, part};
+use list_lookup::{Query, part};
 use sd_graph::Edge;
 use sd_value::NoMemory;
 use std::alloc::Global;
@@ -67,7 +67,8 @@ where
     Q::Given: Drop,
     requires fits { All (λ i. i < length edges.now) positions.now }
     requires placed { IsPlaced (Q.at query.now) (edges_at edges.now positions.now) }
-    ensures { IfOk result (λ found. found.items ≡ picked (Q.at query.now) Q.gives (edges_at edges.now positions.now)) }
+    ensures { IfOk result (λ found. found.items
+        ≡ picked (Q.at query.now) Q.gives (edges_at edges.now positions.now)) }
 {
     let at = part(positions, &AtPositions { edges, query });
     give_at(alloc, edges, at, query)

@@ -65,7 +65,8 @@ impl Eq for Place {
 impl PartialOrd for Place {
     ghost partial_cmp = { as_partial_cmp place_cmp };
 
-    ghost laws = { partial_order_from_agreeing_total place_cmp place_cmp-total (λ a b. refl) (λ a b. refl) };
+    ghost laws = { partial_order_from_agreeing_total place_cmp place_cmp-total (λ a b. refl)
+        (λ a b. refl) };
 
     fn partial_cmp(&self, other: &Place) -> Option<Ordering> {
         Some(self.cmp(other))
@@ -115,9 +116,10 @@ fn numbers(alloc: Global, places: &[Place]) -> Result<Vec<usize>, NoMemory>
     Ok(numbers)
 }
 
-/// The places of a list of ranks: by rank, and then as they stand.
+/// The places of a list of ranks: by rank, and then as they are.
 pub(crate) fn by_rank(alloc: Global, ranks: &[usize]) -> Result<Vec<usize>, NoMemory>
-    ensures { IfOk result (λ order. ListsExactly (rank_cmp ranks.now) (λ i. i < length ranks.now) order.items) }
+    ensures { IfOk result (λ order.
+        ListsExactly (rank_cmp ranks.now) (λ i. i < length ranks.now) order.items) }
 {
     let mut places = places(alloc, ranks)?;
     sort_and_dedup(&mut places);

@@ -4,7 +4,7 @@ use Rattle.std.specs.List.{flat_map}
 use Rattle.graph_spec.specs.DataGraph.{Name}
 use Rattle.source_steps.specs.Names.{numbered}
 
--- where a value stands in the text: a JSON Pointer
+-- where a value is in the text: a JSON Pointer
 abbrev pub Pointer : Type 0
 Pointer = List ℕ
 

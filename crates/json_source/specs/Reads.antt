@@ -11,7 +11,7 @@ use Rattle.json_source.specs.Text.{text_steps, json_ending}
 abbrev pub Reads : Name → List ℕ → Building → Building → Result ⊤ JsonRefusal → Type 0
 Reads stem bytes b c result = Ends b (text_steps stem bytes) c (json_ending result)
 
--- two answers, neither of them want of memory, are one, and so are the graphs that they leave
+-- two answers, neither of them out of memory, are one, and so are the graphs that they leave
 abbrev pub HasOneAnswer : Name → List ℕ → Building → Type 0
 HasOneAnswer stem bytes b =
     (c d : Building) (r s : Result ⊤ JsonRefusal) → Reads stem bytes b c r → Reads stem bytes b d s

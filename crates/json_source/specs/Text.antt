@@ -29,26 +29,31 @@ number_steps at node label None = fails (NotInteger at) ∷ []
 abbrev mutual
   pub value_steps : Pointer → Name → Name → Name → Data → List JsonStep
   value_steps at node label child null = []
-  value_steps at node label child (boolean b) = says at (an_edge node label (a_datum (Text (boolean_text b)))) ∷ []
+  value_steps at node label child (boolean b) = says at
+      (an_edge node label (a_datum (Text (boolean_text b)))) ∷ []
   value_steps at node label child (number x) = number_steps at node label (as_i64 x)
   value_steps at node label child (string s) = says at (an_edge node label (a_datum (Text s))) ∷ []
   value_steps at node label child (array ds) = items_steps at node label child 0 ds
-  value_steps at node label child (object ms) = says at (an_edge node label (a_datum (Node child))) ∷ members_steps at child ms
+  value_steps at node label child (object ms) = says at (an_edge node label (a_datum (Node child)))
+      ∷ members_steps at child ms
 
   -- the items of a list from one on: each under the same label
   pub items_steps : Pointer → Name → Name → Name → ℕ → Items → List JsonStep
   items_steps at node label child index no_items = []
   items_steps at node label child index (item d ds) =
-      value_steps (item_place at index) node label (item_name child index) d ++ items_steps at node label child (index + 1) ds
+      value_steps (item_place at index) node label (item_name child index) d
+      ++ items_steps at node label child (index + 1) ds
 
   -- the members of a node's object, by ascending key: each under its key
   pub members_steps : Pointer → Name → Members → List JsonStep
   members_steps at node no_members = []
-  members_steps at node (member key d ms) = value_steps (member_place at key) node key (member_name node key) d ++ members_steps at node ms
+  members_steps at node (member key d ms) = value_steps (member_place at key) node key
+      (member_name node key) d ++ members_steps at node ms
 
 -- a record: a node of the collection, and its members
 abbrev pub record_statements : Pointer → Name → Name → Members → List JsonStep
-record_statements at collection node ms = says at (a_node node) ∷ says at (a_member collection node) ∷ members_steps at node ms
+record_statements at collection node ms =
+    says at (a_node node) ∷ says at (a_member collection node) ∷ members_steps at node ms
 
 abbrev pub record_steps : Pointer → Name → Name → Data → List JsonStep
 record_steps at collection node (object ms) = record_statements at collection node ms
@@ -58,7 +63,8 @@ record_steps at collection node d = fails (NotRecords at) ∷ []
 abbrev pub records_steps : Pointer → Name → Name → ℕ → Items → List JsonStep
 records_steps at collection name index no_items = []
 records_steps at collection name index (item d ds) =
-    record_steps (item_place at index) collection (item_name name index) d ++ records_steps at collection name (index + 1) ds
+    record_steps (item_place at index) collection (item_name name index) d
+    ++ records_steps at collection name (index + 1) ds
 
 abbrev pub collection_steps : Pointer → Name → Name → Data → List JsonStep
 collection_steps at collection name (array ds) = records_steps at collection name 0 ds
@@ -67,7 +73,8 @@ collection_steps at collection name d = fails (NotRecords at) ∷ []
 -- an object whose values are lists of records, each the collection of its key
 abbrev pub collections_steps : Name → Members → List JsonStep
 collections_steps stem no_members = []
-collections_steps stem (member key d ms) = collection_steps (member_place [] key) key (member_name stem key) d ++ collections_steps stem ms
+collections_steps stem (member key d ms) =
+    collection_steps (member_place [] key) key (member_name stem key) d ++ collections_steps stem ms
 
 -- a list of records, or an object of lists of records
 abbrev pub top_steps : Name → Data → List JsonStep

@@ -26,7 +26,8 @@ use std::alloc::Global;
 #[tactic(auto, using(crate::proofs::Steps::value_some, crate::proofs::Steps::value_none))]
 fn read_value(alloc: Global, bytes: &[u8]) -> Result<Json, JsonRefusal>
     ensures value { IfOk result (λ v. value_of bytes.now ≡ Some (view v)) }
-    ensures fault { IfErr result (λ e. (e ≡ OutOfMemory) ⊎ ((e ≡ Unreadable) × (value_of bytes.now ≡ None))) }
+    ensures fault { IfErr result
+        (λ e. (e ≡ OutOfMemory) ⊎ ((e ≡ Unreadable) × (value_of bytes.now ≡ None))) }
 {
     match Json::from_slice(alloc, without_mark(bytes)) {
         Ok(value) => Ok(value),
@@ -42,7 +43,7 @@ fn read_value(alloc: Global, bytes: &[u8]) -> Result<Json, JsonRefusal>
 /// Adds what a JSON text states: a list of records, or an object whose values are lists of records.
 /// Record k of a list, from 1, is a node: `STEM_k` in the collection STEM, or `STEM_KEY_k` in the
 /// collection KEY. Its members are edges, and an object in it is a node of its own. After a refusal
-/// the graph has what stood before its place. The value is the one that the crate `serde_json` reads,
+/// the graph has what was before its place. The value is the one that the crate `serde_json` reads,
 /// which nests at most 127 deep, and of equal keys has the last.
 pub fn read_json(
     alloc: Global,
@@ -56,7 +57,7 @@ pub fn read_json(
     add_top(&value, alloc, graph, stem)
 }
 
-/// A text read into a graph has one answer, beside want of memory, and leaves one graph with it.
+/// A text read into a graph has one answer, besides out of memory, and leaves one graph with it.
 pub fn texts_have_one_answer()
     ensures { (stem bytes : List ℕ) (b : Building) → HasOneAnswer stem bytes b }
 {}

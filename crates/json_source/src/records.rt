@@ -22,7 +22,9 @@ fn state_record(
     collection: &Str,
     node: &Str,
 ) -> Result<(), JsonRefusal>
-    ensures { Ends graph.old (record_statements at.now collection.now node.now (members_view members.now.entries)) graph.new (json_ending result) }
+    ensures { Ends graph.old
+        (record_statements at.now collection.now node.now (members_view members.now.entries))
+        graph.new (json_ending result) }
 {
     state_node(alloc, graph, at, node)?;
     state_member(alloc, graph, at, collection, node)?;
@@ -38,7 +40,9 @@ fn add_record(
     collection: &Str,
     node: &Str,
 ) -> Result<(), JsonRefusal>
-    ensures { Ends graph.old (record_steps at.now collection.now node.now (view value.now)) graph.new (json_ending result) }
+    ensures { Ends graph.old
+        (record_steps at.now collection.now node.now (view value.now)) graph.new
+        (json_ending result) }
 {
     let Some(members) = value.as_object() else {
         return Err(JsonRefusal::NotRecords(at.copy(alloc)?));
@@ -55,7 +59,9 @@ fn add_records(
     collection: &Str,
     name: &Str,
 ) -> Result<(), JsonRefusal>
-    ensures { Ends graph.old (records_steps at.now collection.now name.now 0 (items_view items.now.items)) graph.new (json_ending result) }
+    ensures { Ends graph.old
+        (records_steps at.now collection.now name.now 0 (items_view items.now.items)) graph.new
+        (json_ending result) }
 {
     let mut index: u64 = 0;
     for item in items {
@@ -76,7 +82,9 @@ fn add_collection(
     collection: &Str,
     name: &Str,
 ) -> Result<(), JsonRefusal>
-    ensures { Ends graph.old (collection_steps at.now collection.now name.now (view value.now)) graph.new (json_ending result) }
+    ensures { Ends graph.old
+        (collection_steps at.now collection.now name.now (view value.now)) graph.new
+        (json_ending result) }
 {
     let Some(items) = value.as_array() else {
         return Err(JsonRefusal::NotRecords(at.copy(alloc)?));
@@ -91,7 +99,9 @@ fn add_collections(
     graph: &mut GraphBuilder,
     stem: &Str,
 ) -> Result<(), JsonRefusal>
-    ensures { Ends graph.old (collections_steps stem.now (members_view members.now.entries)) graph.new (json_ending result) }
+    ensures { Ends graph.old
+        (collections_steps stem.now (members_view members.now.entries)) graph.new
+        (json_ending result) }
 {
     let top = Str::new(alloc, b"")?;
     for (key, value) in members.iter() {

@@ -15,7 +15,8 @@ use std::alloc::Global;
 
 // The answer to an addition at a place.
 fn at_place(alloc: Global, answer: Result<(), GraphRefusal>, at: &Str) -> Result<(), JsonRefusal>
-    ensures { (json_ending result ≡ ending_at at.now answer) ⊎ ((result ≡ Err OutOfMemory) × IsErr answer) }
+    ensures { (json_ending result ≡ ending_at at.now answer)
+        ⊎ ((result ≡ Err OutOfMemory) × IsErr answer) }
 {
     match answer {
         Ok(()) => Ok(()),
@@ -35,7 +36,8 @@ fn state_edge(
     value: &Value,
 ) -> Result<(), JsonRefusal>
     requires { IsData value.now }
-    ensures { Ends graph.old (says at.now (an_edge node.now label.now value.now) ∷ []) graph.new (json_ending result) }
+    ensures { Ends graph.old (says at.now (an_edge node.now label.now value.now) ∷ []) graph.new
+        (json_ending result) }
 {
     at_place(alloc, graph.add_edge(alloc, node, label, value), at)
 }
@@ -48,7 +50,9 @@ pub(crate) fn state_text(
     label: &Str,
     text: &[u8],
 ) -> Result<(), JsonRefusal>
-    ensures { Ends graph.old (says at.now (an_edge node.now label.now (a_datum (a_text text.now))) ∷ []) graph.new (json_ending result) }
+    ensures { Ends graph.old
+        (says at.now (an_edge node.now label.now (a_datum (a_text text.now))) ∷ []) graph.new
+        (json_ending result) }
 {
     let value = Value::Data(Datum::Text(Str::new(alloc, text)?));
     state_edge(alloc, graph, at, node, label, &value)
@@ -63,7 +67,9 @@ pub(crate) fn state_child(
     label: &Str,
     child: &Str,
 ) -> Result<(), JsonRefusal>
-    ensures { Ends graph.old (says at.now (an_edge node.now label.now (a_datum (a_node_value child.now))) ∷ []) graph.new (json_ending result) }
+    ensures { Ends graph.old
+        (says at.now (an_edge node.now label.now (a_datum (a_node_value child.now))) ∷ [])
+        graph.new (json_ending result) }
 {
     let value = Value::Data(Datum::Node(child.copy(alloc)?));
     state_edge(alloc, graph, at, node, label, &value)
@@ -89,7 +95,8 @@ pub(crate) fn state_member(
     collection: &Str,
     node: &Str,
 ) -> Result<(), JsonRefusal>
-    ensures { Ends graph.old (says at.now (a_member collection.now node.now) ∷ []) graph.new (json_ending result) }
+    ensures { Ends graph.old (says at.now (a_member collection.now node.now) ∷ []) graph.new
+        (json_ending result) }
 {
     at_place(alloc, graph.add_member(alloc, collection, node), at)
 }
@@ -102,7 +109,8 @@ pub(crate) fn state_number(
     label: &Str,
     number: Option<i64>,
 ) -> Result<(), JsonRefusal>
-    ensures { Ends graph.old (number_steps at.now node.now label.now number) graph.new (json_ending result) }
+    ensures { Ends graph.old (number_steps at.now node.now label.now number) graph.new
+        (json_ending result) }
 {
     match number {
         Some(number) => state_edge(

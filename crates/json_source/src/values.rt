@@ -23,7 +23,9 @@ fn add_value(
     label: &Str,
     child: &Str,
 ) -> Result<(), JsonRefusal>
-    ensures { Ends graph.old (value_steps at.now node.now label.now child.now (view value.now)) graph.new (json_ending result) }
+    ensures { Ends graph.old
+        (value_steps at.now node.now label.now child.now (view value.now)) graph.new
+        (json_ending result) }
 {
     match value {
         Json::Null => Ok(()),
@@ -50,7 +52,9 @@ fn add_items(
     label: &Str,
     child: &Str,
 ) -> Result<(), JsonRefusal>
-    ensures { Ends graph.old (items_steps at.now node.now label.now child.now 0 (items_view items.now.items)) graph.new (json_ending result) }
+    ensures { Ends graph.old
+        (items_steps at.now node.now label.now child.now 0 (items_view items.now.items)) graph.new
+        (json_ending result) }
 {
     let mut index: u64 = 0;
     for item in items {
@@ -71,7 +75,9 @@ pub(crate) fn add_members(
     at: &Str,
     node: &Str,
 ) -> Result<(), JsonRefusal>
-    ensures { Ends graph.old (members_steps at.now node.now (members_view members.now.entries)) graph.new (json_ending result) }
+    ensures { Ends graph.old
+        (members_steps at.now node.now (members_view members.now.entries)) graph.new
+        (json_ending result) }
 {
     for (key, member) in members.iter() {
         let label = Str::new(alloc, key.as_bytes())?;

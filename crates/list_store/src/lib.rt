@@ -6,12 +6,11 @@ ghost use Rattle.std.specs.Prelude.{◌≡◌, IfOk};
 mod contents;
 
 use contents::{labels_of, values_of};
-pub use contents::{all_labels, all_values};
 use edge_queries::{
     EdgeAt, Incoming, IncomingBy, Labelled, MemberAt, Members, NameAt, Out, OutAll, ValueAt,
     copy_names, copy_values,
 };
-use picks::{any, count, has, scan};
+use list_lookup::{any, count, has, scan};
 use sd_graph::{Edge, Graph, Sizes, Step, Store};
 use sd_value::{NoMemory, Str, Value, sort_and_dedup};
 use std::alloc::Global;
@@ -39,7 +38,7 @@ impl Drop for ListStore {
 
 impl Model for ListStore {
     ghost use Rattle.graph_spec.specs.DataGraph.{DataGraph};
-    ghost use Rattle.list_store.specs.Contents.{IsStored};
+    ghost use Rattle.edge_queries.specs.Contents.{IsStored};
 
     ghost Value = { DataGraph };
 

@@ -1,6 +1,7 @@
--- What one connection was sent: how many sends there were, the bytes taken, how often it was closed, how many failed.
+-- What one connection was sent.
 use Rattle.std.specs.Prelude.{ℕ, List}
 
+-- how many sends there were, the bytes taken, how often it was closed, and how many sends failed
 pub record Sent : Type 0 where
   pub sends : ℕ
   pub taken : List ℕ

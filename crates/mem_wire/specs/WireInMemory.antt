@@ -5,26 +5,33 @@ use Rattle.std.specs.List.{list_any, fold}
 use Rattle.std.specs.Map.{lookup}
 use Rattle.std.specs.Ordering.{nat_cmp}
 use Rattle.wire.specs.Accounts.{Account, up}
-use Rattle.wire.specs.Events.{Listens, add_event}
+use Rattle.wire.specs.Events.{add_event}
+use Rattle.wire.specs.Told.{Told}
 use Rattle.wire.specs.declared.WireEvent.{WireEvent}
 use Rattle.wire.specs.declared.WireEvent.TheVariants.{Opened, Bytes, Ended, Lost, Change, Done}
 use Rattle.mem_wire.specs.declared.FailingSend.{FailingSend}
 use Rattle.mem_wire.specs.Sent.{Sent}
 
--- The events, how many were given (Done is counted once), the numbers of the calls of `listen` and `next` that fail,
--- the sends that fail, how many of these calls there were and how many failed, how often `listen` was called and its
--- last arguments, what each connection that the events open was sent, and whether memory was refused.
+-- A wire in memory: its events, the calls that fail, and what came of it so far.
 pub record WireInMemory : Type 0 where
+  -- all events, given or not
   pub events : List WireEvent
+  -- how many of them were given; Done is counted once
   pub count : ℕ
+  -- the numbers of the calls of `listen` and `next` that fail, counted together from 1
   pub failing : List ℕ
+  -- the sends that fail
   pub sends : List FailingSend
+  -- how often `listen` and `next` were called, and how many of these calls failed
   pub calls : ℕ
   pub next_faults : ℕ
+  -- how often `listen` was called, and the arguments of its last call
   pub listens : ℕ
   pub port : ℕ
   pub connections : ℕ
+  -- what each connection that the events open was sent
   pub entries : List (ℕ × Sent)
+  -- memory was refused in a send
   pub is_short : Bool
 
 -- what the connection was sent, if the events open it
@@ -38,13 +45,16 @@ is_named numbers number = list_any (λ n. n == number) numbers
 -- how many bytes the send of this number to the connection takes, where it fails: the first entry counts
 abbrev pub cut_of : List FailingSend → ℕ → ℕ → Option ℕ
 cut_of [] connection number = None
-cut_of (s ∷ sends) connection number = if (s.connection == connection) && (s.number == number) then Some s.taken else cut_of sends connection number
+cut_of (s ∷ sends) connection number =
+    if (s.connection == connection) && (s.number == number) then Some s.taken else cut_of sends
+    connection number
 
--- what is told of a connection
+-- the account of a connection
 abbrev pub account_of : Option Sent → Option Account
 account_of None = None
 account_of (Some e) = Some (record { sends = e.sends; taken = e.taken; closes = e.closes })
 
+-- how many sends to a connection failed
 abbrev pub faults_of : Option Sent → ℕ
 faults_of None = 0
 faults_of (Some e) = e.faults
@@ -67,18 +77,24 @@ abbrev pub is_closed : Option Sent → Bool
 is_closed None = false
 is_closed (Some e) = nat_lt 0 e.closes
 
--- what is told of each connection, of the events left and of the calls of listen
+-- the account of each connection that the events open
 abbrev pub accounts_of : WireInMemory → ℕ → Option Account
 accounts_of w number = account_of (entry_of w number)
 
+-- how often the sends to each connection failed
 abbrev pub faults_in : WireInMemory → ℕ → ℕ
 faults_in w number = faults_of (entry_of w number)
 
-abbrev pub left_of : WireInMemory → Option (List WireEvent)
-left_of w = Some (drop w.count w.events)
-
-abbrev pub listens_of : WireInMemory → Option Listens
-listens_of w = Some (record { calls = w.listens; port = w.port; connections = w.connections })
+-- what the wire reports, which is everything
+abbrev pub told_of : WireInMemory → Told
+told_of w = record {
+  account = accounts_of w;
+  faults = faults_in w;
+  given = given_of w.events w.count;
+  left = Some (drop w.count w.events);
+  listens = Some (record { calls = w.listens; port = w.port; connections = w.connections });
+  next_faults = w.next_faults;
+}
 
 -- the next call of `listen` or `next` fails
 abbrev pub fails_next : WireInMemory → Bool
@@ -89,6 +105,7 @@ abbrev pub cut_for : List FailingSend → ℕ → Option Sent → Option ℕ
 cut_for sends connection None = None
 cut_for sends connection (Some e) = cut_of sends connection (up e.sends)
 
+-- the same of the wire as it is
 abbrev pub next_cut : WireInMemory → ℕ → Option ℕ
 next_cut w connection = cut_for w.sends connection (entry_of w connection)
 

@@ -21,7 +21,12 @@ impl Model for Entry {
 
     ghost Value = { Sent };
 
-    ghost view = { λ e. record { sends = e.sends; taken = e.taken.items; closes = e.closes; faults = e.faults } };
+    ghost view = { λ e. record {
+      sends = e.sends;
+      taken = e.taken.items;
+      closes = e.closes;
+      faults = e.faults;
+    } };
 }
 
 /// How a send went.
@@ -54,13 +59,24 @@ impl Entry {
         self.sends.saturating_add(1)
     }
 
-    /// Takes the bytes of one send, or so many of them where it fails.
+    /// Takes the bytes of one send, or the first `cut` of them where it fails.
     pub(crate) fn send(&mut self, bytes: &[u8], cut: Option<u64>) -> Went
         ensures whole { result ≡ Went.Whole → (cut ≡ None)
-            × (self.new ≡ record self.old { sends = up self.old.sends; taken = self.old.taken ++ bytes.now }) }
+            × (self.new ≡ record self.old {
+              sends = up self.old.sends;
+              taken = self.old.taken ++ bytes.now;
+            }) }
         ensures cut_short { result ≡ Went.Cut → (some : ℕ) × (cut ≡ Some some)
-            × (self.new ≡ record self.old { sends = up self.old.sends; taken = self.old.taken ++ take some bytes.now; faults = up self.old.faults }) }
-        ensures short { result ≡ Went.Short → self.new ≡ record self.old { sends = up self.old.sends; faults = up self.old.faults } }
+            × (self.new ≡ record self.old {
+              sends = up self.old.sends;
+              taken = self.old.taken ++ take some bytes.now;
+              faults = up self.old.faults;
+            }) }
+        ensures short { result ≡ Went.Short
+            → self.new ≡ record self.old {
+              sends = up self.old.sends;
+              faults = up self.old.faults;
+            } }
     {
         self.sends = self.sends.saturating_add(1);
         let taken = match cut {

@@ -7,7 +7,8 @@ ghost use Rattle.std.specs.BTreeMap.{get};
 ghost use Rattle.edge_io.specs.Counts.{Rose};
 ghost use Rattle.wire.specs.Accounts.{up, send_to};
 ghost use Rattle.wire.specs.Events.{add_event, add_listen, IsNextOf};
-ghost use Rattle.mem_wire.specs.WireInMemory.{is_named, cut_of, accounts_of, faults_in, given_of, left_of, listens_of, fails_next, next_cut, taken_of, is_closed, entry_of, HasEntry, IsNew};
+ghost use Rattle.wire.specs.Told.{EventsStay, OtherAccountsStay, OtherFaultsStay};
+ghost use Rattle.mem_wire.specs.WireInMemory.{is_named, cut_of, told_of, faults_in, fails_next, next_cut, taken_of, is_closed, entry_of, HasEntry, IsNew};
 
 mod entry;
 
@@ -128,7 +129,10 @@ impl MemWire {
     /// Counts a call of `listen` or `next`, and says whether it fails.
     fn call(&mut self) -> bool
         ensures fails { result ≡ is_named self.old.failing (up self.old.calls) }
-        ensures after { self.new ≡ record self.old { calls = up self.old.calls; next_faults = (if result then up self.old.next_faults else self.old.next_faults) } }
+        ensures after { self.new ≡ record self.old {
+          calls = up self.old.calls;
+          next_faults = (if result then up self.old.next_faults else self.old.next_faults);
+        } }
     {
         self.calls = self.calls.saturating_add(1);
         let fails = is_named(self.failing.as_slice(), self.calls);
@@ -178,7 +182,8 @@ impl MemWire {
 
 /// An entry for each connection that the events open.
 fn entries_of(alloc: Global, events: &[WireEvent]) -> Result<BTreeMap<u64, Entry>, NoMemory>
-    ensures new { IfOk result (λ entries. (number : ℕ) → IfSome (get nat_cmp entries number) IsNew) }
+    ensures new { IfOk result (λ entries. (number : ℕ)
+        → IfSome (get nat_cmp entries number) IsNew) }
     ensures opened { IfOk result (λ entries. All (HasEntry (get nat_cmp entries)) events.now) }
 {
     let mut entries = BTreeMap::new(alloc);
@@ -194,8 +199,10 @@ fn open(
     entries: &mut BTreeMap<u64, Entry>,
     event: &WireEvent,
 ) -> Result<(), NoMemory>
-    ensures new { OnOk result (((number : ℕ) → IfSome (get nat_cmp entries.old number) IsNew) → (number : ℕ) → IfSome (get nat_cmp entries.new number) IsNew) }
-    ensures stay { OnOk result ((number : ℕ) → IsSome (get nat_cmp entries.old number) → IsSome (get nat_cmp entries.new number)) }
+    ensures new { OnOk result (((number : ℕ) → IfSome (get nat_cmp entries.old number) IsNew)
+        → (number : ℕ) → IfSome (get nat_cmp entries.new number) IsNew) }
+    ensures stay { OnOk result ((number : ℕ) → IsSome (get nat_cmp entries.old number)
+        → IsSome (get nat_cmp entries.new number)) }
     ensures opened { OnOk result (HasEntry (get nat_cmp entries.new) event.now) }
 {
     if let WireEvent::Opened(number) = event {
@@ -238,25 +245,20 @@ fn copy(alloc: Global, event: &WireEvent) -> Result<WireEvent, NoMemory>
 }
 
 impl Wire for MemWire {
-    ghost account = { accounts_of };
-
-    ghost given = { λ w. given_of w.events w.count };
-
-    ghost left = { left_of };
-
-    ghost listens = { listens_of };
-
-    ghost next_faults = { λ w. w.next_faults };
-
-    ghost faults = { faults_in };
+    ghost told = { told_of };
 
     /// Fails exactly where `failing` names the call.
     fn listen(&mut self, port: u16, connections: u64) -> Result<(), Failed>
-        ensures listens { listens_of self.new ≡ add_listen (listens_of self.old) port connections }
-        ensures fine { OnOk result (self.new.next_faults ≡ self.old.next_faults) }
-        ensures failed { OnErr result (Rose self.old.next_faults self.new.next_faults) }
-        ensures stays { (accounts_of self.new ≡ accounts_of self.old) × (faults_in self.new ≡ faults_in self.old)
-            × (given_of self.new.events self.new.count ≡ given_of self.old.events self.old.count) × (left_of self.new ≡ left_of self.old) }
+        ensures listens { (told_of self.new).listens
+            ≡ add_listen (told_of self.old).listens port connections }
+        ensures fine { OnOk result ((told_of self.new).next_faults
+            ≡ (told_of self.old).next_faults) }
+        ensures failed { OnErr result (Rose (told_of self.old).next_faults
+            (told_of self.new).next_faults) }
+        ensures stays { ((told_of self.new).account ≡ (told_of self.old).account)
+            × ((told_of self.new).faults ≡ (told_of self.old).faults)
+            × ((told_of self.new).given ≡ (told_of self.old).given)
+            × ((told_of self.new).left ≡ (told_of self.old).left) }
         ensures fails { is_err result ≡ fails_next self.old }
     {
         self.listens = self.listens.saturating_add(1);
@@ -267,12 +269,19 @@ impl Wire for MemWire {
 
     /// `Failed` exactly where `failing` names the call, which then takes no event.
     fn next(&mut self, alloc: Global) -> Result<WireEvent, WireEnd>
-        ensures given { IfOk result (λ event. given_of self.new.events self.new.count ≡ add_event (given_of self.old.events self.old.count) event) }
-        ensures left { IfOk result (λ event. IsNextOf (left_of self.old) event (left_of self.new)) }
-        ensures err { OnErr result ((given_of self.new.events self.new.count ≡ given_of self.old.events self.old.count) × (left_of self.new ≡ left_of self.old)) }
-        ensures fine { OnOk result (self.new.next_faults ≡ self.old.next_faults) }
-        ensures failed { IsErrOf result WireEnd.Failed → Rose self.old.next_faults self.new.next_faults }
-        ensures stays { (accounts_of self.new ≡ accounts_of self.old) × (faults_in self.new ≡ faults_in self.old) × (listens_of self.new ≡ listens_of self.old) }
+        ensures given { IfOk result (λ event. (told_of self.new).given
+            ≡ add_event (told_of self.old).given event) }
+        ensures left { IfOk result (λ event. IsNextOf (told_of self.old).left event
+            (told_of self.new).left) }
+        ensures err { OnErr result (((told_of self.new).given ≡ (told_of self.old).given)
+            × ((told_of self.new).left ≡ (told_of self.old).left)) }
+        ensures fine { OnOk result ((told_of self.new).next_faults
+            ≡ (told_of self.old).next_faults) }
+        ensures failed { IsErrOf result WireEnd.Failed
+            → Rose (told_of self.old).next_faults (told_of self.new).next_faults }
+        ensures stays { ((told_of self.new).account ≡ (told_of self.old).account)
+            × ((told_of self.new).faults ≡ (told_of self.old).faults)
+            × ((told_of self.new).listens ≡ (told_of self.old).listens) }
         ensures fails { fails_next self.old ≡ true → result ≡ Err WireEnd.Failed }
         ensures named { result ≡ Err WireEnd.Failed → fails_next self.old ≡ true }
     {
@@ -292,20 +301,27 @@ impl Wire for MemWire {
         Ok(WireEvent::Done)
     }
 
-    /// Fails exactly where the list of sends names this one, which then takes so many bytes, or memory was refused.
+    /// Fails exactly where the list of sends names this one, which then takes the bytes that it says, or where memory was
+    /// refused.
     fn send(&mut self, connection: u64, bytes: &[u8]) -> Result<(), Failed>
-        ensures ok { OnOk result (accounts_of self.new connection ≡ send_to (accounts_of self.old connection) bytes.now) }
-        ensures err { OnErr result ((some : ℕ) × (accounts_of self.new connection ≡ send_to (accounts_of self.old connection) (take some bytes.now))) }
-        ensures fine { OnOk result (faults_in self.new connection ≡ faults_in self.old connection) }
-        ensures failed { OnErr result (Rose (faults_in self.old connection) (faults_in self.new connection)) }
-        ensures others { (other : ℕ) → other ≢ connection → accounts_of self.new other ≡ accounts_of self.old other }
-        ensures others_fine { (other : ℕ) → other ≢ connection → faults_in self.new other ≡ faults_in self.old other }
-        ensures stays { (given_of self.new.events self.new.count ≡ given_of self.old.events self.old.count) × (left_of self.new ≡ left_of self.old)
-            × (listens_of self.new ≡ listens_of self.old) × (self.new.next_faults ≡ self.old.next_faults) }
+        ensures ok { OnOk result ((told_of self.new).account connection
+            ≡ send_to ((told_of self.old).account connection) bytes.now) }
+        ensures err { OnErr result ((some : ℕ) × ((told_of self.new).account connection
+            ≡ send_to ((told_of self.old).account connection) (take some bytes.now))) }
+        ensures fine { OnOk result ((told_of self.new).faults connection
+            ≡ (told_of self.old).faults connection) }
+        ensures failed { OnErr result (Rose ((told_of self.old).faults connection)
+            ((told_of self.new).faults connection)) }
+        ensures others { OtherAccountsStay connection (told_of self.old) (told_of self.new) }
+        ensures others_fine { OtherFaultsStay connection (told_of self.old) (told_of self.new) }
+        ensures stays { EventsStay (told_of self.old) (told_of self.new) }
         ensures whole { OnOk result (next_cut self.old connection ≡ None) }
-        ensures cut { OnErr result ((self.new.is_short ≡ true) ⊎ IsSome (next_cut self.old connection)) }
-        ensures taken { IfSome (next_cut self.old connection) (λ some. self.new.is_short ≡ self.old.is_short → self.old.is_short ≡ false
-            → accounts_of self.new connection ≡ send_to (accounts_of self.old connection) (take some bytes.now)) }
+        ensures cut { OnErr result ((self.new.is_short ≡ true)
+            ⊎ IsSome (next_cut self.old connection)) }
+        ensures taken { IfSome (next_cut self.old connection) (λ some.
+            self.new.is_short ≡ self.old.is_short → self.old.is_short ≡ false
+            → (told_of self.new).account connection
+            ≡ send_to ((told_of self.old).account connection) (take some bytes.now)) }
     {
         let Some(entry) = self.entries.get_mut(&connection) else {
             return Ok(());

@@ -19,12 +19,12 @@ use Rattle.sd_value.specs.Order.{term_cmp}
 use Rattle.sd_value.specs.OrderLaws.{term_cmp-exact, term_cmp-total}
 use Rattle.page_spec.specs.declared.Outcome.{Outcome}
 use Rattle.page_spec.specs.declared.Outcome.TheVariants.{Page, Missing, Cyclic, TooLong}
-use Rattle.page_cache.specs.declared.Hit.TheVariants.{Found, Miss}
-use Rattle.page_cache.specs.declared.TheConstants.{MAX_KEPT}
-use Rattle.page_cache.specs.Entries.{entries_with, entries_where}
+use Rattle.serving_spec.specs.declared.Hit.TheVariants.{Found, Miss}
+use Rattle.serving_spec.specs.declared.TheConstants.{MAX_KEPT}
+use Rattle.page_cache.specs.Entries.{entries_with, entries_where, AreKept}
 use Rattle.versions.specs.declared.Changed.TheVariants.{Taken, Refused}
 use Rattle.versions.specs.declared.Same.{Same}
-use Rattle.page_cache.specs.Looks.{is_same, is_kept, without, kept_with, kept_after, Looks, AreKept}
+use Rattle.serving_spec.specs.Looks.{is_same, is_kept, without, kept_with, kept_after, Looks}
 
 -- terms that compare equal are one
 same_term : (t u : Term) → is_same t u ≡ true → t ≡ u

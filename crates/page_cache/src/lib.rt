@@ -9,25 +9,16 @@ ghost use Rattle.page_spec.specs.Page.{IsOutcome};
 ghost use Rattle.sd_value.specs.declared.Term.{Term};
 ghost use Rattle.page_spec.specs.declared.Outcome.{Outcome};
 ghost use Rattle.versions.specs.Changes.{TellsEach};
-ghost use Rattle.page_cache.specs.Entries.{entries_with, entries_where};
-ghost use Rattle.page_cache.specs.Looks.{is_same, Looks, AreKept, hits_after, kept_after, LooksIn, Kept};
+ghost use Rattle.page_cache.specs.Entries.{entries_with, entries_where, AreKept};
+ghost use Rattle.serving_spec.specs.Looks.{is_same, Looks, hits_after, kept_after, LooksIn, Kept};
 
 use lru::LruCache;
 use page_spec::Outcome;
 use sd_value::{NoMemory, Str, Term};
+pub use serving_spec::{Hit, MAX_KEPT};
 use std::alloc::Global;
 use std::num::NonZeroUsize;
 use versions::{Changed, Versions};
-
-/// The longest page that is kept.
-pub const MAX_KEPT: usize = 65536;
-
-/// Whether the term's page was kept.
-#[derive(Clone, Copy, Debug, PartialEq, Eq)]
-pub enum Hit {
-    Found,
-    Miss,
-}
 
 /// Pages, of which those that were looked up last are kept.
 #[derive(Drop)]
@@ -39,13 +30,15 @@ pub struct Cached<P> {
 }
 
 impl<P: Versions + Drop> Cached<P> {
-    /// Keeps at most so many pages, and none at first.
+    /// Keeps at most `capacity` pages, and none at first.
     pub fn of(alloc: Global, pages: P, capacity: NonZeroUsize) -> Result<Cached<P>, NoMemory>
         ensures pages { IfOk result (λ cached. cached.pages ≡ pages) }
         ensures none { IfOk result (λ cached. cached.kept.entries ≡ []) }
         ensures hits { IfOk result (λ cached. cached.hits ≡ 0) }
         ensures capacity { IfOk result (λ cached. cached.kept.cap ≡ non_zero_usize_get capacity) }
-        ensures sound { IfOk result (λ cached. AreKept (IsOutcome (P.site (P.state cached.pages)) (P.templates (P.state cached.pages))) cached.kept.entries) }
+        ensures sound { IfOk result (λ cached. AreKept
+            (IsOutcome (P.site (P.state cached.pages)) (P.templates (P.state cached.pages)))
+            cached.kept.entries) }
     {
         let kept = LruCache::new(alloc, capacity)?;
         Ok(Cached {
@@ -58,13 +51,19 @@ impl<P: Versions + Drop> Cached<P> {
     /// The outcome of a term. Where its page is kept, the pages are not asked.
     pub fn look(&mut self, alloc: Global, term: &Term) -> Result<(Outcome, Hit), NoMemory>
         requires own { P.Own self.old.pages }
-        requires sound { AreKept (IsOutcome (P.site (P.state self.old.pages)) (P.templates (P.state self.old.pages))) self.old.kept.entries }
+        requires sound { AreKept (IsOutcome (P.site (P.state self.old.pages))
+            (P.templates (P.state self.old.pages))) self.old.kept.entries }
         ensures own { P.Own self.new.pages }
-        ensures sound { AreKept (IsOutcome (P.site (P.state self.new.pages)) (P.templates (P.state self.new.pages))) self.new.kept.entries }
-        ensures outcome { IfOk result (λ found. IsOutcome (P.site (P.state self.old.pages)) (P.templates (P.state self.old.pages)) term.now found.0) }
-        ensures looks { IfOk result (λ found. Looks self.old.kept.cap (keys_of self.old.kept.entries) term.now found.0 found.1 (keys_of self.new.kept.entries)) }
+        ensures sound { AreKept (IsOutcome (P.site (P.state self.new.pages))
+            (P.templates (P.state self.new.pages))) self.new.kept.entries }
+        ensures outcome { IfOk result (λ found. IsOutcome (P.site (P.state self.old.pages))
+            (P.templates (P.state self.old.pages)) term.now found.0) }
+        ensures looks { IfOk result (λ found. Looks self.old.kept.cap
+            (keys_of self.old.kept.entries) term.now found.0 found.1
+            (keys_of self.new.kept.entries)) }
         ensures hits { IfOk result (λ found. self.new.hits ≡ hits_after found.1 self.old.hits) }
-        ensures err { OnErr result ((self.new.kept ≡ self.old.kept) × (self.new.hits ≡ self.old.hits)) }
+        ensures err { OnErr result ((self.new.kept ≡ self.old.kept)
+            × (self.new.hits ≡ self.old.hits)) }
         ensures capacity { self.new.kept.cap ≡ self.old.kept.cap }
         ensures hit { IfOk result (λ found. found.1 ≡ Hit.Found → self.new.pages ≡ self.old.pages) }
         ensures state { P.state self.new.pages ≡ P.state self.old.pages }
@@ -80,21 +79,30 @@ impl<P: Versions + Drop> Cached<P> {
     }
 
     /// Takes a text, as the pages do. Where it is accepted, the terms whose pages surely stay are kept on, in their
-    /// order, and no other. After want of memory none may be kept.
+    /// order, and no other. After out of memory none may be kept.
     pub fn renew(&mut self, alloc: Global, text: &Str, kept: &[Term]) -> Result<Changed, NoMemory>
         requires own { P.Own self.old.pages }
-        requires sound { AreKept (IsOutcome (P.site (P.state self.old.pages)) (P.templates (P.state self.old.pages))) self.old.kept.entries }
+        requires sound { AreKept (IsOutcome (P.site (P.state self.old.pages))
+            (P.templates (P.state self.old.pages))) self.old.kept.entries }
         ensures own { P.Own self.new.pages }
-        ensures sound { AreKept (IsOutcome (P.site (P.state self.new.pages)) (P.templates (P.state self.new.pages))) self.new.kept.entries }
-        ensures changed { IfOk result (λ c. P.state self.new.pages ≡ P.changed (P.state self.old.pages) text.now) }
-        ensures refused { IfOk result (λ c. (c ≡ Changed.Refused) ↔ (P.accepts (P.state self.old.pages) text.now ≡ false)) }
-        ensures nothing { result ≡ Ok Changed.Refused → (P.state self.new.pages ≡ P.state self.old.pages) × (self.new.kept ≡ self.old.kept) }
+        ensures sound { AreKept (IsOutcome (P.site (P.state self.new.pages))
+            (P.templates (P.state self.new.pages))) self.new.kept.entries }
+        ensures changed { IfOk result (λ c. P.state self.new.pages
+            ≡ P.changed (P.state self.old.pages) text.now) }
+        ensures refused { IfOk result (λ c. (c ≡ Changed.Refused)
+            ↔ (P.accepts (P.state self.old.pages) text.now ≡ false)) }
+        ensures nothing { result ≡ Ok Changed.Refused
+            → (P.state self.new.pages ≡ P.state self.old.pages) × (self.new.kept ≡ self.old.kept) }
         ensures keeps { IfOk result (λ c. keys_of self.new.kept.entries
-            ≡ kept_after (P.accepts (P.state self.old.pages) text.now) (P.stays (P.state self.old.pages) text.now) (keys_of self.old.kept.entries)) }
-        ensures flags { IfOk result (TellsEach (P.stays (P.state self.old.pages) text.now) kept.now) }
-        ensures same { IfOk result (λ c. (t : Term) (o : Outcome) → Contains kept.now t → P.stays (P.state self.old.pages) text.now t ≡ true
+            ≡ kept_after (P.accepts (P.state self.old.pages) text.now)
+            (P.stays (P.state self.old.pages) text.now) (keys_of self.old.kept.entries)) }
+        ensures flags { IfOk result (TellsEach (P.stays (P.state self.old.pages) text.now)
+            kept.now) }
+        ensures same { IfOk result (λ c. (t : Term) (o : Outcome) → Contains kept.now t
+            → P.stays (P.state self.old.pages) text.now t ≡ true
             → IsOutcome (P.site (P.state self.old.pages)) (P.templates (P.state self.old.pages)) t o
-            → IsOutcome (P.site (P.state self.new.pages)) (P.templates (P.state self.new.pages)) t o) }
+            → IsOutcome (P.site (P.state self.new.pages))
+            (P.templates (P.state self.new.pages)) t o) }
         ensures capacity { self.new.kept.cap ≡ self.old.kept.cap }
         ensures hits { self.new.hits ≡ self.old.hits }
     {
@@ -122,7 +130,11 @@ impl<P: Versions + Drop> Versions for Cached<P> {
 
     ghost state = { λ c. P.state c.pages };
 
-    ghost cache = { λ c. record { capacity = c.kept.cap; terms = keys_of c.kept.entries; hits = c.hits } };
+    ghost cache = { λ c. record {
+      capacity = c.kept.cap;
+      terms = keys_of c.kept.entries;
+      hits = c.hits;
+    } };
 
     ghost site = { P.site };
 
@@ -134,13 +146,18 @@ impl<P: Versions + Drop> Versions for Cached<P> {
 
     ghost stays = { P.stays };
 
-    ghost looks = { λ state before term after. LooksIn (IsOutcome (P.site state) (P.templates state)) before term after };
+    ghost looks = { λ state before term after.
+        LooksIn (IsOutcome (P.site state) (P.templates state)) before term after };
 
-    ghost renews = { λ state text before after. after ≡ record before { terms = kept_after (P.accepts state text) (P.stays state text) before.terms } };
+    ghost renews = { λ state text before after. after ≡ record before {
+      terms = kept_after (P.accepts state text) (P.stays state text) before.terms;
+    } };
 
     ghost found = { λ cache. cache.hits };
 
-    ghost Own = { λ c. P.Own c.pages × AreKept (IsOutcome (P.site (P.state c.pages)) (P.templates (P.state c.pages))) c.kept.entries };
+    ghost Own = { λ c. P.Own c.pages
+        × AreKept (IsOutcome (P.site (P.state c.pages)) (P.templates (P.state c.pages)))
+        c.kept.entries };
 
     fn page(&mut self, alloc: Global, term: &Term) -> Result<Outcome, NoMemory> {
         let (outcome, _) = self.look(alloc, term)?;
@@ -195,7 +212,9 @@ fn sift(kept: &mut LruCache<Term, Str>, terms: &[Term], flags: &[bool])
 
 /// Moves the newest entry, which has this term, behind all others, or drops it.
 fn turn(kept: &mut LruCache<Term, Str>, term: &Term, stays: bool)
-    ensures { kept.new ≡ lru_cache (if stays then demoted (is_same term.now) kept.old.entries else drop 1 kept.old.entries) kept.old.cap }
+    ensures { kept.new ≡ lru_cache
+        (if stays then demoted (is_same term.now) kept.old.entries else drop 1 kept.old.entries)
+        kept.old.cap }
 {
     if stays {
         kept.demote(term);
@@ -225,7 +244,8 @@ fn keep(
     term: &Term,
     outcome: &Outcome,
 ) -> Result<(), NoMemory>
-    ensures entries { OnOk result (kept.new ≡ lru_cache (entries_with kept.old term.now outcome.now) kept.old.cap) }
+    ensures entries { OnOk result (kept.new
+        ≡ lru_cache (entries_with kept.old term.now outcome.now) kept.old.cap) }
     ensures err { OnErr result (kept.new ≡ kept.old) }
 {
     if let Outcome::Page(text) = outcome

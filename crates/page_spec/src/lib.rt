@@ -8,8 +8,8 @@ mod keys;
 /// The most bytes that a page has.
 pub const PAGE_LIMIT: usize = 16_777_216;
 
-/// What asking for a page gives: its text, that there is none, the value at which its embedding comes
-/// round again, or that its text is too long.
+/// What asking for a page gives: its text, that there is none, the value at which its embedding
+/// comes round again, or that its text is too long.
 #[derive(Drop)]
 pub enum Outcome {
     Page(Str),
@@ -32,7 +32,7 @@ pub struct Keyed {
     pub value: Value,
 }
 
-/// A stretch of text, or a value whose text stands there.
+/// A stretch of text, or a value whose text is there.
 #[derive(Drop)]
 pub enum Piece {
     Text(Str),

@@ -4,14 +4,14 @@ use Rattle.page_text.specs.declared.draft.Draft.{Draft}
 use Rattle.page_text.specs.declared.draft.Fragment.{Fragment}
 use Rattle.page_text.specs.declared.draft.Fragment.TheVariants.{Stretch, Whole}
 use Rattle.page_text.specs.declared.writing.Place.{Place}
-use Rattle.page_text.specs.Texts.{fragment_text}
+use Rattle.page_text.specs.Texts.{fragment_text, fragments_of}
 
 abbrev pub fragments_at : List Draft → ℕ → List Fragment
 fragments_at [] i = []
-fragments_at (d ∷ ds) zero = d.fragments.items
+fragments_at (d ∷ ds) zero = fragments_of d
 fragments_at (d ∷ ds) (suc i) = fragments_at ds i
 
--- the bytes that stand after a place of a text
+-- the bytes that are after a place of a text
 abbrev pub after : List (List ℕ) → List Draft → Place → List ℕ
 after ts ds p = flat_map (fragment_text ts) (drop p.at (fragments_at ds p.number))
 
@@ -20,7 +20,7 @@ abbrev pub after_all : List (List ℕ) → List Draft → List Place → List �
 after_all ts ds [] = []
 after_all ts ds (p ∷ ps) = after_all ts ds ps ++ after ts ds p
 
--- how many steps it takes to write the parts, where c tells it of a whole text
+-- how many steps it takes to write the parts, where c reports it of a whole text
 abbrev pub steps : (ℕ → ℕ) → List Fragment → ℕ
 steps c [] = 0
 steps c (Stretch t ∷ fs) = 1 + steps c fs

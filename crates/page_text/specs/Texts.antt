@@ -19,20 +19,25 @@ abbrev pub IsBefore : ℕ → Fragment → Type 0
 IsBefore n (Stretch t) = Unit {0}
 IsBefore n (Whole k) = k < n
 
+-- the parts of a text, in order
+abbrev pub fragments_of : Draft → List Fragment
+fragments_of d = d.fragments.items
+
 -- n is the length of t, or both are above the limit of a page
 abbrev pub Measures : ℕ → List ℕ → Type 0
 Measures n t = (n ≡ length t) ⊎ ((PAGE_LIMIT < n) × (PAGE_LIMIT < length t))
 
 -- the draft is one of t, where `ts` are the texts before
 pub record IsDraft (ts : List (List ℕ)) (d : Draft) (t : List ℕ) : Type 0 where
-  pub before : All (IsBefore (length ts)) d.fragments.items
+  pub before : All (IsBefore (length ts)) (fragments_of d)
   pub measured : Measures d.size t
-  pub parts : length t ≤ PAGE_LIMIT → t ≡ flat_map (fragment_text ts) d.fragments.items
+  pub parts : length t ≤ PAGE_LIMIT → t ≡ flat_map (fragment_text ts) (fragments_of d)
 
 -- the drafts are those of the texts, each after the texts that it has parts of
 pub record AreTexts (ds : List Draft) (ts : List (List ℕ)) : Type 0 where
   pub one_each : length ts ≡ length ds
-  pub drafts : (i : ℕ) (d : Draft) → i < length ds → d ≡ get_or ds i d → IsDraft (take i ts) d (text_at ts i)
+  pub drafts : (i : ℕ) (d : Draft) → i < length ds → d ≡ get_or ds i d
+      → IsDraft (take i ts) d (text_at ts i)
 
 -- t has the number
 pub record IsNumbered (ts : List (List ℕ)) (n : Numbered) (t : List ℕ) : Type 0 where

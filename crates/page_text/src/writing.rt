@@ -21,7 +21,8 @@ fn next(drafts: &[Draft], place: Place) -> Option<&Fragment>
     ensures small { IfSome result (λ _. place.at + 1 < 2 ^ 64) }
     ensures part { MatchOption result
         (drop place.at (fragments_at drafts.now place.number) ≡ [])
-        (λ f. drop place.at (fragments_at drafts.now place.number) ≡ f.now ∷ drop (place.at + 1) (fragments_at drafts.now place.number)) }
+        (λ f. drop place.at (fragments_at drafts.now place.number) ≡ f.now
+        ∷ drop (place.at + 1) (fragments_at drafts.now place.number)) }
 {
     let fragments = drafts[place.number].fragments();
     if place.at < fragments.len() {
@@ -36,7 +37,9 @@ fn next(drafts: &[Draft], place: Place) -> Option<&Fragment>
 pub fn written(alloc: Global, drafts: &[Draft], number: usize) -> Result<Vec<u8>, NoMemory>
     requires texts { (ts : List (List ℕ)) × AreTexts drafts.now ts }
     requires in_range { number < length drafts.now }
-    ensures { IfOk result (λ bytes. (ts : List (List ℕ)) → AreTexts drafts.now ts → length (text_at ts number) ≤ limits.PAGE_LIMIT → bytes.items ≡ text_at ts number) }
+    ensures { IfOk result
+        (λ bytes. (ts : List (List ℕ)) → AreTexts drafts.now ts
+        → length (text_at ts number) ≤ limits.PAGE_LIMIT → bytes.items ≡ text_at ts number) }
 {
     let mut out = Vec::new(alloc);
     let mut stack = Vec::new(alloc);

@@ -3,10 +3,11 @@ use Rattle.std.proofs.Common.{◌≡◌, ℕ, ◌+◌, ◌<◌, ◌≤◌, List,
 use Rattle.std.specs.Prelude.{◌⊎◌, Bool, true, false, Option, None, Some, slice_get, MatchOption, if◌then◌else◌}
 use Rattle.std.proofs.lemmas.Option.{slice_get_within}
 use Rattle.store.specs.declared.Sizes.{Sizes}
-use Rattle.planner.specs.declared.cost.Shape.{Shape}
+use Rattle.plan_spec.specs.declared.Shape.{Shape}
 use Rattle.planner.specs.declared.steps.Candidate.{Candidate}
-use Rattle.planner.specs.Cost.{cost_of}
-use Rattle.planner.specs.Plan.{CanUse, IsBest, IsBetter}
+use Rattle.plan_spec.specs.Cost.{cost_of}
+use Rattle.plan_spec.specs.Plan.{CanUse, IsBest}
+use Rattle.planner.specs.Choices.{IsBetter}
 
 pub record IsBestOf (sizes : Sizes) (shapes : List Shape) (used bound : List Bool) (n : ℕ) (c : Candidate) : Type 0 where
   pub can : CanUse sizes shapes used bound c.condition c.cost

@@ -8,13 +8,14 @@ use Rattle.sd_value.specs.Order.{value_cmp, bytes_cmp}
 use Rattle.graph_spec.specs.DataGraph.{DataGraph, Name, IsValueOf, IsLabelOf}
 use Rattle.graph_spec.specs.Steps.{IsCountOf}
 use Rattle.query_spec.specs.Query.{Chain, Condition, member, path, expression}
-use Rattle.path_spec.specs.Regex.{label}
+use Rattle.rpe.specs.Regex.{label}
 use Rattle.query_spec.specs.Mentions.{same_name}
 use Rattle.struql_ast.specs.declared.Condition.{Condition as Written}
 use Rattle.struql_ast.specs.Reading.{condition_of}
-use Rattle.planner.specs.declared.counts.Counted.{Counted}
-use Rattle.planner.specs.declared.counts.Counts.{Counts}
-use Rattle.planner.specs.Shape.{count_of, AddsCount, AreCountsOf, CountsOf, priced_label, priced_collection, LabelCount, MemberCount}
+use Rattle.plan_spec.specs.declared.Counted.{Counted}
+use Rattle.plan_spec.specs.declared.Counts.{Counts}
+use Rattle.plan_spec.specs.Shape.{count_of, CountsOf}
+use Rattle.planner.specs.Counting.{AddsCount, AreCountsOf, priced_label, priced_collection, LabelCount, MemberCount}
 
 take_map_more : {X Y : Type 0} (f : X → Y) (xs : List X) (i : ℕ) (x : X) → slice_get xs i ≡ Some x → map f (take (suc i) xs) ≡ map f (take i xs) ++ f x ∷ []
 take_map_more f [] i x h = cc

@@ -3,11 +3,13 @@ use Rattle.std.proofs.Common.{◌≡◌, ℕ, zero, suc, ◌+◌, ◌<◌, ◌�
 use Rattle.std.specs.Prelude.{◌⊎◌, Bool, true, false, Option, None, Some, slice_get, slice_set}
 use Rattle.std.proofs.lemmas.Option.{slice_get_within}
 use Rattle.store.specs.declared.Sizes.{Sizes}
-use Rattle.planner.specs.declared.cost.Shape.{Shape}
-use Rattle.planner.specs.declared.steps.PlanStep.{PlanStep}
-use Rattle.planner.specs.declared.steps.PlanStep.TheVariants.{Use, Domain}
-use Rattle.planner.specs.Cost.{cost_of, all_bound, side_bound, SideInRange, ShapeInRange, ShapesInRange}
-use Rattle.planner.specs.Plan.{CanUse, State, state, IsStep, Leads, IsDone, IsPlan, IsNext, TakesDomain, AllFalse, Uses, bind, bind_all}
+use Rattle.plan_spec.specs.declared.Shape.{Shape}
+use Rattle.plan_spec.specs.declared.PlanStep.{PlanStep}
+use Rattle.plan_spec.specs.declared.PlanStep.TheVariants.{Use, Domain}
+use Rattle.plan_spec.specs.Cost.{cost_of, all_bound, side_bound}
+use Rattle.planner.specs.Ranges.{SideInRange, ShapeInRange, ShapesInRange}
+use Rattle.plan_spec.specs.Plan.{CanUse, State, state, IsStep, Leads, IsDone, IsPlan, AllFalse, Uses, bind, bind_all}
+use Rattle.planner.specs.Choices.{IsNext, TakesDomain}
 
 pub all_false-nil : AllFalse []
 all_false-nil = record { each = λ i b h. cc }

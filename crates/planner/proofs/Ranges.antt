@@ -5,10 +5,10 @@ use Rattle.graph_spec.specs.DataGraph.{Name}
 use Rattle.query_spec.specs.declared.Variable.{Variable}
 use Rattle.query_spec.specs.Query.{Chain, Operand, variable, constant, arc_variable, expression, Condition, member, path, compare, one_of, kind, negation}
 use Rattle.query_spec.specs.Mentions.{same_name}
-use Rattle.planner.specs.declared.counts.Counts.{Counts}
-use Rattle.planner.specs.declared.cost.Shape.{Shape}
-use Rattle.planner.specs.Cost.{SideInRange, ShapeInRange, ShapesInRange}
-use Rattle.planner.specs.Shape.{number_of, side_of, shape_of, shapes_of}
+use Rattle.plan_spec.specs.declared.Counts.{Counts}
+use Rattle.plan_spec.specs.declared.Shape.{Shape}
+use Rattle.planner.specs.Ranges.{SideInRange, ShapeInRange, ShapesInRange}
+use Rattle.plan_spec.specs.Shape.{number_of, side_of, shape_of, shapes_of}
 
 next_in_range : (n : ℕ) (o : Option ℕ) → SideInRange n o → SideInRange (suc n) (option_map suc o)
 next_in_range n None h = tt

@@ -3,10 +3,10 @@ use Rattle.std.proofs.Common.{◌≡◌, ℕ, zero, suc, ◌<◌, List, [], ◌�
 use Rattle.std.specs.Prelude.{◌⊎◌, Bool, true, false, Option, None, Some, slice_get, slice_set}
 use Rattle.std.proofs.lemmas.Option.{slice_get_within}
 use Rattle.store.specs.declared.Sizes.{Sizes}
-use Rattle.planner.specs.declared.cost.Shape.{Shape}
-use Rattle.planner.specs.declared.steps.PlanStep.{PlanStep}
-use Rattle.planner.specs.declared.steps.PlanStep.TheVariants.{Use, Domain}
-use Rattle.planner.specs.Plan.{IsBest, State, state, IsStep, Leads, IsDone, AllFalse, Uses, NoneTwice, AreStepsOver, IsTheOnlyPlan, bind, bind_all, domain_cost}
+use Rattle.plan_spec.specs.declared.Shape.{Shape}
+use Rattle.plan_spec.specs.declared.PlanStep.{PlanStep}
+use Rattle.plan_spec.specs.declared.PlanStep.TheVariants.{Use, Domain}
+use Rattle.plan_spec.specs.Plan.{IsBest, State, state, IsStep, Leads, IsDone, AllFalse, Uses, NoneTwice, AreStepsOver, IsTheOnlyPlan, bind, bind_all, domain_cost}
 
 which : (m n : ℕ) → (m ≡ n) ⊎ (m < n) ⊎ (n < m)
 which m n = search arith

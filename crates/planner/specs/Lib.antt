@@ -1,3 +1,3 @@
-pub mod Cost
-pub mod Plan
-pub mod Shape
+pub mod Ranges
+pub mod Choices
+pub mod Counting

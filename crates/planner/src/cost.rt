@@ -1,32 +1,10 @@
 //! What it costs to use a condition next.
 ghost use Rattle.std.specs.Prelude.{◌≡◌, ◌<◌, length, Option, IsTrue, ◌↔◌};
-ghost use Rattle.planner.specs.Cost.{side_bound, all_bound, end_bound, edges_cost_of, walk_cost_of, free_cost_of, cost_of, SideInRange, ShapeInRange};
+ghost use Rattle.plan_spec.specs.Cost.{side_bound, all_bound, end_bound, edges_cost_of, walk_cost_of, free_cost_of, cost_of};
+ghost use Rattle.planner.specs.Ranges.{SideInRange, ShapeInRange};
 
+use plan_spec::{Kind, Shape};
 use store::Sizes;
-
-/// What the cost of a condition depends on, apart from its variables.
-#[derive(Clone, Copy, Debug)]
-pub enum Kind {
-    /// It can only be used when all its variables are bound.
-    Test,
-    /// An equation, with its cost where one side is bound.
-    Equal(u128),
-    /// A list of values for one variable, with its length.
-    Listed(u128),
-    /// Edges of one label or of all labels, with their number.
-    Edges(u64),
-    /// Any other path.
-    Walk,
-}
-
-/// A condition's kind and its variables, by number. What is no variable counts as bound.
-#[derive(Clone, Copy, Debug)]
-pub struct Shape {
-    pub kind: Kind,
-    pub from: Option<u32>,
-    pub arc: Option<u32>,
-    pub to: Option<u32>,
-}
 
 pub(crate) fn is_bound(side: Option<u32>, bound: &[bool]) -> bool
     requires { SideInRange (length bound.now) side }

@@ -1,29 +1,15 @@
 //! How often a graph has what a chain names.
 ghost use Rattle.std.specs.Prelude.{◌≡◌, IfOk, MatchOption, None, Some, map};
 ghost use Rattle.struql_ast.specs.Reading.{condition_of};
-ghost use Rattle.planner.specs.Shape.{count_of, priced_label, priced_collection, AddsCount, LabelCount, MemberCount, AreCountsOf, CountsOf};
+ghost use Rattle.plan_spec.specs.Shape.{count_of, CountsOf};
+ghost use Rattle.planner.specs.Counting.{priced_label, priced_collection, AddsCount, LabelCount, MemberCount, AreCountsOf};
 
+use plan_spec::{Counted, Counts};
 use rpe::Rpe;
 use sd_value::{NoMemory, Str};
 use std::alloc::Global;
-use store::{Sizes, Store};
+use store::Store;
 use struql_ast::{Chain, Condition, PathStep};
-
-/// The number of edges of a label, or of members of a collection.
-#[derive(Debug, Drop)]
-pub struct Counted {
-    pub name: Str,
-    pub count: u64,
-}
-
-/// What the costs of a chain's conditions depend on: the graph's sizes, how many edges each label has, and how many
-/// members each collection. What isn't listed counts nothing.
-#[derive(Debug, Drop)]
-pub struct Counts {
-    pub sizes: Sizes,
-    pub labels: Vec<Counted>,
-    pub collections: Vec<Counted>,
-}
 
 // The count of that name.
 pub(crate) fn count_of(counted: &[Counted], name: &Str) -> u64
@@ -39,7 +25,8 @@ pub(crate) fn count_of(counted: &[Counted], name: &Str) -> u64
 
 // The label of a path by a label alone.
 fn label_of(condition: &Condition) -> Option<&Str>
-    ensures { MatchOption result (priced_label (condition_of condition.now) ≡ None) (λ l. priced_label (condition_of condition.now) ≡ Some l.now) }
+    ensures { MatchOption result (priced_label (condition_of condition.now) ≡ None)
+        (λ l. priced_label (condition_of condition.now) ≡ Some l.now) }
 {
     match condition {
         Condition::Path {
@@ -52,7 +39,8 @@ fn label_of(condition: &Condition) -> Option<&Str>
 
 // The collection of a condition on members.
 fn collection_of(condition: &Condition) -> Option<&Str>
-    ensures { MatchOption result (priced_collection (condition_of condition.now) ≡ None) (λ c. priced_collection (condition_of condition.now) ≡ Some c.now) }
+    ensures { MatchOption result (priced_collection (condition_of condition.now) ≡ None)
+        (λ c. priced_collection (condition_of condition.now) ≡ Some c.now) }
 {
     match condition {
         Condition::Member { collection, .. } => Some(collection),
@@ -66,7 +54,8 @@ fn add_label<S: Store>(
     condition: &Condition,
     counted: &mut Vec<Counted>,
 ) -> Result<(), NoMemory>
-    ensures { IfOk result (λ _. AddsCount priced_label (LabelCount (S.graph store.now)) (condition_of condition.now) counted.old.items counted.new.items) }
+    ensures { IfOk result (λ _. AddsCount priced_label (LabelCount (S.graph store.now))
+        (condition_of condition.now) counted.old.items counted.new.items) }
 {
     if let Some(label) = label_of(condition) {
         let name = label.copy(alloc)?;
@@ -82,7 +71,8 @@ fn add_collection<S: Store>(
     condition: &Condition,
     counted: &mut Vec<Counted>,
 ) -> Result<(), NoMemory>
-    ensures { IfOk result (λ _. AddsCount priced_collection (MemberCount (S.graph store.now)) (condition_of condition.now) counted.old.items counted.new.items) }
+    ensures { IfOk result (λ _. AddsCount priced_collection (MemberCount (S.graph store.now))
+        (condition_of condition.now) counted.old.items counted.new.items) }
 {
     if let Some(collection) = collection_of(condition) {
         let name = collection.copy(alloc)?;
@@ -97,7 +87,8 @@ fn labels_of<S: Store>(
     store: &S,
     conditions: &[Condition],
 ) -> Result<Vec<Counted>, NoMemory>
-    ensures { IfOk result (λ counted. AreCountsOf priced_label (LabelCount (S.graph store.now)) (map condition_of conditions.now) counted.items) }
+    ensures { IfOk result (λ counted. AreCountsOf priced_label (LabelCount (S.graph store.now))
+        (map condition_of conditions.now) counted.items) }
 {
     let mut counted = Vec::new(alloc);
     for condition in conditions {
@@ -111,7 +102,8 @@ fn collections_of<S: Store>(
     store: &S,
     conditions: &[Condition],
 ) -> Result<Vec<Counted>, NoMemory>
-    ensures { IfOk result (λ counted. AreCountsOf priced_collection (MemberCount (S.graph store.now)) (map condition_of conditions.now) counted.items) }
+    ensures { IfOk result (λ counted. AreCountsOf priced_collection
+        (MemberCount (S.graph store.now)) (map condition_of conditions.now) counted.items) }
 {
     let mut counted = Vec::new(alloc);
     for condition in conditions {

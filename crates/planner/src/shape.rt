@@ -3,11 +3,11 @@ ghost use Rattle.std.specs.Prelude.{◌≡◌, ◌<◌, ◌^◌, IfOk, ℕ, leng
 ghost use Rattle.query_spec.specs.Query.{path};
 ghost use Rattle.rpe.specs.Reading.{regex_of};
 ghost use Rattle.struql_ast.specs.Reading.{operand_of, step_of, condition_of};
-ghost use Rattle.planner.specs.Shape.{number_of, side_of, one, path_kind, compare_kind, shape_of, shapes_of};
-ghost use Rattle.planner.specs.Cost.{ShapesInRange};
+ghost use Rattle.plan_spec.specs.Shape.{number_of, side_of, one, path_kind, compare_kind, shape_of, shapes_of};
+ghost use Rattle.planner.specs.Ranges.{ShapesInRange};
 
-use crate::cost::{Kind, Shape};
-use crate::counts::{Counts, count_of};
+use crate::counts::count_of;
+use plan_spec::{Counts, Kind, Shape};
 use query_spec::{Op, Variable};
 use rpe::Rpe;
 use sd_value::{NoMemory, Str};
@@ -54,7 +54,8 @@ fn path_shape(
     to: &Operand,
 ) -> Shape
     requires { length variables.now < 2 ^ 32 }
-    ensures { (version : ℕ) → result ≡ shape_of counts.now version variables.now (path (operand_of from.now) (step_of step.now) (operand_of to.now)) }
+    ensures { (version : ℕ) → result ≡ shape_of counts.now version variables.now
+        (path (operand_of from.now) (step_of step.now) (operand_of to.now)) }
 {
     let from = side_of(variables, from);
     let to = side_of(variables, to);
@@ -145,7 +146,8 @@ fn shapes_from(
     conditions: &[Condition],
 ) -> Result<Vec<Shape>, NoMemory>
     requires { length variables.now < 2 ^ 32 }
-    ensures { IfOk result (λ shapes. shapes.items ≡ map (shape_of counts.now version variables.now) (map condition_of conditions.now)) }
+    ensures { IfOk result (λ shapes. shapes.items
+        ≡ map (shape_of counts.now version variables.now) (map condition_of conditions.now)) }
 {
     let mut shapes = Vec::new(alloc);
     for condition in conditions {
@@ -173,7 +175,8 @@ pub(crate) fn shapes_of_chain(
 ) -> Result<Vec<Shape>, NoMemory>
     requires { length chain.now.variables < 2 ^ 32 }
     ensures shapes { IfOk result (λ shapes. shapes.items ≡ shapes_of counts.now chain.now) }
-    ensures in_range { IfOk result (λ shapes. ShapesInRange (length chain.now.variables) shapes.items) }
+    ensures in_range { IfOk result (λ shapes.
+        ShapesInRange (length chain.now.variables) shapes.items) }
 {
     let shapes = shapes_from(
         alloc,

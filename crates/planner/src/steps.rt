@@ -1,29 +1,24 @@
 //! Plans.
 ghost use Rattle.std.specs.Prelude.{◌≡◌, ◌<◌, ◌^◌, ℕ, length, IfOk, MatchOption, Option, None, Some, slice_get, slice_set, true, false, if◌then◌else◌};
-ghost use Rattle.planner.specs.Cost.{cost_of, SideInRange, ShapeInRange, ShapesInRange};
-ghost use Rattle.planner.specs.Plan.{CanUse, IsBest, IsBetter, IsFirstFree, BindsShape, TakesDomain, IsNext, AllFalse, Uses, IsPlan, bind, bind_all};
+ghost use Rattle.plan_spec.specs.Cost.{cost_of};
+ghost use Rattle.planner.specs.Ranges.{SideInRange, ShapeInRange, ShapesInRange};
+ghost use Rattle.plan_spec.specs.Plan.{CanUse, IsBest, IsFirstFree, AllFalse, Uses, IsPlan, bind, bind_all};
+ghost use Rattle.planner.specs.Choices.{IsBetter, BindsShape, TakesDomain, IsNext};
 ghost use Rattle.std.specs.Prelude.{List, Bool};
 ghost use Rattle.store.specs.declared.Sizes.{Sizes as PlainSizes};
-ghost use Rattle.planner.specs.declared.cost.Shape.{Shape as PlainShape};
+ghost use Rattle.plan_spec.specs.declared.Shape.{Shape as PlainShape};
 ghost use Rattle.query_spec.specs.Mentions.{IsWellMade};
-ghost use Rattle.planner.specs.Plan.{NoneTwice, AreStepsOver, IsTheOnlyPlan};
-ghost use Rattle.planner.specs.Shape.{IsPlanOf};
+ghost use Rattle.plan_spec.specs.Plan.{NoneTwice, AreStepsOver, IsTheOnlyPlan};
+ghost use Rattle.plan_spec.specs.Shape.{IsPlanOf};
 
-use crate::cost::{Shape, cost};
-use crate::counts::Counts;
+use crate::cost::cost;
 use crate::shape::{arcs_from, shapes_of_chain};
+use plan_spec::{Counts, PlanStep, Shape};
 use sd_value::NoMemory;
 use std::alloc::{AllocError, Global};
 use std::marker::Model;
 use store::Sizes;
 use struql_ast::Chain;
-
-/// A step of a plan, with its cost.
-#[derive(Clone, Copy, Debug)]
-pub enum PlanStep {
-    Use { condition: u32, cost: u128 },
-    Domain { variable: u32, cost: u128 },
-}
 
 /// A condition, by its number, and its cost.
 #[derive(Clone, Copy, Debug)]
@@ -59,7 +54,9 @@ fn better(best: Option<Candidate>, condition: usize, cost: Option<u128>) -> Opti
 fn best(shapes: &[Shape], sizes: Sizes, used: &[bool], bound: &[bool]) -> Option<Candidate>
     requires as_long { length used.now ≡ length shapes.now }
     requires in_range { ShapesInRange (length bound.now) shapes.now }
-    ensures { MatchOption result ((i cost : ℕ) → CanUse sizes shapes.now used.now bound.now i cost → ⊥) (λ c. IsBest sizes shapes.now used.now bound.now c.condition c.cost) }
+    ensures { MatchOption result
+        ((i cost : ℕ) → CanUse sizes shapes.now used.now bound.now i cost → ⊥)
+        (λ c. IsBest sizes shapes.now used.now bound.now c.condition c.cost) }
 {
     let mut best = None;
     for i in 0..shapes.len() {
@@ -70,7 +67,8 @@ fn best(shapes: &[Shape], sizes: Sizes, used: &[bool], bound: &[bool]) -> Option
 }
 
 fn first_free(bound: &[bool]) -> Option<usize>
-    ensures { MatchOption result ((x : ℕ) → slice_get bound.now x ≡ Some false → ⊥) (λ x. IsFirstFree bound.now x) }
+    ensures { MatchOption result ((x : ℕ) → slice_get bound.now x ≡ Some false → ⊥)
+        (λ x. IsFirstFree bound.now x) }
 {
     for x in 0..bound.len() {
         if !bound[x] {
@@ -149,8 +147,10 @@ fn advance(
     requires one_each { length arcs.now ≡ length bound.old.items }
     requires few_conditions { length shapes.now < 2 ^ 32 }
     requires few_variables { length bound.old.items < 2 ^ 32 }
-    ensures lengths { (length used.new.items ≡ length used.old.items) × (length bound.new.items ≡ length bound.old.items) }
-    ensures step { IsNext sizes arcs.now shapes.now used.old.items bound.old.items result used.new.items bound.new.items }
+    ensures lengths { (length used.new.items ≡ length used.old.items)
+        × (length bound.new.items ≡ length bound.old.items) }
+    ensures step { IsNext sizes arcs.now shapes.now used.old.items bound.old.items result
+        used.new.items bound.new.items }
 {
     if let Some(next) = best(shapes, sizes, used.as_slice(), bound.as_slice()) {
         use_condition(shapes, next.condition, used, bound);
@@ -170,7 +170,7 @@ pub struct StepList {
 
 impl Model for StepList {
     ghost use Rattle.std.specs.Prelude.{List};
-    ghost use Rattle.planner.specs.declared.steps.PlanStep.{PlanStep};
+    ghost use Rattle.plan_spec.specs.declared.PlanStep.{PlanStep};
 
     ghost Value = { List PlanStep };
 
@@ -235,9 +235,11 @@ pub fn plan(
     requires well_made { IsWellMade chain.now }
     requires one_each { length bound.now ≡ length chain.now.variables }
     ensures plan { IfOk result (IsPlanOf counts.now chain.now bound.now) }
-    ensures uses_all { IfOk result (λ steps. (i : ℕ) → i < length chain.now.conditions → Uses steps i) }
+    ensures uses_all { IfOk result (λ steps. (i : ℕ) → i < length chain.now.conditions
+        → Uses steps i) }
     ensures none_twice { IfOk result NoneTwice }
-    ensures in_range { IfOk result (AreStepsOver (length chain.now.conditions) (length chain.now.variables)) }
+    ensures in_range { IfOk result (AreStepsOver (length chain.now.conditions)
+        (length chain.now.variables)) }
 {
     let shapes = shapes_of_chain(alloc, counts, chain)?;
     let arcs = arcs_from(alloc, chain.variables())?;
@@ -253,5 +255,6 @@ pub fn plan(
 
 /// Where it begins decides a plan.
 pub fn a_plan_is_the_only_one()
-    ensures { (sizes : PlainSizes) (arcs : List Bool) (shapes : List PlainShape) (bound : List Bool) → IsTheOnlyPlan sizes arcs shapes bound }
+    ensures { (sizes : PlainSizes) (arcs : List Bool) (shapes : List PlainShape)
+        (bound : List Bool) → IsTheOnlyPlan sizes arcs shapes bound }
 {}

@@ -1,0 +1,2 @@
+pub mod MentionLaws
+pub mod VariableNumbers

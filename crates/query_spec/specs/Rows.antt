@@ -20,12 +20,14 @@ use Rattle.query_spec.specs.Holds.{Holds}
 abbrev pub value_in : List Variable → List Value → Name → Option Value
 value_in [] row x = None
 value_in (v ∷ variables) [] x = None
-value_in (v ∷ variables) (a ∷ row) x = if same_name v.name x then Some a else value_in variables row x
+value_in (v ∷ variables) (a ∷ row) x =
+    if same_name v.name x then Some a else value_in variables row x
 
 -- a node variable is one of the graph's values, and an arc variable one of its labels
 abbrev pub IsInDomain : DataGraph → Variable → Value → Type 0
 IsInDomain G v a = MatchBool v.arc (IsLabelValueOf G a) (IsValueOf G a)
 
+-- the row has a value of each variable's domain, and all conditions hold under it
 pub record IsRow (G : DataGraph) (c : Chain) (row : List Value) : Type 0 where
   pub in_domain : AllZip (IsInDomain G) c.variables row
   pub conditions_hold : All (λ k. Holds G c.version k (value_in c.variables row)) c.conditions
@@ -38,7 +40,8 @@ Agrees (a ∷ row) (Some b ∷ bound) = (a ≡ b) × Agrees row bound
 Agrees row bound = ⊥
 
 -- a row of the chain that has the values that are bound
-pub record IsAnswer (G : DataGraph) (c : Chain) (bound : List (Option Value)) (row : List Value) : Type 0 where
+pub record IsAnswer (G : DataGraph) (c : Chain) (bound : List (Option Value))
+    (row : List Value) : Type 0 where
   pub is_row : IsRow G c row
   pub agrees : Agrees row bound
 
@@ -51,8 +54,10 @@ pub record SomeAnswer (G : DataGraph) (c : Chain) (bound : List (Option Value)) 
 abbrev pub row_cmp : List Value → List Value → Ordering
 row_cmp = slice_cmp value_cmp
 
+-- the order of rows is total
 pub row_cmp-total : IsTotalOrder row_cmp
 row_cmp-total = lists_total value_cmp-total
 
+-- rows that tie are one row
 pub row_cmp-exact : IsAntisymmetric row_cmp
 row_cmp-exact = slice_cmp-IsAntisymmetric value_cmp-exact

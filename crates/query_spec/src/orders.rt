@@ -1,7 +1,8 @@
 // The order of rows, value by value, as Rust's `Ord`.
 ghost use Rattle.std.specs.Prelude.{◌≡◌, refl};
 ghost use Rattle.std.specs.Ordering.{eq_by_cmp, as_partial_cmp};
-ghost use Rattle.std.specs.Cmp.{partial_equiv_from_equiv, eq_by_cmp_equiv, partial_order_from_agreeing_total};
+ghost use Rattle.std.specs.Cmp.{partial_equiv_from_equiv, eq_by_cmp_equiv};
+ghost use Rattle.std.specs.Cmp.{partial_order_from_agreeing_total};
 ghost use Rattle.query_spec.specs.Rows.{row_cmp, row_cmp-total, row_cmp-exact};
 
 use crate::Row;
@@ -25,7 +26,8 @@ impl Eq for Row {
 impl PartialOrd for Row {
     ghost partial_cmp = { as_partial_cmp row_cmp };
 
-    ghost laws = { partial_order_from_agreeing_total row_cmp row_cmp-total (λ a b. refl) (λ a b. refl) };
+    ghost laws = { partial_order_from_agreeing_total row_cmp row_cmp-total (λ a b. refl)
+        (λ a b. refl) };
 
     fn partial_cmp(&self, other: &Row) -> Option<Ordering> {
         Some(self.cmp(other))

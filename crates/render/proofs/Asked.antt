@@ -6,7 +6,7 @@ use Rattle.std.proofs.lemmas.List.Sorted.{Contains-permutation, IsPermutation-re
 use Rattle.sd_value.specs.declared.Value.{Value}
 use Rattle.sd_value.specs.Members.{Contains-map}
 use Rattle.page_spec.specs.declared.Keyed.{Keyed}
-use Rattle.page_spec.specs.Site.{Site, Scene, Reaches, InRange, Arranged}
+use Rattle.page_spec.specs.Site.{Site, Env, Reaches, InRange, Arranged}
 use Rattle.page_spec.specs.Question.{Question, MayKeep}
 use Rattle.tmpl.specs.declared.Expr.{Expr}
 use Rattle.tmpl.specs.declared.Order.{Order}
@@ -51,7 +51,7 @@ pub turned_in : (b : Bool) (xs : List Value) (v : Value) → Contains (if b then
 turned_in true xs v h = reversed xs v h
 turned_in false xs v h = h
 
-pub arranged_in : (s : Site) (e : Scene) (x : Expr) (o : Order) (vs : List Value) (v : Value) → Arranged s e x o vs → Contains vs v → InRange s e x v
+pub arranged_in : (s : Site) (e : Env) (x : Expr) (o : Order) (vs : List Value) (v : Value) → Arranged s e x o vs → Contains vs v → InRange s e x v
 arranged_in s e x o vs v (rows, exact, is) h =
     let k = turned_in o.descend (map (λ (r : Keyed). r.value) rows) v (subst (λ (l : List Value). Contains l v) is h) in
     let r = Contains-map (λ (r : Keyed). r.value) rows v k in

@@ -4,7 +4,7 @@ use Rattle.std.specs.Prelude.{Contains}
 use Rattle.std.proofs.lemmas.List.Elements.{Contains-append_left, Contains-append_right, Contains-append_cases}
 use Rattle.sd_value.specs.declared.Value.{Value}
 use Rattle.sd_value.specs.Members.{Contains-here, Contains-there, Contains-nil, Contains-cons_cases}
-use Rattle.page_spec.specs.Site.{Site, Scene, IsBound, Starts, InRange}
+use Rattle.page_spec.specs.Site.{Site, Env, IsBound, Starts, InRange}
 use Rattle.page_spec.specs.Pieces.{Item, byte, embed, bytes, Expands, Joined, Formatted, delimiter, binding, HasTemplate}
 use Rattle.page_spec.specs.Question.{Question, template}
 use Rattle.tmpl.specs.Body.{Body, done, text, format, choice, repeat, TemplateFile, part_before, body_of}
@@ -28,69 +28,69 @@ use Rattle.render.proofs.Asked.{arranged_in}
 
 -- ---- parts of a body
 
-pub part_here : (s : Site) (e : Scene) (p : Part) (rest : Body) (q : Question) → SceneAsks s e (part_before p done) q → SceneAsks s e (part_before p rest) q
+pub part_here : (s : Site) (e : Env) (p : Part) (rest : Body) (q : Question) → SceneAsks s e (part_before p done) q → SceneAsks s e (part_before p rest) q
 part_here s e (Text t) rest q h = absurd h
 part_here s e (Format f) rest q h = ⊎_elim inl (λ k. absurd k) h
 part_here s e (Choice' neg v a m taken n other) rest q h = ⊎_elim inl (λ k. absurd k) h
 part_here s e (Repeat' k v o n body) rest q h = ⊎_elim inl (λ k. absurd k) h
 
-part_later : (s : Site) (e : Scene) (p : Part) (rest : Body) (q : Question) → SceneAsks s e rest q → SceneAsks s e (part_before p rest) q
+part_later : (s : Site) (e : Env) (p : Part) (rest : Body) (q : Question) → SceneAsks s e rest q → SceneAsks s e (part_before p rest) q
 part_later s e (Text t) rest q h = h
 part_later s e (Format f) rest q h = inr h
 part_later s e (Choice' neg v a m taken n other) rest q h = inr h
 part_later s e (Repeat' k v o n body) rest q h = inr h
 
-pub part_in : (s : Site) (e : Scene) (parts : List Part) (i : ℕ) (p : Part) (q : Question) → i < length parts → p ≡ get_or parts i p → SceneAsks s e (part_before p done) q → SceneAsks s e (body_of parts) q
+pub part_in : (s : Site) (e : Env) (parts : List Part) (i : ℕ) (p : Part) (q : Question) → i < length parts → p ≡ get_or parts i p → SceneAsks s e (part_before p done) q → SceneAsks s e (body_of parts) q
 part_in s e [] i p q l is h = absurd (omega (arith, l))
 part_in s e (x ∷ parts) zero p q l is h = part_here s e x (body_of parts) q (subst (λ (z : Part). SceneAsks s e (part_before z done) q) is h)
 part_in s e (x ∷ parts) (suc i) p q l is h = part_later s e x (body_of parts) q (part_in s e parts i p q (omega (arith, l)) is h)
 
 -- ---- what a part asks
 
-pub format_asks : (s : Site) (e : Scene) (part : Part) (f : formats.Format) (q : Question) → part ≡ Format f → (ArrangedAsks s e f.values f.order q ⊎ ((v : Value) × InRange s e f.values v × ModeAsks s f.mode v q)) → SceneAsks s e (part_before part done) q
+pub format_asks : (s : Site) (e : Env) (part : Part) (f : formats.Format) (q : Question) → part ≡ Format f → (ArrangedAsks s e f.values f.order q ⊎ ((v : Value) × InRange s e f.values v × ModeAsks s f.mode v q)) → SceneAsks s e (part_before part done) q
 format_asks s e part f q is h = subst (λ (z : Part). SceneAsks s e (part_before z done) q) (sym is) (inl h)
 
-pub choice_asks : (s : Site) (e : Scene) (part : Part) (x : choices.Choice) (q : Question) → part ≡ Choice x → (RangeAsks s e x.values q ⊎ (SceneAsks s e (body_of x.taken.items) q ⊎ SceneAsks s e (body_of x.other.items) q)) → SceneAsks s e (part_before part done) q
+pub choice_asks : (s : Site) (e : Env) (part : Part) (x : choices.Choice) (q : Question) → part ≡ Choice x → (RangeAsks s e x.values q ⊎ (SceneAsks s e (body_of x.taken.items) q ⊎ SceneAsks s e (body_of x.other.items) q)) → SceneAsks s e (part_before part done) q
 choice_asks s e part x q is h = subst (λ (z : Body). SceneAsks s e z q) (sym (ap (λ p. part_before p done) is ∙ choice_body x done)) (inl h)
 
-pub repeat_asks : (s : Site) (e : Scene) (part : Part) (x : repeats.Repeat) (q : Question) → part ≡ Repeat x → (ArrangedAsks s e x.values x.order q ⊎ ((v : Value) × InRange s e x.values v × SceneAsks s (binding e x.number v) (body_of x.body.items) q)) → SceneAsks s e (part_before part done) q
+pub repeat_asks : (s : Site) (e : Env) (part : Part) (x : repeats.Repeat) (q : Question) → part ≡ Repeat x → (ArrangedAsks s e x.values x.order q ⊎ ((v : Value) × InRange s e x.values v × SceneAsks s (binding e x.number v) (body_of x.body.items) q)) → SceneAsks s e (part_before part done) q
 repeat_asks s e part x q is h = subst (λ (z : Body). SceneAsks s e z q) (sym (ap (λ p. part_before p done) is ∙ repeat_body x done)) (inl h)
 
 -- ---- scenes of a whole body
 
 module _ (s : Site) (b : Body) (n : Value) where
   -- the scene presents n, and its loops' values are in the ranges of the body's loops
-  pub record Fits (e : Scene) : Type 0 where
+  pub record Fits (e : Env) : Type 0 where
     pub here : e.here ≡ n
     pub bound : (k : ℕ) (v : Value) → IsBound e.loops k v → (l : LoopOver) × (l.number ≡ k) × Contains (loops b) l × Ranges s b n l.expr v
 
-  begins_root : (e : Scene) (x : Expr) (root : WordRoot) (w : Value) → Fits e → x.root ≡ root → Starts s e root w → Begins s b n x w
+  begins_root : (e : Env) (x : Expr) (root : WordRoot) (w : Value) → Fits e → x.root ≡ root → Starts s e root w → Begins s b n x w
   begins_root e x Here w fits is h = subst (Begins s b n x) (sym fits.here ∙ h) (at_here is)
   begins_root e x (Collection c) w fits is h = at_collected is h
   begins_root e x (Loop k) w fits is h =
       let (l, number, among, (u, begins, reaches)) = fits.bound k w h in
       at_loop (is ∙ ap Loop (sym number)) among begins reaches
 
-  begins : (e : Scene) (x : Expr) (w : Value) → Fits e → Starts s e x.root w → Begins s b n x w
+  begins : (e : Env) (x : Expr) (w : Value) → Fits e → Starts s e x.root w → Begins s b n x w
   begins e x w fits h = begins_root e x x.root w fits refl h
 
-  ranges : (e : Scene) (x : Expr) (v : Value) → Fits e → InRange s e x v → Ranges s b n x v
+  ranges : (e : Env) (x : Expr) (v : Value) → Fits e → InRange s e x v → Ranges s b n x v
   ranges e x v fits (u, start, reach) = (u, begins e x u fits start, reach)
 
-  range_asks : (e : Scene) (x : Use) (q : Question) → Fits e → Contains (uses b) x → RangeAsks s e x.expr q → BodyAsks s b n q
+  range_asks : (e : Env) (x : Use) (q : Question) → Fits e → Contains (uses b) x → RangeAsks s e x.expr q → BodyAsks s b n q
   range_asks e x q fits among (inl (c, root, is)) = subst (BodyAsks s b n) (sym is) (x, among, root)
   range_asks e x q fits among (inr (u, label, is, (w, start, passes))) = subst (BodyAsks s b n) (sym is) (x, among, inl (w, begins e x.expr w fits start, passes))
 
-  key_asks : (e : Scene) (x : Use) (word : Option Word) (v : Value) (q : Question) → Fits e → Contains (uses b) x → ((w : Word) → Contains (key_words word) w → Contains x.onward w) → InRange s e x.expr v → KeyAsks s word v q → BodyAsks s b n q
+  key_asks : (e : Env) (x : Use) (word : Option Word) (v : Value) (q : Question) → Fits e → Contains (uses b) x → ((w : Word) → Contains (key_words word) w → Contains x.onward w) → InRange s e x.expr v → KeyAsks s word v q → BodyAsks s b n q
   key_asks e x None v q fits among onward r h = absurd h
   key_asks e x (Some word) v q fits among onward r (u, label, is, (w, same, passes)) =
       subst (BodyAsks s b n) (sym is) (x, among, inr (v, ranges e x.expr v fits r, (word, onward word (Contains-here word []), subst (λ z. Passes s z word u label) (sym same) passes)))
 
-  arranged_asks : (e : Scene) (x : Use) (o : Order) (q : Question) → Fits e → Contains (uses b) x → ((w : Word) → Contains (key_words o.key) w → Contains x.onward w) → ArrangedAsks s e x.expr o q → BodyAsks s b n q
+  arranged_asks : (e : Env) (x : Use) (o : Order) (q : Question) → Fits e → Contains (uses b) x → ((w : Word) → Contains (key_words o.key) w → Contains x.onward w) → ArrangedAsks s e x.expr o q → BodyAsks s b n q
   arranged_asks e x o q fits among onward (inl h) = range_asks e x q fits among h
   arranged_asks e x o q fits among onward (inr (v, r, h)) = key_asks e x o.key v q fits among onward r h
 
-  mode_asks : (e : Scene) (x : Expr) (m : Mode) (o : Order) (v : Value) (q : Question) → Fits e → Contains (uses b) record { expr = x; onward = key_words o.key ++ link_words m; embeds = is_embed m } → InRange s e x v → ModeAsks s m v q → BodyAsks s b n q
+  mode_asks : (e : Env) (x : Expr) (m : Mode) (o : Order) (v : Value) (q : Question) → Fits e → Contains (uses b) record { expr = x; onward = key_words o.key ++ link_words m; embeds = is_embed m } → InRange s e x v → ModeAsks s m v q → BodyAsks s b n q
   mode_asks e x Plain o v q fits among r h = absurd h
   mode_asks e x Embed o v q fits among r h =
       let usage : Use = record { expr = x; onward = key_words o.key ++ []; embeds = true } in
@@ -99,7 +99,7 @@ module _ (s : Site) (b : Body) (n : Value) where
       let usage : Use = record { expr = x; onward = key_words o.key ++ key_words word; embeds = is_embed (Link word) } in
       key_asks e usage word v q fits among (λ w k. Contains-append_right (key_words o.key) (key_words word) w k) r h
 
-  bound_more : (e : Scene) (k : ℕ) (x : Expr) (v : Value) → Fits e → Contains (loops b) record { number = k; expr = x } → InRange s e x v → Fits (binding e k v)
+  bound_more : (e : Env) (k : ℕ) (x : Expr) (v : Value) → Fits e → Contains (loops b) record { number = k; expr = x } → InRange s e x v → Fits (binding e k v)
   bound_more e k x v fits among r = record {
     here = fits.here;
     bound =
@@ -112,7 +112,7 @@ module _ (s : Site) (b : Body) (n : Value) where
   abbrev LoopsWithin : Body → Type 0
   LoopsWithin c = (l : LoopOver) → Contains (loops c) l → Contains (loops b) l
 
-  scene_asks : (e : Scene) (c : Body) (q : Question) → Fits e → UsesWithin c → LoopsWithin c → SceneAsks s e c q → BodyAsks s b n q
+  scene_asks : (e : Env) (c : Body) (q : Question) → Fits e → UsesWithin c → LoopsWithin c → SceneAsks s e c q → BodyAsks s b n q
   scene_asks e done q fits us ls h = absurd h
   scene_asks e (text t rest) q fits us ls h = scene_asks e rest q fits us ls h
   scene_asks e (format x m o rest) q fits us ls (inl (inl h)) =
@@ -191,7 +191,7 @@ formatted_embed s f (Link (Some word)) v ps m (inr (key, h)) c = absurd (no_embe
 formatted_embed s f Embed v ps m (inl (k, has, h)) c = ap template (sym (same_embed v m (subst (λ l. Contains l (embed m)) h c)))
 formatted_embed s f Embed v ps m (inr (none, h)) c = absurd (no_embed _ m (subst (λ l. Contains l (embed m)) h c))
 
-pub embed_asked : (s : Site) (f : TemplateFile) (e : Scene) (b : Body) (ps : List Item) (m : Value) → Expands s f e b ps → Contains ps (embed m) → SceneAsks s e b (template m)
+pub embed_asked : (s : Site) (f : TemplateFile) (e : Env) (b : Body) (ps : List Item) (m : Value) → Expands s f e b ps → Contains ps (embed m) → SceneAsks s e b (template m)
 embed_asked s f e done ps m h c = absurd (Contains-nil (embed m) (subst (λ l. Contains l (embed m)) h c))
 embed_asked s f e (text t rest) ps m (b, h, is) c =
     ⊎_elim (λ k. absurd (no_embed t m k)) (λ k. embed_asked s f e rest b m h k) (Contains-append_cases (bytes t) b (embed m) (subst (λ l. Contains l (embed m)) is c))

@@ -8,7 +8,7 @@ use Rattle.tmpl.specs.declared.Mode.{Mode}
 use Rattle.tmpl.specs.declared.Mode.TheVariants.{Plain, Embed, Link}
 use Rattle.tmpl.specs.declared.WordRoot.{WordRoot}
 use Rattle.tmpl.specs.declared.WordRoot.TheVariants.{Collection}
-use Rattle.page_spec.specs.Site.{Site, Scene, Starts, InRange}
+use Rattle.page_spec.specs.Site.{Site, Env, Starts, InRange}
 use Rattle.page_spec.specs.Pieces.{binding}
 use Rattle.page_spec.specs.Page.{Leads}
 use Rattle.page_spec.specs.Question.{Question, out, collected, template}
@@ -16,19 +16,20 @@ use Rattle.demand_spec.specs.Reads.{Name, Word, Passes, Presents, BodyAsks}
 
 -- the word, begun at a value with P, comes to u and has the label next
 abbrev pub WordAsks : Site → (Value → Type 0) → Word → Question → Type 0
-WordAsks s P word q = (u : Value) × (label : Name) × (q ≡ out u label) × ((w : Value) × P w × Passes s w word u label)
+WordAsks s P word q =
+    (u : Value) × (label : Name) × (q ≡ out u label) × ((w : Value) × P w × Passes s w word u label)
 
 abbrev pub RootAsks : WordRoot → Question → Type 0
 RootAsks root q = (c : Name) × (root ≡ Collection c) × (q ≡ collected c)
 
-abbrev pub RangeAsks : Site → Scene → Expr → Question → Type 0
+abbrev pub RangeAsks : Site → Env → Expr → Question → Type 0
 RangeAsks s e x q = RootAsks x.root q ⊎ WordAsks s (Starts s e x.root) x.word q
 
 abbrev pub KeyAsks : Site → Option Word → Value → Question → Type 0
 KeyAsks s None v q = ⊥
 KeyAsks s (Some word) v q = WordAsks s (λ w. v ≡ w) word q
 
-abbrev pub ArrangedAsks : Site → Scene → Expr → Order → Question → Type 0
+abbrev pub ArrangedAsks : Site → Env → Expr → Order → Question → Type 0
 ArrangedAsks s e x o q = RangeAsks s e x q ⊎ ((v : Value) × InRange s e x v × KeyAsks s o.key v q)
 
 abbrev pub ModeAsks : Site → Mode → Value → Question → Type 0
@@ -36,12 +37,17 @@ ModeAsks s Plain v q = ⊥
 ModeAsks s Embed v q = q ≡ template v
 ModeAsks s (Link word) v q = KeyAsks s word v q
 
-abbrev pub SceneAsks : Site → Scene → Body → Question → Type 0
+abbrev pub SceneAsks : Site → Env → Body → Question → Type 0
 SceneAsks s e done q = ⊥
 SceneAsks s e (text t rest) q = SceneAsks s e rest q
-SceneAsks s e (format x m o rest) q = (ArrangedAsks s e x o q ⊎ ((v : Value) × InRange s e x v × ModeAsks s m v q)) ⊎ SceneAsks s e rest q
-SceneAsks s e (choice negated x against taken other rest) q = (RangeAsks s e x q ⊎ (SceneAsks s e taken q ⊎ SceneAsks s e other q)) ⊎ SceneAsks s e rest q
-SceneAsks s e (repeat k x o body rest) q = (ArrangedAsks s e x o q ⊎ ((v : Value) × InRange s e x v × SceneAsks s (binding e k v) body q)) ⊎ SceneAsks s e rest q
+SceneAsks s e (format x m o rest) q =
+    (ArrangedAsks s e x o q ⊎ ((v : Value) × InRange s e x v × ModeAsks s m v q))
+    ⊎ SceneAsks s e rest q
+SceneAsks s e (choice negated x against taken other rest) q =
+    (RangeAsks s e x q ⊎ (SceneAsks s e taken q ⊎ SceneAsks s e other q)) ⊎ SceneAsks s e rest q
+SceneAsks s e (repeat k x o body rest) q =
+    (ArrangedAsks s e x o q ⊎ ((v : Value) × InRange s e x v × SceneAsks s (binding e k v) body q))
+    ⊎ SceneAsks s e rest q
 
 -- the template of n asks the question
 abbrev pub ValueAsks : Site → TemplateFile → Value → Question → Type 0

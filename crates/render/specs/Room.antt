@@ -17,7 +17,7 @@ own_length [] = 0
 own_length (byte b ∷ ps) = suc (own_length ps)
 own_length (embed v ∷ ps) = own_length ps
 
--- of the items, which stand beside n bytes of a page, all are kept, and `size` counts all these bytes, or more bytes are
+-- of the items, which are beside n bytes of a page, all are kept, and `size` counts all these bytes, or more bytes are
 -- there than a page may have, and what is kept embeds the same values
 abbrev pub Fits : ℕ → List Item → ℕ → List Item → Type 0
 Fits n ps size kept =
@@ -27,4 +27,5 @@ Fits n ps size kept =
 -- the items are put after those that were there
 abbrev pub Adds : Expansion → Expansion → List Item → Type 0
 Adds old new ps =
-    (n : ℕ) (qs : List Item) → Fits n qs old.size (items_of old.pieces.items) → Fits n (qs ++ ps) new.size (items_of new.pieces.items)
+    (n : ℕ) (qs : List Item) → Fits n qs old.size (items_of old.pieces.items)
+    → Fits n (qs ++ ps) new.size (items_of new.pieces.items)

@@ -16,7 +16,7 @@ pub struct Expansion {
 }
 
 impl Expansion {
-    /// No piece, beside so many bytes. It takes no memory.
+    /// No piece, beside this many bytes. It takes no memory.
     pub fn beside(alloc: Global, size: usize) -> Expansion
         ensures { Fits size [] result.size (items_of result.pieces.items) }
     {

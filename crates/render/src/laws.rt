@@ -8,6 +8,7 @@ use site_view::SiteView;
 
 /// A term has one outcome.
 pub fn one_outcome<V: SiteView>(_view: &V)
-    ensures { (t : Term) (o p : Outcome) → IsOutcome (V.site (V.fixed _view.now)) (V.templates (V.fixed _view.now)) t o
+    ensures { (t : Term) (o p : Outcome)
+        → IsOutcome (V.site (V.fixed _view.now)) (V.templates (V.fixed _view.now)) t o
         → IsOutcome (V.site (V.fixed _view.now)) (V.templates (V.fixed _view.now)) t p → o ≡ p }
 {}

@@ -40,7 +40,7 @@ pub struct Frame {
     least: usize,
 }
 
-/// Why no further piece is taken: none is left, the text of its value is made first, or its value stands in a frame
+/// Why no further piece is taken: none is left, the text of its value is made first, or its value is in a frame
 /// already.
 #[derive(Drop)]
 pub enum Taken {
@@ -49,7 +49,7 @@ pub enum Taken {
     Again(Value),
 }
 
-/// What stands next in a frame: bytes, a text that is known, a value whose text is made first, or one that stands in a
+/// What is next in a frame: bytes, a text that is known, a value whose text is made first, or one that is in a
 /// frame already.
 #[derive(Drop)]
 pub enum Next {
@@ -76,8 +76,12 @@ fn next_of(known: &BTreeMap<Value, Known>, piece: Piece) -> Next
 fn put(alloc: Global, frame: &mut Frame, text: Numbered) -> Result<(), NoMemory>
     ensures value { IfOk result (λ _. frame.new.value ≡ frame.old.value) }
     ensures left { IfOk result (λ _. frame.new.left.items ≡ frame.old.left.items) }
-    ensures draft { IfOk result (λ _. (ts : List (List ℕ)) (t u : List ℕ) → IsNumbered ts text u → IsDraft ts frame.old.draft t → IsDraft ts frame.new.draft (t ++ u)) }
-    ensures least { IfOk result (λ _. (ts : List (List ℕ)) (u : List ℕ) → IsNumbered ts text u → frame.new.least ≤ frame.old.least + length u) }
+    ensures draft { IfOk result
+        (λ _. (ts : List (List ℕ)) (t u : List ℕ) → IsNumbered ts text u
+        → IsDraft ts frame.old.draft t → IsDraft ts frame.new.draft (t ++ u)) }
+    ensures least { IfOk result
+        (λ _. (ts : List (List ℕ)) (u : List ℕ) → IsNumbered ts text u
+        → frame.new.least ≤ frame.old.least + length u) }
 {
     frame.draft.add_whole(alloc, text)?;
     let size = if text.size > PAGE_LIMIT {
@@ -99,8 +103,10 @@ fn take<V: SiteView>(
     ensures value { IfOk result (λ _. frame.new.value ≡ frame.old.value) }
     ensures taken { IfOk result (λ taken. (page : AnyValue) (cut : Bool) (ts : List (List ℕ))
         → AreKnown (V.site (V.fixed _view.now)) (V.templates (V.fixed _view.now)) cut ts known.now
-        → IsFrame (V.site (V.fixed _view.now)) (V.templates (V.fixed _view.now)) page cut ts frame.old
-        → IsTaken (V.site (V.fixed _view.now)) (V.templates (V.fixed _view.now)) page cut ts known.now frame.new taken) }
+        → IsFrame (V.site (V.fixed _view.now))
+        (V.templates (V.fixed _view.now)) page cut ts frame.old
+        → IsTaken (V.site (V.fixed _view.now))
+        (V.templates (V.fixed _view.now)) page cut ts known.now frame.new taken) }
 {
     while let Some(piece) = frame.left.pop() {
         match next_of(known, piece) {
@@ -116,7 +122,9 @@ fn take<V: SiteView>(
 /// Marks the value.
 fn mark(known: &mut BTreeMap<Value, Known>, value: Value, as_known: Known) -> Result<(), NoMemory>
     ensures marks { IfOk result (λ _. Marks value as_known known.old known.new) }
-    ensures count { IfOk result (λ _. btree_map_len known.new ≡ btree_map_len known.old + (if is_some (get value_cmp known.old value) then 0 else 1)) }
+    ensures count { IfOk result
+        (λ _. btree_map_len known.new
+        ≡ btree_map_len known.old + (if is_some (get value_cmp known.old value) then 0 else 1)) }
     ensures small { IfOk result (λ _. btree_map_len known.new < 2 ^ 63) }
 {
     known.insert(value, as_known)?;
@@ -128,15 +136,19 @@ fn mark(known: &mut BTreeMap<Value, Known>, value: Value, as_known: Known) -> Re
 fn resumed(alloc: Global, frame: Frame, text: Numbered) -> Result<Frame, NoMemory>
     ensures value { IfOk result (λ r. r.value ≡ frame.value) }
     ensures left { IfOk result (λ r. r.left.items ≡ frame.left.items) }
-    ensures draft { IfOk result (λ r. (ts : List (List ℕ)) (t u : List ℕ) → IsNumbered ts text u → IsDraft ts frame.draft t → IsDraft ts r.draft (t ++ u)) }
-    ensures least { IfOk result (λ r. (ts : List (List ℕ)) (u : List ℕ) → IsNumbered ts text u → r.least ≤ frame.least + length u) }
+    ensures draft { IfOk result
+        (λ r. (ts : List (List ℕ)) (t u : List ℕ) → IsNumbered ts text u → IsDraft ts frame.draft t
+        → IsDraft ts r.draft (t ++ u)) }
+    ensures least { IfOk result
+        (λ r. (ts : List (List ℕ)) (u : List ℕ) → IsNumbered ts text u
+        → r.least ≤ frame.least + length u) }
 {
     let mut frame = frame;
     put(alloc, &mut frame, text)?;
     Ok(frame)
 }
 
-/// The value with its pieces and no text yet, where it has a template. The page has so many bytes beside it at least.
+/// The value with its pieces and no text yet, where it has a template. The page has this many bytes beside it at least.
 fn frame_of<V: SiteView>(
     alloc: Global,
     view: &mut V,
@@ -148,10 +160,14 @@ fn frame_of<V: SiteView>(
     requires own { V.Own view.old }
     ensures own { V.Own view.new }
     ensures fixed { V.fixed view.new ≡ V.fixed view.old }
-    ensures kept { KeepsOnly (FrameAsks (V.site (V.fixed view.old)) (V.templates (V.fixed view.old)) value) (V.kept view.old) (V.kept view.new) }
+    ensures kept { KeepsOnly
+        (FrameAsks (V.site (V.fixed view.old)) (V.templates (V.fixed view.old)) value)
+        (V.kept view.old) (V.kept view.new) }
     ensures answer { IfOk result (λ r. MatchOption r
-        ((k : ℕ) → HasTemplate (V.site (V.fixed view.old)) (V.templates (V.fixed view.old)) value k → ⊥)
-        (λ r. IsBegun (V.site (V.fixed view.old)) (V.templates (V.fixed view.old)) beside value r)) }
+        ((k : ℕ) → HasTemplate (V.site (V.fixed view.old)) (V.templates (V.fixed view.old)) value k
+        → ⊥)
+        (λ r. IsBegun (V.site (V.fixed view.old))
+        (V.templates (V.fixed view.old)) beside value r)) }
 {
     match view.template_of(alloc, &value)? {
         None => Ok(None),
@@ -171,7 +187,7 @@ fn frame_of<V: SiteView>(
     }
 }
 
-/// Whether the page is too long, whatever stands beside the bytes that are counted in the frame.
+/// Whether the page is too long, whatever is beside the bytes that are counted in the frame.
 fn is_cut(frame: &Frame) -> bool
     ensures cut { result ≡ true → limits.PAGE_LIMIT < frame.now.least }
     ensures whole { result ≡ false → frame.now.least ≤ limits.PAGE_LIMIT }
@@ -194,9 +210,12 @@ fn outcome_of(
     drafts: &[Draft],
     text: Numbered,
 ) -> Result<Outcome, NoMemory>
-    requires { cut ≡ false → (ts : List (List ℕ)) × AreTexts drafts.now ts × (text.number < length ts) }
+    requires { cut ≡ false → (ts : List (List ℕ)) × AreTexts drafts.now ts
+        × (text.number < length ts) }
     ensures cut { IfOk result (λ o. cut ≡ true → o ≡ TooLong) }
-    ensures text { IfOk result (λ o. cut ≡ false → (ts : List (List ℕ)) (t : List ℕ) → AreTexts drafts.now ts → IsNumbered ts text t → IsText o t) }
+    ensures text { IfOk result
+        (λ o. cut ≡ false → (ts : List (List ℕ)) (t : List ℕ) → AreTexts drafts.now ts
+        → IsNumbered ts text t → IsText o t) }
 {
     if cut || text.size > PAGE_LIMIT {
         return Ok(Outcome::TooLong);
@@ -214,12 +233,16 @@ fn run<V: SiteView>(
     frame: Frame,
 ) -> Result<Outcome, NoMemory>
     requires file { file_of templates.now ≡ V.templates (V.fixed view.old) }
-    requires frame { IsBegun (V.site (V.fixed view.old)) (V.templates (V.fixed view.old)) 0 frame.value frame }
+    requires frame { IsBegun (V.site (V.fixed view.old))
+        (V.templates (V.fixed view.old)) 0 frame.value frame }
     requires own { V.Own view.old }
     ensures own { V.Own view.new }
     ensures fixed { V.fixed view.new ≡ V.fixed view.old }
-    ensures kept { KeepsOnly (LedAsks (V.site (V.fixed view.old)) (V.templates (V.fixed view.old)) frame.value) (V.kept view.old) (V.kept view.new) }
-    ensures answer { IfOk result (λ o. IsFinal (V.site (V.fixed view.old)) (V.templates (V.fixed view.old)) frame.value o) }
+    ensures kept { KeepsOnly
+        (LedAsks (V.site (V.fixed view.old)) (V.templates (V.fixed view.old)) frame.value)
+        (V.kept view.old) (V.kept view.new) }
+    ensures answer { IfOk result
+        (λ o. IsFinal (V.site (V.fixed view.old)) (V.templates (V.fixed view.old)) frame.value o) }
 {
     let mut known = BTreeMap::new(alloc);
     mark(&mut known, copy(alloc, &frame.value)?, Known::Open)?;
@@ -272,8 +295,11 @@ pub fn render<V: SiteView>(
     requires own { V.Own view.old }
     ensures own { V.Own view.new }
     ensures fixed { V.fixed view.new ≡ V.fixed view.old }
-    ensures kept { KeepsOnly (MayAsk (V.site (V.fixed view.old)) (V.templates (V.fixed view.old)) term.now) (V.kept view.old) (V.kept view.new) }
-    ensures answer { IfOk result (λ o. IsOutcome (V.site (V.fixed view.old)) (V.templates (V.fixed view.old)) term.now o) }
+    ensures kept { KeepsOnly
+        (MayAsk (V.site (V.fixed view.old)) (V.templates (V.fixed view.old)) term.now)
+        (V.kept view.old) (V.kept view.new) }
+    ensures answer { IfOk result
+        (λ o. IsOutcome (V.site (V.fixed view.old)) (V.templates (V.fixed view.old)) term.now o) }
 {
     if !view.in_site(alloc, term)? {
         return Ok(Outcome::Missing);

@@ -64,8 +64,12 @@ fn formatted<V: SiteView>(
     requires own { V.Own view.old }
     ensures own { V.Own view.new }
     ensures fixed { V.fixed view.new ≡ V.fixed view.old }
-    ensures kept { KeepsOnly (ModeAsks (V.site (V.fixed view.old)) mode.now value.now) (V.kept view.old) (V.kept view.new) }
-    ensures answer { IfOk result (λ _. (ps : List Item) × Formatted (V.site (V.fixed view.old)) (V.templates (V.fixed view.old)) mode.now value.now ps × Adds out.old out.new ps) }
+    ensures kept { KeepsOnly (ModeAsks (V.site (V.fixed view.old)) mode.now value.now)
+        (V.kept view.old) (V.kept view.new) }
+    ensures answer { IfOk result
+        (λ _. (ps : List Item)
+        × Formatted (V.site (V.fixed view.old))
+        (V.templates (V.fixed view.old)) mode.now value.now ps × Adds out.old out.new ps) }
 {
     match mode {
         Mode::Plain => add_plain(alloc, value, out),
@@ -80,14 +84,16 @@ fn formatted<V: SiteView>(
     }
 }
 
-/// What stands before the item of this number.
+/// What is before the item of this number.
 fn separator(
     alloc: Global,
     delimiter: &Option<Str>,
     number: usize,
     out: &mut Expansion,
 ) -> Result<(), NoMemory>
-    ensures { IfOk result (λ _. Adds out.old out.new (if nat_lt 0 number then delimiter_items delimiter.now else [])) }
+    ensures { IfOk result
+        (λ _. Adds out.old out.new
+        (if nat_lt 0 number then delimiter_items delimiter.now else [])) }
 {
     match delimiter {
         Some(text) if number > 0 => add_copy(alloc, text, out),
@@ -107,9 +113,12 @@ fn all_formatted<V: SiteView>(
     requires own { V.Own view.old }
     ensures own { V.Own view.new }
     ensures fixed { V.fixed view.new ≡ V.fixed view.old }
-    ensures kept { KeepsOnly (λ q. (v : Value) × Contains values.now v × ModeAsks (V.site (V.fixed view.old)) mode.now v q) (V.kept view.old) (V.kept view.new) }
+    ensures kept { KeepsOnly
+        (λ q. (v : Value) × Contains values.now v
+        × ModeAsks (V.site (V.fixed view.old)) mode.now v q) (V.kept view.old) (V.kept view.new) }
     ensures answer { IfOk result (λ _. (ps : List Item) × Joined
-        (Formatted (V.site (V.fixed view.old)) (V.templates (V.fixed view.old)) mode.now) (delimiter_items delimiter.now) values.now ps × Adds out.old out.new ps) }
+        (Formatted (V.site (V.fixed view.old)) (V.templates (V.fixed view.old)) mode.now)
+        (delimiter_items delimiter.now) values.now ps × Adds out.old out.new ps) }
 {
     for (number, value) in values.iter().enumerate() {
         separator(alloc, delimiter, number, out)?;
@@ -131,7 +140,10 @@ fn within(
     number: u32,
     value: &Value,
 ) -> Result<Vec<Bound>, NoMemory>
-    ensures { IfOk result (λ bs. bs.items ≡ record { number = number; value = value.now } ∷ loops.now) }
+    ensures { IfOk result (λ bs. bs.items ≡ record {
+      number = number;
+      value = value.now;
+    } ∷ loops.now) }
 {
     let mut inner = Vec::new(alloc);
     let value = copy(alloc, value)?;
@@ -159,9 +171,17 @@ pub fn expand<V: SiteView>(
     requires own { V.Own view.old }
     ensures own { V.Own view.new }
     ensures fixed { V.fixed view.new ≡ V.fixed view.old }
-    ensures kept { KeepsOnly (SceneAsks (V.site (V.fixed view.old)) record { here = here.now; loops = loops.now } (body_of parts.now)) (V.kept view.old) (V.kept view.new) }
-    ensures answer { IfOk result (λ _. (ps : List Item) × Expands (V.site (V.fixed view.old)) (V.templates (V.fixed view.old))
-        record { here = here.now; loops = loops.now } (body_of parts.now) ps × Adds out.old out.new ps) }
+    ensures kept { KeepsOnly (SceneAsks (V.site (V.fixed view.old)) record {
+      here = here.now;
+      loops = loops.now;
+    } (body_of parts.now)) (V.kept view.old) (V.kept view.new) }
+    ensures answer { IfOk result
+        (λ _. (ps : List Item)
+        × Expands (V.site (V.fixed view.old)) (V.templates (V.fixed view.old))
+        record {
+          here = here.now;
+          loops = loops.now;
+        } (body_of parts.now) ps × Adds out.old out.new ps) }
 {
     for part in parts {
         expand_part(alloc, view, here, loops, part, out)?;
@@ -181,8 +201,13 @@ fn expand_part<V: SiteView>(
     requires own { V.Own view.old }
     ensures own { V.Own view.new }
     ensures fixed { V.fixed view.new ≡ V.fixed view.old }
-    ensures kept { KeepsOnly (SceneAsks (V.site (V.fixed view.old)) record { here = here.now; loops = loops.now } (part_before part.now done)) (V.kept view.old) (V.kept view.new) }
-    ensures answer { IfOk result (λ _. (ps : List Item) × PartExpands (V.site (V.fixed view.old)) (V.templates (V.fixed view.old))
+    ensures kept { KeepsOnly (SceneAsks (V.site (V.fixed view.old)) record {
+      here = here.now;
+      loops = loops.now;
+    } (part_before part.now done)) (V.kept view.old) (V.kept view.new) }
+    ensures answer { IfOk result
+        (λ _. (ps : List Item)
+        × PartExpands (V.site (V.fixed view.old)) (V.templates (V.fixed view.old))
         record { here = here.now; loops = loops.now } part.now ps × Adds out.old out.new ps) }
 {
     match part {

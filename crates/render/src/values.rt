@@ -27,9 +27,11 @@ fn step<V: SiteView>(
     requires own { V.Own view.old }
     ensures own { V.Own view.new }
     ensures fixed { V.fixed view.new ≡ V.fixed view.old }
-    ensures kept { KeepsOnly (λ q. (u : Value) × Contains from.now u × (q ≡ asks_out u label.now)) (V.kept view.old) (V.kept view.new) }
+    ensures kept { KeepsOnly (λ q. (u : Value) × Contains from.now u × (q ≡ asks_out u label.now))
+        (V.kept view.old) (V.kept view.new) }
     ensures answer { IfOk result (λ vs. ListsExactly value_cmp
-        (λ v. (m : Value) × Contains from.now m × (V.site (V.fixed view.old)).edge m label.now v) vs.items) }
+        (λ v. (m : Value) × Contains from.now m × (V.site (V.fixed view.old)).edge m label.now v)
+        vs.items) }
 {
     let mut ends = Vec::new(alloc);
     for value in from {
@@ -50,9 +52,11 @@ pub fn reached<V: SiteView>(
     requires own { V.Own view.old }
     ensures own { V.Own view.new }
     ensures fixed { V.fixed view.new ≡ V.fixed view.old }
-    ensures kept { KeepsOnly (WordAsks (V.site (V.fixed view.old)) (Contains from.items) word.now) (V.kept view.old) (V.kept view.new) }
+    ensures kept { KeepsOnly (WordAsks (V.site (V.fixed view.old)) (Contains from.items) word.now)
+        (V.kept view.old) (V.kept view.new) }
     ensures answer { IfOk result (λ vs. ListsExactly value_cmp
-        (λ v. (u : Value) × Contains from.items u × Reaches (V.site (V.fixed view.old)) u word.now v) vs.items) }
+        (λ v. (u : Value) × Contains from.items u
+        × Reaches (V.site (V.fixed view.old)) u word.now v) vs.items) }
 {
     let mut at = from;
     sort_and_dedup(&mut at);
@@ -75,7 +79,10 @@ fn starts<V: SiteView>(
     ensures fixed { V.fixed view.new ≡ V.fixed view.old }
     ensures kept { KeepsOnly (RootAsks root.now) (V.kept view.old) (V.kept view.new) }
     ensures answer { IfOk result (λ us. (v : Value) → Contains us.items v
-        ↔ Starts (V.site (V.fixed view.old)) record { here = here.now; loops = loops.now } root.now v) }
+        ↔ Starts (V.site (V.fixed view.old)) record {
+          here = here.now;
+          loops = loops.now;
+        } root.now v) }
 {
     match root {
         WordRoot::Here => alone(alloc, here),
@@ -100,7 +107,8 @@ fn alone(alloc: Global, value: &Value) -> Result<Vec<Value>, NoMemory>
 
 /// The value of the innermost loop of the number.
 fn bound(loops: &[Bound], number: u32) -> Option<&Value>
-    ensures { MatchOption result ((v : Value) → IsBound loops.now number v → ⊥) (λ v. IsBound loops.now number v.now) }
+    ensures { MatchOption result ((v : Value) → IsBound loops.now number v → ⊥)
+        (λ v. IsBound loops.now number v.now) }
 {
     for inner in loops {
         if inner.number == number {
@@ -121,9 +129,15 @@ pub fn range<V: SiteView>(
     requires own { V.Own view.old }
     ensures own { V.Own view.new }
     ensures fixed { V.fixed view.new ≡ V.fixed view.old }
-    ensures kept { KeepsOnly (RangeAsks (V.site (V.fixed view.old)) record { here = here.now; loops = loops.now } expr.now) (V.kept view.old) (V.kept view.new) }
+    ensures kept { KeepsOnly (RangeAsks (V.site (V.fixed view.old)) record {
+      here = here.now;
+      loops = loops.now;
+    } expr.now) (V.kept view.old) (V.kept view.new) }
     ensures answer { IfOk result (λ vs. ListsExactly value_cmp
-        (InRange (V.site (V.fixed view.old)) record { here = here.now; loops = loops.now } expr.now) vs.items) }
+        (InRange (V.site (V.fixed view.old)) record {
+          here = here.now;
+          loops = loops.now;
+        } expr.now) vs.items) }
 {
     let from = starts(alloc, view, here, loops, &expr.root)?;
     let values = reached(alloc, view, from, expr.word.labels())?;
@@ -140,7 +154,8 @@ pub fn key<V: SiteView>(
     requires own { V.Own view.old }
     ensures own { V.Own view.new }
     ensures fixed { V.fixed view.new ≡ V.fixed view.old }
-    ensures kept { KeepsOnly (KeyAsks (V.site (V.fixed view.old)) word.now value.now) (V.kept view.old) (V.kept view.new) }
+    ensures kept { KeepsOnly (KeyAsks (V.site (V.fixed view.old)) word.now value.now)
+        (V.kept view.old) (V.kept view.new) }
     ensures answer { IfOk result (λ k. HasKey (V.site (V.fixed view.old)) word.now value.now k) }
 {
     match word {
@@ -154,7 +169,8 @@ pub fn key<V: SiteView>(
 }
 
 fn first(mut values: Vec<Value>) -> Option<Value>
-    ensures { MatchOption result (values.items ≡ []) (λ v. (vs : List Value) × (values.items ≡ v ∷ vs)) }
+    ensures { MatchOption result (values.items ≡ [])
+        (λ v. (vs : List Value) × (values.items ≡ v ∷ vs)) }
 {
     if values.is_empty() {
         None
@@ -175,9 +191,15 @@ pub fn holds<V: SiteView>(
     requires own { V.Own view.old }
     ensures own { V.Own view.new }
     ensures fixed { V.fixed view.new ≡ V.fixed view.old }
-    ensures kept { KeepsOnly (RangeAsks (V.site (V.fixed view.old)) record { here = here.now; loops = loops.now } expr.now) (V.kept view.old) (V.kept view.new) }
+    ensures kept { KeepsOnly (RangeAsks (V.site (V.fixed view.old)) record {
+      here = here.now;
+      loops = loops.now;
+    } expr.now) (V.kept view.old) (V.kept view.new) }
     ensures answer { IfOk result (λ r. IsTrue r
-        ↔ Holds (V.site (V.fixed view.old)) record { here = here.now; loops = loops.now } expr.now against.now) }
+        ↔ Holds (V.site (V.fixed view.old)) record {
+          here = here.now;
+          loops = loops.now;
+        } expr.now against.now) }
 {
     let values = range(alloc, view, here, loops, expr)?;
     match against {
@@ -196,7 +218,9 @@ fn has_any(values: Vec<Value>) -> bool
 }
 
 fn any_compares(values: &[Value], against: &Against) -> bool
-    ensures { IsTrue result ↔ ((v : Value) × Contains values.now v × Compares against.now.compare v against.now.constant) }
+    ensures { IsTrue result
+        ↔ ((v : Value) × Contains values.now v × Compares against.now.compare v
+        against.now.constant) }
 {
     for value in values {
         if compares(&against.compare, value, &against.constant) {
@@ -218,8 +242,14 @@ pub fn arranged<V: SiteView>(
     requires own { V.Own view.old }
     ensures own { V.Own view.new }
     ensures fixed { V.fixed view.new ≡ V.fixed view.old }
-    ensures kept { KeepsOnly (ArrangedAsks (V.site (V.fixed view.old)) record { here = here.now; loops = loops.now } expr.now order.now) (V.kept view.old) (V.kept view.new) }
-    ensures answer { IfOk result (λ vs. Arranged (V.site (V.fixed view.old)) record { here = here.now; loops = loops.now } expr.now order.now vs.items) }
+    ensures kept { KeepsOnly (ArrangedAsks (V.site (V.fixed view.old)) record {
+      here = here.now;
+      loops = loops.now;
+    } expr.now order.now) (V.kept view.old) (V.kept view.new) }
+    ensures answer { IfOk result (λ vs. Arranged (V.site (V.fixed view.old)) record {
+      here = here.now;
+      loops = loops.now;
+    } expr.now order.now vs.items) }
 {
     let values = range(alloc, view, here, loops, expr)?;
     let rows = with_keys(alloc, view, values.as_slice(), &order.key)?;
@@ -246,9 +276,12 @@ fn with_keys<V: SiteView>(
     requires own { V.Own view.old }
     ensures own { V.Own view.new }
     ensures fixed { V.fixed view.new ≡ V.fixed view.old }
-    ensures kept { KeepsOnly (λ q. (v : Value) × Contains values.now v × KeyAsks (V.site (V.fixed view.old)) word.now v q) (V.kept view.old) (V.kept view.new) }
+    ensures kept { KeepsOnly
+        (λ q. (v : Value) × Contains values.now v
+        × KeyAsks (V.site (V.fixed view.old)) word.now v q) (V.kept view.old) (V.kept view.new) }
     ensures answer { IfOk result (λ rows. ListsExactly keyed_cmp
-        (λ r. (v : Value) × Contains values.now v × HasRow (V.site (V.fixed view.old)) word.now v r) rows.items) }
+        (λ r. (v : Value) × Contains values.now v
+        × HasRow (V.site (V.fixed view.old)) word.now v r) rows.items) }
 {
     let mut rows = Vec::new(alloc);
     for value in values {

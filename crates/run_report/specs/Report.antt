@@ -1,4 +1,4 @@
--- The exit code of a status, and the line that tells it.
+-- The exit code of a status, and the line that reports it.
 use Rattle.std.specs.Prelude.{◌==◌, ℕ, List, [], ◌++◌, codes, if◌then◌else◌, ⊤}
 use Rattle.std.specs.Fmt.{decimal}
 use Rattle.page_spec.specs.Show.{show, address}
@@ -76,16 +76,20 @@ shown (Row row) = codes "row " ++ decimal row
 shown (Column column) = codes "column " ++ decimal column
 shown (Path path) = codes "#" ++ path
 
+-- why a page has no text or no file
 abbrev pub page_fault : PageKind → List ℕ
 page_fault (Cyclic value) = codes "cyclic embedding at " ++ show value
 page_fault TooLong = codes "too long"
 page_fault LongName = codes "name too long"
 
+-- what the line of a status says
 abbrev pub message : Status → List ℕ
 message Ok = []
 message NotAllYes = []
 message Usage = codes "bad command line"
-message (Refused file number place) = file ++ codes ": " ++ decimal number ++ codes " " ++ refusal_name number ++ codes " at " ++ shown place
+message (Refused file number place) =
+    file ++ codes ": " ++ decimal number ++ codes " " ++ refusal_name number
+    ++ codes " at " ++ shown place
 message (ReadFault path) = codes "cannot read " ++ path
 message WriteFault = codes "cannot write"
 message WireFault = codes "connection source failed"

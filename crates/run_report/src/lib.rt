@@ -1,4 +1,4 @@
-//! How a run ends, and the line that tells it on the standard error.
+//! How a run ends, and the line that reports it on the standard error.
 #![tactic(auto)]
 
 mod lines;

@@ -1,4 +1,4 @@
-// The line that tells a status.
+// The line that reports a status.
 ghost use Rattle.std.specs.Prelude.{◌≡◌, ◌≤◌, ◌⊎◌, ◌++◌, OnOk, IfOk, IfSome, IsSome, codes};
 ghost use Rattle.std.specs.Fmt.{decimal};
 ghost use Rattle.edge_io.specs.Counts.{Rose};
@@ -132,7 +132,9 @@ fn add_refusal(
     number: u32,
     place: &Place,
 ) -> Result<(), NoMemory>
-    ensures { OnOk result (text.new.items ≡ text.old.items ++ file.now ++ codes ": " ++ decimal number ++ codes " " ++ specs.refusal_name number ++ codes " at " ++ shown place.now) }
+    ensures { OnOk result (text.new.items
+        ≡ text.old.items ++ file.now ++ codes ": " ++ decimal number ++ codes " "
+        ++ specs.refusal_name number ++ codes " at " ++ shown place.now) }
 {
     add(text, file.bytes())?;
     add(text, b": ")?;
@@ -170,7 +172,8 @@ fn add_message(alloc: Global, text: &mut Vec<u8>, status: &Status) -> Result<(),
 }
 
 fn status_line(alloc: Global, status: &Status) -> Result<Vec<u8>, NoMemory>
-    ensures { IfOk result (λ text. text.items ≡ codes "strudel: " ++ message status.now ++ codes "\n") }
+    ensures { IfOk result (λ text. text.items
+        ≡ codes "strudel: " ++ message status.now ++ codes "\n") }
 {
     let mut text = Vec::new(alloc);
     add(&mut text, b"strudel: ")?;
@@ -200,7 +203,8 @@ fn fixed_line(status: &Status) -> Option<&'static [u8]>
 
 // Nothing is put where there is no line.
 fn put_line<E: Sink>(text: &[u8], err: &mut E)
-    ensures whole { ¬ Rose (E.failed err.old) (E.failed err.new) → Gains (E.text err.old) (E.text err.new) text.now }
+    ensures whole { ¬ Rose (E.failed err.old) (E.failed err.new)
+        → Gains (E.text err.old) (E.text err.new) text.now }
     ensures part { GainsPart (E.text err.old) (E.text err.new) text.now }
     ensures later { E.failed err.old ≤ E.failed err.new }
 {
@@ -209,11 +213,12 @@ fn put_line<E: Sink>(text: &[u8], err: &mut E)
     }
 }
 
-/// Writes the line of a status. Where memory is missing for it, the status is want of memory.
+/// Writes the line of a status. Where memory is missing for it, the status is out of memory.
 pub fn report<E: Sink>(alloc: Global, status: Status, err: &mut E) -> Status
     ensures status { (result ≡ status) ⊎ (result ≡ Status.NoMemory) }
     ensures fixed { IsFixed status → result ≡ status }
-    ensures whole { ¬ Rose (E.failed err.old) (E.failed err.new) → Gains (E.text err.old) (E.text err.new) (line result) }
+    ensures whole { ¬ Rose (E.failed err.old) (E.failed err.new)
+        → Gains (E.text err.old) (E.text err.new) (line result) }
     ensures part { GainsPart (E.text err.old) (E.text err.new) (line result) }
     ensures later { E.failed err.old ≤ E.failed err.new }
 {

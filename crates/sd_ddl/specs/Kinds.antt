@@ -3,15 +3,13 @@ use Rattle.std.specs.Prelude.{ℕ, Bool, ◌&&◌, not, List, [], ◌∷◌, if�
 use Rattle.std.specs.List.{flat_map, list_all, list_any}
 use Rattle.std.specs.Ordering.{eq_by_cmp}
 use Rattle.sd_value.specs.Order.{bytes_cmp}
+pub use Rattle.sd_value.specs.Names.{Name}
 use Rattle.ddl_text.specs.declared.tree.Kind.{Kind}
 use Rattle.ddl_text.specs.declared.tree.Kind.TheVariants as kinds
 use Rattle.sd_ddl.specs.declared.part.Part.{Part}
 use Rattle.sd_ddl.specs.declared.part.Part.TheVariants.{Gives, Node, Member, Edge}
 use Rattle.sd_ddl.specs.declared.kinds.Told.{Told}
 use Rattle.sd_ddl.specs.declared.kinds.Told.TheVariants.{Nothing, One, Several}
-
-abbrev pub Name : Type 0
-Name = List ℕ
 
 abbrev pub same_name : Name → Name → Bool
 same_name = eq_by_cmp bytes_cmp
@@ -25,7 +23,9 @@ abbrev pub same_kind : Kind → Kind → Bool
 same_kind k j = nat_eq (kind_number k) (kind_number j)
 
 abbrev pub given_by : Name → Name → Part → List Kind
-given_by collection attribute (Gives g) = if same_name g.collection collection && same_name g.attribute attribute then g.kind.kind ∷ [] else []
+given_by collection attribute (Gives g) =
+    if same_name g.collection collection && same_name g.attribute attribute then g.kind.kind
+    ∷ [] else []
 given_by collection attribute (Node n) = []
 given_by collection attribute (Member c n) = []
 given_by collection attribute (Edge o l v) = []

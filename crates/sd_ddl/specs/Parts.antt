@@ -10,7 +10,8 @@ use Rattle.sd_ddl.specs.declared.part.Part.{Part}
 use Rattle.sd_ddl.specs.declared.part.Part.TheVariants.{Gives, Node, Member, Edge}
 
 abbrev pub kind_part : List ℕ → Entry → Part
-kind_part collection entry = Gives (record { collection = collection; attribute = entry.name.text; kind = entry.kind })
+kind_part collection entry =
+    Gives (record { collection = collection; attribute = entry.name.text; kind = entry.kind })
 
 abbrev pub member_part : List ℕ → Word → Part
 member_part object collection = Member collection object
@@ -21,7 +22,8 @@ edge_part object field = Edge object field.name.text field.value
 -- a directive gives kinds. An object is a node, then in its collections, and then has its attributes
 abbrev pub parts_of : Statement → List Part
 parts_of (Collection name entries) = map (kind_part name.text) entries
-parts_of (Object name collections fields) = Node name ∷ (map (member_part name.text) collections ++ map (edge_part name.text) fields)
+parts_of (Object name collections fields) =
+    Node name ∷ (map (member_part name.text) collections ++ map (edge_part name.text) fields)
 
 abbrev pub parts : List Statement → List Part
 parts = flat_map parts_of

@@ -17,11 +17,13 @@ use Rattle.sd_ddl.specs.Stops.{Takes}
 
 -- the text's tokens spell these statements
 abbrev pub Spells : ℕ → List ℕ → List Statement → Type 0
-Spells limit bytes statements = (tokens : List Token) × IsTextOrFault limit bytes (Ok tokens) × file tokens statements
+Spells limit bytes statements =
+    (tokens : List Token) × IsTextOrFault limit bytes (Ok tokens) × file tokens statements
 
 -- the text spells statements, and taking them ends so
 abbrev pub Follows : ℕ → List ℕ → Building → Building → Result ⊤ Stop → Type 0
-Follows limit bytes b c r = (statements : List Statement) × Spells limit bytes statements × Takes (parts statements) b c r
+Follows limit bytes b c r =
+    (statements : List Statement) × Spells limit bytes statements × Takes (parts statements) b c r
 
 -- a text that spells no statements leaves the graph as it was
 abbrev pub IsNoText : ℕ → List ℕ → Building → Building → TextRefusal → Type 0
@@ -34,9 +36,12 @@ Reads limit bytes b c (Err (BadByte at)) = IsNoText limit bytes b c (text.BadByt
 Reads limit bytes b c (Err (OpenString at)) = IsNoText limit bytes b c (text.OpenString at)
 Reads limit bytes b c (Err (IntOutOfRange at)) = IsNoText limit bytes b c (text.IntOutOfRange at)
 Reads limit bytes b c (Err (Expected at)) = IsNoText limit bytes b c (text.Expected at)
-Reads limit bytes b c (Err (KindConflict at)) = Follows limit bytes b c (Err (stops.KindConflict at))
-Reads limit bytes b c (Err (TooManyEdges at)) = Follows limit bytes b c (Err (stops.TooManyEdges at))
-Reads limit bytes b c (Err (TooManyNodes at)) = Follows limit bytes b c (Err (stops.TooManyNodes at))
+Reads limit bytes b c (Err (KindConflict at)) =
+    Follows limit bytes b c (Err (stops.KindConflict at))
+Reads limit bytes b c (Err (TooManyEdges at)) =
+    Follows limit bytes b c (Err (stops.TooManyEdges at))
+Reads limit bytes b c (Err (TooManyNodes at)) =
+    Follows limit bytes b c (Err (stops.TooManyNodes at))
 Reads limit bytes b c (Err NoMemory) = (c ≡ b) ⊎ Follows limit bytes b c (Err stops.NoMemory)
 
 abbrev pub of_text : TextRefusal → DdlRefusal

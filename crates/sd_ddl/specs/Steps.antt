@@ -20,7 +20,7 @@ kinded kinds.Text s = Data (datum.Text s)
 kinded kinds.Url s = Data (datum.Url s)
 kinded kinds.File s = Data (datum.File s)
 
--- a text without a kind has the one that is told, else it is a Text. With two kinds it is no value
+-- a text without a kind has the one that is reported, else it is a Text. With two kinds it is no value
 abbrev pub plain_value : Told → Name → Option Value
 plain_value Nothing s = Some (Data (datum.Text s))
 plain_value (One k) s = Some (kinded k s)
@@ -37,7 +37,7 @@ abbrev pub edge_steps : ℕ → Name → Name → Option Value → List (Step �
 edge_steps place object label (Some v) = says place (an_edge object label v) ∷ []
 edge_steps place object label None = fails place ∷ []
 
--- what a part states. The kinds are those that the whole text tells
+-- what a part states. The kinds are those that the whole text reports
 abbrev pub said : (Name → Name → Told) → Part → List (Step ℕ ℕ)
 said kinds (Gives g) = []
 said kinds (Node n) = says n.place (a_node n.text) ∷ []
@@ -46,7 +46,9 @@ said kinds (Edge o l v) = edge_steps v.place o l (value_of (kinds o l) v.content
 
 -- a kind that differs from one that an earlier entry gave fails at its place; any other part states what it states
 abbrev pub steps_of : (Name → Name → Told) → List Part → Part → List (Step ℕ ℕ)
-steps_of kinds front (Gives g) = if differs (given front g.collection g.attribute) g.kind.kind then fails g.kind.place ∷ [] else []
+steps_of kinds front (Gives g) =
+    if differs (given front g.collection g.attribute) g.kind.kind then fails g.kind.place
+    ∷ [] else []
 steps_of kinds front (Node n) = said kinds (Node n)
 steps_of kinds front (Member c n) = said kinds (Member c n)
 steps_of kinds front (Edge o l v) = said kinds (Edge o l v)
@@ -56,7 +58,7 @@ abbrev pub steps_from : (Name → Name → Told) → List Part → List Part →
 steps_from kinds front [] = []
 steps_from kinds front (p ∷ ps) = steps_of kinds front p ++ steps_from kinds (front ++ p ∷ []) ps
 
--- the kinds that the whole text tells
+-- the kinds that the whole text reports
 abbrev pub kinds_told : List Part → Name → Name → Told
 kinds_told parts object attribute = told (kinds_of parts object attribute)
 

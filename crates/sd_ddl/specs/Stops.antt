@@ -19,10 +19,12 @@ NoFails [] = ⊤
 NoFails (says p s ∷ steps) = NoFails steps
 NoFails (fails f ∷ steps) = ⊥
 
--- the first conflict: what stands before it is stated
+-- the first conflict: what is before it is stated
 abbrev pub IsFirst : List Part → Option Conflict → Type 0
-IsFirst parts None = (steps parts ≡ all_said (kinds_told parts) parts) × NoFails (all_said (kinds_told parts) parts)
-IsFirst parts (Some c) = (c.count ≤ length parts) × NoFails (all_said (kinds_told parts) (take c.count parts))
+IsFirst parts None =
+    (steps parts ≡ all_said (kinds_told parts) parts) × NoFails (all_said (kinds_told parts) parts)
+IsFirst parts (Some c) =
+    (c.count ≤ length parts) × NoFails (all_said (kinds_told parts) (take c.count parts))
     × ((rest : List (Step ℕ ℕ)) × (steps parts ≡ all_said (kinds_told parts) (take c.count parts) ++ (fails c.place ∷ rest)))
 
 abbrev pub stop_ending : Result ⊤ Stop → Ending ℕ ℕ
@@ -35,7 +37,8 @@ stop_ending (Err NoMemory) = no_memory
 -- the steps end as the answer says. After a conflict the graph is as it was
 abbrev pub Takes : List Part → Building → Building → Result ⊤ Stop → Type 0
 Takes parts b c (Ok u) = Ends b (steps parts) c done
-Takes parts b c (Err (KindConflict at)) = (c ≡ b) × ((d : Building) × Ends b (steps parts) d (fault at))
+Takes parts b c (Err (KindConflict at)) =
+    (c ≡ b) × ((d : Building) × Ends b (steps parts) d (fault at))
 Takes parts b c (Err (TooManyNodes at)) = Ends b (steps parts) c (too_many_nodes at)
 Takes parts b c (Err (TooManyEdges at)) = Ends b (steps parts) c (too_many_edges at)
 Takes parts b c (Err NoMemory) = Ends b (steps parts) c no_memory

@@ -16,7 +16,7 @@ use Rattle.sd_ddl.specs.declared.kinds.Kinds.{Kinds}
 use Rattle.sd_ddl.specs.declared.collections.Collections.{Collections}
 use Rattle.sd_ddl.specs.Kinds.{Name, same_kind, given, collections, kinds_of, told}
 
--- what two tell together
+-- what two report together
 abbrev pub both : Told → Told → Told
 both Nothing t = t
 both (One k) Nothing = One k
@@ -37,7 +37,8 @@ or_nothing (Some t) = t
 or_nothing None = Nothing
 
 abbrev pub told_in : Givings → Name → Name → Told
-told_in givings collection attribute = or_nothing (get pair_cmp givings.told (collection, attribute))
+told_in givings collection attribute =
+    or_nothing (get pair_cmp givings.told (collection, attribute))
 
 abbrev pub names_in : Option (BTreeSet (List ℕ)) → List Name
 names_in (Some names) = names.keys
@@ -55,21 +56,24 @@ insert_all names (n ∷ ns) = insert_all (insert_key bytes_cmp names n) ns
 abbrev pub HasGivings : List Part → Givings → Type 0
 HasGivings parts table = (c a : Name) → told_in table c a ≡ told (given parts c a)
 
--- the table has the collections that these parts tell
+-- the table has the collections that these parts report
 abbrev pub HasCollections : List Part → Collections → Type 0
 HasCollections parts table = (o : Name) → names_of table o ≡ insert_all [] (collections parts o)
 
--- what is told of each of the names, one after another
+-- what is reported of each of the names, one after another
 abbrev pub tell : (Name → Told) → Told → List Name → Told
 tell f t [] = t
 tell f t (n ∷ ns) = tell f (both t (f n)) ns
 
 abbrev pub told_of : Kinds → Name → Name → Told
-told_of kinds object attribute = tell (λ c. told_in kinds.givings c attribute) Nothing (names_of kinds.collections object)
+told_of kinds object attribute =
+    tell (λ c. told_in kinds.givings c attribute) Nothing (names_of kinds.collections object)
 
--- the tables tell of each object's attributes what these parts tell
+-- the tables report of each object's attributes what these parts report
 abbrev pub Knows : List Part → Kinds → Type 0
-Knows parts kinds = (object attribute : Name) → told_of kinds object attribute ≡ told (kinds_of parts object attribute)
+Knows parts kinds =
+    (object attribute : Name)
+    → told_of kinds object attribute ≡ told (kinds_of parts object attribute)
 
 abbrev pub has_two_kinds : Told → Content → Bool
 has_two_kinds t (contents.Number n) = false
@@ -79,7 +83,8 @@ has_two_kinds t (contents.Node n) = false
 
 -- whether the part is a conflict, by the tables
 abbrev pub is_conflict : Givings → Kinds → Part → Bool
-is_conflict seen kinds (Gives g) = is_several (both (told_in seen g.collection g.attribute) (One g.kind.kind))
+is_conflict seen kinds (Gives g) =
+    is_several (both (told_in seen g.collection g.attribute) (One g.kind.kind))
 is_conflict seen kinds (Node n) = false
 is_conflict seen kinds (Member c n) = false
 is_conflict seen kinds (Edge o l v) = has_two_kinds (told_of kinds o l) v.content

@@ -11,7 +11,7 @@ use Rattle.graph_spec.specs.declared.Step.{Step}
 use Rattle.graph_spec.specs.DataGraph.{DataGraph}
 use Rattle.sd_ddl.specs.Kinds.{Name, same_name}
 
--- a quote, a backslash, a line feed, a carriage return and a tab have a backslash before them; any other byte stands as it is
+-- a quote, a backslash, a line feed, a carriage return and a tab have a backslash before them; any other byte is as it is
 abbrev pub quoted_byte : ℕ → List ℕ
 quoted_byte b =
     if nat_eq b 34 then codes "\\\""
@@ -24,7 +24,7 @@ quoted_byte b =
 abbrev pub quoted : Name → List ℕ
 quoted s = codes "\"" ++ flat_map quoted_byte s ++ codes "\""
 
--- no page stands in a data graph
+-- no page is in a data graph
 abbrev pub value_text : Value → List ℕ
 value_text (Data (Int n)) = signed_decimal n
 value_text (Data (Text s)) = quoted s
@@ -44,7 +44,9 @@ in_text [] = []
 in_text (c ∷ cs) = codes " in " ++ quoted c ++ flat_map further_text cs
 
 abbrev pub object_text : Name → List Name → List Step → List ℕ
-object_text n collections steps = codes "object " ++ quoted n ++ in_text collections ++ codes " {\n" ++ flat_map step_line steps ++ codes "}\n"
+object_text n collections steps =
+    codes "object " ++ quoted n ++ in_text collections
+    ++ codes " {\n" ++ flat_map step_line steps ++ codes "}\n"
 
 abbrev pub collection_if : Name → Member → List Name
 collection_if n m = if same_name m.node n then m.collection ∷ [] else []

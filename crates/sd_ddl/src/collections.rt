@@ -11,7 +11,7 @@ use sd_value::{NoMemory, Str};
 use std::alloc::Global;
 use std::collections::{BTreeMap, BTreeSet};
 
-/// The collections of each object, as far as they were told.
+/// The collections of each object, as far as they were reported.
 #[derive(Drop)]
 pub(crate) struct Collections {
     of: BTreeMap<Str, BTreeSet<Str>>,
@@ -34,8 +34,12 @@ impl Collections {
         object: &Str,
         collection: &Str,
     ) -> Result<(), NoMemory>
-        ensures here { OnOk result (names_of self.new object.now ≡ insert_key bytes_cmp (names_of self.old object.now) collection.now) }
-        ensures others { OnOk result ((o : Name) → same_name object.now o ≡ false → names_of self.new o ≡ names_of self.old o) }
+        ensures here { OnOk result
+            (names_of self.new object.now
+            ≡ insert_key bytes_cmp (names_of self.old object.now) collection.now) }
+        ensures others { OnOk result
+            ((o : Name) → same_name object.now o ≡ false
+            → names_of self.new o ≡ names_of self.old o) }
     {
         let names = self
             .of
@@ -45,9 +49,11 @@ impl Collections {
         Ok(())
     }
 
-    /// Adds the collection that a part tells.
+    /// Adds the collection that a part reports.
     pub(crate) fn add_part(&mut self, alloc: Global, part: &Part) -> Result<(), NoMemory>
-        ensures { OnOk result ((front : List AnyPart) → HasCollections front self.old → HasCollections (front ++ part.now ∷ []) self.new) }
+        ensures { OnOk result
+            ((front : List AnyPart) → HasCollections front self.old
+            → HasCollections (front ++ part.now ∷ []) self.new) }
     {
         match part {
             Part::Member(collection, object) => self.add(alloc, object, &collection.text),

@@ -1,4 +1,4 @@
-// The first conflict of kinds, and adding what stands before it.
+// The first conflict of kinds, and adding what is before it.
 ghost use Rattle.std.specs.Prelude.{◌≡◌, IfOk, IfSome, Some};
 ghost use Rattle.sd_ddl.specs.Tables.{Knows, told_of};
 ghost use Rattle.sd_ddl.specs.Stops.{IsFirst, Takes, all_said, stop_ending};
@@ -34,7 +34,7 @@ impl From<NoMemory> for Stop {
     }
 }
 
-/// A conflict of kinds: how many parts stand before it, and its place.
+/// A conflict of kinds: how many parts are before it, and its place.
 #[derive(Clone, Copy)]
 pub(crate) struct Conflict {
     count: usize,
@@ -112,7 +112,8 @@ fn add_edge(
     graph: &mut GraphBuilder,
 ) -> Result<(), Stop>
     requires { IfSome value IsData }
-    ensures { Ends graph.old (edge_steps place object.now label.now value) graph.new (stop_ending result) }
+    ensures { Ends graph.old (edge_steps place object.now label.now value) graph.new
+        (stop_ending result) }
 {
     match value {
         Some(value) => stop_at(graph.add_edge(alloc, object, label, &value), place),
@@ -146,7 +147,8 @@ pub(crate) fn add_parts(
     kinds: &Kinds,
     graph: &mut GraphBuilder,
 ) -> Result<(), Stop>
-    ensures { Ends graph.old (all_said (told_of kinds.now) parts.now) graph.new (stop_ending result) }
+    ensures { Ends graph.old (all_said (told_of kinds.now) parts.now) graph.new
+        (stop_ending result) }
 {
     for part in parts {
         add_part(alloc, part, kinds, graph)?;
@@ -154,7 +156,7 @@ pub(crate) fn add_parts(
     Ok(())
 }
 
-// Adds what stands before the first conflict, to a copy, since the graph stays as it was where all of it fits.
+// Adds what is before the first conflict, to a copy, since the graph stays as it was where all of it fits.
 fn add_front(
     alloc: Global,
     parts: &[Part],

@@ -27,8 +27,11 @@ impl<T: Drop> Groups<T> {
 
     /// One more item of a node.
     pub(crate) fn add(&mut self, alloc: Global, node: &Str, item: T) -> Result<(), NoMemory>
-        ensures here { OnOk result (items_of self.new node.now ≡ items_of self.old node.now ++ item ∷ []) }
-        ensures others { OnOk result ((n : Name) → same_name node.now n ≡ false → items_of self.new n ≡ items_of self.old n) }
+        ensures here { OnOk result
+            (items_of self.new node.now ≡ items_of self.old node.now ++ item ∷ []) }
+        ensures others { OnOk result
+            ((n : Name) → same_name node.now n ≡ false
+            → items_of self.new n ≡ items_of self.old n) }
     {
         let items = self.of.entry(node.copy(alloc)?)?.or_insert(Vec::new(alloc));
         items.push(item)?;
@@ -48,7 +51,8 @@ impl<T: Drop> Groups<T> {
 
 /// The collections of each node.
 pub(crate) fn group_members(alloc: Global, members: &[Member]) -> Result<Groups<Str>, NoMemory>
-    ensures { IfOk result (λ groups. (n : Name) → items_of groups n ≡ collections_of members.now n) }
+    ensures { IfOk result
+        (λ groups. (n : Name) → items_of groups n ≡ collections_of members.now n) }
 {
     let mut groups = Groups::new(alloc);
     for member in members {

@@ -13,7 +13,7 @@ use sd_value::{NoMemory, Str};
 use std::alloc::Global;
 use std::collections::BTreeMap;
 
-/// Which kinds are told.
+/// Which kinds are reported.
 #[derive(Clone, Copy)]
 pub enum Told {
     Nothing,
@@ -22,7 +22,7 @@ pub enum Told {
 }
 
 impl Told {
-    /// What both tell together.
+    /// What both report together.
     pub(crate) fn and(self, other: Told) -> Told
         ensures { result ≡ both self other }
     {
@@ -56,16 +56,18 @@ pub(crate) struct Givings {
 impl Givings {
     /// Nothing is given.
     pub(crate) fn new(alloc: Global) -> Givings
-        ensures { (collection attribute : Name) → told_in result collection attribute ≡ NothingTold }
+        ensures { (collection attribute : Name)
+            → told_in result collection attribute ≡ NothingTold }
     {
         Givings {
             told: BTreeMap::new(alloc),
         }
     }
 
-    /// Whether no kind was given. Only a true answer tells something.
+    /// Whether no kind was given. Only a true answer means something.
     fn is_empty(&self) -> bool
-        ensures { IsTrue result → (collection attribute : Name) → told_in self.now collection attribute ≡ NothingTold }
+        ensures { IsTrue result → (collection attribute : Name)
+            → told_in self.now collection attribute ≡ NothingTold }
     {
         self.told.is_empty()
     }
@@ -94,7 +96,10 @@ impl Givings {
 
     /// One more giving.
     pub(crate) fn add(&mut self, alloc: Global, giving: &Giving) -> Result<(), NoMemory>
-        ensures { OnOk result ((c a : Name) → told_in self.new c a ≡ both (told_in self.old c a) (told (given_by c a (Gives giving.now)))) }
+        ensures { OnOk result
+            ((c a : Name)
+            → told_in self.new c a
+            ≡ both (told_in self.old c a) (told (given_by c a (Gives giving.now)))) }
     {
         let kind = giving.kind.kind;
         let told = self.told(alloc, &giving.collection, &giving.attribute)?;
@@ -108,7 +113,9 @@ impl Givings {
 
     /// Adds what a part gives. After the parts of a front, the table has what these and this part give.
     pub(crate) fn add_part(&mut self, alloc: Global, part: &Part) -> Result<(), NoMemory>
-        ensures { OnOk result ((front : List AnyPart) → HasGivings front self.old → HasGivings (front ++ part.now ∷ []) self.new) }
+        ensures { OnOk result
+            ((front : List AnyPart) → HasGivings front self.old
+            → HasGivings (front ++ part.now ∷ []) self.new) }
     {
         match part {
             Part::Gives(giving) => self.add(alloc, giving),
@@ -117,7 +124,7 @@ impl Givings {
     }
 }
 
-/// The kinds and the collections that a text tells.
+/// The kinds and the collections that a text reports.
 #[derive(Drop)]
 pub(crate) struct Kinds {
     givings: Givings,
@@ -125,13 +132,13 @@ pub(crate) struct Kinds {
 }
 
 impl Kinds {
-    /// What these parts tell.
+    /// What these parts report.
     pub(crate) fn of(alloc: Global, parts: &[Part]) -> Result<Kinds, NoMemory>
         ensures { IfOk result (λ kinds. Knows parts.now kinds) }
     {
         let givings = givings_of(alloc, parts)?;
         if givings.is_empty() {
-            // Collections tell nothing then.
+            // Collections report nothing then.
             let collections = Collections::new(alloc);
             return Ok(Kinds {
                 givings,
@@ -199,7 +206,7 @@ fn givings_of(alloc: Global, parts: &[Part]) -> Result<Givings, NoMemory>
     Ok(givings)
 }
 
-// The collections that these parts tell.
+// The collections that these parts report.
 fn collections_of(alloc: Global, parts: &[Part]) -> Result<Collections, NoMemory>
     ensures { IfOk result (HasCollections parts.now) }
 {

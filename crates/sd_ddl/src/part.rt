@@ -29,7 +29,7 @@ pub enum Part {
 }
 
 impl Part {
-    /// Where it stands: its name, its value, or the kind that it gives.
+    /// Where it is: its name, its value, or the kind that it gives.
     pub(crate) fn place(&self) -> u64
         ensures { result ≡ place_of self.now }
     {
@@ -73,7 +73,8 @@ fn push_kinds(
     entries: &[Entry],
     parts: &mut Vec<Part>,
 ) -> Result<(), NoMemory>
-    ensures { OnOk result (parts.new.items ≡ parts.old.items ++ map (kind_part collection.now) entries.now) }
+    ensures { OnOk result
+        (parts.new.items ≡ parts.old.items ++ map (kind_part collection.now) entries.now) }
 {
     for entry in entries {
         parts.push(Part::Gives(Giving {
@@ -92,7 +93,8 @@ fn push_members(
     collections: &[Word],
     parts: &mut Vec<Part>,
 ) -> Result<(), NoMemory>
-    ensures { OnOk result (parts.new.items ≡ parts.old.items ++ map (member_part object.now) collections.now) }
+    ensures { OnOk result
+        (parts.new.items ≡ parts.old.items ++ map (member_part object.now) collections.now) }
 {
     for collection in collections {
         let node = object.copy(alloc)?;
@@ -108,7 +110,8 @@ fn push_edges(
     fields: &[Field],
     parts: &mut Vec<Part>,
 ) -> Result<(), NoMemory>
-    ensures { OnOk result (parts.new.items ≡ parts.old.items ++ map (edge_part object.now) fields.now) }
+    ensures { OnOk result
+        (parts.new.items ≡ parts.old.items ++ map (edge_part object.now) fields.now) }
 {
     for field in fields {
         let from = object.copy(alloc)?;

@@ -129,7 +129,8 @@ fn push_object(
     collections: &[Str],
     steps: &[Step],
 ) -> Result<(), NoMemory>
-    ensures { OnOk result (out.new.items ≡ out.old.items ++ object_text node.now collections.now steps.now) }
+    ensures { OnOk result
+        (out.new.items ≡ out.old.items ++ object_text node.now collections.now steps.now) }
 {
     push_kinded(out, b"object ", node)?;
     push_collections(out, collections)?;
@@ -146,7 +147,8 @@ fn push_nodes(
     collections: &Groups<Str>,
     steps: &Groups<Step>,
 ) -> Result<(), NoMemory>
-    requires collections { (n : Name) → items_of collections.now n ≡ collections_of graph.now.members n }
+    requires collections { (n : Name)
+        → items_of collections.now n ≡ collections_of graph.now.members n }
     requires steps { (n : Name) → items_of steps.now n ≡ steps_out graph.now.edges n }
     ensures { OnOk result (out.new.items ≡ out.old.items ++ graph_text graph.now) }
 {

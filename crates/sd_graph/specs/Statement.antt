@@ -40,11 +40,23 @@ with_end v names = names
 
 -- the graph with what is stated. An edge and a member also state their nodes
 abbrev pub graph_with : Statement → DataGraph → DataGraph
-graph_with (a_node n) G = record { nodes = with_name n G.nodes; edges = G.edges; members = G.members }
+graph_with (a_node n) G = record {
+  nodes = with_name n G.nodes;
+  edges = G.edges;
+  members = G.members;
+}
 graph_with (a_member c n) G =
-    record { nodes = with_name n G.nodes; edges = G.edges; members = with_member (record { collection = c; node = n }) G.members }
+    record {
+      nodes = with_name n G.nodes;
+      edges = G.edges;
+      members = with_member (record { collection = c; node = n }) G.members;
+    }
 graph_with (an_edge n l v) G =
-    record { nodes = with_end v (with_name n G.nodes); edges = with_edge (record { from = n; label = l; to = v }) G.edges; members = G.members }
+    record {
+      nodes = with_end v (with_name n G.nodes);
+      edges = with_edge (record { from = n; label = l; to = v }) G.edges;
+      members = G.members;
+    }
 
 abbrev pub building_with : Statement → Building → Building
 building_with s b = record { limits = b.limits; graph = graph_with s b.graph }
@@ -57,16 +69,20 @@ abbrev pub HasTooMany_edges : Building → Type 0
 HasTooMany_edges b = b.limits.edges < length b.graph.edges + length b.graph.members
 
 abbrev pub IsWithin : Building → Type 0
-IsWithin b = (length b.graph.nodes ≤ b.limits.nodes) × (length b.graph.edges + length b.graph.members ≤ b.limits.edges)
+IsWithin b =
+    (length b.graph.nodes ≤ b.limits.nodes)
+    × (length b.graph.edges + length b.graph.members ≤ b.limits.edges)
 
 -- what adding does, and what each answer means. A refusal changes nothing
 abbrev pub Adds : Statement → Building → Building → Result ⊤ GraphRefusal → Type 0
 Adds s b c (Ok u) = (c ≡ building_with s b) × IsWithin (building_with s b)
 Adds s b c (Err TooManyNodes) = (c ≡ b) × HasTooMany_nodes (building_with s b)
-Adds s b c (Err TooManyEdges) = (c ≡ b) × (length (building_with s b).graph.nodes ≤ b.limits.nodes) × HasTooMany_edges (building_with s b)
+Adds s b c (Err TooManyEdges) =
+    (c ≡ b) × (length (building_with s b).graph.nodes ≤ b.limits.nodes)
+    × HasTooMany_edges (building_with s b)
 Adds s b c (Err NoMemory) = c ≡ b
 
--- what may stand at an edge's end
+-- what may be at an edge's end
 abbrev pub IsData : Value → Type 0
 IsData (Data d) = ⊤
 IsData (Page p) = ⊥
@@ -85,14 +101,14 @@ IsStatedIn G (a_node n) = Contains G.nodes n
 IsStatedIn G (a_member c n) = Contains G.members (record { collection = c; node = n })
 IsStatedIn G (an_edge n l v) = Contains G.edges (record { from = n; label = l; to = v })
 
--- whether so many nodes, and edges and members together, are too many
+-- whether this many nodes, and edges and members together, are too many
 abbrev pub Refuses : Limits → ℕ → ℕ → Option GraphRefusal → Type 0
 Refuses l nodes edges None = (nodes ≤ l.nodes) × (edges ≤ l.edges)
 Refuses l nodes edges (Some TooManyNodes) = l.nodes < nodes
 Refuses l nodes edges (Some TooManyEdges) = (nodes ≤ l.nodes) × (l.edges < edges)
 Refuses l nodes edges (Some NoMemory) = ⊥
 
--- the same of an answer that may also tell that memory ran out
+-- the same of an answer that may also report that memory ran out
 abbrev pub Fits : Limits → ℕ → ℕ → Result ⊤ GraphRefusal → Type 0
 Fits l nodes edges (Ok u) = (nodes ≤ l.nodes) × (edges ≤ l.edges)
 Fits l nodes edges (Err TooManyNodes) = l.nodes < nodes

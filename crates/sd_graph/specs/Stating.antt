@@ -24,9 +24,16 @@ Leads b (fails f ∷ steps) c = ⊥
 -- the steps before the one at which they end lead from b to c
 abbrev pub Ends : {P F : Type 0} → Building → List (Step P F) → Building → Ending P F → Type 0
 Ends b steps c done = Leads b steps c
-Ends {P} {F} b steps c (fault f) = (front rest : List (Step P F)) × (steps ≡ front ++ (fails f ∷ rest)) × Leads b front c
-Ends {P} {F} b steps c (too_many_nodes p) = (front rest : List (Step P F)) × (s : Statement) × (steps ≡ front ++ (says p s ∷ rest)) × Leads b front c
+Ends {P} {F} b steps c (fault f) =
+    (front rest : List (Step P F)) × (steps ≡ front ++ (fails f ∷ rest)) × Leads b front c
+Ends {P} {F} b steps c (too_many_nodes p) =
+    (front rest : List (Step P F)) × (s : Statement) × (steps ≡ front ++ (says p s ∷ rest))
+    × Leads b front c
     × HasTooMany_nodes (building_with s c)
-Ends {P} {F} b steps c (too_many_edges p) = (front rest : List (Step P F)) × (s : Statement) × (steps ≡ front ++ (says p s ∷ rest)) × Leads b front c
-    × (length (building_with s c).graph.nodes ≤ c.limits.nodes) × HasTooMany_edges (building_with s c)
-Ends {P} {F} b steps c no_memory = (front rest : List (Step P F)) × (steps ≡ front ++ rest) × Leads b front c
+Ends {P} {F} b steps c (too_many_edges p) =
+    (front rest : List (Step P F)) × (s : Statement) × (steps ≡ front ++ (says p s ∷ rest))
+    × Leads b front c
+    × (length (building_with s c).graph.nodes ≤ c.limits.nodes)
+    × HasTooMany_edges (building_with s c)
+Ends {P} {F} b steps c no_memory =
+    (front rest : List (Step P F)) × (steps ≡ front ++ rest) × Leads b front c

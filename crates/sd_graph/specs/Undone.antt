@@ -28,9 +28,13 @@ without_end v added names = names
 abbrev pub IsUndoneBy : Name → Bool → List Name → List Name → Type 0
 IsUndoneBy n added old new = without n added new ≡ old
 
--- what `insert` tells of a name
-pub undone : (n : Name) (added : Bool) (old new : List Name) → new ≡ insert_key bytes_cmp old n → (added ≡ not (list_any (is_at (bytes_cmp n)) old)) → (added ≡ false → new ≡ old) → IsUndoneBy n added old new
-undone n true old new is none same = ap (remove_key (is_at (bytes_cmp n))) is ∙ removed-inserted bytes_cmp n (tied_itself bytes_cmp-total n) old (absent (list_any (is_at (bytes_cmp n)) old) none)
+-- what `insert` reports of a name
+pub undone : (n : Name) (added : Bool) (old new : List Name) → new ≡ insert_key bytes_cmp old n
+    → (added ≡ not (list_any (is_at (bytes_cmp n)) old)) → (added ≡ false → new ≡ old)
+    → IsUndoneBy n added old new
+undone n true old new is none same =
+    ap (remove_key (is_at (bytes_cmp n))) is ∙ removed-inserted bytes_cmp n
+    (tied_itself bytes_cmp-total n) old (absent (list_any (is_at (bytes_cmp n)) old) none)
   where
     absent : (b : Bool) → true ≡ not b → b ≡ false
     absent true h = cc

@@ -32,9 +32,23 @@ impl Model for GraphBuilder {
 
     ghost Value = { Building };
 
-    ghost view = { λ b. record { limits = b.limits; graph = record { nodes = b.nodes; edges = elements edge_cmp b.edges; members = elements member_cmp b.members } } };
+    ghost view = { λ b. record {
+      limits = b.limits;
+      graph = record {
+        nodes = b.nodes;
+        edges = elements edge_cmp b.edges;
+        members = elements member_cmp b.members;
+      };
+    } };
 
-    ghost invariant = { λ b. IsBuilt (record { limits = b.limits; graph = record { nodes = b.nodes; edges = elements edge_cmp b.edges; members = elements member_cmp b.members } }) };
+    ghost invariant = { λ b. IsBuilt (record {
+      limits = b.limits;
+      graph = record {
+        nodes = b.nodes;
+        edges = elements edge_cmp b.edges;
+        members = elements member_cmp b.members;
+      };
+    }) };
 }
 
 // Which of an edge's ends were declared with it.
@@ -51,8 +65,11 @@ fn declare_ends(
     from: &Str,
     to: &Value,
 ) -> Result<Declared, NoMemory>
-    ensures names { names.new ≡ (if is_ok result then with_end to.now (with_name from.now names.old) else names.old) }
-    ensures added { IfOk result (λ added. without from.now added.start (without_end to.now added.end names.new) ≡ names.old) }
+    ensures names { names.new
+        ≡ (if is_ok result then with_end to.now (with_name from.now names.old) else names.old) }
+    ensures added { IfOk result
+        (λ added. without from.now added.start (without_end to.now added.end names.new)
+        ≡ names.old) }
 {
     let start = names.begin(alloc, from)?;
     let end = match to {
@@ -79,7 +96,11 @@ fn forget_ends(names: &mut Names, from: &Str, to: &Value, added: Declared)
 }
 
 fn edge_of(alloc: Global, from: &Str, label: &Str, to: &Value) -> Result<Edge, NoMemory>
-    ensures { IfOk result (λ edge. edge ≡ record { from = from.now; label = label.now; to = to.now }) }
+    ensures { IfOk result (λ edge. edge ≡ record {
+      from = from.now;
+      label = label.now;
+      to = to.now;
+    }) }
 {
     Ok(Edge {
         from: from.copy(alloc)?,
@@ -89,7 +110,10 @@ fn edge_of(alloc: Global, from: &Str, label: &Str, to: &Value) -> Result<Edge, N
 }
 
 fn member_of(alloc: Global, collection: &Str, node: &Str) -> Result<Member, NoMemory>
-    ensures { IfOk result (λ member. member ≡ record { collection = collection.now; node = node.now }) }
+    ensures { IfOk result (λ member. member ≡ record {
+      collection = collection.now;
+      node = node.now;
+    }) }
 {
     Ok(Member {
         collection: collection.copy(alloc)?,
@@ -111,7 +135,7 @@ impl GraphBuilder {
         }
     }
 
-    /// How large the graph may become. This call also tells that the graph is well formed and within the limits.
+    /// How large the graph may become. This call also reports that the graph is well formed and within the limits.
     pub fn limits(&self) -> Limits
         ensures value { result ≡ self.now.limits }
         ensures built { IsBuilt self.now }
@@ -225,6 +249,7 @@ impl GraphBuilder {
 
 /// What a graph says already is accepted, unless memory runs out, and changes nothing.
 pub fn known_statements_change_nothing()
-    ensures { (s : Statement) (b c : Building) (r : Result ⊤ Refusal) → IsBuilt b → IsStatedIn b.graph s
+    ensures { (s : Statement) (b c : Building) (r : Result ⊤ Refusal) → IsBuilt b
+        → IsStatedIn b.graph s
         → Adds s b c r → (c ≡ b) × ((r ≡ Ok tt) ⊎ (r ≡ Err OutOfMemory)) }
 {}

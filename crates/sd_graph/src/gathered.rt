@@ -15,7 +15,7 @@ use std::collections::BTreeSet;
 const NEAR: usize = 8;
 
 /// A set whose elements are only collected at first. They are put in order at the end, or once their number matters:
-/// sorting runs that stand in order nearly costs less than a search for each element.
+/// sorting runs that are in order nearly costs less than a search for each element.
 #[derive(Debug, Drop)]
 pub(crate) struct Gathered<K: Ord> {
     pub(crate) ordered: BTreeSet<K>,
@@ -23,7 +23,7 @@ pub(crate) struct Gathered<K: Ord> {
     fresh: Vec<K>,
 }
 
-// Where a new element goes, so that those which come together stand in order: behind the last element near the end that
+// Where a new element goes, so that those which come together are in order: behind the last element near the end that
 // isn't above it. Where there is none it begins a new run at the end.
 fn place<K: Element>(items: &[K], key: &K) -> usize
     ensures { result ≤ length items.now }
@@ -68,7 +68,8 @@ fn insert_copies<K: Element>(
 ) -> Result<(), NoMemory>
     requires { IsStrictlySortedBy K.cmp ordered.old.keys }
     ensures all { OnOk result (ordered.new.keys ≡ insert_all K.cmp ordered.old.keys fresh.now) }
-    ensures some { insert_all K.cmp ordered.new.keys fresh.now ≡ insert_all K.cmp ordered.old.keys fresh.now }
+    ensures some { insert_all K.cmp ordered.new.keys fresh.now
+        ≡ insert_all K.cmp ordered.old.keys fresh.now }
 {
     for key in fresh {
         ordered.insert(key.copied(alloc)?)?;
@@ -119,7 +120,8 @@ impl<K: Element> Gathered<K> {
     /// Adds an element. On `Err` nothing has changed.
     pub(crate) fn push(&mut self, key: K) -> Result<(), NoMemory>
         requires { IsInOrder K.cmp self.old }
-        ensures { elements K.cmp self.new ≡ (if is_ok result then insert_key K.cmp (elements K.cmp self.old) key else elements K.cmp self.old) }
+        ensures { elements K.cmp self.new
+            ≡ (if is_ok result then insert_key K.cmp (elements K.cmp self.old) key else elements K.cmp self.old) }
     {
         let at = place(self.fresh.as_slice(), &key);
         self.fresh.insert(at, key)?;

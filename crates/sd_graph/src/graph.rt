@@ -30,16 +30,32 @@ impl Model for Graph {
 
     ghost Value = { DataGraph };
 
-    ghost view = { λ g. record { nodes = g.nodes.items; edges = g.edges.items; members = g.members.items } };
+    ghost view = { λ g. record {
+      nodes = g.nodes.items;
+      edges = g.edges.items;
+      members = g.members.items;
+    } };
 
-    ghost invariant = { λ g. IsWellFormed (record { nodes = g.nodes.items; edges = g.edges.items; members = g.members.items }) };
+    ghost invariant = { λ g. IsWellFormed (record {
+      nodes = g.nodes.items;
+      edges = g.edges.items;
+      members = g.members.items;
+    }) };
 }
 
 impl Graph {
     // The graph of these lists.
     pub(crate) fn of(nodes: Vec<Str>, edges: Vec<Edge>, members: Vec<Member>) -> Graph
-        requires { IsWellFormed (record { nodes = nodes.items; edges = edges.items; members = members.items }) }
-        ensures { result ≡ record { nodes = nodes.items; edges = edges.items; members = members.items } }
+        requires { IsWellFormed (record {
+          nodes = nodes.items;
+          edges = edges.items;
+          members = members.items;
+        }) }
+        ensures { result ≡ record {
+          nodes = nodes.items;
+          edges = edges.items;
+          members = members.items;
+        } }
     {
         Graph {
             nodes,

@@ -54,7 +54,7 @@ impl From<NoMemory> for GraphRefusal {
     }
 }
 
-// Why a graph of so many nodes, and so many edges and members together, is refused.
+// Why a graph of this many nodes, and this many edges and members together, is refused.
 fn over(limits: Limits, nodes: u64, edges: u64) -> Option<GraphRefusal>
     ensures { Refuses limits nodes edges result }
 {

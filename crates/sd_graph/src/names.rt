@@ -29,7 +29,8 @@ impl Model for Names {
 
     ghost view = { λ n. n.set.keys };
 
-    ghost invariant = { λ n. IsStrictlySortedBy bytes_cmp n.set.keys × IfSome n.latest (Contains n.set.keys) };
+    ghost invariant = { λ n. IsStrictlySortedBy bytes_cmp n.set.keys
+        × IfSome n.latest (Contains n.set.keys) };
 }
 
 impl Names {
@@ -50,9 +51,10 @@ impl Names {
         self.set.len()
     }
 
-    /// Adds a name, and tells whether it is new. On `Err` nothing has changed.
+    /// Adds a name, and reports whether it is new. On `Err` nothing has changed.
     pub(crate) fn add(&mut self, alloc: Global, name: &Str) -> Result<bool, NoMemory>
-        ensures names { self.new ≡ (if is_ok result then with_name name.now self.old else self.old) }
+        ensures names { self.new
+            ≡ (if is_ok result then with_name name.now self.old else self.old) }
         ensures added { IfOk result (λ added. IsUndoneBy name.now added self.old self.new) }
     {
         declare(alloc, &mut self.set, name)
@@ -60,7 +62,8 @@ impl Names {
 
     /// The same, for a name of which more is said next.
     pub(crate) fn begin(&mut self, alloc: Global, name: &Str) -> Result<bool, NoMemory>
-        ensures names { self.new ≡ (if is_ok result then with_name name.now self.old else self.old) }
+        ensures names { self.new
+            ≡ (if is_ok result then with_name name.now self.old else self.old) }
         ensures added { IfOk result (λ added. IsUndoneBy name.now added self.old self.new) }
     {
         if is_name(&self.latest, name) {
@@ -108,9 +111,10 @@ fn is_name(latest: &Option<Str>, name: &Str) -> bool
     }
 }
 
-// Adds a name, and tells whether it is new. On `Err` nothing has changed.
+// Adds a name, and reports whether it is new. On `Err` nothing has changed.
 fn declare(alloc: Global, names: &mut BTreeSet<Str>, name: &Str) -> Result<bool, NoMemory>
-    ensures names { names.new.keys ≡ (if is_ok result then with_name name.now names.old.keys else names.old.keys) }
+    ensures names { names.new.keys
+        ≡ (if is_ok result then with_name name.now names.old.keys else names.old.keys) }
     ensures added { IfOk result (λ added. IsUndoneBy name.now added names.old.keys names.new.keys) }
     ensures ordered { OnOk result (IsStrictlySortedBy bytes_cmp names.new.keys) }
 {

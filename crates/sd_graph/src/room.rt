@@ -21,7 +21,8 @@ fn no_room<K: Element>(
     key: &K,
 ) -> Option<GraphRefusal>
     requires { others < 2 ^ 63 }
-    ensures { Refuses limits nodes (length (insert_key K.cmp set.now.keys key.now) + others) result }
+    ensures { Refuses limits nodes
+        (length (insert_key K.cmp set.now.keys key.now) + others) result }
 {
     let size = set.len() as u64 + others as u64;
     if nodes as u64 <= limits.nodes && size < limits.edges {
@@ -40,7 +41,8 @@ fn put_ordered<K: Element>(
     key: K,
 ) -> Result<(), GraphRefusal>
     requires { others < 2 ^ 63 }
-    ensures keys { set.new.keys ≡ (if is_ok result then insert_key K.cmp set.old.keys key else set.old.keys) }
+    ensures keys { set.new.keys
+        ≡ (if is_ok result then insert_key K.cmp set.old.keys key else set.old.keys) }
     ensures fits { Fits limits nodes (length (insert_key K.cmp set.old.keys key) + others) result }
 {
     if let Some(refusal) = no_room(limits, nodes, set, others, &key) {
@@ -52,9 +54,10 @@ fn put_ordered<K: Element>(
     }
 }
 
-// Whether two sets are surely below their limit. Only a true answer tells something.
+// Whether two sets are surely below their limit. Only a true answer means something.
 fn is_below<K: Element, J: Element>(set: &Gathered<K>, others: &Gathered<J>, limit: u64) -> bool
-    ensures below { IsTrue result → length (elements K.cmp set.now) + length (elements J.cmp others.now) < limit }
+    ensures below { IsTrue result
+        → length (elements K.cmp set.now) + length (elements J.cmp others.now) < limit }
     ensures set { IsInOrder K.cmp set.now }
     ensures others { IsInOrder J.cmp others.now }
 {
@@ -71,8 +74,11 @@ fn put_settled<K: Element, J: Element>(
 ) -> Result<(), GraphRefusal>
     requires set { IsSettled set.old }
     requires others { IsSettled others.now }
-    ensures keys { elements K.cmp set.new ≡ (if is_ok result then insert_key K.cmp (elements K.cmp set.old) key else elements K.cmp set.old) }
-    ensures fits { Fits limits nodes (length (insert_key K.cmp (elements K.cmp set.old) key) + length (elements J.cmp others.now)) result }
+    ensures keys { elements K.cmp set.new
+        ≡ (if is_ok result then insert_key K.cmp (elements K.cmp set.old) key else elements K.cmp set.old) }
+    ensures fits { Fits limits nodes
+        (length (insert_key K.cmp (elements K.cmp set.old) key) + length
+        (elements J.cmp others.now)) result }
 {
     put_ordered(limits, nodes, &mut set.ordered, others.ordered.len(), key)
 }
@@ -88,8 +94,11 @@ pub(crate) fn put<K: Element, J: Element>(
     key: K,
 ) -> Result<(), GraphRefusal>
     ensures others { elements J.cmp others.new ≡ elements J.cmp others.old }
-    ensures keys { elements K.cmp set.new ≡ (if is_ok result then insert_key K.cmp (elements K.cmp set.old) key else elements K.cmp set.old) }
-    ensures fits { Fits limits nodes (length (insert_key K.cmp (elements K.cmp set.old) key) + length (elements J.cmp others.old)) result }
+    ensures keys { elements K.cmp set.new
+        ≡ (if is_ok result then insert_key K.cmp (elements K.cmp set.old) key else elements K.cmp set.old) }
+    ensures fits { Fits limits nodes
+        (length (insert_key K.cmp (elements K.cmp set.old) key) + length
+        (elements J.cmp others.old)) result }
 {
     let has_room = is_below(set, others, limits.edges);
     if has_room && nodes as u64 <= limits.nodes {

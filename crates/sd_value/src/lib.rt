@@ -97,7 +97,8 @@ impl Str {
         self.held.bytes()
     }
 
-    /// An equal text. Only a count of a long text's copies can't be passed; a caller can't rest on it.
+    /// An equal text, which takes no memory. It fails only where a long text has more copies than can be counted, and
+    /// nobody meets that; but no clause says so, and a caller handles `NoMemory`.
     pub fn copy(&self, _alloc: Global) -> Result<Str, NoMemory>
         ensures { IfOk result (λ s. s ≡ self.now) }
     {
@@ -144,10 +145,11 @@ impl Datum {
     }
 }
 
-/// The arguments of a term, none of which is a page.
+/// The arguments of a term, none of which is a page. Copies share the list, so that a value is four words and a copy of a
+/// page takes no memory.
 #[derive(Debug)]
 pub struct Args {
-    items: Vec<Datum>,
+    items: Rc<Vec<Datum>>,
 }
 
 // Written out, so that it is proved here once, and not again in each crate that drops one.
@@ -163,30 +165,30 @@ impl Model for Args {
 
     ghost Value = { List Datum };
 
-    ghost view = { λ a. a.items.items };
+    ghost view = { λ a. a.items.value.items };
 }
 
 impl Args {
-    pub fn new(items: Vec<Datum>) -> Args
-        ensures { result ≡ items.items }
+    /// These arguments, which are not copied.
+    pub fn new(alloc: Global, items: Vec<Datum>) -> Result<Args, NoMemory>
+        ensures { IfOk result (λ a. a ≡ items.items) }
     {
-        Args { items }
+        let items = Rc::new(alloc, items)?;
+        Ok(Args { items })
     }
 
+    /// The arguments in their order.
     pub fn items(&self) -> &[Datum]
         ensures { result.now ≡ self.now }
     {
         self.items.as_slice()
     }
 
-    /// Equal arguments.
-    pub fn copy(&self, alloc: Global) -> Result<Args, NoMemory>
+    /// Equal arguments. As a text's copy, it takes no memory.
+    pub fn copy(&self, _alloc: Global) -> Result<Args, NoMemory>
         ensures { IfOk result (λ a. a ≡ self.now) }
     {
-        let mut items = Vec::with_capacity(alloc, self.items.len())?;
-        for item in self.items() {
-            items.push(item.copy(alloc)?)?;
-        }
+        let items = self.items.clone()?;
         Ok(Args { items })
     }
 }
@@ -248,7 +250,7 @@ impl Value {
     }
 }
 
-/// The order of values: by kind, as the kinds stand in `Datum` with `Page` last, then by number,
+/// The order of values: by kind, as the kinds are in `Datum` with `Page` last, then by number,
 /// by bytes, or by function name and then arguments.
 pub fn compare(a: &Value, b: &Value) -> Ordering
     ensures { result ≡ value_cmp a.now b.now }
@@ -271,11 +273,14 @@ pub fn order_is_total_and_exact()
     ensures total { IsTotalOrder value_cmp }
     ensures reflexive { (x : AnyValue) → value_cmp x x ≡ Equal }
     ensures exact { (x y : AnyValue) → value_cmp x y ≡ Equal → x ≡ y }
-    ensures transitive { (x y z : AnyValue) → value_cmp x y ≡ Less → value_cmp y z ≡ Less → value_cmp x z ≡ Less }
+    ensures transitive { (x y z : AnyValue) → value_cmp x y ≡ Less → value_cmp y z ≡ Less
+        → value_cmp x z ≡ Less }
 {}
 
 /// A strictly ascending list is determined by its members.
 pub fn members_determine_the_list()
-    ensures { (xs ys : List AnyValue) → IsStrictlySortedBy value_cmp xs → IsStrictlySortedBy value_cmp ys
-        → ((z : AnyValue) → Contains xs z → Contains ys z) → ((z : AnyValue) → Contains ys z → Contains xs z) → xs ≡ ys }
+    ensures { (xs ys : List AnyValue) → IsStrictlySortedBy value_cmp xs
+        → IsStrictlySortedBy value_cmp ys
+        → ((z : AnyValue) → Contains xs z → Contains ys z)
+        → ((z : AnyValue) → Contains ys z → Contains xs z) → xs ≡ ys }
 {}

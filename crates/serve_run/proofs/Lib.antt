@@ -1,1 +1,5 @@
 pub mod ServingLemmas
+pub mod PutLemmas
+pub mod Gained
+pub mod TurnsLeft
+pub mod CountLemmas

@@ -7,61 +7,33 @@ use Rattle.std.proofs.lemmas.List.Elements.{All-push}
 use Rattle.sd_value.specs.declared.Term.{Term}
 use Rattle.tmpl.specs.Body.{TemplateFile}
 use Rattle.page_spec.specs.Site.{Site}
-use Rattle.http_spec.specs.declared.Standing.TheVariants.{Open}
-use Rattle.http_spec.specs.Sessions.{OutcomeAt, HasAnswer}
-use Rattle.http_spec.specs.Streams.{Dated}
+use Rattle.page_spec.specs.Address.{TermOf}
 use Rattle.wire.specs.Accounts.{up, up_by}
 use Rattle.wire.specs.Events.{add_event, is_done, IsDrawn}
+use Rattle.wire.specs.Told.{Told}
 use Rattle.wire.specs.declared.WireEvent.{WireEvent}
 use Rattle.wire.specs.declared.WireEvent.TheVariants.{Opened, Bytes, Ended, Lost, Change, Done}
-use Rattle.page_cache.specs.Looks.{Kept}
-use Rattle.hub.specs.Course.{Scene, Rules, scene, PassesAll, IsCourse}
-use Rattle.hub.specs.HubState.{HubState, line_of}
+use Rattle.serving_spec.specs.Looks.{Kept}
+use Rattle.hub.specs.Course.{Scene, Rules, PassesAll, IsCourse}
+use Rattle.hub.specs.HubState.{scene, HubState, line_of}
 use Rattle.hub.specs.Line.{Line}
-use Rattle.hub.specs.Moments.{Input, Unopened, Coming, Over, moment_after, Settled, IsOpenAt, StandsComing, StandsFor, Stands}
-use Rattle.hub.specs.Runs.{EndsRun}
-use Rattle.hub.specs.Shown.{shown_in}
-use Rattle.hub.specs.Turns.{At, at_in, counts, greatest_after, opened_after}
-use Rattle.hub.specs.declared.hub_step.Tally.{Tally}
-use Rattle.hub.specs.declared.serving.HubEnd.{HubEnd}
-use Rattle.hub.specs.declared.serving.HubEnd.TheVariants.{Done as Finished, WireFailed, TurnsSpent, NoMemory}
-use Rattle.serve_run.specs.Opened.{opens, opened_from, opened_in}
-use Rattle.serve_run.specs.Serving.{WireTold, input_of, at, IsServed, still_rules, Tallied, Serves}
-
--- a connection as the wire alone tells of it
-abbrev bare : At → At
-bare a = record { line = None; account = a.account; faults = a.faults }
-
-bare_settled : {D : Type 0} (page : D → OutcomeAt) (limit : ℕ) (stream : List (Dated D)) (ended : Bool) (first now : At) → Settled page limit stream ended first now
-    → Settled page limit stream ended (bare first) (bare now)
-bare_settled page limit stream ended first now s = record { standing = s.standing; account = s.account; sent = s.sent; closed = s.closed }
-
--- the session of a connection that is open
-so_far : {D : Type 0} (page : D → OutcomeAt) (limit : ℕ) (stream : List (Dated D)) (line : Line) (first now : At) (o : IsOpenAt page limit stream line first now)
-    → HasAnswer page limit stream false Open o.replies
-so_far page limit stream line first now o =
-    inl record {
-      requests = o.requests;
-      rest = o.rest;
-      answered = o.replies;
-      closed = false;
-      last = [];
-      session = o.session;
-      ends = (refl, refl, (o.none, o.room), refl);
-      whole = sym (append-nil o.replies);
-    }
-
-coming_served : {D : Type 0} (page : D → OutcomeAt) (limit : ℕ) (stream : List (Dated D)) (line : Option Line) (first now : At) → StandsComing page limit stream line first now
-    → Settled page limit stream false (bare first) (bare now)
-coming_served page limit stream None first now (settled, over) = bare_settled page limit stream false first now settled
-coming_served page limit stream (Some line) first now o =
-    record { standing = Open; account = now.account; sent = (o.replies, so_far page limit stream line first now o, o.account, o.faults); closed = refl }
-
-served_of : {D : Type 0} (page : D → OutcomeAt) (limit : ℕ) (input : Input D) (first now : At) → StandsFor page limit input first now
-    → IsServed page limit input (bare first) (bare now)
-served_of page limit Unopened first now stands = ap bare stands.1
-served_of page limit (Coming stream) first now stands = coming_served page limit stream now.line first now stands
-served_of page limit (Over ended stream) first now stands = bare_settled page limit stream ended first now stands.1
+use Rattle.serving_spec.specs.Inputs.{Input, Unopened, moment_after, input_of}
+use Rattle.hub.specs.Moments.{Stands}
+use Rattle.serving_spec.specs.RunEnds.{EndsRun}
+use Rattle.serving_spec.specs.Shown.{shown_in}
+use Rattle.hub.specs.Turns.{seen_of, at_in}
+use Rattle.serving_spec.specs.Openings.{counts, greatest_after, opened_after, opens, opened_from, opened_in}
+use Rattle.serving_spec.specs.declared.Tally.{Tally}
+use Rattle.serving_spec.specs.declared.HubEnd.{HubEnd}
+use Rattle.serving_spec.specs.declared.HubEnd.TheVariants.{Done as Finished, WireFailed, TurnsSpent, NoMemory}
+use Rattle.serving_spec.specs.Sent.{seen, IsServed}
+use Rattle.serving_spec.specs.Counted.{no_counts, IsCounted, counts_from}
+use Rattle.serving_spec.specs.Made.{AllLooked}
+use Rattle.serving_spec.specs.Looks.{LooksIn}
+use Rattle.page_spec.specs.Page.{IsOutcome}
+use Rattle.serving_spec.specs.Serving.{none_kept, placed_input, Tallied, Serves}
+use Rattle.serve_run.specs.Steps.{at, still_rules, TalliedInSteps, ServesInSteps}
+use Rattle.serve_run.proofs.CountLemmas.{served_of, counted_of, plain_served, whole, steps_of}
 
 -- one event more opens one connection more, or none
 opened_step : (e : WireEvent) (greatest : Option ℕ) (n : ℕ) (others : List ℕ) → up_by (length others) (opened_after e greatest n) ≡ up_by (length (opens greatest e ++ others)) n
@@ -100,33 +72,45 @@ course_opened rules limit before events after (inr (front, text, between, is, pa
 
 -- A run of a hub that is new.
 module _ {P D : Type 0} (old new : HubState P) (root : Option (List ℕ)) (site : D → Site) (templates : D → TemplateFile) (still : D) (requests turns capacity : ℕ) (state : P → D) (cache : P → Kept)
-    (before after : WireTold) (end : HubEnd) (tally : Tally) (events : List WireEvent)
+    (before after : Told) (end : HubEnd) (tally : Tally) (events : List WireEvent) (some : 0 < requests)
     (given : after.given ≡ fold add_event before.given events) (left : IsDrawn before.left events after.left) (ends : EndsRun turns events end)
     (course : IsCourse (still_rules old.root site templates) old.limit (scene state cache old before.account before.faults) events (scene state cache new after.account after.faults))
     (stands : (number : ℕ) → line_of old number ≡ None
-    → Stands (shown_in old.root site templates) old.limit number
+    → Stands (shown_in old.root site templates) (TermOf old.root) old.limit number
     (moment_after (λ current text. current) number (record { current = state old.pages; greatest = old.greatest; input = Unopened }) events)
     (at_in (line_of old) before.account before.faults number) (at_in (line_of new) after.account after.faults number))
     (none : (number : ℕ) → line_of old number ≡ None) (root_is : old.root ≡ root) (limit_is : old.limit ≡ requests) (state_is : state old.pages ≡ still)
     (greatest_is : old.greatest ≡ None) (opened_is : old.opened ≡ 0) (replies_is : old.replies ≡ 0)
     (cache_is : cache old.pages ≡ record { capacity = capacity; terms = []; hits = 0 })
     (tally_is : tally ≡ record { connections = new.opened; replies = new.replies; hits = (cache new.pages).hits }) where
-  each : (number : ℕ) → IsServed (shown_in root site templates) requests (input_of still number events) (at before number) (at after number)
+  each : (number : ℕ) → IsServed (shown_in root site templates) requests (input_of still number events) (seen before number) (seen after number)
   each number =
       let start : D → Option ℕ → Input D = λ current greatest. (moment_after (λ current text. current) number (record { current = current; greatest = greatest; input = Unopened }) events).input in
-      let there = served_of (shown_in old.root site templates) old.limit (start (state old.pages) old.greatest) (at_in (line_of old) before.account before.faults number)
-      (at_in (line_of new) after.account after.faults number) (stands number (none number)).stands in
-      subst (λ r. IsServed (shown_in r site templates) requests (input_of still number events) (at before number) (at after number)) root_is
-      (subst (λ n. IsServed (shown_in old.root site templates) n (input_of still number events) (at before number) (at after number)) limit_is
-      (subst (λ i. IsServed (shown_in old.root site templates) old.limit i (at before number) (at after number))
+      let here = stands number (none number) in
+      let there = plain_served (shown_in old.root site templates) (TermOf old.root) old.limit here.counted (start (state old.pages) old.greatest) (seen before number) (seen after number)
+      (served_of (shown_in old.root site templates) (TermOf old.root) still old.limit here.counted (at_in (line_of old) before.account before.faults number)
+      (at_in (line_of new) after.account after.faults number) (start (state old.pages) old.greatest) here.is.stands) in
+      subst (λ r. IsServed (shown_in r site templates) requests (input_of still number events) (seen before number) (seen after number)) root_is
+      (subst (λ n. IsServed (shown_in old.root site templates) n (input_of still number events) (seen before number) (seen after number)) limit_is
+      (subst (λ i. IsServed (shown_in old.root site templates) old.limit i (seen before number) (seen after number))
       (ap (λ d. start d old.greatest) state_is ∙ ap (λ g. start still g) greatest_is) there))
 
-  tallied : Tallied root site templates still requests capacity before after events tally
-  tallied = record {
-    first = scene state cache old before.account before.faults;
-    last = scene state cache new after.account after.faults;
-    course = subst (λ r. IsCourse (still_rules r site templates) requests (scene state cache old before.account before.faults) events (scene state cache new after.account after.faults)) root_is
-        (subst (λ n. IsCourse (still_rules old.root site templates) n (scene state cache old before.account before.faults) events (scene state cache new after.account after.faults)) limit_is course);
+  abbrev first : Scene D Kept
+  first = scene state cache old before.account before.faults
+
+  abbrev last : Scene D Kept
+  last = scene state cache new after.account after.faults
+
+  course_is : IsCourse (still_rules root site templates) requests first events last
+  course_is =
+      subst (λ r. IsCourse (still_rules r site templates) requests first events last) root_is
+      (subst (λ n. IsCourse (still_rules old.root site templates) n first events last) limit_is course)
+
+  in_steps : TalliedInSteps root site templates still requests capacity before after events tally
+  in_steps = record {
+    first = first;
+    last = last;
+    course = course_is;
     data_are = state_is;
     none_open = greatest_is;
     none_counted = (opened_is, replies_is);
@@ -134,25 +118,64 @@ module _ {P D : Type 0} (old new : HubState P) (root : Option (List ℕ)) (site 
     begins = λ number. ap (λ (l : Option Line). record { line = l; account = before.account number; faults = before.faults number }) (none number);
     ends = λ number. (refl, refl);
     tally_is = tally_is;
-    connections = ap (λ (t : Tally). t.connections) tally_is
-        ∙ course_opened (still_rules old.root site templates) old.limit (scene state cache old before.account before.faults) events (scene state cache new after.account after.faults) course
-        ∙ ap (λ g. up_by (length (opened_from g events)) old.opened) greatest_is ∙ ap (up_by (length (opened_in events))) opened_is;
   }
+
+  tallied : Tallied root site templates still requests capacity before after events tally
+  tallied =
+      let all = whole root site templates still requests some first events last course_is in
+      let made = steps_of root site templates still requests some events first all.end state_is greatest_is none all.passes in
+      record {
+        makes = made.makes;
+        one_each = made.one_each;
+        each = λ number.
+            subst (λ a. IsCounted (λ (place : ℕ). shown_in root site templates still) (TermOf root) requests (counts_from number 0 no_counts events made.makes) (placed_input number events) (seen before number) (seen_of a))
+            (sym (all.ats number))
+            (counted_of (λ (place : ℕ). shown_in root site templates still) (TermOf root) 0 requests (counts_from number 0 no_counts events made.makes) (first.ats number) (all.end.ats number) (placed_input number events)
+            (made.stands number).stands);
+        connections = ap (λ (t : Tally). t.connections) tally_is
+            ∙ course_opened (still_rules old.root site templates) old.limit first events last course
+            ∙ ap (λ g. up_by (length (opened_from g events)) old.opened) greatest_is ∙ ap (up_by (length (opened_in events))) opened_is;
+        replies = ap (λ (t : Tally). t.replies) tally_is ∙ all.replies ∙ made.replies ∙ ap (λ n. fold (λ m one. up_by one.replies m) n made.makes) replies_is;
+        kept = all.end.cache;
+        looks = subst (λ k. AllLooked (LooksIn (IsOutcome (site still) (templates still))) k (flat_map (λ one. one.terms) made.makes) all.end.cache) cache_is made.looks;
+        hits = ap (λ (t : Tally). t.hits) tally_is ∙ all.hits;
+      }
 
   pub serves : Serves root site templates still requests turns capacity before after (record { end = end; tally = tally })
   serves = record { events = events; given = given; left = left; ends = ends; each = each; tally = tallied }
 
+  pub serves_in_steps : ServesInSteps root site templates still requests turns capacity before after (record { end = end; tally = tally })
+  serves_in_steps = record { events = events; left = left; ends = ends; tally = in_steps }
+
 -- memory was missing before the first event
-pub serves_nothing : {D : Type 0} (root : Option (List ℕ)) (site : D → Site) (templates : D → TemplateFile) (still : D) (requests turns capacity : ℕ) (wire : WireTold)
+pub serves_nothing : {D : Type 0} (root : Option (List ℕ)) (site : D → Site) (templates : D → TemplateFile) (still : D) (requests turns capacity : ℕ) (wire : Told)
     → Serves root site templates still requests turns capacity wire wire (record { end = NoMemory; tally = record { connections = 0; replies = 0; hits = 0 } })
-serves_nothing {D} root site templates still requests turns capacity wire =
-    let first : Scene D Kept = record { ats = at wire; current = still; greatest = None; opened = 0; replies = 0; cache = record { capacity = capacity; terms = []; hits = 0 } } in
+serves_nothing {D} root site templates still requests turns capacity wire = record {
+  events = [];
+  given = refl;
+  left = refl;
+  ends = (let none : 0 ≤ turns = omega arith in none, refl);
+  each = λ number. refl;
+  tally = record {
+    makes = [];
+    one_each = refl;
+    each = λ number. (refl, λ is. refl);
+    connections = refl;
+    replies = refl;
+    kept = none_kept capacity;
+    looks = refl;
+    hits = refl;
+  };
+}
+
+pub no_steps : {D : Type 0} (root : Option (List ℕ)) (site : D → Site) (templates : D → TemplateFile) (still : D) (requests turns capacity : ℕ) (wire : Told)
+    → ServesInSteps root site templates still requests turns capacity wire wire (record { end = NoMemory; tally = record { connections = 0; replies = 0; hits = 0 } })
+no_steps {D} root site templates still requests turns capacity wire =
+    let first : Scene D Kept = record { ats = at wire; current = still; greatest = None; opened = 0; replies = 0; cache = none_kept capacity } in
     record {
       events = [];
-      given = refl;
       left = refl;
       ends = (let none : 0 ≤ turns = omega arith in none, refl);
-      each = λ number. refl;
       tally = record {
         first = first;
         last = first;
@@ -164,7 +187,6 @@ serves_nothing {D} root site templates still requests turns capacity wire =
         begins = λ number. refl;
         ends = λ number. (refl, refl);
         tally_is = refl;
-        connections = refl;
       };
     }
 

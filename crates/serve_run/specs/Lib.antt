@@ -1,3 +1,4 @@
-pub mod Opened
-pub mod Serving
 pub mod Texts
+pub mod Served
+pub mod Steps
+pub mod Puts

@@ -1,24 +1,27 @@
 -- What a run prints.
 use Rattle.std.specs.Prelude.{ℕ, List, [], ◌++◌, length, flat_map, codes, decimal, Option, Some, None}
 use Rattle.wire.specs.Accounts.{Account}
-use Rattle.hub.specs.declared.hub_step.Tally.{Tally}
+use Rattle.serving_spec.specs.declared.Tally.{Tally}
 
 -- a line that counts something
 abbrev pub count_line : List ℕ → ℕ → List ℕ
 count_line name count = name ++ decimal count ++ codes "\n"
 
+-- the lines of the three counts
 abbrev pub tally_text : Tally → List ℕ
 tally_text tally =
-    count_line (codes "connections ") tally.connections ++ count_line (codes "replies ") tally.replies ++ count_line (codes "hits ") tally.hits
+    count_line (codes "connections ") tally.connections
+    ++ count_line (codes "replies ") tally.replies ++ count_line (codes "hits ") tally.hits
 
--- the bytes that a connection took, where this is told
+-- the bytes that a connection took, where this is reported
 abbrev pub bytes_taken : Option Account → List ℕ
 bytes_taken None = []
 bytes_taken (Some account) = account.taken
 
 -- the line of a connection: its number, and how many bytes it took
 abbrev pub connection_line : ℕ → ℕ → List ℕ
-connection_line number length = (codes "connection " ++ decimal number ++ codes " ") ++ (decimal length ++ codes "\n")
+connection_line number length =
+    (codes "connection " ++ decimal number ++ codes " ") ++ (decimal length ++ codes "\n")
 
 -- its line, the bytes, and a line feed
 abbrev pub connection_text : ℕ → List ℕ → List ℕ
@@ -26,4 +29,6 @@ connection_text number bytes = connection_line number (length bytes) ++ bytes ++
 
 -- the connections that were opened, and then the counts
 abbrev pub replay_text : (ℕ → Option Account) → List ℕ → Tally → List ℕ
-replay_text accounts opened tally = flat_map (λ number. connection_text number (bytes_taken (accounts number))) opened ++ tally_text tally
+replay_text accounts opened tally =
+    flat_map (λ number. connection_text number (bytes_taken (accounts number))) opened
+    ++ tally_text tally

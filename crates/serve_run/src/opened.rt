@@ -1,7 +1,6 @@
 // The connections that events open.
 ghost use Rattle.std.specs.Prelude.{◌≡◌, ◌++◌, IfOk, OnOk};
-ghost use Rattle.hub.specs.Turns.{counts, greatest_after};
-ghost use Rattle.serve_run.specs.Opened.{opens, opened_in};
+ghost use Rattle.serving_spec.specs.Openings.{counts, greatest_after, opens, opened_in};
 
 use sd_value::NoMemory;
 use std::alloc::Global;
@@ -26,7 +25,8 @@ fn note(
     greatest: &mut Option<u64>,
     event: &WireEvent,
 ) -> Result<(), NoMemory>
-    ensures opened { OnOk result (opened.new.items ≡ opened.old.items ++ opens greatest.old event.now) }
+    ensures opened { OnOk result (opened.new.items
+        ≡ opened.old.items ++ opens greatest.old event.now) }
     ensures greatest { OnOk result (greatest.new ≡ greatest_after event.now greatest.old) }
 {
     let WireEvent::Opened(number) = event else {

@@ -3,13 +3,13 @@ ghost use Rattle.std.specs.Prelude.{◌≡◌, ◌++◌, All, IfOk, OnOk, decima
 ghost use Rattle.mem_wire.specs.WireInMemory.{accounts_of, faults_in};
 ghost use Rattle.serve_run.specs.Texts.{tally_text, bytes_taken, connection_line, connection_text, replay_text};
 
-use hub::Tally;
 use itoa::Buffer;
 use mem_wire::MemWire;
 use sd_value::NoMemory;
+use serving_spec::Tally;
 use std::alloc::Global;
 
-/// The lines that tell the counts of a run.
+/// The lines that report the counts of a run.
 pub fn tally_text(alloc: Global, tally: &Tally) -> Result<Vec<u8>, NoMemory>
     ensures { IfOk result (λ text. text.items ≡ tally_text tally.now) }
 {
@@ -26,7 +26,8 @@ pub fn replay_text(
     opened: &[u64],
     tally: &Tally,
 ) -> Result<Vec<u8>, NoMemory>
-    ensures text { IfOk result (λ text. text.items ≡ replay_text (accounts_of wire.now) opened.now tally.now) }
+    ensures text { IfOk result (λ text. text.items
+        ≡ replay_text (accounts_of wire.now) opened.now tally.now) }
     ensures whole { IfOk result (λ text. All (λ number. faults_in wire.now number ≡ 0) opened.now) }
 {
     let mut text = Vec::new(alloc);
@@ -38,7 +39,8 @@ pub fn replay_text(
 }
 
 fn push_connection(text: &mut Vec<u8>, wire: &MemWire, number: u64) -> Result<(), NoMemory>
-    ensures text { OnOk result (text.new.items ≡ text.old.items ++ connection_text number (bytes_taken (accounts_of wire.now number))) }
+    ensures text { OnOk result (text.new.items
+        ≡ text.old.items ++ connection_text number (bytes_taken (accounts_of wire.now number))) }
     ensures whole { OnOk result (faults_in wire.now number ≡ 0) }
 {
     if wire.send_faults(number) > 0 {
@@ -75,7 +77,8 @@ fn push_tally(text: &mut Vec<u8>, tally: &Tally) -> Result<(), NoMemory>
 
 /// A number between two texts.
 fn push_number(text: &mut Vec<u8>, before: &[u8], number: u64, after: &[u8]) -> Result<(), NoMemory>
-    ensures { OnOk result (text.new.items ≡ text.old.items ++ (before.now ++ decimal number ++ after.now)) }
+    ensures { OnOk result (text.new.items
+        ≡ text.old.items ++ (before.now ++ decimal number ++ after.now)) }
 {
     let mut buffer = Buffer::new();
     text.extend_from_slice(before)?;

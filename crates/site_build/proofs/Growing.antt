@@ -6,7 +6,7 @@ use Rattle.std.proofs.lemmas.List.{take_more, take_all}
 use Rattle.std.proofs.lemmas.List.Elements.{Contains-append_left, Contains-push_cases, Contains-push}
 use Rattle.sd_value.specs.Members.{Contains-nil, Contains-here}
 use Rattle.site_spec.specs.Site.{SomeOf}
-use Rattle.site_asks.proofs.Some.{some_from, some_left, some_right, some_either, some_cons}
+use Rattle.site_lookups.proofs.Some.{some_from, some_left, some_right, some_either, some_cons}
 use Rattle.site_build.specs.Gains.{Gains}
 
 pub gains_none : {X : Type 0} (P : X → Type 0) (xs : List X) → ((x : X) → P x → ⊥) → Gains P xs xs

@@ -16,7 +16,7 @@ use Rattle.tmpl.specs.Body.{Named, TemplateFile}
 use Rattle.tmpl.specs.Reading.{named_of}
 use Rattle.page_spec.specs.Pieces.{First}
 use Rattle.site_spec.specs.Site.{SomeOf}
-use Rattle.site_asks.proofs.Some.{some_from}
+use Rattle.site_lookups.proofs.Some.{some_from}
 use Rattle.site_build.specs.Materialised.{HasPageTemplate}
 use Rattle.site_build.specs.Gains.{Gains}
 use Rattle.site_build.proofs.Growing.{gains_none, gains_push, gains_nil, gains_next, gains_end, gained_to}

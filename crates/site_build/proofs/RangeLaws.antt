@@ -9,7 +9,7 @@ use Rattle.std.proofs.lemmas.List.{get_or-take, get_or-drop, take-append-drop}
 use Rattle.std.proofs.lemmas.List.Elements.{All-head, All-tail, filter-append}
 use Rattle.std.proofs.lemmas.Option.{slice_get-get_or}
 use Rattle.graph_spec.specs.DataGraph.{Name}
-use Rattle.picks.specs.Picked.{in_place}
+use Rattle.list_lookup.specs.Picked.{in_place}
 use Rattle.site_build.specs.Places.{at_link}
 use Rattle.std.specs.Cmp.{Equal-is}
 use Rattle.std.proofs.lemmas.Bool.{cases_lt}

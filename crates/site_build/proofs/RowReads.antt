@@ -17,7 +17,7 @@ use Rattle.query_spec.specs.Rows.{value_in}
 use Rattle.struql_ast.specs.declared.Operand.{Operand as Written}
 use Rattle.struql_ast.specs.Reading.{operand_of}
 use Rattle.site_spec.specs.Site.{SomeOf, IsTermUnder, IsTargetUnder, IsLabelUnder}
-use Rattle.site_asks.proofs.Some.{some_from}
+use Rattle.site_lookups.proofs.Some.{some_from}
 use Rattle.site_build.specs.Gains.{Gains}
 use Rattle.site_build.specs.Materialised.{IsJoin, IsPutUnder}
 use Rattle.site_build.specs.Widths.{OnlyReads, OnlyAsks}

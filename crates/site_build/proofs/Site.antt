@@ -16,17 +16,17 @@ use Rattle.query_spec.specs.declared.Variable.{Variable}
 use Rattle.query_spec.specs.Query.{SkolemTerm, Chain, made}
 use Rattle.query_spec.specs.Holds.{Assignment}
 use Rattle.query_spec.specs.Rows.{value_in, row_cmp, IsRow}
-use Rattle.struql_ast.specs.declared.Term0.{Term0}
+use Rattle.struql_ast.specs.declared.SkolemTerm.{SkolemTerm as WrittenTerm}
 use Rattle.struql_ast.specs.declared.Link.{Link}
 use Rattle.struql_ast.specs.declared.Collect.{Collect}
 use Rattle.struql_ast.specs.Reading.{term_of, link_of, collect_of}
 use Rattle.site_spec.specs.Site.{Scope, SomeOf, SomeRow, IsTermUnder, IsTargetUnder, IsNamed, IsJoined, IsPut, InSite, Linked, CollectedBy, Collected, terms_of, ends_of, target_terms}
-use Rattle.query_site.specs.declared.Scoped.{Scoped}
-use Rattle.query_site.specs.Blocks.{body_of, IsScoped}
-use Rattle.query_site.specs.Site.{site_of}
-use Rattle.site_asks.specs.Ends.{BlockJoins, BlockPuts}
-use Rattle.site_asks.proofs.Some.{some_from, map_from, map_to}
-use Rattle.site_asks.proofs.Blocks.{from_creates, from_links, from_collects, in_clauses, bodies_from, bodies_to}
+use Rattle.query_blocks.specs.declared.QueryBlock.{QueryBlock}
+use Rattle.query_blocks.specs.Blocks.{body_of, IsCheckedBlock}
+use Rattle.weight_spec.specs.Site.{site_of}
+use Rattle.site_lookups.specs.Ends.{BlockJoins, BlockPuts}
+use Rattle.site_lookups.proofs.Some.{some_from, map_from, map_to}
+use Rattle.site_lookups.proofs.Blocks.{from_creates, from_links, from_collects, in_clauses, bodies_from, bodies_to}
 use Rattle.site_build.specs.declared.ordered.Joined.{Joined}
 use Rattle.site_build.specs.declared.ordered.Put.{Put}
 use Rattle.site_build.specs.declared.contents.Made.{Made}
@@ -41,7 +41,7 @@ at_both P a c b d e f p = subst (λ x. P x d) e (subst (P a) f p)
 
 -- ---- the terms of a block's rows, clause by clause
 
-abbrev pub InCreatesOf : List (List Value) → List Variable → List Term0 → Term → Type 0
+abbrev pub InCreatesOf : List (List Value) → List Variable → List WrittenTerm → Term → Type 0
 InCreatesOf rows vs ws p = SomeOf (λ row. SomeOf (λ w. IsTermUnder (value_in vs row) (term_of w) p) ws) rows
 
 abbrev pub InLinksOf : List (List Value) → List Variable → List Link → Term → Type 0
@@ -50,10 +50,10 @@ InLinksOf rows vs ks p = SomeOf (λ row. SomeOf (λ k. SomeOf (λ t. IsTermUnder
 abbrev pub InCollectsOf : List (List Value) → List Variable → List Collect → Term → Type 0
 InCollectsOf rows vs ks p = SomeOf (λ row. SomeOf (λ k. SomeOf (λ t. IsTermUnder (value_in vs row) t p) (target_terms (collect_of k).target)) ks) rows
 
-abbrev pub InTermsOf : List (List Value) → Scoped → Term → Type 0
+abbrev pub InTermsOf : List (List Value) → QueryBlock → Term → Type 0
 InTermsOf rows b p = SomeOf (λ row. SomeOf (λ t. IsTermUnder (value_in b.chain.variables row) t p) (terms_of (body_of b))) rows
 
-pub terms_gained : (b : Scoped) (rows : List (List Value)) (vs : List Variable) (ws : List Term0) (ks : List Link) (cs : List Collect) (old one two new : List Term)
+pub terms_gained : (b : QueryBlock) (rows : List (List Value)) (vs : List Variable) (ws : List WrittenTerm) (ks : List Link) (cs : List Collect) (old one two new : List Term)
     → vs ≡ b.chain.variables → ws ≡ b.creates.items → ks ≡ b.links.items → cs ≡ b.collects.items
     → Gains (InCreatesOf rows vs ws) old one → Gains (InLinksOf rows vs ks) one two → Gains (InCollectsOf rows vs cs) two new → Gains (InTermsOf rows b) old new
 terms_gained b rows vs ws ks cs old one two new ev ew ek ec g h i =
@@ -79,31 +79,31 @@ pub by_row : {T : Type 0} (G : DataGraph) (c : Chain) (rows : List (List Value))
     → SomeOf (λ t. SomeRow G c (P t)) ts → SomeOf (λ row. SomeOf (λ t. P t (value_in c.variables row)) ts) rows
 by_row G c rows P ts exact s = record { item = s.holds.row; within = exact.complete s.holds.row s.holds.is_row; holds = record { item = s.item; within = s.within; holds = s.holds.holds } }
 
-put_to : (G : DataGraph) (b : Scoped) (p : Put) → SomeOf (λ k. SomeRow G b.chain (λ s. IsPutUnder (collect_of k) s p)) b.collects.items → BlockPuts G p.collection b p.value
+put_to : (G : DataGraph) (b : QueryBlock) (p : Put) → SomeOf (λ k. SomeRow G b.chain (λ s. IsPutUnder (collect_of k) s p)) b.collects.items → BlockPuts G p.collection b p.value
 put_to G b p s = record { item = s.item; within = s.within; holds = (s.holds.holds.0, record { row = s.holds.row; is_row = s.holds.is_row; holds = s.holds.holds.1 }) }
 
-put_from : (G : DataGraph) (b : Scoped) (p : Put) → BlockPuts G p.collection b p.value → SomeOf (λ k. SomeRow G b.chain (λ s. IsPutUnder (collect_of k) s p)) b.collects.items
+put_from : (G : DataGraph) (b : QueryBlock) (p : Put) → BlockPuts G p.collection b p.value → SomeOf (λ k. SomeRow G b.chain (λ s. IsPutUnder (collect_of k) s p)) b.collects.items
 put_from G b p s = record { item = s.item; within = s.within; holds = record { row = s.holds.1.row; is_row = s.holds.1.is_row; holds = (s.holds.0, s.holds.1.holds) } }
 
-abbrev pub InJoinsOf : List (List Value) → Scoped → Joined → Type 0
+abbrev pub InJoinsOf : List (List Value) → QueryBlock → Joined → Type 0
 InJoinsOf rows b j = SomeOf (λ row. SomeOf (λ k. IsJoin (link_of k) (value_in b.chain.variables row) j) b.links.items) rows
 
-abbrev pub InPutsOf : List (List Value) → Scoped → Put → Type 0
+abbrev pub InPutsOf : List (List Value) → QueryBlock → Put → Type 0
 InPutsOf rows b p = SomeOf (λ row. SomeOf (λ k. IsPutUnder (collect_of k) (value_in b.chain.variables row) p) b.collects.items) rows
 
-pub terms_of_block : (G : DataGraph) (b : Scoped) (rows : List (List Value)) (old new : List Term) → ListsExactly row_cmp (IsRow G b.chain) rows → Gains (InTermsOf rows b) old new → Gains (λ p. SomeOf (IsNamed G b.chain p) (terms_of (body_of b))) old new
+pub terms_of_block : (G : DataGraph) (b : QueryBlock) (rows : List (List Value)) (old new : List Term) → ListsExactly row_cmp (IsRow G b.chain) rows → Gains (InTermsOf rows b) old new → Gains (λ p. SomeOf (IsNamed G b.chain p) (terms_of (body_of b))) old new
 terms_of_block G b rows old new exact g =
     gains_as (InTermsOf rows b) (λ p. SomeOf (IsNamed G b.chain p) (terms_of (body_of b))) old new g
     (λ p s. by_clause G b.chain rows (λ (t : SkolemTerm) s. IsTermUnder s t p) (terms_of (body_of b)) exact s)
     (λ p s. by_row G b.chain rows (λ (t : SkolemTerm) s. IsTermUnder s t p) (terms_of (body_of b)) exact s)
 
-pub links_of_block : (G : DataGraph) (b : Scoped) (rows : List (List Value)) (old new : List Joined) → ListsExactly row_cmp (IsRow G b.chain) rows → Gains (InJoinsOf rows b) old new → Gains (λ (j : Joined). BlockJoins G (Page j.from) j.label b j.to) old new
+pub links_of_block : (G : DataGraph) (b : QueryBlock) (rows : List (List Value)) (old new : List Joined) → ListsExactly row_cmp (IsRow G b.chain) rows → Gains (InJoinsOf rows b) old new → Gains (λ (j : Joined). BlockJoins G (Page j.from) j.label b j.to) old new
 links_of_block G b rows old new exact g =
     gains_as (InJoinsOf rows b) (λ (j : Joined). BlockJoins G (Page j.from) j.label b j.to) old new g
     (λ j s. by_clause G b.chain rows (λ (k : Link) s. IsJoin (link_of k) s j) b.links.items exact s)
     (λ j s. by_row G b.chain rows (λ (k : Link) s. IsJoin (link_of k) s j) b.links.items exact s)
 
-pub puts_of_block : (G : DataGraph) (b : Scoped) (rows : List (List Value)) (old new : List Put) → ListsExactly row_cmp (IsRow G b.chain) rows → Gains (InPutsOf rows b) old new → Gains (λ (p : Put). BlockPuts G p.collection b p.value) old new
+pub puts_of_block : (G : DataGraph) (b : QueryBlock) (rows : List (List Value)) (old new : List Put) → ListsExactly row_cmp (IsRow G b.chain) rows → Gains (InPutsOf rows b) old new → Gains (λ (p : Put). BlockPuts G p.collection b p.value) old new
 puts_of_block G b rows old new exact g =
     gains_as (InPutsOf rows b) (λ (p : Put). BlockPuts G p.collection b p.value) old new g
     (λ p s. put_to G b p (by_clause G b.chain rows (λ (k : Collect) s. IsPutUnder (collect_of k) s p) b.collects.items exact s))
@@ -113,21 +113,21 @@ puts_of_block G b rows old new exact g =
 
 pub none_added : (G : DataGraph) (c : Made) → BlocksAdd G [] c c
 none_added G c = record {
-  terms = gains_nil (λ (b : Scoped) (p : Term). SomeOf (IsNamed G b.chain p) (terms_of (body_of b))) c.terms.keys;
-  links = gains_nil (λ (b : Scoped) (j : Joined). BlockJoins G (Page j.from) j.label b j.to) c.links.keys;
-  puts = gains_nil (λ (b : Scoped) (p : Put). BlockPuts G p.collection b p.value) c.puts.keys;
+  terms = gains_nil (λ (b : QueryBlock) (p : Term). SomeOf (IsNamed G b.chain p) (terms_of (body_of b))) c.terms.keys;
+  links = gains_nil (λ (b : QueryBlock) (j : Joined). BlockJoins G (Page j.from) j.label b j.to) c.links.keys;
+  puts = gains_nil (λ (b : QueryBlock) (p : Put). BlockPuts G p.collection b p.value) c.puts.keys;
 }
 
-pub one_more : (G : DataGraph) (bs : List Scoped) (i : ℕ) (b : Scoped) (old now new : Made) → i < length bs → b ≡ get_or bs i b → BlocksAdd G (take i bs) old now → BlockAdds G b now new → BlocksAdd G (take (i + 1) bs) old new
+pub one_more : (G : DataGraph) (bs : List QueryBlock) (i : ℕ) (b : QueryBlock) (old now new : Made) → i < length bs → b ≡ get_or bs i b → BlocksAdd G (take i bs) old now → BlockAdds G b now new → BlocksAdd G (take (i + 1) bs) old new
 one_more G bs i b old now new l is all more = record {
-  terms = gains_next (λ (b : Scoped) (p : Term). SomeOf (IsNamed G b.chain p) (terms_of (body_of b))) bs i b old.terms.keys now.terms.keys new.terms.keys l is all.terms more.terms;
-  links = gains_next (λ (b : Scoped) (j : Joined). BlockJoins G (Page j.from) j.label b j.to) bs i b old.links.keys now.links.keys new.links.keys l is all.links more.links;
-  puts = gains_next (λ (b : Scoped) (p : Put). BlockPuts G p.collection b p.value) bs i b old.puts.keys now.puts.keys new.puts.keys l is all.puts more.puts;
+  terms = gains_next (λ (b : QueryBlock) (p : Term). SomeOf (IsNamed G b.chain p) (terms_of (body_of b))) bs i b old.terms.keys now.terms.keys new.terms.keys l is all.terms more.terms;
+  links = gains_next (λ (b : QueryBlock) (j : Joined). BlockJoins G (Page j.from) j.label b j.to) bs i b old.links.keys now.links.keys new.links.keys l is all.links more.links;
+  puts = gains_next (λ (b : QueryBlock) (p : Put). BlockPuts G p.collection b p.value) bs i b old.puts.keys now.puts.keys new.puts.keys l is all.puts more.puts;
 }
 
 -- ---- all blocks: the relations of the site
 
-module _ (G : DataGraph) (q : Scope) (blocks : List Scoped) (checked : (b : Scoped) → Contains blocks b → IsScoped q.version b) (e : q.bodies ≡ map body_of blocks) where
+module _ (G : DataGraph) (q : Scope) (blocks : List QueryBlock) (checked : (b : QueryBlock) → Contains blocks b → IsCheckedBlock q.version b) (e : q.bodies ≡ map body_of blocks) where
   in_site_from : (p : Term) → SomeOf (λ b. SomeOf (IsNamed G b.chain p) (terms_of (body_of b))) blocks → InSite G q p
   in_site_from p s = bodies_from (λ c b. SomeOf (IsNamed G c p) (terms_of b)) q blocks checked e s
 
@@ -172,7 +172,7 @@ page_is_no_datum : (d : Datum) (p : Term) → Data d ≡ Page p → ⊥
 page_is_no_datum d p e = cc
 
 -- a link starts at a page
-link_start : (G : DataGraph) (q : Scope) (blocks : List Scoped) (u : Value) (label : Name) (v : Value) → ((b : Scoped) → Contains blocks b → IsScoped q.version b) → q.bodies ≡ map body_of blocks → Linked G q u label v
+link_start : (G : DataGraph) (q : Scope) (blocks : List QueryBlock) (u : Value) (label : Name) (v : Value) → ((b : QueryBlock) → Contains blocks b → IsCheckedBlock q.version b) → q.bodies ≡ map body_of blocks → Linked G q u label v
     → (p : Term) × (u ≡ Page p)
 link_start G q blocks u label v checked e l =
     let s = bodies_to (λ c b. SomeOf (IsJoined G c u label v) b.links) q blocks checked e l in
@@ -184,7 +184,7 @@ link_start G q blocks u label v checked e l =
 abbrev pub LabelsOf : List Joined → List Name → Type 0
 LabelsOf links labels = Gains (λ l. SomeOf (λ (j : Joined). j.label ≡ l) links) [] labels
 
-pub labels_listed : (G : DataGraph) (q : Scope) (blocks : List Scoped) (links : List Joined) (all out : List Name) → ((b : Scoped) → Contains blocks b → IsScoped q.version b) → q.bodies ≡ map body_of blocks
+pub labels_listed : (G : DataGraph) (q : Scope) (blocks : List QueryBlock) (links : List Joined) (all out : List Name) → ((b : QueryBlock) → Contains blocks b → IsCheckedBlock q.version b) → q.bodies ≡ map body_of blocks
     → ListsExactly joined_cmp (λ (j : Joined). Linked G q (Page j.from) j.label j.to) links → LabelsOf links all → ListsExactly bytes_cmp (Contains all) out
     → ListsExactly bytes_cmp (λ l. (u : Value) × (v : Value) × Linked G q u l v) out
 labels_listed G q blocks links all out checked e exact g x = listed_as x

@@ -9,7 +9,7 @@ use Rattle.graph_spec.specs.DataGraph.{Name, text}
 use Rattle.query_spec.specs.Query.{LinkLabel, quoted, label_variable, Link, Collect, Target}
 use Rattle.query_spec.specs.Holds.{Assignment}
 use Rattle.site_spec.specs.Site.{IsTargetUnder, IsLabelUnder}
-use Rattle.site_asks.proofs.Targets.{target_same}
+use Rattle.site_lookups.proofs.Targets.{target_same}
 use Rattle.site_build.specs.declared.ordered.Joined.{Joined}
 use Rattle.site_build.specs.declared.ordered.Put.{Put}
 use Rattle.site_build.specs.Materialised.{IsJoin, IsPutUnder}

@@ -12,10 +12,10 @@ use Rattle.query_spec.specs.declared.Variable.{Variable}
 use Rattle.query_spec.specs.Query.{SkolemTerm}
 use Rattle.query_spec.specs.Rows.{value_in}
 use Rattle.struql_ast.specs.declared.Operand.{Operand}
-use Rattle.struql_ast.specs.declared.Term0.{Term0}
+use Rattle.struql_ast.specs.declared.SkolemTerm.{SkolemTerm as WrittenTerm}
 use Rattle.struql_ast.specs.Reading.{operand_of, term_of}
 use Rattle.site_spec.specs.Site.{SomeOf, IsTermUnder}
-use Rattle.site_asks.proofs.Some.{some_from, some_cons}
+use Rattle.site_lookups.proofs.Some.{some_from, some_cons}
 use Rattle.site_build.specs.Gains.{Gains}
 use Rattle.site_build.specs.Materialised.{HasCreated}
 use Rattle.site_build.proofs.Growing.{gains_none, gains_both, gains_only, gains_turned}
@@ -30,7 +30,7 @@ not_false : (b : Bool) → false ≡ not b → b ≡ true
 not_false true e = refl
 not_false false e = cc
 
-pub written_alike : (t u : Term0) (differ : Bool) (i : ℕ) → differ ≡ not (eq_by_cmp bytes_cmp t.function u.function) → differ ≡ false → length t.args.items ≤ i → length u.args.items ≤ i
+pub written_alike : (t u : WrittenTerm) (differ : Bool) (i : ℕ) → differ ≡ not (eq_by_cmp bytes_cmp t.function u.function) → differ ≡ false → length t.args.items ≤ i → length u.args.items ≤ i
     → take i (map operand_of t.args.items) ≡ take i (map operand_of u.args.items) → term_of t ≡ term_of u
 written_alike t u differ i is e l m same =
     let f = same_bytes t.function u.function (not_false _ (sym e ∙ is)) in
@@ -47,7 +47,7 @@ pub names_nothing : (vs : List Variable) (rows : List (List Value)) (made : List
 names_nothing vs rows made = gains_none (NamedBy vs rows []) made (λ p s. absurd (Contains-nil s.holds.item s.holds.within))
 
 -- what a CREATE makes that is written alike is there already
-pub names_known : (vs : List Variable) (rows : List (List Value)) (ws : List Term0) (t : SkolemTerm) (made : List Term) → HasCreated vs rows ws made → SomeOf (λ w. term_of w ≡ t) ws → Gains (NamedBy vs rows (t ∷ [])) made made
+pub names_known : (vs : List Variable) (rows : List (List Value)) (ws : List WrittenTerm) (t : SkolemTerm) (made : List Term) → HasCreated vs rows ws made → SomeOf (λ w. term_of w ≡ t) ws → Gains (NamedBy vs rows (t ∷ [])) made made
 names_known vs rows ws t made has among = record { to = λ p h. inl h; kept = λ p h. h; gained = known }
   where
     known : (p : Term) → NamedBy vs rows (t ∷ []) p → Contains made p

@@ -16,7 +16,8 @@ abbrev pub put_writes : Put → fed.HashWrites
 put_writes p = fed.str p.collection ++ value_writes p.value
 
 -- what `==` finds equal feeds alike, since it is one thing
-pub joined_fed : (x y : Joined) → IsTrue (is_eq (joined_cmp x y)) → joined_writes x ≡ joined_writes y
+pub joined_fed : (x y : Joined) → IsTrue (is_eq (joined_cmp x y))
+    → joined_writes x ≡ joined_writes y
 joined_fed x y h = ap joined_writes (joined_cmp-exact x y ((Equal-is (joined_cmp x y)).0 h))
 
 pub put_fed : (x y : Put) → IsTrue (is_eq (put_cmp x y)) → put_writes x ≡ put_writes y

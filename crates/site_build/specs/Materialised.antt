@@ -1,4 +1,4 @@
--- What stands in a site, from the rows of its blocks.
+-- What is in a site, from the rows of its blocks.
 use Rattle.std.specs.Prelude.{◌≡◌, ℕ, List, Contains, length}
 use Rattle.sd_value.specs.declared.Term.{Term}
 use Rattle.sd_value.specs.declared.Value.{Value}
@@ -12,13 +12,13 @@ use Rattle.query_spec.specs.Query.{Link, Collect}
 use Rattle.query_spec.specs.Holds.{Assignment}
 use Rattle.query_spec.specs.Rows.{value_in}
 use Rattle.query_spec.specs.declared.Variable.{Variable}
-use Rattle.struql_ast.specs.declared.Term0.{Term0}
+use Rattle.struql_ast.specs.declared.SkolemTerm.{SkolemTerm}
 use Rattle.struql_ast.specs.Reading.{term_of}
 use Rattle.site_spec.specs.Site.{Scope, SomeOf, Joins, IsTermUnder, IsTargetUnder, IsNamed, InSite, Linked, CollectedBy, terms_of}
-use Rattle.query_site.specs.declared.Scoped.{Scoped}
-use Rattle.query_site.specs.declared.Scopes.{Scopes}
-use Rattle.query_site.specs.Blocks.{body_of, scope_of, AreScoped}
-use Rattle.site_asks.specs.Ends.{BlockJoins, BlockPuts}
+use Rattle.query_blocks.specs.declared.QueryBlock.{QueryBlock}
+use Rattle.query_blocks.specs.declared.QueryBlocks.{QueryBlocks}
+use Rattle.query_blocks.specs.Blocks.{body_of, scope_of, AreCheckedBlocks}
+use Rattle.site_lookups.specs.Ends.{BlockJoins, BlockPuts}
 use Rattle.site_build.specs.declared.ordered.Joined.{Joined}
 use Rattle.site_build.specs.declared.ordered.Put.{Put}
 use Rattle.site_build.specs.declared.contents.Contents.{Contents}
@@ -36,33 +36,44 @@ abbrev pub IsPutUnder : Collect → Assignment → Put → Type 0
 IsPutUnder k s p = (k.collection ≡ p.collection) × IsTargetUnder s k.target p.value
 
 -- the terms have all that these CREATEs name under the rows
-abbrev pub HasCreated : List Variable → List (List Value) → List Term0 → List Term → Type 0
-HasCreated variables rows creates terms = (p : Term) → SomeOf (λ row. SomeOf (λ w. IsTermUnder (value_in variables row) (term_of w) p) creates) rows → Contains terms p
+abbrev pub HasCreated : List Variable → List (List Value) → List SkolemTerm → List Term → Type 0
+HasCreated variables rows creates terms =
+    (p : Term) → SomeOf (λ row. SomeOf (λ w. IsTermUnder (value_in variables row) (term_of w) p) creates) rows → Contains terms p
 
 -- what the rows of one block add
-pub record BlockAdds (G : DataGraph) (b : Scoped) (old new : Made) : Type 0 where
-  pub terms : Gains (λ p. SomeOf (IsNamed G b.chain p) (terms_of (body_of b))) old.terms.keys new.terms.keys
-  pub links : Gains (λ (j : Joined). BlockJoins G (Page j.from) j.label b j.to) old.links.keys new.links.keys
+pub record BlockAdds (G : DataGraph) (b : QueryBlock) (old new : Made) : Type 0 where
+  pub terms : Gains
+      (λ p. SomeOf (IsNamed G b.chain p) (terms_of (body_of b))) old.terms.keys new.terms.keys
+  pub links : Gains
+      (λ (j : Joined). BlockJoins G (Page j.from) j.label b j.to) old.links.keys new.links.keys
   pub puts : Gains (λ (p : Put). BlockPuts G p.collection b p.value) old.puts.keys new.puts.keys
 
 -- what the rows of these blocks add
-pub record BlocksAdd (G : DataGraph) (bs : List Scoped) (old new : Made) : Type 0 where
-  pub terms : Gains (λ p. SomeOf (λ b. SomeOf (IsNamed G b.chain p) (terms_of (body_of b))) bs) old.terms.keys new.terms.keys
-  pub links : Gains (λ (j : Joined). SomeOf (λ b. BlockJoins G (Page j.from) j.label b j.to) bs) old.links.keys new.links.keys
-  pub puts : Gains (λ (p : Put). SomeOf (λ b. BlockPuts G p.collection b p.value) bs) old.puts.keys new.puts.keys
+pub record BlocksAdd (G : DataGraph) (bs : List QueryBlock) (old new : Made) : Type 0 where
+  pub terms : Gains
+      (λ p. SomeOf (λ b. SomeOf (IsNamed G b.chain p) (terms_of (body_of b))) bs) old.terms.keys
+      new.terms.keys
+  pub links : Gains
+      (λ (j : Joined). SomeOf (λ b. BlockJoins G (Page j.from) j.label b j.to) bs) old.links.keys
+      new.links.keys
+  pub puts : Gains
+      (λ (p : Put). SomeOf (λ b. BlockPuts G p.collection b p.value) bs) old.puts.keys new.puts.keys
 
 -- the ascending lists of exactly the site's terms, links, and values put under names
-pub record IsContents (G : DataGraph) (q : Scope) (terms : List Term) (links : List Joined) (puts : List Put) : Type 0 where
+pub record IsContents (G : DataGraph) (q : Scope) (terms : List Term) (links : List Joined)
+    (puts : List Put) : Type 0 where
   pub all_terms : ListsExactly term_cmp (InSite G q) terms
   pub all_links : ListsExactly joined_cmp (λ j. Linked G q (Page j.from) j.label j.to) links
   pub all_puts : ListsExactly put_cmp (λ p. CollectedBy G q p.collection p.value) puts
 
--- the contents are those of the site of these blocks over the graph, and the links of each page stand in its range
-pub record IsWhole (G : DataGraph) (scopes : Scopes) (contents : Contents) : Type 0 where
+-- the contents are those of the site of these blocks over the graph, and the links of each page are in its range
+pub record IsWhole (G : DataGraph) (scopes : QueryBlocks) (contents : Contents) : Type 0 where
   pub well_formed : IsWellFormed G
-  pub scoped : AreScoped scopes.version scopes.blocks.items
-  pub made : IsContents G (scope_of scopes) contents.terms.items contents.links.items contents.puts.items
-  pub ranges : AreRanges contents.links.items (length contents.links.items) (range_at contents.ranges)
+  pub scoped : AreCheckedBlocks scopes.version scopes.blocks.items
+  pub made : IsContents G
+      (scope_of scopes) contents.terms.items contents.links.items contents.puts.items
+  pub ranges : AreRanges contents.links.items (length contents.links.items)
+      (range_at contents.ranges)
 
 -- the term's function has a template
 abbrev pub HasPageTemplate : TemplateFile → Term → Type 0

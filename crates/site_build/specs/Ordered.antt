@@ -10,10 +10,14 @@ use Rattle.site_build.specs.declared.ordered.Joined.{Joined}
 use Rattle.site_build.specs.declared.ordered.Put.{Put}
 
 abbrev pub joined_cmp : Joined → Joined → Ordering
-joined_cmp = then_cmp (on (λ j. j.from) term_cmp) (then_cmp (on (λ j. j.label) bytes_cmp) (on (λ j. j.to) value_cmp))
+joined_cmp =
+    then_cmp (on (λ j. j.from) term_cmp)
+    (then_cmp (on (λ j. j.label) bytes_cmp) (on (λ j. j.to) value_cmp))
 
 pub joined_cmp-total : IsTotalOrder joined_cmp
-joined_cmp-total = then_total (on_total (λ j. j.from) term_cmp-total) (then_total (on_total (λ j. j.label) bytes_cmp-total) (on_total (λ j. j.to) value_cmp-total))
+joined_cmp-total =
+    then_total (on_total (λ j. j.from) term_cmp-total)
+    (then_total (on_total (λ j. j.label) bytes_cmp-total) (on_total (λ j. j.to) value_cmp-total))
 
 pub joined_cmp-exact : IsAntisymmetric joined_cmp
 joined_cmp-exact a b h =
@@ -28,7 +32,9 @@ abbrev pub put_cmp : Put → Put → Ordering
 put_cmp = then_cmp (on (λ p. p.collection) bytes_cmp) (on (λ p. p.value) value_cmp)
 
 pub put_cmp-total : IsTotalOrder put_cmp
-put_cmp-total = then_total (on_total (λ p. p.collection) bytes_cmp-total) (on_total (λ p. p.value) value_cmp-total)
+put_cmp-total =
+    then_total (on_total (λ p. p.collection) bytes_cmp-total)
+    (on_total (λ p. p.value) value_cmp-total)
 
 pub put_cmp-exact : IsAntisymmetric put_cmp
 put_cmp-exact a b h =

@@ -8,4 +8,5 @@ OnlyReads width f = (row other : List Value) → take width row ≡ take width o
 
 -- what Q relates to a row, it relates to each row with the same first values
 abbrev pub OnlyAsks : {X : Type 0} → ℕ → (List Value → X → Type 0) → Type 0
-OnlyAsks {X} width Q = (row other : List Value) → take width row ≡ take width other → (x : X) → Q row x → Q other x
+OnlyAsks {X} width Q =
+    (row other : List Value) → take width row ≡ take width other → (x : X) → Q row x → Q other x

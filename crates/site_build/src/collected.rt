@@ -12,7 +12,7 @@ use crate::repeats::put_width;
 use indexmap::IndexSet;
 use query_spec::Variable;
 use sd_value::{NoMemory, Value};
-use site_asks::target_under;
+use site_lookups::target_under;
 use std::alloc::Global;
 use struql_ast::Collect;
 
@@ -23,7 +23,10 @@ fn put_under(
     row: &[Value],
     collect: &Collect,
 ) -> Result<Option<Put>, NoMemory>
-    ensures { IfOk result (λ o. MatchOption o ((p : AnyPut) → IsPutUnder (collect_of collect.now) (value_in variables.now row.now) p → ⊥) (λ p. IsPutUnder (collect_of collect.now) (value_in variables.now row.now) p)) }
+    ensures { IfOk result
+        (λ o. MatchOption o
+        ((p : AnyPut) → IsPutUnder (collect_of collect.now) (value_in variables.now row.now) p → ⊥)
+        (λ p. IsPutUnder (collect_of collect.now) (value_in variables.now row.now) p)) }
 {
     let Some(value) = target_under(alloc, variables, row, &collect.target)? else {
         return Ok(None);
@@ -39,7 +42,9 @@ fn add_put(
     collect: &Collect,
     made: &mut IndexSet<Put>,
 ) -> Result<(), NoMemory>
-    ensures { OnOk result (Gains (IsPutUnder (collect_of collect.now) (value_in variables.now row.now)) made.old.keys made.new.keys) }
+    ensures { OnOk result
+        (Gains (IsPutUnder (collect_of collect.now) (value_in variables.now row.now)) made.old.keys
+        made.new.keys) }
 {
     let one = put_under(alloc, variables, row, collect)?;
     insert_one(made, one)?;

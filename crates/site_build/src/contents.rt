@@ -1,11 +1,11 @@
-// What stands in a site: every block's rows are asked for once.
+// What is in a site: every block's rows are asked for once.
 ghost use Rattle.std.specs.Prelude.{◌≡◌, Contains, IfOk, OnOk, length};
 ghost use Rattle.query_spec.specs.Mentions.{IsWellMade};
 ghost use Rattle.query_spec.specs.Rows.{value_in};
 ghost use Rattle.struql_ast.specs.Reading.{link_of, collect_of};
 ghost use Rattle.site_spec.specs.Site.{IsTermUnder, SomeOf, terms_of};
-ghost use Rattle.query_site.specs.declared.Scoped.{Scoped as AnyScoped};
-ghost use Rattle.query_site.specs.Blocks.{AreScoped, body_of, scope_of};
+ghost use Rattle.query_blocks.specs.declared.QueryBlock.{QueryBlock as AnyScoped};
+ghost use Rattle.query_blocks.specs.Blocks.{AreCheckedBlocks, body_of, scope_of};
 ghost use Rattle.site_build.specs.Gains.{Gains};
 ghost use Rattle.site_build.specs.Ranges.{AreRanges, range_at};
 ghost use Rattle.site_build.specs.Materialised.{IsJoin, IsPutUnder, BlockAdds, BlocksAdd, IsContents};
@@ -17,13 +17,13 @@ use crate::ranges::{Range, ranges_of};
 use crate::terms::{add_collect_terms, add_link_terms};
 use asker::Asker;
 use indexmap::{IndexMap, IndexSet};
-use query_site::{Scoped, Scopes};
+use query_blocks::{QueryBlock, QueryBlocks};
 use query_spec::Row;
 use sd_value::{NoMemory, Term};
-use site_asks::rows_of;
+use site_lookups::rows_of;
 use std::alloc::Global;
 
-/// Terms, links, the values that COLLECTs put under names, and where each page's links stand.
+/// Terms, links, the values that COLLECTs put under names, and where each page's links are.
 #[derive(Debug, Drop)]
 pub struct Contents {
     pub terms: Vec<Term>,
@@ -32,7 +32,7 @@ pub struct Contents {
     pub ranges: IndexMap<Term, Range>,
 }
 
-/// What rows have made so far. A set tells by a hash what was made before, and its items stand as they came.
+/// What rows have made so far. A set reports by a hash what was made before, and its items are as they came.
 #[derive(Drop)]
 pub(crate) struct Made {
     pub terms: IndexSet<Term>,
@@ -42,11 +42,14 @@ pub(crate) struct Made {
 
 fn add_terms(
     alloc: Global,
-    block: &Scoped,
+    block: &QueryBlock,
     rows: &[Row],
     terms: &mut IndexSet<Term>,
 ) -> Result<(), NoMemory>
-    ensures { OnOk result (Gains (λ p. SomeOf (λ row. SomeOf (λ t. IsTermUnder (value_in block.now.chain.variables row) t p) (terms_of (body_of block.now))) rows.now) terms.old.keys terms.new.keys) }
+    ensures { OnOk result
+        (Gains (λ p. SomeOf (λ row. SomeOf (λ t. IsTermUnder
+        (value_in block.now.chain.variables row) t p) (terms_of (body_of block.now))) rows.now)
+        terms.old.keys terms.new.keys) }
 {
     let variables = block.chain.variables();
     let creates = block.creates.as_slice();
@@ -72,11 +75,14 @@ fn add_terms(
 
 fn add_links(
     alloc: Global,
-    block: &Scoped,
+    block: &QueryBlock,
     rows: &[Row],
     links: &mut IndexSet<Joined>,
 ) -> Result<(), NoMemory>
-    ensures { OnOk result (Gains (λ j. SomeOf (λ row. SomeOf (λ k. IsJoin (link_of k) (value_in block.now.chain.variables row) j) block.now.links.items) rows.now) links.old.keys links.new.keys) }
+    ensures { OnOk result
+        (Gains (λ j. SomeOf (λ row. SomeOf (λ k. IsJoin (link_of k)
+        (value_in block.now.chain.variables row) j) block.now.links.items) rows.now) links.old.keys
+        links.new.keys) }
 {
     add_rows(
         alloc,
@@ -90,11 +96,14 @@ fn add_links(
 
 fn add_puts(
     alloc: Global,
-    block: &Scoped,
+    block: &QueryBlock,
     rows: &[Row],
     puts: &mut IndexSet<Put>,
 ) -> Result<(), NoMemory>
-    ensures { OnOk result (Gains (λ p. SomeOf (λ row. SomeOf (λ k. IsPutUnder (collect_of k) (value_in block.now.chain.variables row) p) block.now.collects.items) rows.now) puts.old.keys puts.new.keys) }
+    ensures { OnOk result
+        (Gains (λ p. SomeOf (λ row. SomeOf (λ k. IsPutUnder (collect_of k)
+        (value_in block.now.chain.variables row) p) block.now.collects.items) rows.now)
+        puts.old.keys puts.new.keys) }
 {
     add_rows(
         alloc,
@@ -110,7 +119,7 @@ fn add_puts(
 fn add_block<A: Asker>(
     alloc: Global,
     asker: &mut A,
-    block: &Scoped,
+    block: &QueryBlock,
     made: &mut Made,
 ) -> Result<(), NoMemory>
     requires { IsWellMade block.now.chain }
@@ -128,7 +137,7 @@ fn add_block<A: Asker>(
 fn add_blocks<A: Asker>(
     alloc: Global,
     asker: &mut A,
-    blocks: &[Scoped],
+    blocks: &[QueryBlock],
     made: &mut Made,
 ) -> Result<(), NoMemory>
     requires { (b : AnyScoped) → Contains blocks.now b → IsWellMade b.chain }
@@ -141,16 +150,19 @@ fn add_blocks<A: Asker>(
     Ok(())
 }
 
-/// What stands in the site of the blocks over the asker's graph, in ascending lists.
+/// What is in the site of the blocks over the asker's graph, in ascending lists.
 pub fn contents_of<A: Asker>(
     alloc: Global,
     asker: &mut A,
-    scopes: &Scopes,
+    scopes: &QueryBlocks,
 ) -> Result<Contents, NoMemory>
-    requires scoped { AreScoped scopes.now.version scopes.now.blocks.items }
+    requires scoped { AreCheckedBlocks scopes.now.version scopes.now.blocks.items }
     ensures graph { A.graph asker.new ≡ A.graph asker.old }
-    ensures contents { IfOk result (λ c. IsContents (A.graph asker.old) (scope_of scopes.now) c.terms.items c.links.items c.puts.items) }
-    ensures ranges { IfOk result (λ c. AreRanges c.links.items (length c.links.items) (range_at c.ranges)) }
+    ensures contents { IfOk result
+        (λ c. IsContents (A.graph asker.old)
+        (scope_of scopes.now) c.terms.items c.links.items c.puts.items) }
+    ensures ranges { IfOk result
+        (λ c. AreRanges c.links.items (length c.links.items) (range_at c.ranges)) }
 {
     let mut made = Made {
         terms: IndexSet::new(alloc),

@@ -16,14 +16,16 @@ use crate::repeats::link_width;
 use indexmap::IndexSet;
 use query_spec::Variable;
 use sd_value::{Datum, NoMemory, Str, Term, Value};
-use site_asks::target_under;
+use site_lookups::target_under;
 use skolem::value_of;
 use std::alloc::Global;
 use struql_ast::{Link, LinkLabel, Target};
 
 // The text that a row gives a variable, if it gives one.
 fn text_of<'a>(variables: &[Variable], row: &'a [Value], name: &Str) -> Option<&'a Str>
-    ensures { MatchOption result ((l : Name) → value_in variables.now row.now name.now ≡ Some (text l) → ⊥) (λ l. value_in variables.now row.now name.now ≡ Some (text l.now)) }
+    ensures { MatchOption result
+        ((l : Name) → value_in variables.now row.now name.now ≡ Some (text l) → ⊥)
+        (λ l. value_in variables.now row.now name.now ≡ Some (text l.now)) }
 {
     let Some(value) = value_of(variables, row, name) else {
         return None;
@@ -44,7 +46,10 @@ fn label_under(
     row: &[Value],
     written: &LinkLabel,
 ) -> Result<Option<Str>, NoMemory>
-    ensures { IfOk result (λ o. MatchOption o ((l : Name) → IsLabelUnder (value_in variables.now row.now) (label_of written.now) l → ⊥) (λ l. IsLabelUnder (value_in variables.now row.now) (label_of written.now) l)) }
+    ensures { IfOk result
+        (λ o. MatchOption o
+        ((l : Name) → IsLabelUnder (value_in variables.now row.now) (label_of written.now) l → ⊥)
+        (λ l. IsLabelUnder (value_in variables.now row.now) (label_of written.now) l)) }
 {
     match written {
         LinkLabel::Quoted(name) => Ok(Some(name.copy(alloc)?)),
@@ -64,7 +69,11 @@ fn page_under(
     row: &[Value],
     target: &Target,
 ) -> Result<Option<Term>, NoMemory>
-    ensures { IfOk result (λ o. MatchOption o ((p : AnyTerm) → IsTargetUnder (value_in variables.now row.now) (target_of target.now) (Page p) → ⊥) (λ p. IsTargetUnder (value_in variables.now row.now) (target_of target.now) (Page p))) }
+    ensures { IfOk result
+        (λ o. MatchOption o
+        ((p : AnyTerm)
+        → IsTargetUnder (value_in variables.now row.now) (target_of target.now) (Page p) → ⊥)
+        (λ p. IsTargetUnder (value_in variables.now row.now) (target_of target.now) (Page p))) }
 {
     let Some(value) = target_under(alloc, variables, row, target)? else {
         return Ok(None);
@@ -79,7 +88,10 @@ fn join_under(
     row: &[Value],
     link: &Link,
 ) -> Result<Option<Joined>, NoMemory>
-    ensures { IfOk result (λ o. MatchOption o ((j : AnyJoined) → IsJoin (link_of link.now) (value_in variables.now row.now) j → ⊥) (λ j. IsJoin (link_of link.now) (value_in variables.now row.now) j)) }
+    ensures { IfOk result
+        (λ o. MatchOption o
+        ((j : AnyJoined) → IsJoin (link_of link.now) (value_in variables.now row.now) j → ⊥)
+        (λ j. IsJoin (link_of link.now) (value_in variables.now row.now) j)) }
 {
     let Some(from) = page_under(alloc, variables, row, &link.source)? else {
         return Ok(None);
@@ -100,7 +112,9 @@ fn add_join(
     link: &Link,
     made: &mut IndexSet<Joined>,
 ) -> Result<(), NoMemory>
-    ensures { OnOk result (Gains (IsJoin (link_of link.now) (value_in variables.now row.now)) made.old.keys made.new.keys) }
+    ensures { OnOk result
+        (Gains (IsJoin (link_of link.now) (value_in variables.now row.now)) made.old.keys
+        made.new.keys) }
 {
     let one = join_under(alloc, variables, row, link)?;
     insert_one(made, one)?;

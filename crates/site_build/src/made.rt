@@ -29,7 +29,8 @@ pub trait Clause<M: Eq + Hash> {
         row: &[Value],
         made: &mut IndexSet<M>,
     ) -> Result<(), NoMemory>
-        ensures { OnOk result (Gains (makes self.now (value_in variables.now row.now)) made.old.keys made.new.keys) };
+        ensures { OnOk result
+            (Gains (makes self.now (value_in variables.now row.now)) made.old.keys made.new.keys) };
 }
 
 /// Adds one item, where there is one.
@@ -56,7 +57,9 @@ pub fn add_clause<M: Eq + Hash, C: Clause<M>>(
     clause: &C,
     made: &mut IndexSet<M>,
 ) -> Result<(), NoMemory>
-    ensures { OnOk result (Gains (λ m. SomeOf (λ row. C.makes clause.now (value_in variables.now row) m) rows.now) made.old.keys made.new.keys) }
+    ensures { OnOk result
+        (Gains (λ m. SomeOf (λ row. C.makes clause.now (value_in variables.now row) m) rows.now)
+        made.old.keys made.new.keys) }
 {
     let width = clause.width(variables);
     for i in 0..rows.len() {
@@ -77,7 +80,9 @@ pub fn add_rows<M: Eq + Hash, C: Clause<M>>(
     clauses: &[C],
     made: &mut IndexSet<M>,
 ) -> Result<(), NoMemory>
-    ensures { OnOk result (Gains (λ m. SomeOf (λ row. SomeOf (λ k. C.makes k (value_in variables.now row) m) clauses.now) rows.now) made.old.keys made.new.keys) }
+    ensures { OnOk result
+        (Gains (λ m. SomeOf (λ row. SomeOf (λ k. C.makes k (value_in variables.now row) m)
+        clauses.now) rows.now) made.old.keys made.new.keys) }
 {
     for clause in clauses {
         add_clause(alloc, variables, rows, clause, made)?;

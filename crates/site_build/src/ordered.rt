@@ -1,4 +1,4 @@
-// What stands in a site, in its order.
+// What is in a site, in its order.
 ghost use Rattle.std.specs.Prelude.{refl};
 ghost use Rattle.std.specs.Ordering.{eq_by_cmp, as_partial_cmp};
 ghost use Rattle.std.specs.Cmp.{partial_equiv_from_equiv, eq_by_cmp_equiv, partial_order_from_agreeing_total};
@@ -34,7 +34,8 @@ impl Eq for Joined {
 impl PartialOrd for Joined {
     ghost partial_cmp = { as_partial_cmp joined_cmp };
 
-    ghost laws = { partial_order_from_agreeing_total joined_cmp joined_cmp-total (λ a b. refl) (λ a b. refl) };
+    ghost laws = { partial_order_from_agreeing_total joined_cmp joined_cmp-total (λ a b. refl)
+        (λ a b. refl) };
 
     fn partial_cmp(&self, other: &Joined) -> Option<Ordering> {
         Some(self.cmp(other))
@@ -103,7 +104,8 @@ impl Eq for Put {
 impl PartialOrd for Put {
     ghost partial_cmp = { as_partial_cmp put_cmp };
 
-    ghost laws = { partial_order_from_agreeing_total put_cmp put_cmp-total (λ a b. refl) (λ a b. refl) };
+    ghost laws = { partial_order_from_agreeing_total put_cmp put_cmp-total (λ a b. refl)
+        (λ a b. refl) };
 
     fn partial_cmp(&self, other: &Put) -> Option<Ordering> {
         Some(self.cmp(other))

@@ -10,7 +10,7 @@ ghost use Rattle.site_build.specs.Ranges.{AreRanges, range_at};
 use crate::ordered::{Joined, Put};
 use crate::ranges::Range;
 use indexmap::IndexMap;
-use picks::{Query, give_all, has, part};
+use list_lookup::{Query, give_all, has, part};
 use sd_value::{NoMemory, Str, Term, Value, copy};
 use std::alloc::Global;
 use std::cmp::Ordering;
@@ -93,7 +93,11 @@ pub fn ends_from(
 ) -> Result<Vec<Value>, NoMemory>
     requires ascending { IsStrictlySortedBy joined_cmp links.now }
     requires ranges { AreRanges links.now (length links.now) (range_at ranges.now) }
-    ensures { IfOk result (λ vs. ListsExactly value_cmp (λ v. Contains links.now (record { from = from.now; label = label.now; to = v })) vs.items) }
+    ensures { IfOk result (λ vs. ListsExactly value_cmp (λ v. Contains links.now (record {
+      from = from.now;
+      label = label.now;
+      to = v;
+    })) vs.items) }
 {
     let Some(range) = ranges.get(from) else {
         return Ok(Vec::new(alloc));
@@ -106,7 +110,10 @@ pub fn ends_from(
 /// The values that are put under the name.
 pub fn put_values(alloc: Global, puts: &[Put], name: &Str) -> Result<Vec<Value>, NoMemory>
     requires { IsStrictlySortedBy put_cmp puts.now }
-    ensures { IfOk result (λ vs. ListsExactly value_cmp (λ v. Contains puts.now (record { collection = name.now; value = v })) vs.items) }
+    ensures { IfOk result (λ vs. ListsExactly value_cmp (λ v. Contains puts.now (record {
+      collection = name.now;
+      value = v;
+    })) vs.items) }
 {
     let query = PutsUnder { name };
     give_all(alloc, part(puts, &query), &query)

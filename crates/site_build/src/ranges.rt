@@ -1,4 +1,4 @@
-// Where the links from each page stand in a list of links, so that they are found by the page's hash.
+// Where the links from each page are in a list of links, so that they are found by the page's hash.
 ghost use Rattle.std.specs.Prelude.{◌≡◌, ◌<◌, ◌+◌, Some, IfOk, OnOk, cond, length};
 ghost use Rattle.std.specs.Option.{option_copied};
 ghost use Rattle.std.specs.Ordering.{eq_by_cmp};
@@ -36,7 +36,10 @@ fn add_place(
 ) -> Result<(), NoMemory>
     requires { place < usize.MAX }
     ensures { OnOk result ((t : AnyTerm) → specs.range_at ranges.new t
-        ≡ cond (eq_by_cmp term_cmp from.now t) (Some (record { start = specs.start_of (specs.range_at ranges.old from.now) place; stop = place + 1 })) (specs.range_at ranges.old t)) }
+        ≡ cond (eq_by_cmp term_cmp from.now t) (Some (record {
+          start = specs.start_of (specs.range_at ranges.old from.now) place;
+          stop = place + 1;
+        })) (specs.range_at ranges.old t)) }
 {
     let start = start_of(ranges.get(from), place);
     let stop = place + 1;
@@ -46,7 +49,8 @@ fn add_place(
 
 /// The range of each page that links start from.
 pub(crate) fn ranges_of(alloc: Global, links: &[Joined]) -> Result<IndexMap<Term, Range>, NoMemory>
-    ensures { IfOk result (λ ranges. specs.AreRanges links.now (length links.now) (specs.range_at ranges)) }
+    ensures { IfOk result
+        (λ ranges. specs.AreRanges links.now (length links.now) (specs.range_at ranges)) }
 {
     let mut ranges = IndexMap::new(alloc);
     for place in 0..links.len() {

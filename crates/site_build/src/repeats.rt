@@ -1,4 +1,4 @@
-// Rows that give a clause the values which the row before gave it. Rows ascend, so such rows stand together.
+// Rows that give a clause the values which the row before gave it. Rows ascend, so such rows are together.
 ghost use Rattle.std.specs.Prelude.{◌≡◌, ◌≤◌, IsTrue, length, take};
 ghost use Rattle.query_spec.specs.Holds.{operand_value};
 ghost use Rattle.query_spec.specs.Rows.{value_in};
@@ -9,7 +9,7 @@ ghost use Rattle.site_build.specs.Widths.{OnlyReads, OnlyAsks};
 
 use query_spec::{Row, Variable};
 use sd_value::{Str, Value};
-use struql_ast::{Collect, Link, LinkLabel, Operand, Target, Term0};
+use struql_ast::{Collect, Link, LinkLabel, Operand, SkolemTerm, Target};
 
 // How many of a row's first values decide the name's.
 fn name_width(variables: &[Variable], name: &Str) -> usize
@@ -26,7 +26,8 @@ fn name_width(variables: &[Variable], name: &Str) -> usize
 }
 
 fn operand_width(variables: &[Variable], operand: &Operand) -> usize
-    ensures { OnlyReads result (λ row. operand_value (value_in variables.now row) (operand_of operand.now)) }
+    ensures { OnlyReads result
+        (λ row. operand_value (value_in variables.now row) (operand_of operand.now)) }
 {
     match operand {
         Operand::Variable(name, _) => name_width(variables, name),
@@ -42,8 +43,9 @@ fn larger(a: usize, b: usize) -> usize
 }
 
 /// How many of a row's first values decide what the term names.
-pub(crate) fn term_width(variables: &[Variable], written: &Term0) -> usize
-    ensures { OnlyAsks result (λ row p. IsTermUnder (value_in variables.now row) (term_of written.now) p) }
+pub(crate) fn term_width(variables: &[Variable], written: &SkolemTerm) -> usize
+    ensures { OnlyAsks result
+        (λ row p. IsTermUnder (value_in variables.now row) (term_of written.now) p) }
 {
     let mut width = 0;
     for operand in written.args.as_slice() {
@@ -53,7 +55,8 @@ pub(crate) fn term_width(variables: &[Variable], written: &Term0) -> usize
 }
 
 fn target_width(variables: &[Variable], target: &Target) -> usize
-    ensures { OnlyAsks result (λ row v. IsTargetUnder (value_in variables.now row) (target_of target.now) v) }
+    ensures { OnlyAsks result
+        (λ row v. IsTargetUnder (value_in variables.now row) (target_of target.now) v) }
 {
     match target {
         Target::Plain(operand) => operand_width(variables, operand),
@@ -62,7 +65,8 @@ fn target_width(variables: &[Variable], target: &Target) -> usize
 }
 
 fn label_width(variables: &[Variable], label: &LinkLabel) -> usize
-    ensures { OnlyAsks result (λ row l. IsLabelUnder (value_in variables.now row) (label_of label.now) l) }
+    ensures { OnlyAsks result
+        (λ row l. IsLabelUnder (value_in variables.now row) (label_of label.now) l) }
 {
     match label {
         LinkLabel::Quoted(_) => 0,
@@ -82,7 +86,8 @@ pub(crate) fn link_width(variables: &[Variable], link: &Link) -> usize
 
 /// How many of a row's first values decide what the COLLECT puts.
 pub(crate) fn put_width(variables: &[Variable], collect: &Collect) -> usize
-    ensures { OnlyAsks result (λ row p. IsPutUnder (collect_of collect.now) (value_in variables.now row) p) }
+    ensures { OnlyAsks result
+        (λ row p. IsPutUnder (collect_of collect.now) (value_in variables.now row) p) }
 {
     target_width(variables, &collect.target)
 }

@@ -13,23 +13,25 @@ use query_spec::{Row, Variable};
 use sd_value::{NoMemory, Term, Value};
 use skolem::instance;
 use std::alloc::Global;
-use struql_ast::{Collect, Link, Operand, Target, Term0};
+use struql_ast::{Collect, Link, Operand, SkolemTerm, Target};
 
 fn add_term(
     alloc: Global,
     variables: &[Variable],
     row: &[Value],
-    written: &Term0,
+    written: &SkolemTerm,
     made: &mut IndexSet<Term>,
 ) -> Result<(), NoMemory>
-    ensures { OnOk result (Gains (λ p. IsTermUnder (value_in variables.now row.now) (term_of written.now) p) made.old.keys made.new.keys) }
+    ensures { OnOk result
+        (Gains (λ p. IsTermUnder (value_in variables.now row.now) (term_of written.now) p)
+        made.old.keys made.new.keys) }
 {
     let one = instance(alloc, written, variables, row)?;
     insert_one(made, one)?;
     Ok(())
 }
 
-impl Clause<Term> for Term0 {
+impl Clause<Term> for SkolemTerm {
     ghost makes = { λ w s p. IsTermUnder s (term_of w) p };
 
     fn width(&self, variables: &[Variable]) -> usize {
@@ -58,7 +60,7 @@ fn same_operand(a: &Operand, b: &Operand) -> bool
 }
 
 // Whether the terms are written alike.
-fn same_term(a: &Term0, b: &Term0) -> bool
+fn same_term(a: &SkolemTerm, b: &SkolemTerm) -> bool
     ensures { IsTrue result → term_of a.now ≡ term_of b.now }
 {
     if a.function != b.function {
@@ -75,7 +77,7 @@ fn same_term(a: &Term0, b: &Term0) -> bool
     true
 }
 
-fn is_among(terms: &[Term0], term: &Term0) -> bool
+fn is_among(terms: &[SkolemTerm], term: &SkolemTerm) -> bool
     ensures { IsTrue result → SomeOf (λ w. term_of w ≡ term_of term.now) terms.now }
 {
     for other in terms {
@@ -91,12 +93,14 @@ fn add_target(
     alloc: Global,
     variables: &[Variable],
     rows: &[Row],
-    creates: &[Term0],
+    creates: &[SkolemTerm],
     target: &Target,
     made: &mut IndexSet<Term>,
 ) -> Result<(), NoMemory>
     requires { HasCreated variables.now rows.now creates.now made.old.keys }
-    ensures { OnOk result (Gains (λ p. SomeOf (λ row. SomeOf (λ t. IsTermUnder (value_in variables.now row) t p) (target_terms (target_of target.now))) rows.now) made.old.keys made.new.keys) }
+    ensures { OnOk result
+        (Gains (λ p. SomeOf (λ row. SomeOf (λ t. IsTermUnder (value_in variables.now row) t p)
+        (target_terms (target_of target.now))) rows.now) made.old.keys made.new.keys) }
 {
     match target {
         Target::Plain(_) => Ok(()),
@@ -114,12 +118,14 @@ fn add_ends(
     alloc: Global,
     variables: &[Variable],
     rows: &[Row],
-    creates: &[Term0],
+    creates: &[SkolemTerm],
     link: &Link,
     made: &mut IndexSet<Term>,
 ) -> Result<(), NoMemory>
     requires { HasCreated variables.now rows.now creates.now made.old.keys }
-    ensures { OnOk result (Gains (λ p. SomeOf (λ row. SomeOf (λ t. IsTermUnder (value_in variables.now row) t p) (ends_of (link_of link.now))) rows.now) made.old.keys made.new.keys) }
+    ensures { OnOk result
+        (Gains (λ p. SomeOf (λ row. SomeOf (λ t. IsTermUnder (value_in variables.now row) t p)
+        (ends_of (link_of link.now))) rows.now) made.old.keys made.new.keys) }
 {
     add_target(alloc, variables, rows, creates, &link.source, made)?;
     add_target(alloc, variables, rows, creates, &link.target, made)?;
@@ -131,12 +137,15 @@ pub(crate) fn add_link_terms(
     alloc: Global,
     variables: &[Variable],
     rows: &[Row],
-    creates: &[Term0],
+    creates: &[SkolemTerm],
     links: &[Link],
     made: &mut IndexSet<Term>,
 ) -> Result<(), NoMemory>
     requires { HasCreated variables.now rows.now creates.now made.old.keys }
-    ensures { OnOk result (Gains (λ p. SomeOf (λ row. SomeOf (λ k. SomeOf (λ t. IsTermUnder (value_in variables.now row) t p) (ends_of (link_of k))) links.now) rows.now) made.old.keys made.new.keys) }
+    ensures { OnOk result
+        (Gains (λ p. SomeOf (λ row. SomeOf (λ k. SomeOf
+        (λ t. IsTermUnder (value_in variables.now row) t p) (ends_of (link_of k))) links.now)
+        rows.now) made.old.keys made.new.keys) }
 {
     for link in links {
         add_ends(alloc, variables, rows, creates, link, made)?;
@@ -149,12 +158,15 @@ pub(crate) fn add_collect_terms(
     alloc: Global,
     variables: &[Variable],
     rows: &[Row],
-    creates: &[Term0],
+    creates: &[SkolemTerm],
     collects: &[Collect],
     made: &mut IndexSet<Term>,
 ) -> Result<(), NoMemory>
     requires { HasCreated variables.now rows.now creates.now made.old.keys }
-    ensures { OnOk result (Gains (λ p. SomeOf (λ row. SomeOf (λ k. SomeOf (λ t. IsTermUnder (value_in variables.now row) t p) (target_terms (collect_of k).target)) collects.now) rows.now) made.old.keys made.new.keys) }
+    ensures { OnOk result
+        (Gains (λ p. SomeOf (λ row. SomeOf (λ k. SomeOf
+        (λ t. IsTermUnder (value_in variables.now row) t p) (target_terms (collect_of k).target))
+        collects.now) rows.now) made.old.keys made.new.keys) }
 {
     for collect in collects {
         add_target(alloc, variables, rows, creates, &collect.target, made)?;

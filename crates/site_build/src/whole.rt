@@ -9,7 +9,7 @@ ghost use Rattle.sd_value.specs.Ascending.{ListsExactly};
 ghost use Rattle.tmpl.specs.Reading.{file_of};
 ghost use Rattle.page_spec.specs.Site.{MayStart};
 ghost use Rattle.site_spec.specs.Site.{InSite, SiteEdge, Collected, SomeOf};
-ghost use Rattle.query_site.specs.Blocks.{scope_of};
+ghost use Rattle.query_blocks.specs.Blocks.{scope_of};
 ghost use Rattle.site_build.specs.Materialised.{HasPageTemplate, IsWhole};
 ghost use Rattle.site_build.specs.Gains.{Gains};
 ghost use Rattle.site_build.specs.Fixed.{Fixed as AnyFixed, fixed_site};
@@ -22,10 +22,10 @@ use crate::picked::{ends_from, has_term, put_values};
 use asker::Asker;
 use indexmap::IndexSet;
 use page_spec::Outcome;
-use query_site::Scopes;
+use query_blocks::QueryBlocks;
 use render::render;
 use sd_value::{NoMemory, Str, Term, Value, sort_and_dedup};
-use site_asks::{function_template, members, template};
+use site_lookups::{function_template, members, template};
 use site_view::{Pages, SiteView};
 use std::alloc::Global;
 use tmpl::Templates;
@@ -35,7 +35,7 @@ use tmpl::Templates;
 #[derive(Drop)]
 pub struct Whole<'q, A> {
     pub asker: A,
-    pub scopes: &'q Scopes,
+    pub scopes: &'q QueryBlocks,
     pub templates: &'q Templates,
     pub contents: Contents,
 }
@@ -44,14 +44,16 @@ pub struct Whole<'q, A> {
 fn edge_ends<A: Asker>(
     alloc: Global,
     asker: &mut A,
-    scopes: &Scopes,
+    scopes: &QueryBlocks,
     contents: &Contents,
     value: &Value,
     label: &Str,
 ) -> Result<Vec<Value>, NoMemory>
     requires { IsWhole (A.graph asker.old) scopes.now contents.now }
     ensures graph { A.graph asker.new ≡ A.graph asker.old }
-    ensures ends { IfOk result (λ ends. ListsExactly value_cmp (SiteEdge (A.graph asker.old) (scope_of scopes.now) value.now label.now) ends.items) }
+    ensures ends { IfOk result
+        (λ ends. ListsExactly value_cmp
+        (SiteEdge (A.graph asker.old) (scope_of scopes.now) value.now label.now) ends.items) }
 {
     match value {
         Value::Page(term) => {
@@ -74,16 +76,20 @@ fn edge_ends<A: Asker>(
 fn ends<A: Asker>(
     alloc: Global,
     asker: &mut A,
-    scopes: &Scopes,
+    scopes: &QueryBlocks,
     contents: &Contents,
     value: &Value,
     label: &Str,
 ) -> Result<Vec<Value>, NoMemory>
     requires { IsWhole (A.graph asker.old) scopes.now contents.now }
     ensures graph { A.graph asker.new ≡ A.graph asker.old }
-    ensures ends { IfOk result (λ ends. ListsExactly value_cmp (SiteEdge (A.graph asker.old) (scope_of scopes.now) value.now label.now) ends.items) }
+    ensures ends { IfOk result
+        (λ ends. ListsExactly value_cmp
+        (SiteEdge (A.graph asker.old) (scope_of scopes.now) value.now label.now) ends.items) }
     ensures starts { IfOk result (λ ends. (MayStart value.now → ⊥) → ends.items ≡ []) }
-    ensures stays { IfOk result (λ ends. (t : AnyTerm) → Contains ends.items (Page t) → InSite (A.graph asker.old) (scope_of scopes.now) t) }
+    ensures stays { IfOk result
+        (λ ends. (t : AnyTerm) → Contains ends.items (Page t)
+        → InSite (A.graph asker.old) (scope_of scopes.now) t) }
 {
     let ends = edge_ends(alloc, asker, scopes, contents, value, label)?;
     Ok(ends)
@@ -93,13 +99,15 @@ fn ends<A: Asker>(
 fn gathered<A: Asker>(
     alloc: Global,
     asker: &mut A,
-    scopes: &Scopes,
+    scopes: &QueryBlocks,
     contents: &Contents,
     name: &Str,
 ) -> Result<Vec<Value>, NoMemory>
     requires { IsWhole (A.graph asker.old) scopes.now contents.now }
     ensures graph { A.graph asker.new ≡ A.graph asker.old }
-    ensures values { IfOk result (λ vs. ListsExactly value_cmp (Collected (A.graph asker.old) (scope_of scopes.now) name.now) vs.items) }
+    ensures values { IfOk result
+        (λ vs. ListsExactly value_cmp
+        (Collected (A.graph asker.old) (scope_of scopes.now) name.now) vs.items) }
 {
     let mut values = members(alloc, asker, name)?;
     let mut more = put_values(alloc, contents.puts.as_slice(), name)?;
@@ -111,14 +119,18 @@ fn gathered<A: Asker>(
 fn collected_values<A: Asker>(
     alloc: Global,
     asker: &mut A,
-    scopes: &Scopes,
+    scopes: &QueryBlocks,
     contents: &Contents,
     name: &Str,
 ) -> Result<Vec<Value>, NoMemory>
     requires { IsWhole (A.graph asker.old) scopes.now contents.now }
     ensures graph { A.graph asker.new ≡ A.graph asker.old }
-    ensures values { IfOk result (λ vs. ListsExactly value_cmp (Collected (A.graph asker.old) (scope_of scopes.now) name.now) vs.items) }
-    ensures stays { IfOk result (λ vs. (t : AnyTerm) → Contains vs.items (Page t) → InSite (A.graph asker.old) (scope_of scopes.now) t) }
+    ensures values { IfOk result
+        (λ vs. ListsExactly value_cmp
+        (Collected (A.graph asker.old) (scope_of scopes.now) name.now) vs.items) }
+    ensures stays { IfOk result
+        (λ vs. (t : AnyTerm) → Contains vs.items (Page t)
+        → InSite (A.graph asker.old) (scope_of scopes.now) t) }
 {
     let values = gathered(alloc, asker, scopes, contents, name)?;
     Ok(values)
@@ -136,7 +148,9 @@ fn has_page_template(templates: &Templates, term: &Term) -> bool
 // Those of the terms whose function has a template, in their order.
 fn page_terms(alloc: Global, templates: &Templates, terms: &[Term]) -> Result<Vec<Term>, NoMemory>
     requires { IsStrictlySortedBy term_cmp terms.now }
-    ensures { IfOk result (λ ps. ListsExactly term_cmp (λ p. Contains terms.now p × HasPageTemplate (file_of templates.now) p) ps.items) }
+    ensures { IfOk result
+        (λ ps. ListsExactly term_cmp
+        (λ p. Contains terms.now p × HasPageTemplate (file_of templates.now) p) ps.items) }
 {
     let mut pages = Vec::new(alloc);
     for term in terms {
@@ -160,7 +174,8 @@ fn copy_terms(alloc: Global, terms: &[Term]) -> Result<Vec<Term>, NoMemory>
 
 // The labels of the links, each once.
 fn labels_in(alloc: Global, links: &[Joined]) -> Result<IndexSet<Str>, NoMemory>
-    ensures { IfOk result (λ labels. Gains (λ l. SomeOf (λ j. j.label ≡ l) links.now) [] labels.keys) }
+    ensures { IfOk result
+        (λ labels. Gains (λ l. SomeOf (λ j. j.label ≡ l) links.now) [] labels.keys) }
 {
     let mut labels = IndexSet::new(alloc);
     for link in links {
@@ -178,18 +193,18 @@ impl<'q, A: Asker + Drop> Whole<'q, A> {
     ghost use Rattle.tmpl.specs.Reading.{file_of};
     ghost use Rattle.page_spec.specs.Page.{IsPresent};
     ghost use Rattle.site_spec.specs.Site.{InSite, Linked};
-    ghost use Rattle.query_site.specs.Blocks.{AreScoped, scope_of};
-    ghost use Rattle.query_site.specs.Site.{site_of};
+    ghost use Rattle.query_blocks.specs.Blocks.{AreCheckedBlocks, scope_of};
+    ghost use Rattle.weight_spec.specs.Site.{site_of};
     ghost use Rattle.site_build.specs.Materialised.{IsWhole};
 
     /// The whole site. Each block's rows are asked for once.
     pub fn of(
         alloc: Global,
         asker: A,
-        scopes: &'q Scopes,
+        scopes: &'q QueryBlocks,
         templates: &'q Templates,
     ) -> Result<Whole<'q, A>, NoMemory>
-        requires { AreScoped scopes.now.version scopes.now.blocks.items }
+        requires { AreCheckedBlocks scopes.now.version scopes.now.blocks.items }
         ensures graph { IfOk result (λ w. A.graph w.asker ≡ A.graph asker) }
         ensures scopes { IfOk result (λ w. w.scopes.now ≡ scopes.now) }
         ensures templates { IfOk result (λ w. w.templates.now ≡ templates.now) }
@@ -209,7 +224,10 @@ impl<'q, A: Asker + Drop> Whole<'q, A> {
     /// The site's terms whose function has a template, strictly ascending.
     pub fn pages(&self, alloc: Global) -> Result<Vec<Term>, NoMemory>
         requires { IsWhole (A.graph self.now.asker) self.now.scopes.now self.now.contents }
-        ensures { IfOk result (λ ts. ListsExactly term_cmp (IsPresent (site_of (A.graph self.now.asker) (scope_of self.now.scopes.now)) (file_of self.now.templates.now)) ts.items) }
+        ensures { IfOk result
+            (λ ts. ListsExactly term_cmp
+            (IsPresent (site_of (A.graph self.now.asker) (scope_of self.now.scopes.now))
+            (file_of self.now.templates.now)) ts.items) }
     {
         let pages = page_terms(alloc, self.templates, self.contents.terms.as_slice())?;
         Ok(pages)
@@ -218,7 +236,9 @@ impl<'q, A: Asker + Drop> Whole<'q, A> {
     /// The site's terms, strictly ascending.
     pub fn terms(&self, alloc: Global) -> Result<Vec<Term>, NoMemory>
         requires { IsWhole (A.graph self.now.asker) self.now.scopes.now self.now.contents }
-        ensures { IfOk result (λ ts. ListsExactly term_cmp (InSite (A.graph self.now.asker) (scope_of self.now.scopes.now)) ts.items) }
+        ensures { IfOk result
+            (λ ts. ListsExactly term_cmp
+            (InSite (A.graph self.now.asker) (scope_of self.now.scopes.now)) ts.items) }
     {
         let terms = copy_terms(alloc, self.contents.terms.as_slice())?;
         Ok(terms)
@@ -227,7 +247,10 @@ impl<'q, A: Asker + Drop> Whole<'q, A> {
     /// The labels of the site's links, strictly ascending. Edges of the data aren't among these links.
     pub fn link_labels(&self, alloc: Global) -> Result<Vec<Str>, NoMemory>
         requires { IsWhole (A.graph self.now.asker) self.now.scopes.now self.now.contents }
-        ensures { IfOk result (λ ls. ListsExactly bytes_cmp (λ l. (u : AnyValue) × (v : AnyValue) × Linked (A.graph self.now.asker) (scope_of self.now.scopes.now) u l v) ls.items) }
+        ensures { IfOk result
+            (λ ls. ListsExactly bytes_cmp
+            (λ l. (u : AnyValue) × (v : AnyValue)
+            × Linked (A.graph self.now.asker) (scope_of self.now.scopes.now) u l v) ls.items) }
     {
         let labels = labels_in(alloc, self.contents.links.as_slice())?;
         let labels = ascending(alloc, labels)?;
@@ -238,7 +261,11 @@ impl<'q, A: Asker + Drop> Whole<'q, A> {
 impl<'q, A: Asker> SiteView for Whole<'q, A> {
     ghost Fixed = { AnyFixed };
 
-    ghost fixed = { λ w. record { graph = A.graph w.asker; scope = scope_of w.scopes.now; templates = file_of w.templates.now } };
+    ghost fixed = { λ w. record {
+      graph = A.graph w.asker;
+      scope = scope_of w.scopes.now;
+      templates = file_of w.templates.now;
+    } };
 
     ghost site = { fixed_site };
 
@@ -279,7 +306,11 @@ impl<'q, A: Asker> SiteView for Whole<'q, A> {
 impl<'q, A: Asker> Pages for Whole<'q, A> {
     ghost Fixed = { AnyFixed };
 
-    ghost fixed = { λ w. record { graph = A.graph w.asker; scope = scope_of w.scopes.now; templates = file_of w.templates.now } };
+    ghost fixed = { λ w. record {
+      graph = A.graph w.asker;
+      scope = scope_of w.scopes.now;
+      templates = file_of w.templates.now;
+    } };
 
     ghost site = { fixed_site };
 

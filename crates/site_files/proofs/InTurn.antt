@@ -12,11 +12,11 @@ use Rattle.page_spec.specs.declared.Outcome.TheVariants as outcome
 use Rattle.address.specs.Segments.{HasLongSegment}
 use Rattle.edge_io.specs.Files.{FileMap, put_file, ChangesOnly}
 use Rattle.run_report.specs.declared.status.PageKind.{PageKind}
-use Rattle.site_files.specs.declared.stop.Stop.{Stop}
-use Rattle.site_files.specs.declared.stop.Stop.TheVariants.{Faulty, Unwritten, NoMemory}
-use Rattle.site_files.specs.Paths.{file_name, page_path, index_path}
+use Rattle.files_spec.specs.declared.stop.Stop.{Stop}
+use Rattle.files_spec.specs.declared.stop.Stop.TheVariants.{Faulty, Unwritten, NoMemory}
+use Rattle.files_spec.specs.Paths.{file_name, page_path, index_path}
 use Rattle.site_files.specs.Puts.{PutEnds}
-use Rattle.site_files.specs.Files.{IsPageText, IsFaulty, PagesWritten, StopsAt, PageEnds, StopsIn, PagesEnd, IndexPut, IndexEnds, RootEnds, SiteEnds, root_term}
+use Rattle.files_spec.specs.Files.{IsPageText, IsFaulty, PagesWritten, StopsAt, PageEnds, StopsIn, PagesEnd, IndexPut, IndexEnds, RootEnds, SiteEnds, root_term}
 
 module _ (s : Site) (f : TemplateFile) (folder : List ℕ) where
   -- the put of a page's text is the page's end

@@ -5,8 +5,8 @@ use Rattle.std.specs.Option.{IsSomeAnd}
 use Rattle.sd_value.specs.declared.Term.{Term}
 use Rattle.address.specs.Segments.{HasLongSegment}
 use Rattle.edge_io.specs.Files.{FileMap, ChangesOnly}
-use Rattle.site_files.specs.declared.stop.Stop.TheVariants.{Unwritten}
-use Rattle.site_files.specs.Paths.{file_name, page_path}
+use Rattle.files_spec.specs.declared.stop.Stop.TheVariants.{Unwritten}
+use Rattle.files_spec.specs.Paths.{file_name, page_path}
 use Rattle.site_files.specs.Puts.{PutEnds}
 
 pub unwritten_told : (folder : List ℕ) (n : Option FileMap) (t : Term) (path text : List ℕ) (old : FileMap) → path ≡ page_path folder t → (HasLongSegment (file_name t) → ⊥) → IsSomeAnd n (λ new. ChangesOnly old new path)

@@ -1,4 +1,2 @@
 pub mod Paths
 pub mod Puts
-pub mod Files
-pub mod Causes

@@ -3,13 +3,13 @@ ghost use Rattle.std.specs.Prelude.{◌≡◌, ◌↔◌, ℕ, List, Contains, I
 ghost use Rattle.std.specs.Option.{ForSome, IsSomeAnd};
 ghost use Rattle.page_spec.specs.Page.{IsOutcome};
 ghost use Rattle.page_spec.specs.declared.Outcome.TheVariants as outcome;
-ghost use Rattle.site_files.specs.Paths.{index_path as index_file};
-ghost use Rattle.site_files.specs.Files.{root_term, IndexPut, IndexEnds};
-ghost use Rattle.site_files.specs.Causes.{WritesHaveCause};
+ghost use Rattle.files_spec.specs.Paths.{index_path as index_file};
+ghost use Rattle.files_spec.specs.Files.{root_term, IndexPut, IndexEnds};
+ghost use Rattle.files_spec.specs.Causes.{WritesHaveCause};
 
 use crate::paths::index_path;
-use crate::stop::Stop;
 use edge_io::Files;
+use files_spec::Stop;
 use page_spec::Outcome;
 use sd_value::{Args, NoMemory, Str, Term};
 use site_view::Pages;
@@ -20,7 +20,7 @@ fn root_page(alloc: Global, root: &Str) -> Result<Term, NoMemory>
 {
     Ok(Term {
         function: root.copy(alloc)?,
-        args: Args::new(Vec::new(alloc)),
+        args: Args::new(alloc, Vec::new(alloc))?,
     })
 }
 
@@ -44,12 +44,17 @@ fn put_index<F: Files, P: Pages>(
     page: &Term,
 ) -> Result<(), Stop>
     requires own { P.Own pages.old }
-    requires text { (text : List ℕ) × IsOutcome (P.site (P.fixed pages.old)) (P.templates (P.fixed pages.old)) page.now (outcome.Page text) }
+    requires text { (text : List ℕ)
+        × IsOutcome (P.site (P.fixed pages.old))
+        (P.templates (P.fixed pages.old)) page.now (outcome.Page text) }
     ensures own { P.Own pages.new }
     ensures fixed { P.fixed pages.new ≡ P.fixed pages.old }
-    ensures ends { ForSome (F.contents files.old) (λ old. IsSomeAnd (F.contents files.new) (λ new. IndexPut (P.site (P.fixed pages.old)) (P.templates (P.fixed pages.old)) folder.now page.now old new result)) }
+    ensures ends { ForSome (F.contents files.old) (λ old. IsSomeAnd (F.contents files.new) (λ new.
+        IndexPut (P.site (P.fixed pages.old)) (P.templates (P.fixed pages.old))
+        folder.now page.now old new result)) }
     ensures reads { F.failed_reads files.new ≡ F.failed_reads files.old }
-    ensures cause { WritesHaveCause (λ path. path ≡ index_file folder.now) (F.failed_writes files.old) (F.failed_writes files.new) result }
+    ensures cause { WritesHaveCause (λ path. path ≡ index_file folder.now)
+        (F.failed_writes files.old) (F.failed_writes files.new) result }
 {
     let Outcome::Page(text) = pages.page(alloc, page)? else {
         unreachable!()
@@ -71,12 +76,18 @@ pub fn write_index<F: Files, P: Pages>(
     root: &Str,
 ) -> Result<(), Stop>
     requires own { P.Own pages.old }
-    requires text { Contains terms.now (root_term root.now) → (text : List ℕ) × IsOutcome (P.site (P.fixed pages.old)) (P.templates (P.fixed pages.old)) (root_term root.now) (outcome.Page text) }
+    requires text { Contains terms.now (root_term root.now)
+        → (text : List ℕ)
+        × IsOutcome (P.site (P.fixed pages.old))
+        (P.templates (P.fixed pages.old)) (root_term root.now) (outcome.Page text) }
     ensures own { P.Own pages.new }
     ensures fixed { P.fixed pages.new ≡ P.fixed pages.old }
-    ensures ends { ForSome (F.contents files.old) (λ old. IsSomeAnd (F.contents files.new) (λ new. IndexEnds (P.site (P.fixed pages.old)) (P.templates (P.fixed pages.old)) folder.now terms.now root.now old new result)) }
+    ensures ends { ForSome (F.contents files.old) (λ old. IsSomeAnd (F.contents files.new) (λ new.
+        IndexEnds (P.site (P.fixed pages.old)) (P.templates (P.fixed pages.old))
+        folder.now terms.now root.now old new result)) }
     ensures reads { F.failed_reads files.new ≡ F.failed_reads files.old }
-    ensures cause { WritesHaveCause (λ path. path ≡ index_file folder.now) (F.failed_writes files.old) (F.failed_writes files.new) result }
+    ensures cause { WritesHaveCause (λ path. path ≡ index_file folder.now)
+        (F.failed_writes files.old) (F.failed_writes files.new) result }
 {
     let page = root_page(alloc, root)?;
     if is_among(terms, &page) {

@@ -1,12 +1,10 @@
-//! The files of a site: every page in its own file, and the root page once more as `index.html`.
+//! Writing the files of a site: every page in its own file, and the root page once more as `index.html`.
 #![tactic(auto)]
 
 mod index;
 mod pages;
 mod paths;
-mod stop;
 mod written;
 
 pub use pages::write_pages;
-pub use stop::Stop;
 pub use written::write_site;

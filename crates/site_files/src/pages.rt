@@ -4,21 +4,21 @@ ghost use Rattle.std.specs.Option.{ForSome, IsSomeAnd};
 ghost use Rattle.sd_value.specs.declared.Term.{Term as AnyTerm};
 ghost use Rattle.page_spec.specs.Page.{IsPresent};
 ghost use Rattle.address.specs.Segments.{HasLongSegment};
-ghost use Rattle.site_files.specs.Paths.{file_name, page_path as path_of};
+ghost use Rattle.files_spec.specs.Paths.{file_name, page_path as path_of};
 ghost use Rattle.site_files.specs.Puts.{PutEnds};
-ghost use Rattle.site_files.specs.Files.{IsPageText, PageEnds, PagesEnd};
-ghost use Rattle.site_files.specs.Causes.{WritesHaveCause, IsPagePath};
+ghost use Rattle.files_spec.specs.Files.{IsPageText, PageEnds, PagesEnd};
+ghost use Rattle.files_spec.specs.Causes.{WritesHaveCause, IsPagePath};
 
 use crate::paths::page_path;
-use crate::stop::Stop;
 use edge_io::Files;
+use files_spec::Stop;
 use page_spec::Outcome;
 use run_report::PageKind;
 use sd_value::{NoMemory, Str, Term};
 use site_view::Pages;
 use std::alloc::Global;
 
-// The page that has no text, or want of memory in saying so.
+// The page that has no text, or out of memory in saying so.
 fn faulty(alloc: Global, term: &Term, kind: PageKind) -> Stop
     ensures { (result ≡ Stop.Faulty term.now kind) ⊎ (result ≡ Stop.NoMemory) }
 {
@@ -36,10 +36,12 @@ fn put_page<F: Files>(
     term: &Term,
     text: &Str,
 ) -> Result<(), Stop>
-    ensures ends { ForSome (F.contents files.old) (λ old. IsSomeAnd (F.contents files.new) (λ new. PutEnds folder.now term.now text.now old new result)) }
+    ensures ends { ForSome (F.contents files.old) (λ old. IsSomeAnd (F.contents files.new) (λ new.
+        PutEnds folder.now term.now text.now old new result)) }
     ensures named { OnOk result (HasLongSegment (file_name term.now) → ⊥) }
     ensures reads { F.failed_reads files.new ≡ F.failed_reads files.old }
-    ensures cause { WritesHaveCause (λ path. path ≡ path_of folder.now term.now) (F.failed_writes files.old) (F.failed_writes files.new) result }
+    ensures cause { WritesHaveCause (λ path. path ≡ path_of folder.now term.now)
+        (F.failed_writes files.old) (F.failed_writes files.new) result }
 {
     let path = page_path(alloc, folder, term)?;
     match files.write(&path, text.bytes()) {
@@ -57,13 +59,18 @@ fn write_page<F: Files, P: Pages>(
     term: &Term,
 ) -> Result<(), Stop>
     requires own { P.Own pages.old }
-    requires present { IsPresent (P.site (P.fixed pages.old)) (P.templates (P.fixed pages.old)) term.now }
+    requires present { IsPresent (P.site (P.fixed pages.old))
+        (P.templates (P.fixed pages.old)) term.now }
     ensures own { P.Own pages.new }
     ensures fixed { P.fixed pages.new ≡ P.fixed pages.old }
-    ensures text { OnOk result ((text : List ℕ) × IsPageText (P.site (P.fixed pages.old)) (P.templates (P.fixed pages.old)) term.now text) }
-    ensures ends { ForSome (F.contents files.old) (λ old. IsSomeAnd (F.contents files.new) (λ new. PageEnds (P.site (P.fixed pages.old)) (P.templates (P.fixed pages.old)) folder.now term.now old new result)) }
+    ensures text { OnOk result ((text : List ℕ)
+        × IsPageText (P.site (P.fixed pages.old)) (P.templates (P.fixed pages.old)) term.now text) }
+    ensures ends { ForSome (F.contents files.old) (λ old. IsSomeAnd (F.contents files.new) (λ new.
+        PageEnds (P.site (P.fixed pages.old)) (P.templates (P.fixed pages.old))
+        folder.now term.now old new result)) }
     ensures reads { F.failed_reads files.new ≡ F.failed_reads files.old }
-    ensures cause { WritesHaveCause (λ path. path ≡ path_of folder.now term.now) (F.failed_writes files.old) (F.failed_writes files.new) result }
+    ensures cause { WritesHaveCause (λ path. path ≡ path_of folder.now term.now)
+        (F.failed_writes files.old) (F.failed_writes files.new) result }
 {
     match pages.page(alloc, term)? {
         Outcome::Page(text) => put_page(alloc, files, folder, term, &text),
@@ -82,13 +89,19 @@ pub fn write_pages<F: Files, P: Pages>(
     terms: &[Term],
 ) -> Result<(), Stop>
     requires own { P.Own pages.old }
-    requires present { (t : AnyTerm) → Contains terms.now t → IsPresent (P.site (P.fixed pages.old)) (P.templates (P.fixed pages.old)) t }
+    requires present { (t : AnyTerm) → Contains terms.now t
+        → IsPresent (P.site (P.fixed pages.old)) (P.templates (P.fixed pages.old)) t }
     ensures own { P.Own pages.new }
     ensures fixed { P.fixed pages.new ≡ P.fixed pages.old }
-    ensures texts { OnOk result ((t : AnyTerm) → Contains terms.now t → (text : List ℕ) × IsPageText (P.site (P.fixed pages.old)) (P.templates (P.fixed pages.old)) t text) }
-    ensures ends { ForSome (F.contents files.old) (λ old. IsSomeAnd (F.contents files.new) (λ new. PagesEnd (P.site (P.fixed pages.old)) (P.templates (P.fixed pages.old)) folder.now terms.now old new result)) }
+    ensures texts { OnOk result ((t : AnyTerm) → Contains terms.now t
+        → (text : List ℕ)
+        × IsPageText (P.site (P.fixed pages.old)) (P.templates (P.fixed pages.old)) t text) }
+    ensures ends { ForSome (F.contents files.old) (λ old. IsSomeAnd (F.contents files.new) (λ new.
+        PagesEnd (P.site (P.fixed pages.old)) (P.templates (P.fixed pages.old))
+        folder.now terms.now old new result)) }
     ensures reads { F.failed_reads files.new ≡ F.failed_reads files.old }
-    ensures cause { WritesHaveCause (IsPagePath folder.now terms.now) (F.failed_writes files.old) (F.failed_writes files.new) result }
+    ensures cause { WritesHaveCause (IsPagePath folder.now terms.now)
+        (F.failed_writes files.old) (F.failed_writes files.new) result }
 {
     for term in terms {
         match write_page(alloc, files, pages, folder, term) {

@@ -1,10 +1,11 @@
 // The paths of a site's files.
 ghost use Rattle.std.specs.Prelude.{◌≡◌, ◌++◌, IfOk, codes};
 ghost use Rattle.address.specs.Segments.{HasLongSegment};
-ghost use Rattle.site_files.specs.Paths.{file_name, index_path, IsNameless, PathEnds};
+ghost use Rattle.files_spec.specs.Paths.{file_name, index_path};
+ghost use Rattle.site_files.specs.Paths.{IsNameless, PathEnds};
 
-use crate::stop::Stop;
 use address::{FileRefusal, file_of};
+use files_spec::Stop;
 use run_report::PageKind;
 use sd_value::{NoMemory, Str, Term};
 use std::alloc::Global;
@@ -18,7 +19,7 @@ fn folder_path(alloc: Global, folder: &Str) -> Result<Vec<u8>, NoMemory>
     Ok(path)
 }
 
-// The page that has no file, or want of memory in saying so.
+// The page that has no file, or out of memory in saying so.
 fn long_name(alloc: Global, term: &Term) -> Stop
     requires { HasLongSegment (file_name term.now) }
     ensures { IsNameless term.now result }

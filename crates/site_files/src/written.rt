@@ -4,13 +4,13 @@ ghost use Rattle.std.specs.Option.{ForSome, IsSomeAnd};
 ghost use Rattle.sd_value.specs.declared.Term.{Term as AnyTerm};
 ghost use Rattle.page_spec.specs.Page.{IsPresent};
 ghost use Rattle.address.specs.Targets.{root_name};
-ghost use Rattle.site_files.specs.Files.{SiteEnds};
-ghost use Rattle.site_files.specs.Causes.{WritesHaveCause, IsSitePath};
+ghost use Rattle.files_spec.specs.Files.{SiteEnds};
+ghost use Rattle.files_spec.specs.Causes.{WritesHaveCause, IsSitePath};
 
 use crate::index::write_index;
 use crate::pages::write_pages;
-use crate::stop::Stop;
 use edge_io::Files;
+use files_spec::Stop;
 use sd_value::{Str, Term};
 use site_view::Pages;
 use std::alloc::Global;
@@ -26,12 +26,16 @@ pub fn write_site<F: Files, P: Pages>(
     root: Option<&Str>,
 ) -> Result<(), Stop>
     requires own { P.Own pages.old }
-    requires present { (t : AnyTerm) → Contains terms.now t → IsPresent (P.site (P.fixed pages.old)) (P.templates (P.fixed pages.old)) t }
+    requires present { (t : AnyTerm) → Contains terms.now t
+        → IsPresent (P.site (P.fixed pages.old)) (P.templates (P.fixed pages.old)) t }
     ensures own { P.Own pages.new }
     ensures fixed { P.fixed pages.new ≡ P.fixed pages.old }
-    ensures ends { ForSome (F.contents files.old) (λ old. IsSomeAnd (F.contents files.new) (λ new. SiteEnds (P.site (P.fixed pages.old)) (P.templates (P.fixed pages.old)) folder.now terms.now (root_name root.entry) old new result)) }
+    ensures ends { ForSome (F.contents files.old) (λ old. IsSomeAnd (F.contents files.new) (λ new.
+        SiteEnds (P.site (P.fixed pages.old)) (P.templates (P.fixed pages.old))
+        folder.now terms.now (root_name root.entry) old new result)) }
     ensures reads { F.failed_reads files.new ≡ F.failed_reads files.old }
-    ensures cause { WritesHaveCause (IsSitePath folder.now terms.now) (F.failed_writes files.old) (F.failed_writes files.new) result }
+    ensures cause { WritesHaveCause (IsSitePath folder.now terms.now)
+        (F.failed_writes files.old) (F.failed_writes files.new) result }
 {
     match write_pages(alloc, files, pages, folder, terms) {
         Ok(()) => {}

@@ -6,7 +6,7 @@ use Rattle.edge_io.specs.Counts.{NoneFell}
 use Rattle.site_inputs.specs.declared.fault.Fault.{Fault}
 use Rattle.site_inputs.specs.declared.fault.Fault.TheVariants.{Refused, Unread, Faulty, NotFound, NoMemory}
 use Rattle.site_inputs.specs.Runs.{UnreadRose, ReadsHaveCause}
-use Rattle.site_inputs.specs.Sites.{input_paths}
+use Rattle.command_spec.specs.Inputs.{input_paths}
 use Rattle.site_inputs.proofs.Runs.{none_fell}
 
 unread_within : (some all : List (List ℕ)) (start before now : List ℕ → ℕ) (fault : Fault) → ((path : List ℕ) → Contains some path → Contains all path)

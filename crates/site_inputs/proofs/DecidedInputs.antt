@@ -6,17 +6,17 @@ use Rattle.edge_io.specs.Files.{FileMap}
 use Rattle.sd_graph.specs.Statement.{Building}
 use Rattle.data_source.specs.declared.refusal.SourceRefusal.{SourceRefusal}
 use Rattle.data_source.specs.declared.refusal.SourceRefusal.TheVariants as source
-use Rattle.source_answer.proofs.Files as source_law
+use Rattle.data_source.proofs.Files as source_law
 use Rattle.query_spec.specs.Query as plain
 use Rattle.struql_parse.specs.declared.refusal.ParseRefusal.TheVariants as parse
 use Rattle.struql_check.specs.declared.refusal.CheckRefusal.TheVariants as check
-use Rattle.query_read.specs.declared.QueryRefusal.{QueryRefusal}
-use Rattle.query_read.specs.declared.QueryRefusal.TheVariants.{NotSpelled, NotChecked}
-use Rattle.query_answer.specs.OneAnswer as query_text
-use Rattle.query_answer.proofs.QueryText as query_text_law
+use Rattle.query_reader.specs.declared.QueryRefusal.{QueryRefusal}
+use Rattle.query_reader.specs.declared.QueryRefusal.TheVariants.{NotSpelled, NotChecked}
+use Rattle.query_reader.specs.OneAnswer as query_text
+use Rattle.query_reader.proofs.QueryText as query_text_law
 use Rattle.tmpl.specs.Body.{TemplateFile}
-use Rattle.tmpl_read.specs.declared.refusal.TmplRefusal.{TmplRefusal}
-use Rattle.tmpl_answer.proofs.Templates as templates_law
+use Rattle.template_reader.specs.declared.refusal.TmplRefusal.{TmplRefusal}
+use Rattle.template_reader.proofs.TemplateFiles as templates_law
 use Rattle.run_report.specs.declared.status.Place.{Place}
 use Rattle.run_report.specs.declared.status.Place.TheVariants.{At}
 use Rattle.site_inputs.specs.declared.fault.Fault.{Fault}
@@ -24,8 +24,10 @@ use Rattle.site_inputs.specs.declared.fault.Fault.TheVariants.{Refused, Unread, 
 use Rattle.site_inputs.specs.declared.fault.Refusal.{Refusal}
 use Rattle.site_inputs.specs.declared.told.Told.{Told}
 use Rattle.site_inputs.specs.Runs.{FileEnds, IsDecided, Decides}
-use Rattle.site_inputs.specs.Sources.{data_limit, empty_building, IsRefusedFor, TextTaken, SourceEnds, GraphEnds}
-use Rattle.site_inputs.specs.Sites.{text_limit, query_told, QueryTaken, QueryEnds, TemplatesTaken, TemplatesEnd, InputsEnd, templates_told}
+use Rattle.command_spec.specs.Limits.{data_limit}
+use Rattle.site_inputs.specs.Sources.{empty_building, IsRefusedFor, TextTaken, SourceEnds, GraphEnds}
+use Rattle.command_spec.specs.Limits.{text_limit}
+use Rattle.site_inputs.specs.Sites.{query_told, QueryTaken, QueryEnds, TemplatesTaken, TemplatesEnd, InputsEnd, templates_told}
 use Rattle.site_inputs.proofs.Decided.{then_decides, gives_decides}
 
 -- ---- equal answers have equal parts

@@ -5,3 +5,4 @@ pub mod Causes
 pub mod Sites
 pub mod Decided
 pub mod DecidedInputs
+pub mod Endings

@@ -6,8 +6,10 @@ use Rattle.sd_graph.specs.Statement.{Building}
 use Rattle.site_inputs.specs.declared.fault.Fault.{Fault}
 use Rattle.site_inputs.specs.declared.fault.Fault.TheVariants.{Refused, Unread, Faulty, NotFound, NoMemory}
 use Rattle.site_inputs.specs.Runs.{Then, Gives, FileEnds}
-use Rattle.site_inputs.specs.Sources.{TextTaken, SourceEnds, GraphEnds, empty_building, data_limit}
-use Rattle.site_inputs.specs.Sites.{InputsEnd, QueryTaken, QueryEnds, TemplatesTaken, TemplatesEnd, text_limit}
+use Rattle.command_spec.specs.Limits.{data_limit}
+use Rattle.site_inputs.specs.Sources.{TextTaken, SourceEnds, GraphEnds, empty_building}
+use Rattle.command_spec.specs.Limits.{text_limit}
+use Rattle.site_inputs.specs.Sites.{InputsEnd, QueryTaken, QueryEnds, TemplatesTaken, TemplatesEnd}
 
 -- a fault of a page, and not of an input
 abbrev pub IsOfPage : Fault → Type 0

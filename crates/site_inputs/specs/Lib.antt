@@ -3,3 +3,4 @@ pub mod Sources
 pub mod Sites
 pub mod Values
 pub mod Statuses
+pub mod Outside

@@ -1,22 +1,23 @@
 -- The three inputs of a site: the data, the query and the templates, taken in this order.
-use Rattle.std.specs.Prelude.{◌≡◌, ℕ, List, [], ◌∷◌, ◌++◌, Result, Ok, Err, Option, Some, None, ⊤}
+use Rattle.std.specs.Prelude.{◌≡◌, ℕ, List, Result, Ok, Err, Option, Some, None, ⊤}
 use Rattle.edge_io.specs.Files.{FileMap}
+use Rattle.command_spec.specs.Limits.{text_limit}
 use Rattle.graph_spec.specs.DataGraph.{DataGraph}
 use Rattle.query_spec.specs.Query as plain
 use Rattle.tmpl.specs.Body.{TemplateFile}
 use Rattle.site_spec.specs.Site.{scope_of}
-use Rattle.query_site.specs.Site.{site_of}
+use Rattle.weight_spec.specs.Site.{site_of}
 use Rattle.page_spec.specs.Site.{Site}
 use Rattle.struql_parse.specs.declared.refusal.ParseRefusal.{ParseRefusal}
 use Rattle.struql_parse.specs.declared.refusal.ParseRefusal.TheVariants as parse
 use Rattle.struql_check.specs.declared.refusal.CheckRefusal.{CheckRefusal}
 use Rattle.struql_check.specs.declared.refusal.CheckRefusal.TheVariants as check
-use Rattle.query_read.specs.declared.QueryRefusal.{QueryRefusal}
-use Rattle.query_read.specs.declared.QueryRefusal.TheVariants.{NotSpelled, NotChecked}
-use Rattle.query_read.specs.Reads.{IsAccepted, IsRefused}
-use Rattle.tmpl_read.specs.declared.refusal.TmplRefusal.{TmplRefusal}
-use Rattle.tmpl_read.specs.declared.refusal.TmplRefusal.TheVariants as templates
-use Rattle.tmpl_read.specs.Faults.{IsAnswer}
+use Rattle.query_reader.specs.declared.QueryRefusal.{QueryRefusal}
+use Rattle.query_reader.specs.declared.QueryRefusal.TheVariants.{NotSpelled, NotChecked}
+use Rattle.query_reader.specs.Reads.{IsAccepted, IsRefused}
+use Rattle.template_reader.specs.declared.refusal.TmplRefusal.{TmplRefusal}
+use Rattle.template_reader.specs.declared.refusal.TmplRefusal.TheVariants as templates
+use Rattle.template_reader.specs.Faults.{IsAnswer}
 use Rattle.run_report.specs.declared.status.Place.TheVariants.{At}
 use Rattle.site_inputs.specs.declared.fault.Fault.{Fault}
 use Rattle.site_inputs.specs.declared.fault.Fault.TheVariants.{Refused, NoMemory}
@@ -24,12 +25,9 @@ use Rattle.site_inputs.specs.declared.told.Told.{Told}
 use Rattle.site_inputs.specs.Runs.{Then, Gives, FileEnds}
 use Rattle.site_inputs.specs.Sources.{GraphEnds, empty_building}
 
--- the most bytes of a query, and of a file of templates
-abbrev pub text_limit : ℕ
-text_limit = 1048576
-
 -- ---- the query
 
+-- the number and the place of a refused spelling; none where memory ran out
 abbrev pub parse_told : ParseRefusal → Option Told
 parse_told (parse.TooLong at) = Some (record { number = 24; at = at })
 parse_told (parse.BadByte at) = Some (record { number = 21; at = at })
@@ -40,6 +38,7 @@ parse_told (parse.TooDeep at) = Some (record { number = 72; at = at })
 parse_told (parse.BadVersion at) = Some (record { number = 73; at = at })
 parse_told parse.NoMemory = None
 
+-- those of a query that is spelled well and not accepted
 abbrev pub check_told : CheckRefusal → Option Told
 check_told (check.TooManyPositions at) = Some (record { number = 51; at = at })
 check_told (check.Unbound at) = Some (record { number = 61; at = at })
@@ -52,6 +51,7 @@ check_told (check.Reserved at) = Some (record { number = 67; at = at })
 check_told (check.TooManyVariables at) = Some (record { number = 68; at = at })
 check_told check.NoMemory = None
 
+-- those of a refused query
 abbrev pub query_told : QueryRefusal → Option Told
 query_told (NotSpelled refusal) = parse_told refusal
 query_told (NotChecked refusal) = check_told refusal
@@ -65,11 +65,13 @@ QueryTaken path bytes (Err (Refused refusal)) =
 QueryTaken path bytes (Err NoMemory) = ⊤
 QueryTaken path bytes (Err fault) = ⊥
 
+-- How the file of a query ends: it is read, and then its text is taken.
 abbrev pub QueryEnds : FileMap → List ℕ → Result plain.Query Fault → Type 0
 QueryEnds map path = Then (FileEnds text_limit map path) (QueryTaken path)
 
 -- ---- the templates
 
+-- those of a refused text of templates
 abbrev pub templates_told : TmplRefusal → Option Told
 templates_told (templates.TooLong at) = Some (record { number = 24; at = at })
 templates_told (templates.Expected at) = Some (record { number = 81; at = at })
@@ -88,26 +90,25 @@ TemplatesTaken path bytes (Err (Refused refusal)) =
 TemplatesTaken path bytes (Err NoMemory) = ⊤
 TemplatesTaken path bytes (Err fault) = ⊥
 
+-- How the file of templates ends: it is read, and then its text is taken.
 abbrev pub TemplatesEnd : FileMap → List ℕ → Result TemplateFile Fault → Type 0
 TemplatesEnd map path = Then (FileEnds text_limit map path) (TemplatesTaken path)
 
 -- ---- all three
 
+-- what a site is made of
 pub record Inputs : Type 0 where
   pub graph : DataGraph
   pub query : plain.Query
   pub templates : TemplateFile
 
+-- How the three inputs end: each is taken behind those before it.
 abbrev pub InputsEnd : FileMap → List (List ℕ) → List ℕ → List ℕ → Result Inputs Fault → Type 0
 InputsEnd map sources query_path templates_path =
     Then (GraphEnds map empty_building sources)
     (λ graph. Then (QueryEnds map query_path)
     (λ query. Then (TemplatesEnd map templates_path)
     (λ templates. Gives (record { graph = graph; query = query; templates = templates }))))
-
--- the paths that the three inputs are read from, in the order in which they are read
-abbrev pub input_paths : List (List ℕ) → List ℕ → List ℕ → List (List ℕ)
-input_paths sources query_path templates_path = sources ++ (query_path ∷ templates_path ∷ [])
 
 -- the whole site of the query over the data
 abbrev pub site_at : Inputs → Site

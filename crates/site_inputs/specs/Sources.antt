@@ -1,6 +1,7 @@
 -- The data files, taken one after another, and the union of what they state.
 use Rattle.std.specs.Prelude.{◌≡◌, ℕ, List, [], ◌∷◌, Result, Ok, Err, ⊤}
 use Rattle.edge_io.specs.Files.{FileMap}
+use Rattle.command_spec.specs.Limits.{data_limit, node_limit, edge_limit}
 use Rattle.graph_spec.specs.DataGraph.{DataGraph}
 use Rattle.sd_graph.specs.Statement.{Building}
 use Rattle.data_source.specs.Takes.{Takes}
@@ -10,28 +11,29 @@ use Rattle.site_inputs.specs.declared.fault.Fault.TheVariants.{Refused, NoMemory
 use Rattle.site_inputs.specs.declared.fault.Refusal.{Refusal}
 use Rattle.site_inputs.specs.Runs.{Then, Gives, FileEnds}
 
--- the most bytes of a data file
-abbrev pub data_limit : ℕ
-data_limit = 67108864
-
 -- a graph in which nothing is stated, with the program's limits
 abbrev pub empty_building : Building
-empty_building = record { limits = record { nodes = 1048576; edges = 4194304 }; graph = record { nodes = []; edges = []; members = [] } }
+empty_building = record {
+  limits = record { nodes = node_limit; edges = edge_limit };
+  graph = record { nodes = []; edges = []; members = [] };
+}
 
 -- the file is refused for this, and leaves some graph
-pub record IsRefusedFor (path : List ℕ) (b : Building) (bytes : List ℕ) (refusal : Refusal) : Type 0 where
+pub record IsRefusedFor (path : List ℕ) (b : Building) (bytes : List ℕ)
+    (refusal : Refusal) : Type 0 where
   pub left : Building
   pub takes : Takes path data_limit bytes b left (Err (source.Refused refusal.number refusal.place))
   pub its : refusal.file ≡ path
 
 -- How the bytes of a data file end, behind what the files before it state: with the graph that has what they state too,
--- or refused. They are read by the format that the end of the path tells.
+-- or refused. They are read by the format that the end of the path reports.
 abbrev pub TextTaken : List ℕ → Building → List ℕ → Result Building Fault → Type 0
 TextTaken path b bytes (Ok c) = Takes path data_limit bytes b c (Ok tt)
 TextTaken path b bytes (Err (Refused refusal)) = IsRefusedFor path b bytes refusal
 TextTaken path b bytes (Err NoMemory) = ⊤
 TextTaken path b bytes (Err fault) = ⊥
 
+-- How a data file ends: it is read, and then its bytes are taken.
 abbrev pub SourceEnds : FileMap → List ℕ → Building → Result Building Fault → Type 0
 SourceEnds map path b = Then (FileEnds data_limit map path) (TextTaken path b)
 

@@ -54,9 +54,11 @@ impl From<Fault> for Status {
     }
 }
 
-/// The refusal of a file, or want of memory in saying so.
+/// The refusal of a file, or out of memory in saying so.
 pub fn refused(alloc: Global, file: &Str, number: u32, place: Place) -> Fault
-    ensures { (result ≡ Fault.Refused (record { file = file.now; number = number; place = place })) ⊎ (result ≡ Fault.NoMemory) }
+    ensures { (result
+        ≡ Fault.Refused (record { file = file.now; number = number; place = place }))
+        ⊎ (result ≡ Fault.NoMemory) }
 {
     match file.copy(alloc) {
         Ok(file) => Fault::Refused(Refusal {
@@ -68,7 +70,7 @@ pub fn refused(alloc: Global, file: &Str, number: u32, place: Place) -> Fault
     }
 }
 
-/// A path that could not be read, or want of memory in saying so.
+/// A path that could not be read, or out of memory in saying so.
 pub fn unread(alloc: Global, path: &Str) -> Fault
     ensures { (result ≡ Fault.Unread path.now) ⊎ (result ≡ Fault.NoMemory) }
 {

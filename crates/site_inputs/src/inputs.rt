@@ -16,7 +16,7 @@ use std::alloc::Global;
 // The most bytes of a data file.
 const DATA_LIMIT: u64 = 67_108_864;
 
-/// The bytes of a file of at most so many.
+/// The bytes of a file of at most this many.
 pub fn read_file<F: Files>(
     alloc: Global,
     files: &mut F,
@@ -26,7 +26,8 @@ pub fn read_file<F: Files>(
     requires { limit < 2 ^ 63 }
     ensures ends { ForSome (F.contents files.old) (λ map. FileEnds limit map path.now result) }
     ensures same { F.contents files.new ≡ F.contents files.old }
-    ensures cause { ReadsHaveCause (path.now ∷ []) (F.failed_reads files.old) (F.failed_reads files.new) result }
+    ensures cause { ReadsHaveCause (path.now ∷ [])
+        (F.failed_reads files.old) (F.failed_reads files.new) result }
     ensures writes { F.failed_writes files.new ≡ F.failed_writes files.old }
 {
     match files.read(alloc, path, limit + 1) {
@@ -41,7 +42,7 @@ pub fn read_file<F: Files>(
     }
 }
 
-// Takes what the bytes of a data file state into the graph, read by the format that the path tells.
+// Takes what the bytes of a data file state into the graph, read by the format that the path reports.
 fn take_text(alloc: Global, path: &Str, bytes: &[u8], graph: &mut GraphBuilder) -> Result<(), Fault>
     ensures { TextTaken path.now graph.old bytes.now (with_building graph.new result) }
 {
@@ -59,9 +60,11 @@ fn take_source<F: Files>(
     path: &Str,
     graph: &mut GraphBuilder,
 ) -> Result<(), Fault>
-    ensures ends { ForSome (F.contents files.old) (λ map. SourceEnds map path.now graph.old (with_building graph.new result)) }
+    ensures ends { ForSome (F.contents files.old) (λ map.
+        SourceEnds map path.now graph.old (with_building graph.new result)) }
     ensures same { F.contents files.new ≡ F.contents files.old }
-    ensures cause { ReadsHaveCause (path.now ∷ []) (F.failed_reads files.old) (F.failed_reads files.new) result }
+    ensures cause { ReadsHaveCause (path.now ∷ [])
+        (F.failed_reads files.old) (F.failed_reads files.new) result }
     ensures writes { F.failed_writes files.new ≡ F.failed_writes files.old }
 {
     let bytes = read_file(alloc, files, path, DATA_LIMIT)?;
@@ -70,11 +73,13 @@ fn take_source<F: Files>(
 
 /// The union of what the data files state.
 /// # Errors
-/// The first file in their order that is refused or unread, or want of memory.
+/// The first file in their order that is refused or unread, or out of memory.
 pub fn load_graph<F: Files>(alloc: Global, files: &mut F, sources: &[Str]) -> Result<Graph, Fault>
-    ensures ends { ForSome (F.contents files.old) (λ map. GraphEnds map empty_building sources.now result) }
+    ensures ends { ForSome (F.contents files.old) (λ map.
+        GraphEnds map empty_building sources.now result) }
     ensures same { F.contents files.new ≡ F.contents files.old }
-    ensures cause { ReadsHaveCause sources.now (F.failed_reads files.old) (F.failed_reads files.new) result }
+    ensures cause { ReadsHaveCause sources.now
+        (F.failed_reads files.old) (F.failed_reads files.new) result }
     ensures writes { F.failed_writes files.new ≡ F.failed_writes files.old }
 {
     let mut graph = GraphBuilder::new(alloc, PROGRAM_LIMITS);

@@ -2,21 +2,22 @@
 ghost use Rattle.std.specs.Prelude.{◌≡◌, ◌∷◌, []};
 ghost use Rattle.std.specs.Option.{ForSome};
 ghost use Rattle.site_inputs.specs.Runs.{ReadsHaveCause};
-ghost use Rattle.site_inputs.specs.Sites.{QueryTaken, QueryEnds, TemplatesTaken, TemplatesEnd, InputsEnd, input_paths};
+ghost use Rattle.command_spec.specs.Inputs.{input_paths};
+ghost use Rattle.site_inputs.specs.Sites.{QueryTaken, QueryEnds, TemplatesTaken, TemplatesEnd, InputsEnd};
 ghost use Rattle.site_inputs.specs.Values.{file_result, inputs_result};
 
 use crate::fault::{Fault, refused};
 use crate::inputs::{load_graph, read_file};
 use crate::told::{told_of_query, told_of_templates};
 use edge_io::Files;
-use query_read::read_query;
+use query_reader::read_query;
 use run_report::Place;
 use sd_graph::Graph;
 use sd_value::Str;
 use std::alloc::Global;
 use struql_check::Checked;
+use template_reader::read_templates;
 use tmpl::Templates;
-use tmpl_read::read_templates;
 
 // The most bytes of a query, and of a file of templates.
 const TEXT_LIMIT: u64 = 1_048_576;
@@ -43,11 +44,12 @@ fn take_query(alloc: Global, path: &Str, bytes: &[u8]) -> Result<Checked, Fault>
 
 /// The checked query of a file.
 /// # Errors
-/// A query that is refused or unread, or want of memory.
+/// A query that is refused or unread, or out of memory.
 pub fn load_query<F: Files>(alloc: Global, files: &mut F, path: &Str) -> Result<Checked, Fault>
     ensures ends { ForSome (F.contents files.old) (λ map. QueryEnds map path.now result) }
     ensures same { F.contents files.new ≡ F.contents files.old }
-    ensures cause { ReadsHaveCause (path.now ∷ []) (F.failed_reads files.old) (F.failed_reads files.new) result }
+    ensures cause { ReadsHaveCause (path.now ∷ [])
+        (F.failed_reads files.old) (F.failed_reads files.new) result }
     ensures writes { F.failed_writes files.new ≡ F.failed_writes files.old }
 {
     let bytes = read_file(alloc, files, path, TEXT_LIMIT)?;
@@ -68,9 +70,11 @@ fn take_templates(alloc: Global, path: &Str, bytes: &[u8]) -> Result<Templates, 
 
 // The templates of a file.
 fn load_templates<F: Files>(alloc: Global, files: &mut F, path: &Str) -> Result<Templates, Fault>
-    ensures ends { ForSome (F.contents files.old) (λ map. TemplatesEnd map path.now (file_result result)) }
+    ensures ends { ForSome (F.contents files.old) (λ map.
+        TemplatesEnd map path.now (file_result result)) }
     ensures same { F.contents files.new ≡ F.contents files.old }
-    ensures cause { ReadsHaveCause (path.now ∷ []) (F.failed_reads files.old) (F.failed_reads files.new) result }
+    ensures cause { ReadsHaveCause (path.now ∷ [])
+        (F.failed_reads files.old) (F.failed_reads files.new) result }
     ensures writes { F.failed_writes files.new ≡ F.failed_writes files.old }
 {
     let bytes = read_file(alloc, files, path, TEXT_LIMIT)?;
@@ -79,7 +83,7 @@ fn load_templates<F: Files>(alloc: Global, files: &mut F, path: &Str) -> Result<
 
 /// The data, the query and the templates, in this order.
 /// # Errors
-/// The first of these files that is refused or unread, or want of memory.
+/// The first of these files that is refused or unread, or out of memory.
 pub fn load_inputs<F: Files>(
     alloc: Global,
     files: &mut F,
@@ -87,9 +91,11 @@ pub fn load_inputs<F: Files>(
     query: &Str,
     templates: &Str,
 ) -> Result<SiteInputs, Fault>
-    ensures ends { ForSome (F.contents files.old) (λ map. InputsEnd map sources.now query.now templates.now (inputs_result result)) }
+    ensures ends { ForSome (F.contents files.old) (λ map.
+        InputsEnd map sources.now query.now templates.now (inputs_result result)) }
     ensures same { F.contents files.new ≡ F.contents files.old }
-    ensures cause { ReadsHaveCause (input_paths sources.now query.now templates.now) (F.failed_reads files.old) (F.failed_reads files.new) result }
+    ensures cause { ReadsHaveCause (input_paths sources.now query.now templates.now)
+        (F.failed_reads files.old) (F.failed_reads files.new) result }
     ensures writes { F.failed_writes files.new ≡ F.failed_writes files.old }
 {
     let graph = load_graph(alloc, files, sources)?;

@@ -2,19 +2,19 @@
 ghost use Rattle.std.specs.Prelude.{◌≡◌};
 ghost use Rattle.site_inputs.specs.Sites.{parse_told, check_told, query_told, templates_told};
 
-use query_read::QueryRefusal;
+use query_reader::QueryRefusal;
 use struql_check::CheckRefusal;
 use struql_parse::ParseRefusal;
-use tmpl_read::TmplRefusal;
+use template_reader::TmplRefusal;
 
-/// The number of a refusal, and the byte at which it stands.
+/// The number of a refusal, and the byte at which it is.
 #[derive(Clone, Copy, Debug)]
 pub struct Told {
     pub number: u32,
     pub at: u64,
 }
 
-// What a text that is no query tells.
+// What a text that is no query reports.
 fn told_of_parse(refusal: &ParseRefusal) -> Option<Told>
     ensures { result ≡ parse_told refusal.now }
 {
@@ -51,7 +51,7 @@ fn told_of_parse(refusal: &ParseRefusal) -> Option<Told>
     }
 }
 
-// What a query with a fault tells.
+// What a query with a fault reports.
 fn told_of_check(refusal: &CheckRefusal) -> Option<Told>
     ensures { result ≡ check_told refusal.now }
 {
@@ -96,7 +96,7 @@ fn told_of_check(refusal: &CheckRefusal) -> Option<Told>
     }
 }
 
-/// What a refused query tells; none where memory ran out.
+/// What a refused query reports; none where memory ran out.
 pub fn told_of_query(refusal: &QueryRefusal) -> Option<Told>
     ensures { result ≡ query_told refusal.now }
 {
@@ -106,7 +106,7 @@ pub fn told_of_query(refusal: &QueryRefusal) -> Option<Told>
     }
 }
 
-/// What a refused file of templates tells; none where memory ran out.
+/// What a refused file of templates reports; none where memory ran out.
 pub fn told_of_templates(refusal: &TmplRefusal) -> Option<Told>
     ensures { result ≡ templates_told refusal.now }
 {

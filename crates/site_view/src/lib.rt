@@ -38,9 +38,12 @@ pub trait SiteView {
         ensures own { Own self.new }
         ensures fixed { fixed self.new ≡ fixed self.old }
         ensures kept { MayKeep (asks_out value.now label.now) (kept self.old) (kept self.new) }
-        ensures answer { IfOk result (λ vs. ListsExactly value_cmp ((site (fixed self.old)).edge value.now label.now) vs.items) }
+        ensures answer { IfOk result
+            (λ vs. ListsExactly value_cmp
+            ((site (fixed self.old)).edge value.now label.now) vs.items) }
         ensures starts { IfOk result (λ vs. (MayStart value.now → ⊥) → vs.items ≡ []) }
-        ensures stays { IfOk result (λ vs. (t : Term) → Contains vs.items (Page t) → (site (fixed self.old)).has t) };
+        ensures stays { IfOk result
+            (λ vs. (t : Term) → Contains vs.items (Page t) → (site (fixed self.old)).has t) };
 
     /// The values collected under the name, ascending. A page among them is in the site.
     fn collected(&mut self, alloc: Global, name: &Str) -> Result<Vec<Value>, NoMemory>
@@ -48,8 +51,10 @@ pub trait SiteView {
         ensures own { Own self.new }
         ensures fixed { fixed self.new ≡ fixed self.old }
         ensures kept { MayKeep (asks_collected name.now) (kept self.old) (kept self.new) }
-        ensures answer { IfOk result (λ vs. ListsExactly value_cmp ((site (fixed self.old)).collected name.now) vs.items) }
-        ensures stays { IfOk result (λ vs. (t : Term) → Contains vs.items (Page t) → (site (fixed self.old)).has t) };
+        ensures answer { IfOk result
+            (λ vs. ListsExactly value_cmp ((site (fixed self.old)).collected name.now) vs.items) }
+        ensures stays { IfOk result
+            (λ vs. (t : Term) → Contains vs.items (Page t) → (site (fixed self.old)).has t) };
 
     /// Whether the term is in the site.
     fn in_site(&mut self, alloc: Global, term: &Term) -> Result<bool, NoMemory>
@@ -67,7 +72,8 @@ pub trait SiteView {
         ensures fixed { fixed self.new ≡ fixed self.old }
         ensures kept { MayKeep (asks_template value.now) (kept self.old) (kept self.new) }
         ensures answer { IfOk result (λ r. MatchOption r
-            ((k : ℕ) → HasTemplate (site (fixed self.old)) (templates (fixed self.old)) value.now k → ⊥)
+            ((k : ℕ) → HasTemplate (site (fixed self.old)) (templates (fixed self.old)) value.now k
+            → ⊥)
             (λ k. HasTemplate (site (fixed self.old)) (templates (fixed self.old)) value.now k)) };
 }
 
@@ -88,5 +94,6 @@ pub trait Pages {
         requires own { Own self.old }
         ensures own { Own self.new }
         ensures fixed { fixed self.new ≡ fixed self.old }
-        ensures outcome { IfOk result (λ o. IsOutcome (site (fixed self.old)) (templates (fixed self.old)) term.now o) };
+        ensures outcome { IfOk result
+            (λ o. IsOutcome (site (fixed self.old)) (templates (fixed self.old)) term.now o) };
 }

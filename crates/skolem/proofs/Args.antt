@@ -12,15 +12,16 @@ use Rattle.sd_value.specs.declared.Datum.{Datum}
 use Rattle.sd_value.specs.declared.Term.{Term}
 use Rattle.query_spec.specs.declared.Variable.{Variable}
 use Rattle.query_spec.specs.Holds.{operand_value}
+use Rattle.query_spec.specs.Mentions.{IsDeclared}
 use Rattle.query_spec.specs.Rows.{value_in, Agrees}
 use Rattle.struql_ast.specs.declared.Operand.{Operand as Written}
-use Rattle.struql_ast.specs.declared.Term0.{Term0}
+use Rattle.struql_ast.specs.declared.SkolemTerm.{SkolemTerm}
 use Rattle.struql_ast.specs.Reading.{operand_of, term_of}
 use Rattle.site_spec.specs.Site.{IsTermUnder}
 use Rattle.std.proofs.Common.{◌++◌, take, get_or}
 use Rattle.std.proofs.lemmas.List.{take_more}
 use Rattle.query_spec.specs.Query.{Operand}
-use Rattle.skolem.specs.Solved.{Adds, Refutes, Gives, Solves, HasNone, IsDeclared}
+use Rattle.skolem.specs.Solved.{Adds, Refutes, Gives, Solves, HasNone}
 
 pub zip_at : {A B C : Type 0} (R : B → C → Type 0) (f : A → B) (xs : List A) (ys : List C) (i : ℕ) (x : A) (y : C)
     → AllZip R (map f xs) ys → slice_get xs i ≡ Some x → slice_get ys i ≡ Some y → R (f x) y
@@ -80,7 +81,7 @@ solved-more variables operands given i o d old new s oi di a = record {
   from = λ row l f. a.from row (l ∙ sym s.one_each) (s.from row l (λ j p e m pj ej. f j p e (omega (arith, m)) pj ej)) (f i o d (omega arith) oi di);
 }
 
-pub solved-all : (variables : List Variable) (t : Term0) (p : Term) (n : ℕ) (bound : List (Option Value)) → Solved variables t.args.items p.args n bound
+pub solved-all : (variables : List Variable) (t : SkolemTerm) (p : Term) (n : ℕ) (bound : List (Option Value)) → Solved variables t.args.items p.args n bound
     → p.function ≡ t.function → length t.args.items ≡ length p.args → length p.args ≤ n → Solves variables (λ s. IsTermUnder s (term_of t) p) bound
 solved-all variables t p n bound s f long past = record {
   one_each = s.one_each;
@@ -92,7 +93,7 @@ solved-all variables t p n bound s f long past = record {
   from = λ row l h. s.from row l (λ j o d below oj dj. zip_at (λ operand d. operand_value (value_in variables row) operand ≡ Some (Data d)) operand_of t.args.items p.args j o d h.args oj dj);
 }
 
-pub solved-never : (variables : List Variable) (t : Term0) (p : Term) (i : ℕ) (o : Written) (d : Datum) (bound : List (Option Value)) → Solved variables t.args.items p.args i bound
+pub solved-never : (variables : List Variable) (t : SkolemTerm) (p : Term) (i : ℕ) (o : Written) (d : Datum) (bound : List (Option Value)) → Solved variables t.args.items p.args i bound
     → slice_get t.args.items i ≡ Some o → slice_get p.args i ≡ Some d → Refutes (Gives variables (operand_of o) d) bound → HasNone variables (λ s. IsTermUnder s (term_of t) p)
 solved-never variables t p i o d bound s oi di r = record {
   never = λ row l h.
@@ -101,10 +102,10 @@ solved-never variables t p i o d bound s oi di r = record {
       r.never row (l ∙ sym s.one_each) (s.from row l (λ j o d below oj dj. at j o d oj dj)) (at i o d oi di);
 }
 
-pub other_function : (variables : List Variable) (t : Term0) (p : Term) → (p.function ≡ t.function → ⊥) → HasNone variables (λ s. IsTermUnder s (term_of t) p)
+pub other_function : (variables : List Variable) (t : SkolemTerm) (p : Term) → (p.function ≡ t.function → ⊥) → HasNone variables (λ s. IsTermUnder s (term_of t) p)
 other_function variables t p n = record { never = λ row l h. n h.function }
 
-pub other_length : (variables : List Variable) (t : Term0) (p : Term) → (length t.args.items ≡ length p.args → ⊥) → HasNone variables (λ s. IsTermUnder s (term_of t) p)
+pub other_length : (variables : List Variable) (t : SkolemTerm) (p : Term) → (length t.args.items ≡ length p.args → ⊥) → HasNone variables (λ s. IsTermUnder s (term_of t) p)
 other_length variables t p n = record { never = λ row l h. n (zip_long (λ operand d. operand_value (value_in variables row) operand ≡ Some (Data d)) operand_of t.args.items p.args h.args) }
 
 pub declared_at : (variables : List Variable) (operands : List Written) (i : ℕ) (o : Written) → All (IsDeclared variables) (map operand_of operands) → slice_get operands i ≡ Some o → IsDeclared variables (operand_of o)
@@ -136,6 +137,6 @@ zip_some R (a ∷ xs) [] i x h l is = absurd h
 zip_some R (a ∷ xs) (b ∷ ys) zero x h l is = (b, rw is h.0)
 zip_some R (a ∷ xs) (b ∷ ys) (suc i) x h l is = zip_some R xs ys i x h.1 (omega (arith, l)) is
 
-pub no_instance : (variables : List Variable) (row : List Value) (t : Term0) (i : ℕ) (o : Written) → i < length t.args.items → o ≡ get_or t.args.items i o → ((d : Datum) → Gives variables (operand_of o) d row → ⊥) → (p : Term) → IsTermUnder (value_in variables row) (term_of t) p → ⊥
+pub no_instance : (variables : List Variable) (row : List Value) (t : SkolemTerm) (i : ℕ) (o : Written) → i < length t.args.items → o ≡ get_or t.args.items i o → ((d : Datum) → Gives variables (operand_of o) d row → ⊥) → (p : Term) → IsTermUnder (value_in variables row) (term_of t) p → ⊥
 no_instance variables row t i o l is n p h =
     let r = zip_some (λ operand d. operand_value (value_in variables row) operand ≡ Some (Data d)) t.args.items p.args i o h.args l is in n r.0 r.1

@@ -11,7 +11,7 @@ use Rattle.query_spec.specs.declared.Variable.{Variable}
 use Rattle.query_spec.specs.Mentions.{same_name}
 use Rattle.query_spec.specs.Rows.{value_in}
 use Rattle.skolem.specs.Solved.{HasAt, HasName, Adds, Refutes, IsNumberOf}
-use Rattle.skolem.proofs.Names.{names_equal}
+use Rattle.query_spec.proofs.VariableNumbers.{names_equal}
 
 pub undeclared_more : (variables : List Variable) (name : Name) (i : ℕ) (x : Variable) → i < length variables → x ≡ get_or variables i x → (x.name ≡ name → ⊥)
     → (Contains (map (λ (v : Variable). v.name) (take i variables)) name → ⊥) → Contains (map (λ (v : Variable). v.name) (take (i + 1) variables)) name → ⊥

@@ -1,21 +1,18 @@
 -- What values of a chain's variables make a written term name a page.
-use Rattle.std.specs.Prelude.{◌≡◌, ℕ, List, Option, Some, length, map, Contains, slice_get}
+use Rattle.std.specs.Prelude.{◌≡◌, ℕ, List, Option, Some, length, slice_get}
 use Rattle.sd_value.specs.declared.Value.{Value}
 use Rattle.graph_spec.specs.DataGraph.{Name}
 use Rattle.query_spec.specs.declared.Variable.{Variable}
-use Rattle.query_spec.specs.Query.{Operand, variable, constant}
+use Rattle.query_spec.specs.Query.{Operand}
 use Rattle.query_spec.specs.Holds.{Assignment, operand_value}
 use Rattle.sd_value.specs.declared.Datum.{Datum}
 use Rattle.sd_value.specs.declared.Value.TheVariants.{Data}
 use Rattle.query_spec.specs.Rows.{value_in, Agrees}
 
-abbrev pub IsDeclared : List Variable → Operand → Type 0
-IsDeclared variables (variable x) = Contains (map (λ v. v.name) variables) x
-IsDeclared variables (constant v) = Unit {0}
-
 -- the value of the name in a row is that of the variable of that number
 pub record IsNumberOf (variables : List Variable) (name : Name) (i : ℕ) : Type 0 where
-  pub same : (row : List Value) → length row ≡ length variables → value_in variables row name ≡ slice_get row i
+  pub same : (row : List Value) → length row ≡ length variables
+      → value_in variables row name ≡ slice_get row i
 
 abbrev pub HasAt : ℕ → Value → List Value → Type 0
 HasAt i v row = slice_get row i ≡ Some v
@@ -35,10 +32,13 @@ pub record Refutes (Q : List Value → Type 0) (old : List (Option Value)) : Typ
   pub never : (row : List Value) → length row ≡ length old → Agrees row old → Q row → ⊥
 
 -- the rows that agree are those under which P holds
-pub record Solves (variables : List Variable) (P : Assignment → Type 0) (bound : List (Option Value)) : Type 0 where
+pub record Solves (variables : List Variable) (P : Assignment → Type 0)
+    (bound : List (Option Value)) : Type 0 where
   pub one_each : length bound ≡ length variables
-  pub to : (row : List Value) → length row ≡ length variables → Agrees row bound → P (value_in variables row)
-  pub from : (row : List Value) → length row ≡ length variables → P (value_in variables row) → Agrees row bound
+  pub to : (row : List Value) → length row ≡ length variables → Agrees row bound
+      → P (value_in variables row)
+  pub from : (row : List Value) → length row ≡ length variables → P (value_in variables row)
+      → Agrees row bound
 
 -- P holds under no row
 pub record HasNone (variables : List Variable) (P : Assignment → Type 0) : Type 0 where
@@ -48,7 +48,7 @@ pub record HasNone (variables : List Variable) (P : Assignment → Type 0) : Typ
 abbrev pub Gives : List Variable → Operand → Datum → List Value → Type 0
 Gives variables operand d row = operand_value (value_in variables row) operand ≡ Some (Data d)
 
--- so many places, none of them bound
+-- this many places, none of them bound
 pub record AllFree (n : ℕ) (bound : List (Option Value)) : Type 0 where
   pub one_each : length bound ≡ n
   pub free : (row : List Value) → length row ≡ n → Agrees row bound

@@ -4,7 +4,7 @@ ghost use Rattle.skolem.specs.Solved.{Adds, Refutes, HasName};
 
 use crate::solve::{index_of, put};
 use query_spec::{Bound, Variable};
-use sd_value::{NoMemory, Str, Value, copy};
+use sd_value::{NoMemory, Str, Value};
 use std::alloc::Global;
 
 // Whether a variable has the name.
@@ -19,29 +19,6 @@ fn is_declared(variables: &[Variable], name: &Str) -> bool
     false
 }
 
-fn copied_value(alloc: Global, value: &Option<Value>) -> Result<Option<Value>, NoMemory>
-    ensures { IfOk result (λ v. v ≡ value.now) }
-{
-    match value {
-        Some(value) => {
-            let value = copy(alloc, value)?;
-            Ok(Some(value))
-        }
-        None => Ok(None),
-    }
-}
-
-fn copied(alloc: Global, bound: &[Option<Value>]) -> Result<Vec<Option<Value>>, NoMemory>
-    ensures { IfOk result (λ values. values.items ≡ bound.now) }
-{
-    let mut values = Vec::with_capacity(alloc, bound.len())?;
-    for value in bound {
-        let value = copied_value(alloc, value)?;
-        values.push(value)?;
-    }
-    Ok(values)
-}
-
 /// The values that are bound, and one more for the variable with the name; none where no row has them all.
 pub fn with_value(
     alloc: Global,
@@ -51,12 +28,14 @@ pub fn with_value(
     value: Value,
 ) -> Result<Option<Bound>, NoMemory>
     requires one_each { length bound.now ≡ length variables.now }
-    ensures { IfOk result (λ b. MatchOption b (Refutes (HasName variables.now name.now value) bound.now) (λ b. Adds (HasName variables.now name.now value) bound.now b)) }
+    ensures { IfOk result
+        (λ b. MatchOption b (Refutes (HasName variables.now name.now value) bound.now)
+        (λ b. Adds (HasName variables.now name.now value) bound.now b)) }
 {
     if !is_declared(variables, name) {
         return Ok(None);
     }
-    let mut values = copied(alloc, bound.values())?;
+    let mut values = bound.to_values(alloc)?;
     let slot = index_of(variables, name);
     if put(&mut values, slot, value) {
         Ok(Some(Bound::new(values)))

@@ -1,15 +1,16 @@
 //! Solving a written term against a page.
 ghost use Rattle.std.specs.Prelude.{◌≡◌, ◌<◌, ℕ, List, Option, length, map, All, Contains, IfOk, MatchOption, MatchBool};
 ghost use Rattle.sd_value.specs.declared.Value.{Value as AnyValue};
+ghost use Rattle.query_spec.specs.Mentions.{IsDeclared};
 ghost use Rattle.query_spec.specs.Rows.{Agrees};
 ghost use Rattle.struql_ast.specs.Reading.{operand_of, term_of};
 ghost use Rattle.site_spec.specs.Site.{IsTermUnder};
-ghost use Rattle.skolem.specs.Solved.{IsDeclared, IsNumberOf, Adds, Refutes, Solves, HasNone, HasAt, Gives};
+ghost use Rattle.skolem.specs.Solved.{IsNumberOf, Adds, Refutes, Solves, HasNone, HasAt, Gives};
 
 use query_spec::{Bound, Variable};
 use sd_value::{Datum, NoMemory, Str, Term, Value, copy};
 use std::alloc::Global;
-use struql_ast::{Chain, Operand, Term0};
+use struql_ast::{Chain, Operand, SkolemTerm};
 
 // The number of the variable with the name.
 pub(crate) fn index_of(variables: &[Variable], name: &Str) -> usize
@@ -28,7 +29,8 @@ pub(crate) fn index_of(variables: &[Variable], name: &Str) -> usize
 // Binds the variable of that number to the value; false where it is bound to another.
 pub(crate) fn put(values: &mut Vec<Option<Value>>, slot: usize, value: Value) -> bool
     requires within { slot < length values.old.items }
-    ensures { MatchBool result (Adds (HasAt slot value) values.old.items values.new.items) (Refutes (HasAt slot value) values.old.items) }
+    ensures { MatchBool result (Adds (HasAt slot value) values.old.items values.new.items)
+        (Refutes (HasAt slot value) values.old.items) }
 {
     if let Some(other) = &values[slot] {
         return *other == value;
@@ -47,7 +49,9 @@ fn bind(
 ) -> Result<bool, NoMemory>
     requires declared { IsDeclared variables.now (operand_of operand.now) }
     requires one_each { length values.old.items ≡ length variables.now }
-    ensures { IfOk result (λ b. MatchBool b (Adds (Gives variables.now (operand_of operand.now) datum.now) values.old.items values.new.items) (Refutes (Gives variables.now (operand_of operand.now) datum.now) values.old.items)) }
+    ensures { IfOk result
+        (λ b. MatchBool b
+        (Adds (Gives variables.now (operand_of operand.now) datum.now) values.old.items values.new.items) (Refutes (Gives variables.now (operand_of operand.now) datum.now) values.old.items)) }
 {
     let value = Value::Data(datum.copy(alloc)?);
     match operand {
@@ -59,10 +63,11 @@ fn bind(
     }
 }
 
-// No value for any of so many variables.
-fn all_free(alloc: Global, count: usize) -> Result<Vec<Option<Value>>, NoMemory>
+/// No value for any of that many variables.
+pub fn all_free(alloc: Global, count: usize) -> Result<Vec<Option<Value>>, NoMemory>
     ensures long { IfOk result (λ values. length values.items ≡ count) }
-    ensures free { IfOk result (λ values. (row : List AnyValue) → length row ≡ count → Agrees row values.items) }
+    ensures free { IfOk result (λ values.
+        (row : List AnyValue) → length row ≡ count → Agrees row values.items) }
 {
     let mut values = Vec::with_capacity(alloc, count)?;
     for _number in 0..count {
@@ -74,17 +79,21 @@ fn all_free(alloc: Global, count: usize) -> Result<Vec<Option<Value>>, NoMemory>
 /// The values that make the written term name the page, where some do.
 pub fn matches(
     alloc: Global,
-    term0: &Term0,
+    skolem_term: &SkolemTerm,
     variables: &[Variable],
     term: &Term,
 ) -> Result<Option<Bound>, NoMemory>
-    requires declared { All (IsDeclared variables.now) (term_of term0.now).args }
-    ensures { IfOk result (λ b. MatchOption b (HasNone variables.now (λ s. IsTermUnder s (term_of term0.now) term.now)) (λ bound. Solves variables.now (λ s. IsTermUnder s (term_of term0.now) term.now) bound)) }
+    requires declared { All (IsDeclared variables.now) (term_of skolem_term.now).args }
+    ensures { IfOk result
+        (λ b. MatchOption b
+        (HasNone variables.now (λ s. IsTermUnder s (term_of skolem_term.now) term.now))
+        (λ bound. Solves variables.now
+        (λ s. IsTermUnder s (term_of skolem_term.now) term.now) bound)) }
 {
-    if term0.function != term.function {
+    if skolem_term.function != term.function {
         return Ok(None);
     }
-    let written = term0.args.as_slice();
+    let written = skolem_term.args.as_slice();
     let args = term.args.items();
     if written.len() != args.len() {
         return Ok(None);

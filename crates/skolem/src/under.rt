@@ -12,7 +12,7 @@ ghost use Rattle.skolem.specs.Solved.{Gives};
 use query_spec::Variable;
 use sd_value::{Args, Datum, NoMemory, Str, Term, Value};
 use std::alloc::Global;
-use struql_ast::{Operand, Term0};
+use struql_ast::{Operand, SkolemTerm};
 
 /// The value that a row gives a variable.
 pub fn value_of<'a>(variables: &[Variable], row: &'a [Value], name: &Str) -> Option<&'a Value>
@@ -37,7 +37,8 @@ pub fn operand_value<'a>(
     row: &'a [Value],
     operand: &'a Operand,
 ) -> Option<&'a Value>
-    ensures { option_copied result ≡ operand_value (value_in variables.now row.now) (operand_of operand.now) }
+    ensures { option_copied result
+        ≡ operand_value (value_in variables.now row.now) (operand_of operand.now) }
 {
     match operand {
         Operand::Variable(name, _) => value_of(variables, row, name),
@@ -47,7 +48,9 @@ pub fn operand_value<'a>(
 
 // The datum that a row gives an operand.
 fn datum_of<'a>(variables: &[Variable], row: &'a [Value], operand: &'a Operand) -> Option<&'a Datum>
-    ensures { MatchOption result ((d : AnyDatum) → Gives variables.now (operand_of operand.now) d row.now → ⊥) (λ d. Gives variables.now (operand_of operand.now) d.now row.now) }
+    ensures { MatchOption result
+        ((d : AnyDatum) → Gives variables.now (operand_of operand.now) d row.now → ⊥)
+        (λ d. Gives variables.now (operand_of operand.now) d.now row.now) }
 {
     let Some(value) = operand_value(variables, row, operand) else {
         return None;
@@ -61,13 +64,16 @@ fn datum_of<'a>(variables: &[Variable], row: &'a [Value], operand: &'a Operand) 
 /// The page that the written term names under the row, if it names one.
 pub fn instance(
     alloc: Global,
-    term0: &Term0,
+    skolem_term: &SkolemTerm,
     variables: &[Variable],
     row: &[Value],
 ) -> Result<Option<Term>, NoMemory>
-    ensures { IfOk result (λ o. MatchOption o ((p : AnyTerm) → IsTermUnder (value_in variables.now row.now) (term_of term0.now) p → ⊥) (λ p. IsTermUnder (value_in variables.now row.now) (term_of term0.now) p)) }
+    ensures { IfOk result
+        (λ o. MatchOption o
+        ((p : AnyTerm) → IsTermUnder (value_in variables.now row.now) (term_of skolem_term.now) p
+        → ⊥) (λ p. IsTermUnder (value_in variables.now row.now) (term_of skolem_term.now) p)) }
 {
-    let written = term0.args.as_slice();
+    let written = skolem_term.args.as_slice();
     let mut args = Vec::with_capacity(alloc, written.len())?;
     for operand in written {
         let Some(datum) = datum_of(variables, row, operand) else {
@@ -75,9 +81,9 @@ pub fn instance(
         };
         args.push(datum.copy(alloc)?)?;
     }
-    let function = term0.function.copy(alloc)?;
+    let function = skolem_term.function.copy(alloc)?;
     Ok(Some(Term {
         function,
-        args: Args::new(args),
+        args: Args::new(alloc, args)?,
     }))
 }

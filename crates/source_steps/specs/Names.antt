@@ -6,5 +6,6 @@ numbered name k = name ++ codes "_" ++ decimal k
 
 -- one byte order mark is dropped
 unfoldable pub without_mark : List ℕ → List ℕ
-without_mark (a ∷ b ∷ c ∷ rest) = if (a == 239) && (b == 187) && (c == 191) then rest else a ∷ b ∷ c ∷ rest
+without_mark (a ∷ b ∷ c ∷ rest) =
+    if (a == 239) && (b == 187) && (c == 191) then rest else a ∷ b ∷ c ∷ rest
 without_mark bytes = bytes

@@ -19,7 +19,7 @@ pub fn numbered_name(alloc: Global, name: &Str, number: u64) -> Result<Str, NoMe
     Str::of(alloc, text)
 }
 
-/// The bytes behind a UTF-8 byte order mark, where one stands at the start.
+/// The bytes behind a UTF-8 byte order mark, where one is at the start.
 #[tactic(auto, unfolding(crate::specs::Names::without_mark))]
 pub fn without_mark(bytes: &[u8]) -> &[u8]
     ensures { result.now ≡ unmarked bytes.now }

@@ -22,41 +22,52 @@ pub struct Sizes {
     pub labels: u64,
 }
 
-/// What answers questions on a data graph. Each list is strictly ascending, and the only error is want of memory.
+/// What answers questions on a data graph. Each list is strictly ascending, and the only error is out of memory.
 pub trait Store {
     ghost graph: { Self → DataGraph };
 
     /// The ends of the edges from a value by a label.
     fn out(&self, alloc: Global, from: &Value, label: &Str) -> Result<Vec<Value>, NoMemory>
-        ensures { IfOk result (λ ends. ListsExactly value_cmp (HasEdge (graph self.now) from.now label.now) ends.items) };
+        ensures { IfOk result
+            (λ ends. ListsExactly value_cmp
+            (HasEdge (graph self.now) from.now label.now) ends.items) };
 
     /// The edges from a value, by label and then end.
     fn out_all(&self, alloc: Global, from: &Value) -> Result<Vec<Step>, NoMemory>
-        ensures { IfOk result (λ steps. ListsExactly step_cmp (IsStepFrom (graph self.now) from.now) steps.items) };
+        ensures { IfOk result
+            (λ steps. ListsExactly step_cmp (IsStepFrom (graph self.now) from.now) steps.items) };
 
     /// The edges to a value, by label and then start. A step's end is the edge's start.
     fn incoming(&self, alloc: Global, to: &Value) -> Result<Vec<Step>, NoMemory>
-        ensures { IfOk result (λ steps. ListsExactly step_cmp (IsStepTo (graph self.now) to.now) steps.items) };
+        ensures { IfOk result
+            (λ steps. ListsExactly step_cmp (IsStepTo (graph self.now) to.now) steps.items) };
 
     /// The starts of the edges to a value by a label.
     fn incoming_by(&self, alloc: Global, to: &Value, label: &Str) -> Result<Vec<Value>, NoMemory>
-        ensures { IfOk result (λ starts. ListsExactly value_cmp (IsStart (graph self.now) to.now label.now) starts.items) };
+        ensures { IfOk result
+            (λ starts. ListsExactly value_cmp
+            (IsStart (graph self.now) to.now label.now) starts.items) };
 
     /// The edges of a label, by start and then end.
     fn edges_by(&self, alloc: Global, label: &Str) -> Result<Vec<Edge>, NoMemory>
-        ensures { IfOk result (λ edges. ListsExactly edge_cmp (IsLabelled (graph self.now) label.now) edges.items) };
+        ensures { IfOk result
+            (λ edges. ListsExactly edge_cmp (IsLabelled (graph self.now) label.now) edges.items) };
 
     /// The nodes of a collection.
     fn members(&self, alloc: Global, collection: &Str) -> Result<Vec<Value>, NoMemory>
-        ensures { IfOk result (λ nodes. ListsExactly value_cmp (IsMemberValue (graph self.now) collection.now) nodes.items) };
+        ensures { IfOk result
+            (λ nodes. ListsExactly value_cmp
+            (IsMemberValue (graph self.now) collection.now) nodes.items) };
 
     /// What a node variable may be: the declared nodes, and the atoms at the ends of edges.
     fn values(&self, alloc: Global) -> Result<Vec<Value>, NoMemory>
-        ensures { IfOk result (λ values. ListsExactly value_cmp (IsValueOf (graph self.now)) values.items) };
+        ensures { IfOk result
+            (λ values. ListsExactly value_cmp (IsValueOf (graph self.now)) values.items) };
 
     /// The labels of edges.
     fn labels(&self, alloc: Global) -> Result<Vec<Str>, NoMemory>
-        ensures { IfOk result (λ labels. ListsExactly bytes_cmp (IsLabelOf (graph self.now)) labels.items) };
+        ensures { IfOk result
+            (λ labels. ListsExactly bytes_cmp (IsLabelOf (graph self.now)) labels.items) };
 
     /// Whether there is this edge.
     fn has_edge(&self, from: &Value, label: &Str, to: &Value) -> bool
@@ -74,7 +85,7 @@ pub trait Store {
     fn is_label(&self, label: &Str) -> bool
         ensures { IsTrue result ↔ IsLabelOf (graph self.now) label.now };
 
-    /// How large the graph is. The graph is well formed, which this call tells too.
+    /// How large the graph is. The graph is well formed, which this call reports too.
     fn sizes(&self) -> Sizes
         ensures nodes { result.nodes ≡ length (graph self.now).nodes }
         ensures edges { result.edges ≡ length (graph self.now).edges }

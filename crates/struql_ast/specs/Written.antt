@@ -3,7 +3,7 @@ use Rattle.std.specs.Prelude.{◌≡◌, ℕ, List, [], ◌∷◌, map}
 use Rattle.std.proofs.Common.{refl, ap, ◌∙◌}
 use Rattle.sd_value.specs.declared.Value.{Value}
 use Rattle.sd_lex.specs.declared.token.Span.{Span}
-use Rattle.path_spec.specs.Regex.{Regex}
+use Rattle.rpe.specs.Regex.{Regex}
 use Rattle.rpe.specs.Reading.{regex_of}
 use Rattle.query_spec.specs.declared.Op.{Op}
 use Rattle.query_spec.specs.declared.Test.{Test}
@@ -11,7 +11,7 @@ use Rattle.struql_ast.specs.declared.Operand.{Operand}
 use Rattle.struql_ast.specs.declared.PathStep.{PathStep}
 use Rattle.struql_ast.specs.declared.PathStep.TheVariants.{ArcVariable, Expression}
 use Rattle.struql_ast.specs.declared.Condition as declared
-use Rattle.struql_ast.specs.declared.Term0.{Term0}
+use Rattle.struql_ast.specs.declared.SkolemTerm.{SkolemTerm}
 use Rattle.struql_ast.specs.declared.Target as declared_target
 use Rattle.struql_ast.specs.declared.Target.TheVariants.{Plain, Made}
 use Rattle.struql_ast.specs.declared.LinkLabel.{LinkLabel}
@@ -21,14 +21,16 @@ use Rattle.struql_ast.specs.declared.Block.{Block, Block', Row_of-Block, end_of-
 use Rattle.struql_ast.specs.declared.Block.TheBlock.{hidden-the_row-Block-0, items_hidden-the_row-Block-0}
 use Rattle.struql_ast.specs.declared.Query as declared_query
 
+-- the bytes of a name
 abbrev pub Name : Type 0
 Name = List ℕ
 
--- what stands between the arrows of a path
+-- what is between the arrows of a path
 pub data Step : Type 0 where
   arc_variable : Name → Span → Step
   expression : Regex → Span → Step
 
+-- a condition with its places
 pub data Condition : Type 0 where
   -- `C(x)`
   member : (collection x : Name) → (x_span span : Span) → Condition
@@ -43,21 +45,25 @@ pub data Condition : Type 0 where
   -- `not(..)`
   negation : Condition → Span → Condition
 
+-- a function's name and its arguments, with its place
 pub record Term : Type 0 where
   pub function : Name
   pub args : List Operand
   pub span : Span
 
+-- an operand, or a term
 pub data Target : Type 0 where
   plain : Operand → Target
   made : Term → Target
 
+-- an edge that a LINK asks for, with its place
 pub record Link : Type 0 where
   pub source : Target
   pub label : LinkLabel
   pub target : Target
   pub span : Span
 
+-- a value that a COLLECT puts into a collection, with its place
 pub record Collect : Type 0 where
   pub collection : Name
   pub target : Target
@@ -75,6 +81,7 @@ pub data Blocks : Type 0 where
   no_blocks : Blocks
   block : Clauses → Blocks → Span → Blocks → Blocks
 
+-- a query, with the places of its parts
 pub record Query : Type 0 where
   pub version : ℕ
   pub input : Name
@@ -83,10 +90,12 @@ pub record Query : Type 0 where
 
 -- ---- what the program's trees are
 
+-- what is between arrows
 abbrev pub step_written : PathStep → Step
 step_written (ArcVariable x span) = arc_variable x span
 step_written (Expression r span) = expression (regex_of r) span
 
+-- a condition
 abbrev pub condition_written : declared.Condition → Condition
 condition_written (declared.Member collection x x_span span) = member collection x x_span span
 condition_written (declared.Path from step to span) = path from (step_written step) to span
@@ -95,25 +104,43 @@ condition_written (declared.OneOf operand constants span) = one_of operand const
 condition_written (declared.Kind test x x_span span) = kind test x x_span span
 condition_written (declared.Not' p c span) = negation (condition_written c) span
 
-abbrev pub term_written : Term0 → Term
+-- a term
+abbrev pub term_written : SkolemTerm → Term
 term_written t = record { function = t.function; args = t.args.items; span = t.span }
 
+-- a target
 abbrev pub target_written : declared_target.Target → Target
 target_written (Plain o) = plain o
 target_written (Made t) = made (term_written t)
 
+-- a link
 abbrev pub link_written : declared_link.Link → Link
-link_written k = record { source = target_written k.source; label = k.label; target = target_written k.target; span = k.span }
+link_written k = record {
+  source = target_written k.source;
+  label = k.label;
+  target = target_written k.target;
+  span = k.span;
+}
 
+-- a COLLECT's item
 abbrev pub collect_written : declared_collect.Collect → Collect
-collect_written c = record { collection = c.collection; target = target_written c.target; span = c.span }
+collect_written c = record {
+  collection = c.collection;
+  target = target_written c.target;
+  span = c.span;
+}
 
 abbrev mutual
   -- the block, and these after it
   pub block_written : Block → Blocks → Blocks
   block_written (Block' conditions creates links collects shape inner span) after =
       block
-      (record { conditions = map condition_written conditions.items; creates = map term_written creates.items; links = map link_written links.items; collects = map collect_written collects.items })
+      (record {
+        conditions = map condition_written conditions.items;
+        creates = map term_written creates.items;
+        links = map link_written links.items;
+        collects = map collect_written collects.items;
+      })
       (row_written inner)
       span
       after
@@ -122,38 +149,64 @@ abbrev mutual
   row_written end_of-Block = no_blocks
   row_written (more_of-Block b rest) = block_written b (row_written rest)
 
+-- blocks one after another
 abbrev pub blocks_written : List Block → Blocks
 blocks_written [] = no_blocks
 blocks_written (b ∷ bs) = block_written b (blocks_written bs)
 
 -- the parts of a block
 
+-- its clauses
 abbrev pub block_clauses : Block → Clauses
 block_clauses (Block' conditions creates links collects shape inner span) =
-    record { conditions = map condition_written conditions.items; creates = map term_written creates.items; links = map link_written links.items; collects = map collect_written collects.items }
+    record {
+      conditions = map condition_written conditions.items;
+      creates = map term_written creates.items;
+      links = map link_written links.items;
+      collects = map collect_written collects.items;
+    }
 
+-- the blocks in it
 abbrev pub block_inner : Block → Blocks
 block_inner (Block' conditions creates links collects shape inner span) = row_written inner
 
+-- its place
 abbrev pub block_span : Block → Span
 block_span (Block' conditions creates links collects shape inner span) = span
 
 -- the blocks in a block, as the list that its vector holds
-pub row_written-items : (n : _) (row : Row_of-Block n) → row_written row ≡ blocks_written (items-the_row-Block n row)
+pub row_written-items : (n : _) (row : Row_of-Block n)
+    → row_written row ≡ blocks_written (items-the_row-Block n row)
 row_written-items n end_of-Block = refl
 row_written-items n (more_of-Block b rest) = ap (block_written b) (row_written-items _ rest)
 
+-- the blocks in a block that is put together
 pub inner_made : (r : _) → block_inner (roll-Block r) ≡ blocks_written r.blocks.items
 unfolding roll-Block hidden-the_row-Block-0 denote.Hole.Carrier.roll denote.Hole.Carrier.hidden
-inner_made r = row_written-items _ (hidden-the_row-Block-0 r.blocks) ∙ ap blocks_written (items_hidden-the_row-Block-0 r.blocks)
+inner_made r =
+    row_written-items _ (hidden-the_row-Block-0 r.blocks) ∙ ap blocks_written
+    (items_hidden-the_row-Block-0 r.blocks)
 
-pub clauses_made : (r : _) → block_clauses (roll-Block r) ≡ record { conditions = map condition_written r.conditions.items; creates = map term_written r.creates.items; links = map link_written r.links.items; collects = map collect_written r.collects.items }
+-- and its clauses
+pub clauses_made : (r : _) → block_clauses (roll-Block r) ≡ record {
+  conditions = map condition_written r.conditions.items;
+  creates = map term_written r.creates.items;
+  links = map link_written r.links.items;
+  collects = map collect_written r.collects.items;
+}
 unfolding roll-Block denote.Hole.Carrier.roll
 clauses_made r = refl
 
+-- and its place
 pub span_made : (r : _) → block_span (roll-Block r) ≡ r.span
 unfolding roll-Block denote.Hole.Carrier.roll
 span_made r = refl
 
+-- a query
 abbrev pub query_written : declared_query.Query → Query
-query_written q = record { version = q.version; input = q.input; blocks = blocks_written q.blocks.items; output = q.output }
+query_written q = record {
+  version = q.version;
+  input = q.input;
+  blocks = blocks_written q.blocks.items;
+  output = q.output;
+}

@@ -17,7 +17,7 @@ pub enum Operand {
     Constant(Value, Span),
 }
 
-/// What stands between the arrows of a path.
+/// What is between the arrows of a path.
 pub enum PathStep {
     ArcVariable(Str, Span),
     Expression(Rpe, Span),
@@ -56,12 +56,14 @@ impl Model for Constants {
 }
 
 impl Constants {
+    /// The list of these values.
     pub fn new(items: Vec<Value>) -> Constants
         ensures { result ≡ items.items }
     {
         Constants { items }
     }
 
+    /// The values, in the text's order.
     pub fn items(&self) -> &[Value]
         ensures { result.now ≡ self.now }
     {
@@ -69,6 +71,7 @@ impl Constants {
     }
 }
 
+/// A condition of a WHERE.
 #[derive(Drop)]
 pub enum Condition {
     Member {
@@ -105,16 +108,16 @@ pub enum Condition {
 
 /// A function's name and its arguments.
 #[derive(Debug)]
-pub struct Term0 {
+pub struct SkolemTerm {
     pub function: Str,
     pub args: Vec<Operand>,
     pub span: Span,
 }
 
 // Written out, so that it is proved here once, and not again in each crate that drops one.
-impl Drop for Term0 {
+impl Drop for SkolemTerm {
     fn drop(self) {
-        let Term0 {
+        let SkolemTerm {
             function: _function,
             args: _args,
             span: _span,
@@ -122,12 +125,14 @@ impl Drop for Term0 {
     }
 }
 
+/// What a LINK or a COLLECT names: a variable, a constant or a term.
 #[derive(Debug, Drop)]
 pub enum Target {
     Plain(Operand),
-    Made(Term0),
+    Made(SkolemTerm),
 }
 
+/// The label of a LINK: a quoted text, or an arc variable.
 #[derive(Debug)]
 pub enum LinkLabel {
     Quoted(Str),
@@ -144,6 +149,7 @@ impl Drop for LinkLabel {
     }
 }
 
+/// An edge that a LINK asks for.
 #[derive(Debug)]
 pub struct Link {
     pub source: Target,
@@ -164,6 +170,7 @@ impl Drop for Link {
     }
 }
 
+/// A value that a COLLECT puts into a collection.
 #[derive(Debug)]
 pub struct Collect {
     pub collection: Str,
@@ -186,13 +193,14 @@ impl Drop for Collect {
 #[derive(Drop)]
 pub struct Block {
     pub conditions: Vec<Condition>,
-    pub creates: Vec<Term0>,
+    pub creates: Vec<SkolemTerm>,
     pub links: Vec<Link>,
     pub collects: Vec<Collect>,
     pub blocks: Vec<Block>,
     pub span: Span,
 }
 
+/// A whole query, as its text says it.
 pub struct Query {
     pub version: u8,
     pub input: Str,
@@ -242,10 +250,15 @@ impl Model for Chain {
 
     ghost use Rattle.struql_ast.specs.Reading.{condition_of};
 
-    ghost view = { λ c. record { version = c.version; variables = c.variables.items; conditions = map condition_of c.conditions.items } };
+    ghost view = { λ c. record {
+      version = c.version;
+      variables = c.variables.items;
+      conditions = map condition_of c.conditions.items;
+    } };
 }
 
 impl Chain {
+    /// The chain of these conditions, with these variables.
     pub fn new(version: u8, variables: Vec<Variable>, conditions: Vec<Condition>) -> Chain
         ensures version { result.version ≡ version }
         ensures variables { result.variables ≡ variables.items }
@@ -258,18 +271,21 @@ impl Chain {
         }
     }
 
+    /// The language's version.
     pub fn version(&self) -> u8
         ensures { result ≡ self.now.version }
     {
         self.version
     }
 
+    /// The variables, by first mention.
     pub fn variables(&self) -> &[Variable]
         ensures { result.now ≡ self.now.variables }
     {
         self.variables.as_slice()
     }
 
+    /// The conditions, those of outer blocks first.
     pub fn conditions(&self) -> &[Condition]
         ensures { map condition_of result.now ≡ self.now.conditions }
     {

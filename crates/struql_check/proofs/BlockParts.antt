@@ -5,7 +5,7 @@ use Rattle.std.proofs.lemmas.List.{append-nil}
 use Rattle.struql_ast.specs.declared.Block.{Block, Block'}
 use Rattle.struql_ast.specs.declared.Block.TheViews.{out-Block, roll-out-Block}
 use Rattle.struql_ast.specs.Written.{Blocks, block, condition_written, term_written, link_written, collect_written, block_written, blocks_written, block_clauses, block_inner, block_span, inner_made, clauses_made}
-use Rattle.struql_check.specs.Scope.{terms_within, clause_terms, within, Scoped}
+use Rattle.struql_check.specs.Scope.{terms_within, clause_terms, within, ScopedBlock}
 use Rattle.struql_check.specs.Known.{here}
 use Rattle.struql_check.specs.declared.mentions.Mention.{Mention}
 
@@ -31,10 +31,10 @@ terms_push (x ∷ xs) b =
 
 pub within_push : (round : List (List Mention)) (xs : List Block) (b : Block)
     → within round (blocks_written (xs ++ b ∷ [])) ≡ within round (blocks_written xs) ++ (record { round = here round b; clauses = block_clauses b } ∷ within (here round b) (block_inner b))
-within_push round [] b = rw (written_of b (blocks_written [])) (ap (λ (bs : List Scoped). record { round = here round b; clauses = block_clauses b } ∷ bs) (append-nil _))
+within_push round [] b = rw (written_of b (blocks_written [])) (ap (λ (bs : List ScopedBlock). record { round = here round b; clauses = block_clauses b } ∷ bs) (append-nil _))
 within_push round (x ∷ xs) b =
     rw (written_of x (blocks_written (xs ++ b ∷ [])), written_of x (blocks_written xs), within_push round xs b)
-    (ap (λ (bs : List Scoped). record { round = here round x; clauses = block_clauses x } ∷ bs) (sym (append_assoc (within (here round x) (block_inner x)) (within round (blocks_written xs)) _)))
+    (ap (λ (bs : List ScopedBlock). record { round = here round x; clauses = block_clauses x } ∷ bs) (sym (append_assoc (within (here round x) (block_inner x)) (within round (blocks_written xs)) _)))
 
 pub parts_joined : {X : Type 0} (f t c l k i found : List X) → found ≡ f ++ t → (((found ++ c) ++ l) ++ k) ++ i ≡ f ++ (t ++ (((c ++ l) ++ k) ++ i))
 parts_joined f t c l k i found e = rw e (simp append_assoc)

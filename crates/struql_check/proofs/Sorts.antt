@@ -6,7 +6,7 @@ use Rattle.query_spec.specs.Mentions.{same_name}
 use Rattle.struql_ast.specs.Written.{Name}
 use Rattle.struql_check.specs.declared.mentions.Mention.{Mention}
 use Rattle.struql_check.specs.Scope.{is_in, is_between_arrows, is_arc_role, sort_of}
-use Rattle.struql_check.proofs.NameLists.{same_is, same_turned}
+use Rattle.query_spec.proofs.MentionLaws.{same_is, same_turned}
 
 or_nil : (a b : Bool) → (a || (b || false)) ≡ (a || b)
 or_nil true b = refl

@@ -13,7 +13,7 @@ use Rattle.struql_check.specs.declared.terms.SeenTerm.{SeenTerm}
 use Rattle.struql_check.specs.Faults.{is_created, first_arity, TermFault, number, is_index, is_test}
 use Rattle.struql_check.specs.First.{IsFirst, fault_at}
 use Rattle.struql_check.specs.Known.{or_else, differs, broken_term}
-use Rattle.struql_check.proofs.NameLists.{same_is, same_turned}
+use Rattle.query_spec.proofs.MentionLaws.{same_is, same_turned}
 
 or_nil : (a b : Bool) → (a || (b || false)) ≡ (a || b)
 or_nil true b = refl

@@ -11,6 +11,7 @@ use Rattle.struql_check.specs.declared.refusal.CheckRefusal.{CheckRefusal}
 use Rattle.struql_check.specs.declared.refusal.CheckRefusal.TheVariants.{TooManyPositions, Unbound, NeverCreated, Arity, LinkFromData, ArcAsNode, NotLabel, Reserved, TooManyVariables, NoMemory}
 use Rattle.struql_check.specs.Faults.{Faulty, IsLeastFault, IsFaultless}
 
+-- the refusal of a check at a place
 abbrev pub told : Check → ℕ → CheckRefusal
 told checks.TooManyPositions at = TooManyPositions at
 told checks.Unbound at = Unbound at
@@ -22,12 +23,13 @@ told checks.NotLabel at = NotLabel at
 told checks.Reserved at = Reserved at
 told checks.TooManyVariables at = TooManyVariables at
 
--- the refusal tells the query's first fault
-abbrev pub TellsFirst : written.Query → CheckRefusal → Type 0
-TellsFirst q NoMemory = Unit {0}
-TellsFirst q refusal = (check : Check) × (at : ℕ) × IsLeastFault (Faulty q) check at × (refusal ≡ told check at)
+-- the refusal reports the query's first fault
+abbrev pub ReportsFirst : written.Query → CheckRefusal → Type 0
+ReportsFirst q NoMemory = Unit {0}
+ReportsFirst q refusal =
+    (check : Check) × (at : ℕ) × IsLeastFault (Faulty q) check at × (refusal ≡ told check at)
 
 -- Ok exactly where the query has no fault, with that query; else its first fault, unless memory ran out
 abbrev pub Answers : Query → Result plain.Query CheckRefusal → Type 0
 Answers query (Ok checked) = IsFaultless (query_written query) × (checked ≡ query_of query)
-Answers query (Err refusal) = TellsFirst (query_written query) refusal
+Answers query (Err refusal) = ReportsFirst (query_written query) refusal

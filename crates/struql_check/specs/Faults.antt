@@ -1,8 +1,8 @@
--- What a query that is spelled has to keep besides, and where it stands if it doesn't.
+-- What a query that is spelled has to keep besides, and where it is if it doesn't.
 use Rattle.std.specs.Prelude.{◌≡◌, ◌≢◌, ◌⊎◌, ℕ, ◌<◌, ◌≤◌, Bool, true, false, not, ◌&&◌, ◌||◌, List, ◌∷◌, ◌++◌, length, map, find, Contains, if◌then◌else◌, nat_lt, Option, Some, None, option_map, codes}
 use Rattle.std.specs.List.{list_any}
 use Rattle.std.specs.Str.{bytes_eq}
-use Rattle.path_spec.specs.Language.{positions}
+use Rattle.rpe.specs.Language.{positions}
 use Rattle.query_spec.specs.Mentions.{same_name, first_mentions}
 use Rattle.struql_ast.specs.Written.{Name, expression, Condition, path, negation, Target, plain, made, Link, Collect, Query}
 use Rattle.struql_check.specs.declared.faults.Check.{Check}
@@ -11,7 +11,7 @@ use Rattle.struql_check.specs.declared.mentions.Mention.{Mention}
 use Rattle.struql_check.specs.declared.mentions.Role.{Role}
 use Rattle.struql_check.specs.declared.mentions.Role.TheVariants.{Arc, End, Label, Other}
 use Rattle.struql_check.specs.declared.terms.SeenTerm.{SeenTerm}
-use Rattle.struql_check.specs.Scope.{is_in, sort_of, Scoped, scoped, chain_mentions, block_mentions, terms}
+use Rattle.struql_check.specs.Scope.{is_in, sort_of, ScopedBlock, scoped, chain_mentions, block_mentions, terms}
 
 -- one of the items has the fault
 abbrev pub SomeIn : {X : Type 0} → (X → Check → ℕ → Type 0) → List X → Check → ℕ → Type 0
@@ -19,6 +19,7 @@ SomeIn F items check at = (x : _) × Contains items x × F x check at
 
 -- ---- variables
 
+-- a mention as a label: between arrows, or in a LINK
 abbrev pub IsLabelRole : Role → Type 0
 IsLabelRole Arc = Unit {0}
 IsLabelRole End = ⊥
@@ -33,6 +34,7 @@ RoleFault is_arc role here ArcAsNode at = (role ≡ End) × (is_arc ≡ Some tru
 RoleFault is_arc role here NotLabel at = IsLabelRole role × (is_arc ≡ Some false) × (at ≡ here)
 RoleFault is_arc role here check at = ⊥
 
+-- the fault of one mention, given the blocks round it
 abbrev pub MentionFault : List (List Mention) → Mention → Check → ℕ → Type 0
 MentionFault round x check at = RoleFault (sort_of round x.name) x.role x.at check at
 
@@ -40,7 +42,8 @@ MentionFault round x check at = RoleFault (sort_of round x.name) x.role x.at che
 abbrev pub IsPast : List Mention → ℕ → Type 0
 IsPast ms at =
     (before : List Mention) × (x : Mention) × (after : List Mention) × (ms ≡ before ++ x ∷ after)
-    × (is_in before x.name ≡ false) × (length (first_mentions (map (λ m. m.name) before)) ≡ 32) × (at ≡ x.at)
+    × (is_in before x.name ≡ false) × (length (first_mentions (map (λ m. m.name) before)) ≡ 32)
+    × (at ≡ x.at)
 
 -- TooManyVariables: the first mention of the 33rd variable of a chain
 abbrev pub ChainFault : List Mention → Check → ℕ → Type 0
@@ -51,7 +54,8 @@ ChainFault ms check at = ⊥
 
 -- the place of an expression with more than 256 positions
 abbrev pub large_place : Condition → Option ℕ
-large_place (path t (expression r place) u span) = if nat_lt 256 (positions r) then Some place.start else None
+large_place (path t (expression r place) u span) =
+    if nat_lt 256 (positions r) then Some place.start else None
 large_place (negation c span) = large_place c
 large_place c = None
 
@@ -60,6 +64,7 @@ abbrev pub ConditionFault : Condition → Check → ℕ → Type 0
 ConditionFault c TooManyPositions at = large_place c ≡ Some at
 ConditionFault c check at = ⊥
 
+-- no term
 abbrev pub is_plain : Target → Bool
 is_plain (plain o) = true
 is_plain (made t) = false
@@ -71,7 +76,9 @@ LinkFault k check at = ⊥
 
 -- the names of the tests of kinds
 unfoldable pub is_test : Name → Bool
-is_test n = bytes_eq n (codes "isInt") || bytes_eq n (codes "isText") || bytes_eq n (codes "isUrl") || bytes_eq n (codes "isFile") || bytes_eq n (codes "isNode")
+is_test n =
+    bytes_eq n (codes "isInt") || bytes_eq n (codes "isText") || bytes_eq n
+    (codes "isUrl") || bytes_eq n (codes "isFile") || bytes_eq n (codes "isNode")
 
 -- Reserved: a collected collection with a test's name
 abbrev pub CollectFault : Collect → Check → ℕ → Type 0
@@ -79,7 +86,7 @@ CollectFault o Reserved at = (is_test o.collection ≡ true) × (at ≡ o.span.s
 CollectFault o check at = ⊥
 
 -- a fault of a block, given the blocks round it
-abbrev pub BlockFault : Scoped → Check → ℕ → Type 0
+abbrev pub BlockFault : ScopedBlock → Check → ℕ → Type 0
 BlockFault b check at =
     SomeIn (MentionFault b.round) (block_mentions b.clauses) check at
     ⊎ ChainFault (chain_mentions b) check at
@@ -89,7 +96,7 @@ BlockFault b check at =
 
 -- ---- terms
 
--- whether the function stands in a CREATE
+-- whether the function is in a CREATE
 abbrev pub is_created : List SeenTerm → Name → Bool
 is_created all f = list_any (λ t. same_name f t.function && not t.linked) all
 
@@ -97,21 +104,26 @@ is_created all f = list_any (λ t. same_name f t.function && not t.linked) all
 abbrev pub first_arity : List SeenTerm → Name → Option ℕ
 first_arity all f = option_map (λ t. t.arity) (find (λ t. same_name f t.function) all)
 
+-- the name that the first page's file has
 unfoldable pub is_index : Name → Bool
 is_index n = bytes_eq n (codes "index")
 
--- NeverCreated: a function in LINK or COLLECT that stands in no CREATE of the query. Arity: another number of arguments
+-- NeverCreated: a function in LINK or COLLECT that is in no CREATE of the query. Arity: another number of arguments
 -- than the function's first term in the text. Reserved: a function named `index`, or with a test's name.
 abbrev pub TermFault : List SeenTerm → SeenTerm → Check → ℕ → Type 0
-TermFault all t NeverCreated at = (t.linked ≡ true) × (is_created all t.function ≡ false) × (at ≡ t.at)
-TermFault all t Arity at = (n : ℕ) × (first_arity all t.function ≡ Some n) × (n ≢ t.arity) × (at ≡ t.at)
+TermFault all t NeverCreated at =
+    (t.linked ≡ true) × (is_created all t.function ≡ false) × (at ≡ t.at)
+TermFault all t Arity at =
+    (n : ℕ) × (first_arity all t.function ≡ Some n) × (n ≢ t.arity) × (at ≡ t.at)
 TermFault all t Reserved at = ((is_index t.function || is_test t.function) ≡ true) × (at ≡ t.at)
 TermFault all t check at = ⊥
 
 -- ---- the faults of a query, and the first of them
 
+-- a fault of a query: one of a block, or one of a term
 abbrev pub Faulty : Query → Check → ℕ → Type 0
-Faulty q check at = SomeIn BlockFault (scoped q) check at ⊎ SomeIn (TermFault (terms q)) (terms q) check at
+Faulty q check at =
+    SomeIn BlockFault (scoped q) check at ⊎ SomeIn (TermFault (terms q)) (terms q) check at
 
 -- the checks' numbers
 abbrev pub number : Check → ℕ
@@ -128,7 +140,9 @@ number TooManyVariables = 68
 -- the fault at the least place, and there the one of the least number
 pub record IsLeastFault (P : Check → ℕ → Type 0) (check : Check) (at : ℕ) : Type 0 where
   pub is : P check at
-  pub least : (other : Check) (place : ℕ) → P other place → (at < place) ⊎ ((at ≡ place) × (number check ≤ number other))
+  pub least : (other : Check) (place : ℕ) → P other place → (at < place)
+      ⊎ ((at ≡ place) × (number check ≤ number other))
 
+-- no check finds a fault at any place
 abbrev pub IsFaultless : Query → Type 0
 IsFaultless q = (check : Check) (at : ℕ) → Faulty q check at → ⊥

@@ -1,4 +1,4 @@
--- The first fault of several, as the passes tell it.
+-- The first fault of several, as the passes report it.
 use Rattle.std.specs.Prelude.{ℕ, Bool, true, false, ◌&&◌, ◌||◌, nat_lt, nat_eq, if◌then◌else◌, Option, Some, None}
 use Rattle.struql_check.specs.declared.faults.Check.{Check}
 use Rattle.struql_check.specs.declared.faults.Check.TheVariants.{Unbound, ArcAsNode, NotLabel}
@@ -12,8 +12,10 @@ abbrev pub IsFirst : (Check → ℕ → Type 0) → Option Fault → Type 0
 IsFirst P None = (check : Check) (at : ℕ) → P check at → ⊥
 IsFirst P (Some f) = IsLeastFault P f.check f.at
 
+-- at a lesser place, or at the same place with a lesser number
 abbrev pub comes_before : Fault → Fault → Bool
-comes_before g f = nat_lt g.at f.at || (nat_eq g.at f.at && nat_lt (number g.check) (number f.check))
+comes_before g f =
+    nat_lt g.at f.at || (nat_eq g.at f.at && nat_lt (number g.check) (number f.check))
 
 -- the first of two faults
 unfoldable pub earlier : Option Fault → Option Fault → Option Fault
@@ -21,6 +23,7 @@ earlier None g = g
 earlier (Some f) None = Some f
 earlier (Some f) (Some g) = if comes_before g f then Some g else Some f
 
+-- the fault of a check at a place, if there is one
 abbrev pub fault_at : Option Check → ℕ → Option Fault
 fault_at None at = None
 fault_at (Some check) at = Some (record { check = check; at = at })

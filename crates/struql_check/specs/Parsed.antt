@@ -7,10 +7,12 @@ use Rattle.sd_value.specs.declared.Value.TheVariants.{Data}
 use Rattle.query_spec.specs.Query.{Operand, variable, constant, Condition, member, path, compare, one_of, kind, negation, SkolemTerm, Target, plain, made, Link, Body, Blocks, no_blocks, block, Query}
 use Rattle.query_spec.specs.Mentions.{IsFlat}
 
+-- the constant that an operand is
 abbrev pub operand_constants : Operand → List Value
 operand_constants (variable x) = []
 operand_constants (constant v) = v ∷ []
 
+-- the constants of a condition
 abbrev pub condition_constants : Condition → List Value
 condition_constants (member c x) = []
 condition_constants (path t s u) = operand_constants t ++ operand_constants u
@@ -19,33 +21,42 @@ condition_constants (one_of t vs) = operand_constants t ++ vs
 condition_constants (kind k x) = []
 condition_constants (negation c) = condition_constants c
 
+-- the constants among a term's arguments
 abbrev pub term_constants : SkolemTerm → List Value
 term_constants t = flat_map operand_constants t.args
 
+-- the constants of a target
 abbrev pub target_constants : Target → List Value
 target_constants (plain o) = operand_constants o
 target_constants (made t) = term_constants t
 
+-- the constants of a link
 abbrev pub link_constants : Link → List Value
 link_constants k = target_constants k.source ++ target_constants k.target
 
 -- all constants of a block
 abbrev pub constants : Body → List Value
-constants b = flat_map condition_constants b.conditions ++ flat_map term_constants b.creates ++ flat_map link_constants b.links ++ flat_map (λ o. target_constants o.target) b.collects
+constants b =
+    flat_map condition_constants b.conditions ++ flat_map term_constants b.creates
+    ++ flat_map link_constants b.links ++ flat_map (λ o. target_constants o.target) b.collects
 
+-- the term that a target is
 abbrev pub target_terms : Target → List SkolemTerm
 target_terms (plain o) = []
 target_terms (made t) = t ∷ []
 
 -- all terms of a block
 abbrev pub body_terms : Body → List SkolemTerm
-body_terms b = b.creates ++ flat_map (λ k. target_terms k.source ++ target_terms k.target) b.links ++ flat_map (λ o. target_terms o.target) b.collects
+body_terms b =
+    b.creates ++ flat_map (λ k. target_terms k.source ++ target_terms k.target) b.links
+    ++ flat_map (λ o. target_terms o.target) b.collects
 
 -- the blocks in the text's order, each alone
 abbrev pub bodies_within : Blocks → List Body
 bodies_within no_blocks = []
 bodies_within (block body inner after) = body ∷ (bodies_within inner ++ bodies_within after)
 
+-- what each block of a query says
 abbrev pub bodies : Query → List Body
 bodies q = bodies_within q.blocks
 

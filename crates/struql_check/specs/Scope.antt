@@ -1,4 +1,4 @@
--- The variables of a query where they stand, and the blocks in scope.
+-- The variables of a query where they are, and the blocks in scope.
 use Rattle.std.specs.Prelude.{Bool, true, false, ◌&&◌, List, [], ◌∷◌, ◌++◌, length, map, if◌then◌else◌, Option, Some, None}
 use Rattle.std.specs.List.{flat_map, list_any}
 use Rattle.query_spec.specs.Mentions.{same_name}
@@ -14,10 +14,12 @@ use Rattle.struql_check.specs.declared.mentions.Role.TheVariants.{Arc, End, Labe
 
 -- ---- mentions
 
+-- an operand mentions the variable that it is
 abbrev pub operand_mentions : Role → Operand → List Mention
 operand_mentions role (Variable x span) = record { name = x; role = role; at = span.start } ∷ []
 operand_mentions role (Constant v span) = []
 
+-- an arc variable between arrows
 abbrev pub step_mentions : Step → List Mention
 step_mentions (arc_variable x span) = record { name = x; role = Arc; at = span.start } ∷ []
 step_mentions (expression r span) = []
@@ -31,38 +33,48 @@ mentions (one_of t vs span) = operand_mentions Other t
 mentions (kind k x x_span span) = record { name = x; role = Other; at = x_span.start } ∷ []
 mentions (negation c span) = mentions c
 
+-- the variables among a term's arguments
 abbrev pub term_mentions : Term → List Mention
 term_mentions t = flat_map (operand_mentions Other) t.args
 
+-- the variables of a target
 abbrev pub target_mentions : Target → List Mention
 target_mentions (plain o) = operand_mentions Other o
 target_mentions (made t) = term_mentions t
 
+-- an arc variable as a link's label
 abbrev pub label_mentions : LinkLabel → List Mention
 label_mentions (label.Quoted l) = []
 label_mentions (label.Variable x span) = record { name = x; role = Label; at = span.start } ∷ []
 
+-- the variables of a link, from left to right
 abbrev pub link_mentions : Link → List Mention
 link_mentions k = target_mentions k.source ++ label_mentions k.label ++ target_mentions k.target
 
+-- the variables of a COLLECT's item
 abbrev pub collect_mentions : Collect → List Mention
 collect_mentions o = target_mentions o.target
 
 -- the variables that CREATE, LINK and COLLECT use
 abbrev pub uses : Clauses → List Mention
-uses c = flat_map term_mentions c.creates ++ flat_map link_mentions c.links ++ flat_map collect_mentions c.collects
+uses c =
+    flat_map term_mentions c.creates ++ flat_map link_mentions c.links
+    ++ flat_map collect_mentions c.collects
 
 -- ---- the sorts of variables
 
+-- the mention is between arrows
 abbrev pub is_arc_role : Role → Bool
 is_arc_role Arc = true
 is_arc_role End = false
 is_arc_role Label = false
 is_arc_role Other = false
 
+-- one of the mentions has the name
 abbrev pub is_in : List Mention → Name → Bool
 is_in ms x = list_any (λ m. same_name x m.name) ms
 
+-- one of them has it between arrows
 abbrev pub is_between_arrows : List Mention → Name → Bool
 is_between_arrows ms x = list_any (λ m. same_name x m.name && is_arc_role m.role) ms
 
@@ -70,27 +82,29 @@ is_between_arrows ms x = list_any (λ m. same_name x m.name && is_arc_role m.rol
 -- outermost block that mentions it decides, by whether it has it between arrows. None where no block mentions it.
 abbrev pub sort_of : List (List Mention) → Name → Option Bool
 sort_of [] x = None
-sort_of (here ∷ deeper) x = if is_in here x then Some (is_between_arrows here x) else sort_of deeper x
+sort_of (here ∷ deeper) x =
+    if is_in here x then Some (is_between_arrows here x) else sort_of deeper x
 
 -- ---- blocks in scope
 
 -- a block: its clauses, and the mentions of the conditions of the blocks round it and of its own, block by block, outermost first
-pub record Scoped : Type 0 where
+pub record ScopedBlock : Type 0 where
   pub round : List (List Mention)
   pub clauses : Clauses
 
-abbrev pub within : List (List Mention) → Blocks → List Scoped
+-- blocks and those in them, with the mentions round them
+abbrev pub within : List (List Mention) → Blocks → List ScopedBlock
 within round no_blocks = []
 within round (block clauses inner span after) =
     let here = round ++ flat_map mentions clauses.conditions ∷ [] in
     record { round = here; clauses = clauses } ∷ (within here inner ++ within round after)
 
 -- each block of the query, in the text's order
-abbrev pub scoped : Query → List Scoped
+abbrev pub scoped : Query → List ScopedBlock
 scoped q = within [] q.blocks
 
 -- the mentions of the whole chain of conditions
-abbrev pub chain_mentions : Scoped → List Mention
+abbrev pub chain_mentions : ScopedBlock → List Mention
 chain_mentions b = flat_map (λ ms. ms) b.round
 
 -- the mentions of a block itself: those of its own conditions, and those of its other clauses
@@ -99,26 +113,38 @@ block_mentions c = flat_map mentions c.conditions ++ uses c
 
 -- ---- terms
 
+-- what is checked of a term; `linked` where it is in LINK or COLLECT
 abbrev pub seen : Bool → Term → SeenTerm
-seen linked t = record { function = t.function; arity = length t.args; linked = linked; at = t.span.start }
+seen linked t = record {
+  function = t.function;
+  arity = length t.args;
+  linked = linked;
+  at = t.span.start;
+}
 
+-- the term that a target is
 abbrev pub target_terms : Target → List SeenTerm
 target_terms (plain o) = []
 target_terms (made t) = seen true t ∷ []
 
+-- the terms of a link
 abbrev pub link_terms : Link → List SeenTerm
 link_terms k = target_terms k.source ++ target_terms k.target
 
+-- the term of a COLLECT's item
 abbrev pub collect_terms : Collect → List SeenTerm
 collect_terms o = target_terms o.target
 
 -- those of CREATE, and then those of LINK and COLLECT
 abbrev pub clause_terms : Clauses → List SeenTerm
-clause_terms c = map (seen false) c.creates ++ flat_map link_terms c.links ++ flat_map collect_terms c.collects
+clause_terms c =
+    map (seen false) c.creates ++ flat_map link_terms c.links ++ flat_map collect_terms c.collects
 
+-- the terms of blocks and of those in them
 abbrev pub terms_within : Blocks → List SeenTerm
 terms_within no_blocks = []
-terms_within (block clauses inner span after) = clause_terms clauses ++ terms_within inner ++ terms_within after
+terms_within (block clauses inner span after) =
+    clause_terms clauses ++ terms_within inner ++ terms_within after
 
 -- all terms of a query, in the text's order
 abbrev pub terms : Query → List SeenTerm

@@ -18,7 +18,10 @@ use std::alloc::Global;
 use std::collections::{BTreeMap, BTreeSet};
 
 fn add_created(alloc: Global, created: &mut BTreeSet<Str>, term: &SeenTerm) -> Result<(), NoMemory>
-    ensures { IfOk result (λ _. (f : List ℕ) → set.contains bytes_cmp created.new f ≡ (set.contains bytes_cmp created.old f || (same_name f term.now.function && not term.now.linked))) }
+    ensures { IfOk result (λ _. (f : List ℕ)
+        → set.contains bytes_cmp created.new f
+        ≡ (set.contains bytes_cmp created.old f
+        || (same_name f term.now.function && not term.now.linked))) }
 {
     if !term.linked {
         let function = term.function.copy(alloc)?;
@@ -27,7 +30,7 @@ fn add_created(alloc: Global, created: &mut BTreeSet<Str>, term: &SeenTerm) -> R
     Ok(())
 }
 
-/// The functions that stand in a CREATE.
+/// The functions that are in a CREATE.
 fn created_of(alloc: Global, terms: &[SeenTerm]) -> Result<BTreeSet<Str>, NoMemory>
     ensures { IfOk result (λ created. AreCreated terms.now (set.contains bytes_cmp created)) }
 {
@@ -43,7 +46,10 @@ fn add_arity(
     arities: &mut BTreeMap<Str, usize>,
     term: &SeenTerm,
 ) -> Result<(), NoMemory>
-    ensures { IfOk result (λ _. (f : List ℕ) → tree.get bytes_cmp arities.new f ≡ or_else (tree.get bytes_cmp arities.old f) (if same_name f term.now.function then Some term.now.arity else None)) }
+    ensures { IfOk result (λ _. (f : List ℕ)
+        → tree.get bytes_cmp arities.new f
+        ≡ or_else (tree.get bytes_cmp arities.old f)
+        (if same_name f term.now.function then Some term.now.arity else None)) }
 {
     if arities.get(&term.function).is_none() {
         let function = term.function.copy(alloc)?;
@@ -87,7 +93,8 @@ fn broken_term(uncreated: bool, differing: bool, reserved: bool) -> Option<Check
 }
 
 fn is_uncreated(created: &BTreeSet<Str>, term: &SeenTerm) -> bool
-    ensures { result ≡ (term.now.linked && not (set.contains bytes_cmp created.now term.now.function)) }
+    ensures { result ≡ (term.now.linked
+        && not (set.contains bytes_cmp created.now term.now.function)) }
 {
     term.linked && !created.contains(&term.function)
 }
@@ -103,7 +110,9 @@ fn term_fault(
     arities: &BTreeMap<Str, usize>,
     term: &SeenTerm,
 ) -> Option<Fault>
-    ensures { (all : List Seen) → AreCreated all (set.contains bytes_cmp created.now) → AreArities all (tree.get bytes_cmp arities.now) → IsFirst (TermFault all term.now) result }
+    ensures { (all : List Seen) → AreCreated all (set.contains bytes_cmp created.now)
+        → AreArities all (tree.get bytes_cmp arities.now)
+        → IsFirst (TermFault all term.now) result }
 {
     let uncreated = is_uncreated(created, term);
     let first = arities.get(&term.function).copied();

@@ -1,4 +1,4 @@
-//! The variables of a query, where they stand.
+//! The variables of a query, where they are.
 
 ghost use Rattle.std.specs.Prelude.{◌≡◌, [], ◌∷◌, ◌++◌, IfOk, map};
 ghost use Rattle.std.specs.List.{flat_map};
@@ -8,9 +8,9 @@ ghost use Rattle.struql_check.specs.declared.mentions.Role.TheVariants.{Other};
 
 use sd_value::{NoMemory, Str};
 use std::alloc::Global;
-use struql_ast::{Collect, Condition, Link, LinkLabel, Operand, PathStep, Target, Term0};
+use struql_ast::{Collect, Condition, Link, LinkLabel, Operand, PathStep, SkolemTerm, Target};
 
-/// The part that a variable plays where it stands.
+/// The part that a variable plays where it is.
 #[derive(Clone, Copy)]
 pub enum Role {
     /// Between the arrows of a path.
@@ -23,7 +23,7 @@ pub enum Role {
     Other,
 }
 
-/// A variable where it stands.
+/// A variable where it is.
 #[derive(Drop)]
 pub struct Mention {
     pub name: Str,
@@ -39,7 +39,8 @@ fn push_mention(
     role: Role,
     at: u64,
 ) -> Result<(), NoMemory>
-    ensures { IfOk result (λ _. found.new.items ≡ found.old.items ++ record { name = name.now; role = role; at = at } ∷ []) }
+    ensures { IfOk result (λ _. found.new.items
+        ≡ found.old.items ++ record { name = name.now; role = role; at = at } ∷ []) }
 {
     let name = name.copy(alloc)?;
     found.push(Mention { name, role, at })?;
@@ -52,7 +53,8 @@ fn push_operand(
     operand: &Operand,
     role: Role,
 ) -> Result<(), NoMemory>
-    ensures { IfOk result (λ _. found.new.items ≡ found.old.items ++ operand_mentions role operand.now) }
+    ensures { IfOk result (λ _. found.new.items
+        ≡ found.old.items ++ operand_mentions role operand.now) }
 {
     match operand {
         Operand::Variable(name, span) => push_mention(alloc, found, name, role, span.start),
@@ -61,7 +63,8 @@ fn push_operand(
 }
 
 fn push_step(alloc: Global, found: &mut Vec<Mention>, step: &PathStep) -> Result<(), NoMemory>
-    ensures { IfOk result (λ _. found.new.items ≡ found.old.items ++ step_mentions (step_written step.now)) }
+    ensures { IfOk result (λ _. found.new.items
+        ≡ found.old.items ++ step_mentions (step_written step.now)) }
 {
     match step {
         PathStep::ArcVariable(name, span) => {
@@ -76,7 +79,8 @@ fn push_condition(
     found: &mut Vec<Mention>,
     condition: &Condition,
 ) -> Result<(), NoMemory>
-    ensures { IfOk result (λ _. found.new.items ≡ found.old.items ++ mentions (condition_written condition.now)) }
+    ensures { IfOk result (λ _. found.new.items
+        ≡ found.old.items ++ mentions (condition_written condition.now)) }
 {
     match condition {
         Condition::Member {
@@ -105,7 +109,8 @@ fn push_condition(
 
 /// The variables of conditions, in the text's order.
 pub(crate) fn mentions_of(alloc: Global, conditions: &[Condition]) -> Result<Vec<Mention>, NoMemory>
-    ensures { IfOk result (λ ms. ms.items ≡ flat_map mentions (map condition_written conditions.now)) }
+    ensures { IfOk result (λ ms. ms.items ≡ flat_map mentions
+        (map condition_written conditions.now)) }
 {
     let mut found = Vec::new(alloc);
     for condition in conditions {
@@ -114,8 +119,9 @@ pub(crate) fn mentions_of(alloc: Global, conditions: &[Condition]) -> Result<Vec
     Ok(found)
 }
 
-fn push_term(alloc: Global, found: &mut Vec<Mention>, term: &Term0) -> Result<(), NoMemory>
-    ensures { IfOk result (λ _. found.new.items ≡ found.old.items ++ term_mentions (term_written term.now)) }
+fn push_term(alloc: Global, found: &mut Vec<Mention>, term: &SkolemTerm) -> Result<(), NoMemory>
+    ensures { IfOk result (λ _. found.new.items
+        ≡ found.old.items ++ term_mentions (term_written term.now)) }
 {
     for operand in &term.args {
         push_operand(alloc, found, operand, Role::Other)?;
@@ -124,7 +130,8 @@ fn push_term(alloc: Global, found: &mut Vec<Mention>, term: &Term0) -> Result<()
 }
 
 fn push_target(alloc: Global, found: &mut Vec<Mention>, target: &Target) -> Result<(), NoMemory>
-    ensures { IfOk result (λ _. found.new.items ≡ found.old.items ++ target_mentions (target_written target.now)) }
+    ensures { IfOk result (λ _. found.new.items
+        ≡ found.old.items ++ target_mentions (target_written target.now)) }
 {
     match target {
         Target::Plain(operand) => push_operand(alloc, found, operand, Role::Other),
@@ -144,15 +151,21 @@ fn push_label(alloc: Global, found: &mut Vec<Mention>, label: &LinkLabel) -> Res
 }
 
 fn push_link(alloc: Global, found: &mut Vec<Mention>, link: &Link) -> Result<(), NoMemory>
-    ensures { IfOk result (λ _. found.new.items ≡ found.old.items ++ link_mentions (link_written link.now)) }
+    ensures { IfOk result (λ _. found.new.items
+        ≡ found.old.items ++ link_mentions (link_written link.now)) }
 {
     push_target(alloc, found, &link.source)?;
     push_label(alloc, found, &link.label)?;
     push_target(alloc, found, &link.target)
 }
 
-fn push_creates(alloc: Global, found: &mut Vec<Mention>, terms: &[Term0]) -> Result<(), NoMemory>
-    ensures { IfOk result (λ _. found.new.items ≡ found.old.items ++ flat_map term_mentions (map term_written terms.now)) }
+fn push_creates(
+    alloc: Global,
+    found: &mut Vec<Mention>,
+    terms: &[SkolemTerm],
+) -> Result<(), NoMemory>
+    ensures { IfOk result (λ _. found.new.items
+        ≡ found.old.items ++ flat_map term_mentions (map term_written terms.now)) }
 {
     for term in terms {
         push_term(alloc, found, term)?;
@@ -161,7 +174,8 @@ fn push_creates(alloc: Global, found: &mut Vec<Mention>, terms: &[Term0]) -> Res
 }
 
 fn push_links(alloc: Global, found: &mut Vec<Mention>, links: &[Link]) -> Result<(), NoMemory>
-    ensures { IfOk result (λ _. found.new.items ≡ found.old.items ++ flat_map link_mentions (map link_written links.now)) }
+    ensures { IfOk result (λ _. found.new.items
+        ≡ found.old.items ++ flat_map link_mentions (map link_written links.now)) }
 {
     for link in links {
         push_link(alloc, found, link)?;
@@ -174,7 +188,8 @@ fn push_collects(
     found: &mut Vec<Mention>,
     collects: &[Collect],
 ) -> Result<(), NoMemory>
-    ensures { IfOk result (λ _. found.new.items ≡ found.old.items ++ flat_map collect_mentions (map collect_written collects.now)) }
+    ensures { IfOk result (λ _. found.new.items
+        ≡ found.old.items ++ flat_map collect_mentions (map collect_written collects.now)) }
 {
     for collect in collects {
         push_target(alloc, found, &collect.target)?;
@@ -185,11 +200,13 @@ fn push_collects(
 /// The variables that CREATE, LINK and COLLECT use, in the text's order.
 pub(crate) fn uses_of(
     alloc: Global,
-    creates: &[Term0],
+    creates: &[SkolemTerm],
     links: &[Link],
     collects: &[Collect],
 ) -> Result<Vec<Mention>, NoMemory>
-    ensures { IfOk result (λ ms. ms.items ≡ flat_map term_mentions (map term_written creates.now) ++ flat_map link_mentions (map link_written links.now) ++ flat_map collect_mentions (map collect_written collects.now)) }
+    ensures { IfOk result (λ ms. ms.items ≡ flat_map term_mentions (map term_written creates.now)
+        ++ flat_map link_mentions (map link_written links.now)
+        ++ flat_map collect_mentions (map collect_written collects.now)) }
 {
     let mut found = Vec::new(alloc);
     push_creates(alloc, &mut found, creates)?;

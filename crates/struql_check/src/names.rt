@@ -18,7 +18,7 @@ const MOST_VARIABLES: usize = 32;
 pub enum Names {
     /// All of them, by first mention.
     Few(Vec<Str>),
-    /// Where one more than the limit stands.
+    /// Where one more than the limit is.
     Many(u64),
 }
 
@@ -39,7 +39,8 @@ fn copied(alloc: Global, names: &[Str]) -> Result<Vec<Str>, NoMemory>
 }
 
 fn one_more(alloc: Global, names: Names, mention: &Mention) -> Result<Names, NoMemory>
-    ensures { IfOk result (λ more. (ms : List Mention) → AreNames ms names → AreNames (ms ++ mention.now ∷ []) more) }
+    ensures { IfOk result (λ more. (ms : List Mention) → AreNames ms names
+        → AreNames (ms ++ mention.now ∷ []) more) }
 {
     match names {
         Names::Few(mut known) => {
@@ -69,7 +70,8 @@ pub(crate) fn with_mentions(
     before: &Names,
     mentions: &[Mention],
 ) -> Result<Names, NoMemory>
-    ensures { IfOk result (λ more. (ms : List Mention) → AreNames ms before.now → AreNames (ms ++ mentions.now) more) }
+    ensures { IfOk result (λ more. (ms : List Mention) → AreNames ms before.now
+        → AreNames (ms ++ mentions.now) more) }
 {
     let mut names = match before {
         Names::Few(known) => Names::Few(copied(alloc, known)?),

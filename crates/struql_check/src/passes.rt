@@ -2,7 +2,7 @@
 
 ghost use Rattle.std.specs.Prelude.{◌≡◌, ◌||◌, List, if◌then◌else◌, min, map};
 ghost use Rattle.std.specs.Str.{bytes_eq};
-ghost use Rattle.path_spec.specs.Language.{positions};
+ghost use Rattle.rpe.specs.Language.{positions};
 ghost use Rattle.rpe.specs.Reading.{regex_of};
 ghost use Rattle.struql_ast.specs.Written.{condition_written, link_written, collect_written, target_written};
 ghost use Rattle.struql_check.specs.Scope.{sort_of};

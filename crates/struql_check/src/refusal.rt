@@ -13,15 +13,15 @@ pub enum CheckRefusal {
     TooManyPositions(u64),
     /// No condition of the chain mentions this variable of a CREATE, LINK or COLLECT.
     Unbound(u64),
-    /// The function of this term in a LINK or COLLECT stands in no CREATE.
+    /// The function of this term in a LINK or COLLECT is in no CREATE.
     NeverCreated(u64),
     /// This term has another number of arguments than the first one of its function.
     Arity(u64),
     /// The source of this link isn't a term.
     LinkFromData(u64),
-    /// An arc variable stands here at an end of a path or as the variable of a collection.
+    /// An arc variable is here at an end of a path or as the variable of a collection.
     ArcAsNode(u64),
-    /// A node variable stands here between arrows or as a link's label.
+    /// A node variable is here between arrows or as a link's label.
     NotLabel(u64),
     /// The function or collection here has a reserved name.
     Reserved(u64),
@@ -38,7 +38,7 @@ impl From<sd_value::NoMemory> for CheckRefusal {
     }
 }
 
-/// The refusal that tells a fault.
+/// The refusal that reports a fault.
 pub(crate) fn refusal_of(fault: Fault) -> CheckRefusal
     ensures { result ≡ told fault.check fault.at }
 {

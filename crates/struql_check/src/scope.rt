@@ -15,7 +15,7 @@ use std::marker::Model;
 #[derive(Drop)]
 pub(crate) struct Level {
     mentions: Vec<Mention>,
-    /// Each of them, and whether it stands between arrows.
+    /// Each of them, and whether it is between arrows.
     variables: BTreeMap<Str, bool>,
 }
 
@@ -32,7 +32,8 @@ impl Model for Level {
 
     ghost view = { λ l. l.mentions.items };
 
-    ghost invariant = { λ l. (x : List ℕ) → tree.get bytes_cmp l.variables x ≡ sort_of (l.mentions.items ∷ []) x };
+    ghost invariant = { λ l. (x : List ℕ)
+        → tree.get bytes_cmp l.variables x ≡ sort_of (l.mentions.items ∷ []) x };
 }
 
 fn is_arc_role(role: Role) -> bool
@@ -41,16 +42,17 @@ fn is_arc_role(role: Role) -> bool
     matches!(role, Role::Arc)
 }
 
-/// Whether a variable stands between arrows, given whether it did before.
+/// Whether a variable is between arrows, given whether it did before.
 fn or_arc(before: bool, role: Role) -> bool
     ensures { result ≡ (before || is_arc_role role) }
 {
     before || is_arc_role(role)
 }
 
-/// Each variable, and whether it stands between arrows.
+/// Each variable, and whether it is between arrows.
 fn sorts_of(alloc: Global, mentions: &[Mention]) -> Result<BTreeMap<Str, bool>, NoMemory>
-    ensures { IfOk result (λ sorts. (x : List ℕ) → tree.get bytes_cmp sorts x ≡ sort_of (mentions.now ∷ []) x) }
+    ensures { IfOk result (λ sorts. (x : List ℕ)
+        → tree.get bytes_cmp sorts x ≡ sort_of (mentions.now ∷ []) x) }
 {
     let mut sorts = BTreeMap::new(alloc);
     for mention in mentions {

@@ -7,15 +7,15 @@ ghost use Rattle.struql_check.specs.Scope.{seen, target_terms, link_terms, colle
 
 use sd_value::{NoMemory, Str};
 use std::alloc::Global;
-use struql_ast::{Block, Collect, Link, Target, Term0};
+use struql_ast::{Block, Collect, Link, SkolemTerm, Target};
 
-/// A term where it stands.
+/// A term where it is.
 #[derive(Drop)]
 pub struct SeenTerm {
     pub function: Str,
     /// How many arguments it has.
     pub arity: usize,
-    /// It stands in LINK or COLLECT, and not in CREATE.
+    /// It is in LINK or COLLECT, and not in CREATE.
     pub linked: bool,
     /// The place of its first byte.
     pub at: u64,
@@ -25,9 +25,10 @@ fn push_term(
     alloc: Global,
     found: &mut Vec<SeenTerm>,
     linked: bool,
-    term: &Term0,
+    term: &SkolemTerm,
 ) -> Result<(), NoMemory>
-    ensures { IfOk result (λ _. found.new.items ≡ found.old.items ++ seen linked (term_written term.now) ∷ []) }
+    ensures { IfOk result (λ _. found.new.items
+        ≡ found.old.items ++ seen linked (term_written term.now) ∷ []) }
 {
     let function = term.function.copy(alloc)?;
     found.push(SeenTerm {
@@ -40,7 +41,8 @@ fn push_term(
 }
 
 fn push_target(alloc: Global, found: &mut Vec<SeenTerm>, target: &Target) -> Result<(), NoMemory>
-    ensures { IfOk result (λ _. found.new.items ≡ found.old.items ++ target_terms (target_written target.now)) }
+    ensures { IfOk result (λ _. found.new.items
+        ≡ found.old.items ++ target_terms (target_written target.now)) }
 {
     match target {
         Target::Plain(_) => Ok(()),
@@ -49,14 +51,20 @@ fn push_target(alloc: Global, found: &mut Vec<SeenTerm>, target: &Target) -> Res
 }
 
 fn push_link(alloc: Global, found: &mut Vec<SeenTerm>, link: &Link) -> Result<(), NoMemory>
-    ensures { IfOk result (λ _. found.new.items ≡ found.old.items ++ link_terms (link_written link.now)) }
+    ensures { IfOk result (λ _. found.new.items
+        ≡ found.old.items ++ link_terms (link_written link.now)) }
 {
     push_target(alloc, found, &link.source)?;
     push_target(alloc, found, &link.target)
 }
 
-fn push_creates(alloc: Global, found: &mut Vec<SeenTerm>, terms: &[Term0]) -> Result<(), NoMemory>
-    ensures { IfOk result (λ _. found.new.items ≡ found.old.items ++ map (seen false) (map term_written terms.now)) }
+fn push_creates(
+    alloc: Global,
+    found: &mut Vec<SeenTerm>,
+    terms: &[SkolemTerm],
+) -> Result<(), NoMemory>
+    ensures { IfOk result (λ _. found.new.items
+        ≡ found.old.items ++ map (seen false) (map term_written terms.now)) }
 {
     for term in terms {
         push_term(alloc, found, false, term)?;
@@ -65,7 +73,8 @@ fn push_creates(alloc: Global, found: &mut Vec<SeenTerm>, terms: &[Term0]) -> Re
 }
 
 fn push_links(alloc: Global, found: &mut Vec<SeenTerm>, links: &[Link]) -> Result<(), NoMemory>
-    ensures { IfOk result (λ _. found.new.items ≡ found.old.items ++ flat_map link_terms (map link_written links.now)) }
+    ensures { IfOk result (λ _. found.new.items
+        ≡ found.old.items ++ flat_map link_terms (map link_written links.now)) }
 {
     for link in links {
         push_link(alloc, found, link)?;
@@ -78,7 +87,8 @@ fn push_collects(
     found: &mut Vec<SeenTerm>,
     collects: &[Collect],
 ) -> Result<(), NoMemory>
-    ensures { IfOk result (λ _. found.new.items ≡ found.old.items ++ flat_map collect_terms (map collect_written collects.now)) }
+    ensures { IfOk result (λ _. found.new.items
+        ≡ found.old.items ++ flat_map collect_terms (map collect_written collects.now)) }
 {
     for collect in collects {
         push_target(alloc, found, &collect.target)?;
@@ -92,7 +102,8 @@ pub(crate) fn push_terms(
     found: &mut Vec<SeenTerm>,
     blocks: &[Block],
 ) -> Result<(), NoMemory>
-    ensures { IfOk result (λ _. found.new.items ≡ found.old.items ++ terms_within (blocks_written blocks.now)) }
+    ensures { IfOk result (λ _. found.new.items
+        ≡ found.old.items ++ terms_within (blocks_written blocks.now)) }
 {
     for block in blocks {
         push_creates(alloc, found, &block.creates)?;

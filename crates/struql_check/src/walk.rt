@@ -28,7 +28,8 @@ fn first_of_clauses(
     names: &Names,
 ) -> Result<Option<Fault>, NoMemory>
     requires { AreNames (flat_map (λ ms. ms) levels.now) names.now }
-    ensures { IfOk result (λ first. IsFirst (BlockFault (record { round = levels.now; clauses = block_clauses block.now })) first) }
+    ensures { IfOk result (λ first. IsFirst (BlockFault
+        (record { round = levels.now; clauses = block_clauses block.now })) first) }
 {
     let own = mentions_of(alloc, &block.conditions)?;
     let uses = uses_of(alloc, &block.creates, &block.links, &block.collects)?;
@@ -71,7 +72,10 @@ fn first_of_block(
 ) -> Result<Option<Fault>, NoMemory>
     requires { AreNames (flat_map (λ ms. ms) levels.old.items) names.now }
     ensures levels { IfOk result (λ _. levels.new.items ≡ levels.old.items) }
-    ensures first { IfOk result (λ first. IsFirst (SomeIn BlockFault (record { round = here levels.old.items block.now; clauses = block_clauses block.now } ∷ within (here levels.old.items block.now) (block_inner block.now))) first) }
+    ensures first { IfOk result (λ first. IsFirst
+        (SomeIn BlockFault (record
+        { round = here levels.old.items block.now; clauses = block_clauses block.now }
+        ∷ within (here levels.old.items block.now) (block_inner block.now))) first) }
 {
     let names = enter(alloc, block, levels, names)?;
     let by_clause = first_of_clauses(alloc, block, levels, &names)?;
@@ -90,7 +94,8 @@ pub(crate) fn first_of_blocks(
 ) -> Result<Option<Fault>, NoMemory>
     requires { AreNames (flat_map (λ ms. ms) levels.old.items) names.now }
     ensures levels { IfOk result (λ _. levels.new.items ≡ levels.old.items) }
-    ensures first { IfOk result (λ first. IsFirst (SomeIn BlockFault (within levels.old.items (blocks_written blocks.now))) first) }
+    ensures first { IfOk result (λ first. IsFirst
+        (SomeIn BlockFault (within levels.old.items (blocks_written blocks.now))) first) }
 {
     let mut first = None;
     for block in blocks {

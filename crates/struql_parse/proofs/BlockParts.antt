@@ -22,11 +22,11 @@ use Rattle.struql_text.specs.Grammar.{listed, term, link, collect, condition}
 use Rattle.struql_parse.specs.Blocks.{clause, optional, Body, empty_clauses, onto_end, braces, body_of, body}
 use Rattle.struql_text.specs.Reading.{read_keyword, read_condition, read_term, read_link, read_collect}
 use Rattle.struql_parse.specs.Reading.{read_clause, read_optional, read_braces, read_blocks, read_body_of, read_body, read_below, has_room}
-use Rattle.struql_laws.proofs.TokenParts.{somewhere, sign_part, sign_opens, is_that, sign_no_keyword, keyword_opens, keyword_no_sign, other_keyword, keyword_part}
+use Rattle.struql_text.proofs.TokenParts.{somewhere, sign_part, sign_opens, is_that, sign_no_keyword, keyword_opens, keyword_no_sign, other_keyword, keyword_part}
 use Rattle.token_reader.proofs.Terminals.{made, other_sign}
-use Rattle.struql_laws.proofs.ListParts.{AfterList, listed_part}
-use Rattle.struql_laws.proofs.TermParts.{maybe_part, ends_with, term_part, link_part, collect_part}
-use Rattle.struql_laws.proofs.ConditionParts.{E, S, condition_part}
+use Rattle.struql_text.proofs.ListParts.{AfterList, listed_part}
+use Rattle.struql_text.proofs.TermParts.{maybe_part, ends_with, term_part, link_part, collect_part}
+use Rattle.struql_text.proofs.ConditionParts.{E, S, condition_part}
 use Rattle.token_reader.specs.Gives.{IsReal}
 use Rattle.grammar.specs.Fault.{Every}
 

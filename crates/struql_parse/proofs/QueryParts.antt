@@ -24,11 +24,11 @@ use Rattle.struql_text.specs.Grammar.{listed, term, link, collect, condition}
 use Rattle.struql_parse.specs.Blocks.{Body, body, Groups, no_groups, grouped, Item, conditions_item, creates_item, links_item, collects_item, join, nest, levels, item, placed, top_braces, item_step, version, head, query_within, query_spelled}
 use Rattle.struql_text.specs.Reading.{read_keyword, read_condition, read_term, read_link, read_collect}
 use Rattle.struql_parse.specs.Reading.{read_body, read_block, read_item, read_top_braces, read_item_step, begins_item, read_version, read_head, read_query}
-use Rattle.struql_laws.proofs.TokenParts.{somewhere, sign_part, sign_opens, is_that, sign_no_keyword, keyword_opens, keyword_no_sign, other_keyword, keyword_part, name_part}
+use Rattle.struql_text.proofs.TokenParts.{somewhere, sign_part, sign_opens, is_that, sign_no_keyword, keyword_opens, keyword_no_sign, other_keyword, keyword_part, name_part}
 use Rattle.token_reader.proofs.Terminals.{made, other_sign}
-use Rattle.struql_laws.proofs.ListParts.{AfterList, listed_part}
-use Rattle.struql_laws.proofs.TermParts.{maybe_part, ends_with, term_part, link_part, collect_part}
-use Rattle.struql_laws.proofs.ConditionParts.{E, S, condition_part}
+use Rattle.struql_text.proofs.ListParts.{AfterList, listed_part}
+use Rattle.struql_text.proofs.TermParts.{maybe_part, ends_with, term_part, link_part, collect_part}
+use Rattle.struql_text.proofs.ConditionParts.{E, S, condition_part}
 use Rattle.struql_parse.proofs.BlockParts.{where_part, create_part, link_word_part, collect_word_part, empty_body, nothing_spelled, some_body_part, or_left, or_right, Begins, stops_by}
 use Rattle.token_reader.specs.Gives.{IsReal}
 use Rattle.grammar.specs.Fault.{Every}

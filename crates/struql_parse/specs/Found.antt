@@ -11,7 +11,7 @@ use Rattle.struql_ast.specs.Written.{block_clauses, block_inner, block_span}
 use Rattle.struql_parse.specs.declared.clauses.Inner.{Inner}
 use Rattle.struql_parse.specs.Blocks.{Body, Placed}
 
--- what stands between a block's braces
+-- what is between a block's braces
 abbrev pub body_found : Inner → Body
 body_found b = record {
   clauses = record {
@@ -23,19 +23,32 @@ body_found b = record {
   blocks = blocks_written b.blocks.items;
 }
 
+-- a block in braces, as the reader finds it
 abbrev pub placed_found : Block → Placed
-placed_found b = record { body = record { clauses = block_clauses b; blocks = block_inner b }; span = block_span b }
+placed_found b = record {
+  body = record { clauses = block_clauses b; blocks = block_inner b };
+  span = block_span b;
+}
 
+-- a bare block, as the reader keeps it
 abbrev pub bare_found : Bare → plain.Bare
-bare_found b = record { clauses = (body_found b.inner).clauses; blocks = (body_found b.inner).blocks; span = b.span; stage = b.stage }
+bare_found b = record {
+  clauses = (body_found b.inner).clauses;
+  blocks = (body_found b.inner).blocks;
+  span = b.span;
+  stage = b.stage;
+}
 
+-- and whether there is one
 abbrev pub maybe_found : Option Bare → Option plain.Bare
 maybe_found None = None
 maybe_found (Some b) = Some (bare_found b)
 
+-- the blocks of the top so far
 abbrev pub groups_found : Groups → plain.Groups
 groups_found g = record { closed = blocks_written g.closed.items; bare = maybe_found g.bare }
 
+-- a clause of the top
 abbrev pub item_found : Item → plain.Item
 item_found (Conditions cs) = plain.conditions_item (map condition_written cs.items)
 item_found (Creates ts) = plain.creates_item (map term_written ts.items)

@@ -11,42 +11,58 @@ use Rattle.token_reader.specs.Terminals.{is_sign}
 use Rattle.struql_parse.specs.Blocks.{Body, Placed, onto_end, Groups, no_groups, grouped, Item, conditions_item, creates_item, links_item, collects_item, join, nest, levels}
 use Rattle.struql_text.specs.Reading.{read_sign, read_keyword, read_name, read_listed, read_condition, read_term, read_link, read_collect}
 
-unfoldable pub read_clause : {A : Type 0} → Keyword → (List Token → Outcome Token A) → List Token → Outcome Token (List A)
+-- a clause: its word, and its items
+unfoldable pub read_clause : {A : Type 0} → Keyword → (List Token → Outcome Token A) → List Token
+    → Outcome Token (List A)
 read_clause k p = do
   read_keyword k
   read_listed p
 
-unfoldable pub read_optional : {A : Type 0} → Keyword → (List Token → Outcome Token A) → List Token → Outcome Token (List A)
+-- a clause, or no item where its word is not
+unfoldable pub read_optional : {A : Type 0} → Keyword → (List Token → Outcome Token A) → List Token
+    → Outcome Token (List A)
 read_optional k p = choose (is_keyword k) (read_clause k p) (give [])
 
-unfoldable pub read_braces : (List Token → Outcome Token Body) → Blocks → List Token → Outcome Token Blocks
+-- a block in braces behind the blocks so far
+unfoldable pub read_braces : (List Token → Outcome Token Body) → Blocks → List Token
+    → Outcome Token Blocks
 read_braces inner so_far = do
   opening ← read_sign signs.OpenBrace
   b ← inner
   close ← read_sign signs.CloseBrace
   give (onto_end so_far b (from_to opening close))
 
-abbrev pub read_blocks : Bool → (List Token → Outcome Token Body) → Blocks → List Token → Outcome Token Blocks
-read_blocks room inner = iterate (is_sign signs.OpenBrace) (λ so_far. guard room (read_braces inner so_far))
+-- blocks in braces, where there is room
+abbrev pub read_blocks : Bool → (List Token → Outcome Token Body) → Blocks → List Token
+    → Outcome Token Blocks
+read_blocks room inner =
+    iterate (is_sign signs.OpenBrace) (λ so_far. guard room (read_braces inner so_far))
 
-unfoldable pub read_body_of : Bool → (List Token → Outcome Token Body) → List Token → Outcome Token Body
+-- a body, by whether there is room for blocks in it
+unfoldable pub read_body_of : Bool → (List Token → Outcome Token Body) → List Token
+    → Outcome Token Body
 read_body_of room inner = do
   cs ← read_optional words.Where read_condition
   ts ← read_optional words.Create read_term
   ks ← read_optional words.Link read_link
   os ← read_optional words.Collect read_collect
   bs ← read_blocks room inner no_blocks
-  give (record { clauses = record { conditions = cs; creates = ts; links = ks; collects = os }; blocks = bs })
+  give (record {
+    clauses = record { conditions = cs; creates = ts; links = ks; collects = os };
+    blocks = bs;
+  })
 
+-- a body with at most `depth` blocks one within another in it
 unfoldable pub read_body : ℕ → List Token → Outcome Token Body
 read_body zero = read_body_of false Past
 read_body (suc depth) = read_body_of true (read_body depth)
 
+-- one more block may be opened
 abbrev pub has_room : ℕ → Bool
 has_room zero = false
 has_room (suc depth) = true
 
--- what stands in the braces of a block, with so many blocks still to open
+-- what is in the braces of a block, with at most n blocks still to open
 unfoldable pub read_below : ℕ → List Token → Outcome Token Body
 read_below zero = Past
 read_below (suc depth) = read_body depth
@@ -61,17 +77,21 @@ read_block inner = do
 
 -- ---- the top of a query
 
-unfoldable pub read_item : {A : Type 0} → Keyword → (List A → Item) → (List Token → Outcome Token A) → Groups → List Token → Outcome Token Groups
+-- a clause at the top
+unfoldable pub read_item : {A : Type 0} → Keyword → (List A → Item)
+    → (List Token → Outcome Token A) → Groups → List Token → Outcome Token Groups
 read_item k item_of p g = do
   place ← read_keyword k
   items ← read_listed p
   give (join g place (item_of items))
 
+-- a block in braces at the top
 unfoldable pub read_top_braces : Groups → List Token → Outcome Token Groups
 read_top_braces g = do
   p ← read_block (read_body (levels g.bare))
   give (nest g p.body p.span)
 
+-- one more item of the top
 unfoldable pub read_item_step : Groups → List Token → Outcome Token Groups
 read_item_step g =
     choose (is_keyword words.Where) (read_item words.Where conditions_item read_condition g)
@@ -80,15 +100,22 @@ read_item_step g =
     (choose (is_keyword words.Collect) (read_item words.Collect collects_item read_collect g)
     (read_top_braces g))))
 
+-- the token begins an item of the top
 abbrev pub begins_item : Token → Bool
-begins_item t = is_keyword words.Where t || (is_keyword words.Create t || (is_keyword words.Link t || (is_keyword words.Collect t || is_sign signs.OpenBrace t)))
+begins_item t =
+    is_keyword words.Where t ||
+    (is_keyword words.Create t ||
+    (is_keyword words.Link t || (is_keyword words.Collect t || is_sign signs.OpenBrace t)))
 
+-- the version behind `STRUQL`
 unfoldable pub read_version : List Token → Outcome Token ℕ
 read_version = choose is_other_version Past (take_one true version_value)
 
+-- the version that a query begins with, or 1
 unfoldable pub read_head : List Token → Outcome Token ℕ
 read_head = choose is_head (take_one true head_value >> read_version) (give 1)
 
+-- a query
 unfoldable pub read_query : List Token → Outcome Token Query
 read_query = do
   n ← read_head

@@ -6,6 +6,7 @@ use Rattle.struql_parse.specs.declared.refusal.TokenRefusal.TheVariants as gramm
 use Rattle.struql_parse.specs.declared.refusal.ParseRefusal.{ParseRefusal}
 use Rattle.struql_parse.specs.declared.refusal.ParseRefusal.TheVariants.{TooLong, BadByte, OpenString, IntOutOfRange, Expected, TooDeep, BadVersion, NoMemory}
 
+-- a refusal of the lexer
 abbrev pub of_lexer : LexRefusal → ParseRefusal
 of_lexer (lexer.TooLong at) = TooLong at
 of_lexer (lexer.BadByte at) = BadByte at
@@ -13,6 +14,7 @@ of_lexer (lexer.OpenString at) = OpenString at
 of_lexer (lexer.IntOutOfRange at) = IntOutOfRange at
 of_lexer lexer.NoMemory = NoMemory
 
+-- a refusal of the grammar
 abbrev pub of_tokens : TokenRefusal → ParseRefusal
 of_tokens (grammar.Expected at) = Expected at
 of_tokens (grammar.TooDeep at) = TooDeep at

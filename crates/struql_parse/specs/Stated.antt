@@ -17,9 +17,15 @@ use Rattle.token_reader.specs.Gives.{place, IsReal}
 -- sign that goes too deep.
 abbrev pub States : List Token → ℕ → Result declared.Query TokenRefusal → Type 0
 States tokens text_end (Ok q) = query_within tokens (query_written q)
-States tokens text_end (Err (Expected at)) = (rest : List Token) × FirstFault IsReal query_within query_spelled tokens rest × (at ≡ place text_end rest)
-States tokens text_end (Err (TooDeep at)) = (rest : List Token) × FirstPast IsReal query_within query_spelled tokens rest × (starts is_other_version rest ≡ false) × (at ≡ place text_end rest)
-States tokens text_end (Err (BadVersion at)) = (rest : List Token) × FirstPast IsReal query_within query_spelled tokens rest × (starts is_other_version rest ≡ true) × (at ≡ place text_end rest)
+States tokens text_end (Err (Expected at)) =
+    (rest : List Token) × FirstFault IsReal query_within query_spelled tokens rest
+    × (at ≡ place text_end rest)
+States tokens text_end (Err (TooDeep at)) =
+    (rest : List Token) × FirstPast IsReal query_within query_spelled tokens rest
+    × (starts is_other_version rest ≡ false) × (at ≡ place text_end rest)
+States tokens text_end (Err (BadVersion at)) =
+    (rest : List Token) × FirstPast IsReal query_within query_spelled tokens rest
+    × (starts is_other_version rest ≡ true) × (at ≡ place text_end rest)
 States tokens text_end (Err NoMemory) = Unit {0}
 
 -- What is spelled within the limits is the answer, unless memory runs out.

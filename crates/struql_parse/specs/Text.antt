@@ -18,17 +18,25 @@ use Rattle.struql_parse.specs.Blocks.{query_within, query_spelled}
 -- up to and with it. `BadVersion` and `TooDeep` have that of the first token such that something does, but nothing within
 -- the limits: the number that is no version, or else the sign that goes too deep.
 abbrev pub TextStates : ℕ → List ℕ → Result declared.Query ParseRefusal → Type 0
-TextStates limit bytes (Ok q) = (tokens : List Token) × IsTextOrFault limit bytes (Ok tokens) × query_within tokens (query_written q)
+TextStates limit bytes (Ok q) =
+    (tokens : List Token) × IsTextOrFault limit bytes (Ok tokens)
+    × query_within tokens (query_written q)
 TextStates limit bytes (Err (TooLong at)) = IsTextOrFault limit bytes (Err (lexer.TooLong at))
 TextStates limit bytes (Err (BadByte at)) = IsTextOrFault limit bytes (Err (lexer.BadByte at))
 TextStates limit bytes (Err (OpenString at)) = IsTextOrFault limit bytes (Err (lexer.OpenString at))
-TextStates limit bytes (Err (IntOutOfRange at)) = IsTextOrFault limit bytes (Err (lexer.IntOutOfRange at))
+TextStates limit bytes (Err (IntOutOfRange at)) =
+    IsTextOrFault limit bytes (Err (lexer.IntOutOfRange at))
 TextStates limit bytes (Err (Expected at)) =
-    (tokens : List Token) × IsTextOrFault limit bytes (Ok tokens) × (rest : List Token) × FirstFault IsReal query_within query_spelled tokens rest × (at ≡ place (length bytes) rest)
+    (tokens : List Token) × IsTextOrFault limit bytes (Ok tokens) × (rest : List Token)
+    × FirstFault IsReal query_within query_spelled tokens rest × (at ≡ place (length bytes) rest)
 TextStates limit bytes (Err (TooDeep at)) =
-    (tokens : List Token) × IsTextOrFault limit bytes (Ok tokens) × (rest : List Token) × FirstPast IsReal query_within query_spelled tokens rest × (starts is_other_version rest ≡ false) × (at ≡ place (length bytes) rest)
+    (tokens : List Token) × IsTextOrFault limit bytes (Ok tokens) × (rest : List Token)
+    × FirstPast IsReal query_within query_spelled tokens rest
+    × (starts is_other_version rest ≡ false) × (at ≡ place (length bytes) rest)
 TextStates limit bytes (Err (BadVersion at)) =
-    (tokens : List Token) × IsTextOrFault limit bytes (Ok tokens) × (rest : List Token) × FirstPast IsReal query_within query_spelled tokens rest × (starts is_other_version rest ≡ true) × (at ≡ place (length bytes) rest)
+    (tokens : List Token) × IsTextOrFault limit bytes (Ok tokens) × (rest : List Token)
+    × FirstPast IsReal query_within query_spelled tokens rest
+    × (starts is_other_version rest ≡ true) × (at ≡ place (length bytes) rest)
 TextStates limit bytes (Err NoMemory) = Unit {0}
 
 -- The query that a text spells is the answer, unless memory runs out.

@@ -13,17 +13,17 @@ ghost use Rattle.struql_parse.specs.Reading.{read_optional, read_braces, read_bl
 
 use sd_lex::{Sign, Token};
 use std::alloc::Global;
-use struql_ast::{Block, Collect, Condition, Link, Term0};
+use struql_ast::{Block, Collect, Condition, Link, SkolemTerm};
 use struql_text::{
     Keyword, collect_at, condition_at, from_to, has_keyword, keyword_at, link_at, sign_at, term_at,
 };
 use token_reader::{Halt, has_sign};
 
-/// What stands between a block's braces.
+/// What is between a block's braces.
 #[derive(Drop)]
 pub struct Inner {
     pub conditions: Vec<Condition>,
-    pub creates: Vec<Term0>,
+    pub creates: Vec<SkolemTerm>,
     pub links: Vec<Link>,
     pub collects: Vec<Collect>,
     pub blocks: Vec<Block>,
@@ -32,7 +32,8 @@ pub struct Inner {
 /// A comma and a condition.
 #[tactic(auto, unfolding(struql_text::specs::Reading::read_next))]
 fn next_condition_at(alloc: Global, tokens: &[Token]) -> Result<(Condition, &[Token]), Halt>
-    ensures { Gives (λ x. condition_written x.0) (λ x. x.1.now) result (read_next read_condition tokens.now) }
+    ensures { Gives (λ x. condition_written x.0) (λ x. x.1.now) result
+        (read_next read_condition tokens.now) }
 {
     let (_, rest) = sign_at(tokens, Sign::Comma)?;
     condition_at(alloc, rest)
@@ -44,7 +45,9 @@ fn conditions_from(
     first: Condition,
     tokens: &[Token],
 ) -> Result<(Vec<Condition>, &[Token]), Halt>
-    ensures { Gives (λ x. map condition_written x.0.items) (λ x. x.1.now) result (iterate (is_sign sign_kinds.Comma) (read_further read_condition) (condition_written first ∷ []) tokens.now) }
+    ensures { Gives (λ x. map condition_written x.0.items) (λ x. x.1.now) result
+        (iterate (is_sign sign_kinds.Comma) (read_further read_condition)
+        (condition_written first ∷ []) tokens.now) }
 {
     let mut items = Vec::new(alloc);
     items.push(first)?;
@@ -57,18 +60,21 @@ fn conditions_from(
     Ok((items, rest))
 }
 
+/// Conditions with commas between them.
 #[tactic(auto, unfolding(struql_text::specs::Reading::read_listed))]
 pub fn conditions_at(alloc: Global, tokens: &[Token]) -> Result<(Vec<Condition>, &[Token]), Halt>
-    ensures { Gives (λ x. map condition_written x.0.items) (λ x. x.1.now) result (read_listed read_condition tokens.now) }
+    ensures { Gives (λ x. map condition_written x.0.items) (λ x. x.1.now) result
+        (read_listed read_condition tokens.now) }
 {
     let (first, rest) = condition_at(alloc, tokens)?;
     conditions_from(alloc, first, rest)
 }
 
-/// The clause of conditions, if one stands here.
+/// The clause of conditions, if one is here.
 #[tactic(auto, unfolding(crate::specs::Reading::read_optional, crate::specs::Reading::read_clause))]
 fn condition_clause_at(alloc: Global, tokens: &[Token]) -> Result<(Vec<Condition>, &[Token]), Halt>
-    ensures { Gives (λ x. map condition_written x.0.items) (λ x. x.1.now) result (read_optional words.Where read_condition tokens.now) }
+    ensures { Gives (λ x. map condition_written x.0.items) (λ x. x.1.now) result
+        (read_optional words.Where read_condition tokens.now) }
 {
     if has_keyword(tokens, Keyword::Where) {
         let (_, rest) = keyword_at(tokens, Keyword::Where)?;
@@ -80,7 +86,7 @@ fn condition_clause_at(alloc: Global, tokens: &[Token]) -> Result<(Vec<Condition
 
 /// A comma and a term.
 #[tactic(auto, unfolding(struql_text::specs::Reading::read_next))]
-fn next_term_at(alloc: Global, tokens: &[Token]) -> Result<(Term0, &[Token]), Halt>
+fn next_term_at(alloc: Global, tokens: &[Token]) -> Result<(SkolemTerm, &[Token]), Halt>
     ensures { Gives (λ x. term_written x.0) (λ x. x.1.now) result (read_next read_term tokens.now) }
 {
     let (_, rest) = sign_at(tokens, Sign::Comma)?;
@@ -88,8 +94,14 @@ fn next_term_at(alloc: Global, tokens: &[Token]) -> Result<(Term0, &[Token]), Ha
 }
 
 /// This term, and those behind it.
-fn terms_from(alloc: Global, first: Term0, tokens: &[Token]) -> Result<(Vec<Term0>, &[Token]), Halt>
-    ensures { Gives (λ x. map term_written x.0.items) (λ x. x.1.now) result (iterate (is_sign sign_kinds.Comma) (read_further read_term) (term_written first ∷ []) tokens.now) }
+fn terms_from(
+    alloc: Global,
+    first: SkolemTerm,
+    tokens: &[Token],
+) -> Result<(Vec<SkolemTerm>, &[Token]), Halt>
+    ensures { Gives (λ x. map term_written x.0.items) (λ x. x.1.now) result
+        (iterate (is_sign sign_kinds.Comma) (read_further read_term) (term_written first ∷ [])
+        tokens.now) }
 {
     let mut items = Vec::new(alloc);
     items.push(first)?;
@@ -102,18 +114,21 @@ fn terms_from(alloc: Global, first: Term0, tokens: &[Token]) -> Result<(Vec<Term
     Ok((items, rest))
 }
 
+/// Terms with commas between them.
 #[tactic(auto, unfolding(struql_text::specs::Reading::read_listed))]
-pub fn terms_at(alloc: Global, tokens: &[Token]) -> Result<(Vec<Term0>, &[Token]), Halt>
-    ensures { Gives (λ x. map term_written x.0.items) (λ x. x.1.now) result (read_listed read_term tokens.now) }
+pub fn terms_at(alloc: Global, tokens: &[Token]) -> Result<(Vec<SkolemTerm>, &[Token]), Halt>
+    ensures { Gives (λ x. map term_written x.0.items) (λ x. x.1.now) result
+        (read_listed read_term tokens.now) }
 {
     let (first, rest) = term_at(alloc, tokens)?;
     terms_from(alloc, first, rest)
 }
 
-/// The clause of terms, if one stands here.
+/// The clause of terms, if one is here.
 #[tactic(auto, unfolding(crate::specs::Reading::read_optional, crate::specs::Reading::read_clause))]
-fn term_clause_at(alloc: Global, tokens: &[Token]) -> Result<(Vec<Term0>, &[Token]), Halt>
-    ensures { Gives (λ x. map term_written x.0.items) (λ x. x.1.now) result (read_optional words.Create read_term tokens.now) }
+fn term_clause_at(alloc: Global, tokens: &[Token]) -> Result<(Vec<SkolemTerm>, &[Token]), Halt>
+    ensures { Gives (λ x. map term_written x.0.items) (λ x. x.1.now) result
+        (read_optional words.Create read_term tokens.now) }
 {
     if has_keyword(tokens, Keyword::Create) {
         let (_, rest) = keyword_at(tokens, Keyword::Create)?;
@@ -134,7 +149,9 @@ fn next_link_at(alloc: Global, tokens: &[Token]) -> Result<(Link, &[Token]), Hal
 
 /// This link, and those behind it.
 fn links_from(alloc: Global, first: Link, tokens: &[Token]) -> Result<(Vec<Link>, &[Token]), Halt>
-    ensures { Gives (λ x. map link_written x.0.items) (λ x. x.1.now) result (iterate (is_sign sign_kinds.Comma) (read_further read_link) (link_written first ∷ []) tokens.now) }
+    ensures { Gives (λ x. map link_written x.0.items) (λ x. x.1.now) result
+        (iterate (is_sign sign_kinds.Comma) (read_further read_link) (link_written first ∷ [])
+        tokens.now) }
 {
     let mut items = Vec::new(alloc);
     items.push(first)?;
@@ -147,18 +164,21 @@ fn links_from(alloc: Global, first: Link, tokens: &[Token]) -> Result<(Vec<Link>
     Ok((items, rest))
 }
 
+/// Links with commas between them.
 #[tactic(auto, unfolding(struql_text::specs::Reading::read_listed))]
 pub fn links_at(alloc: Global, tokens: &[Token]) -> Result<(Vec<Link>, &[Token]), Halt>
-    ensures { Gives (λ x. map link_written x.0.items) (λ x. x.1.now) result (read_listed read_link tokens.now) }
+    ensures { Gives (λ x. map link_written x.0.items) (λ x. x.1.now) result
+        (read_listed read_link tokens.now) }
 {
     let (first, rest) = link_at(alloc, tokens)?;
     links_from(alloc, first, rest)
 }
 
-/// The clause of links, if one stands here.
+/// The clause of links, if one is here.
 #[tactic(auto, unfolding(crate::specs::Reading::read_optional, crate::specs::Reading::read_clause))]
 fn link_clause_at(alloc: Global, tokens: &[Token]) -> Result<(Vec<Link>, &[Token]), Halt>
-    ensures { Gives (λ x. map link_written x.0.items) (λ x. x.1.now) result (read_optional words.Link read_link tokens.now) }
+    ensures { Gives (λ x. map link_written x.0.items) (λ x. x.1.now) result
+        (read_optional words.Link read_link tokens.now) }
 {
     if has_keyword(tokens, Keyword::Link) {
         let (_, rest) = keyword_at(tokens, Keyword::Link)?;
@@ -171,7 +191,8 @@ fn link_clause_at(alloc: Global, tokens: &[Token]) -> Result<(Vec<Link>, &[Token
 /// A comma and a collect.
 #[tactic(auto, unfolding(struql_text::specs::Reading::read_next))]
 fn next_collect_at(alloc: Global, tokens: &[Token]) -> Result<(Collect, &[Token]), Halt>
-    ensures { Gives (λ x. collect_written x.0) (λ x. x.1.now) result (read_next read_collect tokens.now) }
+    ensures { Gives (λ x. collect_written x.0) (λ x. x.1.now) result
+        (read_next read_collect tokens.now) }
 {
     let (_, rest) = sign_at(tokens, Sign::Comma)?;
     collect_at(alloc, rest)
@@ -183,7 +204,9 @@ fn collects_from(
     first: Collect,
     tokens: &[Token],
 ) -> Result<(Vec<Collect>, &[Token]), Halt>
-    ensures { Gives (λ x. map collect_written x.0.items) (λ x. x.1.now) result (iterate (is_sign sign_kinds.Comma) (read_further read_collect) (collect_written first ∷ []) tokens.now) }
+    ensures { Gives (λ x. map collect_written x.0.items) (λ x. x.1.now) result
+        (iterate (is_sign sign_kinds.Comma) (read_further read_collect)
+        (collect_written first ∷ []) tokens.now) }
 {
     let mut items = Vec::new(alloc);
     items.push(first)?;
@@ -196,18 +219,21 @@ fn collects_from(
     Ok((items, rest))
 }
 
+/// Items of COLLECT with commas between them.
 #[tactic(auto, unfolding(struql_text::specs::Reading::read_listed))]
 pub fn collects_at(alloc: Global, tokens: &[Token]) -> Result<(Vec<Collect>, &[Token]), Halt>
-    ensures { Gives (λ x. map collect_written x.0.items) (λ x. x.1.now) result (read_listed read_collect tokens.now) }
+    ensures { Gives (λ x. map collect_written x.0.items) (λ x. x.1.now) result
+        (read_listed read_collect tokens.now) }
 {
     let (first, rest) = collect_at(alloc, tokens)?;
     collects_from(alloc, first, rest)
 }
 
-/// The clause of collects, if one stands here.
+/// The clause of collects, if one is here.
 #[tactic(auto, unfolding(crate::specs::Reading::read_optional, crate::specs::Reading::read_clause))]
 fn collect_clause_at(alloc: Global, tokens: &[Token]) -> Result<(Vec<Collect>, &[Token]), Halt>
-    ensures { Gives (λ x. map collect_written x.0.items) (λ x. x.1.now) result (read_optional words.Collect read_collect tokens.now) }
+    ensures { Gives (λ x. map collect_written x.0.items) (λ x. x.1.now) result
+        (read_optional words.Collect read_collect tokens.now) }
 {
     if has_keyword(tokens, Keyword::Collect) {
         let (_, rest) = keyword_at(tokens, Keyword::Collect)?;
@@ -217,7 +243,7 @@ fn collect_clause_at(alloc: Global, tokens: &[Token]) -> Result<(Vec<Collect>, &
     }
 }
 
-/// What stands between a block's braces, with `depth` blocks still to open one within another.
+/// What is between a block's braces, with `depth` blocks still to open one within another.
 #[cycle(body)]
 #[tactic(auto, unfolding(crate::specs::Reading::read_body_of))]
 pub fn body_at<'a>(
@@ -225,7 +251,8 @@ pub fn body_at<'a>(
     depth: u32,
     tokens: &'a [Token],
 ) -> Result<(Inner, &'a [Token]), Halt<'a>>
-    ensures { Gives (λ x. body_found x.0) (λ x. x.1.now) result (read_body_of (has_room depth) (read_below depth) tokens.now) }
+    ensures { Gives (λ x. body_found x.0) (λ x. x.1.now) result
+        (read_body_of (has_room depth) (read_below depth) tokens.now) }
 {
     let (conditions, rest) = condition_clause_at(alloc, tokens)?;
     let (creates, rest) = term_clause_at(alloc, rest)?;
@@ -251,7 +278,8 @@ fn blocks_at<'a>(
     depth: u32,
     tokens: &'a [Token],
 ) -> Result<(Vec<Block>, &'a [Token]), Halt<'a>>
-    ensures { Gives (λ x. blocks_written x.0.items) (λ x. x.1.now) result (read_blocks (has_room depth) (read_below depth) no_blocks tokens.now) }
+    ensures { Gives (λ x. blocks_written x.0.items) (λ x. x.1.now) result
+        (read_blocks (has_room depth) (read_below depth) no_blocks tokens.now) }
 {
     let mut blocks = Vec::new(alloc);
     let mut rest = tokens;
@@ -270,7 +298,8 @@ fn block_at<'a>(
     depth: u32,
     tokens: &'a [Token],
 ) -> Result<(Block, &'a [Token]), Halt<'a>>
-    ensures { Gives (λ x. placed_found x.0) (λ x. x.1.now) result (guard (has_room depth) (read_block (read_below depth)) tokens.now) }
+    ensures { Gives (λ x. placed_found x.0) (λ x. x.1.now) result
+        (guard (has_room depth) (read_block (read_below depth)) tokens.now) }
 {
     if depth == 0 {
         Err(Halt::TooDeep(tokens))
@@ -287,7 +316,8 @@ pub fn braces_at<'a>(
     depth: u32,
     tokens: &'a [Token],
 ) -> Result<(Block, &'a [Token]), Halt<'a>>
-    ensures { Gives (λ x. placed_found x.0) (λ x. x.1.now) result (read_block (read_body_of (has_room depth) (read_below depth)) tokens.now) }
+    ensures { Gives (λ x. placed_found x.0) (λ x. x.1.now) result
+        (read_block (read_body_of (has_room depth) (read_below depth)) tokens.now) }
 {
     let (open, rest) = sign_at(tokens, Sign::OpenBrace)?;
     let (inner, rest) = body_at(alloc, depth, rest)?;

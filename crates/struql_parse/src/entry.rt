@@ -14,10 +14,12 @@ use std::alloc::Global;
 use struql_ast::Query;
 
 /// The query that a text of at most `limit` bytes spells, with the places of its parts. Faults of
-/// tokens come before those of the grammar; among the latter the first token tells.
+/// tokens come before those of the grammar; among the latter the first token reports.
 pub fn parse(alloc: Global, bytes: &[u8], limit: u64) -> Result<Query, ParseRefusal>
     ensures exact { TextStates limit bytes.now result }
-    ensures only { (tokens : List Token) (query : Written) → IsTextOrFault limit bytes.now (Ok tokens) → query_within tokens query → TextGives query result }
+    ensures only { (tokens : List Token) (query : Written)
+        → IsTextOrFault limit bytes.now (Ok tokens) → query_within tokens query
+        → TextGives query result }
 {
     let tokens = tokens(alloc, bytes, limit)?;
     let query = parse_tokens(alloc, tokens.as_slice(), bytes.len() as u64)?;

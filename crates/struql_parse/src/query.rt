@@ -15,7 +15,7 @@ use crate::refusal::TokenRefusal;
 use sd_lex::{Sign, Span, Token, TokenKind};
 use sd_value::NoMemory;
 use std::alloc::Global;
-use struql_ast::{Block, Collect, Condition, Link, Query, Term0};
+use struql_ast::{Block, Collect, Condition, Link, Query, SkolemTerm};
 use struql_text::{Keyword, from_to, has_keyword, keyword_at, name_at};
 use token_reader::{Halt, has_sign, place_of};
 
@@ -39,14 +39,16 @@ pub struct Groups {
 #[derive(Drop)]
 pub enum Item {
     Conditions(Vec<Condition>),
-    Creates(Vec<Term0>),
+    Creates(Vec<SkolemTerm>),
     Links(Vec<Link>),
     Collects(Vec<Collect>),
 }
 
 /// One more block.
 fn push_block(blocks: Vec<Block>, block: Block) -> Result<Vec<Block>, NoMemory>
-    ensures { IfOk result (λ r. blocks_written r.items ≡ onto_end (blocks_written blocks.items) (placed_found block).body (placed_found block).span) }
+    ensures { IfOk result (λ r. blocks_written r.items
+        ≡ onto_end (blocks_written blocks.items) (placed_found block).body
+        (placed_found block).span) }
 {
     let mut blocks = blocks;
     blocks.push(block)?;
@@ -68,9 +70,10 @@ fn placed(inner: Inner, span: Span) -> Block
     }
 }
 
-/// A block in braces, which stands in the bare block where there is one.
+/// A block in braces, which is in the bare block where there is one.
 fn nest(groups: Groups, block: Block) -> Result<Groups, NoMemory>
-    ensures { IfOk result (λ g. groups_found g ≡ plain_nest (groups_found groups) (placed_found block).body (placed_found block).span) }
+    ensures { IfOk result (λ g. groups_found g
+        ≡ plain_nest (groups_found groups) (placed_found block).body (placed_found block).span) }
 {
     let Groups { closed, bare } = groups;
     match bare {
@@ -123,7 +126,10 @@ fn no_clauses(alloc: Global) -> Inner
 }
 
 fn with_item(inner: Inner, item: Item) -> Inner
-    ensures { body_found result ≡ record { clauses = plain_with_item (body_found inner).clauses (item_found item); blocks = (body_found inner).blocks } }
+    ensures { body_found result ≡ record {
+      clauses = plain_with_item (body_found inner).clauses (item_found item);
+      blocks = (body_found inner).blocks;
+    } }
 {
     let Inner {
         conditions,
@@ -197,7 +203,7 @@ fn last_condition(items: &[Condition], place: Span) -> Span
     }
 }
 
-fn last_term(items: &[Term0], place: Span) -> Span
+fn last_term(items: &[SkolemTerm], place: Span) -> Span
     ensures { result ≡ last_span (λ t. t.span) place (map term_written items.now) }
 {
     match items {
@@ -238,7 +244,8 @@ fn item_end(place: Span, item: &Item) -> Span
 
 /// A clause, which joins the bare block where it can follow there.
 fn join(alloc: Global, groups: Groups, place: Span, item: Item) -> Result<Groups, NoMemory>
-    ensures { IfOk result (λ g. groups_found g ≡ plain_join (groups_found groups) place (item_found item)) }
+    ensures { IfOk result (λ g. groups_found g
+        ≡ plain_join (groups_found groups) place (item_found item)) }
 {
     let end = item_end(place, &item);
     let stage = stage_of(&item);
@@ -275,7 +282,8 @@ fn join(alloc: Global, groups: Groups, place: Span, item: Item) -> Result<Groups
 /// A block in braces at the top.
 #[tactic(auto, using(crate::proofs::BlockLoop::body_by_room), unfolding(crate::specs::Reading::read_top_braces))]
 fn top_block_at(alloc: Global, groups: Groups, tokens: &[Token]) -> Result<(Groups, &[Token]), Halt>
-    ensures { Gives (λ x. groups_found x.0) (λ x. x.1.now) result (read_top_braces (groups_found groups) tokens.now) }
+    ensures { Gives (λ x. groups_found x.0) (λ x. x.1.now) result
+        (read_top_braces (groups_found groups) tokens.now) }
 {
     let depth = if groups.bare.is_some() { 14 } else { 15 };
     let (block, rest) = braces_at(alloc, depth, tokens)?;
@@ -286,7 +294,8 @@ fn top_block_at(alloc: Global, groups: Groups, tokens: &[Token]) -> Result<(Grou
 /// A clause or a block in braces.
 #[tactic(auto, unfolding(crate::specs::Reading::read_item_step, crate::specs::Reading::read_item))]
 fn item_at(alloc: Global, groups: Groups, tokens: &[Token]) -> Result<(Groups, &[Token]), Halt>
-    ensures { Gives (λ x. groups_found x.0) (λ x. x.1.now) result (read_item_step (groups_found groups) tokens.now) }
+    ensures { Gives (λ x. groups_found x.0) (λ x. x.1.now) result
+        (read_item_step (groups_found groups) tokens.now) }
 {
     if has_keyword(tokens, Keyword::Where) {
         let (place, rest) = keyword_at(tokens, Keyword::Where)?;
@@ -325,7 +334,8 @@ fn has_item(tokens: &[Token]) -> bool
 
 /// The items between INPUT and OUTPUT.
 fn items_at(alloc: Global, tokens: &[Token]) -> Result<(Groups, &[Token]), Halt>
-    ensures { Gives (λ x. groups_found x.0) (λ x. x.1.now) result (iterate begins_item read_item_step no_groups tokens.now) }
+    ensures { Gives (λ x. groups_found x.0) (λ x. x.1.now) result
+        (iterate begins_item read_item_step no_groups tokens.now) }
 {
     let mut groups = Groups {
         closed: Vec::new(alloc),

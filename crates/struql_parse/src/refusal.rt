@@ -24,7 +24,7 @@ pub enum ParseRefusal {
     TooLong(u64),
     /// No token begins at this byte, or it is the backslash of an unknown escape.
     BadByte(u64),
-    /// The text whose quote stands here isn't closed.
+    /// The text whose quote is here isn't closed.
     OpenString(u64),
     /// The number here is outside i64.
     IntOutOfRange(u64),

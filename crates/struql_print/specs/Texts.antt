@@ -7,7 +7,7 @@ use Rattle.sd_value.specs.declared.Datum.TheVariants as datum
 use Rattle.sd_value.specs.declared.Value.{Value}
 use Rattle.sd_value.specs.declared.Value.TheVariants.{Data, Page}
 use Rattle.token_writer.specs.Writing.{quoted_text}
-use Rattle.path_spec.specs.Regex.{Regex, label, any, empty, seq, alt, star}
+use Rattle.rpe.specs.Regex.{Regex, label, any, empty, seq, alt, star}
 use Rattle.query_spec.specs.declared.Op.{Op}
 use Rattle.query_spec.specs.declared.Op.TheVariants as op
 use Rattle.query_spec.specs.declared.Test.{Test}
@@ -18,12 +18,14 @@ use Rattle.query_spec.specs.Query.{Operand, variable, constant, PathStep, arc_va
 abbrev pub further : List (List ℕ) → List ℕ
 further texts = flat_map (λ text. codes ", " ++ text) texts
 
+-- texts with a comma and a space between them
 abbrev pub joined : List (List ℕ) → List ℕ
 joined [] = []
 joined (text ∷ texts) = text ++ further texts
 
 -- ---- expressions
 
+-- a choice needs parentheses in a sequence
 abbrev pub is_alt : Regex → Bool
 is_alt (label l) = false
 is_alt any = false
@@ -32,6 +34,7 @@ is_alt (seq r s) = false
 is_alt (alt r s) = true
 is_alt (star r) = false
 
+-- a choice or a sequence needs parentheses before a star
 abbrev pub is_alt_or_seq : Regex → Bool
 is_alt_or_seq (label l) = false
 is_alt_or_seq any = false
@@ -42,21 +45,23 @@ is_alt_or_seq (star r) = false
 
 -- in parentheses, or not
 abbrev pub enclosed : Bool → List ℕ → List ℕ
-enclosed encloses text = (if encloses then codes "(" else []) ++ (text ++ (if encloses then codes ")" else []))
+enclosed encloses text =
+    (if encloses then codes "(" else []) ++ (text ++ (if encloses then codes ")" else []))
 
--- Parentheses stand round an alternative within a sequence or a repetition, round a sequence within a repetition, and
+-- Parentheses are round an alternative within a sequence or a repetition, round a sequence within a repetition, and
 -- round a right operand of the same operator: sequences and alternatives group to the left.
 abbrev pub regex_text : Regex → List ℕ
 regex_text (label l) = quoted_text l
 regex_text any = codes "true"
 regex_text empty = codes "()"
-regex_text (seq r s) = enclosed (is_alt r) (regex_text r) ++ (codes "." ++ enclosed (is_alt_or_seq s) (regex_text s))
+regex_text (seq r s) =
+    enclosed (is_alt r) (regex_text r) ++ (codes "." ++ enclosed (is_alt_or_seq s) (regex_text s))
 regex_text (alt r s) = regex_text r ++ (codes "|" ++ enclosed (is_alt s) (regex_text s))
 regex_text (star r) = enclosed (is_alt_or_seq r) (regex_text r) ++ codes "*"
 
 -- ---- terms and links
 
--- Only numbers and texts are constants that a query can spell. Another value stands by its bytes.
+-- Only numbers and texts are constants that a query can spell. Another value is by its bytes.
 abbrev pub datum_text : Datum → List ℕ
 datum_text (datum.Int n) = signed_decimal n
 datum_text (datum.Text s) = quoted_text s
@@ -64,10 +69,12 @@ datum_text (datum.Url s) = quoted_text s
 datum_text (datum.File s) = quoted_text s
 datum_text (datum.Node s) = quoted_text s
 
+-- the text of a constant
 abbrev pub value_text : Value → List ℕ
 value_text (Data d) = datum_text d
 value_text (Page t) = quoted_text t.function
 
+-- the text of an operand
 abbrev pub operand_text : Operand → List ℕ
 operand_text (variable x) = x
 operand_text (constant v) = value_text v
@@ -76,17 +83,21 @@ operand_text (constant v) = value_text v
 abbrev pub term_text : SkolemTerm → List ℕ
 term_text t = t.function ++ (codes "(" ++ (joined (map operand_text t.args) ++ codes ")"))
 
+-- the text of a target
 abbrev pub target_text : Target → List ℕ
 target_text (plain operand) = operand_text operand
 target_text (made t) = term_text t
 
+-- the text of a label
 abbrev pub label_text : LinkLabel → List ℕ
 label_text (quoted l) = quoted_text l
 label_text (label_variable x) = x
 
 -- `F(x) -> "l" -> y`
 abbrev pub link_text : Link → List ℕ
-link_text k = target_text k.source ++ (codes " -> " ++ (label_text k.label ++ (codes " -> " ++ target_text k.target)))
+link_text k =
+    target_text k.source
+    ++ (codes " -> " ++ (label_text k.label ++ (codes " -> " ++ target_text k.target)))
 
 -- `C(x)`
 abbrev pub collect_text : Collect → List ℕ
@@ -94,10 +105,12 @@ collect_text c = c.collection ++ (codes "(" ++ (target_text c.target ++ codes ")
 
 -- ---- conditions
 
+-- the text of what is between arrows
 abbrev pub step_text : PathStep → List ℕ
 step_text (arc_variable x) = x
 step_text (expression r) = regex_text r
 
+-- the text of an operator
 abbrev pub op_text : Op → List ℕ
 op_text op.Eq = codes "="
 op_text op.Ne = codes "!="
@@ -106,6 +119,7 @@ op_text op.Le = codes "<="
 op_text op.Gt = codes ">"
 op_text op.Ge = codes ">="
 
+-- the name of a test
 abbrev pub test_text : Test → List ℕ
 test_text test.IsInt = codes "isInt"
 test_text test.IsText = codes "isText"
@@ -113,11 +127,15 @@ test_text test.IsUrl = codes "isUrl"
 test_text test.IsFile = codes "isFile"
 test_text test.IsNode = codes "isNode"
 
+-- the text of a condition
 abbrev pub condition_text : Condition → List ℕ
 condition_text (member collection x) = collection ++ (codes "(" ++ (x ++ codes ")"))
-condition_text (path t s u) = operand_text t ++ (codes " -> " ++ (step_text s ++ (codes " -> " ++ operand_text u)))
-condition_text (compare t o u) = operand_text t ++ (codes " " ++ (op_text o ++ (codes " " ++ operand_text u)))
-condition_text (one_of t values) = operand_text t ++ (codes " in {" ++ (joined (map value_text values) ++ codes "}"))
+condition_text (path t s u) =
+    operand_text t ++ (codes " -> " ++ (step_text s ++ (codes " -> " ++ operand_text u)))
+condition_text (compare t o u) =
+    operand_text t ++ (codes " " ++ (op_text o ++ (codes " " ++ operand_text u)))
+condition_text (one_of t values) =
+    operand_text t ++ (codes " in {" ++ (joined (map value_text values) ++ codes "}"))
 condition_text (kind test x) = test_text test ++ (codes "(" ++ (x ++ codes ")"))
 condition_text (negation c) = codes "not(" ++ (condition_text c ++ codes ")")
 
@@ -128,6 +146,7 @@ abbrev pub clause_text : List ℕ → List (List ℕ) → List ℕ
 clause_text word [] = []
 clause_text word (text ∷ texts) = codes " " ++ (word ++ (codes " " ++ joined (text ∷ texts)))
 
+-- the text of a block's body
 abbrev pub body_text : Body → List ℕ
 body_text b =
     clause_text (codes "WHERE") (map condition_text b.conditions)

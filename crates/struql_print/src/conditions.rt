@@ -1,14 +1,15 @@
 //! Conditions.
 
-ghost use Rattle.std.specs.Prelude.{◌≡◌, ◌++◌, IfOk, ℕ, List};
-ghost use Rattle.struql_ast.specs.Reading.{step_of, condition_of};
+ghost use Rattle.std.specs.Prelude.{◌≡◌, ◌++◌, IfOk, ℕ, List, codes};
+ghost use Rattle.query_spec.specs.Query.{path, compare};
+ghost use Rattle.struql_ast.specs.Reading.{operand_of, step_of, condition_of};
 ghost use Rattle.struql_print.specs.Texts.{step_text, op_text, test_text, condition_text};
 
 use crate::listed::{Print, print_listed};
 use crate::regex::print_regex;
 use query_spec::{Op, Test};
-use sd_value::NoMemory;
-use struql_ast::{Condition, PathStep};
+use sd_value::{NoMemory, Str};
+use struql_ast::{Condition, Operand, PathStep};
 use token_writer::put;
 
 fn print_step(step: &PathStep, out: &mut Vec<u8>) -> Result<(), NoMemory>
@@ -33,53 +34,80 @@ fn print_op(op: Op, out: &mut Vec<u8>) -> Result<(), NoMemory>
     }
 }
 
-fn print_test(test: Test, out: &mut Vec<u8>) -> Result<(), NoMemory>
-    ensures { IfOk result (λ _. out.new.items ≡ out.old.items ++ test_text test) }
+fn test_word(test: Test) -> &'static [u8]
+    ensures { result.now ≡ test_text test }
 {
     match test {
-        Test::IsInt => put(b"isInt", out),
-        Test::IsText => put(b"isText", out),
-        Test::IsUrl => put(b"isUrl", out),
-        Test::IsFile => put(b"isFile", out),
-        Test::IsNode => put(b"isNode", out),
+        Test::IsInt => b"isInt",
+        Test::IsText => b"isText",
+        Test::IsUrl => b"isUrl",
+        Test::IsFile => b"isFile",
+        Test::IsNode => b"isNode",
     }
+}
+
+// A collection's name or a test's word, and the variable behind it in parentheses.
+fn print_applied(word: &[u8], variable: &Str, out: &mut Vec<u8>) -> Result<(), NoMemory>
+    ensures { IfOk result (λ _. out.new.items ≡ out.old.items
+        ++ (word.now ++ (codes "(" ++ (variable.now ++ codes ")")))) }
+{
+    put(word, out)?;
+    put(b"(", out)?;
+    put(variable.bytes(), out)?;
+    put(b")", out)
+}
+
+fn print_path(
+    from: &Operand,
+    step: &PathStep,
+    to: &Operand,
+    out: &mut Vec<u8>,
+) -> Result<(), NoMemory>
+    ensures { IfOk result (λ _. out.new.items ≡ out.old.items
+        ++ condition_text (path (operand_of from.now) (step_of step.now) (operand_of to.now))) }
+{
+    from.print(out)?;
+    put(b" -> ", out)?;
+    print_step(step, out)?;
+    put(b" -> ", out)?;
+    to.print(out)
+}
+
+fn print_comparison(
+    left: &Operand,
+    op: Op,
+    right: &Operand,
+    out: &mut Vec<u8>,
+) -> Result<(), NoMemory>
+    ensures { IfOk result (λ _. out.new.items ≡ out.old.items
+        ++ condition_text (compare (operand_of left.now) op (operand_of right.now))) }
+{
+    left.print(out)?;
+    put(b" ", out)?;
+    print_op(op, out)?;
+    put(b" ", out)?;
+    right.print(out)
 }
 
 /// Appends a condition's canonical text, as `C(x)`, `x -> "a".true* -> y`, `x = 1`,
 /// `x in {1, 2}`, `isInt(x)` or `not(C(x))`. After `NoMemory` what `out` holds is not said.
 pub fn print_condition(condition: &Condition, out: &mut Vec<u8>) -> Result<(), NoMemory>
-    ensures { IfOk result (λ _. out.new.items ≡ out.old.items ++ condition_text (condition_of condition.now)) }
+    ensures { IfOk result (λ _. out.new.items
+        ≡ out.old.items ++ condition_text (condition_of condition.now)) }
 {
     match condition {
         Condition::Member {
             collection,
             variable,
             ..
-        } => {
-            put(collection.bytes(), out)?;
-            put(b"(", out)?;
-            put(variable.bytes(), out)?;
-            put(b")", out)
-        }
-        Condition::Path { from, step, to, .. } => {
-            from.print(out)?;
-            put(b" -> ", out)?;
-            print_step(step, out)?;
-            put(b" -> ", out)?;
-            to.print(out)
-        }
+        } => print_applied(collection.bytes(), variable, out),
+        Condition::Path { from, step, to, .. } => print_path(from, step, to, out),
         Condition::Compare {
             left,
             op,
             right,
             ..
-        } => {
-            left.print(out)?;
-            put(b" ", out)?;
-            print_op(*op, out)?;
-            put(b" ", out)?;
-            right.print(out)
-        }
+        } => print_comparison(left, *op, right, out),
         Condition::OneOf {
             operand,
             constants,
@@ -90,12 +118,7 @@ pub fn print_condition(condition: &Condition, out: &mut Vec<u8>) -> Result<(), N
             print_listed(constants.items(), out)?;
             put(b"}", out)
         }
-        Condition::Kind { test, variable, .. } => {
-            print_test(*test, out)?;
-            put(b"(", out)?;
-            put(variable.bytes(), out)?;
-            put(b")", out)
-        }
+        Condition::Kind { test, variable, .. } => print_applied(test_word(*test), variable, out),
         Condition::Not(inner, _) => {
             put(b"not(", out)?;
             print_condition(inner, out)?;

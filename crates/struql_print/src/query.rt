@@ -14,7 +14,8 @@ use token_writer::put;
 
 /// Appends a clause behind a blank, or nothing where it has no items.
 fn print_clause<T: Print>(word: &[u8], items: &[T], out: &mut Vec<u8>) -> Result<(), NoMemory>
-    ensures { IfOk result (λ _. out.new.items ≡ out.old.items ++ clause_text word.now (map T.text items.now)) }
+    ensures { IfOk result (λ _. out.new.items
+        ≡ out.old.items ++ clause_text word.now (map T.text items.now)) }
 {
     if items.is_empty() {
         return Ok(());
@@ -48,7 +49,9 @@ fn print_block(block: &Block, out: &mut Vec<u8>) -> Result<(), NoMemory>
 /// Appends each block behind a blank.
 #[cycle(block)]
 fn print_inner(blocks: &[Block], out: &mut Vec<u8>) -> Result<(), NoMemory>
-    ensures { IfOk result (λ _. out.new.items ≡ out.old.items ++ flat_map (λ text. codes " " ++ text) (block_texts (blocks_of blocks.now))) }
+    ensures { IfOk result (λ _. out.new.items
+        ≡ out.old.items ++ flat_map (λ text. codes " " ++ text)
+        (block_texts (blocks_of blocks.now))) }
 {
     for block in blocks {
         put(b" ", out)?;
@@ -59,7 +62,9 @@ fn print_inner(blocks: &[Block], out: &mut Vec<u8>) -> Result<(), NoMemory>
 
 /// Appends each block, and a line feed behind it.
 fn print_lines(blocks: &[Block], out: &mut Vec<u8>) -> Result<(), NoMemory>
-    ensures { IfOk result (λ _. out.new.items ≡ out.old.items ++ flat_map (λ text. text ++ codes "\n") (block_texts (blocks_of blocks.now))) }
+    ensures { IfOk result (λ _. out.new.items
+        ≡ out.old.items ++ flat_map (λ text. text ++ codes "\n")
+        (block_texts (blocks_of blocks.now))) }
 {
     for block in blocks {
         print_block(block, out)?;
@@ -69,7 +74,8 @@ fn print_lines(blocks: &[Block], out: &mut Vec<u8>) -> Result<(), NoMemory>
 }
 
 fn print_version(version: u8, out: &mut Vec<u8>) -> Result<(), NoMemory>
-    ensures { IfOk result (λ _. out.new.items ≡ out.old.items ++ (if nat_eq version 2 then codes "STRUQL 2\n" else [])) }
+    ensures { IfOk result (λ _. out.new.items
+        ≡ out.old.items ++ (if nat_eq version 2 then codes "STRUQL 2\n" else [])) }
 {
     if version == 2 {
         put(b"STRUQL 2\n", out)
@@ -80,7 +86,8 @@ fn print_version(version: u8, out: &mut Vec<u8>) -> Result<(), NoMemory>
 
 /// Appends a line of a word and a name.
 fn print_line(word: &[u8], name: &Str, out: &mut Vec<u8>) -> Result<(), NoMemory>
-    ensures { IfOk result (λ _. out.new.items ≡ out.old.items ++ (word.now ++ (name.now ++ codes "\n"))) }
+    ensures { IfOk result (λ _. out.new.items
+        ≡ out.old.items ++ (word.now ++ (name.now ++ codes "\n"))) }
 {
     put(word, out)?;
     put(name.bytes(), out)?;

@@ -27,13 +27,15 @@ fn is_alt_or_seq(tree: &Rpe) -> bool
 }
 
 fn open_if(encloses: bool, out: &mut Vec<u8>) -> Result<(), NoMemory>
-    ensures { IfOk result (λ _. out.new.items ≡ out.old.items ++ (if encloses then codes "(" else [])) }
+    ensures { IfOk result (λ _. out.new.items
+        ≡ out.old.items ++ (if encloses then codes "(" else [])) }
 {
     if encloses { put(b"(", out) } else { Ok(()) }
 }
 
 fn close_if(encloses: bool, out: &mut Vec<u8>) -> Result<(), NoMemory>
-    ensures { IfOk result (λ _. out.new.items ≡ out.old.items ++ (if encloses then codes ")" else [])) }
+    ensures { IfOk result (λ _. out.new.items
+        ≡ out.old.items ++ (if encloses then codes ")" else [])) }
 {
     if encloses { put(b")", out) } else { Ok(()) }
 }

@@ -6,7 +6,7 @@ ghost use Rattle.struql_print.specs.Texts.{joined, value_text, operand_text, ter
 
 use crate::listed::{Print, print_listed};
 use sd_value::{Datum, NoMemory, Value};
-use struql_ast::{Collect, Link, LinkLabel, Operand, Target, Term0};
+use struql_ast::{Collect, Link, LinkLabel, Operand, SkolemTerm, Target};
 use token_writer::{put, put_int, put_quoted};
 
 impl Print for Value {
@@ -37,12 +37,13 @@ impl Print for Operand {
 
 /// Appends the arguments of a term.
 fn print_arguments(args: &[Operand], out: &mut Vec<u8>) -> Result<(), NoMemory>
-    ensures { IfOk result (λ _. out.new.items ≡ out.old.items ++ joined (map operand_text (map operand_of args.now))) }
+    ensures { IfOk result (λ _. out.new.items
+        ≡ out.old.items ++ joined (map operand_text (map operand_of args.now))) }
 {
     print_listed(args, out)
 }
 
-impl Print for Term0 {
+impl Print for SkolemTerm {
     ghost text = { λ t. term_text (term_of t) };
 
     fn print(&self, out: &mut Vec<u8>) -> Result<(), NoMemory> {
@@ -54,7 +55,8 @@ impl Print for Term0 {
 }
 
 fn print_target(target: &Target, out: &mut Vec<u8>) -> Result<(), NoMemory>
-    ensures { IfOk result (λ _. out.new.items ≡ out.old.items ++ target_text (target_of target.now)) }
+    ensures { IfOk result (λ _. out.new.items
+        ≡ out.old.items ++ target_text (target_of target.now)) }
 {
     match target {
         Target::Plain(operand) => operand.print(out),

@@ -18,7 +18,7 @@ use Rattle.struql_text.specs.declared.keyword.Keyword.TheVariants as words
 use Rattle.struql_text.specs.Terminals.{from_to, is_keyword, name_value, operand_value, operand_span, constant_value}
 use Rattle.struql_text.specs.Expression.{expression_within, keyword}
 use Rattle.struql_text.specs.Grammar as text
-use Rattle.struql_laws.proofs.TokenParts.{is_that}
+use Rattle.struql_text.proofs.TokenParts.{is_that}
 use Rattle.struql_round.specs.ShownParts.{step_kept, condition_kept, ShowsName, ShowsValue, ShowsOperand, ShowsStep, ShowsMore, ShowsListed, ShowsPlain, ShowsCondition}
 use Rattle.struql_round.proofs.Spelled.{spelt_within}
 

@@ -1,3 +1,14 @@
 pub mod Spelled
 pub mod Conditions
 pub mod Terms
+pub mod Lexing
+pub mod Texts
+pub mod QueryTerms
+pub mod Links
+pub mod Blocks
+pub mod Whole
+pub mod Kept
+pub mod Fitting
+pub mod ParsedTerms
+pub mod ParsedConditions
+pub mod ParsedQueries

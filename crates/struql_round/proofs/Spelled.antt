@@ -6,13 +6,13 @@ use Rattle.sd_lex.specs.declared.token.Span.{Span}
 use Rattle.sd_lex.specs.declared.token.Token.{Token}
 use Rattle.sd_lex.specs.declared.token.Sign.TheVariants as signs
 use Rattle.sd_lex.specs.declared.token.TokenKind.TheVariants as kinds
-use Rattle.path_spec.specs.Regex.{Regex, label, any, empty, seq as seq_of, alt as alt_of, star as star_of}
+use Rattle.rpe.specs.Regex.{Regex, label, any, empty, seq as seq_of, alt as alt_of, star as star_of}
 use Rattle.grammar.specs.Grammar.{steps, guarded}
 use Rattle.token_reader.specs.Terminals.{is_sign}
 use Rattle.struql_text.specs.Terminals.{from_to, keyword_of}
 use Rattle.struql_text.specs.Expression.{Counted, leaf_value, bounded, leaf, star_step, post, dot_step, seq, bar_step, alt, expression, stars}
-use Rattle.struql_laws.proofs.ExpressionParts.{atoms}
-use Rattle.struql_laws.proofs.TokenParts.{is_that}
+use Rattle.struql_text.proofs.ExpressionParts.{atoms}
+use Rattle.struql_text.proofs.TokenParts.{is_that}
 use Rattle.struql_print.specs.Texts.{is_alt, is_alt_or_seq}
 use Rattle.struql_round.specs.Shown.{Wrapped, Shows, signs_after, FitsIn, Fits}
 

@@ -10,7 +10,7 @@ use Rattle.struql_ast.specs.Reading.{operand_of}
 use Rattle.struql_ast.specs.Written as tree
 use Rattle.query_spec.specs.Query.{Operand, SkolemTerm}
 use Rattle.struql_text.specs.Grammar as text
-use Rattle.struql_laws.proofs.TokenParts.{is_that}
+use Rattle.struql_text.proofs.TokenParts.{is_that}
 use Rattle.struql_round.specs.ShownParts.{ShowsMoreOperands, ShowsArguments, ShowsTerm, term_kept}
 use Rattle.struql_round.proofs.Conditions.{name_is, placed, operand_is, placed_kept}
 

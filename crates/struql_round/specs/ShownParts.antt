@@ -1,4 +1,4 @@
--- The tokens of the canonical texts of terms, links and conditions, wherever they stand, and these parts without their
+-- The tokens of the canonical texts of terms, links and conditions, wherever they are, and these parts without their
 -- places.
 use Rattle.std.specs.Prelude.{◌≡◌, ℕ, true, Some, None, List, [], ◌∷◌, ◌++◌, map}
 use Rattle.sd_value.specs.declared.Datum.TheVariants as datum
@@ -52,29 +52,49 @@ ShowsStep (expression r) tokens = Shows r tokens × Fits r 0 64
 -- values behind each other, each behind a comma
 abbrev pub ShowsMore : List Value → List Token → Type 0
 ShowsMore [] tokens = tokens ≡ []
-ShowsMore (v ∷ values) tokens = (comma : Token) × (t : Token) × (rest : List Token) × (tokens ≡ comma ∷ t ∷ rest) × (is_sign signs.Comma comma ≡ true) × ShowsValue v t × ShowsMore values rest
+ShowsMore (v ∷ values) tokens =
+    (comma : Token) × (t : Token) × (rest : List Token) × (tokens ≡ comma ∷ t ∷ rest)
+    × (is_sign signs.Comma comma ≡ true) × ShowsValue v t × ShowsMore values rest
 
 -- one value or more, with commas between them
 abbrev pub ShowsListed : List Value → List Token → Type 0
 ShowsListed [] tokens = ⊥
-ShowsListed (v ∷ values) tokens = (t : Token) × (rest : List Token) × (tokens ≡ t ∷ rest) × ShowsValue v t × ShowsMore values rest
+ShowsListed (v ∷ values) tokens =
+    (t : Token) × (rest : List Token) × (tokens ≡ t ∷ rest) × ShowsValue v t × ShowsMore values rest
 
 -- a condition that is no negation
 abbrev pub ShowsPlain : Condition → List Token → Type 0
 ShowsPlain (member c x) tokens =
-    (name : Token) × (opening : Token) × (inner : Token) × (close : Token) × (tokens ≡ name ∷ opening ∷ inner ∷ close ∷ []) × ShowsName c name × (test_of c ≡ None) × (is_sign signs.OpenParen opening ≡ true) × ShowsName x inner × (is_sign signs.CloseParen close ≡ true)
+    (name : Token) × (opening : Token) × (inner : Token) × (close : Token)
+    × (tokens ≡ name ∷ opening ∷ inner ∷ close ∷ []) × ShowsName c name × (test_of c ≡ None)
+    × (is_sign signs.OpenParen opening ≡ true) × ShowsName x inner
+    × (is_sign signs.CloseParen close ≡ true)
 ShowsPlain (kind k x) tokens =
-    (w : List ℕ) × (name : Token) × (opening : Token) × (inner : Token) × (close : Token) × (tokens ≡ name ∷ opening ∷ inner ∷ close ∷ []) × ShowsName w name × (test_of w ≡ Some k) × (is_sign signs.OpenParen opening ≡ true) × ShowsName x inner × (is_sign signs.CloseParen close ≡ true)
-ShowsPlain (compare t o u) tokens = (a : Token) × (b : Token) × (c : Token) × (tokens ≡ a ∷ b ∷ c ∷ []) × ShowsOperand t a × (op_value b ≡ Some o) × ShowsOperand u c
+    (w : List ℕ) × (name : Token) × (opening : Token) × (inner : Token) × (close : Token)
+    × (tokens ≡ name ∷ opening ∷ inner ∷ close ∷ []) × ShowsName w name × (test_of w ≡ Some k)
+    × (is_sign signs.OpenParen opening ≡ true) × ShowsName x inner
+    × (is_sign signs.CloseParen close ≡ true)
+ShowsPlain (compare t o u) tokens =
+    (a : Token) × (b : Token) × (c : Token) × (tokens ≡ a ∷ b ∷ c ∷ []) × ShowsOperand t a
+    × (op_value b ≡ Some o) × ShowsOperand u c
 ShowsPlain (path t s u) tokens =
-    (a : Token) × (first : Token) × (inner : List Token) × (second : Token) × (c : Token) × (tokens ≡ a ∷ first ∷ (inner ++ second ∷ c ∷ [])) × ShowsOperand t a × (is_sign signs.Arrow first ≡ true) × ShowsStep s inner × (is_sign signs.Arrow second ≡ true) × ShowsOperand u c
+    (a : Token) × (first : Token) × (inner : List Token) × (second : Token) × (c : Token)
+    × (tokens ≡ a ∷ first ∷ (inner ++ second ∷ c ∷ [])) × ShowsOperand t a
+    × (is_sign signs.Arrow first ≡ true) × ShowsStep s inner × (is_sign signs.Arrow second ≡ true)
+    × ShowsOperand u c
 ShowsPlain (one_of t values) tokens =
-    (a : Token) × (word : Token) × (opening : Token) × (inner : List Token) × (close : Token) × (tokens ≡ a ∷ word ∷ opening ∷ (inner ++ close ∷ [])) × ShowsOperand t a × (is_keyword words.In word ≡ true) × (is_sign signs.OpenBrace opening ≡ true) × ShowsListed values inner × (is_sign signs.CloseBrace close ≡ true)
+    (a : Token) × (word : Token) × (opening : Token) × (inner : List Token) × (close : Token)
+    × (tokens ≡ a ∷ word ∷ opening ∷ (inner ++ close ∷ [])) × ShowsOperand t a
+    × (is_keyword words.In word ≡ true) × (is_sign signs.OpenBrace opening ≡ true)
+    × ShowsListed values inner × (is_sign signs.CloseBrace close ≡ true)
 ShowsPlain (negation c) tokens = ⊥
 
 abbrev pub ShowsCondition : Condition → List Token → Type 0
 ShowsCondition (negation c) tokens =
-    (word : Token) × (opening : Token) × (inner : List Token) × (close : Token) × (tokens ≡ word ∷ opening ∷ (inner ++ close ∷ [])) × (is_keyword words.Not word ≡ true) × (is_sign signs.OpenParen opening ≡ true) × ShowsPlain c inner × (is_sign signs.CloseParen close ≡ true)
+    (word : Token) × (opening : Token) × (inner : List Token) × (close : Token)
+    × (tokens ≡ word ∷ opening ∷ (inner ++ close ∷ [])) × (is_keyword words.Not word ≡ true)
+    × (is_sign signs.OpenParen opening ≡ true) × ShowsPlain c inner
+    × (is_sign signs.CloseParen close ≡ true)
 ShowsCondition (member c x) tokens = ShowsPlain (member c x) tokens
 ShowsCondition (path t s u) tokens = ShowsPlain (path t s u) tokens
 ShowsCondition (compare t o u) tokens = ShowsPlain (compare t o u) tokens
@@ -84,16 +104,23 @@ ShowsCondition (kind k x) tokens = ShowsPlain (kind k x) tokens
 -- operands behind each other, each behind a comma
 abbrev pub ShowsMoreOperands : List Operand → List Token → Type 0
 ShowsMoreOperands [] tokens = tokens ≡ []
-ShowsMoreOperands (o ∷ operands) tokens = (comma : Token) × (t : Token) × (rest : List Token) × (tokens ≡ comma ∷ t ∷ rest) × (is_sign signs.Comma comma ≡ true) × ShowsOperand o t × ShowsMoreOperands operands rest
+ShowsMoreOperands (o ∷ operands) tokens =
+    (comma : Token) × (t : Token) × (rest : List Token) × (tokens ≡ comma ∷ t ∷ rest)
+    × (is_sign signs.Comma comma ≡ true) × ShowsOperand o t × ShowsMoreOperands operands rest
 
 -- operands with commas between them, or none
 abbrev pub ShowsArguments : List Operand → List Token → Type 0
 ShowsArguments [] tokens = tokens ≡ []
-ShowsArguments (o ∷ operands) tokens = (t : Token) × (rest : List Token) × (tokens ≡ t ∷ rest) × ShowsOperand o t × ShowsMoreOperands operands rest
+ShowsArguments (o ∷ operands) tokens =
+    (t : Token) × (rest : List Token) × (tokens ≡ t ∷ rest) × ShowsOperand o t
+    × ShowsMoreOperands operands rest
 
 abbrev pub ShowsTerm : SkolemTerm → List Token → Type 0
 ShowsTerm f tokens =
-    (name : Token) × (opening : Token) × (inner : List Token) × (close : Token) × (tokens ≡ name ∷ opening ∷ (inner ++ close ∷ [])) × ShowsName f.function name × (is_sign signs.OpenParen opening ≡ true) × ShowsArguments f.args inner × (is_sign signs.CloseParen close ≡ true)
+    (name : Token) × (opening : Token) × (inner : List Token) × (close : Token)
+    × (tokens ≡ name ∷ opening ∷ (inner ++ close ∷ [])) × ShowsName f.function name
+    × (is_sign signs.OpenParen opening ≡ true) × ShowsArguments f.args inner
+    × (is_sign signs.CloseParen close ≡ true)
 
 abbrev pub term_kept : tree.Term → SkolemTerm
 term_kept t = record { function = t.function; args = map operand_of t.args }

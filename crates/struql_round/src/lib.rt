@@ -4,7 +4,7 @@
 ghost use Rattle.std.specs.Prelude.{◌≡◌, List};
 ghost use Rattle.sd_lex.specs.declared.token.Token.{Token};
 ghost use Rattle.sd_lex.specs.declared.token.Span.{Span};
-ghost use Rattle.path_spec.specs.Regex.{Regex};
+ghost use Rattle.rpe.specs.Regex.{Regex};
 ghost use Rattle.query_spec.specs.Query.{Condition, SkolemTerm};
 ghost use Rattle.struql_ast.specs.Written.{Condition as Written, Term as WrittenTerm};
 ghost use Rattle.struql_text.specs.Expression.{expression_within};
@@ -12,18 +12,29 @@ ghost use Rattle.struql_text.specs.Grammar.{condition, term};
 ghost use Rattle.struql_round.specs.Shown.{Shows, Fits, signs_after};
 ghost use Rattle.struql_round.specs.ShownParts.{ShowsCondition, ShowsTerm, condition_kept, term_kept};
 
-/// Tokens that show an expression within the limits spell it, wherever they stand.
+mod queries;
+
+pub use queries::{parsed_queries_are_read_again, queries_are_read_again};
+
+/// Tokens that show an expression within the limits spell it, wherever they are.
 pub fn expressions_are_read_again()
-    ensures { (tree : Regex) (tokens : List Token) → Fits tree 0 64 → Shows tree tokens → (span : Span) × expression_within tokens (record { tree = tree; span = span; signs = signs_after 0 tree }) }
+    ensures { (tree : Regex) (tokens : List Token) → Fits tree 0 64 → Shows tree tokens
+        → (span : Span) × expression_within tokens (record {
+          tree = tree;
+          span = span;
+          signs = signs_after 0 tree;
+        }) }
 {}
 
-/// Tokens that show a condition spell it, wherever they stand: the tree that they spell is the
+/// Tokens that show a condition spell it, wherever they are: the tree that they spell is the
 /// condition, places aside.
 pub fn conditions_are_read_again()
-    ensures { (k : Condition) (tokens : List Token) → ShowsCondition k tokens → (w : Written) × condition expression_within tokens w × (condition_kept w ≡ k) }
+    ensures { (k : Condition) (tokens : List Token) → ShowsCondition k tokens → (w : Written)
+        × condition expression_within tokens w × (condition_kept w ≡ k) }
 {}
 
-/// Tokens that show a term spell it, wherever they stand.
+/// Tokens that show a term spell it, wherever they are.
 pub fn terms_are_read_again()
-    ensures { (f : SkolemTerm) (tokens : List Token) → ShowsTerm f tokens → (w : WrittenTerm) × term tokens w × (term_kept w ≡ f) }
+    ensures { (f : SkolemTerm) (tokens : List Token) → ShowsTerm f tokens → (w : WrittenTerm)
+        × term tokens w × (term_kept w ≡ f) }
 {}

@@ -10,7 +10,7 @@
 --            | operand op operand | operand "in" "{" const { "," const } "}"
 --   step    := name | expression
 --
--- What begins alike is said once: a name, and then either what stands in parentheses or not.
+-- What begins alike is said once: a name, and then either what is in parentheses or not.
 use Rattle.std.specs.Prelude.{List, [], ◌∷◌, ◌++◌, Option, Some, None}
 use Rattle.sd_lex.specs.declared.token.Span.{Span}
 use Rattle.sd_lex.specs.declared.token.Token.{Token}
@@ -29,7 +29,8 @@ use Rattle.struql_text.specs.Expression.{sign, keyword, Counted}
 -- ---- lists
 
 -- a comma, and one more
-abbrev pub further : {A : Type 0} → (List Token → A → Type 0) → List A → List Token → List A → Type 0
+abbrev pub further : {A : Type 0} → (List Token → A → Type 0) → List A → List Token → List A
+    → Type 0
 further P items = do
   sign signs.Comma
   item ← P
@@ -43,20 +44,25 @@ listed P = do
 
 -- ---- terms, links and collections
 
+-- a word that is no keyword
 abbrev pub name : List Token → Word → Type 0
 name = one name_value
 
+-- a variable or a constant
 abbrev pub operand : List Token → Operand → Type 0
 operand = one operand_value
 
+-- the term from the function's name to the closing parenthesis
 abbrev pub term_of : Word → List Operand → Span → Term
 term_of f args close = record { function = f.text; args = args; span = from_to f.span close }
 
+-- the end of a term without arguments
 abbrev pub no_arguments : Word → List Token → Term → Type 0
 no_arguments f = do
   close ← sign signs.CloseParen
   nothing (term_of f [] close)
 
+-- the arguments of a term, and its end
 abbrev pub some_arguments : Word → List Token → Term → Type 0
 some_arguments f = do
   args ← listed operand
@@ -69,16 +75,19 @@ arguments f = do
   sign signs.OpenParen
   either (no_arguments f) (some_arguments f)
 
+-- a function's name and its arguments
 abbrev pub term : List Token → Term → Type 0
 term = do
   f ← name
   arguments f
 
+-- arguments behind a name make a term
 abbrev pub made : Word → List Token → Target → Type 0
 made f = do
   t ← arguments f
   nothing (tree.made t)
 
+-- the name as a variable
 abbrev pub variable_of : Word → Operand
 variable_of x = Variable x.text x.span
 
@@ -92,6 +101,7 @@ source = do
   x ← name
   named_target x
 
+-- behind an operand: a name may have arguments, and a constant has none
 abbrev pub operand_target : Operand → List Token → Target → Type 0
 operand_target (Variable x span) = named_target (record { text = x; span = span })
 operand_target (Constant v span) = nothing (tree.plain (Constant v span))
@@ -102,10 +112,12 @@ target = do
   o ← operand
   operand_target o
 
+-- the place of a target
 abbrev pub target_span : Target → Span
 target_span (tree.plain o) = operand_span o
 target_span (tree.made t) = t.span
 
+-- `source -> label -> target`
 abbrev pub link : List Token → Link → Type 0
 link = do
   s ← source
@@ -113,8 +125,14 @@ link = do
   l ← one label_value
   sign signs.Arrow
   t ← target
-  nothing (record { source = s; label = l; target = t; span = from_to (target_span s) (target_span t) })
+  nothing (record {
+    source = s;
+    label = l;
+    target = t;
+    span = from_to (target_span s) (target_span t);
+  })
 
+-- `C(target)`
 abbrev pub collect : List Token → Collect → Type 0
 collect = do
   c ← name
@@ -130,6 +148,7 @@ abbrev pub call_with : Option Test → Word → Word → Span → Condition
 call_with None c x close = tree.member c.text x.text x.span (from_to c.span close)
 call_with (Some test) c x close = tree.kind test x.text x.span (from_to c.span close)
 
+-- `isInt(x)` and its like, or `C(x)`
 abbrev pub call : Word → List Token → Condition → Type 0
 call c = do
   sign signs.OpenParen
@@ -137,15 +156,18 @@ call c = do
   close ← sign signs.CloseParen
   nothing (call_with (test_of c.text) c x close)
 
+-- from the first operand to the last
 abbrev pub between : Operand → Operand → Span
 between t u = from_to (operand_span t) (operand_span u)
 
+-- an operator, and the right side
 abbrev pub comparison : Operand → List Token → Condition → Type 0
 comparison t = do
   o ← one op_value
   u ← operand
   nothing (tree.compare t o u (between t u))
 
+-- `in {..}`, with one constant or more
 abbrev pub membership : Operand → List Token → Condition → Type 0
 membership t = do
   keyword words.In
@@ -154,6 +176,7 @@ membership t = do
   close ← sign signs.CloseBrace
   nothing (tree.one_of t vs (from_to (operand_span t) close))
 
+-- an arc variable
 abbrev pub arc_step : List Token → Step → Type 0
 arc_step = do
   x ← name
@@ -161,14 +184,17 @@ arc_step = do
 
 -- conditions, by what an expression is
 module _ (expression : List Token → Counted → Type 0) where
+  -- a path expression
   abbrev pub expression_step : List Token → Step → Type 0
   expression_step = do
     e ← expression
     nothing (tree.expression e.tree e.span)
 
+  -- what is between the arrows of a path
   abbrev pub step : List Token → Step → Type 0
   step = either arc_step expression_step
 
+  -- `-> step -> u`
   abbrev pub path : Operand → List Token → Condition → Type 0
   path t = do
     sign signs.Arrow
@@ -181,15 +207,21 @@ module _ (expression : List Token → Counted → Type 0) where
   abbrev pub relation : Operand → List Token → Condition → Type 0
   relation t = either (path t) (either (membership t) (comparison t))
 
+  -- a name may be that of a test or of a collection; a constant can't
   abbrev pub behind : Operand → List Token → Condition → Type 0
-  behind (Variable x span) = either (call (record { text = x; span = span })) (relation (Variable x span))
+  behind (Variable x span) = either (call (record {
+    text = x;
+    span = span;
+  })) (relation (Variable x span))
   behind (Constant v span) = relation (Constant v span)
 
+  -- a condition without `not`
   abbrev pub plain : List Token → Condition → Type 0
   plain = do
     t ← operand
     behind t
 
+  -- `not(..)` of a condition without `not`
   abbrev pub negated : List Token → Condition → Type 0
   negated = do
     n ← keyword words.Not
@@ -198,5 +230,6 @@ module _ (expression : List Token → Counted → Type 0) where
     close ← sign signs.CloseParen
     nothing (tree.negation c (from_to n close))
 
+  -- a condition of a WHERE
   abbrev pub condition : List Token → Condition → Type 0
   condition = either negated plain

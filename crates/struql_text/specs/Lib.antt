@@ -3,3 +3,4 @@ pub mod Expression
 pub mod Grammar
 pub mod Reading
 pub mod Found
+pub mod SpelledConditions

@@ -4,7 +4,7 @@ use Rattle.sd_lex.specs.declared.token.Span.{Span}
 use Rattle.sd_lex.specs.declared.token.Token.{Token}
 use Rattle.sd_lex.specs.declared.token.Sign.{Sign}
 use Rattle.sd_lex.specs.declared.token.Sign.TheVariants as signs
-use Rattle.path_spec.specs.Regex.{empty, seq as seq_of, alt as alt_of, star as star_of}
+use Rattle.rpe.specs.Regex.{empty, seq as seq_of, alt as alt_of, star as star_of}
 use Rattle.struql_ast.specs.declared.Operand.{Operand}
 use Rattle.struql_ast.specs.declared.Operand.TheVariants.{Variable, Constant}
 use Rattle.struql_ast.specs.Written as tree
@@ -18,146 +18,188 @@ use Rattle.token_reader.specs.Terminals.{is_sign}
 use Rattle.struql_text.specs.Expression.{leaf_value, Counted, bounded}
 use Rattle.struql_text.specs.Grammar.{term_of, variable_of, target_span, call_with, between}
 
+-- the reader of a sign
 abbrev pub read_sign : Sign → List Token → Outcome Token Span
 read_sign s = take_one true (sign_value s)
 
+-- the reader of a keyword
 abbrev pub read_keyword : Keyword → List Token → Outcome Token Span
 read_keyword k = take_one true (keyword_value k)
 
 -- ---- expressions
 
+-- an expression of one token
 unfoldable pub read_leaf : ℕ → List Token → Outcome Token Counted
 read_leaf n = do
   l ← take_one true leaf_value
   give (record { tree = l.tree; span = l.span; signs = n })
 
+-- the end of `()`
 unfoldable pub read_empty_close : Span → ℕ → List Token → Outcome Token Counted
 read_empty_close opening n = do
   close ← read_sign signs.CloseParen
   give (record { tree = empty; span = from_to opening close; signs = n })
 
-unfoldable pub read_inner_close : (ℕ → List Token → Outcome Token Counted) → Span → ℕ → List Token → Outcome Token Counted
+-- an expression, and the end of its parenthesis
+unfoldable pub read_inner_close : (ℕ → List Token → Outcome Token Counted) → Span → ℕ → List Token
+    → Outcome Token Counted
 read_inner_close inner opening n = do
   e ← inner n
   close ← read_sign signs.CloseParen
   give (record { tree = e.tree; span = from_to opening close; signs = e.signs })
 
-unfoldable pub read_paren : (ℕ → List Token → Outcome Token Counted) → ℕ → List Token → Outcome Token Counted
+-- a parenthesis, with what may be in it
+unfoldable pub read_paren : (ℕ → List Token → Outcome Token Counted) → ℕ → List Token
+    → Outcome Token Counted
 read_paren inner n = do
   opening ← read_sign signs.OpenParen
   choose (is_sign signs.CloseParen) (read_empty_close opening n) (read_inner_close inner opening n)
 
+-- a star behind an expression
 unfoldable pub read_star_step : Counted → List Token → Outcome Token Counted
 read_star_step e = do
   star ← read_sign signs.Star
   give (record { tree = star_of e.tree; span = from_to e.span star; signs = e.signs })
 
 module _ (atom : ℕ → List Token → Outcome Token Counted) where
+  -- an atom with the stars behind it
   unfoldable pub read_post : ℕ → List Token → Outcome Token Counted
   read_post n = do
     a ← atom n
     iterate (is_sign signs.Star) (λ e. guard (bounded.star e.tree) (read_star_step e)) a
 
+  -- a dot, and what comes next on the path
   unfoldable pub read_dot_step : Counted → List Token → Outcome Token Counted
   read_dot_step e = do
     read_sign signs.Dot
     right ← read_post (e.signs + 1)
-    give (record { tree = seq_of e.tree right.tree; span = from_to e.span right.span; signs = right.signs })
+    give (record {
+      tree = seq_of e.tree right.tree;
+      span = from_to e.span right.span;
+      signs = right.signs;
+    })
 
+  -- a sequence
   unfoldable pub read_seq : ℕ → List Token → Outcome Token Counted
   read_seq n = do
     a ← read_post n
     iterate (is_sign signs.Dot) (λ e. guard (bounded.sign e.signs) (read_dot_step e)) a
 
+  -- a bar, and the other choice
   unfoldable pub read_bar_step : Counted → List Token → Outcome Token Counted
   read_bar_step e = do
     read_sign signs.Bar
     right ← read_seq (e.signs + 1)
-    give (record { tree = alt_of e.tree right.tree; span = from_to e.span right.span; signs = right.signs })
+    give (record {
+      tree = alt_of e.tree right.tree;
+      span = from_to e.span right.span;
+      signs = right.signs;
+    })
 
+  -- a choice
   unfoldable pub read_alt : ℕ → List Token → Outcome Token Counted
   read_alt n = do
     a ← read_seq n
     iterate (is_sign signs.Bar) (λ e. guard (bounded.sign e.signs) (read_bar_step e)) a
 
--- with so many parentheses still to open
+-- an atom, with at most n parentheses still to open
 unfoldable pub read_atom : ℕ → ℕ → List Token → Outcome Token Counted
 read_atom zero = λ n. choose (is_sign signs.OpenParen) Past (read_leaf n)
-read_atom (suc depth) = λ n. choose (is_sign signs.OpenParen) (read_paren (read_alt (read_atom depth)) n) (read_leaf n)
+read_atom (suc depth) =
+    λ n. choose (is_sign signs.OpenParen) (read_paren (read_alt (read_atom depth)) n) (read_leaf n)
 
+-- an expression, with parentheses still to open, behind n signs
 abbrev pub read_expression : ℕ → ℕ → List Token → Outcome Token Counted
 read_expression depth = read_alt (read_atom depth)
 
 -- ---- lists
 
--- a comma, and what stands behind it
-unfoldable pub read_next : {A : Type 0} → (List Token → Outcome Token A) → List Token → Outcome Token A
+-- a comma, and what is behind it
+unfoldable pub read_next : {A : Type 0} → (List Token → Outcome Token A) → List Token
+    → Outcome Token A
 read_next p = do
   read_sign signs.Comma
   p
 
-unfoldable pub read_further : {A : Type 0} → (List Token → Outcome Token A) → List A → List Token → Outcome Token (List A)
+-- one more item behind these
+unfoldable pub read_further : {A : Type 0} → (List Token → Outcome Token A) → List A → List Token
+    → Outcome Token (List A)
 read_further p items = do
   read_sign signs.Comma
   item ← p
   give (items ++ item ∷ [])
 
-unfoldable pub read_listed : {A : Type 0} → (List Token → Outcome Token A) → List Token → Outcome Token (List A)
+-- items with commas between them
+unfoldable pub read_listed : {A : Type 0} → (List Token → Outcome Token A) → List Token
+    → Outcome Token (List A)
 read_listed p = do
   first ← p
   iterate (is_sign signs.Comma) (read_further p) (first ∷ [])
 
 -- ---- terms, links and collections
 
+-- the reader of a name
 abbrev pub read_name : List Token → Outcome Token Word
 read_name = take_one true name_value
 
+-- the reader of an operand
 abbrev pub read_operand : List Token → Outcome Token Operand
 read_operand = take_one true operand_value
 
+-- the end of a term without arguments
 unfoldable pub read_no_arguments : Word → List Token → Outcome Token Term
 read_no_arguments f = do
   close ← read_sign signs.CloseParen
   give (term_of f [] close)
 
+-- the arguments of a term, and its end
 unfoldable pub read_some_arguments : Word → List Token → Outcome Token Term
 read_some_arguments f = do
   args ← read_listed read_operand
   close ← read_sign signs.CloseParen
   give (term_of f args close)
 
+-- a function's arguments
 unfoldable pub read_arguments : Word → List Token → Outcome Token Term
 read_arguments f = do
   read_sign signs.OpenParen
   choose (is_sign signs.CloseParen) (read_no_arguments f) (read_some_arguments f)
 
+-- a term
 unfoldable pub read_term : List Token → Outcome Token Term
 read_term = do
   f ← read_name
   read_arguments f
 
+-- arguments behind a name
 unfoldable pub read_made : Word → List Token → Outcome Token Target
 read_made f = do
   t ← read_arguments f
   give (tree.made t)
 
+-- behind a name: arguments, or nothing
 unfoldable pub read_named_target : Word → List Token → Outcome Token Target
-read_named_target x = choose (is_sign signs.OpenParen) (read_made x) (give (tree.plain (variable_of x)))
+read_named_target x =
+    choose (is_sign signs.OpenParen) (read_made x) (give (tree.plain (variable_of x)))
 
+-- a name or a term
 unfoldable pub read_source : List Token → Outcome Token Target
 read_source = do
   x ← read_name
   read_named_target x
 
+-- behind an operand
 unfoldable pub read_operand_target : Operand → List Token → Outcome Token Target
 read_operand_target (Variable x span) = read_named_target (record { text = x; span = span })
 read_operand_target (Constant v span) = give (tree.plain (Constant v span))
 
+-- an operand or a term
 unfoldable pub read_target : List Token → Outcome Token Target
 read_target = do
   o ← read_operand
   read_operand_target o
 
+-- a link
 unfoldable pub read_link : List Token → Outcome Token Link
 read_link = do
   s ← read_source
@@ -165,8 +207,14 @@ read_link = do
   l ← take_one true label_value
   read_sign signs.Arrow
   t ← read_target
-  give (record { source = s; label = l; target = t; span = from_to (target_span s) (target_span t) })
+  give (record {
+    source = s;
+    label = l;
+    target = t;
+    span = from_to (target_span s) (target_span t);
+  })
 
+-- an item of COLLECT
 unfoldable pub read_collect : List Token → Outcome Token Collect
 read_collect = do
   c ← read_name
@@ -177,6 +225,7 @@ read_collect = do
 
 -- ---- conditions
 
+-- a test, or a collection's member
 unfoldable pub read_call : Word → List Token → Outcome Token Condition
 read_call c = do
   read_sign signs.OpenParen
@@ -184,12 +233,14 @@ read_call c = do
   close ← read_sign signs.CloseParen
   give (call_with (test_of c.text) c x close)
 
+-- an operator, and the right side
 unfoldable pub read_comparison : Operand → List Token → Outcome Token Condition
 read_comparison t = do
   o ← take_one true op_value
   u ← read_operand
   give (tree.compare t o u (between t u))
 
+-- `in {..}`
 unfoldable pub read_membership : Operand → List Token → Outcome Token Condition
 read_membership t = do
   read_keyword words.In
@@ -198,19 +249,23 @@ read_membership t = do
   close ← read_sign signs.CloseBrace
   give (tree.one_of t vs (from_to (operand_span t) close))
 
+-- an arc variable
 unfoldable pub read_arc_step : List Token → Outcome Token Step
 read_arc_step = do
   x ← read_name
   give (tree.arc_variable x.text x.span)
 
+-- a path expression
 unfoldable pub read_expression_step : List Token → Outcome Token Step
 read_expression_step = do
   e ← read_expression 64 0
   give (tree.expression e.tree e.span)
 
+-- what is between arrows
 unfoldable pub read_step : List Token → Outcome Token Step
 read_step = choose is_name read_arc_step read_expression_step
 
+-- a path behind its first operand
 unfoldable pub read_path : Operand → List Token → Outcome Token Condition
 read_path t = do
   read_sign signs.Arrow
@@ -219,18 +274,28 @@ read_path t = do
   u ← read_operand
   give (tree.path t s u (between t u))
 
+-- behind the operand that begins a condition
 unfoldable pub read_relation : Operand → List Token → Outcome Token Condition
-read_relation t = choose (is_sign signs.Arrow) (read_path t) (choose (is_keyword words.In) (read_membership t) (read_comparison t))
+read_relation t =
+    choose (is_sign signs.Arrow) (read_path t)
+    (choose (is_keyword words.In) (read_membership t) (read_comparison t))
 
+-- behind a name, or behind a constant
 unfoldable pub read_behind : Operand → List Token → Outcome Token Condition
-read_behind (Variable x span) = choose (is_sign signs.OpenParen) (read_call (record { text = x; span = span })) (read_relation (Variable x span))
+read_behind (Variable x span) =
+    choose (is_sign signs.OpenParen) (read_call (record {
+      text = x;
+      span = span;
+    })) (read_relation (Variable x span))
 read_behind (Constant v span) = read_relation (Constant v span)
 
+-- a condition without `not`
 unfoldable pub read_plain : List Token → Outcome Token Condition
 read_plain = do
   t ← read_operand
   read_behind t
 
+-- `not(..)`
 unfoldable pub read_negated : List Token → Outcome Token Condition
 read_negated = do
   n ← read_keyword words.Not
@@ -239,5 +304,6 @@ read_negated = do
   close ← read_sign signs.CloseParen
   give (tree.negation c (from_to n close))
 
+-- a condition
 unfoldable pub read_condition : List Token → Outcome Token Condition
 read_condition = choose (is_keyword words.Not) read_negated read_plain

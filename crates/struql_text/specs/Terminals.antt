@@ -58,16 +58,19 @@ rank words.Not = 6
 rank words.In = 7
 rank words.True = 8
 
+-- the keyword found is this one
 abbrev pub is_found : Keyword → Option Keyword → Bool
 is_found k None = false
 is_found k (Some j) = nat_eq (rank j) (rank k)
 
+-- the kind of a token is this keyword
 abbrev pub is_keyword_kind : Keyword → TokenKind → Bool
 is_keyword_kind k (kinds.Name n) = is_found k (keyword_of n)
 is_keyword_kind k (kinds.Quoted q) = false
 is_keyword_kind k (kinds.Int i) = false
 is_keyword_kind k (kinds.Sign r) = false
 
+-- the token is this keyword
 abbrev pub is_keyword : Keyword → Token → Bool
 is_keyword k t = is_keyword_kind k t.kind
 
@@ -80,25 +83,30 @@ abbrev pub is_free : Option Keyword → Bool
 is_free None = true
 is_free (Some k) = false
 
+-- the kind of a token is a word that is no keyword
 abbrev pub is_name_kind : TokenKind → Bool
 is_name_kind (kinds.Name n) = is_free (keyword_of n)
 is_name_kind (kinds.Quoted q) = false
 is_name_kind (kinds.Int i) = false
 is_name_kind (kinds.Sign r) = false
 
+-- the token is a word that is no keyword
 abbrev pub is_name : Token → Bool
 is_name t = is_name_kind t.kind
 
+-- the value, where the word is no keyword
 abbrev pub named : {A : Type 0} → A → Option Keyword → Option A
 named v None = Some v
 named v (Some k) = None
 
+-- the name that a token's kind is
 abbrev pub name_kind_value : Span → TokenKind → Option Word
 name_kind_value span (kinds.Name n) = named (record { text = n; span = span }) (keyword_of n)
 name_kind_value span (kinds.Quoted q) = None
 name_kind_value span (kinds.Int i) = None
 name_kind_value span (kinds.Sign r) = None
 
+-- the name that a token is
 abbrev pub name_value : Token → Option Word
 name_value t = name_kind_value t.span t.kind
 
@@ -109,19 +117,23 @@ operand_kind_value span (kinds.Quoted q) = Some (Constant (Data (datum.Text q)) 
 operand_kind_value span (kinds.Int i) = Some (Constant (Data (datum.Int i)) span)
 operand_kind_value span (kinds.Sign r) = None
 
+-- the operand that a token is
 abbrev pub operand_value : Token → Option Operand
 operand_value t = operand_kind_value t.span t.kind
 
+-- the place of an operand
 abbrev pub operand_span : Operand → Span
 operand_span (Variable x span) = span
 operand_span (Constant v span) = span
 
+-- the constant that a token's kind is
 abbrev pub constant_kind_value : TokenKind → Option Value
 constant_kind_value (kinds.Name n) = None
 constant_kind_value (kinds.Quoted q) = Some (Data (datum.Text q))
 constant_kind_value (kinds.Int i) = Some (Data (datum.Int i))
 constant_kind_value (kinds.Sign r) = None
 
+-- the constant that a token is
 abbrev pub constant_value : Token → Option Value
 constant_value t = constant_kind_value t.kind
 
@@ -132,9 +144,11 @@ label_kind_value span (kinds.Quoted q) = Some (label.Quoted q)
 label_kind_value span (kinds.Int i) = None
 label_kind_value span (kinds.Sign r) = None
 
+-- the label that a token is
 abbrev pub label_value : Token → Option LinkLabel
 label_value t = label_kind_value t.span t.kind
 
+-- the operator that a sign is
 abbrev pub op_sign : Sign → Option Op
 op_sign signs.Eq = Some op.Eq
 op_sign signs.Ne = Some op.Ne
@@ -144,12 +158,14 @@ op_sign signs.Gt = Some op.Gt
 op_sign signs.Ge = Some op.Ge
 op_sign s = None
 
+-- the operator that a token's kind is
 abbrev pub op_kind_value : TokenKind → Option Op
 op_kind_value (kinds.Name n) = None
 op_kind_value (kinds.Quoted q) = None
 op_kind_value (kinds.Int i) = None
 op_kind_value (kinds.Sign s) = op_sign s
 
+-- the operator that a token is
 abbrev pub op_value : Token → Option Op
 op_value t = op_kind_value t.kind
 
@@ -170,9 +186,11 @@ is_head_kind (kinds.Quoted q) = false
 is_head_kind (kinds.Int i) = false
 is_head_kind (kinds.Sign s) = false
 
+-- the token is `STRUQL`
 abbrev pub is_head : Token → Bool
 is_head t = is_head_kind t.kind
 
+-- `STRUQL`, whose value is its place
 abbrev pub head_value : Token → Option Span
 head_value t = if is_head_kind t.kind then Some t.span else None
 
@@ -180,22 +198,26 @@ head_value t = if is_head_kind t.kind then Some t.span else None
 abbrev pub version_kind_value : TokenKind → Option ℕ
 version_kind_value (kinds.Name n) = None
 version_kind_value (kinds.Quoted q) = None
-version_kind_value (kinds.Int i) = if int_eq i (pos 1) then Some 1 else (if int_eq i (pos 2) then Some 2 else None)
+version_kind_value (kinds.Int i) =
+    if int_eq i (pos 1) then Some 1 else (if int_eq i (pos 2) then Some 2 else None)
 version_kind_value (kinds.Sign s) = None
 
+-- the version that a token is
 abbrev pub version_value : Token → Option ℕ
 version_value t = version_kind_value t.kind
 
+-- the kind of a token is an integer that is no version
 abbrev pub is_other_kind : TokenKind → Bool
 is_other_kind (kinds.Name n) = false
 is_other_kind (kinds.Quoted q) = false
-is_other_kind (kinds.Int i) = if int_eq i (pos 1) then false else (if int_eq i (pos 2) then false else true)
+is_other_kind (kinds.Int i) =
+    if int_eq i (pos 1) then false else (if int_eq i (pos 2) then false else true)
 is_other_kind (kinds.Sign s) = false
 
 -- an integer that is no version
 abbrev pub is_other_version : Token → Bool
 is_other_version t = is_other_kind t.kind
 
--- any other integer, for which 0 stands
+-- any other integer, for which 0 is
 abbrev pub other_version_value : Token → Option ℕ
 other_version_value t = if is_other_kind t.kind then Some 0 else None

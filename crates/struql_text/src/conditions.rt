@@ -53,7 +53,8 @@ fn span_of(operand: &Operand) -> Span
 /// A comma and a constant.
 #[tactic(auto, unfolding(crate::specs::Reading::read_next))]
 fn next_constant_at(alloc: Global, tokens: &[Token]) -> Result<(Value, &[Token]), Halt>
-    ensures { Gives (λ x. x.0) (λ x. x.1.now) result (read_next (take_one true constant_value) tokens.now) }
+    ensures { Gives (λ x. x.0) (λ x. x.1.now) result
+        (read_next (take_one true constant_value) tokens.now) }
 {
     let (_, rest) = sign_at(tokens, Sign::Comma)?;
     constant_at(alloc, rest)
@@ -65,7 +66,9 @@ fn constants_from(
     first: Value,
     tokens: &[Token],
 ) -> Result<(Vec<Value>, &[Token]), Halt>
-    ensures { Gives (λ x. x.0.items) (λ x. x.1.now) result (iterate (is_sign sign_kinds.Comma) (read_further (take_one true constant_value)) (first ∷ []) tokens.now) }
+    ensures { Gives (λ x. x.0.items) (λ x. x.1.now) result
+        (iterate (is_sign sign_kinds.Comma) (read_further (take_one true constant_value))
+        (first ∷ []) tokens.now) }
 {
     let mut items = Vec::new(alloc);
     items.push(first)?;
@@ -80,7 +83,8 @@ fn constants_from(
 
 #[tactic(auto, unfolding(crate::specs::Reading::read_listed))]
 fn constants_at(alloc: Global, tokens: &[Token]) -> Result<(Vec<Value>, &[Token]), Halt>
-    ensures { Gives (λ x. x.0.items) (λ x. x.1.now) result (read_listed (take_one true constant_value) tokens.now) }
+    ensures { Gives (λ x. x.0.items) (λ x. x.1.now) result
+        (read_listed (take_one true constant_value) tokens.now) }
 {
     let (first, rest) = constant_at(alloc, tokens)?;
     constants_from(alloc, first, rest)
@@ -121,7 +125,8 @@ fn comparison_at(
     left: Operand,
     tokens: &[Token],
 ) -> Result<(Condition, &[Token]), Halt>
-    ensures { Gives (λ x. condition_written x.0) (λ x. x.1.now) result (read_comparison left tokens.now) }
+    ensures { Gives (λ x. condition_written x.0) (λ x. x.1.now) result
+        (read_comparison left tokens.now) }
 {
     let (op, rest) = op_at(tokens)?;
     let (right, rest) = operand_at(alloc, rest)?;
@@ -144,7 +149,8 @@ fn membership_at(
     operand: Operand,
     tokens: &[Token],
 ) -> Result<(Condition, &[Token]), Halt>
-    ensures { Gives (λ x. condition_written x.0) (λ x. x.1.now) result (read_membership operand tokens.now) }
+    ensures { Gives (λ x. condition_written x.0) (λ x. x.1.now) result
+        (read_membership operand tokens.now) }
 {
     let (_, rest) = keyword_at(tokens, Keyword::In)?;
     let (_, rest) = sign_at(rest, Sign::OpenBrace)?;
@@ -162,7 +168,7 @@ fn membership_at(
     ))
 }
 
-/// What stands between the arrows of a path.
+/// What is between the arrows of a path.
 #[tactic(auto, unfolding(crate::specs::Reading::read_step, crate::specs::Reading::read_arc_step, crate::specs::Reading::read_expression_step))]
 fn step_at(alloc: Global, tokens: &[Token]) -> Result<(PathStep, &[Token]), Halt>
     ensures { Gives (λ x. step_written x.0) (λ x. x.1.now) result (read_step tokens.now) }
@@ -203,7 +209,8 @@ fn relation_at(
     first: Operand,
     tokens: &[Token],
 ) -> Result<(Condition, &[Token]), Halt>
-    ensures { Gives (λ x. condition_written x.0) (λ x. x.1.now) result (read_relation first tokens.now) }
+    ensures { Gives (λ x. condition_written x.0) (λ x. x.1.now) result
+        (read_relation first tokens.now) }
 {
     if has_sign(tokens, Sign::Arrow) {
         path_at(alloc, first, tokens)
@@ -214,10 +221,11 @@ fn relation_at(
     }
 }
 
-/// What stands behind the operand that begins a condition.
+/// What is behind the operand that begins a condition.
 #[tactic(auto, unfolding(crate::specs::Reading::read_behind))]
 fn behind_at(alloc: Global, first: Operand, tokens: &[Token]) -> Result<(Condition, &[Token]), Halt>
-    ensures { Gives (λ x. condition_written x.0) (λ x. x.1.now) result (read_behind first tokens.now) }
+    ensures { Gives (λ x. condition_written x.0) (λ x. x.1.now) result
+        (read_behind first tokens.now) }
 {
     match first {
         Operand::Variable(text, span) => {

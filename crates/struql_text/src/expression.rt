@@ -18,7 +18,7 @@ use sd_lex::{Sign, Span, Token, TokenKind};
 use std::alloc::Global;
 use token_reader::{Halt, has_sign};
 
-/// An expression, its place, and how many signs `.` and `|` stand up to its end.
+/// An expression, its place, and how many signs `.` and `|` are up to its end.
 #[derive(Drop)]
 pub struct Found {
     pub tree: Rpe,
@@ -71,7 +71,7 @@ fn leaf_at(alloc: Global, signs: u32, tokens: &[Token]) -> Result<(Found, &[Toke
     }
 }
 
-/// Whether fewer than `limit` Stars stand directly one within another at the top.
+/// Whether fewer than `limit` Stars are directly one within another at the top.
 fn has_fewer_stars(tree: &Rpe, limit: u32) -> bool
     ensures { result ≡ nat_lt (star_count (regex_of tree.now)) limit }
 {
@@ -83,7 +83,9 @@ fn has_fewer_stars(tree: &Rpe, limit: u32) -> bool
 
 /// The stars behind an expression.
 fn star_steps_at(alloc: Global, first: Found, tokens: &[Token]) -> Result<(Found, &[Token]), Halt>
-    ensures { Gives (λ x. found x.0) (λ x. x.1.now) result (iterate (is_sign sign_kinds.Star) (λ e. guard (bounded.star e.tree) (read_star_step e)) (found first) tokens.now) }
+    ensures { Gives (λ x. found x.0) (λ x. x.1.now) result
+        (iterate (is_sign sign_kinds.Star) (λ e. guard (bounded.star e.tree) (read_star_step e))
+        (found first) tokens.now) }
 {
     let mut so_far = first;
     let mut rest = tokens;
@@ -98,7 +100,8 @@ fn star_steps_at(alloc: Global, first: Found, tokens: &[Token]) -> Result<(Found
 /// One star behind an expression.
 #[tactic(auto, unfolding(crate::specs::Reading::read_star_step))]
 fn star_step_at(alloc: Global, inner: Found, tokens: &[Token]) -> Result<(Found, &[Token]), Halt>
-    ensures { Gives (λ x. found x.0) (λ x. x.1.now) result (guard (bounded.star (regex_of inner.tree)) (read_star_step (found inner)) tokens.now) }
+    ensures { Gives (λ x. found x.0) (λ x. x.1.now) result
+        (guard (bounded.star (regex_of inner.tree)) (read_star_step (found inner)) tokens.now) }
 {
     if !has_fewer_stars(&inner.tree, 64) {
         return Err(Halt::TooDeep(tokens));
@@ -119,13 +122,14 @@ pub fn alt_at<'a>(
     signs: u32,
     tokens: &'a [Token],
 ) -> Result<(Found, &'a [Token]), Halt<'a>>
-    ensures { Gives (λ x. found x.0) (λ x. x.1.now) result (read_alt (read_atom depth) signs tokens.now) }
+    ensures { Gives (λ x. found x.0) (λ x. x.1.now) result
+        (read_alt (read_atom depth) signs tokens.now) }
 {
     let (first, rest) = seq_at(alloc, depth, signs, tokens)?;
     bar_steps_at(alloc, depth, first, rest)
 }
 
-/// The signs `|` behind an expression, each with what stands behind it.
+/// The signs `|` behind an expression, each with what is behind it.
 #[cycle(expression)]
 fn bar_steps_at<'a>(
     alloc: Global,
@@ -133,7 +137,10 @@ fn bar_steps_at<'a>(
     first: Found,
     tokens: &'a [Token],
 ) -> Result<(Found, &'a [Token]), Halt<'a>>
-    ensures { Gives (λ x. found x.0) (λ x. x.1.now) result (iterate (is_sign sign_kinds.Bar) (λ e. guard (bounded.sign e.signs) (read_bar_step (read_atom depth) e)) (found first) tokens.now) }
+    ensures { Gives (λ x. found x.0) (λ x. x.1.now) result
+        (iterate (is_sign sign_kinds.Bar)
+        (λ e. guard (bounded.sign e.signs) (read_bar_step (read_atom depth) e)) (found first)
+        tokens.now) }
 {
     let mut so_far = first;
     let mut rest = tokens;
@@ -153,7 +160,9 @@ fn bar_step_at<'a>(
     left: Found,
     tokens: &'a [Token],
 ) -> Result<(Found, &'a [Token]), Halt<'a>>
-    ensures { Gives (λ x. found x.0) (λ x. x.1.now) result (guard (bounded.sign left.signs) (read_bar_step (read_atom depth) (found left)) tokens.now) }
+    ensures { Gives (λ x. found x.0) (λ x. x.1.now) result
+        (guard (bounded.sign left.signs) (read_bar_step (read_atom depth) (found left))
+        tokens.now) }
 {
     if left.signs >= 1023 {
         return Err(Halt::TooDeep(tokens));
@@ -174,13 +183,14 @@ fn seq_at<'a>(
     signs: u32,
     tokens: &'a [Token],
 ) -> Result<(Found, &'a [Token]), Halt<'a>>
-    ensures { Gives (λ x. found x.0) (λ x. x.1.now) result (read_seq (read_atom depth) signs tokens.now) }
+    ensures { Gives (λ x. found x.0) (λ x. x.1.now) result
+        (read_seq (read_atom depth) signs tokens.now) }
 {
     let (first, rest) = post_at(alloc, depth, signs, tokens)?;
     dot_steps_at(alloc, depth, first, rest)
 }
 
-/// The signs `.` behind an expression, each with what stands behind it.
+/// The signs `.` behind an expression, each with what is behind it.
 #[cycle(expression)]
 fn dot_steps_at<'a>(
     alloc: Global,
@@ -188,7 +198,10 @@ fn dot_steps_at<'a>(
     first: Found,
     tokens: &'a [Token],
 ) -> Result<(Found, &'a [Token]), Halt<'a>>
-    ensures { Gives (λ x. found x.0) (λ x. x.1.now) result (iterate (is_sign sign_kinds.Dot) (λ e. guard (bounded.sign e.signs) (read_dot_step (read_atom depth) e)) (found first) tokens.now) }
+    ensures { Gives (λ x. found x.0) (λ x. x.1.now) result
+        (iterate (is_sign sign_kinds.Dot)
+        (λ e. guard (bounded.sign e.signs) (read_dot_step (read_atom depth) e)) (found first)
+        tokens.now) }
 {
     let mut so_far = first;
     let mut rest = tokens;
@@ -208,7 +221,9 @@ fn dot_step_at<'a>(
     left: Found,
     tokens: &'a [Token],
 ) -> Result<(Found, &'a [Token]), Halt<'a>>
-    ensures { Gives (λ x. found x.0) (λ x. x.1.now) result (guard (bounded.sign left.signs) (read_dot_step (read_atom depth) (found left)) tokens.now) }
+    ensures { Gives (λ x. found x.0) (λ x. x.1.now) result
+        (guard (bounded.sign left.signs) (read_dot_step (read_atom depth) (found left))
+        tokens.now) }
 {
     if left.signs >= 1023 {
         return Err(Halt::TooDeep(tokens));
@@ -229,7 +244,8 @@ fn post_at<'a>(
     signs: u32,
     tokens: &'a [Token],
 ) -> Result<(Found, &'a [Token]), Halt<'a>>
-    ensures { Gives (λ x. found x.0) (λ x. x.1.now) result (read_post (read_atom depth) signs tokens.now) }
+    ensures { Gives (λ x. found x.0) (λ x. x.1.now) result
+        (read_post (read_atom depth) signs tokens.now) }
 {
     let (atom, rest) = atom_at(alloc, depth, signs, tokens)?;
     star_steps_at(alloc, atom, rest)
@@ -261,7 +277,8 @@ fn paren_at<'a>(
     signs: u32,
     tokens: &'a [Token],
 ) -> Result<(Found, &'a [Token]), Halt<'a>>
-    ensures { Gives (λ x. found x.0) (λ x. x.1.now) result (read_paren (read_alt (read_atom depth)) signs tokens.now) }
+    ensures { Gives (λ x. found x.0) (λ x. x.1.now) result
+        (read_paren (read_alt (read_atom depth)) signs tokens.now) }
 {
     let (open, rest) = sign_at(tokens, Sign::OpenParen)?;
     if has_sign(rest, Sign::CloseParen) {

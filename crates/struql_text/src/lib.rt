@@ -4,11 +4,13 @@
 mod conditions;
 mod expression;
 mod keyword;
+mod laws;
 mod terms;
 mod tokens;
 
 pub use conditions::condition_at;
 pub use expression::from_to;
 pub use keyword::{Keyword, Word, keyword_of};
+pub use laws::conditions_are_read_as_spelled;
 pub use terms::{collect_at, link_at, term_at};
 pub use tokens::{has_keyword, keyword_at, name_at, sign_at};

@@ -14,7 +14,7 @@ use crate::keyword::Word;
 use crate::tokens::{label_at, name_at, operand_at, sign_at};
 use sd_lex::{Sign, Span, Token};
 use std::alloc::Global;
-use struql_ast::{Collect, Link, Operand, Target, Term0};
+use struql_ast::{Collect, Link, Operand, SkolemTerm, Target};
 use token_reader::{Halt, has_sign};
 
 /// A comma and an operand.
@@ -32,7 +32,8 @@ fn operands_from(
     first: Operand,
     tokens: &[Token],
 ) -> Result<(Vec<Operand>, &[Token]), Halt>
-    ensures { Gives (λ x. x.0.items) (λ x. x.1.now) result (iterate (is_sign sign_kinds.Comma) (read_further read_operand) (first ∷ []) tokens.now) }
+    ensures { Gives (λ x. x.0.items) (λ x. x.1.now) result
+        (iterate (is_sign sign_kinds.Comma) (read_further read_operand) (first ∷ []) tokens.now) }
 {
     let mut items = Vec::new(alloc);
     items.push(first)?;
@@ -55,8 +56,13 @@ fn operands_at(alloc: Global, tokens: &[Token]) -> Result<(Vec<Operand>, &[Token
 
 /// The arguments of a function, which make its name a term.
 #[tactic(auto, unfolding(crate::specs::Reading::read_arguments, crate::specs::Reading::read_no_arguments, crate::specs::Reading::read_some_arguments))]
-fn arguments_at(alloc: Global, function: Word, tokens: &[Token]) -> Result<(Term0, &[Token]), Halt>
-    ensures { Gives (λ x. term_written x.0) (λ x. x.1.now) result (read_arguments function tokens.now) }
+fn arguments_at(
+    alloc: Global,
+    function: Word,
+    tokens: &[Token],
+) -> Result<(SkolemTerm, &[Token]), Halt>
+    ensures { Gives (λ x. term_written x.0) (λ x. x.1.now) result
+        (read_arguments function tokens.now) }
 {
     let (_, rest) = sign_at(tokens, Sign::OpenParen)?;
     let (args, rest) = if has_sign(rest, Sign::CloseParen) {
@@ -68,7 +74,7 @@ fn arguments_at(alloc: Global, function: Word, tokens: &[Token]) -> Result<(Term
     let span = from_to(function.span, close);
     let function = function.text;
     Ok((
-        Term0 {
+        SkolemTerm {
             function,
             args,
             span,
@@ -79,17 +85,18 @@ fn arguments_at(alloc: Global, function: Word, tokens: &[Token]) -> Result<(Term
 
 /// A term.
 #[tactic(auto, unfolding(crate::specs::Reading::read_term))]
-pub fn term_at(alloc: Global, tokens: &[Token]) -> Result<(Term0, &[Token]), Halt>
+pub fn term_at(alloc: Global, tokens: &[Token]) -> Result<(SkolemTerm, &[Token]), Halt>
     ensures { Gives (λ x. term_written x.0) (λ x. x.1.now) result (read_term tokens.now) }
 {
     let (function, rest) = name_at(alloc, tokens)?;
     arguments_at(alloc, function, rest)
 }
 
-/// What a name is by what stands behind it: a term or a variable.
+/// What a name is by what is behind it: a term or a variable.
 #[tactic(auto, unfolding(crate::specs::Reading::read_named_target, crate::specs::Reading::read_made))]
 fn named_target_at(alloc: Global, name: Word, tokens: &[Token]) -> Result<(Target, &[Token]), Halt>
-    ensures { Gives (λ x. target_written x.0) (λ x. x.1.now) result (read_named_target name tokens.now) }
+    ensures { Gives (λ x. target_written x.0) (λ x. x.1.now) result
+        (read_named_target name tokens.now) }
 {
     if has_sign(tokens, Sign::OpenParen) {
         let (term, rest) = arguments_at(alloc, name, tokens)?;

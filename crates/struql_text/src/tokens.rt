@@ -51,7 +51,8 @@ fn is_name(token: &Token) -> bool
 
 /// This keyword at the front, and its place.
 pub fn keyword_at(tokens: &[Token], keyword: Keyword) -> Result<(Span, &[Token]), Halt>
-    ensures { Gives (λ x. x.0) (λ x. x.1.now) result (take_one true (keyword_value keyword) tokens.now) }
+    ensures { Gives (λ x. x.0) (λ x. x.1.now) result
+        (take_one true (keyword_value keyword) tokens.now) }
 {
     if let [first, rest @ ..] = tokens {
         if is_keyword(first, keyword) {

@@ -1,9 +1,9 @@
 //! A wire over the system's sockets: one connection after another.
 #![tactic(auto)]
 
-ghost use Rattle.std.specs.Prelude.{◌≡◌, ◌^◌, ◌-◌, None, Err, false, IsSome, IfOk, OnOk, OnErr, MatchResult};
+ghost use Rattle.std.specs.Prelude.{◌≡◌, None, Err, false, IsSome, IfOk, OnOk, OnErr, MatchResult};
 ghost use Rattle.wire.specs.Accounts.{up};
-ghost use Rattle.tcp_wire.specs.TcpState.{IsPieceOf, IsNextIn, MissesNext, let_go};
+ghost use Rattle.tcp_wire.specs.TcpState.{IsPieceOf, IsNextIn, MissesNext, let_go, told_of};
 
 use edge_io::Failed;
 use sd_value::Str;
@@ -26,8 +26,8 @@ struct Peer<S> {
 
 /// Connections to 127.0.0.1, one after another. A connection stays in hand until it is closed, a send to it fails or it
 /// is lost, or until the event after the end of its input is asked for; only then the next one is taken. So a client
-/// that connects and sends nothing holds up the others. The wire tells nothing of what its connections send and take,
-/// and the count of failed sends of each stands at its last value, where every failure counts as a rise.
+/// that connects and sends nothing holds up the others. The wire reports nothing of what its connections send and take,
+/// and the count of failed sends of each is at its last value, where every failure counts as a rise.
 #[derive(Drop)]
 pub struct TcpWire<'r, R: Net> {
     net: &'r R,
@@ -82,7 +82,8 @@ impl<'r, R: Net> TcpWire<'r, R> {
         requires { self.old.hand ≡ None }
         ensures event { IfOk result (λ event. IsNextIn self.old event self.new) }
         ensures fine { OnOk result (self.new.next_faults ≡ self.old.next_faults) }
-        ensures err { OnErr result ((result ≡ Err WireEnd.Failed) × (self.new ≡ record self.old { next_faults = up self.old.next_faults })) }
+        ensures err { OnErr result ((result ≡ Err WireEnd.Failed)
+            × (self.new ≡ record self.old { next_faults = up self.old.next_faults })) }
     {
         if self.left == 0 {
             return Ok(WireEvent::Done);
@@ -127,7 +128,8 @@ impl<'r, R: Net> TcpWire<'r, R> {
     /// Listens at 127.0.0.1.
     fn bind(&mut self, port: u16, connections: u64) -> Result<(), Failed>
         ensures ok { OnOk result (self.new ≡ record self.old { left = connections }) }
-        ensures err { OnErr result (self.new ≡ record self.old { next_faults = up self.old.next_faults }) }
+        ensures err { OnErr result (self.new
+            ≡ record self.old { next_faults = up self.old.next_faults }) }
     {
         let address = SocketAddr::from(SocketAddrV4::new(Ipv4Addr::LOCALHOST, port));
         match self.net.bind(address) {
@@ -145,7 +147,8 @@ impl<'r, R: Net> TcpWire<'r, R> {
 
     /// Sends to the connection in hand, which is let go where that fails. No other takes anything.
     fn give(&mut self, connection: u64, bytes: &[u8]) -> Result<(), Failed>
-        ensures ok { OnOk result ((connection ≡ self.old.opened) × IsSome self.old.hand × (self.new ≡ self.old)) }
+        ensures ok { OnOk result ((connection ≡ self.old.opened) × IsSome self.old.hand
+            × (self.new ≡ self.old)) }
         ensures err { OnErr result (self.new ≡ let_go connection self.old) }
     {
         if connection != self.opened {
@@ -211,17 +214,7 @@ fn read_piece<S: Read>(alloc: Global, stream: &mut S, connection: u64) -> Result
 }
 
 impl<R: Net> Wire for TcpWire<'_, R> {
-    ghost account = { λ w number. None };
-
-    ghost given = { λ w. None };
-
-    ghost left = { λ w. None };
-
-    ghost listens = { λ w. None };
-
-    ghost next_faults = { λ w. w.next_faults };
-
-    ghost faults = { λ w number. 2 ^ 64 - 1 };
+    ghost told = { told_of };
 
     /// Listens at 127.0.0.1.
     fn listen(&mut self, port: u16, connections: u64) -> Result<(), Failed> {

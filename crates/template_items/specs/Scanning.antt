@@ -44,7 +44,7 @@ abbrev pub text_before : Option (Mark × ℕ) → ℕ → ℕ
 text_before (Some tag) n = 0
 text_before None n = n + 1
 
--- how many bytes stand before the first tag of a body
+-- how many bytes are before the first tag of a body
 abbrev pub text_run : List ℕ → ℕ
 text_run [] = 0
 text_run (b ∷ bytes) = text_before (tag_at (b ∷ bytes)) (text_run bytes)
@@ -53,33 +53,49 @@ abbrev pub made : ItemKind → State → Item
 made kind s = record { kind = kind; place = s.place; apart = s.apart; loops = s.loops }
 
 abbrev pub fault_at : State → ℕ → Item
-fault_at s place = record { kind = kinds.Mark Fault; place = place; apart = s.apart; loops = s.loops }
+fault_at s place = record {
+  kind = kinds.Mark Fault;
+  place = place;
+  apart = s.apart;
+  loops = s.loops;
+}
 
 -- n bytes on, in this mode
 abbrev pub moved : State → Mode → ℕ → State
 moved s mode n = record { mode = mode; place = s.place + n; apart = false; loops = s.loops }
 
--- Between templates stand blanks and opening tags of templates.
+-- Between templates are blanks and opening tags of templates.
 abbrev pub front_between : State → List ℕ → Front
 front_between s [] = Ends None
 front_between s (b ∷ bytes) =
     if is_blank b then Passes (moved s Between 1) else (
-    if opens (codes "<TEMPLATE") (b ∷ bytes) then Finds (made (kinds.Mark OpenTemplate) s) (record { mode = Inside; place = s.place + 9; apart = false; loops = 0 }) else
+    if opens (codes "<TEMPLATE") (b ∷ bytes) then Finds (made (kinds.Mark OpenTemplate) s) (record {
+      mode = Inside;
+      place = s.place + 9;
+      apart = false;
+      loops = 0;
+    }) else
     Ends (Some (fault_at s s.place)))
 
 -- where bytes are read behind a tag of a body
 abbrev pub behind_tag : State → Mark → ℕ → State
 behind_tag s OpenFormat n = moved s Inside n
 behind_tag s OpenChoice n = moved s Inside n
-behind_tag s OpenRepeat n = record { mode = Inside; place = s.place + n; apart = false; loops = s.loops + 1 }
+behind_tag s OpenRepeat n = record {
+  mode = Inside;
+  place = s.place + n;
+  apart = false;
+  loops = s.loops + 1;
+}
 behind_tag s EndTemplate n = moved s Between n
 behind_tag s mark n = moved s Body n
 
 abbrev pub front_tag : State → List ℕ → Option (Mark × ℕ) → Front
 front_tag s bytes (Some (mark, n)) = Finds (made (kinds.Mark mark) s) (behind_tag s mark n)
-front_tag s bytes None = Finds (made (kinds.Text (take (text_run bytes) bytes)) s) (moved s Body (text_run bytes))
+front_tag s bytes None =
+    Finds (made (kinds.Text (take (text_run bytes) bytes)) s) (moved s Body (text_run bytes))
 
--- In a body stand tags, and all other bytes are text.
+-- In a body are tags, and all other bytes are text.
 abbrev pub front_body : State → List ℕ → Front
 front_body s [] = Ends None
 front_body s (b ∷ bytes) = front_tag s (b ∷ bytes) (tag_at (b ∷ bytes))
@@ -98,16 +114,28 @@ fault_place (IntOutOfRange place) = place
 fault_place NoMemory = 0
 
 abbrev pub front_token : State → Result token.Token LexRefusal → Front
-front_token s (Ok t) = Finds (made (kinds.Token t.kind) s) (record { mode = Inside; place = t.span.«end»; apart = false; loops = s.loops })
+front_token s (Ok t) =
+    Finds (made (kinds.Token t.kind) s) (record {
+      mode = Inside;
+      place = t.span.«end»;
+      apart = false;
+      loops = s.loops;
+    })
 front_token s (Err e) = Ends (Some (fault_at s (fault_place e)))
 
--- Within an opening tag stand blanks, tokens, `@` and `#`, up to the first `>` that is in no quoted text.
+-- Within an opening tag are blanks, tokens, `@` and `#`, up to the first `>` that is in no quoted text.
 abbrev pub front_inside : State → List ℕ → Front
 front_inside s [] = Ends (Some (fault_at s s.place))
 front_inside s (b ∷ bytes) =
-    if is_blank b then Passes (record { mode = Inside; place = s.place + 1; apart = true; loops = s.loops }) else (
+    if is_blank b then Passes (record {
+      mode = Inside;
+      place = s.place + 1;
+      apart = true;
+      loops = s.loops;
+    }) else (
     if nat_eq b 62 then Finds (made (kinds.Mark Close) s) (moved s Body 1) else (
-    if nat_eq b 64 then Finds (made (kinds.Mark (if starts_label bytes then HereOf else Here)) s) (moved s Inside 1) else (
+    if nat_eq b 64 then Finds (made (kinds.Mark (if starts_label bytes then HereOf else Here)) s)
+    (moved s Inside 1) else (
     if nat_eq b 35 then Finds (made (kinds.Mark Hash) s) (moved s Inside 1) else
     front_token s (lexeme s.place (b ∷ bytes)))))
 
@@ -116,7 +144,7 @@ front_in Between = front_between
 front_in Body = front_body
 front_in Inside = front_inside
 
--- what stands at the place of this state
+-- what is at the place of this state
 abbrev pub front : List ℕ → State → Front
 front bytes s = front_in s.mode s (drop s.place bytes)
 
@@ -126,9 +154,13 @@ last_items (Some item) = item ∷ []
 
 -- From this state on the bytes are these items.
 pub data Scans (bytes : List ℕ) : State → List Item → Type 0 where
-  passes : {s : State} {items : List Item} (next : State) → front bytes s ≡ Passes next → Scans bytes next items → Scans bytes s items
-  finds : {s : State} {items : List Item} (item : Item) (next : State) (more : List Item) → front bytes s ≡ Finds item next → items ≡ item ∷ more → Scans bytes next more → Scans bytes s items
-  ends : {s : State} {items : List Item} (last : Option Item) → front bytes s ≡ Ends last → items ≡ last_items last → Scans bytes s items
+  passes : {s : State} {items : List Item} (next : State) → front bytes s ≡ Passes next
+      → Scans bytes next items → Scans bytes s items
+  finds : {s : State} {items : List Item} (item : Item) (next : State) (more : List Item)
+      → front bytes s ≡ Finds item next → items ≡ item ∷ more → Scans bytes next more
+      → Scans bytes s items
+  ends : {s : State} {items : List Item} (last : Option Item) → front bytes s ≡ Ends last
+      → items ≡ last_items last → Scans bytes s items
 
 abbrev pub first_state : State
 first_state = record { mode = Between; place = 0; apart = false; loops = 0 }

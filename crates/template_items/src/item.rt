@@ -24,7 +24,7 @@ pub enum Mark {
     HereOf,
     /// `#`.
     Hash,
-    /// What can't stand here: no token, no opening tag, or the end of the text within an opening tag.
+    /// What can't be here: no token, no opening tag, or the end of the text within an opening tag.
     Fault,
 }
 
@@ -42,9 +42,9 @@ pub struct Item {
     pub kind: ItemKind,
     /// The byte at which it begins, or that of the fault.
     pub place: u64,
-    /// Whether a blank stands before it, within an opening tag.
+    /// Whether a blank is before it, within an opening tag.
     pub apart: bool,
-    /// How many `<SFOR` stand before it in its template.
+    /// How many `<SFOR` are before it in its template.
     pub loops: u32,
 }
 
@@ -67,7 +67,7 @@ pub struct State {
     pub loops: u32,
 }
 
-/// What stands at a place.
+/// What is at a place.
 #[derive(Debug, Drop)]
 pub enum Front {
     /// A blank, and then what the state says.

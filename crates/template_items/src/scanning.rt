@@ -78,7 +78,7 @@ fn tag_at(bytes: &[u8]) -> Option<(Mark, usize)>
     }
 }
 
-/// How many bytes stand before the first tag of a body.
+/// How many bytes are before the first tag of a body.
 fn text_len(bytes: &[u8]) -> usize
     ensures is { result ≡ text_run bytes.now }
     ensures within { result ≤ length bytes.now }
@@ -132,7 +132,7 @@ fn moved(state: State, mode: Mode, n: usize) -> State
     }
 }
 
-/// What stands between templates.
+/// What is between templates.
 fn front_between(bytes: &[u8], state: State) -> Front
     requires place { state.place + length bytes.now < 2 ^ 32 }
     requires few { state.loops ≤ state.place }
@@ -180,7 +180,7 @@ fn behind_tag(state: State, mark: Mark, n: usize) -> State
     }
 }
 
-/// What stands in a body.
+/// What is in a body.
 fn front_body(alloc: Global, bytes: &[u8], state: State) -> Result<Front, NoMemory>
     requires place { state.place + length bytes.now < 2 ^ 32 }
     requires few { state.loops ≤ state.place }
@@ -245,7 +245,8 @@ fn lexeme_at(alloc: Global, bytes: &[u8], at: u64) -> Result<Token, LexRefusal>
 fn front_token(alloc: Global, bytes: &[u8], state: State) -> Result<Front, NoMemory>
     requires place { state.place < length bytes.now }
     requires few { state.loops ≤ state.place }
-    ensures is { IfOk result (λ f. f ≡ front_token state (lexeme state.place (drop state.place bytes.now))) }
+    ensures is { IfOk result
+        (λ f. f ≡ front_token state (lexeme state.place (drop state.place bytes.now))) }
     ensures on { IfOk result (λ f. GoesOn (length bytes.now) state f) }
 {
     match lexeme_at(alloc, bytes, state.place) {
@@ -263,7 +264,7 @@ fn front_token(alloc: Global, bytes: &[u8], state: State) -> Result<Front, NoMem
     }
 }
 
-/// What stands within an opening tag.
+/// What is within an opening tag.
 fn front_inside(alloc: Global, bytes: &[u8], state: State) -> Result<Front, NoMemory>
     requires place { state.place ≤ length bytes.now }
     requires few { state.loops ≤ state.place }
@@ -301,7 +302,7 @@ fn front_inside(alloc: Global, bytes: &[u8], state: State) -> Result<Front, NoMe
     }
 }
 
-/// What stands at the place of the state.
+/// What is at the place of the state.
 fn front(alloc: Global, bytes: &[u8], state: State) -> Result<Front, NoMemory>
     requires place { state.place ≤ length bytes.now }
     requires few { state.loops ≤ state.place }
@@ -330,7 +331,8 @@ fn ended(mut items: Vec<Item>, last: Option<Item>) -> Result<Vec<Item>, NoMemory
 pub fn items(alloc: Global, bytes: &[u8]) -> Result<Vec<Item>, NoMemory>
     requires { length bytes.now < 2 ^ 32 }
     ensures exact { IfOk result (λ v. AreItems bytes.now v.items) }
-    ensures only { (items : List AnyItem) → AreItems bytes.now items → IfOk result (λ v. v.items ≡ items) }
+    ensures only { (items : List AnyItem) → AreItems bytes.now items
+        → IfOk result (λ v. v.items ≡ items) }
 {
     let mut items = Vec::new(alloc);
     let mut state = State {

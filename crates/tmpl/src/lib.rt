@@ -21,6 +21,7 @@ impl Model for Word {
 }
 
 impl Word {
+    /// Its labels.
     pub fn labels(&self) -> &[Str]
         ensures { result.now ≡ self.now }
     {
@@ -28,8 +29,9 @@ impl Word {
     }
 }
 
-/// Where an expression's words begin: at the value that the template presents, at a loop's value, the
-/// loops of a template being numbered from 0 in the order of the text, or at each value of a collection.
+/// Where an expression's words begin: at the value that the template presents, at a loop's value,
+/// the loops of a template being numbered from 0 in the order of the text, or at each value of a
+/// collection.
 #[derive(Drop)]
 pub enum WordRoot {
     Here,
@@ -37,12 +39,15 @@ pub enum WordRoot {
     Collection(Str),
 }
 
+/// The values that a word reaches from where it begins.
 #[derive(Drop)]
 pub struct Expr {
     pub root: WordRoot,
     pub word: Word,
 }
 
+/// How the values of an expression are put in order: by a key if one is given, and with a text
+/// between two of them.
 #[derive(Drop)]
 pub struct Order {
     pub key: Option<Word>,
@@ -50,13 +55,18 @@ pub struct Order {
     pub delimiter: Option<Str>,
 }
 
+/// How a value is shown.
 #[derive(Drop)]
 pub enum Mode {
+    /// As its text.
     Plain,
+    /// By its own template, in place.
     Embed,
+    /// As a link, whose label the word finds from the value; without a word the value is the label.
     Link(Option<Word>),
 }
 
+/// An SFMT: the values of an expression, shown one after another.
 #[derive(Drop)]
 pub struct Format {
     pub values: Expr,
@@ -64,6 +74,7 @@ pub struct Format {
     pub order: Order,
 }
 
+/// A comparison of a template.
 #[derive(Drop)]
 pub enum Cmp {
     Eq,
@@ -74,6 +85,7 @@ pub enum Cmp {
     Ge,
 }
 
+/// What a choice compares the values of its expression with.
 #[derive(Drop)]
 pub struct Against {
     pub compare: Cmp,
@@ -90,6 +102,7 @@ pub enum Part {
     Repeat(Repeat),
 }
 
+/// An SIF: one body or another, as a test of an expression's values says.
 #[cycle(part)]
 #[derive(Drop)]
 pub struct Choice {
@@ -100,6 +113,7 @@ pub struct Choice {
     pub other: Vec<Part>,
 }
 
+/// An SFOR: a body once for each value of an expression.
 #[cycle(part)]
 #[derive(Drop)]
 pub struct Repeat {
@@ -109,6 +123,7 @@ pub struct Repeat {
     pub body: Vec<Part>,
 }
 
+/// The body of a template.
 #[derive(Drop)]
 pub struct Template {
     pub parts: Vec<Part>,
@@ -121,7 +136,8 @@ pub struct NamedTemplate {
     pub template: u32,
 }
 
-/// A file of templates, its function templates and its collection templates each in the order of the file.
+/// A file of templates, its function templates and its collection templates each in the order of
+/// the file.
 pub struct Templates {
     functions: Vec<NamedTemplate>,
     collections: Vec<NamedTemplate>,
@@ -172,18 +188,21 @@ impl Templates {
         self.bodies.len()
     }
 
+    /// The function templates, in the order of the file.
     pub fn functions(&self) -> &[NamedTemplate]
         ensures { map named_of result.now ≡ (file_of self.now).functions }
     {
         self.functions.as_slice()
     }
 
+    /// The collection templates, in the order of the file.
     pub fn collections(&self) -> &[NamedTemplate]
         ensures { map named_of result.now ≡ (file_of self.now).collections }
     {
         self.collections.as_slice()
     }
 
+    /// The template of this number.
     pub fn template(&self, number: u32) -> &Template
         requires { number < length (file_of self.now).bodies }
         ensures { template_body result.now ≡ get_or (file_of self.now).bodies number done }

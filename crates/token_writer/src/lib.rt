@@ -6,7 +6,10 @@ ghost use Rattle.std.specs.Fmt.{signed_decimal};
 ghost use Rattle.std.specs.List.{flat_map};
 ghost use Rattle.token_writer.specs.Writing.{quoted_text, escaped_byte};
 
+mod laws;
+
 use itoa::Buffer;
+pub use laws::{number_is_its_token, quoted_text_is_its_token};
 use sd_value::NoMemory;
 
 /// Appends bytes as they are. After `NoMemory` what `out` holds is not said, here as in all writers.
@@ -27,7 +30,7 @@ pub fn put_int(n: i64, out: &mut Vec<u8>) -> Result<(), NoMemory>
 }
 
 /// Appends a text in quotes. A quote, a backslash, a line feed, a carriage return and a tab are
-/// escaped, and every other byte stands as it is.
+/// escaped, and every other byte is as it is.
 pub fn put_quoted(text: &[u8], out: &mut Vec<u8>) -> Result<(), NoMemory>
     ensures { IfOk result (λ _. out.new.items ≡ out.old.items ++ quoted_text text.now) }
 {
@@ -37,7 +40,7 @@ pub fn put_quoted(text: &[u8], out: &mut Vec<u8>) -> Result<(), NoMemory>
     Ok(())
 }
 
-/// The bytes of a text as they stand between quotes.
+/// The bytes of a text as they are between quotes.
 fn put_escaped(text: &[u8], out: &mut Vec<u8>) -> Result<(), NoMemory>
     ensures { IfOk result (λ _. out.new.items ≡ out.old.items ++ flat_map escaped_byte text.now) }
 {

@@ -1,4 +1,4 @@
--- What a change tells of the pages that are kept.
+-- What a change reports of the pages that are kept.
 use Rattle.std.specs.Prelude.{◌≡◌, Bool, List, map}
 use Rattle.sd_value.specs.declared.Term.{Term}
 use Rattle.versions.specs.declared.Changed.{Changed}

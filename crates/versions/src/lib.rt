@@ -71,23 +71,28 @@ pub trait Versions {
         requires own { Own self.old }
         ensures own { Own self.new }
         ensures state { state self.new ≡ state self.old }
-        ensures outcome { IfOk result (λ o. IsOutcome (site (state self.old)) (templates (state self.old)) term.now o) }
-        ensures looks { IfOk result (λ o. looks (state self.old) (cache self.old) term.now (cache self.new)) }
+        ensures outcome { IfOk result (λ o. IsOutcome (site (state self.old))
+            (templates (state self.old)) term.now o) }
+        ensures looks { IfOk result (λ o. looks (state self.old) (cache self.old) term.now
+            (cache self.new)) }
         ensures err { OnErr result (cache self.new ≡ cache self.old) };
 
     /// Takes a text. Where it is accepted, the answer has a truth value for each of the terms `kept`, which is true
-    /// only where that term's outcome is as it was. After want of memory the state may be any.
+    /// only where that term's outcome is as it was. After out of memory the state may be any.
     fn change(&mut self, alloc: Global, text: &Str, kept: &[Term]) -> Result<Changed, NoMemory>
         requires own { Own self.old }
         ensures own { Own self.new }
         ensures changed { IfOk result (λ c. state self.new ≡ changed (state self.old) text.now) }
-        ensures refused { IfOk result (λ c. (c ≡ Changed.Refused) ↔ (accepts (state self.old) text.now ≡ false)) }
+        ensures refused { IfOk result (λ c. (c ≡ Changed.Refused)
+            ↔ (accepts (state self.old) text.now ≡ false)) }
         ensures nothing { result ≡ Ok Changed.Refused → state self.new ≡ state self.old }
         ensures flags { IfOk result (TellsEach (stays (state self.old) text.now) kept.now) }
-        ensures sound { IfOk result (λ c. (t : Term) (o : Outcome) → Contains kept.now t → stays (state self.old) text.now t ≡ true
+        ensures sound { IfOk result (λ c. (t : Term) (o : Outcome) → Contains kept.now t
+            → stays (state self.old) text.now t ≡ true
             → IsOutcome (site (state self.old)) (templates (state self.old)) t o
             → IsOutcome (site (state self.new)) (templates (state self.new)) t o) }
-        ensures renews { IfOk result (λ c. renews (state self.old) text.now (cache self.old) (cache self.new)) }
+        ensures renews { IfOk result (λ c. renews (state self.old) text.now (cache self.old)
+            (cache self.new)) }
         ensures found { found (cache self.new) ≡ found (cache self.old) };
 
     /// How many look-ups found what was kept. It takes no memory.

@@ -7,7 +7,7 @@ use sd_value::{NoMemory, Str, Term};
 use site_view::Pages;
 use std::alloc::Global;
 
-/// Pages whose data stand still: no text is accepted. None is kept.
+/// Pages whose data do not change: no text is accepted. None is kept.
 #[derive(Drop)]
 pub struct Still<P> {
     pub pages: P,

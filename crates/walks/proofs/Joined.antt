@@ -1,7 +1,7 @@
 -- What a search reaches is what walks join.
 use Rattle.std.proofs.Common.{◌≡◌, ℕ, true, [], ◌∷◌, ◌⊎◌, ◌↔◌, inl, inr, refl, sym, subst}
 use Rattle.sd_value.specs.declared.Value.{Value}
-use Rattle.path_spec.specs.Regex.{Word}
+use Rattle.rpe.specs.Regex.{Word}
 use Rattle.graph_spec.specs.DataGraph.{DataGraph, Name}
 use Rattle.graph_spec.specs.Walk.{Walk}
 use Rattle.automaton.specs.PositionSet.{Has}

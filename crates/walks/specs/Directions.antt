@@ -23,7 +23,7 @@ abbrev pub Closes : Table → Direction → ℕ → Type 0
 Closes t Onward p = Has t.last p
 Closes t Backward p = Has t.first p
 
--- q may stand right after p, or right before it
+-- q may be right after p, or right before it
 abbrev pub IsNext : Table → Direction → ℕ → ℕ → Type 0
 IsNext t Onward p q = Has (row t.next p) q
 IsNext t Backward p q = Has (row t.next q) p

@@ -1,6 +1,6 @@
 -- The values that walks of an automaton's words join.
 use Rattle.sd_value.specs.declared.Value.{Value}
-use Rattle.path_spec.specs.Regex.{Word}
+use Rattle.rpe.specs.Regex.{Word}
 use Rattle.graph_spec.specs.DataGraph.{DataGraph}
 use Rattle.graph_spec.specs.Walk.{Walk}
 use Rattle.automaton.specs.Table.{Table, HasWord}

@@ -28,8 +28,10 @@ Waits (x ∷ xs) v p = ((x.value ≡ v) × Has x.positions p) ⊎ Waits xs v p
 
 -- a walk from u comes to the value on this way, and the position has read its last label
 pub data Reached (G : DataGraph) (t : Table) (d : Direction) (u : Value) : Value → ℕ → Type 0 where
-  begins : {v : Value} {p : ℕ} (l : Name) → Leaves G d u l v → Opens t d p → ReadsIn t.letters p l → Reached G t d u v p
-  goes_on : {v m : Value} {p q : ℕ} (l : Name) → Reached G t d u v p → Leaves G d v l m → IsNext t d p q → ReadsIn t.letters q l → Reached G t d u m q
+  begins : {v : Value} {p : ℕ} (l : Name) → Leaves G d u l v → Opens t d p → ReadsIn t.letters p l
+      → Reached G t d u v p
+  goes_on : {v m : Value} {p q : ℕ} (l : Name) → Reached G t d u v p → Leaves G d v l m
+      → IsNext t d p q → ReadsIn t.letters q l → Reached G t d u m q
 
 -- tests of the same facts
 abbrev pub has_test : List ℕ → ℕ → Bool
@@ -69,7 +71,8 @@ abbrev pub spare : List (Value × ℕ) → BTreeMap Value (List ℕ) → ℕ
 spare pairs seen = failures (λ x. has_some (get value_cmp seen x.0) x.1) pairs
 
 -- the search has visited the new pairs too: those that it had not visited before wait
-pub record Explores (New : Value → ℕ → Type 0) (seen seen2 : BTreeMap Value (List ℕ)) (tasks tasks2 : List Task) : Type 0 where
+pub record Explores (New : Value → ℕ → Type 0) (seen seen2 : BTreeMap Value (List ℕ))
+    (tasks tasks2 : List Task) : Type 0 where
   pub visited : (v : Value) (p : ℕ) → Visits seen2 v p ↔ (Visits seen v p ⊎ New v p)
   pub waits : (v : Value) (p : ℕ) → Waits tasks2 v p → Waits tasks v p ⊎ New v p
   pub kept : (v : Value) (p : ℕ) → Waits tasks v p → Waits tasks2 v p
@@ -84,10 +87,15 @@ At value positions v p = (v ≡ value) × Has positions p
 
 -- the pairs that the steps lead to from the positions that may come next
 abbrev pub Ahead : Table → List ℕ → List Step → Value → ℕ → Type 0
-Ahead t reach steps v q = (l : Name) × Contains steps (record { label = l; end = v }) × Has reach q × ReadsIn t.letters q l
+Ahead t reach steps v q =
+    (l : Name) × Contains steps (record {
+      label = l;
+      end = v;
+    }) × Has reach q × ReadsIn t.letters q l
 
 -- the positions are sorted by what was visited at the value: the fresh ones, and all together
-pub record Sorts (seen : BTreeMap Value (List ℕ)) (value : Value) (positions fresh all : List ℕ) : Type 0 where
+pub record Sorts (seen : BTreeMap Value (List ℕ)) (value : Value)
+    (positions fresh all : List ℕ) : Type 0 where
   pub only : (p : ℕ) → Has fresh p → Has positions p × ¬ (Visits seen value p)
   pub cases : (p : ℕ) → Has positions p → Visits seen value p ⊎ Has fresh p
   pub both : (p : ℕ) → Has all p ↔ (Visits seen value p ⊎ Has positions p)
@@ -99,18 +107,22 @@ LeadsFirst G t d u v p = (l : Name) × Leaves G d u l v × Opens t d p × ReadsI
 -- the pairs that the task's pairs lead to
 abbrev pub Leads : DataGraph → Table → Direction → Task → Value → ℕ → Type 0
 Leads G t d task v q =
-    (l : Name) × Leaves G d task.value l v × ((p : ℕ) × Has task.positions p × IsNext t d p q) × ReadsIn t.letters q l
+    (l : Name) × Leaves G d task.value l v × ((p : ℕ) × Has task.positions p × IsNext t d p q)
+    × ReadsIn t.letters q l
 
 -- each pair that the pair leads to was visited
 abbrev pub IsFollowed : DataGraph → Table → Direction → BTreeMap Value (List ℕ) → Value → ℕ → Type 0
 IsFollowed G t d seen v p =
-    (l : Name) (m : Value) (q : ℕ) → Leaves G d v l m → IsNext t d p q → ReadsIn t.letters q l → Visits seen m q
+    (l : Name) (m : Value) (q : ℕ) → Leaves G d v l m → IsNext t d p q → ReadsIn t.letters q l
+    → Visits seen m q
 
 -- the search has visited what its first steps lead to, and what each visited pair leads to, unless that pair still waits
-pub record Searches (G : DataGraph) (t : Table) (d : Direction) (u : Value) (seen : BTreeMap Value (List ℕ)) (tasks : List Task) : Type 0 where
+pub record Searches (G : DataGraph) (t : Table) (d : Direction) (u : Value)
+    (seen : BTreeMap Value (List ℕ)) (tasks : List Task) : Type 0 where
   pub sound : (v : Value) (p : ℕ) → Visits seen v p → Reached G t d u v p
   pub waiting : (v : Value) (p : ℕ) → Waits tasks v p → Visits seen v p
-  pub begun : (l : Name) (v : Value) (p : ℕ) → Leaves G d u l v → Opens t d p → ReadsIn t.letters p l → Visits seen v p
+  pub begun : (l : Name) (v : Value) (p : ℕ) → Leaves G d u l v → Opens t d p
+      → ReadsIn t.letters p l → Visits seen v p
   pub followed : (v : Value) (p : ℕ) → Visits seen v p → Waits tasks v p ⊎ IsFollowed G t d seen v p
   pub start : IsSome (get value_cmp seen u)
 

@@ -27,7 +27,10 @@ impl Direction {
         value: &Value,
     ) -> Result<Vec<Step>, NoMemory>
         ensures { IfOk result (λ steps. (label : Name) (end : AnyValue) →
-            Contains steps.items (record { label = label; end = end }) ↔ Leaves (S.graph store.now) self value.now label end) }
+            Contains steps.items (record {
+              label = label;
+              end = end;
+            }) ↔ Leaves (S.graph store.now) self value.now label end) }
     {
         match self {
             Direction::Onward => store.out_all(alloc, value),
@@ -47,7 +50,8 @@ impl Direction {
 
     // The positions that may read the next label after one of the set.
     pub fn next(self, automaton: &Automaton, set: &PositionSet) -> PositionSet
-        ensures { (q : ℕ) → Has result q ↔ ((p : ℕ) × Has set.now p × IsNext automaton.now self p q) }
+        ensures { (q : ℕ) → Has result q
+            ↔ ((p : ℕ) × Has set.now p × IsNext automaton.now self p q) }
     {
         match self {
             Direction::Onward => automaton.after(set),

@@ -55,7 +55,8 @@ fn visit(
     value: Value,
     positions: PositionSet,
 ) -> Result<(), NoMemory>
-    ensures { IfOk result (λ _. Explores (At value positions) seen.old seen.new tasks.old.items tasks.new.items) }
+    ensures { IfOk result
+        (λ _. Explores (At value positions) seen.old seen.new tasks.old.items tasks.new.items) }
 {
     let Arrivals { fresh, all } = sorted(seen, &value, positions);
     if fresh.is_empty() {
@@ -99,7 +100,8 @@ fn follow<S: Store>(
     seen: &mut BTreeMap<Value, PositionSet>,
     tasks: &mut Vec<Task>,
 ) -> Result<(), NoMemory>
-    ensures { IfOk result (λ _. Explores (Leads (S.graph store.now) automaton.now direction task.now)
+    ensures { IfOk result
+        (λ _. Explores (Leads (S.graph store.now) automaton.now direction task.now)
         seen.old seen.new tasks.old.items tasks.new.items) }
 {
     let reach = direction.next(automaton, &task.positions);
@@ -117,7 +119,8 @@ fn begin<S: Store>(
     seen: &mut BTreeMap<Value, PositionSet>,
     tasks: &mut Vec<Task>,
 ) -> Result<(), NoMemory>
-    ensures { IfOk result (λ _. Explores (LeadsFirst (S.graph store.now) automaton.now direction start.now)
+    ensures { IfOk result
+        (λ _. Explores (LeadsFirst (S.graph store.now) automaton.now direction start.now)
         seen.old seen.new tasks.old.items tasks.new.items) }
 {
     let reach = direction.opening(automaton);
@@ -143,7 +146,8 @@ fn search<S: Store>(
     direction: Direction,
     start: &Value,
 ) -> Result<BTreeMap<Value, PositionSet>, NoMemory>
-    ensures { IfOk result (λ seen. Searches (S.graph store.now) automaton.now direction start.now seen []) }
+    ensures { IfOk result
+        (λ seen. Searches (S.graph store.now) automaton.now direction start.now seen []) }
 {
     let mut seen = started(alloc, start)?;
     let mut tasks = Vec::new(alloc);
@@ -181,7 +185,9 @@ fn select(
     start: &Value,
     mut seen: BTreeMap<Value, PositionSet>,
 ) -> Result<Vec<Value>, NoMemory>
-    ensures { IfOk result (λ values. ListsExactly value_cmp (HasEnd automaton.now direction start.now seen) values.items) }
+    ensures { IfOk result
+        (λ values. ListsExactly value_cmp
+        (HasEnd automaton.now direction start.now seen) values.items) }
 {
     let mut values = Vec::new(alloc);
     let _count = seen.len();
@@ -234,7 +240,9 @@ fn meets<S: Store>(
     start: &Value,
     end: &Value,
 ) -> Result<bool, NoMemory>
-    ensures { IfOk result (λ joined. IsTrue joined ↔ JoinsBy (S.graph store.now) automaton.now direction start.now end.now) }
+    ensures { IfOk result
+        (λ joined. IsTrue joined
+        ↔ JoinsBy (S.graph store.now) automaton.now direction start.now end.now) }
 {
     let seen = search(alloc, store, automaton, direction, start)?;
     Ok(has_end(automaton, direction, start, &seen, end))
@@ -247,7 +255,9 @@ pub fn from<S: Store>(
     automaton: &Automaton,
     start: &Value,
 ) -> Result<Vec<Value>, NoMemory>
-    ensures { IfOk result (λ ends. ListsExactly value_cmp (Joins (S.graph store.now) automaton.now start.now) ends.items) }
+    ensures { IfOk result
+        (λ ends. ListsExactly value_cmp
+        (Joins (S.graph store.now) automaton.now start.now) ends.items) }
 {
     joined_with(alloc, store, automaton, Direction::Onward, start)
 }
@@ -259,7 +269,9 @@ pub fn to<S: Store>(
     automaton: &Automaton,
     end: &Value,
 ) -> Result<Vec<Value>, NoMemory>
-    ensures { IfOk result (λ starts. ListsExactly value_cmp (JoinsTo (S.graph store.now) automaton.now end.now) starts.items) }
+    ensures { IfOk result
+        (λ starts. ListsExactly value_cmp
+        (JoinsTo (S.graph store.now) automaton.now end.now) starts.items) }
 {
     joined_with(alloc, store, automaton, Direction::Backward, end)
 }
@@ -273,7 +285,8 @@ pub fn joins<S: Store>(
     start: &Value,
     end: &Value,
 ) -> Result<bool, NoMemory>
-    ensures { IfOk result (λ joined. IsTrue joined ↔ Joins (S.graph store.now) automaton.now start.now end.now) }
+    ensures { IfOk result
+        (λ joined. IsTrue joined ↔ Joins (S.graph store.now) automaton.now start.now end.now) }
 {
     let leaving = store.out_all(alloc, start)?;
     let coming = store.incoming(alloc, end)?;

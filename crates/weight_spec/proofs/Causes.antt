@@ -11,7 +11,7 @@ use Rattle.query_spec.specs.Rows.{value_in}
 use Rattle.tmpl.specs.Body.{TemplateFile}
 use Rattle.page_spec.specs.Question.{Question, in_site, out, collected, template}
 use Rattle.site_spec.specs.Site.{Scope, chain, IsLabelUnder}
-use Rattle.query_site.specs.Site.{site_of}
+use Rattle.weight_spec.specs.Site.{site_of}
 use Rattle.demand_spec.specs.Reads.{MayAsk, IsRead, MayEmbed, IsNamedCollection}
 use Rattle.weight_spec.specs.Charges.{Mention, Charge, mention, link_row, edge, membership, member, collect_row, IsMention, IsCharge, IsCause}
 

@@ -1,3 +1,4 @@
-pub mod Charges
+pub mod Site
 pub mod Distinct
-pub mod Hands
+pub mod Charges
+pub mod CountsAtMost

@@ -1,4 +1,4 @@
--- What a wire tells of one connection, and what sends and closes add to it.
+-- What a wire reports of one connection, and what sends and closes add to it.
 use Rattle.std.specs.Prelude.{◌+◌, ◌-◌, ◌^◌, ℕ, zero, suc, min, List, [], ◌∷◌, ◌++◌, Option, Some, None}
 
 -- how many sends there were, the bytes that were taken, and how often the connection was closed
@@ -11,7 +11,7 @@ pub record Account : Type 0 where
 abbrev pub up : ℕ → ℕ
 up n = min (n + 1) (2 ^ 64 - 1)
 
--- a count after so many more
+-- a count after n more
 abbrev pub up_by : ℕ → ℕ → ℕ
 up_by zero count = count
 up_by (suc n) count = up_by n (up count)
@@ -19,7 +19,8 @@ up_by (suc n) count = up_by n (up count)
 -- one more send, of which these bytes were taken
 abbrev pub send_to : Option Account → List ℕ → Option Account
 send_to None bytes = None
-send_to (Some a) bytes = Some (record { sends = up a.sends; taken = a.taken ++ bytes; closes = a.closes })
+send_to (Some a) bytes =
+    Some (record { sends = up a.sends; taken = a.taken ++ bytes; closes = a.closes })
 
 -- the replies, one send each, all taken whole
 abbrev pub gain : Option Account → List (List ℕ) → Option Account

@@ -1,4 +1,4 @@
--- What a wire tells of its events and of the calls of listen.
+-- What a wire reports of its events and of the calls of listen.
 use Rattle.std.specs.Prelude.{◌≡◌, ℕ, Bool, true, false, List, [], ◌∷◌, ◌++◌, Option, Some, None, if◌then◌else◌}
 use Rattle.std.specs.List.{list_any}
 use Rattle.wire.specs.Accounts.{up}
@@ -11,9 +11,11 @@ pub record Listens : Type 0 where
   pub port : ℕ
   pub connections : ℕ
 
+-- one more call of listen
 abbrev pub add_listen : Option Listens → ℕ → ℕ → Option Listens
 add_listen None port connections = None
-add_listen (Some before) port connections = Some (record { calls = up before.calls; port = port; connections = connections })
+add_listen (Some before) port connections =
+    Some (record { calls = up before.calls; port = port; connections = connections })
 
 -- the event is the first of those left, or Done where none is left
 abbrev pub IsNextOf : Option (List WireEvent) → WireEvent → Option (List WireEvent) → Type 0
@@ -33,9 +35,12 @@ is_done Done = true
 -- One more event was given. After Done nothing is added.
 abbrev pub add_event : Option (List WireEvent) → WireEvent → Option (List WireEvent)
 add_event None event = None
-add_event (Some events) event = Some (if list_any is_done events then events else events ++ event ∷ [])
+add_event (Some events) event =
+    Some (if list_any is_done events then events else events ++ event ∷ [])
 
 -- these events were drawn, one after another, from those left
 abbrev pub IsDrawn : Option (List WireEvent) → List WireEvent → Option (List WireEvent) → Type 0
 IsDrawn before [] after = after ≡ before
-IsDrawn before (event ∷ events) after = (between : Option (List WireEvent)) × IsNextOf before event between × IsDrawn between events after
+IsDrawn before (event ∷ events) after =
+    (between : Option (List WireEvent)) × IsNextOf before event between
+    × IsDrawn between events after

@@ -1,10 +1,11 @@
 //! The connections of a server as a trait with a written meaning.
 #![tactic(auto)]
 
-ghost use Rattle.std.specs.Prelude.{◌≡◌, ◌≢◌, ◌+◌, ℕ, List, [], ◌∷◌, ◌++◌, take, length, Option, Some, IfOk, OnOk, OnErr, IsErrOf, flat_map};
+ghost use Rattle.std.specs.Prelude.{◌≡◌, ◌+◌, ℕ, List, [], ◌∷◌, ◌++◌, take, length, Option, Some, IfOk, OnOk, OnErr, IsErrOf, flat_map};
 ghost use Rattle.edge_io.specs.Counts.{Rose};
 ghost use Rattle.wire.specs.Accounts.{Account, send_to, gain, close_to, up, up_by};
-ghost use Rattle.wire.specs.Events.{add_event, IsNextOf, Listens, add_listen};
+ghost use Rattle.wire.specs.Events.{add_event, IsNextOf, add_listen};
+ghost use Rattle.wire.specs.Told.{Told, EventsStay, OtherAccountsStay, OtherFaultsStay};
 ghost use Rattle.wire.specs.declared.WireEvent.{WireEvent};
 
 use edge_io::Failed;
@@ -34,63 +35,68 @@ pub enum WireEnd {
     NoMemory,
 }
 
-/// Where events come from and replies go to. What it tells is optional, each part for itself: the account of each
-/// connection, the events given and left, and the calls of `listen`. The counts of failed calls are always told. A
-/// failing answer comes only where its count rose.
+/// Where events come from and replies go to. What it reports is optional but for the counts of failed calls: `Told` says
+/// which part. A failing answer comes only where its count rose.
 pub trait Wire {
-    ghost account: { Self → ℕ → Option Account };
+    ghost told: { Self → Told };
 
-    ghost given: { Self → Option (List WireEvent) };
-
-    ghost left: { Self → Option (List WireEvent) };
-
-    ghost listens: { Self → Option Listens };
-
-    /// How often `listen` and `next` failed.
-    ghost next_faults: { Self → ℕ };
-
-    /// How often the sends to a connection failed.
-    ghost faults: { Self → ℕ → ℕ };
-
-    /// Listens at the port for so many connections.
+    /// Listens at the port for at most this many connections.
     fn listen(&mut self, port: u16, connections: u64) -> Result<(), Failed>
-        ensures listens { listens self.new ≡ add_listen (listens self.old) port connections }
-        ensures fine { OnOk result (next_faults self.new ≡ next_faults self.old) }
-        ensures failed { OnErr result (Rose (next_faults self.old) (next_faults self.new)) }
-        ensures stays { (account self.new ≡ account self.old) × (faults self.new ≡ faults self.old)
-            × (given self.new ≡ given self.old) × (left self.new ≡ left self.old) };
+        ensures listens { (told self.new).listens
+            ≡ add_listen (told self.old).listens port connections }
+        ensures fine { OnOk result ((told self.new).next_faults ≡ (told self.old).next_faults) }
+        ensures failed { OnErr result (Rose (told self.old).next_faults
+            (told self.new).next_faults) }
+        ensures stays { ((told self.new).account ≡ (told self.old).account)
+            × ((told self.new).faults ≡ (told self.old).faults)
+            × ((told self.new).given ≡ (told self.old).given)
+            × ((told self.new).left ≡ (told self.old).left) };
 
-    /// The next event. Where the events left are told it is the first of them, or `Done` where none is left.
+    /// The next event. Where the events left are reported it is the first of them, or `Done` where none is left.
     fn next(&mut self, alloc: Global) -> Result<WireEvent, WireEnd>
-        ensures given { IfOk result (λ event. given self.new ≡ add_event (given self.old) event) }
-        ensures left { IfOk result (λ event. IsNextOf (left self.old) event (left self.new)) }
-        ensures err { OnErr result ((given self.new ≡ given self.old) × (left self.new ≡ left self.old)) }
-        ensures fine { OnOk result (next_faults self.new ≡ next_faults self.old) }
-        ensures failed { IsErrOf result WireEnd.Failed → Rose (next_faults self.old) (next_faults self.new) }
-        ensures stays { (account self.new ≡ account self.old) × (faults self.new ≡ faults self.old) × (listens self.new ≡ listens self.old) };
+        ensures given { IfOk result (λ event. (told self.new).given
+            ≡ add_event (told self.old).given event) }
+        ensures left { IfOk result (λ event. IsNextOf (told self.old).left event
+            (told self.new).left) }
+        ensures err { OnErr result (((told self.new).given ≡ (told self.old).given)
+            × ((told self.new).left ≡ (told self.old).left)) }
+        ensures fine { OnOk result ((told self.new).next_faults ≡ (told self.old).next_faults) }
+        ensures failed { IsErrOf result WireEnd.Failed
+            → Rose (told self.old).next_faults (told self.new).next_faults }
+        ensures stays { ((told self.new).account ≡ (told self.old).account)
+            × ((told self.new).faults ≡ (told self.old).faults)
+            × ((told self.new).listens ≡ (told self.old).listens) };
 
     /// Sends bytes to a connection. Where that fails, some first bytes were taken.
     fn send(&mut self, connection: u64, bytes: &[u8]) -> Result<(), Failed>
-        ensures ok { OnOk result (account self.new connection ≡ send_to (account self.old connection) bytes.now) }
-        ensures err { OnErr result ((some : ℕ) × (account self.new connection ≡ send_to (account self.old connection) (take some bytes.now))) }
-        ensures fine { OnOk result (faults self.new connection ≡ faults self.old connection) }
-        ensures failed { OnErr result (Rose (faults self.old connection) (faults self.new connection)) }
-        ensures others { (other : ℕ) → other ≢ connection → account self.new other ≡ account self.old other }
-        ensures others_fine { (other : ℕ) → other ≢ connection → faults self.new other ≡ faults self.old other }
-        ensures stays { (given self.new ≡ given self.old) × (left self.new ≡ left self.old) × (listens self.new ≡ listens self.old)
-            × (next_faults self.new ≡ next_faults self.old) };
+        ensures ok { OnOk result ((told self.new).account connection
+            ≡ send_to ((told self.old).account connection) bytes.now) }
+        ensures err { OnErr result ((some : ℕ) × ((told self.new).account connection
+            ≡ send_to ((told self.old).account connection) (take some bytes.now))) }
+        ensures fine { OnOk result ((told self.new).faults connection
+            ≡ (told self.old).faults connection) }
+        ensures failed { OnErr result (Rose ((told self.old).faults connection)
+            ((told self.new).faults connection)) }
+        ensures others { OtherAccountsStay connection (told self.old) (told self.new) }
+        ensures others_fine { OtherFaultsStay connection (told self.old) (told self.new) }
+        ensures stays { EventsStay (told self.old) (told self.new) };
 
     /// Closes a connection. It takes no memory.
     fn close(&mut self, connection: u64)
-        ensures closed { account self.new connection ≡ close_to (account self.old connection) }
-        ensures others { (other : ℕ) → other ≢ connection → account self.new other ≡ account self.old other }
-        ensures faults_stay { (other : ℕ) → faults self.new other ≡ faults self.old other }
-        ensures stays { (given self.new ≡ given self.old) × (left self.new ≡ left self.old) × (listens self.new ≡ listens self.old)
-            × (next_faults self.new ≡ next_faults self.old) };
+        ensures closed { (told self.new).account connection
+            ≡ close_to ((told self.old).account connection) }
+        ensures others { OtherAccountsStay connection (told self.old) (told self.new) }
+        ensures faults_stay { (other : ℕ)
+            → (told self.new).faults other ≡ (told self.old).faults other }
+        ensures stays { EventsStay (told self.old) (told self.new) };
 }
 
 /// What replies add to the account of a connection: one send each, and their bytes in order.
 pub fn one_delivery()
     ensures { (a : Account) (replies : List (List ℕ))
-        → gain (Some a) replies ≡ Some (record { sends = up_by (length replies) a.sends; taken = a.taken ++ flat_map (λ r. r) replies; closes = a.closes }) }
+        → gain (Some a) replies ≡ Some (record {
+          sends = up_by (length replies) a.sends;
+          taken = a.taken ++ flat_map (λ r. r) replies;
+          closes = a.closes;
+        }) }
 {}

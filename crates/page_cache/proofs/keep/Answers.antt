@@ -1,5 +1,5 @@
 use Rattle.std.proofs.Common.{◌≤◌, ℕ, List, subst, length}
-use Rattle.page_cache.specs.declared.TheConstants.{MAX_KEPT}
+use Rattle.serving_spec.specs.declared.TheConstants.{MAX_KEPT}
 use Rattle.page_cache.proofs.LookLemmas.{short_kept}
 use Rattle.page_cache.proofs.keep.Goals as goal
 

@@ -1,7 +1,6 @@
 use Rattle.std.proofs.Common.{ap}
 use Rattle.std.specs.Map.{keys_of}
-use Rattle.serve_run.specs.Serving.{told}
-use Rattle.serve_run.proofs.ServingLemmas.{serves, serves_nothing, new_kept, whole_run}
+use Rattle.serve_run.proofs.ServingLemmas.{serves, serves_in_steps, serves_nothing, no_steps, new_kept, whole_run}
 use Rattle.serve_run.proofs.serve_pages.Goals as goal
 
 pub returns-in-Ok-clause-serves : goal.returns-in-Ok-clause-serves
@@ -12,19 +11,37 @@ returns-in-Ok-clause-serves g c =
     let kept = c.in-Ok.ensures.kept in
     serves hub c.serve-end.new.hub c.args.root g.P.Pages.site g.P.Pages.templates (g.P.Pages.fixed c.args.pages) c.args.requests c.args.turns c.args.cache
     (λ p. g.P.Pages.fixed p.pages.pages) (λ p. record { capacity = p.kept.cap; terms = keys_of p.kept.entries; hits = p.hits })
-    (told (g.W.Wire.account c.args.wire.now) (g.W.Wire.faults c.args.wire.now) (g.W.Wire.given c.args.wire.now) (g.W.Wire.left c.args.wire.now))
-    (told (g.W.Wire.account c.serve-end.new.wire) (g.W.Wire.faults c.serve-end.new.wire) (g.W.Wire.given c.serve-end.new.wire) (g.W.Wire.left c.serve-end.new.wire))
-    c.serve-end.result c.tally.result run.0 run.1 run.2 run.3 run.4 run.5 c.in-Ok.ensures.none new.0 new.1 (ap g.P.Pages.fixed c.in-Ok.ensures.pages) new.2 new.3 new.4
+    (g.W.Wire.told c.args.wire.now)
+    (g.W.Wire.told c.serve-end.new.wire)
+    c.serve-end.result c.tally.result run.0 c.requires.requests run.1 run.2 run.3 run.4 run.5 c.in-Ok.ensures.none new.0 new.1 (ap g.P.Pages.fixed c.in-Ok.ensures.pages) new.2 new.3 new.4
+    (new_kept hub.pages.kept.cap c.args.cache hub.pages.hits (keys_of hub.pages.kept.entries) kept.0 (ap keys_of kept.1) kept.2) c.tally.ensures
+
+pub returns-in-Ok-clause-steps : goal.returns-in-Ok-clause-steps
+returns-in-Ok-clause-steps g c =
+    let run = c.serve-end.ensures.stands in
+    let hub = c.in-Ok.hub in
+    let new = c.in-Ok.ensures.new in
+    let kept = c.in-Ok.ensures.kept in
+    serves_in_steps hub c.serve-end.new.hub c.args.root g.P.Pages.site g.P.Pages.templates (g.P.Pages.fixed c.args.pages) c.args.requests c.args.turns c.args.cache
+    (λ p. g.P.Pages.fixed p.pages.pages) (λ p. record { capacity = p.kept.cap; terms = keys_of p.kept.entries; hits = p.hits })
+    (g.W.Wire.told c.args.wire.now)
+    (g.W.Wire.told c.serve-end.new.wire)
+    c.serve-end.result c.tally.result run.0 c.requires.requests run.1 run.2 run.3 run.4 run.5 c.in-Ok.ensures.none new.0 new.1 (ap g.P.Pages.fixed c.in-Ok.ensures.pages) new.2 new.3 new.4
     (new_kept hub.pages.kept.cap c.args.cache hub.pages.hits (keys_of hub.pages.kept.entries) kept.0 (ap keys_of kept.1) kept.2) c.tally.ensures
 
 pub returns-in-Err-clause-serves : goal.returns-in-Err-clause-serves
 returns-in-Err-clause-serves g c =
     serves_nothing c.args.root g.P.Pages.site g.P.Pages.templates (g.P.Pages.fixed c.args.pages) c.args.requests c.args.turns c.args.cache
-    (told (g.W.Wire.account c.args.wire.now) (g.W.Wire.faults c.args.wire.now) (g.W.Wire.given c.args.wire.now) (g.W.Wire.left c.args.wire.now))
+    (g.W.Wire.told c.args.wire.now)
+
+pub returns-in-Err-clause-steps : goal.returns-in-Err-clause-steps
+returns-in-Err-clause-steps g c =
+    no_steps c.args.root g.P.Pages.site g.P.Pages.templates (g.P.Pages.fixed c.args.pages) c.args.requests c.args.turns c.args.cache
+    (g.W.Wire.told c.args.wire.now)
 
 pub returns-in-Ok-clause-whole : goal.returns-in-Ok-clause-whole
 returns-in-Ok-clause-whole g c =
     λ events told_left room fine.
     let run = c.serve-end.ensures.stands in
-    whole_run c.args.turns events run.0 (g.W.Wire.left c.args.wire.now) (g.W.Wire.left c.serve-end.new.wire) c.serve-end.result told_left run.2 run.3 room
+    whole_run c.args.turns events run.0 (g.W.Wire.told c.args.wire.now).left (g.W.Wire.told c.serve-end.new.wire).left c.serve-end.result told_left run.2 run.3 room
     (λ failed. fine (c.serve-end.ensures.failed failed))

@@ -1,7 +1,8 @@
 use Rattle.std.proofs.Common.{◌≡◌, ◌+◌, ◌*◌, ◌<◌, ◌≤◌, [], ◌∷◌, length, get_or, drop, subst, arith}
 use Rattle.std.proofs.lemmas.List.{length-drop, drop_all}
+use Rattle.std.proofs.lemmas.List.Elements.{All-push}
 use Rattle.address.proofs.Targets.{first_here, three_here}
-use Rattle.address.proofs.Parsed.{IsLeft, every_append, nothing_left, plain_taken, escape_taken}
+use Rattle.address.proofs.Parsed.{IsLeft, nothing_left, plain_taken, escape_taken}
 use Rattle.address.proofs.argument.unescaped.Goals.{else-text-at-eq126-via-then-text-at-eq126+else-text-at-gt2, else-text-at-eq126-via-else-text-at-eq126}
 use Rattle.address.proofs.argument.unescaped.Goals as goal
 
@@ -15,7 +16,7 @@ loop-at-preserved-then-text-at-gt2 c =
     record {
       within = omega (arith, c.if-text-at-gt2.true);
       left = rw c.in_ok-push.ensures.items (escape_taken t c.loop-at.bytes.items (get_or t i 0) (get_or t (i + 1) 0) (get_or t (i + 2) 0) h l (drop (i + 3) t) c.if-text-at-eq126.true c.hex_value.ensures.is c.hex_value-then-text-at-gt2.ensures.is (subst (IsLeft t c.loop-at.bytes.items) d c.loop-at.invariant.left));
-      bytes = rw c.in_ok-push.ensures.items (every_append (λ b. b < 256) c.loop-at.bytes.items ((16 * h + l) ∷ []) c.loop-at.invariant.bytes (omega (arith, c.hex_value.ensures.small, c.hex_value-then-text-at-gt2.ensures.small), tt));
+      bytes = rw c.in_ok-push.ensures.items (All-push (λ b. b < 256) c.loop-at.bytes.items (16 * h + l) c.loop-at.invariant.bytes (omega (arith, c.hex_value.ensures.small, c.hex_value-then-text-at-gt2.ensures.small)));
     }
 
 pub loop-at-preserved : goal.loop-at-preserved
@@ -28,7 +29,7 @@ loop-at-preserved c =
     record {
       within = omega (arith, c.loop-at-test.true);
       left = rw c.in_ok-push-2.ensures.items (plain_taken t c.loop-at.bytes.items x (drop (i + 1) t) short (subst (IsLeft t c.loop-at.bytes.items) d c.loop-at.invariant.left));
-      bytes = rw c.in_ok-push-2.ensures.items (every_append (λ b. b < 256) c.loop-at.bytes.items (x ∷ []) c.loop-at.invariant.bytes (omega (arith, c.type_inv.text i), tt));
+      bytes = rw c.in_ok-push-2.ensures.items (All-push (λ b. b < 256) c.loop-at.bytes.items x c.loop-at.invariant.bytes (omega (arith, c.type_inv.text i)));
     }
 
 pub returns-clause-is : goal.returns-clause-is

@@ -1,6 +1,7 @@
 use Rattle.std.proofs.Common.{◌≡◌, ℕ, List, [], ◌∷◌, length, refl, subst, arith}
+use Rattle.std.proofs.lemmas.List.Elements.{All-push}
 use Rattle.page_spec.specs.Address.{IsDatum}
-use Rattle.address.proofs.Parsed.{AreLeft, every_append, one_less, no_argument, none_left}
+use Rattle.address.proofs.Parsed.{AreLeft, one_less, no_argument, none_left}
 use Rattle.address.proofs.named.arguments.Goals as goal
 
 empty : (xs : List ℕ) → length xs ≡ 0 → xs ≡ []
@@ -23,7 +24,7 @@ loop-after-preserved c =
     let left = subst (AreLeft t c.loop-after.args.items) c.in-Some.ensures.cases.0 c.loop-after.invariant.left in
     record {
       left = rw c.in_ok-push-in-Some-2.ensures.items (one_less t c.loop-after.args.items c.in-Some.field-0-0.now c.in-Some.after.now c.segment.result.0.now c.segment.result.1.now d left c.segment.ensures.parts c.segment.ensures.first c.segment.ensures.rest is);
-      kinds = rw c.in_ok-push-in-Some-2.ensures.items (every_append IsDatum c.loop-after.args.items (d ∷ []) c.loop-after.invariant.kinds (kind, tt));
+      kinds = rw c.in_ok-push-in-Some-2.ensures.items (All-push IsDatum c.loop-after.args.items d c.loop-after.invariant.kinds kind);
     }
 
 pub returns-clause-is : goal.returns-clause-is

@@ -1,5 +1,5 @@
 use Rattle.std.proofs.Common.{length}
-use Rattle.goals.specs.Known.{IsCandidate}
+use Rattle.condition_tests.specs.Known.{IsCandidate}
 use Rattle.bindings.proofs.Parts.{IsSifted}
 use Rattle.bindings.proofs.domain.within.Given as goal
 

@@ -1,5 +1,5 @@
 use Rattle.std.proofs.Common.{◌≡◌, take}
-use Rattle.goals.specs.Known.{known_part}
+use Rattle.condition_tests.specs.Known.{known_part}
 use Rattle.bindings.proofs.row.row_of.Given as goal
 
 abbrev pub invariant-loop-known : goal.invariant-loop-known

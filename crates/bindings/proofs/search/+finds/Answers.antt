@@ -1,7 +1,7 @@
 use Rattle.std.proofs.Common.{rules, ◌≡◌, ◌≤◌, ℕ, IfOk, MatchOption, IfSome, length, Some, None, ◌+◌, ◌*◌, ◌<◌, List, [], ◌++◌, slice_set, arith, subst, sym, ap, ◌∙◌, refl}
 use Rattle.std.proofs.lemmas.Option.{slice_get_within}
 use Rattle.sd_value.specs.declared.Value.{Value}
-use Rattle.goals.specs.Known.{KnownInDomains, known_part}
+use Rattle.condition_tests.specs.Known.{KnownInDomains, known_part}
 use Rattle.bindings.specs.Fits.{Fits, SomeFits, IsPassed, IsChoice, IsComplete}
 use Rattle.bindings.proofs.Known.{set_back, length-set, free_count-set, free_count}
 use Rattle.bindings.proofs.Found.{IsFruitless, fruitless-init, fruitless-step, fruitless-end, fruitful, some_passed, some_later, some_complete, known_more, last_in}

@@ -1,7 +1,7 @@
 use Rattle.std.proofs.Common.{rules, ◌≡◌, ◌≤◌, ℕ, IfOk, MatchOption, IfSome, length, Some, None, ◌+◌, ◌*◌, ◌<◌, List, [], ◌++◌, slice_set, arith, subst, sym, ap, ◌∙◌}
 use Rattle.std.proofs.lemmas.Option.{slice_get_within}
 use Rattle.sd_value.specs.declared.Value.{Value}
-use Rattle.goals.specs.Known.{KnownInDomains, known_part}
+use Rattle.condition_tests.specs.Known.{KnownInDomains, known_part}
 use Rattle.bindings.specs.Fits.{Fits, Adds, IsPassed, IsChoice, IsComplete}
 use Rattle.bindings.proofs.Known.{set_back, length-set, slice_get-set_same, free_count-set, free_count}
 use Rattle.bindings.proofs.Found.{IsHalfway, halfway-init, halfway-step, halfway-end, known_more, complete_fits, only_complete, Adds-one, Adds-same, later, from_passed, one_complete, last_in}

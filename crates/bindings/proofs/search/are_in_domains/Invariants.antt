@@ -1,7 +1,7 @@
 use Rattle.std.proofs.Common.{◌≡◌, ◌<◌, ℕ}
 use Rattle.std.specs.Prelude.{slice_get, Some}
 use Rattle.sd_value.specs.declared.Value.{Value}
-use Rattle.goals.specs.Known.{IsCandidate, is_arc}
+use Rattle.condition_tests.specs.Known.{IsCandidate, is_arc}
 use Rattle.bindings.proofs.search.are_in_domains.Given as goal
 
 abbrev pub invariant-loop-slot : goal.invariant-loop-slot

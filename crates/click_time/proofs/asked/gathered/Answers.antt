@@ -1,7 +1,7 @@
 use Rattle.std.proofs.Common.{refl}
 use Rattle.sd_value.specs.declared.Value.TheVariants.{Page}
-use Rattle.query_site.specs.Blocks.{scope_of}
-use Rattle.site_asks.proofs.Stays.{collected_stays}
+use Rattle.query_blocks.specs.Blocks.{scope_of}
+use Rattle.site_lookups.proofs.Stays.{collected_stays}
 use Rattle.click_time.proofs.asked.gathered.Goals as goal
 
 pub returns-clause-stays : goal.returns-clause-stays

@@ -1,9 +1,9 @@
 use Rattle.std.proofs.Common.{◌∙◌, List, refl, sym, subst}
 use Rattle.std.specs.Prelude.{IfSome, Some, None}
 use Rattle.tmpl.specs.Body.{TemplateFile}
-use Rattle.query_site.specs.Blocks.{scope_of}
+use Rattle.query_blocks.specs.Blocks.{scope_of}
 use Rattle.weight_spec.specs.Charges.{IsCause}
-use Rattle.weight_spec.specs.Hands.{Hands}
+use Rattle.weight_spec.specs.CountsAtMost.{CountsAtMost}
 use Rattle.click_time.specs.Told.{AreEnds}
 use Rattle.click_time.proofs.Account.{entries_put, put_at, unchanged_put, asks_put, asks_twice, asks_none}
 use Rattle.sd_value.specs.declared.Value.{Value}
@@ -15,15 +15,15 @@ use Rattle.click_time.proofs.recall.ends_first.Goals as goal
 
 pub returns-in_err-first-clause-asked : goal.returns-in_err-first-clause-asked
 returns-in_err-first-clause-asked g c =
-    asks_none (c.args.value.now, c.args.label.now) ((f : TemplateFile) → Hands (IsCause (g.A.Asker.graph c.args.asker.now) (scope_of c.args.scopes.now) f (out c.args.value.now c.args.label.now)) (g.A.Asker.count c.args.asker.now) (g.A.Asker.count c.args.asker.now)) c.args.known.now.told.entries c.args.known.now.told.entries (g.A.Asker.count c.args.asker.now) refl
+    asks_none (c.args.value.now, c.args.label.now) ((f : TemplateFile) → CountsAtMost (IsCause (g.A.Asker.graph c.args.asker.now) (scope_of c.args.scopes.now) f (out c.args.value.now c.args.label.now)) (g.A.Asker.count c.args.asker.now) (g.A.Asker.count c.args.asker.now)) c.args.known.now.told.entries c.args.known.now.told.entries (g.A.Asker.count c.args.asker.now) refl
 
 pub returns-in_err-again-clause-asked : goal.returns-in_err-again-clause-asked
 returns-in_err-again-clause-asked g c =
-    asks_none (c.args.value.now, c.args.label.now) ((f : TemplateFile) → Hands (IsCause (g.A.Asker.graph c.args.asker.now) (scope_of c.args.scopes.now) f (out c.args.value.now c.args.label.now)) (g.A.Asker.count c.args.asker.now) (g.A.Asker.count c.args.asker.now)) c.args.known.now.told.entries c.args.known.now.told.entries (g.A.Asker.count c.args.asker.now) refl
+    asks_none (c.args.value.now, c.args.label.now) ((f : TemplateFile) → CountsAtMost (IsCause (g.A.Asker.graph c.args.asker.now) (scope_of c.args.scopes.now) f (out c.args.value.now c.args.label.now)) (g.A.Asker.count c.args.asker.now) (g.A.Asker.count c.args.asker.now)) c.args.known.now.told.entries c.args.known.now.told.entries (g.A.Asker.count c.args.asker.now) refl
 
 pub returns-in_err-put-clause-asked : goal.returns-in_err-put-clause-asked
 returns-in_err-put-clause-asked g c =
-    asks_none (c.args.value.now, c.args.label.now) ((f : TemplateFile) → Hands (IsCause (g.A.Asker.graph c.args.asker.now) (scope_of c.args.scopes.now) f (out c.args.value.now c.args.label.now)) (g.A.Asker.count c.args.asker.now) (g.A.Asker.count c.args.asker.now)) c.args.known.now.told.entries c.put.new.self.told.entries (g.A.Asker.count c.args.asker.now) c.in_err-put.ensures
+    asks_none (c.args.value.now, c.args.label.now) ((f : TemplateFile) → CountsAtMost (IsCause (g.A.Asker.graph c.args.asker.now) (scope_of c.args.scopes.now) f (out c.args.value.now c.args.label.now)) (g.A.Asker.count c.args.asker.now) (g.A.Asker.count c.args.asker.now)) c.args.known.now.told.entries c.put.new.self.told.entries (g.A.Asker.count c.args.asker.now) c.in_err-put.ensures
 
 pub returns-in_err-put-clause-told : goal.returns-in_err-put-clause-told
 returns-in_err-put-clause-told g c =
@@ -31,7 +31,7 @@ returns-in_err-put-clause-told g c =
 
 pub returns-in_err-ends-clause-asked : goal.returns-in_err-ends-clause-asked
 returns-in_err-ends-clause-asked g c =
-    asks_put (c.args.value.now, c.args.label.now) None ((f : TemplateFile) → Hands (IsCause (g.A.Asker.graph c.args.asker.now) (scope_of c.args.scopes.now) f (out c.args.value.now c.args.label.now)) (g.A.Asker.count c.args.asker.now) (g.A.Asker.count c.edges_out.new.asker)) c.args.known.now.told.entries c.put.new.self.told.entries (g.A.Asker.count c.args.asker.now) (g.A.Asker.count c.edges_out.new.asker) c.requires.fresh (put_at (c.args.value.now, c.args.label.now) c.in_ok-first.first None c.args.known.now.told.entries c.put.new.self.told.entries c.in_ok-first.ensures c.in_ok-put.ensures) c.in_err-ends.ensures.counted
+    asks_put (c.args.value.now, c.args.label.now) None ((f : TemplateFile) → CountsAtMost (IsCause (g.A.Asker.graph c.args.asker.now) (scope_of c.args.scopes.now) f (out c.args.value.now c.args.label.now)) (g.A.Asker.count c.args.asker.now) (g.A.Asker.count c.edges_out.new.asker)) c.args.known.now.told.entries c.put.new.self.told.entries (g.A.Asker.count c.args.asker.now) (g.A.Asker.count c.edges_out.new.asker) c.requires.fresh (put_at (c.args.value.now, c.args.label.now) c.in_ok-first.first None c.args.known.now.told.entries c.put.new.self.told.entries c.in_ok-first.ensures c.in_ok-put.ensures) c.in_err-ends.ensures.counted
 
 pub returns-in_err-ends-clause-told : goal.returns-in_err-ends-clause-told
 returns-in_err-ends-clause-told g c =
@@ -39,7 +39,7 @@ returns-in_err-ends-clause-told g c =
 
 pub returns-in_err-kept-clause-asked : goal.returns-in_err-kept-clause-asked
 returns-in_err-kept-clause-asked g c =
-    asks_put (c.args.value.now, c.args.label.now) None ((f : TemplateFile) → Hands (IsCause (g.A.Asker.graph c.args.asker.now) (scope_of c.args.scopes.now) f (out c.args.value.now c.args.label.now)) (g.A.Asker.count c.args.asker.now) (g.A.Asker.count c.edges_out.new.asker)) c.args.known.now.told.entries c.put.new.self.told.entries (g.A.Asker.count c.args.asker.now) (g.A.Asker.count c.edges_out.new.asker) c.requires.fresh (put_at (c.args.value.now, c.args.label.now) c.in_ok-first.first None c.args.known.now.told.entries c.put.new.self.told.entries c.in_ok-first.ensures c.in_ok-put.ensures) c.in_ok-ends.ensures.counted
+    asks_put (c.args.value.now, c.args.label.now) None ((f : TemplateFile) → CountsAtMost (IsCause (g.A.Asker.graph c.args.asker.now) (scope_of c.args.scopes.now) f (out c.args.value.now c.args.label.now)) (g.A.Asker.count c.args.asker.now) (g.A.Asker.count c.edges_out.new.asker)) c.args.known.now.told.entries c.put.new.self.told.entries (g.A.Asker.count c.args.asker.now) (g.A.Asker.count c.edges_out.new.asker) c.requires.fresh (put_at (c.args.value.now, c.args.label.now) c.in_ok-first.first None c.args.known.now.told.entries c.put.new.self.told.entries c.in_ok-first.ensures c.in_ok-put.ensures) c.in_ok-ends.ensures.counted
 
 pub returns-in_err-kept-clause-told : goal.returns-in_err-kept-clause-told
 returns-in_err-kept-clause-told g c =
@@ -47,7 +47,7 @@ returns-in_err-kept-clause-told g c =
 
 pub returns-in_err-put-2-clause-asked : goal.returns-in_err-put-2-clause-asked
 returns-in_err-put-2-clause-asked g c =
-    asks_put (c.args.value.now, c.args.label.now) None ((f : TemplateFile) → Hands (IsCause (g.A.Asker.graph c.args.asker.now) (scope_of c.args.scopes.now) f (out c.args.value.now c.args.label.now)) (g.A.Asker.count c.args.asker.now) (g.A.Asker.count c.edges_out.new.asker)) c.args.known.now.told.entries c.put-2.new.self.told.entries (g.A.Asker.count c.args.asker.now) (g.A.Asker.count c.edges_out.new.asker) c.requires.fresh (unchanged_put (c.args.value.now, c.args.label.now) None c.args.known.now.told.entries c.put.new.self.told.entries c.put-2.new.self.told.entries c.in_err-put-2.ensures (put_at (c.args.value.now, c.args.label.now) c.in_ok-first.first None c.args.known.now.told.entries c.put.new.self.told.entries c.in_ok-first.ensures c.in_ok-put.ensures)) c.in_ok-ends.ensures.counted
+    asks_put (c.args.value.now, c.args.label.now) None ((f : TemplateFile) → CountsAtMost (IsCause (g.A.Asker.graph c.args.asker.now) (scope_of c.args.scopes.now) f (out c.args.value.now c.args.label.now)) (g.A.Asker.count c.args.asker.now) (g.A.Asker.count c.edges_out.new.asker)) c.args.known.now.told.entries c.put-2.new.self.told.entries (g.A.Asker.count c.args.asker.now) (g.A.Asker.count c.edges_out.new.asker) c.requires.fresh (unchanged_put (c.args.value.now, c.args.label.now) None c.args.known.now.told.entries c.put.new.self.told.entries c.put-2.new.self.told.entries c.in_err-put-2.ensures (put_at (c.args.value.now, c.args.label.now) c.in_ok-first.first None c.args.known.now.told.entries c.put.new.self.told.entries c.in_ok-first.ensures c.in_ok-put.ensures)) c.in_ok-ends.ensures.counted
 
 pub returns-in_err-put-2-clause-told : goal.returns-in_err-put-2-clause-told
 returns-in_err-put-2-clause-told g c =
@@ -55,7 +55,7 @@ returns-in_err-put-2-clause-told g c =
 
 pub returns-clause-asked : goal.returns-clause-asked
 returns-clause-asked g c =
-    asks_twice (c.args.value.now, c.args.label.now) None (Some c.in_ok-kept.kept) ((f : TemplateFile) → Hands (IsCause (g.A.Asker.graph c.args.asker.now) (scope_of c.args.scopes.now) f (out c.args.value.now c.args.label.now)) (g.A.Asker.count c.args.asker.now) (g.A.Asker.count c.edges_out.new.asker)) c.args.known.now.told.entries c.put.new.self.told.entries c.put-2.new.self.told.entries (g.A.Asker.count c.args.asker.now) (g.A.Asker.count c.edges_out.new.asker) c.requires.fresh (put_at (c.args.value.now, c.args.label.now) c.in_ok-first.first None c.args.known.now.told.entries c.put.new.self.told.entries c.in_ok-first.ensures c.in_ok-put.ensures) (put_at (c.args.value.now, c.args.label.now) c.in_ok-again.again (Some c.in_ok-kept.kept) c.put.new.self.told.entries c.put-2.new.self.told.entries c.in_ok-again.ensures c.in_ok-put-2.ensures) c.in_ok-ends.ensures.counted
+    asks_twice (c.args.value.now, c.args.label.now) None (Some c.in_ok-kept.kept) ((f : TemplateFile) → CountsAtMost (IsCause (g.A.Asker.graph c.args.asker.now) (scope_of c.args.scopes.now) f (out c.args.value.now c.args.label.now)) (g.A.Asker.count c.args.asker.now) (g.A.Asker.count c.edges_out.new.asker)) c.args.known.now.told.entries c.put.new.self.told.entries c.put-2.new.self.told.entries (g.A.Asker.count c.args.asker.now) (g.A.Asker.count c.edges_out.new.asker) c.requires.fresh (put_at (c.args.value.now, c.args.label.now) c.in_ok-first.first None c.args.known.now.told.entries c.put.new.self.told.entries c.in_ok-first.ensures c.in_ok-put.ensures) (put_at (c.args.value.now, c.args.label.now) c.in_ok-again.again (Some c.in_ok-kept.kept) c.put.new.self.told.entries c.put-2.new.self.told.entries c.in_ok-again.ensures c.in_ok-put-2.ensures) c.in_ok-ends.ensures.counted
 
 pub returns-clause-told : goal.returns-clause-told
 returns-clause-told g c =

@@ -5,9 +5,9 @@ use Rattle.std.proofs.lemmas.Result.{IfOk-weaker}
 use Rattle.click_time.proofs.Account.{recalled_true}
 use Rattle.std.specs.Map.{keys_of}
 use Rattle.tmpl.specs.Body.{TemplateFile}
-use Rattle.query_site.specs.Blocks.{scope_of}
+use Rattle.query_blocks.specs.Blocks.{scope_of}
 use Rattle.weight_spec.specs.Charges.{IsCause}
-use Rattle.weight_spec.specs.Hands.{Hands}
+use Rattle.weight_spec.specs.CountsAtMost.{CountsAtMost}
 use Rattle.click_time.proofs.Account.{asks_none}
 use Rattle.sd_value.specs.declared.Value.{Value}
 use Rattle.sd_value.specs.Order.{value_cmp}
@@ -22,11 +22,11 @@ ends_first-requires-clause-fresh g c =
 
 pub returns-in_err-key-clause-asked : goal.returns-in_err-key-clause-asked
 returns-in_err-key-clause-asked g c =
-    asks_none (c.args.value.now, c.args.label.now) ((f : TemplateFile) → Hands (IsCause (g.A.Asker.graph c.args.asker.now) (scope_of c.args.scopes.now) f (out c.args.value.now c.args.label.now)) (g.A.Asker.count c.args.asker.now) (g.A.Asker.count c.args.asker.now)) c.args.known.now.told.entries c.args.known.now.told.entries (g.A.Asker.count c.args.asker.now) refl
+    asks_none (c.args.value.now, c.args.label.now) ((f : TemplateFile) → CountsAtMost (IsCause (g.A.Asker.graph c.args.asker.now) (scope_of c.args.scopes.now) f (out c.args.value.now c.args.label.now)) (g.A.Asker.count c.args.asker.now) (g.A.Asker.count c.args.asker.now)) c.args.known.now.told.entries c.args.known.now.told.entries (g.A.Asker.count c.args.asker.now) refl
 
 pub returns-in-Some-clause-asked : goal.returns-in-Some-clause-asked
 returns-in-Some-clause-asked g c =
-    asks_none (c.args.value.now, c.args.label.now) ((f : TemplateFile) → Hands (IsCause (g.A.Asker.graph c.args.asker.now) (scope_of c.args.scopes.now) f (out c.args.value.now c.args.label.now)) (g.A.Asker.count c.args.asker.now) (g.A.Asker.count c.args.asker.now)) c.args.known.now.told.entries c.args.known.now.told.entries (g.A.Asker.count c.args.asker.now) refl
+    asks_none (c.args.value.now, c.args.label.now) ((f : TemplateFile) → CountsAtMost (IsCause (g.A.Asker.graph c.args.asker.now) (scope_of c.args.scopes.now) f (out c.args.value.now c.args.label.now)) (g.A.Asker.count c.args.asker.now) (g.A.Asker.count c.args.asker.now)) c.args.known.now.told.entries c.args.known.now.told.entries (g.A.Asker.count c.args.asker.now) refl
 
 pub returns-in-Some-clause-ends : goal.returns-in-Some-clause-ends
 returns-in-Some-clause-ends g c =

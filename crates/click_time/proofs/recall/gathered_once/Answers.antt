@@ -3,9 +3,9 @@ use Rattle.std.specs.Option.{IsSomeAnd}
 use Rattle.std.proofs.lemmas.Result.{IfOk-weaker}
 use Rattle.click_time.proofs.Account.{recalled_true}
 use Rattle.tmpl.specs.Body.{TemplateFile}
-use Rattle.query_site.specs.Blocks.{scope_of}
+use Rattle.query_blocks.specs.Blocks.{scope_of}
 use Rattle.weight_spec.specs.Charges.{IsCause}
-use Rattle.weight_spec.specs.Hands.{Hands}
+use Rattle.weight_spec.specs.CountsAtMost.{CountsAtMost}
 use Rattle.click_time.proofs.Account.{asks_none}
 use Rattle.sd_value.specs.declared.Value.{Value}
 use Rattle.sd_value.specs.Order.{value_cmp}
@@ -20,7 +20,7 @@ gathered_first-requires-clause-fresh g c =
 
 pub returns-in-Some-clause-asked : goal.returns-in-Some-clause-asked
 returns-in-Some-clause-asked g c =
-    asks_none c.args.name.now ((f : TemplateFile) → Hands (IsCause (g.A.Asker.graph c.args.asker.now) (scope_of c.args.scopes.now) f (collected c.args.name.now)) (g.A.Asker.count c.args.asker.now) (g.A.Asker.count c.args.asker.now)) c.args.known.now.told.entries c.args.known.now.told.entries (g.A.Asker.count c.args.asker.now) refl
+    asks_none c.args.name.now ((f : TemplateFile) → CountsAtMost (IsCause (g.A.Asker.graph c.args.asker.now) (scope_of c.args.scopes.now) f (collected c.args.name.now)) (g.A.Asker.count c.args.asker.now) (g.A.Asker.count c.args.asker.now)) c.args.known.now.told.entries c.args.known.now.told.entries (g.A.Asker.count c.args.asker.now) refl
 
 pub returns-in-Some-clause-values : goal.returns-in-Some-clause-values
 returns-in-Some-clause-values g c =

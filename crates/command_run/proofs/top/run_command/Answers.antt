@@ -3,7 +3,7 @@ use Rattle.command_run.proofs.Ends.{page_told, data_told, explain_told, build_to
 use Rattle.command_run.proofs.top.run_command.Goals as goal
 
 pub returns-in-Page-clause-ends : goal.returns-in-Page-clause-ends
-returns-in-Page-clause-ends g c = λ map told. page_told _ _ map _ _ _ c.args.command.now c.in-Page.command c.page-answer.result _ _ _ c.page-answer.ensures.same told c.in-Page.is (c.page-answer.ensures.ends map told) c.put_answer.ensures.ends
+returns-in-Page-clause-ends g c = λ map told. page_told (g.F.Files.failed_reads c.args.files.now) (g.F.Files.failed_reads c.page-answer.new.files) (g.F.Files.failed_writes c.args.files.now) (g.F.Files.failed_writes c.page-answer.new.files) (g.O.Sink.text c.args.out.now) (g.O.Sink.text c.put_answer.new.out) (g.O.Sink.failed c.args.out.now) (g.O.Sink.failed c.put_answer.new.out) (g.W.Wire.told c.args.wire.now) (g.W.Wire.told c.args.wire.now) _ _ map c.args.command.now c.in-Page.command c.page-answer.result _ c.page-answer.ensures.same told c.in-Page.is (c.page-answer.ensures.ends map told) c.put_answer.ensures.ends
 
 pub returns-in-Page-clause-read_cause : goal.returns-in-Page-clause-read_cause
 returns-in-Page-clause-read_cause g c = page_read_rose c.args.command.now c.in-Page.command c.page-answer.result _ _ _ _ _ c.in-Page.is c.put_answer.ensures.ends c.page-answer.ensures.cause
@@ -12,7 +12,7 @@ pub returns-in-Page-clause-write_cause : goal.returns-in-Page-clause-write_cause
 returns-in-Page-clause-write_cause g c = λ e. page_write_rose c.args.command.now c.in-Page.command _ _ _ c.in-Page.is (c.put_answer.ensures.write_cause e)
 
 pub returns-in-Build-clause-ends : goal.returns-in-Build-clause-ends
-returns-in-Build-clause-ends g c = λ map told. build_told _ map _ _ _ c.args.command.now c.in-Build.command _ _ _ c.in-Build.is (c.build.ensures.ends map told)
+returns-in-Build-clause-ends g c = λ map told. build_told (g.F.Files.failed_reads c.args.files.now) (g.F.Files.failed_reads c.build.new.files) (g.F.Files.failed_writes c.args.files.now) (g.F.Files.failed_writes c.build.new.files) (g.O.Sink.text c.args.out.now) (g.O.Sink.text c.build.new.out) (g.O.Sink.failed c.args.out.now) (g.O.Sink.failed c.build.new.out) (g.W.Wire.told c.args.wire.now) (g.W.Wire.told c.args.wire.now) _ map c.args.command.now c.in-Build.command _ c.in-Build.is (c.build.ensures.ends map told)
 
 pub returns-in-Build-clause-read_cause : goal.returns-in-Build-clause-read_cause
 returns-in-Build-clause-read_cause g c = build_read_rose c.args.command.now c.in-Build.command _ _ _ c.in-Build.is c.build.ensures.read_cause
@@ -24,7 +24,7 @@ pub returns-in-Build-clause-write_cause : goal.returns-in-Build-clause-write_cau
 returns-in-Build-clause-write_cause g c = λ e. build_write_rose c.args.command.now c.in-Build.command _ _ _ c.in-Build.is (c.build.ensures.write_cause e)
 
 pub returns-in-Data-clause-ends : goal.returns-in-Data-clause-ends
-returns-in-Data-clause-ends g c = λ map told. data_told _ _ map _ _ _ c.args.command.now c.in-Data.command c.data-answer.result _ _ _ c.data-answer.ensures.same told c.in-Data.is (c.data-answer.ensures.ends map told) c.put_answer-in-Data.ensures.ends
+returns-in-Data-clause-ends g c = λ map told. data_told (g.F.Files.failed_reads c.args.files.now) (g.F.Files.failed_reads c.data-answer.new.files) (g.F.Files.failed_writes c.args.files.now) (g.F.Files.failed_writes c.data-answer.new.files) (g.O.Sink.text c.args.out.now) (g.O.Sink.text c.put_answer-in-Data.new.out) (g.O.Sink.failed c.args.out.now) (g.O.Sink.failed c.put_answer-in-Data.new.out) (g.W.Wire.told c.args.wire.now) (g.W.Wire.told c.args.wire.now) _ _ map c.args.command.now c.in-Data.command c.data-answer.result _ c.data-answer.ensures.same told c.in-Data.is (c.data-answer.ensures.ends map told) c.put_answer-in-Data.ensures.ends
 
 pub returns-in-Data-clause-read_cause : goal.returns-in-Data-clause-read_cause
 returns-in-Data-clause-read_cause g c = data_read_rose c.args.command.now c.in-Data.command c.data-answer.result _ _ _ _ _ c.in-Data.is c.put_answer-in-Data.ensures.ends c.data-answer.ensures.cause
@@ -33,7 +33,7 @@ pub returns-in-Data-clause-write_cause : goal.returns-in-Data-clause-write_cause
 returns-in-Data-clause-write_cause g c = λ e. data_write_rose c.args.command.now c.in-Data.command _ _ _ c.in-Data.is (c.put_answer-in-Data.ensures.write_cause e)
 
 pub returns-in-Explain-clause-ends : goal.returns-in-Explain-clause-ends
-returns-in-Explain-clause-ends g c = λ map told. explain_told _ _ map _ _ _ c.args.command.now c.in-Explain.command c.explain-answer.result _ _ _ c.explain-answer.ensures.same told c.in-Explain.is (c.explain-answer.ensures.ends map told) c.put_answer-in-Explain.ensures.ends
+returns-in-Explain-clause-ends g c = λ map told. explain_told (g.F.Files.failed_reads c.args.files.now) (g.F.Files.failed_reads c.explain-answer.new.files) (g.F.Files.failed_writes c.args.files.now) (g.F.Files.failed_writes c.explain-answer.new.files) (g.O.Sink.text c.args.out.now) (g.O.Sink.text c.put_answer-in-Explain.new.out) (g.O.Sink.failed c.args.out.now) (g.O.Sink.failed c.put_answer-in-Explain.new.out) (g.W.Wire.told c.args.wire.now) (g.W.Wire.told c.args.wire.now) _ _ map c.args.command.now c.in-Explain.command c.explain-answer.result _ c.explain-answer.ensures.same told c.in-Explain.is (c.explain-answer.ensures.ends map told) c.put_answer-in-Explain.ensures.ends
 
 pub returns-in-Explain-clause-read_cause : goal.returns-in-Explain-clause-read_cause
 returns-in-Explain-clause-read_cause g c = explain_read_rose c.args.command.now c.in-Explain.command c.explain-answer.result _ _ _ _ _ c.in-Explain.is c.put_answer-in-Explain.ensures.ends c.explain-answer.ensures.cause
@@ -42,7 +42,7 @@ pub returns-in-Explain-clause-write_cause : goal.returns-in-Explain-clause-write
 returns-in-Explain-clause-write_cause g c = λ e. explain_write_rose c.args.command.now c.in-Explain.command _ _ _ c.in-Explain.is (c.put_answer-in-Explain.ensures.write_cause e)
 
 pub returns-in-Serve-clause-ends : goal.returns-in-Serve-clause-ends
-returns-in-Serve-clause-ends g c = λ map told. serve_told _ _ map _ _ _ c.args.command.now c.in-Serve.command _ _ _ c.serve.ensures.same told c.in-Serve.is (c.serve.ensures.ends map told)
+returns-in-Serve-clause-ends g c = λ map told. serve_told (g.F.Files.failed_reads c.args.files.now) (g.F.Files.failed_reads c.serve.new.files) (g.F.Files.failed_writes c.args.files.now) (g.F.Files.failed_writes c.serve.new.files) (g.O.Sink.text c.args.out.now) (g.O.Sink.text c.serve.new.out) (g.O.Sink.failed c.args.out.now) (g.O.Sink.failed c.serve.new.out) (g.W.Wire.told c.args.wire.now) (g.W.Wire.told c.serve.new.wire) _ _ map c.args.command.now c.in-Serve.command _ c.serve.ensures.same told c.in-Serve.is (c.serve.ensures.ends map told)
 
 pub returns-in-Serve-clause-wire : goal.returns-in-Serve-clause-wire
 returns-in-Serve-clause-wire g c = λ none. absurd (serve_uses c.args.command.now c.in-Serve.command c.in-Serve.is none)
@@ -54,7 +54,7 @@ pub returns-in-Serve-clause-write_cause : goal.returns-in-Serve-clause-write_cau
 returns-in-Serve-clause-write_cause g c = λ e. serve_write_rose c.args.command.now c.in-Serve.command _ _ _ c.in-Serve.is (c.serve.ensures.write_cause e)
 
 pub returns-in-Replay-clause-ends : goal.returns-in-Replay-clause-ends
-returns-in-Replay-clause-ends g c = λ map told. replay_told _ _ map _ _ _ c.args.command.now c.in-Replay.command _ _ _ c.replay.ensures.same told c.in-Replay.is (c.replay.ensures.ends map told)
+returns-in-Replay-clause-ends g c = λ map told. replay_told (g.F.Files.failed_reads c.args.files.now) (g.F.Files.failed_reads c.replay.new.files) (g.F.Files.failed_writes c.args.files.now) (g.F.Files.failed_writes c.replay.new.files) (g.O.Sink.text c.args.out.now) (g.O.Sink.text c.replay.new.out) (g.O.Sink.failed c.args.out.now) (g.O.Sink.failed c.replay.new.out) (g.W.Wire.told c.args.wire.now) (g.W.Wire.told c.args.wire.now) _ _ map c.args.command.now c.in-Replay.command _ c.replay.ensures.same told c.in-Replay.is (c.replay.ensures.ends map told)
 
 pub returns-in-Replay-clause-read_cause : goal.returns-in-Replay-clause-read_cause
 returns-in-Replay-clause-read_cause g c = replay_read_rose c.args.command.now c.in-Replay.command _ _ _ c.in-Replay.is c.replay.ensures.read_cause
@@ -69,7 +69,7 @@ pub returns-in-Replay-clause-wire_cause : goal.returns-in-Replay-clause-wire_cau
 returns-in-Replay-clause-wire_cause g c = λ e. absurd (c.replay.ensures.no_wire e)
 
 pub returns-in-Trial-clause-ends : goal.returns-in-Trial-clause-ends
-returns-in-Trial-clause-ends g c = λ map told. trial_told _ _ map _ _ _ c.args.command.now c.in-Trial.command c.trial-answer.result _ _ _ refl told c.in-Trial.is c.trial-answer.ensures c.put_answer-in-Trial.ensures.ends
+returns-in-Trial-clause-ends g c = λ map told. trial_told (g.F.Files.failed_reads c.args.files.now) (g.F.Files.failed_reads c.args.files.now) (g.F.Files.failed_writes c.args.files.now) (g.F.Files.failed_writes c.args.files.now) (g.O.Sink.text c.args.out.now) (g.O.Sink.text c.put_answer-in-Trial.new.out) (g.O.Sink.failed c.args.out.now) (g.O.Sink.failed c.put_answer-in-Trial.new.out) (g.W.Wire.told c.args.wire.now) (g.W.Wire.told c.args.wire.now) _ _ map c.args.command.now c.in-Trial.command c.trial-answer.result _ refl told c.in-Trial.is c.trial-answer.ensures c.put_answer-in-Trial.ensures.ends
 
 pub returns-in-Trial-clause-read_cause : goal.returns-in-Trial-clause-read_cause
 returns-in-Trial-clause-read_cause g c = trial_read_rose c.args.command.now c.in-Trial.command c.trial-answer.result _ _ _ _ _ c.in-Trial.is c.put_answer-in-Trial.ensures.ends c.trial-answer.ensures

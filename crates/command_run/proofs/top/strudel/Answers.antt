@@ -1,29 +1,25 @@
 use Rattle.std.proofs.Common.{ap}
 use Rattle.command_run.proofs.Ends.{reported_told, reported_silent}
-use Rattle.command_run.specs.Complete.{outside}
-use Rattle.command_run.proofs.Complete.{complete_told, reported_complete}
-use Rattle.command_run.proofs.Exact.{exact_told, reported_exact}
+use Rattle.command_run.proofs.Complete.{complete_told}
+use Rattle.command_run.proofs.Exact.{exact_told}
 use Rattle.command_run.proofs.top.strudel.Goals as goal
 
 pub returns-clause-ends : goal.returns-clause-ends
 returns-clause-ends g c = λ map told.
-    reported_told _ map _ _ _ _ _ _ _ _ (c.run-status.ensures.ends map told) (λ quiet. ap g.O.Sink.text (c.run-status.ensures.silent quiet)) c.report.ensures.fixed c.report.ensures.status
+    reported_told (g.F.Files.failed_reads c.args.files.now) (g.F.Files.failed_reads c.run-status.new.files) (g.F.Files.failed_writes c.args.files.now) (g.F.Files.failed_writes c.run-status.new.files) (g.O.Sink.text c.args.out.now) (g.O.Sink.text c.run-status.new.out) (g.O.Sink.failed c.args.out.now) (g.O.Sink.failed c.run-status.new.out) (g.W.Wire.told c.args.wire.now) (g.W.Wire.told c.run-status.new.wire) _ map _ _ _ (c.run-status.ensures.ends map told) (λ quiet. ap g.O.Sink.text (c.run-status.ensures.silent quiet)) c.report.ensures.fixed c.report.ensures.status
 
 pub returns-clause-silent : goal.returns-clause-silent
 returns-clause-silent g c = reported_silent _ _ c.run-status.ensures.silent c.report.ensures.status
 
 pub returns-clause-exact : goal.returns-clause-exact
 returns-clause-exact g c = λ map told command is_given.
-    reported_exact map command _ _ _ _ _ _
-    (exact_told (g.F.Files.contents c.run-status.new.files) map _ _ _ _ command _ _ (g.F.Files.failed_reads c.args.files.now) (g.F.Files.failed_reads c.run-status.new.files) (g.F.Files.failed_writes c.args.files.now) (g.F.Files.failed_writes c.run-status.new.files) _ _ is_given (c.run-status.ensures.ends map told) c.run-status.ensures.read_cause c.run-status.ensures.write_cause)
-    c.report.ensures.status
+    exact_told (g.F.Files.failed_reads c.args.files.now) (g.F.Files.failed_reads c.run-status.new.files) (g.F.Files.failed_writes c.args.files.now) (g.F.Files.failed_writes c.run-status.new.files) (g.O.Sink.text c.args.out.now) (g.O.Sink.text c.run-status.new.out) (g.O.Sink.failed c.args.out.now) (g.O.Sink.failed c.run-status.new.out) (g.W.Wire.told c.args.wire.now) (g.W.Wire.told c.run-status.new.wire) (g.F.Files.contents c.run-status.new.files) map _ command _ _ is_given
+    (c.run-status.ensures.ends map told) c.run-status.ensures.read_cause c.run-status.ensures.write_cause c.report.ensures.status
 
 pub returns-clause-quiet : goal.returns-clause-quiet
 returns-clause-quiet g c = reported_silent _ _ c.run-status.ensures.quiet c.report.ensures.status
 
 pub returns-clause-complete : goal.returns-clause-complete
 returns-clause-complete g c = λ map told command is_given.
-    let o = outside (g.F.Files.failed_reads c.args.files.now) (g.F.Files.failed_reads c.run-status.new.files) (g.F.Files.failed_writes c.args.files.now) (g.F.Files.failed_writes c.run-status.new.files) (g.O.Sink.failed c.args.out.now) (g.O.Sink.failed c.run-status.new.out) (g.W.Wire.next_faults c.args.wire.now) (g.W.Wire.next_faults c.run-status.new.wire) in
-    reported_complete map command _ o _ _
-    (complete_told (g.F.Files.contents c.run-status.new.files) map _ _ _ command _ _ o _ is_given (c.run-status.ensures.ends map told) c.run-status.ensures.read_cause c.run-status.ensures.write_cause c.run-status.ensures.wire_cause)
-    c.report.ensures.status
+    complete_told (g.F.Files.failed_reads c.args.files.now) (g.F.Files.failed_reads c.run-status.new.files) (g.F.Files.failed_writes c.args.files.now) (g.F.Files.failed_writes c.run-status.new.files) (g.O.Sink.text c.args.out.now) (g.O.Sink.text c.run-status.new.out) (g.O.Sink.failed c.args.out.now) (g.O.Sink.failed c.run-status.new.out) (g.W.Wire.told c.args.wire.now) (g.W.Wire.told c.run-status.new.wire) (g.F.Files.contents c.run-status.new.files) map _ command _ _ is_given
+    (c.run-status.ensures.ends map told) c.run-status.ensures.read_cause c.run-status.ensures.write_cause c.run-status.ensures.wire_cause c.report.ensures.status

@@ -1,6 +1,6 @@
 use Rattle.std.proofs.Common.{◌≡◌, ◌++◌, drop}
 use Rattle.std.specs.Prelude.{option_map, option_to_list}
-use Rattle.command_words.specs.Numbers.{one_number, values_of, number_of}
+use Rattle.command_spec.specs.Numbers.{one_number, values_of, number_of}
 use Rattle.command_words.proofs.numbers.number_of.Given as goal
 
 abbrev pub invariant-loop-setting : goal.invariant-loop-setting

@@ -1,7 +1,7 @@
 use Rattle.std.proofs.Common.{◌≡◌, ◌++◌, ◌∷◌, [], ap, arith, ◌∙◌}
 use Rattle.std.specs.Prelude.{None, Some}
-use Rattle.command_words.specs.declared.options.Role.TheVariants.{Plain, Complete, Open}
-use Rattle.command_words.specs.Options.{parts_of, role_of}
+use Rattle.command_spec.specs.declared.options.Role.TheVariants.{Plain, Complete, Open}
+use Rattle.command_spec.specs.Options.{parts_of, role_of}
 use Rattle.command_words.proofs.Carried.{after_plain, after_setting, after_open}
 use Rattle.command_words.proofs.options.parts_of.Goals as goal
 use Rattle.command_words.proofs.options.parts_of.Goals.{in-Plain+in_ok-copy-in-Plain+in_ok-push-in-Plain, in-Complete+in_ok-push-in-Complete, in-Open+in_ok-copy-in-Open}

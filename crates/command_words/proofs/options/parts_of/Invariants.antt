@@ -1,6 +1,6 @@
 use Rattle.std.proofs.Common.{◌≡◌, drop}
 use Rattle.std.specs.Prelude.{None}
-use Rattle.command_words.specs.Options.{parts_of}
+use Rattle.command_spec.specs.Options.{parts_of}
 use Rattle.command_words.specs.Carried.{carried}
 use Rattle.command_words.proofs.options.parts_of.Given as goal
 

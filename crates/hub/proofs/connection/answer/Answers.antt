@@ -1,6 +1,6 @@
 use Rattle.std.proofs.Common.{◌∙◌, refl, rules}
 use Rattle.page_spec.specs.Address.{TermOf}
-use Rattle.hub.specs.Shown.{shown_in}
+use Rattle.serving_spec.specs.Shown.{shown_in}
 use Rattle.hub.proofs.ServeLemmas.{sent_answer, short_answer}
 use Rattle.hub.proofs.connection.answer.Goals as goal
 

@@ -8,7 +8,7 @@ pub returns-in-Ok-clause-sent : goal.returns-in-Ok-clause-sent
 returns-in-Ok-clause-sent g c = (
   no_memory_bytes ∷ [],
   (refl, refl),
-  c.in-Ok.ensures.ok ∙ ap (λ b. send_to (g.W.Wire.account c.args.wire.now c.args.number) b) c.no_memory_reply.ensures,
+  c.in-Ok.ensures.ok ∙ ap (λ b. send_to ((g.W.Wire.told c.args.wire.now).account c.args.number) b) c.no_memory_reply.ensures,
   c.in-Ok.ensures.fine,
 )
 
@@ -20,6 +20,6 @@ returns-in-Err-clause-sent g c =
       no_memory_bytes,
       some,
       (refl, refl),
-      c.in-Err.ensures.err.1 ∙ ap (λ b. send_to (g.W.Wire.account c.args.wire.now c.args.number) (take some b)) c.no_memory_reply.ensures,
+      c.in-Err.ensures.err.1 ∙ ap (λ b. send_to ((g.W.Wire.told c.args.wire.now).account c.args.number) (take some b)) c.no_memory_reply.ensures,
       c.in-Err.ensures.failed,
     )

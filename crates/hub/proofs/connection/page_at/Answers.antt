@@ -3,7 +3,7 @@ use Rattle.std.specs.Prelude.{option_copied}
 use Rattle.page_spec.specs.Address.{TermOf}
 use Rattle.sd_value.specs.declared.Term.{Term}
 use Rattle.address.specs.Targets.{root_name, IsOnly}
-use Rattle.hub.specs.Made.{NamedBy, AllLooked}
+use Rattle.serving_spec.specs.Made.{NamedBy, AllLooked}
 use Rattle.hub.proofs.connection.page_at.Goals as goal
 
 -- the root's name is the one that is lent

@@ -1,14 +1,14 @@
 use Rattle.std.proofs.Common.{◌≡◌, ◌<◌, false, ℕ, refl, sym, ◌∙◌, subst, arith, List, Option, ◌++◌, ◌∷◌, [], length-append, length, inl}
 use Rattle.page_spec.specs.Address.{TermOf}
 use Rattle.wire.specs.Events.{IsNextOf}
-use Rattle.hub.specs.Course.{scene, rules_under}
-use Rattle.hub.specs.Moments.{Moment, Unopened}
-use Rattle.hub.specs.HubState.{line_of}
-use Rattle.hub.specs.Made.{nothing}
-use Rattle.hub.specs.Shown.{shown_in}
+use Rattle.hub.specs.HubState.{scene, line_of}
+use Rattle.hub.specs.Course.{rules_under}
+use Rattle.serving_spec.specs.Inputs.{Moment, Unopened}
+use Rattle.serving_spec.specs.Made.{nothing}
+use Rattle.serving_spec.specs.Shown.{shown_in}
 use Rattle.hub.specs.Turns.{ats, at_in}
 use Rattle.wire.specs.declared.WireEvent.{WireEvent}
-use Rattle.hub.proofs.RunLemmas.{runs_more, stands_more, stands_done, given_more, drawn_more, none_more, done_is, runs_moved, turned_at, passes_more, passes_moved, passes_done, counts_stay}
+use Rattle.hub.proofs.RunLemmas.{runs_start, runs_more, stands_more, stands_done, given_more, drawn_more, none_more, done_is, runs_moved, turned_at, passes_more, passes_moved, passes_done, counts_stay}
 use Rattle.hub.proofs.serving.serve.Goals as goal
 
 pub returns-then-is_done-clause-stands : goal.returns-then-is_done-clause-stands
@@ -20,22 +20,22 @@ returns-then-is_done-clause-stands g c =
     let done = done_is e (sym c.is_done.ensures ∙ c.if-is_done.true) in
     let counted : length events ≡ c.loop.counter = c.loop.invariant.6.3 in (
       events ++ e ∷ [],
-      given_more (g.W.Wire.given c.args.wire.now) (g.W.Wire.given c.loop.wire) (g.W.Wire.given c.next.new.self) events e c.loop.invariant.6.1 c.in-Ok.ensures.given,
-      drawn_more (g.W.Wire.left c.args.wire.now) (g.W.Wire.left c.loop.wire) (g.W.Wire.left c.next.new.self) events e c.loop.invariant.6.2 c.in-Ok.ensures.left,
+      given_more (g.W.Wire.told c.args.wire.now).given (g.W.Wire.told c.loop.wire).given (g.W.Wire.told c.next.new.self).given events e c.loop.invariant.6.1 c.in-Ok.ensures.given,
+      drawn_more (g.W.Wire.told c.args.wire.now).left (g.W.Wire.told c.loop.wire).left (g.W.Wire.told c.next.new.self).left events e c.loop.invariant.6.2 c.in-Ok.ensures.left,
       (events, subst (λ (x : WireEvent). events ++ e ∷ [] ≡ events ++ x ∷ []) done refl, omega (arith, counted, c.loop-test.true), c.loop.invariant.6.4),
-      inl (passes_done (rules_under c.args.hub.now.root g.P.Versions.site g.P.Versions.templates g.P.Versions.changed g.P.Versions.looks g.P.Versions.renews g.P.Versions.found) c.args.hub.now.limit (scene g.P.Versions.state g.P.Versions.cache c.args.hub.now (g.W.Wire.account c.args.wire.now) (g.W.Wire.faults c.args.wire.now))
-          (scene g.P.Versions.state g.P.Versions.cache c.loop.hub (g.W.Wire.account c.next.new.self) (g.W.Wire.faults c.next.new.self)) events e done
-          (passes_moved (rules_under c.args.hub.now.root g.P.Versions.site g.P.Versions.templates g.P.Versions.changed g.P.Versions.looks g.P.Versions.renews g.P.Versions.found) c.args.hub.now.limit (scene g.P.Versions.state g.P.Versions.cache c.args.hub.now (g.W.Wire.account c.args.wire.now) (g.W.Wire.faults c.args.wire.now)) events c.loop.hub g.P.Versions.state g.P.Versions.cache (g.W.Wire.account c.loop.wire) (g.W.Wire.account c.next.new.self)
-          (g.W.Wire.faults c.loop.wire) (g.W.Wire.faults c.next.new.self) c.in-Ok.ensures.stays.0 c.in-Ok.ensures.stays.1 c.loop.invariant.6.5)),
+      inl (passes_done (rules_under c.args.hub.now.root g.P.Versions.site g.P.Versions.templates g.P.Versions.changed g.P.Versions.looks g.P.Versions.renews g.P.Versions.found) c.args.hub.now.limit (scene g.P.Versions.state g.P.Versions.cache c.args.hub.now (g.W.Wire.told c.args.wire.now).account (g.W.Wire.told c.args.wire.now).faults)
+          (scene g.P.Versions.state g.P.Versions.cache c.loop.hub (g.W.Wire.told c.next.new.self).account (g.W.Wire.told c.next.new.self).faults) events e done
+          (passes_moved (rules_under c.args.hub.now.root g.P.Versions.site g.P.Versions.templates g.P.Versions.changed g.P.Versions.looks g.P.Versions.renews g.P.Versions.found) c.args.hub.now.limit (scene g.P.Versions.state g.P.Versions.cache c.args.hub.now (g.W.Wire.told c.args.wire.now).account (g.W.Wire.told c.args.wire.now).faults) events c.loop.hub g.P.Versions.state g.P.Versions.cache (g.W.Wire.told c.loop.wire).account (g.W.Wire.told c.next.new.self).account
+          (g.W.Wire.told c.loop.wire).faults (g.W.Wire.told c.next.new.self).faults c.in-Ok.ensures.stays.0 c.in-Ok.ensures.stays.1 c.loop.invariant.6.5)),
       λ number none.
           stands_done page (TermOf c.args.hub.now.root) g.P.Versions.changed c.args.hub.now.limit number start events e
-          (at_in (line_of c.args.hub.now) (g.W.Wire.account c.args.wire.now) (g.W.Wire.faults c.args.wire.now) number) nothing
-          (at_in (line_of c.loop.hub) (g.W.Wire.account c.next.new.self) (g.W.Wire.faults c.next.new.self) number)
+          (at_in (line_of c.args.hub.now) (g.W.Wire.told c.args.wire.now).account (g.W.Wire.told c.args.wire.now).faults number) nothing
+          (at_in (line_of c.loop.hub) (g.W.Wire.told c.next.new.self).account (g.W.Wire.told c.next.new.self).faults number)
           (g.P.Versions.state c.loop.hub.pages) c.loop.hub.greatest done
-          (runs_moved page g.P.Versions.changed c.args.hub.now.limit number start events
-          (at_in (line_of c.args.hub.now) (g.W.Wire.account c.args.wire.now) (g.W.Wire.faults c.args.wire.now) number)
-          (line_of c.loop.hub) (g.W.Wire.account c.loop.wire) (g.W.Wire.account c.next.new.self)
-          (g.W.Wire.faults c.loop.wire) (g.W.Wire.faults c.next.new.self) (g.P.Versions.state c.loop.hub.pages) c.loop.hub.greatest
+          (runs_moved page (TermOf c.args.hub.now.root) g.P.Versions.changed c.args.hub.now.limit number start events
+          (at_in (line_of c.args.hub.now) (g.W.Wire.told c.args.wire.now).account (g.W.Wire.told c.args.wire.now).faults number)
+          (line_of c.loop.hub) (g.W.Wire.told c.loop.wire).account (g.W.Wire.told c.next.new.self).account
+          (g.W.Wire.told c.loop.wire).faults (g.W.Wire.told c.next.new.self).faults (g.P.Versions.state c.loop.hub.pages) c.loop.hub.greatest
           c.in-Ok.ensures.stays.0 c.in-Ok.ensures.stays.1 (c.loop.invariant.6.6 number none)),
     )
 
@@ -48,37 +48,59 @@ returns-then-spent-clause-stands g c =
     let start : Moment g.P.Versions.State = record { current = g.P.Versions.state c.args.hub.now.pages; greatest = c.args.hub.now.greatest; input = Unopened } in
     let told = c.step.ensures.turned c.loop.invariant.2 in
     let turned = turned_at (λ r. shown_in r g.P.Versions.site g.P.Versions.templates) TermOf (g.P.Versions.state c.loop.hub.pages) c.loop.hub.root c.args.hub.now.root c.loop.hub.limit c.args.hub.now.limit c.loop.hub.greatest e told.0
-    (ats (line_of c.loop.hub) (g.W.Wire.account c.next.new.self) (g.W.Wire.faults c.next.new.self))
-    (ats (line_of c.step.new.self) (g.W.Wire.account c.step.new.wire) (g.W.Wire.faults c.step.new.wire))
+    (ats (line_of c.loop.hub) (g.W.Wire.told c.next.new.self).account (g.W.Wire.told c.next.new.self).faults)
+    (ats (line_of c.step.new.self) (g.W.Wire.told c.step.new.wire).account (g.W.Wire.told c.step.new.wire).faults)
     c.loop.invariant.1 c.loop.invariant.0 told.1 in
     let spends = c.step.ensures.spends c.loop.invariant.2 (sym c.spent.ensures ∙ c.if-spent.true) in
     let counted : length events ≡ c.loop.counter = c.loop.invariant.6.3 in
-    let next : IsNextOf (g.W.Wire.left c.loop.wire) e (g.W.Wire.left c.step.new.wire) =
-    subst (λ (o : Option (List WireEvent)). IsNextOf (g.W.Wire.left c.loop.wire) e o) (sym c.step.ensures.stays.1) c.in-Ok.ensures.left in (
+    let next : IsNextOf (g.W.Wire.told c.loop.wire).left e (g.W.Wire.told c.step.new.wire).left =
+    subst (λ (o : Option (List WireEvent)). IsNextOf (g.W.Wire.told c.loop.wire).left e o) (sym c.step.ensures.stays.1) c.in-Ok.ensures.left in (
       events ++ e ∷ [],
-      given_more (g.W.Wire.given c.args.wire.now) (g.W.Wire.given c.loop.wire) (g.W.Wire.given c.step.new.wire) events e c.loop.invariant.6.1
+      given_more (g.W.Wire.told c.args.wire.now).given (g.W.Wire.told c.loop.wire).given (g.W.Wire.told c.step.new.wire).given events e c.loop.invariant.6.1
           (c.step.ensures.stays.0 ∙ c.in-Ok.ensures.given),
-      drawn_more (g.W.Wire.left c.args.wire.now) (g.W.Wire.left c.loop.wire) (g.W.Wire.left c.step.new.wire) events e c.loop.invariant.6.2 next,
+      drawn_more (g.W.Wire.told c.args.wire.now).left (g.W.Wire.told c.loop.wire).left (g.W.Wire.told c.step.new.wire).left events e c.loop.invariant.6.2 next,
       (omega (arith, counted, c.loop-test.true, length-append events (e ∷ [])), none_more events e c.loop.invariant.6.4 (sym c.is_done.ensures ∙ c.if-is_done.false)),
-      counts_stay (rules_under c.args.hub.now.root g.P.Versions.site g.P.Versions.templates g.P.Versions.changed g.P.Versions.looks g.P.Versions.renews g.P.Versions.found) c.args.hub.now.limit (scene g.P.Versions.state g.P.Versions.cache c.args.hub.now (g.W.Wire.account c.args.wire.now) (g.W.Wire.faults c.args.wire.now))
-          (scene g.P.Versions.state g.P.Versions.cache c.loop.hub (g.W.Wire.account c.next.new.self) (g.W.Wire.faults c.next.new.self))
-          (scene g.P.Versions.state g.P.Versions.cache c.step.new.self (g.W.Wire.account c.step.new.wire) (g.W.Wire.faults c.step.new.wire)) events e spends.0.0 told.0 spends.0.1
-          (passes_moved (rules_under c.args.hub.now.root g.P.Versions.site g.P.Versions.templates g.P.Versions.changed g.P.Versions.looks g.P.Versions.renews g.P.Versions.found) c.args.hub.now.limit (scene g.P.Versions.state g.P.Versions.cache c.args.hub.now (g.W.Wire.account c.args.wire.now) (g.W.Wire.faults c.args.wire.now)) events c.loop.hub g.P.Versions.state g.P.Versions.cache (g.W.Wire.account c.loop.wire) (g.W.Wire.account c.next.new.self)
-          (g.W.Wire.faults c.loop.wire) (g.W.Wire.faults c.next.new.self) c.in-Ok.ensures.stays.0 c.in-Ok.ensures.stays.1 c.loop.invariant.6.5)
+      counts_stay (rules_under c.args.hub.now.root g.P.Versions.site g.P.Versions.templates g.P.Versions.changed g.P.Versions.looks g.P.Versions.renews g.P.Versions.found) c.args.hub.now.limit (scene g.P.Versions.state g.P.Versions.cache c.args.hub.now (g.W.Wire.told c.args.wire.now).account (g.W.Wire.told c.args.wire.now).faults)
+          (scene g.P.Versions.state g.P.Versions.cache c.loop.hub (g.W.Wire.told c.next.new.self).account (g.W.Wire.told c.next.new.self).faults)
+          (scene g.P.Versions.state g.P.Versions.cache c.step.new.self (g.W.Wire.told c.step.new.wire).account (g.W.Wire.told c.step.new.wire).faults) events e spends.0.0 told.0 spends.0.1
+          (passes_moved (rules_under c.args.hub.now.root g.P.Versions.site g.P.Versions.templates g.P.Versions.changed g.P.Versions.looks g.P.Versions.renews g.P.Versions.found) c.args.hub.now.limit (scene g.P.Versions.state g.P.Versions.cache c.args.hub.now (g.W.Wire.told c.args.wire.now).account (g.W.Wire.told c.args.wire.now).faults) events c.loop.hub g.P.Versions.state g.P.Versions.cache (g.W.Wire.told c.loop.wire).account (g.W.Wire.told c.next.new.self).account
+          (g.W.Wire.told c.loop.wire).faults (g.W.Wire.told c.next.new.self).faults c.in-Ok.ensures.stays.0 c.in-Ok.ensures.stays.1 c.loop.invariant.6.5)
           turned (c.step.ensures.opened c.loop.invariant.2) told.2 spends.1,
       λ number none.
           stands_more page (TermOf c.args.hub.now.root) g.P.Versions.changed c.args.hub.now.limit number start events e
-          (at_in (line_of c.args.hub.now) (g.W.Wire.account c.args.wire.now) (g.W.Wire.faults c.args.wire.now) number) told.0
-          (ats (line_of c.loop.hub) (g.W.Wire.account c.next.new.self) (g.W.Wire.faults c.next.new.self))
-          (ats (line_of c.step.new.self) (g.W.Wire.account c.step.new.wire) (g.W.Wire.faults c.step.new.wire))
+          (at_in (line_of c.args.hub.now) (g.W.Wire.told c.args.wire.now).account (g.W.Wire.told c.args.wire.now).faults number) told.0
+          (ats (line_of c.loop.hub) (g.W.Wire.told c.next.new.self).account (g.W.Wire.told c.next.new.self).faults)
+          (ats (line_of c.step.new.self) (g.W.Wire.told c.step.new.wire).account (g.W.Wire.told c.step.new.wire).faults)
           (g.P.Versions.state c.loop.hub.pages) c.loop.hub.greatest some
-          (runs_moved page g.P.Versions.changed c.args.hub.now.limit number start events
-          (at_in (line_of c.args.hub.now) (g.W.Wire.account c.args.wire.now) (g.W.Wire.faults c.args.wire.now) number)
-          (line_of c.loop.hub) (g.W.Wire.account c.loop.wire) (g.W.Wire.account c.next.new.self)
-          (g.W.Wire.faults c.loop.wire) (g.W.Wire.faults c.next.new.self) (g.P.Versions.state c.loop.hub.pages) c.loop.hub.greatest
+          (runs_moved page (TermOf c.args.hub.now.root) g.P.Versions.changed c.args.hub.now.limit number start events
+          (at_in (line_of c.args.hub.now) (g.W.Wire.told c.args.wire.now).account (g.W.Wire.told c.args.wire.now).faults number)
+          (line_of c.loop.hub) (g.W.Wire.told c.loop.wire).account (g.W.Wire.told c.next.new.self).account
+          (g.W.Wire.told c.loop.wire).faults (g.W.Wire.told c.next.new.self).faults (g.P.Versions.state c.loop.hub.pages) c.loop.hub.greatest
           c.in-Ok.ensures.stays.0 c.in-Ok.ensures.stays.1 (c.loop.invariant.6.6 number none))
           turned,
     )
+
+pub loop-init : goal.loop-init
+loop-init g c = (
+  refl,
+  refl,
+  c.requires.alive,
+  c.requires.own,
+  refl,
+  refl,
+  (
+    [],
+    refl,
+    refl,
+    refl,
+    refl,
+    refl,
+    λ number none.
+        runs_start (shown_in c.args.hub.now.root g.P.Versions.site g.P.Versions.templates) (TermOf c.args.hub.now.root) g.P.Versions.changed c.args.hub.now.limit number
+        (at_in (line_of c.args.hub.now) (g.W.Wire.told c.args.wire.now).account (g.W.Wire.told c.args.wire.now).faults number)
+        (g.P.Versions.state c.args.hub.now.pages) c.args.hub.now.greatest none,
+  ),
+)
 
 pub loop-preserved : goal.loop-preserved
 loop-preserved g c =
@@ -90,12 +112,12 @@ loop-preserved g c =
     let start : Moment g.P.Versions.State = record { current = g.P.Versions.state c.args.hub.now.pages; greatest = c.args.hub.now.greatest; input = Unopened } in
     let told = c.step.ensures.turned c.loop.invariant.2 in
     let turned = turned_at (λ r. shown_in r g.P.Versions.site g.P.Versions.templates) TermOf (g.P.Versions.state c.loop.hub.pages) c.loop.hub.root c.args.hub.now.root c.loop.hub.limit c.args.hub.now.limit c.loop.hub.greatest e told.0
-    (ats (line_of c.loop.hub) (g.W.Wire.account c.next.new.self) (g.W.Wire.faults c.next.new.self))
-    (ats (line_of c.step.new.self) (g.W.Wire.account c.step.new.wire) (g.W.Wire.faults c.step.new.wire))
+    (ats (line_of c.loop.hub) (g.W.Wire.told c.next.new.self).account (g.W.Wire.told c.next.new.self).faults)
+    (ats (line_of c.step.new.self) (g.W.Wire.told c.step.new.wire).account (g.W.Wire.told c.step.new.wire).faults)
     c.loop.invariant.1 c.loop.invariant.0 told.1 in
     let counted : length events ≡ c.loop.counter = c.loop.invariant.6.3 in
-    let next : IsNextOf (g.W.Wire.left c.loop.wire) e (g.W.Wire.left c.step.new.wire) =
-    subst (λ (o : Option (List WireEvent)). IsNextOf (g.W.Wire.left c.loop.wire) e o) (sym c.step.ensures.stays.1) c.in-Ok.ensures.left in (
+    let next : IsNextOf (g.W.Wire.told c.loop.wire).left e (g.W.Wire.told c.step.new.wire).left =
+    subst (λ (o : Option (List WireEvent)). IsNextOf (g.W.Wire.told c.loop.wire).left e o) (sym c.step.ensures.stays.1) c.in-Ok.ensures.left in (
       c.step.ensures.limit ∙ c.loop.invariant.0,
       c.step.ensures.root ∙ c.loop.invariant.1,
       alive,
@@ -104,16 +126,16 @@ loop-preserved g c =
       c.step.ensures.stays.2 ∙ c.in-Ok.ensures.stays.2 ∙ c.loop.invariant.5,
       (
         events ++ e ∷ [],
-        given_more (g.W.Wire.given c.args.wire.now) (g.W.Wire.given c.loop.wire) (g.W.Wire.given c.step.new.wire) events e c.loop.invariant.6.1
+        given_more (g.W.Wire.told c.args.wire.now).given (g.W.Wire.told c.loop.wire).given (g.W.Wire.told c.step.new.wire).given events e c.loop.invariant.6.1
             (c.step.ensures.stays.0 ∙ c.in-Ok.ensures.given),
-        drawn_more (g.W.Wire.left c.args.wire.now) (g.W.Wire.left c.loop.wire) (g.W.Wire.left c.step.new.wire) events e c.loop.invariant.6.2 next,
+        drawn_more (g.W.Wire.told c.args.wire.now).left (g.W.Wire.told c.loop.wire).left (g.W.Wire.told c.step.new.wire).left events e c.loop.invariant.6.2 next,
         omega (arith, counted, length-append events (e ∷ [])),
         none_more events e c.loop.invariant.6.4 (sym c.is_done.ensures ∙ c.if-is_done.false),
-        passes_more (rules_under c.args.hub.now.root g.P.Versions.site g.P.Versions.templates g.P.Versions.changed g.P.Versions.looks g.P.Versions.renews g.P.Versions.found) c.args.hub.now.limit (scene g.P.Versions.state g.P.Versions.cache c.args.hub.now (g.W.Wire.account c.args.wire.now) (g.W.Wire.faults c.args.wire.now))
-            (scene g.P.Versions.state g.P.Versions.cache c.loop.hub (g.W.Wire.account c.next.new.self) (g.W.Wire.faults c.next.new.self))
-            (scene g.P.Versions.state g.P.Versions.cache c.step.new.self (g.W.Wire.account c.step.new.wire) (g.W.Wire.faults c.step.new.wire)) events e
-            (passes_moved (rules_under c.args.hub.now.root g.P.Versions.site g.P.Versions.templates g.P.Versions.changed g.P.Versions.looks g.P.Versions.renews g.P.Versions.found) c.args.hub.now.limit (scene g.P.Versions.state g.P.Versions.cache c.args.hub.now (g.W.Wire.account c.args.wire.now) (g.W.Wire.faults c.args.wire.now)) events c.loop.hub g.P.Versions.state g.P.Versions.cache (g.W.Wire.account c.loop.wire) (g.W.Wire.account c.next.new.self)
-            (g.W.Wire.faults c.loop.wire) (g.W.Wire.faults c.next.new.self) c.in-Ok.ensures.stays.0 c.in-Ok.ensures.stays.1 c.loop.invariant.6.5)
+        passes_more (rules_under c.args.hub.now.root g.P.Versions.site g.P.Versions.templates g.P.Versions.changed g.P.Versions.looks g.P.Versions.renews g.P.Versions.found) c.args.hub.now.limit (scene g.P.Versions.state g.P.Versions.cache c.args.hub.now (g.W.Wire.told c.args.wire.now).account (g.W.Wire.told c.args.wire.now).faults)
+            (scene g.P.Versions.state g.P.Versions.cache c.loop.hub (g.W.Wire.told c.next.new.self).account (g.W.Wire.told c.next.new.self).faults)
+            (scene g.P.Versions.state g.P.Versions.cache c.step.new.self (g.W.Wire.told c.step.new.wire).account (g.W.Wire.told c.step.new.wire).faults) events e
+            (passes_moved (rules_under c.args.hub.now.root g.P.Versions.site g.P.Versions.templates g.P.Versions.changed g.P.Versions.looks g.P.Versions.renews g.P.Versions.found) c.args.hub.now.limit (scene g.P.Versions.state g.P.Versions.cache c.args.hub.now (g.W.Wire.told c.args.wire.now).account (g.W.Wire.told c.args.wire.now).faults) events c.loop.hub g.P.Versions.state g.P.Versions.cache (g.W.Wire.told c.loop.wire).account (g.W.Wire.told c.next.new.self).account
+            (g.W.Wire.told c.loop.wire).faults (g.W.Wire.told c.next.new.self).faults c.in-Ok.ensures.stays.0 c.in-Ok.ensures.stays.1 c.loop.invariant.6.5)
             (record {
               made = told.0;
               turned = turned;
@@ -125,14 +147,14 @@ loop-preserved g c =
             }),
         λ number none.
             runs_more page (TermOf c.args.hub.now.root) g.P.Versions.changed c.args.hub.now.limit number start events e
-            (at_in (line_of c.args.hub.now) (g.W.Wire.account c.args.wire.now) (g.W.Wire.faults c.args.wire.now) number) told.0
-            (ats (line_of c.loop.hub) (g.W.Wire.account c.next.new.self) (g.W.Wire.faults c.next.new.self))
-            (ats (line_of c.step.new.self) (g.W.Wire.account c.step.new.wire) (g.W.Wire.faults c.step.new.wire))
+            (at_in (line_of c.args.hub.now) (g.W.Wire.told c.args.wire.now).account (g.W.Wire.told c.args.wire.now).faults number) told.0
+            (ats (line_of c.loop.hub) (g.W.Wire.told c.next.new.self).account (g.W.Wire.told c.next.new.self).faults)
+            (ats (line_of c.step.new.self) (g.W.Wire.told c.step.new.wire).account (g.W.Wire.told c.step.new.wire).faults)
             (g.P.Versions.state c.loop.hub.pages) (g.P.Versions.state c.step.new.self.pages) c.loop.hub.greatest c.step.new.self.greatest some
-            (runs_moved page g.P.Versions.changed c.args.hub.now.limit number start events
-            (at_in (line_of c.args.hub.now) (g.W.Wire.account c.args.wire.now) (g.W.Wire.faults c.args.wire.now) number)
-            (line_of c.loop.hub) (g.W.Wire.account c.loop.wire) (g.W.Wire.account c.next.new.self)
-            (g.W.Wire.faults c.loop.wire) (g.W.Wire.faults c.next.new.self) (g.P.Versions.state c.loop.hub.pages) c.loop.hub.greatest
+            (runs_moved page (TermOf c.args.hub.now.root) g.P.Versions.changed c.args.hub.now.limit number start events
+            (at_in (line_of c.args.hub.now) (g.W.Wire.told c.args.wire.now).account (g.W.Wire.told c.args.wire.now).faults number)
+            (line_of c.loop.hub) (g.W.Wire.told c.loop.wire).account (g.W.Wire.told c.next.new.self).account
+            (g.W.Wire.told c.loop.wire).faults (g.W.Wire.told c.next.new.self).faults (g.P.Versions.state c.loop.hub.pages) c.loop.hub.greatest
             c.in-Ok.ensures.stays.0 c.in-Ok.ensures.stays.1 (c.loop.invariant.6.6 number none))
             turned
             (c.step.ensures.state c.loop.invariant.2 alive) (c.step.ensures.greatest c.loop.invariant.2),

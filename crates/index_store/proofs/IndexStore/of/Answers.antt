@@ -9,7 +9,7 @@ use Rattle.sd_value.specs.declared.Value.{Value}
 use Rattle.graph_spec.specs.DataGraph.{DataGraph, Name, node, IsValueOf, IsLabelOf, IsWellFormed}
 use Rattle.graph_spec.specs.declared.Edge.{Edge}
 use Rattle.edge_queries.specs.Ordered.{by_end_cmp, by_label_cmp}
-use Rattle.list_store.specs.Contents.{values-sound, values-complete, labels-sound, labels-complete}
+use Rattle.edge_queries.specs.Contents.{values-sound, values-complete, labels-sound, labels-complete}
 use Rattle.index_store.specs.Indexed.{IsOrder}
 use Rattle.index_store.proofs.IndexStore.of.Goals as goal
 

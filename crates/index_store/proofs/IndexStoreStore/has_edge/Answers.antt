@@ -2,7 +2,7 @@ use Rattle.std.proofs.Common.{ap, ◌∙◌, subst, sym}
 use Rattle.std.specs.List.Sorted.{IsStrictlySortedBy}
 use Rattle.graph_spec.specs.DataGraph.{DataGraph}
 use Rattle.graph_spec.specs.Orders.{edge_cmp}
-use Rattle.picks.specs.Picked.{HasOne}
+use Rattle.list_lookup.specs.Picked.{HasOne}
 use Rattle.edge_queries.specs.Places.{at_edge}
 use Rattle.edge_queries.specs.Listed.{edge_found, placed-edge}
 use Rattle.index_store.proofs.IndexStoreStore.has_edge.Goals as goal

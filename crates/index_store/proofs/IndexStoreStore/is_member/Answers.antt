@@ -2,7 +2,7 @@ use Rattle.std.proofs.Common.{ap, ◌∙◌, subst, sym}
 use Rattle.std.specs.List.Sorted.{IsStrictlySortedBy}
 use Rattle.graph_spec.specs.DataGraph.{DataGraph}
 use Rattle.graph_spec.specs.Orders.{member_cmp}
-use Rattle.picks.specs.Picked.{HasOne}
+use Rattle.list_lookup.specs.Picked.{HasOne}
 use Rattle.edge_queries.specs.Places.{at_member}
 use Rattle.edge_queries.specs.Listed.{member_found, placed-member}
 use Rattle.index_store.proofs.IndexStoreStore.is_member.Goals as goal

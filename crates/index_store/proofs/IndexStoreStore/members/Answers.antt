@@ -3,7 +3,7 @@ use Rattle.std.specs.List.Sorted.{IsStrictlySortedBy}
 use Rattle.graph_spec.specs.DataGraph.{DataGraph, node, IsWellFormed}
 use Rattle.graph_spec.specs.Orders.{member_cmp}
 use Rattle.std.proofs.lemmas.Result.{IfOk-weaker}
-use Rattle.picks.specs.Picked.{in_place}
+use Rattle.list_lookup.specs.Picked.{in_place}
 use Rattle.edge_queries.specs.Places.{at_collection}
 use Rattle.edge_queries.specs.Listed.{lists-members, listed-is, placed-collection}
 use Rattle.index_store.proofs.IndexStoreStore.members.Goals as goal

@@ -3,7 +3,7 @@ use Rattle.std.specs.List.Sorted.{IsStrictlySortedBy}
 use Rattle.graph_spec.specs.DataGraph.{DataGraph, IsWellFormed}
 use Rattle.graph_spec.specs.Orders.{edge_cmp}
 use Rattle.std.proofs.lemmas.Result.{IfOk-weaker}
-use Rattle.picks.specs.Picked.{in_place}
+use Rattle.list_lookup.specs.Picked.{in_place}
 use Rattle.edge_queries.specs.Places.{at_start_label}
 use Rattle.edge_queries.specs.Listed.{lists-out, listed-is, placed-start_label}
 use Rattle.index_store.proofs.IndexStoreStore.out.Goals as goal

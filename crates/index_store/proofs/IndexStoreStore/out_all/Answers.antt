@@ -3,7 +3,7 @@ use Rattle.std.specs.List.Sorted.{IsStrictlySortedBy}
 use Rattle.graph_spec.specs.DataGraph.{DataGraph, IsWellFormed}
 use Rattle.graph_spec.specs.Orders.{edge_cmp}
 use Rattle.std.proofs.lemmas.Result.{IfOk-weaker}
-use Rattle.picks.specs.Picked.{in_place}
+use Rattle.list_lookup.specs.Picked.{in_place}
 use Rattle.edge_queries.specs.Places.{at_start, step_from}
 use Rattle.edge_queries.specs.Listed.{lists-out_all, listed-is, placed-start}
 use Rattle.index_store.proofs.IndexStoreStore.out_all.Goals as goal

@@ -1,7 +1,7 @@
 use Rattle.std.proofs.Common.{ap, ◌∙◌, subst}
 use Rattle.graph_spec.specs.DataGraph.{DataGraph, IsWellFormed}
 use Rattle.std.proofs.lemmas.Result.{IfOk-weaker}
-use Rattle.picks.specs.Picked.{picked}
+use Rattle.list_lookup.specs.Picked.{picked}
 use Rattle.edge_queries.specs.Places.{at_label}
 use Rattle.edge_queries.specs.Listed.{lists-labelled, listed-is}
 use Rattle.list_store.proofs.ListStoreStore.edges_by.Goals as goal

@@ -1,7 +1,7 @@
 use Rattle.std.proofs.Common.{ap, ◌∙◌, subst}
 use Rattle.graph_spec.specs.DataGraph.{DataGraph, IsWellFormed}
 use Rattle.std.proofs.Common.{length}
-use Rattle.picks.specs.Picked.{in_place}
+use Rattle.list_lookup.specs.Picked.{in_place}
 use Rattle.edge_queries.specs.Places.{at_label}
 use Rattle.edge_queries.specs.Listed.{lists-labelled, counted}
 use Rattle.list_store.proofs.ListStoreStore.edges_of.Goals as goal

@@ -1,6 +1,6 @@
 use Rattle.std.proofs.Common.{ap, ◌∙◌, subst, sym}
 use Rattle.graph_spec.specs.DataGraph.{DataGraph}
-use Rattle.picks.specs.Picked.{HasOne}
+use Rattle.list_lookup.specs.Picked.{HasOne}
 use Rattle.edge_queries.specs.Places.{at_edge}
 use Rattle.edge_queries.specs.Listed.{edge_found}
 use Rattle.list_store.proofs.ListStoreStore.has_edge.Goals as goal

@@ -2,7 +2,7 @@ use Rattle.std.proofs.Common.{◌≡◌, ap, ◌∙◌, subst, sym}
 use Rattle.graph_spec.specs.DataGraph.{DataGraph, node, IsWellFormed}
 use Rattle.std.specs.Prelude.{Contains}
 use Rattle.sd_value.specs.AscendingLaws.{listed_as}
-use Rattle.picks.specs.Picked.{picked}
+use Rattle.list_lookup.specs.Picked.{picked}
 use Rattle.edge_queries.specs.Places.{at_end_label}
 use Rattle.edge_queries.specs.Listed.{picks-incoming_by}
 use Rattle.list_store.proofs.ListStoreStore.incoming_by.Goals as goal

@@ -3,7 +3,7 @@ use Rattle.std.specs.List.Sorted.{IsStrictlySortedBy}
 use Rattle.sd_value.specs.Ascending.{ListsExactly}
 use Rattle.sd_value.specs.Order.{bytes_cmp}
 use Rattle.graph_spec.specs.DataGraph.{DataGraph, IsLabelOf}
-use Rattle.picks.specs.Picked.{HasOne}
+use Rattle.list_lookup.specs.Picked.{HasOne}
 use Rattle.edge_queries.specs.Listed.{name_found, placed-name}
 use Rattle.list_store.proofs.ListStoreStore.is_label.Goals as goal
 

@@ -1,6 +1,6 @@
 use Rattle.std.proofs.Common.{ap, ◌∙◌, subst, sym}
 use Rattle.graph_spec.specs.DataGraph.{DataGraph}
-use Rattle.picks.specs.Picked.{HasOne}
+use Rattle.list_lookup.specs.Picked.{HasOne}
 use Rattle.edge_queries.specs.Places.{at_member}
 use Rattle.edge_queries.specs.Listed.{member_found}
 use Rattle.list_store.proofs.ListStoreStore.is_member.Goals as goal

@@ -3,7 +3,7 @@ use Rattle.std.specs.List.Sorted.{IsStrictlySortedBy}
 use Rattle.sd_value.specs.Ascending.{ListsExactly}
 use Rattle.sd_value.specs.Order.{value_cmp}
 use Rattle.graph_spec.specs.DataGraph.{DataGraph, IsValueOf}
-use Rattle.picks.specs.Picked.{HasOne}
+use Rattle.list_lookup.specs.Picked.{HasOne}
 use Rattle.edge_queries.specs.Listed.{value_found, placed-value}
 use Rattle.list_store.proofs.ListStoreStore.is_value.Goals as goal
 

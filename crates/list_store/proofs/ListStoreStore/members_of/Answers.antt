@@ -1,7 +1,7 @@
 use Rattle.std.proofs.Common.{ap, ◌∙◌, subst}
 use Rattle.graph_spec.specs.DataGraph.{DataGraph, node, IsWellFormed}
 use Rattle.std.proofs.Common.{length}
-use Rattle.picks.specs.Picked.{in_place}
+use Rattle.list_lookup.specs.Picked.{in_place}
 use Rattle.edge_queries.specs.Places.{at_collection}
 use Rattle.edge_queries.specs.Listed.{lists-members, counted}
 use Rattle.list_store.proofs.ListStoreStore.members_of.Goals as goal

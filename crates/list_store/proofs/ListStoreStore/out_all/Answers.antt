@@ -1,7 +1,7 @@
 use Rattle.std.proofs.Common.{ap, ◌∙◌, subst}
 use Rattle.graph_spec.specs.DataGraph.{DataGraph, IsWellFormed}
 use Rattle.std.proofs.lemmas.Result.{IfOk-weaker}
-use Rattle.picks.specs.Picked.{picked}
+use Rattle.list_lookup.specs.Picked.{picked}
 use Rattle.edge_queries.specs.Places.{at_start, step_from}
 use Rattle.edge_queries.specs.Listed.{lists-out_all, listed-is}
 use Rattle.list_store.proofs.ListStoreStore.out_all.Goals as goal

@@ -1,7 +1,7 @@
 use Rattle.std.proofs.Common.{subst, sym}
 use Rattle.std.specs.Prelude.{Contains}
 use Rattle.sd_value.specs.AscendingLaws.{listed_as}
-use Rattle.list_store.specs.Contents.{labels-sound, labels-complete}
+use Rattle.edge_queries.specs.Contents.{labels-sound, labels-complete}
 use Rattle.list_store.proofs.contents.labels_of.Goals as goal
 
 pub returns : goal.returns

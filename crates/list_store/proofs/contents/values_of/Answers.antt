@@ -1,7 +1,7 @@
 use Rattle.std.proofs.Common.{subst, sym}
 use Rattle.std.specs.Prelude.{Contains}
 use Rattle.sd_value.specs.AscendingLaws.{listed_as}
-use Rattle.list_store.specs.Contents.{values-sound, values-complete}
+use Rattle.edge_queries.specs.Contents.{values-sound, values-complete}
 use Rattle.list_store.proofs.contents.values_of.Goals as goal
 
 pub returns : goal.returns

@@ -1,6 +1,6 @@
 use Rattle.std.proofs.Common.{◌∙◌, refl, sym, subst}
 use Rattle.page_spec.specs.Page.{IsOutcome}
-use Rattle.page_cache.specs.Looks.{AreKept}
+use Rattle.page_cache.specs.Entries.{AreKept}
 use Rattle.page_cache.proofs.LookLemmas.{found_outcome, found_looks, found_sound, missed_looks, missed_sound, same_sound}
 use Rattle.page_cache.proofs.Cached.look.Goals as goal
 

@@ -1,6 +1,6 @@
 use Rattle.std.proofs.Common.{refl}
 use Rattle.std.proofs.lemmas.Option.{slice_get_read}
-use Rattle.planner.specs.Shape.{priced_collection, MemberCount}
+use Rattle.planner.specs.Counting.{priced_collection, MemberCount}
 use Rattle.planner.proofs.Counting.{counts-none, counts-step}
 use Rattle.planner.proofs.counts.collections_of.Goals as goal
 

@@ -1,5 +1,5 @@
 use Rattle.std.proofs.Common.{◌≡◌, drop}
-use Rattle.planner.specs.Shape.{count_of}
+use Rattle.plan_spec.specs.Shape.{count_of}
 use Rattle.planner.proofs.counts.count_of.Given as goal
 
 abbrev pub invariant-loop-entry : goal.invariant-loop-entry

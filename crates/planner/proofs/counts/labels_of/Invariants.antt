@@ -1,6 +1,6 @@
 use Rattle.std.proofs.Common.{take, map}
 use Rattle.struql_ast.specs.Reading.{condition_of}
-use Rattle.planner.specs.Shape.{priced_label, LabelCount, AreCountsOf}
+use Rattle.planner.specs.Counting.{priced_label, LabelCount, AreCountsOf}
 use Rattle.planner.proofs.counts.labels_of.Given as goal
 
 abbrev pub invariant-loop-condition : goal.invariant-loop-condition

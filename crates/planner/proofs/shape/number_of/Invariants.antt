@@ -1,6 +1,6 @@
 use Rattle.std.proofs.Common.{◌≡◌, ◌+◌, drop}
 use Rattle.std.specs.Prelude.{option_map}
-use Rattle.planner.specs.Shape.{number_of}
+use Rattle.plan_spec.specs.Shape.{number_of}
 use Rattle.planner.proofs.shape.number_of.Given as goal
 
 abbrev pub invariant-loop-i : goal.invariant-loop-i

@@ -1,6 +1,6 @@
 use Rattle.std.proofs.Common.{◌≡◌, sym, subst, length, refl}
-use Rattle.planner.specs.Shape.{shapes_of}
-use Rattle.planner.specs.Cost.{ShapesInRange}
+use Rattle.plan_spec.specs.Shape.{shapes_of}
+use Rattle.planner.specs.Ranges.{ShapesInRange}
 use Rattle.planner.proofs.Ranges.{shapes_in_range}
 use Rattle.planner.proofs.shape.shapes_of_chain.Goals as goal
 

@@ -1,5 +1,5 @@
 use Rattle.std.proofs.Common.{◌≡◌, length}
-use Rattle.planner.specs.Plan.{AllFalse}
+use Rattle.plan_spec.specs.Plan.{AllFalse}
 use Rattle.planner.proofs.steps.none_used.Given as goal
 
 abbrev pub invariant-loop : goal.invariant-loop

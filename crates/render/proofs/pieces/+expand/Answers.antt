@@ -4,7 +4,7 @@ use Rattle.sd_value.specs.declared.Value.{Value}
 use Rattle.page_spec.specs.declared.Bound.{Bound}
 use Rattle.tmpl.specs.declared.Part.{Part}
 use Rattle.tmpl.specs.Body.{body_of}
-use Rattle.page_spec.specs.Site.{Scene}
+use Rattle.page_spec.specs.Site.{Env}
 use Rattle.page_spec.specs.Pieces.{Item, Expands, Joined, Formatted, Holds, binding, bytes, delimiter}
 use Rattle.std.proofs.Common.{[], ◌++◌}
 use Rattle.std.specs.Prelude.{if◌then◌else◌, nat_lt}
@@ -25,7 +25,7 @@ expand-returns-in_err-expand_part-clause-kept g t c =
     let fixed = g.V.SiteView.fixed c.args.view.now in
     let s = g.V.SiteView.site fixed in
     let f = g.V.SiteView.templates fixed in
-    let sc : Scene = record { here = c.args.here.now; loops = c.args.loops.now } in
+    let sc : Env = record { here = c.args.here.now; loops = c.args.loops.now } in
     keeps_then c.loop-part.invariant.kept (λ q h. part_in s sc c.args.parts.now c.loop-part.part-index c.part-item.result q (omega arith) c.part-item.is (subst (λ x. SceneAsks (g.V.SiteView.site x) sc (part_before c.part-item.result done) q) c.loop-part.invariant.fixed h)) c.expand_part.ensures.kept
 
 pub expand-loop-part-preserved : goal.expand-loop-part-preserved
@@ -33,7 +33,7 @@ expand-loop-part-preserved g t c =
     let fixed = g.V.SiteView.fixed c.args.view.now in
     let s = g.V.SiteView.site fixed in
     let f = g.V.SiteView.templates fixed in
-    let sc : Scene = record { here = c.args.here.now; loops = c.args.loops.now } in
+    let sc : Env = record { here = c.args.here.now; loops = c.args.loops.now } in
     let so_far = c.loop-part.invariant.so_far in
     let one = subst (λ x. (ps : List Item) × PartExpands (g.V.SiteView.site x) (g.V.SiteView.templates x) sc c.part-item.result ps × Adds c.loop-part.out c.expand_part.new.out ps) c.loop-part.invariant.fixed c.in_ok-expand_part.ensures.answer in
     record {
@@ -52,7 +52,7 @@ expand-returns-clause-answer g t c =
     let fixed = g.V.SiteView.fixed c.args.view.now in
     let s = g.V.SiteView.site fixed in
     let f = g.V.SiteView.templates fixed in
-    let sc : Scene = record { here = c.args.here.now; loops = c.args.loops.now } in
+    let sc : Env = record { here = c.args.here.now; loops = c.args.loops.now } in
     let so_far = c.loop-part.invariant.so_far in
     (so_far.0, expands_all s f sc c.args.parts.now c.loop-part.part-index so_far.0 (omega arith) so_far.1, so_far.2)
 
@@ -61,7 +61,7 @@ expand_part-returns-in_err-values-in-Format-clause-kept g t c =
     let fixed = g.V.SiteView.fixed c.args.view.now in
     let s = g.V.SiteView.site fixed in
     let f = g.V.SiteView.templates fixed in
-    let sc : Scene = record { here = c.args.here.now; loops = c.args.loops.now } in
+    let sc : Env = record { here = c.args.here.now; loops = c.args.loops.now } in
     keeps_as (λ q h. format_asks s sc c.args.part.now c.in-Format.format q c.in-Format.is (inl h)) c.arranged.ensures.kept
 
 pub expand_part-returns-in_err-holds-in-Choice-clause-kept : goal.expand_part-returns-in_err-holds-in-Choice-clause-kept
@@ -69,7 +69,7 @@ expand_part-returns-in_err-holds-in-Choice-clause-kept g t c =
     let fixed = g.V.SiteView.fixed c.args.view.now in
     let s = g.V.SiteView.site fixed in
     let f = g.V.SiteView.templates fixed in
-    let sc : Scene = record { here = c.args.here.now; loops = c.args.loops.now } in
+    let sc : Env = record { here = c.args.here.now; loops = c.args.loops.now } in
     keeps_as (λ q h. choice_asks s sc c.args.part.now c.in-Choice.choice q c.in-Choice.is (inl h)) c.holds.ensures.kept
 
 pub expand_part-returns-in_err-values-in-Repeat-clause-kept : goal.expand_part-returns-in_err-values-in-Repeat-clause-kept
@@ -77,7 +77,7 @@ expand_part-returns-in_err-values-in-Repeat-clause-kept g t c =
     let fixed = g.V.SiteView.fixed c.args.view.now in
     let s = g.V.SiteView.site fixed in
     let f = g.V.SiteView.templates fixed in
-    let sc : Scene = record { here = c.args.here.now; loops = c.args.loops.now } in
+    let sc : Env = record { here = c.args.here.now; loops = c.args.loops.now } in
     keeps_as (λ q h. repeat_asks s sc c.args.part.now c.in-Repeat.repeat q c.in-Repeat.is (inl h)) c.in_err-values-in-Repeat.ensures.kept
 
 pub expand_part-loop-number-init : goal.expand_part-loop-number-init
@@ -85,7 +85,7 @@ expand_part-loop-number-init g t c =
     let fixed = g.V.SiteView.fixed c.args.view.now in
     let s = g.V.SiteView.site fixed in
     let f = g.V.SiteView.templates fixed in
-    let sc : Scene = record { here = c.args.here.now; loops = c.args.loops.now } in
+    let sc : Env = record { here = c.args.here.now; loops = c.args.loops.now } in
     record {
       own = search rules;
       fixed = search rules;
@@ -98,7 +98,7 @@ expand_part-returns-in_err-expand-in-Repeat-clause-kept g t c =
     let fixed = g.V.SiteView.fixed c.args.view.now in
     let s = g.V.SiteView.site fixed in
     let f = g.V.SiteView.templates fixed in
-    let sc : Scene = record { here = c.args.here.now; loops = c.args.loops.now } in
+    let sc : Env = record { here = c.args.here.now; loops = c.args.loops.now } in
     keeps_then c.loop-number.invariant.kept
     (λ q h. repeat_asks s sc c.args.part.now c.in-Repeat.repeat q c.in-Repeat.is (inr (
       c.value-item.result,
@@ -114,7 +114,7 @@ expand_part-loop-number-preserved g t c =
     let fixed = g.V.SiteView.fixed c.args.view.now in
     let s = g.V.SiteView.site fixed in
     let f = g.V.SiteView.templates fixed in
-    let sc : Scene = record { here = c.args.here.now; loops = c.args.loops.now } in
+    let sc : Env = record { here = c.args.here.now; loops = c.args.loops.now } in
     let x = c.in-Repeat.repeat in
     let v = c.value-item.result in
     let d = delimiter x.order.delimiter in
@@ -147,7 +147,7 @@ expand_part-returns-in-Text-clause-answer g t c =
     let fixed = g.V.SiteView.fixed c.args.view.now in
     let s = g.V.SiteView.site fixed in
     let f = g.V.SiteView.templates fixed in
-    let sc : Scene = record { here = c.args.here.now; loops = c.args.loops.now } in
+    let sc : Env = record { here = c.args.here.now; loops = c.args.loops.now } in
     ok_then _ _ c.add_copy.result (λ x adds. (bytes c.in-Text.text, λ rest b h. rw c.in-Text.is (b, h, refl), adds)) c.add_copy.ensures
 
 pub expand_part-returns-in_ok-values-in-Format-clause-kept : goal.expand_part-returns-in_ok-values-in-Format-clause-kept
@@ -155,7 +155,7 @@ expand_part-returns-in_ok-values-in-Format-clause-kept g t c =
     let fixed = g.V.SiteView.fixed c.args.view.now in
     let s = g.V.SiteView.site fixed in
     let f = g.V.SiteView.templates fixed in
-    let sc : Scene = record { here = c.args.here.now; loops = c.args.loops.now } in
+    let sc : Env = record { here = c.args.here.now; loops = c.args.loops.now } in
     let x = c.in-Format.format in
     keeps_then (keeps_as (λ q h. format_asks s sc c.args.part.now x q c.in-Format.is (inl h)) c.arranged.ensures.kept)
     (λ q h. format_asks s sc c.args.part.now x q c.in-Format.is (inr (h.0, arranged_in s sc x.values x.order c.in_ok-values-in-Format.values.items h.0 c.in_ok-values-in-Format.ensures.answer (subst (λ (l : List Value). Contains l h.0) c.as_slice.ensures.value h.1), subst (λ y. ModeAsks (g.V.SiteView.site y) x.mode h.0 q) c.arranged.ensures.fixed h.2)))
@@ -166,7 +166,7 @@ expand_part-returns-in_ok-values-in-Format-clause-answer g t c =
     let fixed = g.V.SiteView.fixed c.args.view.now in
     let s = g.V.SiteView.site fixed in
     let f = g.V.SiteView.templates fixed in
-    let sc : Scene = record { here = c.args.here.now; loops = c.args.loops.now } in
+    let sc : Env = record { here = c.args.here.now; loops = c.args.loops.now } in
     let x = c.in-Format.format in
     let d = delimiter x.order.delimiter in
     let all = subst (λ y. IfOk c.all_formatted.result (λ _. (ps : List Item) × Joined (Formatted (g.V.SiteView.site y) (g.V.SiteView.templates y) x.mode) d c.as_slice.result.now ps × Adds c.args.out.now c.all_formatted.new.out ps)) c.arranged.ensures.fixed c.all_formatted.ensures.answer in
@@ -181,7 +181,7 @@ expand_part-returns-then-is_taken-clause-kept g t c =
     let fixed = g.V.SiteView.fixed c.args.view.now in
     let s = g.V.SiteView.site fixed in
     let f = g.V.SiteView.templates fixed in
-    let sc : Scene = record { here = c.args.here.now; loops = c.args.loops.now } in
+    let sc : Env = record { here = c.args.here.now; loops = c.args.loops.now } in
     let x = c.in-Choice.choice in
     keeps_then (keeps_as (λ q h. choice_asks s sc c.args.part.now x q c.in-Choice.is (inl h)) c.holds.ensures.kept)
     (λ q h. choice_asks s sc c.args.part.now x q c.in-Choice.is (inr (inl (subst (λ (l : List Part). SceneAsks s sc (body_of l) q) c.as_slice-then-is_taken.ensures.value (subst (λ y. SceneAsks (g.V.SiteView.site y) sc (body_of c.as_slice-then-is_taken.result.now) q) c.holds.ensures.fixed h)))))
@@ -192,7 +192,7 @@ expand_part-returns-then-is_taken-clause-answer g t c =
     let fixed = g.V.SiteView.fixed c.args.view.now in
     let s = g.V.SiteView.site fixed in
     let f = g.V.SiteView.templates fixed in
-    let sc : Scene = record { here = c.args.here.now; loops = c.args.loops.now } in
+    let sc : Env = record { here = c.args.here.now; loops = c.args.loops.now } in
     let x = c.in-Choice.choice in
     let h = c.in_ok-holds-in-Choice.ensures.answer in
     let way = taken_by x.negated c.in_ok-holds-in-Choice.holds (Holds s sc x.values x.against) h.0 h.1 (sym c.is_taken.ensures ∙ c.if-is_taken.true) in
@@ -208,7 +208,7 @@ expand_part-returns-else-is_taken-clause-kept g t c =
     let fixed = g.V.SiteView.fixed c.args.view.now in
     let s = g.V.SiteView.site fixed in
     let f = g.V.SiteView.templates fixed in
-    let sc : Scene = record { here = c.args.here.now; loops = c.args.loops.now } in
+    let sc : Env = record { here = c.args.here.now; loops = c.args.loops.now } in
     let x = c.in-Choice.choice in
     keeps_then (keeps_as (λ q h. choice_asks s sc c.args.part.now x q c.in-Choice.is (inl h)) c.holds.ensures.kept)
     (λ q h. choice_asks s sc c.args.part.now x q c.in-Choice.is (inr (inr (subst (λ (l : List Part). SceneAsks s sc (body_of l) q) c.as_slice-else-is_taken.ensures.value (subst (λ y. SceneAsks (g.V.SiteView.site y) sc (body_of c.as_slice-else-is_taken.result.now) q) c.holds.ensures.fixed h)))))
@@ -219,7 +219,7 @@ expand_part-returns-else-is_taken-clause-answer g t c =
     let fixed = g.V.SiteView.fixed c.args.view.now in
     let s = g.V.SiteView.site fixed in
     let f = g.V.SiteView.templates fixed in
-    let sc : Scene = record { here = c.args.here.now; loops = c.args.loops.now } in
+    let sc : Env = record { here = c.args.here.now; loops = c.args.loops.now } in
     let x = c.in-Choice.choice in
     let h = c.in_ok-holds-in-Choice.ensures.answer in
     let way = not_taken_by x.negated c.in_ok-holds-in-Choice.holds (Holds s sc x.values x.against) h.0 h.1 (sym c.is_taken.ensures ∙ c.if-is_taken.false) in
@@ -235,7 +235,7 @@ expand_part-returns-after-loop-number-clause-answer g t c =
     let fixed = g.V.SiteView.fixed c.args.view.now in
     let s = g.V.SiteView.site fixed in
     let f = g.V.SiteView.templates fixed in
-    let sc : Scene = record { here = c.args.here.now; loops = c.args.loops.now } in
+    let sc : Env = record { here = c.args.here.now; loops = c.args.loops.now } in
     let x = c.in-Repeat.repeat in
     let P = λ (w : Value) (is : List Item). Expands s f (binding sc x.number w) (body_of x.body.items) is in
     let so_far = c.loop-number.invariant.joined in

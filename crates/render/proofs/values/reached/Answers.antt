@@ -5,7 +5,7 @@ use Rattle.sd_value.specs.declared.Value.{Value}
 use Rattle.sd_value.specs.Order.{value_cmp}
 use Rattle.sd_value.specs.Ascending.{ListsExactly}
 use Rattle.page_spec.specs.Site.{Reaches}
-use Rattle.render.proofs.Gather.{reached_more}
+use Rattle.render.proofs.Reached.{reached_more}
 use Rattle.render.proofs.Asked.{keeps_then, passes_at}
 use Rattle.render.proofs.values.reached.Goals as goal
 

@@ -2,7 +2,8 @@ use Rattle.std.proofs.Common.{subst, arith, ◌∙◌}
 use Rattle.std.proofs.lemmas.List.{take_all}
 use Rattle.sd_value.specs.Order.{value_cmp}
 use Rattle.sd_value.specs.Ascending.{ListsExactly}
-use Rattle.render.proofs.Gather.{Gathered, gathered_more, gathered_all}
+use Rattle.sd_value.specs.Gathered.{Gathered}
+use Rattle.sd_value.proofs.Gathering.{gathered_more, gathered_all}
 use Rattle.std.proofs.Common.{refl}
 use Rattle.render.proofs.Asked.{keeps_ask, item_in}
 use Rattle.render.proofs.values.step.Goals as goal

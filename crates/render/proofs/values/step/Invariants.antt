@@ -1,5 +1,5 @@
 use Rattle.std.proofs.Common.{◌≡◌, take}
-use Rattle.render.proofs.Gather.{Gathered}
+use Rattle.sd_value.specs.Gathered.{Gathered}
 use Rattle.page_spec.specs.Question.{out}
 use Rattle.sd_value.specs.declared.Value.{Value}
 use Rattle.std.specs.Prelude.{Contains}

@@ -2,7 +2,8 @@ use Rattle.std.proofs.Common.{◌∙◌, subst, arith}
 use Rattle.std.proofs.lemmas.List.{take_all}
 use Rattle.page_spec.specs.Site.{HasKey, keyed_cmp}
 use Rattle.render.specs.Rows.{HasRow}
-use Rattle.render.proofs.Gather.{Gathered, gathered_all}
+use Rattle.sd_value.specs.Gathered.{Gathered}
+use Rattle.sd_value.proofs.Gathering.{gathered_all}
 use Rattle.render.proofs.Keys.{rows_more}
 use Rattle.render.specs.Asks.{KeyAsks}
 use Rattle.render.proofs.Asked.{keeps_then, item_in}

@@ -1,6 +1,6 @@
 use Rattle.std.proofs.Common.{◌≡◌, take}
 use Rattle.render.specs.Rows.{HasRow}
-use Rattle.render.proofs.Gather.{Gathered}
+use Rattle.sd_value.specs.Gathered.{Gathered}
 use Rattle.sd_value.specs.declared.Value.{Value}
 use Rattle.std.specs.Prelude.{Contains}
 use Rattle.render.specs.Asks.{KeyAsks}

@@ -1,5 +1,5 @@
 use Rattle.std.proofs.Common.{◌≡◌, ◌++◌, drop}
-use Rattle.serve_run.specs.Opened.{opened_from, opened_in}
+use Rattle.serving_spec.specs.Openings.{opened_from, opened_in}
 use Rattle.serve_run.proofs.opened.opened_in.Given as goal
 
 abbrev pub invariant-loop-event : goal.invariant-loop-event

@@ -1,7 +1,7 @@
 use Rattle.std.proofs.Common.{◌∙◌, List, refl, subst}
 use Rattle.std.proofs.lemmas.List.{take_all}
-use Rattle.query_site.specs.declared.Scoped.{Scoped}
-use Rattle.site_asks.proofs.Some.{item_in}
+use Rattle.query_blocks.specs.declared.QueryBlock.{QueryBlock}
+use Rattle.site_lookups.proofs.Some.{item_in}
 use Rattle.site_build.specs.Materialised.{BlockAdds, BlocksAdd}
 use Rattle.site_build.proofs.Site.{none_added, one_more}
 use Rattle.site_build.proofs.contents.add_blocks.Goals as goal
@@ -21,4 +21,4 @@ loop-block-preserved g c = record {
 }
 
 pub returns-clause-adds : goal.returns-clause-adds
-returns-clause-adds g c = subst (λ (bs : List Scoped). BlocksAdd (g.A.Asker.graph c.args.asker.now) bs c.args.made.now c.loop-block.made) (take_all c.loop-block.block-index c.args.blocks.now c.loop-block-test.false) c.loop-block.invariant.adds
+returns-clause-adds g c = subst (λ (bs : List QueryBlock). BlocksAdd (g.A.Asker.graph c.args.asker.now) bs c.args.made.now c.loop-block.made) (take_all c.loop-block.block-index c.args.blocks.now c.loop-block-test.false) c.loop-block.invariant.adds

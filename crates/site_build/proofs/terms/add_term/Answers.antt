@@ -2,7 +2,7 @@ use Rattle.sd_value.specs.declared.Term.{Term}
 use Rattle.query_spec.specs.Rows.{value_in}
 use Rattle.struql_ast.specs.Reading.{term_of}
 use Rattle.site_spec.specs.Site.{IsTermUnder}
-use Rattle.site_asks.proofs.Targets.{term_same}
+use Rattle.site_lookups.proofs.Targets.{term_same}
 use Rattle.site_build.proofs.Growing.{gains_one}
 use Rattle.site_build.proofs.terms.add_term.Goals as goal
 

@@ -1,7 +1,7 @@
 use Rattle.std.proofs.Common.{refl, sym, subst}
 use Rattle.std.specs.List.Sorted.{IsStrictlySortedBy}
-use Rattle.query_site.specs.Blocks.{scope_of}
-use Rattle.site_asks.proofs.Targets.{page_edges, data_edges}
+use Rattle.query_blocks.specs.Blocks.{scope_of}
+use Rattle.site_lookups.proofs.Targets.{page_edges, data_edges}
 use Rattle.site_build.specs.Ordered.{joined_cmp}
 use Rattle.site_build.proofs.Site.{ends_listed}
 use Rattle.site_build.proofs.whole.edge_ends.Goals as goal

@@ -4,7 +4,7 @@ use Rattle.std.specs.List.Sorted.{IsStrictlySortedBy}
 use Rattle.sd_value.specs.declared.Value.{Value}
 use Rattle.sd_value.specs.Order.{value_cmp}
 use Rattle.sd_value.specs.Ascending.{ListsExactly}
-use Rattle.query_site.specs.Blocks.{scope_of}
+use Rattle.query_blocks.specs.Blocks.{scope_of}
 use Rattle.site_build.specs.declared.ordered.Put.{Put}
 use Rattle.site_build.specs.Ordered.{put_cmp}
 use Rattle.site_build.proofs.Site.{collected_all}

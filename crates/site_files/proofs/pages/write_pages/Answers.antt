@@ -4,7 +4,7 @@ use Rattle.std.specs.Prelude.{Contains, Ok}
 use Rattle.std.specs.Option.{IsSomeAnd}
 use Rattle.sd_value.specs.declared.Term.{Term}
 use Rattle.page_spec.specs.Page.{IsPresent}
-use Rattle.site_files.specs.Files.{IsPageText, StopsAt, PageEnds}
+use Rattle.files_spec.specs.Files.{IsPageText, StopsAt, PageEnds}
 use Rattle.site_files.proofs.InTurn.{more_told, all_told, stops_told, texts_more}
 use Rattle.site_files.proofs.Causes.{one_of, still_rose, fell_not}
 use Rattle.site_files.proofs.pages.write_pages.Goals as goal

@@ -4,7 +4,7 @@ use Rattle.std.specs.Option.{IsSomeAnd}
 use Rattle.sd_value.specs.declared.Term.{Term}
 use Rattle.edge_io.specs.Files.{FileMap}
 use Rattle.edge_io.specs.Counts.{NoneFell}
-use Rattle.site_files.specs.Files.{IsPageText, PagesWritten}
+use Rattle.files_spec.specs.Files.{IsPageText, PagesWritten}
 use Rattle.site_files.proofs.pages.write_pages.Given as goal
 
 abbrev pub invariant-loop-term : goal.invariant-loop-term

@@ -3,7 +3,7 @@ use Rattle.std.specs.Option.{IsSomeAnd}
 use Rattle.page_spec.specs.Page.{IsOutcome}
 use Rattle.page_spec.specs.declared.Outcome.TheVariants as outcome
 use Rattle.address.specs.Targets.{root_name}
-use Rattle.site_files.specs.Files.{IndexEnds, root_term}
+use Rattle.files_spec.specs.Files.{IndexEnds, root_term}
 use Rattle.site_files.proofs.InTurn.{pages_stop, index_then, no_root_then}
 use Rattle.site_files.proofs.written.write_site.Goals as goal
 

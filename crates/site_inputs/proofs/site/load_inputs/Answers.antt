@@ -1,6 +1,6 @@
 use Rattle.std.proofs.Common.{◌∙◌, ◌∷◌, [], arith}
 use Rattle.std.proofs.lemmas.Result.{err_from_is_err_and}
-use Rattle.site_inputs.specs.Sites.{input_paths}
+use Rattle.command_spec.specs.Inputs.{input_paths}
 use Rattle.site_inputs.proofs.Runs.{none_fell}
 use Rattle.site_inputs.proofs.Sites.{templates_fault}
 use Rattle.site_inputs.proofs.Causes.{cause_within, of_sources, of_query, of_templates}

@@ -1,5 +1,5 @@
 use Rattle.std.proofs.Common.{refl}
-use Rattle.skolem.proofs.Names.{names_equal, names_differ}
+use Rattle.query_spec.proofs.VariableNumbers.{names_equal, names_differ}
 use Rattle.skolem.proofs.Declared.{declared_here, undeclared_more, undeclared_all}
 use Rattle.skolem.proofs.bound.is_declared.Goals as goal
 

@@ -23,5 +23,5 @@ at_item xs ys i x e l is = subst (λ (zs : List Written). (i < length zs) × (x 
 
 pub returns-in_default : goal.returns-in_default
 returns-in_default c =
-    let at = at_item c.as_slice-written.result.now c.args.term0.now.args.items c.loop-operand.operand-index c.operand-item.result c.as_slice-written.ensures.value c.loop-operand-test.true c.operand-item.is in
-    no_instance c.args.variables.now c.args.row.now c.args.term0.now c.loop-operand.operand-index c.operand-item.result at.0 at.1 c.in_default.ensures
+    let at = at_item c.as_slice-written.result.now c.args.skolem_term.now.args.items c.loop-operand.operand-index c.operand-item.result c.as_slice-written.ensures.value c.loop-operand-test.true c.operand-item.is in
+    no_instance c.args.variables.now c.args.row.now c.args.skolem_term.now c.loop-operand.operand-index c.operand-item.result at.0 at.1 c.in_default.ensures

@@ -7,8 +7,8 @@ use Rattle.grammar.proofs.Loop.{is_done}
 use Rattle.struql_ast.specs.Written.{link_written}
 use Rattle.token_reader.specs.Terminals.{is_sign}
 use Rattle.struql_text.specs.Reading.{read_further, read_link}
-use Rattle.struql_laws.proofs.TermParts.{link_part}
-use Rattle.struql_laws.proofs.ListParts.{part_keeps}
+use Rattle.struql_text.proofs.TermParts.{link_part}
+use Rattle.struql_text.proofs.ListParts.{part_keeps}
 use Rattle.struql_text.proofs.Lists.{list_shrinks, list_ends, list_goes_on, list_smaller}
 use Rattle.struql_parse.proofs.clauses.links_from.Goals as goal
 

@@ -1,5 +1,5 @@
 use Rattle.std.proofs.Common.{arith, ◌≡◌, ◌≤◌, [], length, ap, ◌∙◌}
-use Rattle.path_spec.specs.Language.{positions}
+use Rattle.rpe.specs.Language.{positions}
 use Rattle.rpe.specs.Reading.{regex_of}
 use Rattle.automaton.specs.Building.{IsAdded}
 use Rattle.automaton.proofs.Spelling.{length-letters_of}

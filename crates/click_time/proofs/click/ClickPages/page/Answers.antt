@@ -1,8 +1,8 @@
 use Rattle.std.proofs.Common.{◌≤◌, ◌+◌, ℕ, List, sym, subst, ap}
 use Rattle.tmpl.specs.Reading.{file_of}
 use Rattle.page_spec.specs.Question.{Question}
-use Rattle.query_site.specs.Blocks.{scope_of}
-use Rattle.query_site.specs.Site.{site_of}
+use Rattle.query_blocks.specs.Blocks.{scope_of}
+use Rattle.weight_spec.specs.Site.{site_of}
 use Rattle.demand_spec.specs.Reads.{MayAsk, KeepsOnly}
 use Rattle.click_time.specs.Fixed.{Fixed, Keeps, Account, questions}
 use Rattle.click_time.proofs.Account.{account_weight}

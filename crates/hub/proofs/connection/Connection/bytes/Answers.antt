@@ -2,7 +2,7 @@ use Rattle.std.proofs.Common.{◌≡◌, ◌<◌, ◌≤◌, ◌==◌, ◌-◌, 
 use Rattle.std.proofs.lemmas.List.{take_rest, length-take-le, take_all}
 use Rattle.page_spec.specs.Address.{TermOf}
 use Rattle.hub.specs.Pieces.{StaysOpen}
-use Rattle.hub.specs.Shown.{shown_in}
+use Rattle.serving_spec.specs.Shown.{shown_in}
 use Rattle.hub.proofs.MadeLemmas.{made_more, made_so_far, looked_on}
 use Rattle.http_spec.specs.declared.Standing.TheVariants.{Open, Closed, Short, Lost}
 use Rattle.hub.proofs.StepLemmas.{waits, asked_rest, no_head_asked, starts, fed_case}
@@ -63,13 +63,13 @@ loop-from-preserved g c =
     let inv = c.loop-from.invariant.2 in
     let sent = c.in-Open.ensures.sent in
     let answered = answered_now (shown_in c.args.root.now g.P.Versions.site g.P.Versions.templates) (TermOf c.args.root.now) sent.0 Open (g.P.Versions.state c.loop-from.pages) (g.P.Versions.state c.args.pages.now) c.in-Some.ask c.target.result.now c.feed-fed.new.self.target c.loop-from.self-inside.left
-    (g.W.Wire.account c.loop-from.wire c.args.number) (g.W.Wire.account c.answer.new.wire c.args.number) (g.W.Wire.faults c.loop-from.wire c.args.number)
-    (g.W.Wire.faults c.answer.new.wire c.args.number) c.loop-from.invariant.1 c.target.ensures sent.1 in
+    ((g.W.Wire.told c.loop-from.wire).account c.args.number) ((g.W.Wire.told c.answer.new.wire).account c.args.number) ((g.W.Wire.told c.loop-from.wire).faults c.args.number)
+    ((g.W.Wire.told c.answer.new.wire).faults c.args.number) c.loop-from.invariant.1 c.target.ensures sent.1 in
     let opened = serve_open (shown_in c.args.root.now g.P.Versions.site g.P.Versions.templates (g.P.Versions.state c.args.pages.now)) (TermOf c.args.root.now) c.args.self.now piece p from c.feed-fed.result.taken
     (record { rest = c.loop-from.self-inside.reading.rest; left = c.loop-from.self-inside.left }) c.feed-fed.new.self inv.0
     (take_rest piece from) inv.1 c.in-Some.ask fed
-    (g.W.Wire.account c.args.wire.now c.args.number) (g.W.Wire.account c.loop-from.wire c.args.number) (g.W.Wire.account c.answer.new.wire c.args.number)
-    (g.W.Wire.faults c.args.wire.now c.args.number) (g.W.Wire.faults c.loop-from.wire c.args.number) (g.W.Wire.faults c.answer.new.wire c.args.number)
+    ((g.W.Wire.told c.args.wire.now).account c.args.number) ((g.W.Wire.told c.loop-from.wire).account c.args.number) ((g.W.Wire.told c.answer.new.wire).account c.args.number)
+    ((g.W.Wire.told c.args.wire.now).faults c.args.number) ((g.W.Wire.told c.loop-from.wire).faults c.args.number) ((g.W.Wire.told c.answer.new.wire).faults c.args.number)
     inv.2 c.loop-from.invariant.4 inv.3 inv.4 sent.0 answered in (
       omega (arith, c.feed-fed.ensures.taken, length-take-le (length piece - from) (drop from piece)),
       c.in-Open.ensures.state ∙ c.loop-from.invariant.1,
@@ -129,14 +129,14 @@ returns-in-Closed-clause-served g c =
     let inv = c.loop-from.invariant.2 in
     let sent = c.in-Closed.ensures.sent in
     let answered = answered_now (shown_in c.args.root.now g.P.Versions.site g.P.Versions.templates) (TermOf c.args.root.now) sent.0 Closed (g.P.Versions.state c.loop-from.pages) (g.P.Versions.state c.args.pages.now) c.in-Some.ask c.target.result.now c.feed-fed.new.self.target c.loop-from.self-inside.left
-    (g.W.Wire.account c.loop-from.wire c.args.number) (g.W.Wire.account c.answer.new.wire c.args.number) (g.W.Wire.faults c.loop-from.wire c.args.number)
-    (g.W.Wire.faults c.answer.new.wire c.args.number) c.loop-from.invariant.1 c.target.ensures sent.1 in (
+    ((g.W.Wire.told c.loop-from.wire).account c.args.number) ((g.W.Wire.told c.answer.new.wire).account c.args.number) ((g.W.Wire.told c.loop-from.wire).faults c.args.number)
+    ((g.W.Wire.told c.answer.new.wire).faults c.args.number) c.loop-from.invariant.1 c.target.ensures sent.1 in (
       record { replies = length inv.0 + sent.0.replies; terms = inv.3 ++ sent.0.terms },
       serve_closed (shown_in c.args.root.now g.P.Versions.site g.P.Versions.templates (g.P.Versions.state c.args.pages.now)) (TermOf c.args.root.now) c.args.self.now piece p from c.feed-fed.result.taken
           (record { rest = c.loop-from.self-inside.reading.rest; left = c.loop-from.self-inside.left }) c.feed-fed.new.self inv.0
           (take_rest piece from) inv.1 c.in-Some.ask fed
-          (g.W.Wire.account c.args.wire.now c.args.number) (g.W.Wire.account c.loop-from.wire c.args.number) (g.W.Wire.account c.answer.new.wire c.args.number)
-          (g.W.Wire.faults c.args.wire.now c.args.number) (g.W.Wire.faults c.loop-from.wire c.args.number) (g.W.Wire.faults c.answer.new.wire c.args.number)
+          ((g.W.Wire.told c.args.wire.now).account c.args.number) ((g.W.Wire.told c.loop-from.wire).account c.args.number) ((g.W.Wire.told c.answer.new.wire).account c.args.number)
+          ((g.W.Wire.told c.args.wire.now).faults c.args.number) ((g.W.Wire.told c.loop-from.wire).faults c.args.number) ((g.W.Wire.told c.answer.new.wire).faults c.args.number)
           inv.2 c.loop-from.invariant.4 inv.3 inv.4 sent.0 c.args.self.now answered,
       made_so_far c.args.made.now c.loop-from.made c.answer.new.made (length inv.0) sent.0.replies inv.5 sent.2,
       looked_on g.P.Versions.looks (g.P.Versions.state c.loop-from.pages) (g.P.Versions.state c.args.pages.now) inv.3 sent.0.terms
@@ -152,14 +152,14 @@ returns-in-Short-clause-served g c =
     let inv = c.loop-from.invariant.2 in
     let sent = c.in-Short.ensures.sent in
     let answered = answered_now (shown_in c.args.root.now g.P.Versions.site g.P.Versions.templates) (TermOf c.args.root.now) sent.0 Short (g.P.Versions.state c.loop-from.pages) (g.P.Versions.state c.args.pages.now) c.in-Some.ask c.target.result.now c.feed-fed.new.self.target c.loop-from.self-inside.left
-    (g.W.Wire.account c.loop-from.wire c.args.number) (g.W.Wire.account c.answer.new.wire c.args.number) (g.W.Wire.faults c.loop-from.wire c.args.number)
-    (g.W.Wire.faults c.answer.new.wire c.args.number) c.loop-from.invariant.1 c.target.ensures sent.1 in (
+    ((g.W.Wire.told c.loop-from.wire).account c.args.number) ((g.W.Wire.told c.answer.new.wire).account c.args.number) ((g.W.Wire.told c.loop-from.wire).faults c.args.number)
+    ((g.W.Wire.told c.answer.new.wire).faults c.args.number) c.loop-from.invariant.1 c.target.ensures sent.1 in (
       record { replies = length inv.0 + sent.0.replies; terms = inv.3 ++ sent.0.terms },
       serve_short (shown_in c.args.root.now g.P.Versions.site g.P.Versions.templates (g.P.Versions.state c.args.pages.now)) (TermOf c.args.root.now) c.args.self.now piece p from c.feed-fed.result.taken
           (record { rest = c.loop-from.self-inside.reading.rest; left = c.loop-from.self-inside.left }) c.feed-fed.new.self inv.0
           (take_rest piece from) inv.1 c.in-Some.ask fed
-          (g.W.Wire.account c.args.wire.now c.args.number) (g.W.Wire.account c.loop-from.wire c.args.number) (g.W.Wire.account c.answer.new.wire c.args.number)
-          (g.W.Wire.faults c.args.wire.now c.args.number) (g.W.Wire.faults c.loop-from.wire c.args.number) (g.W.Wire.faults c.answer.new.wire c.args.number)
+          ((g.W.Wire.told c.args.wire.now).account c.args.number) ((g.W.Wire.told c.loop-from.wire).account c.args.number) ((g.W.Wire.told c.answer.new.wire).account c.args.number)
+          ((g.W.Wire.told c.args.wire.now).faults c.args.number) ((g.W.Wire.told c.loop-from.wire).faults c.args.number) ((g.W.Wire.told c.answer.new.wire).faults c.args.number)
           inv.2 c.loop-from.invariant.4 inv.3 inv.4 sent.0 c.args.self.now answered,
       made_so_far c.args.made.now c.loop-from.made c.answer.new.made (length inv.0) sent.0.replies inv.5 sent.2,
       looked_on g.P.Versions.looks (g.P.Versions.state c.loop-from.pages) (g.P.Versions.state c.args.pages.now) inv.3 sent.0.terms
@@ -175,14 +175,14 @@ returns-in-Lost-clause-served g c =
     let inv = c.loop-from.invariant.2 in
     let sent = c.in-Lost.ensures.sent in
     let answered = answered_now (shown_in c.args.root.now g.P.Versions.site g.P.Versions.templates) (TermOf c.args.root.now) sent.0 Lost (g.P.Versions.state c.loop-from.pages) (g.P.Versions.state c.args.pages.now) c.in-Some.ask c.target.result.now c.feed-fed.new.self.target c.loop-from.self-inside.left
-    (g.W.Wire.account c.loop-from.wire c.args.number) (g.W.Wire.account c.answer.new.wire c.args.number) (g.W.Wire.faults c.loop-from.wire c.args.number)
-    (g.W.Wire.faults c.answer.new.wire c.args.number) c.loop-from.invariant.1 c.target.ensures sent.1 in (
+    ((g.W.Wire.told c.loop-from.wire).account c.args.number) ((g.W.Wire.told c.answer.new.wire).account c.args.number) ((g.W.Wire.told c.loop-from.wire).faults c.args.number)
+    ((g.W.Wire.told c.answer.new.wire).faults c.args.number) c.loop-from.invariant.1 c.target.ensures sent.1 in (
       record { replies = length inv.0 + sent.0.replies; terms = inv.3 ++ sent.0.terms },
       serve_lost (shown_in c.args.root.now g.P.Versions.site g.P.Versions.templates (g.P.Versions.state c.args.pages.now)) (TermOf c.args.root.now) c.args.self.now piece p from c.feed-fed.result.taken
           (record { rest = c.loop-from.self-inside.reading.rest; left = c.loop-from.self-inside.left }) c.feed-fed.new.self inv.0
           (take_rest piece from) inv.1 c.in-Some.ask fed
-          (g.W.Wire.account c.args.wire.now c.args.number) (g.W.Wire.account c.loop-from.wire c.args.number) (g.W.Wire.account c.answer.new.wire c.args.number)
-          (g.W.Wire.faults c.args.wire.now c.args.number) (g.W.Wire.faults c.loop-from.wire c.args.number) (g.W.Wire.faults c.answer.new.wire c.args.number)
+          ((g.W.Wire.told c.args.wire.now).account c.args.number) ((g.W.Wire.told c.loop-from.wire).account c.args.number) ((g.W.Wire.told c.answer.new.wire).account c.args.number)
+          ((g.W.Wire.told c.args.wire.now).faults c.args.number) ((g.W.Wire.told c.loop-from.wire).faults c.args.number) ((g.W.Wire.told c.answer.new.wire).faults c.args.number)
           inv.2 c.loop-from.invariant.4 inv.3 inv.4 sent.0 c.args.self.now answered,
       made_so_far c.args.made.now c.loop-from.made c.answer.new.made (length inv.0) sent.0.replies inv.5 sent.2,
       looked_on g.P.Versions.looks (g.P.Versions.state c.loop-from.pages) (g.P.Versions.state c.args.pages.now) inv.3 sent.0.terms

@@ -2,8 +2,8 @@ use Rattle.std.proofs.Common.{◌≡◌, ℕ, List, refl, ap, subst}
 use Rattle.page_spec.specs.Address.{TermOf}
 use Rattle.http_reply.specs.Feeding.{Held, EndsWith}
 use Rattle.hub.specs.Line.{Line}
-use Rattle.hub.specs.Made.{nothing}
-use Rattle.hub.specs.Shown.{shown_in}
+use Rattle.serving_spec.specs.Made.{nothing}
+use Rattle.serving_spec.specs.Shown.{shown_in}
 use Rattle.hub.proofs.StepLemmas.{no_head_asked}
 use Rattle.hub.proofs.ServeLemmas.{finish_clean, finish_asked}
 use Rattle.hub.proofs.connection.Connection.end.Goals as goal

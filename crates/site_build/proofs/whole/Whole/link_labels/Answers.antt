@@ -1,5 +1,5 @@
 use Rattle.std.proofs.Common.{List, refl, subst}
-use Rattle.query_site.specs.Blocks.{scope_of}
+use Rattle.query_blocks.specs.Blocks.{scope_of}
 use Rattle.site_build.specs.declared.ordered.Joined.{Joined}
 use Rattle.site_build.proofs.Site.{LabelsOf, labels_listed}
 use Rattle.site_build.proofs.whole.Whole.link_labels.Goals as goal

@@ -4,7 +4,7 @@ use Rattle.sd_value.specs.declared.Term.{Term}
 use Rattle.sd_value.specs.Order.{term_cmp}
 use Rattle.sd_value.specs.Ascending.{ListsExactly}
 use Rattle.tmpl.specs.Reading.{file_of}
-use Rattle.query_site.specs.Blocks.{scope_of}
+use Rattle.query_blocks.specs.Blocks.{scope_of}
 use Rattle.site_build.specs.Materialised.{HasPageTemplate}
 use Rattle.site_build.proofs.Site.{pages_listed}
 use Rattle.site_build.proofs.whole.Whole.pages.Goals as goal

@@ -1,7 +1,7 @@
 use Rattle.std.proofs.Common.{◌∙◌, sym, subst}
 use Rattle.sd_value.specs.Order.{term_cmp}
 use Rattle.sd_value.specs.Ascending.{ListsExactly}
-use Rattle.query_site.specs.Blocks.{scope_of}
+use Rattle.query_blocks.specs.Blocks.{scope_of}
 use Rattle.site_spec.specs.Site.{InSite}
 use Rattle.site_build.proofs.whole.Whole.terms.Goals as goal
 

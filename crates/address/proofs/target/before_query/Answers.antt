@@ -1,0 +1,15 @@
+use Rattle.std.proofs.Common.{ℕ, ◌==◌, length, take, sym, ap, ◌∙◌, arith, rules, take_all}
+use Rattle.std.proofs.lemmas.List.Sums.{position_or_len_is}
+use Rattle.address.proofs.target.before_query.Goals as goal
+
+pub returns-in-Some : goal.returns-in-Some
+returns-in-Some c =
+    let text = c.args.text.now in
+    let found = position_or_len_is (λ (b : ℕ). b == 63) text c.in-Some.end 0 (search rules) (search rules) (search rules) in
+    ap (λ n. take n text) (sym found)
+
+pub returns-in-None : goal.returns-in-None
+returns-in-None c =
+    let text = c.args.text.now in
+    let none = position_or_len_is (λ (b : ℕ). b == 63) text (length text) 0 (omega arith) (search rules) (search rules) in
+    sym (ap (λ n. take n text) none ∙ take_all (length text) text (omega arith))

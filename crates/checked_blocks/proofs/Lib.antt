@@ -1,9 +1,0 @@
-pub mod Names
-pub mod Plain
-pub mod Placed
-pub mod Sorts
-pub mod Chains
-pub mod WellMade
-pub mod Safe
-pub mod Whole
-pub mod Parts

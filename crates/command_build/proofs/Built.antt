@@ -1,0 +1,175 @@
+-- How a build ends.
+use Rattle.std.proofs.Common.{◌≡◌, ◌∙◌, ℕ, List, inl, inr, ⊎_elim, refl, sym, ap, subst, append_assoc, arith}
+use Rattle.std.specs.Prelude.{Option, None, Some, Result, Ok, Err, codes, ⊤}
+use Rattle.sd_value.specs.declared.Term.{Term}
+use Rattle.edge_io.specs.Files.{FileMap}
+use Rattle.graph_spec.specs.DataGraph.{DataGraph}
+use Rattle.tmpl.specs.Body.{TemplateFile}
+use Rattle.site_spec.specs.Site.{Scope}
+use Rattle.weight_spec.specs.Site.{site_of}
+use Rattle.page_spec.specs.Site.{Site}
+use Rattle.run_report.specs.declared.status.PageKind.{PageKind}
+use Rattle.files_spec.specs.declared.stop.Stop.{Stop}
+use Rattle.files_spec.specs.declared.stop.Stop.TheVariants as stop
+use Rattle.files_spec.specs.Paths.{file_name}
+use Rattle.files_spec.specs.Files.{SiteEnds}
+use Rattle.files_spec.specs.Causes.{IsSitePath, WritesHaveCause}
+use Rattle.command_spec.specs.declared.BuildCommand.{BuildCommand}
+use Rattle.std.specs.Option.{IsSomeAnd}
+use Rattle.std.specs.Prelude.{IfOk, length}
+use Rattle.sd_value.specs.Order.{term_cmp}
+use Rattle.sd_value.specs.Ascending.{ListsExactly}
+use Rattle.page_spec.specs.Page.{IsPresent}
+use Rattle.site_spec.specs.Site.{scope_of}
+use Rattle.site_spec.specs.Root.{root_function}
+use Rattle.run_report.specs.declared.status.Status.{Status}
+use Rattle.run_report.specs.declared.status.Status.TheVariants as status
+use Rattle.edge_io.specs.Sink.{Gains, GainsPart}
+use Rattle.site_inputs.specs.declared.fault.Fault.{Fault}
+use Rattle.site_inputs.specs.declared.fault.Fault.TheVariants as fault
+use Rattle.site_inputs.specs.Sites.{Inputs, InputsEnd}
+use Rattle.site_inputs.specs.Statuses.{ReadRose, status_of}
+use Rattle.site_inputs.specs.Outside.{Host, host}
+use Rattle.site_inputs.proofs.PageFaults.{inputs_none}
+use Rattle.command_build.specs.Ends.{BuiltEnds, Builds, BuildEnds, IsUnder, build_text, written_end, stop_status}
+
+-- a page's fault leaves what want of memory at that page leaves
+site_no_memory : (s : Site) (f : TemplateFile) (folder : List ℕ) (terms : List Term) (root : Option (List ℕ)) (old new : FileMap) (term : Term) (kind : PageKind)
+    → SiteEnds s f folder terms root old new (Err (stop.Faulty term kind)) → SiteEnds s f folder terms root old new (Err stop.NoMemory)
+site_no_memory s f folder terms root old new term kind (inl at) = inl (record { front = at.front; at = at.at; back = at.back; split = at.split; between = at.between; written = at.written; stops = at.stops.2 })
+site_no_memory s f folder terms None old new term kind (inr after) = absurd after.then_root
+site_no_memory s f folder terms (Some root) old new term kind (inr after) = absurd after.then_root
+
+not_both : (term : Term) (kind : PageKind) → ◌≡◌ {A = Result (List ℕ) Stop} (Err (stop.Faulty term kind)) (Err stop.NoMemory) → ⊥
+not_both term kind e = cc
+
+pub faulty_is_no_memory : (old new : FileMap) (command : BuildCommand) (term : Term) (kind : PageKind) → Builds old new command (Err (stop.Faulty term kind)) → Builds old new command (Err stop.NoMemory)
+faulty_is_no_memory old new command term kind b = record {
+  inputs = b.inputs;
+  taken = b.taken;
+  built = ⊎_elim
+      (λ i. inl (record { pages = i.pages; are_pages = i.are_pages; files = site_no_memory _ _ _ _ _ _ _ term kind i.files; told = tt }))
+      (λ n. absurd (not_both term kind n.0))
+      b.built;
+}
+
+-- the files of a site over equal parts
+pub site_ends_over : (graph graph2 : DataGraph) (scope scope2 : Scope) (file file2 : TemplateFile) (root root2 : Option (List ℕ)) (folder : List ℕ) (terms : List Term) (old new : FileMap) (end : Result ⊤ Stop)
+    → graph ≡ graph2 → scope ≡ scope2 → file ≡ file2 → root ≡ root2 → SiteEnds (site_of graph scope) file folder terms root old new end → SiteEnds (site_of graph2 scope2) file2 folder terms root2 old new end
+site_ends_over graph graph2 scope scope2 file file2 root root2 folder terms old new end is_graph is_scope is_file is_root ends = rw (sym is_graph, sym is_scope, sym is_file, sym is_root) ends
+
+-- the paths of a site lie under its folder
+pub under_folder : (folder : List ℕ) (terms : List Term) (path : List ℕ) → IsSitePath folder terms path → IsUnder folder path
+under_folder folder terms path (inl page) = (file_name page.0, page.2)
+under_folder folder terms path (inr index) = (codes "index.html", index ∙ sym (append_assoc folder (codes "/") (codes "index.html")))
+
+-- a site that was written from its inputs
+pub built_told : (n : Option FileMap) (s : Inputs) (graph : DataGraph) (scope : Scope) (file : TemplateFile) (root : Option (List ℕ)) (folder : List ℕ) (terms : List Term) (old : FileMap) (end : Result (List ℕ) Stop)
+    → graph ≡ s.graph → scope ≡ scope_of s.query → file ≡ s.templates → root ≡ root_function s.query → ListsExactly term_cmp (IsPresent (site_of graph scope) file) terms → IfOk end (λ text. text ≡ build_text (length terms))
+    → IsSomeAnd n (λ new. SiteEnds (site_of graph scope) file folder terms root old new (written_end end)) → IsSomeAnd n (λ new. BuiltEnds s folder old new end)
+built_told None s graph scope file root folder terms old end is_graph is_scope is_file is_root listed told h = h
+built_told (Some new) s graph scope file root folder terms old end is_graph is_scope is_file is_root listed told h = inl (record {
+  pages = terms;
+  are_pages = rw (sym is_graph, sym is_scope, sym is_file) listed;
+  files = site_ends_over graph s.graph scope (scope_of s.query) file s.templates root (root_function s.query) folder terms old new (written_end end) is_graph is_scope is_file is_root h;
+  told = told;
+})
+
+-- no memory before the first file
+pub unbuilt_told : (o n : Option FileMap) (s : Inputs) (folder : List ℕ) (old : FileMap) (end : Result (List ℕ) Stop) → n ≡ o → o ≡ Some old → end ≡ Err stop.NoMemory → IsSomeAnd n (λ new. BuiltEnds s folder old new end)
+unbuilt_told o n s folder old end same told is =
+    let at : n ≡ Some old = same ∙ told in
+    subst (λ (x : Option FileMap). IsSomeAnd x (λ new. BuiltEnds s folder old new end)) (sym at) (inr (is, refl))
+
+-- ---- statuses
+
+-- an input that isn't taken ends the run, and nothing is written or put
+refused_ends : (command : BuildCommand) (before after : Host) (reason : Fault)
+    → after.files ≡ before.files → after.output ≡ before.output
+    → InputsEnd before.files command.sources command.query command.templates (Err reason)
+    → BuildEnds command before after (status_of reason)
+refused_ends command before after (fault.Refused refusal) files out h = (h, files)
+refused_ends command before after (fault.Unread path) files out h = (h, files)
+refused_ends command before after (fault.Faulty term kind) files out h =
+    absurd ((inputs_none before.files command.sources command.query command.templates).none (fault.Faulty term kind) tt h)
+refused_ends command before after fault.NotFound files out h =
+    absurd ((inputs_none before.files command.sources command.query command.templates).none fault.NotFound tt h)
+refused_ends command before after fault.NoMemory files out h = (inl files, out)
+
+stopped_ends : (command : BuildCommand) (before after : Host) (s : Inputs) (reason : Stop)
+    → after.output ≡ before.output
+    → InputsEnd before.files command.sources command.query command.templates (Ok s)
+    → BuiltEnds s command.folder before.files after.files (Err reason)
+    → BuildEnds command before after (stop_status reason)
+stopped_ends command before after s (stop.Faulty term kind) out taken built = record { inputs = s; taken = taken; built = built }
+stopped_ends command before after s stop.Unwritten out taken built = inl (record { inputs = s; taken = taken; built = built }, out)
+stopped_ends command before after s stop.NoMemory out taken built = (inr (record { inputs = s; taken = taken; built = built }), out)
+
+-- the counts and the output before and after
+module _ (reads reads_now writes writes_now : List ℕ → ℕ) (output output_now : Option (List ℕ)) (puts puts_now : ℕ) where
+  abbrev pub Before : FileMap → Host
+  Before map = host map reads writes output puts
+
+  abbrev pub After : FileMap → Host
+  After map = host map reads_now writes_now output_now puts_now
+
+  pub refused_told : (o n : Option FileMap) (map : FileMap) (command : BuildCommand) (reason : Fault) (ended : Status)
+      → output_now ≡ output → n ≡ o → o ≡ Some map → ended ≡ status_of reason
+      → InputsEnd map command.sources command.query command.templates (Err reason)
+      → IsSomeAnd n (λ now. BuildEnds command (Before map) (After now) ended)
+  refused_told o n map command reason ended out same told is h =
+      let at : n ≡ Some map = same ∙ told in
+      subst (λ (x : Option FileMap). IsSomeAnd x (λ now. BuildEnds command (Before map) (After now) ended)) (sym at)
+      (subst (BuildEnds command (Before map) (After map)) (sym is) (refused_ends command (Before map) (After map) reason refl out h))
+
+  pub stopped_told : (n : Option FileMap) (old : FileMap) (command : BuildCommand) (s : Inputs) (reason : Stop) (ended : Status)
+      → output_now ≡ output → ended ≡ stop_status reason
+      → InputsEnd old command.sources command.query command.templates (Ok s)
+      → IsSomeAnd n (λ new. BuiltEnds s command.folder old new (Err reason))
+      → IsSomeAnd n (λ new. BuildEnds command (Before old) (After new) ended)
+  stopped_told None old command s reason ended out is taken h = h
+  stopped_told (Some new) old command s reason ended out is taken h =
+      subst (BuildEnds command (Before old) (After new)) (sym is) (stopped_ends command (Before old) (After new) s reason out taken h)
+
+  pub whole_told : (n : Option FileMap) (old : FileMap) (command : BuildCommand) (s : Inputs) (line : List ℕ)
+      → InputsEnd old command.sources command.query command.templates (Ok s)
+      → IsSomeAnd n (λ new. BuiltEnds s command.folder old new (Ok line)) → Gains output output_now line
+      → IsSomeAnd n (λ new. BuildEnds command (Before old) (After new) status.Ok)
+  whole_told None old command s line taken h gained = h
+  whole_told (Some new) old command s line taken h gained = (line, record { inputs = s; taken = taken; built = h }, gained)
+
+  pub part_told : (n : Option FileMap) (old : FileMap) (command : BuildCommand) (s : Inputs) (line : List ℕ)
+      → InputsEnd old command.sources command.query command.templates (Ok s)
+      → IsSomeAnd n (λ new. BuiltEnds s command.folder old new (Ok line)) → GainsPart output output_now line
+      → IsSomeAnd n (λ new. BuildEnds command (Before old) (After new) status.WriteFault)
+  part_told None old command s line taken h gained = h
+  part_told (Some new) old command s line taken h gained = inr (line, record { inputs = s; taken = taken; built = h }, gained)
+
+pub stop_read_rose : (paths : List (List ℕ)) (before now : List ℕ → ℕ) (reason : Stop) (ended : Status) → ended ≡ stop_status reason → ReadRose paths before now ended
+stop_read_rose paths before now reason ended is = subst (ReadRose paths before now) (sym is) (by reason)
+  where
+    by : (reason : Stop) → ReadRose paths before now (stop_status reason)
+    by (stop.Faulty term kind) = tt
+    by stop.Unwritten = tt
+    by stop.NoMemory = tt
+
+pub stop_no_usage : (reason : Stop) (ended : Status) → ended ≡ stop_status reason → ended ≡ status.Usage → ⊥
+stop_no_usage (stop.Faulty term kind) ended e u = let both = sym e ∙ u in cc
+stop_no_usage stop.Unwritten ended e u = let both = sym e ∙ u in cc
+stop_no_usage stop.NoMemory ended e u = let both = sym e ∙ u in cc
+
+pub unwritten_of : (reason : Stop) (ended : Status) → ended ≡ stop_status reason → ended ≡ status.WriteFault → reason ≡ stop.Unwritten
+unwritten_of (stop.Faulty term kind) ended e u = let both = sym e ∙ u in cc
+unwritten_of stop.Unwritten ended e u = refl
+unwritten_of stop.NoMemory ended e u = let both = sym e ∙ u in cc
+
+stop_is : (reason : Stop) → ◌≡◌ {A = Result (List ℕ) Stop} (Err reason) (Err stop.Unwritten) → reason ≡ stop.Unwritten
+stop_is reason e = cc
+
+-- a fault, whatever it is a fault of
+pub unwritten_again : (reason : Stop) → ◌≡◌ {A = Result (List ℕ) Stop} (Err reason) (Err stop.Unwritten) → ◌≡◌ {A = Result ⊤ Stop} (Err reason) (Err stop.Unwritten)
+unwritten_again reason e = ap (λ (r : Stop). Err r) (stop_is reason e)
+
+-- where memory ran out before anything was written, no count rose
+pub no_write : (P : List ℕ → Type 0) (counts : List ℕ → ℕ) (end : Result (List ℕ) Stop) → end ≡ Err stop.NoMemory → WritesHaveCause P counts counts end
+no_write P counts end is = record { later = λ path. omega arith; failed = λ e. absurd cc }

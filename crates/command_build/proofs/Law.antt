@@ -1,0 +1,122 @@
+-- How a build ends that nothing outside fails.
+use Rattle.std.proofs.Common.{◌≡◌, ◌⊎◌, ℕ, List, ◌∷◌, ◌++◌, ◌<◌, length, inl, inr, refl, sym, subst, ap, arith}
+use Rattle.std.specs.Prelude.{Option, None, Some, Result, Ok, Err, Contains}
+use Rattle.sd_value.specs.declared.Term.{Term}
+use Rattle.sd_value.specs.Order.{term_cmp}
+use Rattle.sd_value.specs.Ascending.{ListsExactly}
+use Rattle.page_spec.specs.Page.{IsPresent, IsOutcome}
+use Rattle.page_spec.specs.declared.Outcome.{Outcome}
+use Rattle.page_spec.specs.declared.Outcome.TheVariants as outcome
+use Rattle.std.proofs.lemmas.List.Elements.{Contains-append_right}
+use Rattle.page_spec.proofs.Texts.{outcome_unique}
+use Rattle.edge_io.specs.Files.{FileMap}
+use Rattle.run_report.specs.declared.status.PageKind.{PageKind}
+use Rattle.run_report.specs.declared.status.PageKind.TheVariants.{Cyclic, TooLong, LongName}
+use Rattle.run_report.specs.declared.status.Status.{Status}
+use Rattle.run_report.specs.declared.status.Status.TheVariants as status
+use Rattle.command_spec.specs.declared.BuildCommand.{BuildCommand}
+use Rattle.site_spec.specs.Root.{root_function}
+use Rattle.files_spec.specs.declared.stop.Stop.{Stop}
+use Rattle.files_spec.specs.declared.stop.Stop.TheVariants as stop
+use Rattle.files_spec.specs.Files.{IsPageText, IsFaulty, StopsIn, SiteEnds, RootEnds}
+use Rattle.site_inputs.specs.declared.fault.Fault.{Fault}
+use Rattle.site_inputs.specs.declared.fault.Fault.TheVariants as fault
+use Rattle.site_inputs.specs.Runs.{IsDecidedFault, Decides}
+use Rattle.command_spec.specs.Inputs.{input_paths}
+use Rattle.site_inputs.specs.Sites.{Inputs, InputsEnd, site_at}
+use Rattle.site_inputs.specs.Statuses.{ReadRose, status_of}
+use Rattle.site_inputs.proofs.DecidedInputs.{inputs_decide}
+use Rattle.command_build.specs.Ends.{IsBuilt, Builds, BuildEnds, FolderRose}
+use Rattle.site_inputs.specs.Outside.{Host, PutsRose, AllRead, HasStatus}
+use Rattle.command_build.specs.Law.{AllCanBeWritten, BuildIsDecided, BuildEndsWell}
+use Rattle.site_inputs.proofs.Endings.{ok_same, not_both, by_reason, not_refused}
+
+module _ (s : Inputs) (writable : AllCanBeWritten s) where
+  -- a page that has a text and a short name has no fault
+  not_faulty : (t : Term) (kind : PageKind) → IsPresent (site_at s) s.templates t → IsFaulty (site_at s) s.templates t kind → ⊥
+  not_faulty t (Cyclic v) present faulty =
+      let w = writable t present in
+      let same : ◌≡◌ {A = Outcome} (outcome.Cyclic v) (outcome.Page w.0) = outcome_unique (site_at s) s.templates t (outcome.Cyclic v) (outcome.Page w.0) faulty w.1.is_outcome in
+      cc
+  not_faulty t TooLong present faulty =
+      let w = writable t present in
+      let same : ◌≡◌ {A = Outcome} outcome.TooLong (outcome.Page w.0) = outcome_unique (site_at s) s.templates t outcome.TooLong (outcome.Page w.0) faulty w.1.is_outcome in
+      cc
+  not_faulty t LongName present faulty = (writable t present).1.has_file faulty.1
+
+  present_at : (pages front : List Term) (at : Term) (back : List Term) → ListsExactly term_cmp (IsPresent (site_at s) s.templates) pages → pages ≡ front ++ at ∷ back → IsPresent (site_at s) s.templates at
+  present_at pages front at back are split = are.sound at (subst (λ xs. Contains xs at) (sym split) (Contains-append_right front (at ∷ back) at (0, omega arith, refl)))
+
+  no_root_fault : (folder : List ℕ) (pages : List Term) (root : Option (List ℕ)) (old new : FileMap) (term : Term) (kind : PageKind) → RootEnds (site_at s) s.templates folder pages root old new (Err (stop.Faulty term kind)) → ⊥
+  no_root_fault folder pages None old new term kind h = h
+  no_root_fault folder pages (Some root) old new term kind h = h
+
+  no_page_fault : (folder : List ℕ) (old new : FileMap) (term : Term) (kind : PageKind) → IsBuilt s folder old new (Err (stop.Faulty term kind)) → ⊥
+  no_page_fault folder old new term kind built = by_files built.files
+    where
+      by_files : SiteEnds (site_at s) s.templates folder built.pages (root_function s.query) old new (Err (stop.Faulty term kind)) → ⊥
+      by_files (inl h) = not_faulty h.at kind (present_at built.pages h.front h.at h.back built.are_pages h.split) h.stops.1
+      by_files (inr h) = no_root_fault folder built.pages (root_function s.query) h.between new term kind h.then_root
+
+module _ (command : BuildCommand) (before after : Host) where
+  abbrev Ended : Result Inputs Fault → Type 0
+  Ended = InputsEnd before.files command.sources command.query command.templates
+
+  abbrev Paths : List (List ℕ)
+  Paths = input_paths command.sources command.query command.templates
+
+  decides : Decides Ended
+  decides = inputs_decide before.files command.sources command.query command.templates
+
+  -- the site was built from the inputs that were accepted, and from no others
+  no_fault : (s : Inputs) → Ended (Ok s) → AllCanBeWritten s → (term : Term) (kind : PageKind) → Builds before.files after.files command (Err (stop.Faulty term kind)) → ⊥
+  no_fault s taken writable term kind b =
+      let same : b.inputs ≡ s = ok_same b.inputs s (decides.once (Ok b.inputs) (Ok s) b.taken taken tt tt) in
+      by_built b.inputs (subst AllCanBeWritten (sym same) writable) b.built
+    where
+      by_built : (t : Inputs) → AllCanBeWritten t → IsBuilt t command.folder before.files after.files (Err (stop.Faulty term kind)) ⊎ ((◌≡◌ {A = Result (List ℕ) Stop} (Err (stop.Faulty term kind)) (Err stop.NoMemory)) × (after.files ≡ before.files)) → ⊥
+      by_built t can (inl built) = no_page_fault t can command.folder before.files after.files term kind built
+      by_built t can (inr h) = (let same = h.0 in cc)
+
+  accepted : (reached : Status) → BuildEnds command before after reached → ReadRose Paths before.failed_reads after.failed_reads reached → (reached ≡ status.WriteFault → PutsRose before after ⊎ FolderRose command.folder before.failed_writes after.failed_writes) → AllRead Paths before after
+      → (s : Inputs) → Ended (Ok s) → AllCanBeWritten s → ¬ PutsRose before after → ¬ FolderRose command.folder before.failed_writes after.failed_writes → HasStatus status.Ok reached
+  accepted status.Ok ends read write all s taken writable no_put no_write = inl refl
+  accepted status.NoMemory ends read write all s taken writable no_put no_write = inr refl
+  accepted status.WriteFault ends read write all s taken writable no_put no_write = absurd (either_absurd (write refl))
+    where
+      either_absurd : PutsRose before after ⊎ FolderRose command.folder before.failed_writes after.failed_writes → ⊥
+      either_absurd (inl p) = no_put p
+      either_absurd (inr w) = no_write w
+  accepted (status.PageFault term kind) ends read write all s taken writable no_put no_write = absurd (no_fault s taken writable term kind ends)
+  accepted (status.Refused file number place) ends read write all s taken writable no_put no_write =
+      absurd (not_both Ended decides s (fault.Refused (record { file = file; number = number; place = place })) taken ends.0 tt)
+  accepted (status.ReadFault path) ends read write all s taken writable no_put no_write = absurd (all path read.0 read.1)
+  accepted status.NotFound ends read write all s taken writable no_put no_write = absurd ends
+  accepted status.Usage ends read write all s taken writable no_put no_write = absurd ends
+  accepted status.NotAllYes ends read write all s taken writable no_put no_write = absurd ends
+  accepted status.WireFault ends read write all s taken writable no_put no_write = absurd ends
+  accepted status.TurnsSpent ends read write all s taken writable no_put no_write = absurd ends
+
+  -- an input was refused: the site wasn't built
+  not_built : {end : Result (List ℕ) Stop} (reason : Fault) → Ended (Err reason) → IsDecidedFault reason → Builds before.files after.files command end → ⊥
+  not_built reason ended decided b = not_both Ended decides b.inputs reason b.taken ended decided
+
+  refused : (reached : Status) → BuildEnds command before after reached → ReadRose Paths before.failed_reads after.failed_reads reached → AllRead Paths before after
+      → (reason : Fault) → Ended (Err reason) → IsDecidedFault reason → HasStatus (status_of reason) reached
+  refused status.Ok ends read all reason ended decided = absurd (not_built reason ended decided ends.1)
+  refused status.NoMemory ends read all reason ended decided = inr refl
+  refused status.WriteFault (inl ends) read all reason ended decided = absurd (not_built reason ended decided ends.0)
+  refused status.WriteFault (inr ends) read all reason ended decided = absurd (not_built reason ended decided ends.1)
+  refused (status.PageFault term kind) ends read all reason ended decided = absurd (not_built reason ended decided ends)
+  refused (status.Refused file number place) ends read all reason ended decided =
+      by_reason Ended decides Paths before after all (fault.Refused (record { file = file; number = number; place = place })) tt ends.0 reason ended decided
+  refused (status.ReadFault path) ends read all reason ended decided = absurd (all path read.0 read.1)
+  refused status.NotFound ends read all reason ended decided = absurd ends
+  refused status.Usage ends read all reason ended decided = absurd ends
+  refused status.NotAllYes ends read all reason ended decided = absurd ends
+  refused status.WireFault ends read all reason ended decided = absurd ends
+  refused status.TurnsSpent ends read all reason ended decided = absurd ends
+
+pub build_ends_well : (command : BuildCommand) (before after : Host) (reached : Status) → BuildEndsWell command before after reached
+build_ends_well command before after reached ends read write all =
+    record { accepted = accepted command before after reached ends read write all; refused = refused command before after reached ends read all }

@@ -1,0 +1,96 @@
+-- The command `build`: the whole site in files under a folder.
+use Rattle.std.specs.Prelude.{◌≡◌, ◌⊎◌, ℕ, List, ◌++◌, length, codes, Result, Ok, Err, IfOk, ⊤}
+use Rattle.std.specs.Fmt.{decimal}
+use Rattle.sd_value.specs.declared.Term.{Term}
+use Rattle.sd_value.specs.Order.{term_cmp}
+use Rattle.sd_value.specs.Ascending.{ListsExactly}
+use Rattle.edge_io.specs.Files.{FileMap}
+use Rattle.edge_io.specs.Sink.{Gains, GainsPart}
+use Rattle.edge_io.specs.Counts.{Rose}
+use Rattle.page_spec.specs.Page.{IsPresent}
+use Rattle.site_spec.specs.Root.{root_function}
+use Rattle.files_spec.specs.declared.stop.Stop.{Stop}
+use Rattle.files_spec.specs.declared.stop.Stop.TheVariants as stop
+use Rattle.files_spec.specs.Files.{SiteEnds}
+use Rattle.run_report.specs.declared.status.Status.{Status}
+use Rattle.run_report.specs.declared.status.Status.TheVariants as status
+use Rattle.command_spec.specs.declared.BuildCommand.{BuildCommand}
+use Rattle.site_inputs.specs.declared.fault.Fault.{Fault}
+use Rattle.site_inputs.specs.declared.fault.Fault.TheVariants as fault
+use Rattle.site_inputs.specs.Sites.{Inputs, InputsEnd, site_at}
+use Rattle.site_inputs.specs.Outside.{Host}
+
+-- what is printed of a site of n pages
+abbrev pub build_text : ℕ → List ℕ
+build_text n = codes "pages " ++ decimal n ++ codes "\n"
+
+-- how writing ended, whatever is then printed
+abbrev pub written_end : {A : Type 0} → Result A Stop → Result ⊤ Stop
+written_end (Ok a) = Ok tt
+written_end (Err stop) = Err stop
+
+-- the site's pages, ascending, were written so, and their number is what is printed
+pub record IsBuilt (s : Inputs) (folder : List ℕ) (old new : FileMap)
+    (end : Result (List ℕ) Stop) : Type 0 where
+  pub pages : List Term
+  pub are_pages : ListsExactly term_cmp (IsPresent (site_at s) s.templates) pages
+  pub files : SiteEnds (site_at s) s.templates folder pages (root_function s.query) old new
+      (written_end end)
+  pub told : IfOk end (λ text. text ≡ build_text (length pages))
+
+-- How building a site from its inputs ends: its files are written, or memory runs out before the first of them.
+abbrev pub BuiltEnds
+    : Inputs → (folder : List ℕ) → (old new : FileMap) → Result (List ℕ) Stop → Type 0
+BuiltEnds s folder old new end =
+    IsBuilt s folder old new end ⊎ ((end ≡ Err stop.NoMemory) × (new ≡ old))
+
+-- the inputs were read, and building the site from them ended so
+pub record Builds (old new : FileMap) (command : BuildCommand)
+    (end : Result (List ℕ) Stop) : Type 0 where
+  pub inputs : Inputs
+  pub taken : InputsEnd old command.sources command.query command.templates (Ok inputs)
+  pub built : BuiltEnds inputs command.folder old new end
+
+-- an input was refused or unread, and nothing was written
+abbrev pub IsRefused : (old new : FileMap) → BuildCommand → Fault → Type 0
+IsRefused old new command reason =
+    InputsEnd old command.sources command.query command.templates (Err reason) × (new ≡ old)
+
+-- What a build has written and put, and why it has this status.
+abbrev pub BuildEnds : BuildCommand → (before after : Host) → Status → Type 0
+BuildEnds command before after status.Ok =
+    (text : List ℕ) × Builds before.files after.files command (Ok text)
+    × Gains before.output after.output text
+BuildEnds command before after status.WriteFault =
+    (Builds before.files after.files command (Err stop.Unwritten) × (after.output ≡ before.output))
+    ⊎ ((text : List ℕ) × Builds before.files after.files command (Ok text)
+    × GainsPart before.output after.output text)
+BuildEnds command before after (status.PageFault term kind) =
+    Builds before.files after.files command (Err (stop.Faulty term kind))
+BuildEnds command before after status.NoMemory =
+    ((after.files ≡ before.files) ⊎ Builds before.files after.files command (Err stop.NoMemory))
+    × (after.output ≡ before.output)
+BuildEnds command before after (status.Refused file number place) =
+    IsRefused before.files after.files command
+    (fault.Refused (record { file = file; number = number; place = place }))
+BuildEnds command before after (status.ReadFault path) =
+    IsRefused before.files after.files command (fault.Unread path)
+BuildEnds command before after status.NotFound = ⊥
+BuildEnds command before after status.Usage = ⊥
+BuildEnds command before after status.NotAllYes = ⊥
+BuildEnds command before after status.WireFault = ⊥
+BuildEnds command before after status.TurnsSpent = ⊥
+
+-- the path lies under the folder
+abbrev pub IsUnder : (folder path : List ℕ) → Type 0
+IsUnder folder path = (name : List ℕ) × (path ≡ folder ++ codes "/" ++ name)
+
+-- the count of failed writes of some path under the folder rose
+abbrev pub FolderRose : (folder : List ℕ) → (before now : List ℕ → ℕ) → Type 0
+FolderRose folder before now = (path : List ℕ) × IsUnder folder path × Rose (before path) (now path)
+
+-- the status of a build that stops so
+abbrev pub stop_status : Stop → Status
+stop_status (stop.Faulty term kind) = status.PageFault term kind
+stop_status stop.Unwritten = status.WriteFault
+stop_status stop.NoMemory = status.NoMemory

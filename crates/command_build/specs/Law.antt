@@ -1,0 +1,46 @@
+-- A build ends well, unless memory runs out, where its inputs are accepted and nothing outside fails.
+use Rattle.std.specs.Prelude.{◌≡◌, ◌⊎◌, ℕ, List, Ok, Err}
+use Rattle.sd_value.specs.declared.Term.{Term}
+use Rattle.page_spec.specs.Page.{IsPresent}
+use Rattle.files_spec.specs.Files.{IsPageText}
+use Rattle.run_report.specs.declared.status.Status.{Status}
+use Rattle.run_report.specs.declared.status.Status.TheVariants as status
+use Rattle.command_spec.specs.declared.BuildCommand.{BuildCommand}
+use Rattle.command_spec.specs.Inputs.{input_paths}
+use Rattle.site_inputs.specs.declared.fault.Fault.{Fault}
+use Rattle.site_inputs.specs.Runs.{IsDecidedFault}
+use Rattle.site_inputs.specs.Sites.{Inputs, InputsEnd, site_at}
+use Rattle.site_inputs.specs.Statuses.{ReadRose, status_of}
+use Rattle.site_inputs.specs.Outside.{Host, PutsRose, AllRead, HasStatus}
+use Rattle.command_build.specs.Ends.{BuildEnds, FolderRose}
+
+-- each page has a text, and its file a name of no more bytes than a file's name may have
+abbrev pub AllCanBeWritten : Inputs → Type 0
+AllCanBeWritten s =
+    (t : Term) → IsPresent (site_at s) s.templates t
+    → (text : List ℕ) × IsPageText (site_at s) s.templates t text
+
+module _ (command : BuildCommand) (before after : Host) (reached : Status) where
+  -- the count of failed writes of some path under the folder rose
+  abbrev pub FolderWriteRose : Type 0
+  FolderWriteRose = FolderRose command.folder before.failed_writes after.failed_writes
+
+  -- Where the inputs are read, they decide how a build ends that nothing outside fails.
+  pub record BuildIsDecided : Type 0 where
+    pub accepted : (s : Inputs)
+        → InputsEnd before.files command.sources command.query command.templates (Ok s)
+        → AllCanBeWritten s → ¬ PutsRose before after → ¬ FolderWriteRose
+        → HasStatus status.Ok reached
+    pub refused : (reason : Fault)
+        → InputsEnd before.files command.sources command.query command.templates (Err reason)
+        → IsDecidedFault reason → HasStatus (status_of reason) reached
+
+  -- the law of the command
+  abbrev pub BuildEndsWell : Type 0
+  BuildEndsWell =
+      BuildEnds command before after reached
+      → ReadRose (input_paths command.sources command.query command.templates)
+      before.failed_reads after.failed_reads reached
+      → (reached ≡ status.WriteFault → PutsRose before after ⊎ FolderWriteRose)
+      → AllRead (input_paths command.sources command.query command.templates) before after
+      → BuildIsDecided

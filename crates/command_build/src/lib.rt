@@ -1,0 +1,122 @@
+//! The command `build`: the whole site, written to files under a folder.
+#![tactic(auto)]
+
+ghost use Rattle.std.specs.Prelude.{◌≡◌, ◌⊎◌, IfOk};
+ghost use Rattle.std.specs.Option.{ForSome, IsSomeAnd};
+ghost use Rattle.edge_io.specs.Counts.{Rose};
+ghost use Rattle.files_spec.specs.Causes.{WritesHaveCause};
+ghost use Rattle.site_inputs.specs.Values.{inputs_of};
+ghost use Rattle.command_spec.specs.Inputs.{input_paths};
+ghost use Rattle.site_inputs.specs.Statuses.{ReadRose, IsSilent};
+ghost use Rattle.site_inputs.specs.Outside.{host};
+ghost use Rattle.command_build.specs.Ends.{build_text, BuiltEnds, BuildEnds, IsUnder};
+ghost use Rattle.command_build.specs.Ends.{FolderRose, stop_status};
+
+mod laws;
+
+use bindings::StoreAsker;
+use command_spec::BuildCommand;
+use edge_io::{Files, Sink};
+use files_spec::Stop;
+use index_store::IndexStore;
+pub use laws::builds_end_well;
+use query_blocks::root_of;
+use query_scoping::scopes;
+use run_report::Status;
+use sd_value::{NoMemory, Str};
+use site_build::Whole;
+use site_files::write_site;
+use site_inputs::{SiteInputs, load_inputs};
+use std::alloc::Global;
+
+// The line that reports the number of pages.
+fn pages_line(alloc: Global, count: usize) -> Result<Str, NoMemory>
+    ensures { IfOk result (λ text. text ≡ build_text count) }
+{
+    let mut text = Vec::new(alloc);
+    text.extend_from_slice(b"pages ")?;
+    text.extend_from_slice(count.to_string(alloc)?.as_bytes())?;
+    text.extend_from_slice(b"\n")?;
+    Ok(Str::of(alloc, text)?)
+}
+
+// Writes the site of the inputs under the folder, and gives the line that reports its pages.
+fn write_built<F: Files>(
+    alloc: Global,
+    files: &mut F,
+    inputs: SiteInputs,
+    folder: &Str,
+) -> Result<Str, Stop>
+    ensures ends { ForSome (F.contents files.old) (λ old. IsSomeAnd (F.contents files.new) (λ new.
+        BuiltEnds (inputs_of inputs) folder.now old new result)) }
+    ensures reads { F.failed_reads files.new ≡ F.failed_reads files.old }
+    ensures cause { WritesHaveCause (IsUnder folder.now)
+        (F.failed_writes files.old) (F.failed_writes files.new) result }
+{
+    let scopes = scopes(alloc, &inputs.query)?;
+    let store = IndexStore::of(alloc, inputs.graph)?;
+    let asker = StoreAsker::of(store);
+    let mut whole = Whole::of(alloc, asker, &scopes, &inputs.templates)?;
+    let pages = whole.pages(alloc)?;
+    let terms = pages.as_slice();
+    let line = pages_line(alloc, terms.len())?;
+    let root = root_of(&scopes);
+    match write_site(alloc, files, &mut whole, folder, terms, root) {
+        Ok(()) => Ok(line),
+        Err(stop) => Err(stop),
+    }
+}
+
+fn status_of_stop(stop: Stop) -> Status
+    ensures { result ≡ stop_status stop }
+{
+    match stop {
+        Stop::Faulty { term, kind } => Status::PageFault { term, kind },
+        Stop::Unwritten => Status::WriteFault,
+        Stop::NoMemory => Status::NoMemory,
+    }
+}
+
+/// Writes every page of the site of the query over the data under the folder, ascending, then `index.html` where the
+/// root page is one of them, and reports their number on `out`.
+pub fn build<F: Files, O: Sink>(
+    alloc: Global,
+    files: &mut F,
+    out: &mut O,
+    command: &BuildCommand,
+) -> Status
+    ensures ends { ForSome (F.contents files.old) (λ old. IsSomeAnd (F.contents files.new) (λ new.
+        BuildEnds command.now
+        (host old (F.failed_reads files.old) (F.failed_writes files.old)
+        (O.text out.old) (O.failed out.old))
+        (host new (F.failed_reads files.new) (F.failed_writes files.new)
+        (O.text out.new) (O.failed out.new))
+        result)) }
+    ensures silent { IsSilent result → out.new ≡ out.old }
+    ensures words { result ≡ Status.Usage → ⊥ }
+    ensures no_wire { result ≡ Status.WireFault → ⊥ }
+    ensures read_cause { ReadRose
+        (input_paths command.now.sources command.now.query command.now.templates)
+        (F.failed_reads files.old) (F.failed_reads files.new) result }
+    ensures write_cause { result ≡ Status.WriteFault
+        → Rose (O.failed out.old) (O.failed out.new)
+        ⊎ FolderRose command.now.folder (F.failed_writes files.old) (F.failed_writes files.new) }
+{
+    let inputs = match load_inputs(
+        alloc,
+        files,
+        command.sources.items(),
+        &command.query,
+        &command.templates,
+    ) {
+        Ok(inputs) => inputs,
+        Err(fault) => return Status::from(fault),
+    };
+    match write_built(alloc, files, inputs, &command.folder) {
+        Ok(line) => match out.put(line.bytes()) {
+            Ok(()) => Status::Ok,
+            Err(_) => Status::WriteFault,
+        },
+        Err(stop) => status_of_stop(stop),
+    }
+}

@@ -1,0 +1,5 @@
+pub mod PathLists
+pub mod Texts
+pub mod Once
+pub mod Causes
+pub mod Law

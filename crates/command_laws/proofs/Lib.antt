@@ -1,4 +1,0 @@
-pub mod Ends
-pub mod Builds
-pub mod Serves
-pub mod Replays

@@ -1,0 +1,68 @@
+-- A site that was served over the events of a script.
+use Rattle.std.proofs.Common.{◌≡◌, ℕ, List, [], ◌∷◌, take, drop, refl, ap, subst, ◌∙◌}
+use Rattle.std.proofs.lemmas.List.Elements.{All-weaker, Contains-append_right}
+use Rattle.std.specs.Prelude.{All, Contains, Option, Some, None, IfSome, IsSome}
+use Rattle.wire.specs.declared.WireEvent.{WireEvent}
+use Rattle.wire.specs.declared.WireEvent.TheVariants.{Opened, Bytes, Ended, Lost, Change, Done}
+use Rattle.mem_wire.specs.Sent.{Sent}
+use Rattle.mem_wire.specs.WireInMemory.{WireInMemory, entry_of, account_of, faults_of, accounts_of, faults_in, given_of, told_of, HasEntry, IsNew}
+use Rattle.serving_spec.specs.declared.HubEnd.{HubEnd}
+use Rattle.command_spec.specs.declared.RunLimits.{RunLimits}
+use Rattle.command_spec.specs.declared.ReplayCommand.{ReplayCommand}
+use Rattle.serving_spec.specs.declared.Served.{Served}
+use Rattle.serving_spec.specs.Openings.{opened_in}
+use Rattle.serve_run.specs.Texts.{replay_text}
+use Rattle.serve_run.specs.Served.{ServesSite}
+use Rattle.command_spec.specs.Inputs.{input_paths, replay_paths}
+use Rattle.command_replay.specs.Scripts.{Scripted}
+use Rattle.command_replay.specs.Ends.{nothing_sent, ReportsOpened, IsFresh, run_end, IsReplayed}
+
+pub of_script : (command : ReplayCommand) (path : List ℕ) → Contains (command.script ∷ []) path → Contains (replay_paths command) path
+of_script command path h = Contains-append_right (input_paths command.sources command.query command.templates) (command.script ∷ []) path h
+
+new_account : (entry : Option Sent) → IfSome entry IsNew → IfSome (account_of entry) (λ account. account ≡ nothing_sent)
+new_account None new = tt
+new_account (Some e) new = ap (λ (s : Sent). record { sends = s.sends; taken = s.taken; closes = s.closes }) new
+
+new_faults : (entry : Option Sent) → IfSome entry IsNew → faults_of entry ≡ 0
+new_faults None new = refl
+new_faults (Some e) new = ap (λ (s : Sent). s.faults) new
+
+told_entry : (entry : Option Sent) → IsSome entry → IsSome (account_of entry)
+told_entry None h = h
+told_entry (Some e) h = refl
+
+told_opened : (w : WireInMemory) (event : WireEvent) → HasEntry (entry_of w) event → ReportsOpened (accounts_of w) event
+told_opened w (Opened number) h = told_entry (entry_of w number) h
+told_opened w (Bytes number piece) h = tt
+told_opened w (Ended number) h = tt
+told_opened w (Lost number) h = tt
+told_opened w (Change text) h = tt
+told_opened w Done h = tt
+
+module _ (events : List WireEvent) (w : WireInMemory) (its : w.events ≡ events) (first : w.count ≡ 0)
+    (new : (number : ℕ) → IfSome (entry_of w number) IsNew) (opened : All (HasEntry (entry_of w)) events) where
+  pub is_fresh : IsFresh events (told_of w)
+  is_fresh = record {
+    given = ap (λ n. given_of w.events n) first;
+    left = ap (λ n. Some (drop n w.events)) first ∙ ap (λ (es : List WireEvent). Some es) its;
+    told_each = All-weaker (HasEntry (entry_of w)) (ReportsOpened (accounts_of w)) (told_opened w) events opened;
+    nothing = λ number. new_account (entry_of w number) (new number);
+    none_failed = λ number. new_faults (entry_of w number) (new number);
+  }
+
+module _ (s : Scripted) (limits : RunLimits) (w after : WireInMemory) (served : Served) (ended : HubEnd) (text opened : List ℕ) where
+  pub is_replayed : IsFresh s.events (told_of w)
+      → ServesSite s.site limits (told_of w) (told_of after) served
+      → ended ≡ run_end served.end → opened ≡ opened_in (take limits.turns s.events) → All (λ number. faults_in after number ≡ 0) opened
+      → text ≡ replay_text (accounts_of after) opened served.tally → IsReplayed s limits ended text
+  is_replayed fresh serves its_end is_opened whole is = record {
+    before = told_of w;
+    after = told_of after;
+    served = served;
+    its_end = its_end;
+    fresh = fresh;
+    serves = serves;
+    none_failed = subst (All (λ number. faults_in after number ≡ 0)) is_opened whole;
+    is = is ∙ ap (λ (numbers : List ℕ). replay_text (accounts_of after) numbers served.tally) is_opened;
+  }

@@ -1,0 +1,66 @@
+-- The script of a run, read after the inputs of its site.
+use Rattle.std.specs.Prelude.{◌≡◌, ℕ, List, Result, Ok, Err, Option, Some, None, ⊤}
+use Rattle.std.specs.Global.{Vec}
+use Rattle.edge_io.specs.Files.{FileMap}
+use Rattle.command_spec.specs.Limits.{script_limit}
+use Rattle.run_report.specs.declared.status.Place.TheVariants.{At}
+use Rattle.wire.specs.declared.WireEvent.{WireEvent}
+use Rattle.script_reader.specs.declared.refusal.ScriptRefusal.{ScriptRefusal}
+use Rattle.script_reader.specs.declared.refusal.ScriptRefusal.TheVariants as script
+use Rattle.script_reader.specs.Script.{Reads}
+use Rattle.command_spec.specs.declared.ReplayCommand.{ReplayCommand}
+use Rattle.site_inputs.specs.declared.fault.Fault.{Fault}
+use Rattle.site_inputs.specs.declared.fault.Fault.TheVariants.{Refused, NoMemory}
+use Rattle.site_inputs.specs.declared.told.Told.{Told}
+use Rattle.site_inputs.specs.Runs.{Then, Gives, FileEnds}
+use Rattle.site_inputs.specs.Sites.{Inputs, InputsEnd}
+use Rattle.site_inputs.specs.Values.{inputs_of}
+use Rattle.command_replay.specs.declared.replaying.Script.{Script}
+
+-- the number and the place of a refused script; none where memory ran out
+abbrev pub script_told : ScriptRefusal → Option Told
+script_told (script.TooLong at) = Some (record { number = 24; at = at })
+script_told (script.BadByte at) = Some (record { number = 21; at = at })
+script_told (script.OpenString at) = Some (record { number = 22; at = at })
+script_told (script.IntOutOfRange at) = Some (record { number = 23; at = at })
+script_told (script.Expected at) = Some (record { number = 111; at = at })
+script_told script.NoMemory = None
+
+-- How a script's text ends: with its events, or refused.
+abbrev pub ScriptTaken : List ℕ → List ℕ → Result (List WireEvent) Fault → Type 0
+ScriptTaken path bytes (Ok events) = Reads script_limit bytes (Ok events)
+ScriptTaken path bytes (Err (Refused refusal)) =
+    (told : Told) × (refusal ≡ record { file = path; number = told.number; place = At told.at })
+    × (e : ScriptRefusal) × Reads script_limit bytes (Err e) × (script_told e ≡ Some told)
+ScriptTaken path bytes (Err NoMemory) = ⊤
+ScriptTaken path bytes (Err fault) = ⊥
+
+-- How the file of a script ends: it is read, and then its text is taken.
+abbrev pub ScriptEnds : FileMap → List ℕ → Result (List WireEvent) Fault → Type 0
+ScriptEnds map path = Then (FileEnds script_limit map path) (ScriptTaken path)
+
+-- what a replay is made of
+pub record Scripted : Type 0 where
+  pub site : Inputs
+  pub events : List WireEvent
+
+-- the inputs of the site, and then the script
+abbrev pub ScriptedEnd : FileMap → ReplayCommand → Result Scripted Fault → Type 0
+ScriptedEnd map command =
+    Then (InputsEnd map command.sources command.query command.templates)
+    (λ site. Then (ScriptEnds map command.script)
+    (λ events. Gives (record { site = site; events = events })))
+
+-- the program's list of events as a plain one
+abbrev pub script_result : Result (Vec WireEvent) Fault → Result (List WireEvent) Fault
+script_result (Ok events) = Ok events.items
+script_result (Err fault) = Err fault
+
+-- what a replay is made of, as plain values
+abbrev pub scripted_of : Script → Scripted
+scripted_of s = record { site = inputs_of s.site; events = s.events.items }
+
+-- the same, or the same fault
+abbrev pub scripted_result : Result Script Fault → Result Scripted Fault
+scripted_result (Ok s) = Ok (scripted_of s)
+scripted_result (Err fault) = Err fault

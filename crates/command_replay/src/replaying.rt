@@ -1,0 +1,130 @@
+// The command `replay`.
+ghost use Rattle.std.specs.Prelude.{◌≡◌, IfOk, take, length};
+ghost use Rattle.std.specs.Option.{ForSome};
+ghost use Rattle.edge_io.specs.Counts.{Rose};
+ghost use Rattle.command_spec.specs.Ranges.{AreLimits};
+ghost use Rattle.site_inputs.specs.Runs.{ReadsHaveCause};
+ghost use Rattle.site_inputs.specs.Statuses.{ReadRose, IsSilent};
+ghost use Rattle.site_inputs.specs.Outside.{host};
+ghost use Rattle.command_spec.specs.Inputs.{replay_paths};
+ghost use Rattle.command_replay.specs.Scripts.{scripted_of, scripted_result, ScriptedEnd};
+ghost use Rattle.command_replay.specs.Ends.{run_end, IsReplayed, ReplayEnds};
+
+use crate::script::load_script;
+use command_spec::{ReplayCommand, RunLimits};
+use edge_io::{Files, Sink};
+use hub::HubEnd;
+use mem_wire::MemWire;
+use run_report::Status;
+use sd_value::NoMemory;
+use serve_run::{opened_in, put_end, replay_text, serve_site};
+use site_inputs::{Fault, SiteInputs, load_inputs};
+use std::alloc::Global;
+use wire::WireEvent;
+
+/// What a replay is made of.
+#[derive(Drop)]
+struct Script {
+    site: SiteInputs,
+    events: Vec<WireEvent>,
+}
+
+/// How a replay ended, and what it prints.
+#[derive(Drop)]
+struct Finished {
+    end: HubEnd,
+    text: Vec<u8>,
+}
+
+// The inputs of the site, and then the script.
+fn load_all<F: Files>(
+    alloc: Global,
+    files: &mut F,
+    command: &ReplayCommand,
+) -> Result<Script, Fault>
+    ensures ends { ForSome (F.contents files.old) (λ map.
+        ScriptedEnd map command.now (scripted_result result)) }
+    ensures same { F.contents files.new ≡ F.contents files.old }
+    ensures cause { ReadsHaveCause (replay_paths command.now)
+        (F.failed_reads files.old) (F.failed_reads files.new) result }
+{
+    let site = load_inputs(
+        alloc,
+        files,
+        command.sources.items(),
+        &command.query,
+        &command.templates,
+    )?;
+    let events = load_script(alloc, files, &command.script)?;
+    Ok(Script { site, events })
+}
+
+// The first events, or all of them.
+fn first_events(events: &[WireEvent], turns: u64) -> &[WireEvent]
+    ensures { result.now ≡ take turns events.now }
+{
+    if turns < events.len() as u64 {
+        &events[..turns as usize]
+    } else {
+        events
+    }
+}
+
+// How a run over a wire in memory ended: no call of that wire is to fail, so one that does means that memory ran out.
+fn run_end(end: HubEnd) -> HubEnd
+    ensures { result ≡ run_end end }
+{
+    match end {
+        HubEnd::WireFailed => HubEnd::NoMemory,
+        HubEnd::Done | HubEnd::TurnsSpent | HubEnd::NoMemory => end,
+    }
+}
+
+// Serves the site over a wire in memory of the script's events.
+fn play(alloc: Global, script: Script, limits: &RunLimits) -> Result<Finished, NoMemory>
+    requires { AreLimits limits.now }
+    ensures { IfOk result (λ r. IsReplayed (scripted_of script) limits.now r.end r.text.items) }
+{
+    let opened = opened_in(alloc, first_events(&script.events, limits.turns))?;
+    let mut wire = MemWire::new(alloc, script.events, Vec::new(alloc), Vec::new(alloc))?;
+    let served = serve_site(alloc, script.site, limits, &mut wire);
+    let text = replay_text(alloc, &wire, &opened, &served.tally)?;
+    Ok(Finished {
+        end: run_end(served.end),
+        text,
+    })
+}
+
+/// Serves the site of the query over the data over the events of the script, and prints what each connection was sent,
+/// and the counts of the run.
+pub fn replay<F: Files, O: Sink>(
+    alloc: Global,
+    files: &mut F,
+    out: &mut O,
+    command: &ReplayCommand,
+) -> Status
+    requires { AreLimits command.now.limits }
+    ensures ends { ForSome (F.contents files.old) (λ map.
+        ReplayEnds command.now
+        (host map (F.failed_reads files.old) (F.failed_writes files.old)
+        (O.text out.old) (O.failed out.old))
+        (host map (F.failed_reads files.new) (F.failed_writes files.new)
+        (O.text out.new) (O.failed out.new))
+        result) }
+    ensures same { F.contents files.new ≡ F.contents files.old }
+    ensures silent { IsSilent result → out.new ≡ out.old }
+    ensures words { result ≡ Status.Usage → ⊥ }
+    ensures no_wire { result ≡ Status.WireFault → ⊥ }
+    ensures read_cause { ReadRose (replay_paths command.now)
+        (F.failed_reads files.old) (F.failed_reads files.new) result }
+    ensures write_cause { result ≡ Status.WriteFault → Rose (O.failed out.old) (O.failed out.new) }
+{
+    let script = match load_all(alloc, files, command) {
+        Ok(script) => script,
+        Err(fault) => return Status::from(fault),
+    };
+    match play(alloc, script, &command.limits) {
+        Ok(finished) => put_end(finished.end, &finished.text, out),
+        Err(NoMemory) => Status::NoMemory,
+    }
+}

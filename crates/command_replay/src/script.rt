@@ -1,0 +1,77 @@
+// The script of a run, read after the inputs of its site.
+ghost use Rattle.std.specs.Prelude.{◌≡◌, ◌∷◌, [], IfOk, All};
+ghost use Rattle.std.specs.Option.{ForSome};
+ghost use Rattle.script_reader.specs.Script.{IsScripted};
+ghost use Rattle.site_inputs.specs.Runs.{ReadsHaveCause};
+ghost use Rattle.command_replay.specs.Scripts.{script_told, script_result, ScriptTaken, ScriptEnds};
+
+use edge_io::Files;
+use run_report::Place;
+use script_reader::{ScriptRefusal, read_script};
+use sd_value::Str;
+use site_inputs::{Fault, Told, read_file, refused};
+use std::alloc::Global;
+use wire::WireEvent;
+
+// The most bytes of a script.
+const SCRIPT_LIMIT: u64 = 67_108_864;
+
+// What a refused script reports; none where memory ran out.
+fn told_of_script(refusal: &ScriptRefusal) -> Option<Told>
+    ensures { result ≡ script_told refusal.now }
+{
+    match refusal {
+        ScriptRefusal::TooLong(at) => Some(Told {
+            number: 24,
+            at: *at,
+        }),
+        ScriptRefusal::BadByte(at) => Some(Told {
+            number: 21,
+            at: *at,
+        }),
+        ScriptRefusal::OpenString(at) => Some(Told {
+            number: 22,
+            at: *at,
+        }),
+        ScriptRefusal::IntOutOfRange(at) => Some(Told {
+            number: 23,
+            at: *at,
+        }),
+        ScriptRefusal::Expected(at) => Some(Told {
+            number: 111,
+            at: *at,
+        }),
+        ScriptRefusal::NoMemory => None,
+    }
+}
+
+fn take_script(alloc: Global, path: &Str, bytes: &[u8]) -> Result<Vec<WireEvent>, Fault>
+    ensures { ScriptTaken path.now bytes.now (script_result result) }
+{
+    match read_script(alloc, bytes, SCRIPT_LIMIT) {
+        Ok(events) => Ok(events),
+        Err(refusal) => match told_of_script(&refusal) {
+            Some(told) => Err(refused(alloc, path, told.number, Place::At(told.at))),
+            None => Err(Fault::NoMemory),
+        },
+    }
+}
+
+/// The events of a script's file.
+/// # Errors
+/// A script that is refused or unread, or out of memory.
+pub fn load_script<F: Files>(
+    alloc: Global,
+    files: &mut F,
+    path: &Str,
+) -> Result<Vec<WireEvent>, Fault>
+    ensures ends { ForSome (F.contents files.old) (λ map.
+        ScriptEnds map path.now (script_result result)) }
+    ensures same { F.contents files.new ≡ F.contents files.old }
+    ensures cause { ReadsHaveCause (path.now ∷ [])
+        (F.failed_reads files.old) (F.failed_reads files.new) result }
+    ensures writes { F.failed_writes files.new ≡ F.failed_writes files.old }
+{
+    let bytes = read_file(alloc, files, path, SCRIPT_LIMIT)?;
+    take_script(alloc, path, bytes.bytes())
+}

@@ -1,3 +1,0 @@
-// Lists of words beside the commands that they give.
-mod lists;
-mod told;

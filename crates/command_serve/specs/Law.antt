@@ -1,0 +1,42 @@
+-- A run over connections ends well, unless memory runs out, where its inputs are accepted and nothing outside fails.
+use Rattle.std.specs.Prelude.{◌≡◌, ◌<◌, ℕ, List, length, Some, Ok, Err}
+use Rattle.wire.specs.Told.{Told}
+use Rattle.wire.specs.declared.WireEvent.{WireEvent}
+use Rattle.run_report.specs.declared.status.Status.{Status}
+use Rattle.run_report.specs.declared.status.Status.TheVariants as status
+use Rattle.command_spec.specs.declared.ServeCommand.{ServeCommand}
+use Rattle.command_spec.specs.Inputs.{input_paths}
+use Rattle.site_inputs.specs.declared.fault.Fault.{Fault}
+use Rattle.site_inputs.specs.Runs.{IsDecidedFault}
+use Rattle.site_inputs.specs.Sites.{Inputs, InputsEnd}
+use Rattle.site_inputs.specs.Statuses.{ReadRose, status_of}
+use Rattle.site_inputs.specs.Outside.{Outside, PutsRose, EventsRose, AllRead, HasStatus}
+use Rattle.command_serve.specs.Ends.{ServeEnds}
+
+-- the wire reports which events it will give, and there is a turn for each of them and one for the end
+abbrev pub HasTurns : Told → (turns : ℕ) → Type 0
+HasTurns before turns =
+    (events : List WireEvent) × (before.left ≡ Some events) × (length events < turns)
+
+module _ (command : ServeCommand) (before after : Outside) (reached : Status) where
+  -- Where the inputs are read, they decide how a run over connections ends that nothing outside fails.
+  pub record ServingIsDecided : Type 0 where
+    pub accepted : (s : Inputs)
+        → InputsEnd before.host.files command.sources command.query command.templates (Ok s)
+        → HasTurns before.wire command.options.limits.turns
+        → ¬ PutsRose before.host after.host → ¬ EventsRose before.wire after.wire
+        → HasStatus status.Ok reached
+    pub refused : (reason : Fault)
+        → InputsEnd before.host.files command.sources command.query command.templates (Err reason)
+        → IsDecidedFault reason → HasStatus (status_of reason) reached
+
+  -- the law of the command
+  abbrev pub ServingEndsWell : Type 0
+  ServingEndsWell =
+      ServeEnds command before after reached
+      → ReadRose (input_paths command.sources command.query command.templates)
+      before.host.failed_reads after.host.failed_reads reached
+      → (reached ≡ status.WriteFault → PutsRose before.host after.host)
+      → (reached ≡ status.WireFault → EventsRose before.wire after.wire)
+      → AllRead (input_paths command.sources command.query command.templates) before.host after.host
+      → ServingIsDecided

@@ -1,0 +1,34 @@
+-- The files that a command reads, in the order in which it reads them.
+use Rattle.std.specs.Prelude.{ℕ, List, [], ◌∷◌, ◌++◌, Option, None, Some}
+use Rattle.command_spec.specs.declared.ExplainCommand.{ExplainCommand}
+use Rattle.command_spec.specs.declared.ReplayCommand.{ReplayCommand}
+use Rattle.command_spec.specs.declared.Command.{Command}
+use Rattle.command_spec.specs.declared.Command.TheVariants.{Page, Build, Data, Explain, Serve, Replay, Trial}
+
+-- the inputs of a site: the data, the query and the templates
+abbrev pub input_paths : (sources : List (List ℕ)) (query templates : List ℕ) → List (List ℕ)
+input_paths sources query templates = sources ++ (query ∷ templates ∷ [])
+
+-- those of `explain`: the data and the query
+abbrev pub explain_paths : ExplainCommand → List (List ℕ)
+explain_paths command = command.sources ++ (command.query ∷ [])
+
+-- those of `replay`: the inputs of its site, and then the script
+abbrev pub replay_paths : ReplayCommand → List (List ℕ)
+replay_paths command =
+    input_paths command.sources command.query command.templates ++ (command.script ∷ [])
+
+-- the paths of a command's own files
+abbrev pub inputs_of_command : Command → List (List ℕ)
+inputs_of_command (Page command) = input_paths command.sources command.query command.templates
+inputs_of_command (Build command) = input_paths command.sources command.query command.templates
+inputs_of_command (Data command) = command.sources
+inputs_of_command (Explain command) = explain_paths command
+inputs_of_command (Serve command) = input_paths command.sources command.query command.templates
+inputs_of_command (Replay command) = replay_paths command
+inputs_of_command (Trial command) = []
+
+-- those of the command that the words give, if any
+abbrev pub given_inputs : Option Command → List (List ℕ)
+given_inputs (Some command) = inputs_of_command command
+given_inputs None = []

@@ -1,0 +1,6 @@
+pub mod Limits
+pub mod Options
+pub mod Numbers
+pub mod Words
+pub mod Ranges
+pub mod Inputs

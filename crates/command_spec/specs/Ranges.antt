@@ -1,0 +1,33 @@
+-- The ranges in which the numbers of a command lie.
+use Rattle.std.specs.Prelude.{ℕ, ◌≤◌}
+use Rattle.command_spec.specs.Limits.{entry_limit, count_limit, port_limit, cache_limit}
+use Rattle.command_spec.specs.declared.RunLimits.{RunLimits}
+use Rattle.command_spec.specs.declared.ServeOptions.{ServeOptions}
+use Rattle.command_spec.specs.declared.Command.{Command}
+use Rattle.command_spec.specs.declared.Command.TheVariants.{Page, Build, Data, Explain, Serve, Replay, Trial}
+
+-- a number from 1 to `most`
+abbrev pub IsFrom1To : ℕ → ℕ → Type 0
+IsFrom1To most n = (1 ≤ n) × (n ≤ most)
+
+-- the limits of a run are in their ranges
+pub record AreLimits (limits : RunLimits) : Type 0 where
+  pub requests : IsFrom1To count_limit limits.requests
+  pub turns : IsFrom1To count_limit limits.turns
+  pub cache : IsFrom1To cache_limit limits.cache
+
+-- the options of `serve` are in their ranges
+pub record AreServeOptions (options : ServeOptions) : Type 0 where
+  pub port : IsFrom1To port_limit options.port
+  pub connections : IsFrom1To count_limit options.connections
+  pub limits : AreLimits options.limits
+
+-- the numbers of the command are in their ranges
+abbrev pub IsInRange : Command → Type 0
+IsInRange (Serve c) = AreServeOptions c.options
+IsInRange (Replay c) = AreLimits c.limits
+IsInRange (Page c) = Unit {0}
+IsInRange (Build c) = Unit {0}
+IsInRange (Data c) = Unit {0}
+IsInRange (Explain c) = Unit {0}
+IsInRange (Trial c) = IsFrom1To entry_limit c.entries

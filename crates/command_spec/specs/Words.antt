@@ -1,0 +1,163 @@
+-- Which words give a command.
+use Rattle.std.specs.Prelude.{ℕ, List, [], ◌∷◌, Bool, true, false, ◌&&◌, not}
+use Rattle.std.specs.Prelude.{Option, None, Some, option_and_then, if◌then◌else◌, codes}
+use Rattle.std.specs.List.{list_all}
+use Rattle.std.specs.Str.{bytes_eq, is_utf8}
+use Rattle.command_spec.specs.Limits.{entry_limit}
+use Rattle.command_spec.specs.declared.options.Setting.{Setting}
+use Rattle.command_spec.specs.declared.numbers.NumberOption.TheVariants.{Port, Connections, Requests}
+use Rattle.command_spec.specs.declared.numbers.NumberOption.TheVariants.{Turns, Cache}
+use Rattle.command_spec.specs.declared.RunLimits.{RunLimits}
+use Rattle.command_spec.specs.declared.ServeOptions.{ServeOptions}
+use Rattle.command_spec.specs.declared.Command.{Command}
+use Rattle.command_spec.specs.declared.Command.TheVariants.{Page, Build, Data, Explain, Serve}
+use Rattle.command_spec.specs.declared.Command.TheVariants.{Replay, Trial}
+use Rattle.command_spec.specs.Options.{Parts, is_empty, parts_of}
+use Rattle.command_spec.specs.Numbers.{number, number_of, are_among}
+
+-- the first answer, and then the second of it
+infixl 10 ◌>>=◌
+abbrev ◌>>=◌ : {A B : Type 0} → Option A → (A → Option B) → Option B
+found >>= next = option_and_then next found
+
+-- a text that isn't empty
+abbrev pub is_word : List ℕ → Bool
+is_word word = is_utf8 word && not (is_empty word)
+
+-- the words after `page`
+abbrev pub page_command : List (List ℕ) → Option Command
+page_command (query ∷ templates ∷ address ∷ source ∷ sources) =
+    Some (Page (record {
+      query = query;
+      templates = templates;
+      address = address;
+      sources = source ∷ sources;
+    }))
+page_command words = None
+
+-- the words after `build`
+abbrev pub build_command : List (List ℕ) → Option Command
+build_command (query ∷ templates ∷ folder ∷ source ∷ sources) =
+    Some (Build (record {
+      query = query;
+      templates = templates;
+      folder = folder;
+      sources = source ∷ sources;
+    }))
+build_command words = None
+
+-- the words after `data`
+abbrev pub data_command : List (List ℕ) → Option Command
+data_command (source ∷ sources) = Some (Data (record { sources = source ∷ sources }))
+data_command [] = None
+
+-- the words after `explain`
+abbrev pub explain_command : List (List ℕ) → Option Command
+explain_command (query ∷ source ∷ sources) =
+    Some (Explain (record { query = query; sources = source ∷ sources }))
+explain_command words = None
+
+-- the words after `trial`
+abbrev pub trial_command : List (List ℕ) → Option Command
+trial_command (entries ∷ []) = do
+  n ← number entry_limit entries
+  Some (Trial (record { entries = n }))
+trial_command words = None
+
+-- the limits of a run
+abbrev pub run_limits : List Setting → Option RunLimits
+run_limits settings = do
+  requests ← number_of Requests settings
+  turns ← number_of Turns settings
+  cache ← number_of Cache settings
+  Some (record { requests = requests; turns = turns; cache = cache })
+
+-- the numbers of `serve`
+abbrev pub serve_numbers : List Setting → Option ServeOptions
+serve_numbers settings = do
+  port ← number_of Port settings
+  connections ← number_of Connections settings
+  limits ← run_limits settings
+  Some (record { port = port; connections = connections; limits = limits })
+
+-- whether there are no options
+abbrev pub are_none : List Setting → Bool
+are_none [] = true
+are_none (setting ∷ settings) = false
+
+-- the options of `serve`
+abbrev pub serve_options : List Setting → Option ServeOptions
+serve_options settings =
+    if are_among (Port ∷ Connections ∷ Requests ∷ Turns ∷ Cache ∷ []) settings
+    then serve_numbers settings
+    else None
+
+-- the options of `replay`
+abbrev pub replay_options : List Setting → Option RunLimits
+replay_options settings =
+    if are_among (Requests ∷ Turns ∷ Cache ∷ []) settings then run_limits settings else None
+
+-- the words after `serve`
+abbrev pub serve_command : ServeOptions → List (List ℕ) → Option Command
+serve_command options (query ∷ templates ∷ source ∷ sources) =
+    Some (Serve (record {
+      query = query;
+      templates = templates;
+      sources = source ∷ sources;
+      options = options;
+    }))
+serve_command options words = None
+
+-- the words after `replay`
+abbrev pub replay_command : RunLimits → List (List ℕ) → Option Command
+replay_command limits (query ∷ templates ∷ script ∷ source ∷ sources) =
+    Some (Replay (record {
+      query = query;
+      templates = templates;
+      script = script;
+      sources = source ∷ sources;
+      limits = limits;
+    }))
+replay_command limits words = None
+
+-- a command without options
+abbrev pub plain_command : List ℕ → List (List ℕ) → Option Command
+plain_command name words =
+    if bytes_eq name (codes "page") then page_command words
+    else if bytes_eq name (codes "build") then build_command words
+    else if bytes_eq name (codes "data") then data_command words
+    else if bytes_eq name (codes "explain") then explain_command words
+    else if bytes_eq name (codes "trial") then trial_command words
+    else None
+
+-- the parts behind `serve`
+abbrev pub serve_parts : Parts → Option Command
+serve_parts parts =
+    option_and_then (λ options. serve_command options parts.words) (serve_options parts.settings)
+
+-- the parts behind `replay`
+abbrev pub replay_parts : Parts → Option Command
+replay_parts parts =
+    option_and_then (λ limits. replay_command limits parts.words) (replay_options parts.settings)
+
+-- the parts behind a command without options
+abbrev pub plain_parts : List ℕ → Parts → Option Command
+plain_parts name parts =
+    if are_none parts.settings then plain_command name parts.words else None
+
+-- what the words after the name say
+abbrev pub named_command : List ℕ → Option Parts → Option Command
+named_command name None = None
+named_command name (Some parts) =
+    if bytes_eq name (codes "serve") then serve_parts parts
+    else if bytes_eq name (codes "replay") then replay_parts parts
+    else plain_parts name parts
+
+-- what the words say, each of which is a text
+abbrev pub word_command : List (List ℕ) → Option Command
+word_command [] = None
+word_command (name ∷ words) = named_command name (parts_of None words)
+
+-- the command that the words give
+abbrev pub command : List (List ℕ) → Option Command
+command words = if list_all is_word words then word_command words else None

@@ -1,0 +1,137 @@
+//! The commands of the program, and the words that give them: definitions for a reader who must believe them.
+#![tactic(auto)]
+
+ghost use Rattle.std.specs.Prelude.{◌≡◌, IfOk};
+
+mod numbers;
+mod options;
+
+pub use numbers::NumberOption;
+pub use options::{Parts, Role, Setting};
+use sd_value::{NoMemory, Str};
+use std::alloc::Global;
+use std::marker::Model;
+
+/// Paths, in the order of the words.
+#[derive(Debug, Drop)]
+pub struct Paths {
+    items: Vec<Str>,
+}
+
+impl Model for Paths {
+    ghost use Rattle.std.specs.Prelude.{List, ℕ};
+
+    ghost Value = { List (List ℕ) };
+
+    ghost view = { λ p. p.items.items };
+}
+
+impl Paths {
+    /// Copies of these words.
+    pub fn of(alloc: Global, words: &[Str]) -> Result<Paths, NoMemory>
+        ensures { IfOk result (λ paths. paths ≡ words.now) }
+    {
+        let mut items = Vec::with_capacity(alloc, words.len())?;
+        for word in words {
+            items.push(word.copy(alloc)?)?;
+        }
+        Ok(Paths { items })
+    }
+
+    /// The paths.
+    pub fn items(&self) -> &[Str]
+        ensures { result.now ≡ self.now }
+    {
+        self.items.as_slice()
+    }
+}
+
+/// `page QUERY TEMPLATES ADDRESS DATA..`: one page is printed.
+#[derive(Debug, Drop)]
+pub struct PageCommand {
+    pub query: Str,
+    pub templates: Str,
+    pub address: Str,
+    pub sources: Paths,
+}
+
+/// `build QUERY TEMPLATES DIR DATA..`: the whole site is written to files under a folder.
+#[derive(Debug, Drop)]
+pub struct BuildCommand {
+    pub query: Str,
+    pub templates: Str,
+    pub folder: Str,
+    pub sources: Paths,
+}
+
+/// `data DATA..`: the union of the data is printed.
+#[derive(Debug, Drop)]
+pub struct DataCommand {
+    pub sources: Paths,
+}
+
+/// `explain QUERY DATA..`: the plan of each block of the query over the data is printed.
+#[derive(Debug, Drop)]
+pub struct ExplainCommand {
+    pub query: Str,
+    pub sources: Paths,
+}
+
+/// The limits of a run over connections.
+#[derive(Clone, Copy, Debug, PartialEq, Eq)]
+pub struct RunLimits {
+    /// Replies per connection, 1 to 4,294,967,296.
+    pub requests: u64,
+    /// Events that are taken, 1 to 4,294,967,296.
+    pub turns: u64,
+    /// Pages that are kept, 1 to 4,096.
+    pub cache: u32,
+}
+
+/// The options of `serve`.
+#[derive(Clone, Copy, Debug, PartialEq, Eq)]
+pub struct ServeOptions {
+    /// The port that is listened at, 1 to 65,535.
+    pub port: u16,
+    /// Connections that are taken, 1 to 4,294,967,296.
+    pub connections: u64,
+    pub limits: RunLimits,
+}
+
+/// `serve QUERY TEMPLATES DATA..`: pages are served over HTTP.
+#[derive(Debug, Drop)]
+pub struct ServeCommand {
+    pub query: Str,
+    pub templates: Str,
+    pub sources: Paths,
+    pub options: ServeOptions,
+}
+
+/// `replay QUERY TEMPLATES SCRIPT DATA..`: the same over the events of a script.
+#[derive(Debug, Drop)]
+pub struct ReplayCommand {
+    pub query: Str,
+    pub templates: Str,
+    pub script: Str,
+    pub sources: Paths,
+    pub limits: RunLimits,
+}
+
+/// `trial N`: requests for the pages of a site of made data are served, and counted.
+#[derive(Clone, Copy, Debug, PartialEq, Eq)]
+pub struct TrialCommand {
+    /// Entries of the data, 1 to 20,000.
+    pub entries: u32,
+}
+
+/// What the program is asked to do.
+#[derive(Debug, Drop)]
+pub enum Command {
+    Page(PageCommand),
+    Build(BuildCommand),
+    Data(DataCommand),
+    Explain(ExplainCommand),
+    Serve(ServeCommand),
+    Replay(ReplayCommand),
+    Trial(TrialCommand),
+}

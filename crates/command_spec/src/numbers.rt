@@ -1,0 +1,53 @@
+// The options whose value is a number.
+ghost use Rattle.std.specs.Prelude.{◌≡◌};
+ghost use Rattle.command_spec.specs.Numbers as specs;
+
+/// An option whose value is a number from 1 on.
+#[derive(Clone, Copy, Debug, PartialEq, Eq)]
+pub enum NumberOption {
+    Port,
+    Connections,
+    Requests,
+    Turns,
+    Cache,
+}
+
+impl NumberOption {
+    /// The word of the option.
+    pub fn word(self) -> &'static [u8]
+        ensures { result.now ≡ specs.option_word self }
+    {
+        match self {
+            NumberOption::Port => b"--port",
+            NumberOption::Connections => b"--connections",
+            NumberOption::Requests => b"--requests",
+            NumberOption::Turns => b"--turns",
+            NumberOption::Cache => b"--cache",
+        }
+    }
+
+    /// The greatest number that the option may have.
+    pub fn greatest(self) -> u64
+        ensures { result ≡ specs.greatest self }
+    {
+        match self {
+            NumberOption::Port => 65_535,
+            NumberOption::Connections | NumberOption::Requests | NumberOption::Turns => {
+                4_294_967_296
+            }
+            NumberOption::Cache => 4_096,
+        }
+    }
+
+    /// The number where the option isn't given.
+    pub fn otherwise(self) -> u64
+        ensures { result ≡ specs.default_of self }
+    {
+        match self {
+            NumberOption::Port => 8_080,
+            NumberOption::Connections | NumberOption::Turns => 4_294_967_296,
+            NumberOption::Requests => 1,
+            NumberOption::Cache => 256,
+        }
+    }
+}

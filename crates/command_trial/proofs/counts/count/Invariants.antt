@@ -1,0 +1,11 @@
+use Rattle.std.proofs.Common.{◌≡◌, ℕ, ◌+◌, ◌<◌, List, length, take}
+use Rattle.page_spec.specs.declared.Outcome.{Outcome}
+use Rattle.trial_spec.specs.Numbers.{counts_of}
+use Rattle.command_trial.specs.Replies.{IsFine, AreReplied}
+use Rattle.command_trial.proofs.counts.count.Given as goal
+
+abbrev pub invariant-loop-i : goal.invariant-loop-i
+invariant-loop-i l = record {
+  counted : (outcomes : List Outcome) → length outcomes ≡ l.connections → AreReplied l.wire outcomes → l.counts ≡ counts_of (take l.i outcomes);
+  fine : (i : ℕ) → i < l.i → IsFine l.wire (i + 1);
+}

@@ -1,0 +1,6 @@
+pub mod Data
+pub mod Asked
+pub mod Askable
+pub mod Replies
+pub mod Runs
+pub mod Ends

@@ -1,0 +1,13 @@
+//! The command `trial`: requests for the pages of a site of made data are served, and counted.
+#![tactic(auto)]
+
+mod counts;
+mod data;
+mod laws;
+mod lines;
+mod requests;
+mod running;
+mod site;
+
+pub use laws::{a_trial_has_one_text, trials_are_decided};
+pub use running::trial;

@@ -1,0 +1,38 @@
+// The lines that a trial prints.
+ghost use Rattle.std.specs.Prelude.{◌≡◌, ◌++◌, IfOk, OnOk};
+ghost use Rattle.trial_spec.specs.Numbers.{number_line, lines_of};
+
+use itoa::Buffer;
+use sd_value::{NoMemory, Str};
+use std::alloc::Global;
+use trial_spec::Counts;
+
+fn push_line(text: &mut Vec<u8>, name: &[u8], number: u64) -> Result<(), NoMemory>
+    ensures { OnOk result (text.new.items ≡ text.old.items ++ number_line name.now number) }
+{
+    let mut buffer = Buffer::new();
+    text.extend_from_slice(name)?;
+    text.extend_from_slice(buffer.format(number).as_bytes())?;
+    text.extend_from_slice(b"\n")?;
+    Ok(())
+}
+
+/// The six lines of a trial.
+pub(crate) fn lines_of(
+    alloc: Global,
+    entries: u64,
+    requests: u64,
+    counts: Counts,
+    hits: u64,
+) -> Result<Str, NoMemory>
+    ensures { IfOk result (λ text. text ≡ lines_of entries requests counts hits) }
+{
+    let mut text = Vec::new(alloc);
+    push_line(&mut text, b"entries ", entries)?;
+    push_line(&mut text, b"requests ", requests)?;
+    push_line(&mut text, b"ok ", counts.ok)?;
+    push_line(&mut text, b"missing ", counts.missing)?;
+    push_line(&mut text, b"bytes ", counts.bytes)?;
+    push_line(&mut text, b"hits ", hits)?;
+    Str::of(alloc, text)
+}

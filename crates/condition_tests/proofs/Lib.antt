@@ -1,0 +1,4 @@
+pub mod Atoms
+pub mod Equal
+pub mod Decided
+pub mod Numbers

@@ -1,0 +1,69 @@
+-- When a literal holds of a row.
+use Rattle.std.specs.Prelude.{◌≡◌, ℕ, List, Some, Bool, true, false, slice_get, Contains, ⊤}
+use Rattle.sd_value.specs.declared.Datum.TheVariants.{Text}
+use Rattle.sd_value.specs.declared.Value.{Value}
+use Rattle.sd_value.specs.declared.Value.TheVariants.{Data}
+use Rattle.graph_spec.specs.DataGraph.{DataGraph, HasEdge}
+use Rattle.graph_spec.specs.Steps.{IsMemberValue}
+use Rattle.walks.specs.Joins.{Joins}
+use Rattle.query_spec.specs.Holds.{IsEqual, Compares, HasKind}
+use Rattle.condition_tests.specs.declared.literal.Place.{Place}
+use Rattle.condition_tests.specs.declared.literal.Place.TheVariants.{Variable, Fixed}
+use Rattle.condition_tests.specs.declared.literal.Property.{Property}
+use Rattle.condition_tests.specs.declared.literal.Property.TheVariants.{Member, OneOf, Kind}
+use Rattle.condition_tests.specs.declared.literal.Relation.{Relation}
+use Rattle.condition_tests.specs.declared.literal.Relation.TheVariants.{Edge, Walk, Compare}
+use Rattle.condition_tests.specs.declared.literal.Atom.{Atom}
+use Rattle.condition_tests.specs.declared.literal.Atom.TheVariants.{One, Two, Arc}
+use Rattle.condition_tests.specs.declared.literal.Literal.{Literal}
+use Rattle.condition_tests.specs.declared.literal.Goal.{Goal}
+use Rattle.condition_tests.specs.declared.literal.Goal.TheVariants.{Holds, Domain}
+
+-- the value is at the place in the row
+abbrev pub Stands : Place → List Value → Value → Type 0
+Stands (Variable k) t v = slice_get t k ≡ Some v
+Stands (Fixed w) t v = w ≡ v
+
+-- the value equals one of the constants
+abbrev pub IsOneOf : ℕ → List Value → Value → Type 0
+IsOneOf version constants v = (k : Value) × Contains constants k × IsEqual version v k
+
+-- the value has the property
+abbrev pub Has : DataGraph → ℕ → Property → Value → Type 0
+Has G version (Member collection) v = IsMemberValue G collection v
+Has G version (OneOf constants) v = IsOneOf version constants v
+Has G version (Kind test) v = HasKind test v
+
+-- the relation holds from the one value to the other
+abbrev pub Relates : DataGraph → ℕ → Relation → Value → Value → Type 0
+Relates G version (Edge label) u v = HasEdge G u label v
+Relates G version (Walk table) u v = Joins G table u v
+Relates G version (Compare op) u v = Compares version op u v
+
+-- there is an edge from u to v whose label is the text
+abbrev pub HasArc : DataGraph → Value → Value → Value → Type 0
+HasArc G u (Data (Text label)) v = HasEdge G u label v
+HasArc G u l v = ⊥
+
+-- the atom holds of a row
+abbrev pub AtomHolds : DataGraph → ℕ → Atom → List Value → Type 0
+AtomHolds G version (One p property) t = (v : Value) × Stands p t v × Has G version property v
+AtomHolds G version (Two p relation q) t =
+    (u : Value) × (v : Value) × Stands p t u × Stands q t v × Relates G version relation u v
+AtomHolds G version (Arc p a q) t =
+    (u : Value) × (l : Value) × (v : Value) × Stands p t u × (slice_get t a ≡ Some l)
+    × Stands q t v × HasArc G u l v
+
+-- the statement, or its negation
+abbrev pub Signed : Bool → Type 0 → Type 0
+Signed true P = P → ⊥
+Signed false P = P
+
+-- the literal holds of a row
+abbrev pub LiteralHolds : DataGraph → ℕ → Literal → List Value → Type 0
+LiteralHolds G version l t = Signed l.negated (AtomHolds G version l.atom t)
+
+-- the goal holds of a row; a domain always does
+abbrev pub GoalHolds : DataGraph → ℕ → Goal → List Value → Type 0
+GoalHolds G version (Holds l) t = LiteralHolds G version l t
+GoalHolds G version (Domain k) t = ⊤

@@ -1,0 +1,197 @@
+// Conditions with names, made into goals with numbers.
+ghost use Rattle.std.specs.Prelude.{◌≡◌, ◌<◌, ◌≤◌, ℕ, length, map, IfOk, Contains};
+ghost use Rattle.rpe.specs.Language.{positions};
+ghost use Rattle.query_spec.specs.Mentions.{condition_positions};
+ghost use Rattle.query_spec.specs.Query.{path};
+ghost use Rattle.rpe.specs.Reading.{regex_of};
+ghost use Rattle.struql_ast.specs.Reading.{operand_of, step_of, condition_of};
+ghost use Rattle.condition_tests.specs.Resolved.{IsNumberOf, IsPlaceOf, IsAtomOf, IsRelationOf, IsReady, IsPlain, StandsFor, arcs_of, operand_declared, step_declared, declared};
+ghost use Rattle.condition_tests.specs.Places.{PlaceInRange, AtomInRange};
+
+use crate::literal::{Atom, Goal, Literal, Place, Property, Relation};
+use automaton::{Automaton, RpeRefusal};
+use query_spec::Variable;
+use rpe::Rpe;
+use sd_value::{NoMemory, Str, Value, copy};
+use std::alloc::Global;
+use struql_ast::{Condition, Constants, Operand, PathStep};
+
+// The number of the variable of that name.
+fn index_of(variables: &[Variable], name: &Str) -> usize
+    requires { Contains (map (λ v. v.name) variables.now) name.now }
+    ensures within { result < length variables.now }
+    ensures number { IsNumberOf variables.now name.now result }
+{
+    for i in 0..variables.len() {
+        if variables[i].name == *name {
+            return i;
+        }
+    }
+    0
+}
+
+// Where the operand's value is in a row.
+fn place_of(alloc: Global, variables: &[Variable], operand: &Operand) -> Result<Place, NoMemory>
+    requires { operand_declared variables.now (operand_of operand.now) }
+    ensures place { IfOk result (λ p. IsPlaceOf variables.now (operand_of operand.now) p) }
+    ensures in_range { IfOk result (λ p. PlaceInRange (length variables.now) p) }
+{
+    match operand {
+        Operand::Variable(name, _) => {
+            let slot = index_of(variables, name);
+            Ok(Place::Variable(slot))
+        }
+        Operand::Constant(value, _) => {
+            let value = copy(alloc, value)?;
+            Ok(Place::Fixed(value))
+        }
+    }
+}
+
+/// Which variables stand for labels.
+pub fn arcs_of_variables(alloc: Global, variables: &[Variable]) -> Result<Vec<bool>, NoMemory>
+    ensures { IfOk result (λ arcs. arcs.items ≡ arcs_of variables.now) }
+{
+    let mut arcs = Vec::new(alloc);
+    for variable in variables {
+        arcs.push(variable.arc)?;
+    }
+    Ok(arcs)
+}
+
+fn constants_of(alloc: Global, items: &[Value]) -> Result<Constants, NoMemory>
+    ensures { IfOk result (λ constants. constants ≡ items.now) }
+{
+    let mut copies = Vec::new(alloc);
+    for item in items {
+        copies.push(copy(alloc, item)?)?;
+    }
+    Ok(Constants::new(copies))
+}
+
+// A label alone is looked up as an edge, and any other expression is walked.
+fn relation_of(alloc: Global, expression: &Rpe) -> Result<Relation, NoMemory>
+    requires { positions (regex_of expression.now) ≤ 256 }
+    ensures { IfOk result (IsRelationOf (regex_of expression.now)) }
+{
+    match expression {
+        Rpe::Label(label) => {
+            let label = label.copy(alloc)?;
+            Ok(Relation::Edge(label))
+        }
+        _ => match Automaton::of(alloc, expression) {
+            Ok(automaton) => Ok(Relation::Walk(automaton)),
+            Err(RpeRefusal::NoMemory) => Err(NoMemory),
+            Err(RpeRefusal::TooManyPositions) => unreachable!(),
+        },
+    }
+}
+
+fn path_of(
+    alloc: Global,
+    variables: &[Variable],
+    from: &Operand,
+    step: &PathStep,
+    to: &Operand,
+) -> Result<Atom, NoMemory>
+    requires from { operand_declared variables.now (operand_of from.now) }
+    requires step { step_declared variables.now (step_of step.now) }
+    requires to { operand_declared variables.now (operand_of to.now) }
+    requires small { condition_positions (path (operand_of from.now) (step_of step.now)
+        (operand_of to.now)) ≤ 256 }
+    ensures atom { IfOk result (λ a. (version : ℕ)
+        → IsAtomOf version variables.now
+        (path (operand_of from.now) (step_of step.now) (operand_of to.now)) a) }
+    ensures in_range { IfOk result (λ a. AtomInRange (length variables.now) a) }
+{
+    let first = place_of(alloc, variables, from)?;
+    let last = place_of(alloc, variables, to)?;
+    match step {
+        PathStep::ArcVariable(name, _) => {
+            let slot = index_of(variables, name);
+            Ok(Atom::Arc(first, slot, last))
+        }
+        PathStep::Expression(expression, _) => {
+            let relation = relation_of(alloc, expression)?;
+            Ok(Atom::Two(first, relation, last))
+        }
+    }
+}
+
+// The atom of a condition without `not`.
+fn atom_of(alloc: Global, variables: &[Variable], condition: &Condition) -> Result<Atom, NoMemory>
+    requires names { declared variables.now (condition_of condition.now) }
+    requires plain { IsPlain (condition_of condition.now) }
+    requires small { condition_positions (condition_of condition.now) ≤ 256 }
+    ensures atom { IfOk result (λ a. (version : ℕ)
+        → IsAtomOf version variables.now (condition_of condition.now) a) }
+    ensures in_range { IfOk result (λ a. AtomInRange (length variables.now) a) }
+{
+    match condition {
+        Condition::Member {
+            collection,
+            variable,
+            ..
+        } => {
+            let slot = index_of(variables, variable);
+            let collection = collection.copy(alloc)?;
+            Ok(Atom::One(Place::Variable(slot), Property::Member(collection)))
+        }
+        Condition::Path { from, step, to, .. } => {
+            let atom = path_of(alloc, variables, from, step, to)?;
+            Ok(atom)
+        }
+        Condition::Compare {
+            left,
+            op,
+            right,
+            ..
+        } => {
+            let first = place_of(alloc, variables, left)?;
+            let last = place_of(alloc, variables, right)?;
+            Ok(Atom::Two(first, Relation::Compare(*op), last))
+        }
+        Condition::OneOf {
+            operand,
+            constants,
+            ..
+        } => {
+            let place = place_of(alloc, variables, operand)?;
+            let constants = constants_of(alloc, constants.items())?;
+            Ok(Atom::One(place, Property::OneOf(constants)))
+        }
+        Condition::Kind { test, variable, .. } => {
+            let slot = index_of(variables, variable);
+            Ok(Atom::One(Place::Variable(slot), Property::Kind(*test)))
+        }
+        Condition::Not(..) => unreachable!(),
+    }
+}
+
+/// The goal that stands for the condition.
+pub fn goal_of(
+    alloc: Global,
+    variables: &[Variable],
+    condition: &Condition,
+) -> Result<Goal, NoMemory>
+    requires { IsReady variables.now (condition_of condition.now) }
+    ensures { IfOk result (λ g. (version : ℕ)
+        → StandsFor version variables.now (condition_of condition.now) g) }
+{
+    match condition {
+        Condition::Not(inner, _) => {
+            let atom = atom_of(alloc, variables, inner)?;
+            Ok(Goal::Holds(Literal {
+                negated: true,
+                atom,
+            }))
+        }
+        _ => {
+            let atom = atom_of(alloc, variables, condition)?;
+            Ok(Goal::Holds(Literal {
+                negated: false,
+                atom,
+            }))
+        }
+    }
+}

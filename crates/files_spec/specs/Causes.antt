@@ -1,0 +1,22 @@
+-- Why a file of a site could not be written: a write of one of its paths failed, and was counted.
+use Rattle.std.specs.Prelude.{◌≡◌, ◌⊎◌, ℕ, List, Contains, Result, IsErrOf}
+use Rattle.sd_value.specs.declared.Term.{Term}
+use Rattle.edge_io.specs.Counts.{Rose, NoneFell}
+use Rattle.files_spec.specs.declared.stop.Stop.{Stop}
+use Rattle.files_spec.specs.declared.stop.Stop.TheVariants.{Unwritten}
+use Rattle.files_spec.specs.Paths.{page_path, index_path}
+
+-- no count fell, and where writing failed the count of some path with P rose
+pub record WritesHaveCause {T : Type 0} (P : List ℕ → Type 0) (before now : List ℕ → ℕ)
+    (result : Result T Stop) : Type 0 where
+  pub later : NoneFell before now
+  pub failed : IsErrOf result Unwritten
+      → (path : List ℕ) × P path × Rose (before path) (now path)
+
+-- the path of the page of one of the terms
+abbrev pub IsPagePath : List ℕ → List Term → List ℕ → Type 0
+IsPagePath folder terms path = (t : Term) × Contains terms t × (path ≡ page_path folder t)
+
+-- the path of one of the site's files
+abbrev pub IsSitePath : List ℕ → List Term → List ℕ → Type 0
+IsSitePath folder terms path = IsPagePath folder terms path ⊎ (path ≡ index_path folder)

@@ -1,0 +1,22 @@
+// Why writing a site stops before its end.
+use run_report::PageKind;
+use sd_value::{NoMemory, Term};
+
+/// Why writing a site stops: a page has no text or no file, a file can't be written, or memory ran out.
+#[derive(Debug, Drop)]
+pub enum Stop {
+    Faulty { term: Term, kind: PageKind },
+    Unwritten,
+    NoMemory,
+}
+
+impl From<NoMemory> for Stop {
+    ghost use Rattle.std.specs.Prelude.{◌≡◌};
+    ghost use Rattle.files_spec.specs.declared.stop.Stop.TheVariants as stop;
+
+    ghost from_gives = { λ _ e. e ≡ stop.NoMemory };
+
+    fn from(_: NoMemory) -> Self {
+        Stop::NoMemory
+    }
+}

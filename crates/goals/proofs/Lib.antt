@@ -1,5 +1,0 @@
-pub mod Names
-pub mod Atoms
-pub mod Equal
-pub mod Decided
-pub mod Numbers

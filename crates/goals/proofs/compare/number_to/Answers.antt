@@ -1,4 +1,0 @@
-use Rattle.goals.proofs.compare.number_to.Goals as goal
-
-pub returns-in_ok-order-in-Text : goal.returns-in_ok-order-in-Text
-returns-in_ok-order-in-Text c = rw c.in-Text.is c.in_ok-order-in-Text.ensures

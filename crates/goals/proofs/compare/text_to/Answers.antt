@@ -1,4 +1,0 @@
-use Rattle.goals.proofs.compare.text_to.Goals as goal
-
-pub returns-in_ok-order-in-Int : goal.returns-in_ok-order-in-Int
-returns-in_ok-order-in-Int c = rw c.in-Int.is c.in_ok-order-in-Int.ensures

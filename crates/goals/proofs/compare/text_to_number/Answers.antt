@@ -1,5 +1,0 @@
-use Rattle.goals.proofs.Numbers.{order_by_first}
-use Rattle.goals.proofs.compare.text_to_number.Goals as goal
-
-pub returns-in-Some : goal.returns-in-Some
-returns-in-Some c = order_by_first c.args.version c.args.text.now c.in-Some.m (rw c.in-Some.is at c.in_ok-m.ensures) c.args.n.now _ c.compare_numbers.ensures

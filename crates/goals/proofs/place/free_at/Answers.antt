@@ -1,4 +1,0 @@
-use Rattle.goals.proofs.place.free_at.Goals as goal
-
-pub returns-in-Some : goal.returns-in-Some
-returns-in-Some c = (c.in-Some.field-0.now, rw c.in-Variable.is c.in-Some.ensures)

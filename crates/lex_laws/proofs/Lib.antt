@@ -1,4 +1,0 @@
-pub mod Tokens
-pub mod Real
-pub mod Faults
-pub mod TextFaults

@@ -1,5 +1,0 @@
-use Rattle.picks.specs.PickedLaws.{part-of_rest}
-use Rattle.picks.proofs.part.Goals as goal
-
-pub returns : goal.returns
-returns g c = part-of_rest (g.Q.Query.at c.args.query.now) c.args.items.now _ _ _ c.first_past-start.ensures c.reach-near.ensures c.first_past-end.ensures

@@ -1,6 +1,0 @@
-use Rattle.std.proofs.Common.{◌≡◌, take}
-use Rattle.picks.specs.Picked.{picked}
-use Rattle.picks.proofs.scan.Given as goal
-
-abbrev pub invariant-loop-item : goal.invariant-loop-item
-invariant-loop-item g l = l.found.items ≡ picked (g.Q.Query.at l.query) g.Q.Query.gives (take l.item-index l.items)

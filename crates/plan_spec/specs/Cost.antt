@@ -1,0 +1,42 @@
+-- What it costs to use a condition next.
+use Rattle.std.specs.Prelude.{ℕ, ◌+◌, ◌*◌, ◌/◌, max, List, Option, None, Some, Bool, true, false, ◌&&◌, ◌||◌, if◌then◌else◌, slice_index_or}
+use Rattle.store.specs.declared.Sizes.{Sizes}
+use Rattle.plan_spec.specs.declared.Kind.{Kind}
+use Rattle.plan_spec.specs.declared.Kind.TheVariants.{Test, Equal, Listed, Edges, Walk}
+use Rattle.plan_spec.specs.declared.Shape.{Shape}
+
+-- the variable is bound, or there is none
+abbrev pub side_bound : List Bool → Option ℕ → Bool
+side_bound bound None = true
+side_bound bound (Some x) = slice_index_or bound x false
+
+-- all variables of a condition are bound
+abbrev pub all_bound : List Bool → Shape → Bool
+all_bound bound c = side_bound bound c.from && side_bound bound c.arc && side_bound bound c.to
+
+-- an end of a path, or a side of a comparison
+abbrev pub end_bound : List Bool → Shape → Bool
+end_bound bound c = side_bound bound c.from || side_bound bound c.to
+
+-- edges that start or end at one node, on average: the quotient rounded down, and 1; or all of them
+abbrev pub edges_cost_of : ℕ → ℕ → Bool → ℕ
+edges_cost_of nodes count true = count / max nodes 1 + 1
+edges_cost_of nodes count false = count
+
+-- all edges for each start: from one end, or from every value
+abbrev pub walk_cost_of : ℕ → ℕ → Bool → ℕ
+walk_cost_of edges values true = edges + 1
+walk_cost_of edges values false = (edges + 1) * values
+
+-- the cost while some variable is free
+abbrev pub free_cost_of : Sizes → Kind → Bool → Option ℕ
+free_cost_of sizes Test end = None
+free_cost_of sizes (Equal cost) end = if end then Some cost else None
+free_cost_of sizes (Listed cost) end = Some cost
+free_cost_of sizes (Edges count) end = Some (edges_cost_of sizes.nodes count end)
+free_cost_of sizes Walk end = Some (walk_cost_of sizes.edges sizes.values end)
+
+-- what it costs to use the condition now, where it can be used
+abbrev pub cost_of : Sizes → List Bool → Shape → Option ℕ
+cost_of sizes bound c =
+    if all_bound bound c then Some 0 else free_cost_of sizes c.kind (end_bound bound c)

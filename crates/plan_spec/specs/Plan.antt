@@ -1,0 +1,111 @@
+-- Plans: which condition is used next, and when a variable takes its whole domain.
+use Rattle.std.specs.Prelude.{◌≡◌, ◌⊎◌, ◌≤◌, ◌<◌, ℕ, List, [], ◌∷◌, length, Option, None, Some, Bool, true, false, slice_get, slice_set, slice_index_or, if◌then◌else◌, ⊤}
+use Rattle.store.specs.declared.Sizes.{Sizes}
+use Rattle.plan_spec.specs.declared.Shape.{Shape}
+use Rattle.plan_spec.specs.declared.PlanStep.{PlanStep}
+use Rattle.plan_spec.specs.declared.PlanStep.TheVariants.{Use, Domain}
+use Rattle.plan_spec.specs.Cost.{cost_of}
+
+-- the first variable that isn't bound
+pub record IsFirstFree (bound : List Bool) (x : ℕ) : Type 0 where
+  pub within : x < length bound
+  pub free : slice_get bound x ≡ Some false
+  pub first : (y : ℕ) → slice_get bound y ≡ Some false → x ≤ y
+
+-- a variable is bound from now on, if there is one
+abbrev pub bind : Option ℕ → List Bool → List Bool
+bind None bound = bound
+bind (Some x) bound = slice_set bound x true
+
+-- all variables of a condition are
+abbrev pub bind_all : Shape → List Bool → List Bool
+bind_all c bound = bind c.to (bind c.arc (bind c.from bound))
+
+-- the size of a variable's domain: all labels for an arc variable, or all values
+abbrev pub domain_cost : Sizes → List Bool → ℕ → ℕ
+domain_cost sizes arcs x = if slice_index_or arcs x false then sizes.labels else sizes.values
+
+-- which conditions have been used, and which variables are bound
+pub record State : Type 0 where
+  pub used : List Bool
+  pub bound : List Bool
+
+-- the state of these two
+abbrev pub state : List Bool → List Bool → State
+state used bound = record { used = used; bound = bound }
+
+-- all conditions are used, and all variables bound
+pub record IsDone (s : State) : Type 0 where
+  pub all_used : (i : ℕ) → slice_get s.used i ≡ Some false → ⊥
+  pub all_bound : (x : ℕ) → slice_get s.bound x ≡ Some false → ⊥
+
+-- none of them is true
+pub record AllFalse (xs : List Bool) : Type 0 where
+  pub each : (i : ℕ) (b : Bool) → slice_get xs i ≡ Some b → b ≡ false
+
+-- over the sizes of a graph, and the conditions of a chain
+module _ (sizes : Sizes) (shapes : List Shape) where
+  -- the condition of that number isn't used yet and can be used at that cost
+  pub record CanUse (used bound : List Bool) (i cost : ℕ) : Type 0 where
+    pub unused : slice_get used i ≡ Some false
+    pub shape : Shape
+    pub stands : slice_get shapes i ≡ Some shape
+    pub costs : cost_of sizes bound shape ≡ Some cost
+
+  -- no condition costs less, and none before it as little
+  pub record IsBest (used bound : List Bool) (i cost : ℕ) : Type 0 where
+    pub can : CanUse used bound i cost
+    pub least : (j other : ℕ) → CanUse used bound j other → cost ≤ other
+    pub first : (j other : ℕ) → CanUse used bound j other → j < i → cost < other
+
+-- and over which of the chain's variables are arc variables
+module _ (sizes : Sizes) (arcs : List Bool) (shapes : List Shape) where
+  -- one step of a plan, from one state to the next
+  abbrev pub IsStep : State → PlanStep → State → Type 0
+  IsStep s (Use i cost) r =
+      IsBest sizes shapes s.used s.bound i cost
+      × (c : Shape) × (slice_get shapes i ≡ Some c)
+      × (r.used ≡ slice_set s.used i true) × (r.bound ≡ bind_all c s.bound)
+  IsStep s (Domain x cost) r =
+      ((i other : ℕ) → CanUse sizes shapes s.used s.bound i other → ⊥)
+      × IsFirstFree s.bound x × (cost ≡ domain_cost sizes arcs x)
+      × (r.used ≡ s.used) × (r.bound ≡ slice_set s.bound x true)
+
+  -- steps, one after another
+  abbrev pub Leads : State → List PlanStep → State → Type 0
+  Leads s [] r = s ≡ r
+  Leads s (step ∷ steps) r = (m : State) × IsStep s step m × Leads m steps r
+
+  -- the plan that begins with no condition used: steps that lead to the end
+  pub record IsPlan (bound : List Bool) (steps : List PlanStep) : Type 0 where
+    pub used : List Bool
+    pub one_each : length used ≡ length shapes
+    pub none_used : AllFalse used
+    pub end : State
+    pub leads : Leads (state used bound) steps end
+    pub done : IsDone end
+
+  -- there is at most one plan
+  abbrev pub IsTheOnlyPlan : List Bool → Type 0
+  IsTheOnlyPlan bound = (steps others : List PlanStep) → IsPlan bound steps → IsPlan bound others
+      → steps ≡ others
+
+-- the condition is used at some step
+abbrev pub Uses : List PlanStep → ℕ → Type 0
+Uses [] i = ⊥
+Uses (Use j cost ∷ steps) i = (j ≡ i) ⊎ Uses steps i
+Uses (Domain x cost ∷ steps) i = Uses steps i
+
+-- no condition is used twice
+abbrev pub NoneTwice : List PlanStep → Type 0
+NoneTwice [] = ⊤
+NoneTwice (Use i cost ∷ steps) = (Uses steps i → ⊥) × NoneTwice steps
+NoneTwice (Domain x cost ∷ steps) = NoneTwice steps
+
+-- each step names one of the conditions, or one of the variables, of these numbers
+abbrev pub AreStepsOver : ℕ → ℕ → List PlanStep → Type 0
+AreStepsOver conditions variables [] = ⊤
+AreStepsOver conditions variables (Use i cost ∷ steps) =
+    (i < conditions) × AreStepsOver conditions variables steps
+AreStepsOver conditions variables (Domain x cost ∷ steps) =
+    (x < variables) × AreStepsOver conditions variables steps

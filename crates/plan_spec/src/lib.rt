@@ -1,0 +1,55 @@
+//! What a plan for a chain of conditions is, and what it costs. This crate holds definitions, and the types of which they
+//! speak.
+#![tactic(auto)]
+
+use sd_value::Str;
+use store::Sizes;
+
+/// What the cost of a condition depends on, apart from its variables.
+#[derive(Clone, Copy, Debug)]
+pub enum Kind {
+    /// It can only be used when all its variables are bound.
+    Test,
+    /// An equation, with its cost where one side is bound.
+    Equal(u128),
+    /// A list of values for one variable, with its length.
+    Listed(u128),
+    /// Edges of one label or of all labels, with their number.
+    Edges(u64),
+    /// Any other path.
+    Walk,
+}
+
+/// A condition's kind and its variables, by number. What is no variable counts as bound.
+#[derive(Clone, Copy, Debug)]
+pub struct Shape {
+    pub kind: Kind,
+    pub from: Option<u32>,
+    pub arc: Option<u32>,
+    pub to: Option<u32>,
+}
+
+/// The number of edges of a label, or of members of a collection.
+#[derive(Debug, Drop)]
+pub struct Counted {
+    pub name: Str,
+    pub count: u64,
+}
+
+/// What the costs of a chain's conditions depend on: the graph's sizes, how many edges each label has, and how many
+/// members each collection. What isn't listed counts nothing.
+#[derive(Debug, Drop)]
+pub struct Counts {
+    pub sizes: Sizes,
+    pub labels: Vec<Counted>,
+    pub collections: Vec<Counted>,
+}
+
+/// A step of a plan, with its cost.
+#[derive(Clone, Copy, Debug)]
+pub enum PlanStep {
+    /// The condition of that number is used.
+    Use { condition: u32, cost: u128 },
+    /// The variable of that number takes each value of its domain.
+    Domain { variable: u32, cost: u128 },
+}

@@ -1,3 +1,0 @@
-pub mod PathLists
-pub mod Texts
-pub mod Once

@@ -1,6 +1,0 @@
-pub mod Weights
-pub mod Tokens
-pub mod Sound
-pub mod Items
-pub mod BlocksSound
-pub mod ParsedQueries

@@ -1,0 +1,38 @@
+-- What reading a query from its bytes answers: the grammar, and then the checks.
+use Rattle.std.specs.Prelude.{◌≡◌, ℕ, List, Result, Ok, Err, ⊤}
+use Rattle.sd_lex.specs.declared.token.Token.{Token}
+use Rattle.sd_lex.specs.Lexing.{IsTextOrFault}
+use Rattle.query_spec.specs.Query as plain
+use Rattle.struql_ast.specs.declared.Query.{Query}
+use Rattle.struql_ast.specs.Reading.{query_of}
+use Rattle.struql_ast.specs.Written as written
+use Rattle.struql_ast.specs.Written.{query_written}
+use Rattle.struql_parse.specs.Blocks.{query_within}
+use Rattle.struql_parse.specs.Text.{TextStates}
+use Rattle.struql_check.specs.Faults.{IsFaultless}
+use Rattle.struql_check.specs.Checked.{ReportsFirst}
+use Rattle.query_reader.specs.declared.QueryRefusal.{QueryRefusal}
+use Rattle.query_reader.specs.declared.QueryRefusal.TheVariants.{NotSpelled, NotChecked}
+
+-- the text's tokens spell this query within the limits
+abbrev pub Spells : ℕ → List ℕ → written.Query → Type 0
+Spells limit bytes q =
+    (tokens : List Token) × IsTextOrFault limit bytes (Ok tokens) × query_within tokens q
+
+-- the text spells a query without faults, and this is its plain tree
+pub record IsAccepted (limit : ℕ) (bytes : List ℕ) (checked : plain.Query) : Type 0 where
+  pub query : Query
+  pub spelled : Spells limit bytes (query_written query)
+  pub faultless : IsFaultless (query_written query)
+  pub is_plain : checked ≡ query_of query
+
+-- The text is no query, or it is one with a fault, of which this is the first.
+abbrev pub IsRefused : ℕ → List ℕ → QueryRefusal → Type 0
+IsRefused limit bytes (NotSpelled e) = TextStates limit bytes (Err e)
+IsRefused limit bytes (NotChecked e) =
+    (query : written.Query) × Spells limit bytes query × ReportsFirst query e
+
+-- the answer to a text, if there is memory: its query, or its first fault
+abbrev pub Reads : ℕ → List ℕ → Result plain.Query QueryRefusal → Type 0
+Reads limit bytes (Ok checked) = IsAccepted limit bytes checked
+Reads limit bytes (Err refusal) = IsRefused limit bytes refusal

@@ -1,3 +1,0 @@
-pub mod Spellable
-pub mod Kept
-pub mod Again

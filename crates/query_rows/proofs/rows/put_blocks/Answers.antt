@@ -1,5 +1,0 @@
-use Rattle.site_asks.proofs.Some.{item_in}
-use Rattle.query_rows.proofs.rows.put_blocks.Goals as goal
-
-pub put_block-requires : goal.put_block-requires
-put_block-requires g c = c.requires c.block-item.result (item_in _ _ _ c.loop-block-test.true c.block-item.is)

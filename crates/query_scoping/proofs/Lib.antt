@@ -1,0 +1,9 @@
+pub mod Plain
+pub mod Placed
+pub mod Sorts
+pub mod Chains
+pub mod WellMade
+pub mod Safe
+pub mod Whole
+pub mod Parts
+pub mod Joined

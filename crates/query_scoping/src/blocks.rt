@@ -1,0 +1,75 @@
+//! The blocks of a query, each with its whole chain.
+
+ghost use Rattle.std.specs.Prelude.{◌≡◌, ◌++◌, IfOk, map};
+ghost use Rattle.query_spec.specs.Query.{with_outer};
+ghost use Rattle.query_spec.specs.Mentions.{chain_of};
+ghost use Rattle.struql_ast.specs.Reading.{condition_of, blocks_of};
+ghost use Rattle.query_blocks.specs.Blocks.{body_of};
+ghost use Rattle.query_scoping.specs.Blocks.{own_body, HaveChains};
+
+use crate::copies::{collects, links, push_conditions, terms};
+use crate::variables::variables_of;
+use query_blocks::QueryBlock;
+use sd_value::NoMemory;
+use std::alloc::Global;
+use struql_ast::{Block, Chain, Condition};
+
+fn conditions_of(
+    alloc: Global,
+    outer: &[Condition],
+    block: &Block,
+) -> Result<Vec<Condition>, NoMemory>
+    ensures { IfOk result (λ all. map condition_of all.items
+        ≡ map condition_of outer.now ++ (own_body block.now).conditions) }
+{
+    let mut all = Vec::new(alloc);
+    push_conditions(alloc, &mut all, outer)?;
+    push_conditions(alloc, &mut all, &block.conditions)?;
+    Ok(all)
+}
+
+fn block_under(
+    alloc: Global,
+    version: u8,
+    conditions: &[Condition],
+    block: &Block,
+) -> Result<QueryBlock, NoMemory>
+    ensures body { IfOk result (λ s. body_of s
+        ≡ record (own_body block.now) { conditions = map condition_of conditions.now }) }
+    ensures chain { IfOk result (λ s. s.chain ≡ chain_of version s.chain.conditions) }
+{
+    let variables = variables_of(alloc, conditions)?;
+    let mut copies = Vec::new(alloc);
+    push_conditions(alloc, &mut copies, conditions)?;
+    let creates = terms(alloc, &block.creates)?;
+    let links = links(alloc, &block.links)?;
+    let collects = collects(alloc, &block.collects)?;
+    Ok(QueryBlock {
+        chain: Chain::new(version, variables, copies),
+        creates,
+        links,
+        collects,
+    })
+}
+
+/// Adds these blocks and those in them, in the text's order.
+pub(crate) fn push_blocks(
+    alloc: Global,
+    version: u8,
+    blocks: &[Block],
+    found: &mut Vec<QueryBlock>,
+    outer: &[Condition],
+) -> Result<(), NoMemory>
+    ensures bodies { IfOk result (λ _. map body_of found.new.items
+        ≡ map body_of found.old.items
+        ++ with_outer (map condition_of outer.now) (blocks_of blocks.now)) }
+    ensures chains { IfOk result (λ _. HaveChains version found.old.items
+        → HaveChains version found.new.items) }
+{
+    for block in blocks {
+        let here = conditions_of(alloc, outer, block)?;
+        found.push(block_under(alloc, version, &here, block)?)?;
+        push_blocks(alloc, version, &block.blocks, found, &here)?;
+    }
+    Ok(())
+}

@@ -1,5 +1,0 @@
-use Rattle.script_read.proofs.Once.{one_answer}
-use Rattle.script_read.proofs.text.a_script_has_one_answer.Goals as goal
-
-pub returns : goal.returns
-returns c = one_answer

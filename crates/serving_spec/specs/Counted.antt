@@ -1,0 +1,120 @@
+-- What is counted in a run, told by its events and by what each connection is sent.
+use Rattle.std.specs.Prelude.{◌≡◌, ◌+◌, ◌==◌, ◌⊎◌, ℕ, Bool, false, List, [], ◌∷◌, ◌++◌, map, if◌then◌else◌}
+use Rattle.std.specs.List.{fold}
+use Rattle.sd_value.specs.declared.Term.{Term}
+use Rattle.http_spec.specs.declared.Standing.{Standing}
+use Rattle.http_spec.specs.declared.Standing.TheVariants.{Short}
+use Rattle.http_spec.specs.Asks.{ask_of}
+use Rattle.http_spec.specs.Replies.{no_memory_bytes}
+use Rattle.http_spec.specs.Sessions.{OutcomeAt, Answers}
+use Rattle.http_spec.specs.Streams.{Timed, Request}
+use Rattle.wire.specs.declared.WireEvent.{WireEvent}
+use Rattle.wire.specs.declared.WireEvent.TheVariants.{Opened, Bytes, Ended, Lost, Change, Done}
+use Rattle.serving_spec.specs.Inputs.{Input, Unopened, Moment, after_event}
+use Rattle.serving_spec.specs.Made.{Made, nothing, replies_in, LooksUp, MayLookUp}
+use Rattle.serving_spec.specs.Sent.{Seen, IsServedBy}
+
+-- a term that was looked up, and what was current then
+pub record LookUp (D : Type 0) : Type 0 where
+  pub term : Term
+  pub current : D
+
+-- a term was looked up while this was current
+abbrev pub look_up : {D : Type 0} → D → Term → LookUp D
+look_up current term = record { term = term; current = current }
+
+-- these terms were, one after another
+abbrev pub look_ups : {D : Type 0} → D → List Term → List (LookUp D)
+look_ups current terms = map (look_up current) terms
+
+-- What is counted of a connection: how many of its replies are no 503, and its look-ups, in their order.
+pub record Counts (D : Type 0) : Type 0 where
+  pub replies : ℕ
+  pub looked : List (LookUp D)
+
+-- no reply, and no look-up
+abbrev pub no_counts : {D : Type 0} → Counts D
+no_counts = record { replies = 0; looked = [] }
+
+-- the counts with what one event more made
+abbrev pub counts_with : {D : Type 0} → Counts D → D → Made → Counts D
+counts_with counts current made = record {
+  replies = counts.replies + made.replies;
+  looked = counts.looked ++ look_ups current made.terms;
+}
+
+-- What is looked up for these requests, one after another: for each its term, if it has one, when its head is whole.
+abbrev pub LooksUpFor : {D : Type 0} → (List ℕ → Term → Type 0) → List (Request D)
+    → List (LookUp D) → Type 0
+LooksUpFor Names [] looked = looked ≡ []
+LooksUpFor Names (r ∷ requests) looked =
+    (terms : List Term) × (others : List (LookUp _))
+    × LooksUp Names (ask_of r.head).kind r.head.target terms
+    × LooksUpFor Names requests others
+    × (looked ≡ look_ups r.current terms ++ others)
+
+-- Over pages whose data may change, where Names says which term a target names.
+module _ {D : Type 0} (page : D → OutcomeAt) (Names : List ℕ → Term → Type 0) (limit : ℕ) where
+  -- These are the replies to a connection's bytes, and this is counted of them. One term more may be looked up, where
+  -- it was out of memory for its reply.
+  pub record CountedAnswer (counts : Counts D) (stream : List (Timed D)) (ended : Bool)
+      (standing : Standing) (replies : List (List ℕ)) : Type 0 where
+    pub answer : Answers page limit stream ended standing replies
+    pub looked : List (LookUp D)
+    pub extra : List (LookUp D)
+    pub count : counts.replies ≡ replies_in standing replies
+    pub looks : LooksUpFor Names answer.requests looked
+    pub may : MayLookUp standing extra
+    pub whole : counts.looked ≡ looked ++ extra
+
+  -- the same, or it was out of memory for the connection itself: then nothing is counted
+  abbrev pub HasCounts : Counts D → List (Timed D) → Bool → Standing → List (List ℕ) → Type 0
+  HasCounts counts stream ended standing replies =
+      CountedAnswer counts stream ended standing replies
+      ⊎ ((standing ≡ Short) × (replies ≡ no_memory_bytes ∷ []) × (counts ≡ no_counts))
+
+  -- What a connection is sent, and what is counted of it: nothing, where it was never opened.
+  abbrev pub IsCounted : Counts D → Input D → Seen → Seen → Type 0
+  IsCounted counts input first now =
+      IsServedBy (HasCounts counts) input first now × (input ≡ Unopened → counts ≡ no_counts)
+
+-- the event is of the connection of this number
+abbrev pub is_of : ℕ → WireEvent → Bool
+is_of k (Opened number) = number == k
+is_of k (Bytes number piece) = number == k
+is_of k (Ended number) = number == k
+is_of k (Lost number) = number == k
+is_of k (Change text) = false
+is_of k Done = false
+
+-- One list entry for each event: what it makes. An event of no connection makes nothing.
+abbrev pub MakeFor : List WireEvent → List Made → Type 0
+MakeFor [] makes = makes ≡ []
+MakeFor (event ∷ events) [] = ⊥
+MakeFor (Opened number ∷ events) (made ∷ makes) = MakeFor events makes
+MakeFor (Bytes number piece ∷ events) (made ∷ makes) = MakeFor events makes
+MakeFor (Ended number ∷ events) (made ∷ makes) = MakeFor events makes
+MakeFor (Lost number ∷ events) (made ∷ makes) = MakeFor events makes
+MakeFor (Change text ∷ events) (made ∷ makes) = (made ≡ nothing) × MakeFor events makes
+MakeFor (Done ∷ events) (made ∷ makes) = (made ≡ nothing) × MakeFor events makes
+
+-- What the events of a connection make in all, where these counts were before, and the first event has this place in
+-- the run. Each look-up is at the place of its event.
+abbrev pub counts_from : ℕ → ℕ → Counts ℕ → List WireEvent → List Made → Counts ℕ
+counts_from k place counts [] makes = counts
+counts_from k place counts (event ∷ events) [] = counts
+counts_from k place counts (event ∷ events) (made ∷ makes) =
+    counts_from k (place + 1) (if is_of k event then counts_with counts place made else counts)
+    events makes
+
+-- one event more, where the place in the run is what is current: no text changes it, and every event does
+abbrev pub after_place : ℕ → Moment ℕ → WireEvent → Moment ℕ
+after_place k moment event = record {
+  current = moment.current + 1;
+  greatest = (after_event (λ place text. place) k moment event).greatest;
+  input = (after_event (λ place text. place) k moment event).input;
+}
+
+-- what came of a connection after these events, each byte with the place of its event
+abbrev pub placed_from : ℕ → Moment ℕ → List WireEvent → Moment ℕ
+placed_from k moment events = fold (after_place k) moment events

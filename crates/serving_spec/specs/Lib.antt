@@ -1,0 +1,10 @@
+pub mod Counted
+pub mod Delivered
+pub mod Inputs
+pub mod Looks
+pub mod Made
+pub mod Openings
+pub mod RunEnds
+pub mod Sent
+pub mod Serving
+pub mod Shown

@@ -1,0 +1,92 @@
+-- The rows under which a link starts at a page and has a label.
+use Rattle.std.proofs.Common.{◌≡◌, ◌∙◌, List, [], refl, sym, subst}
+use Rattle.std.specs.Prelude.{Option, Some, None, ◌↔◌, Contains}
+use Rattle.std.specs.Option.{MatchOption}
+use Rattle.sd_value.specs.Ascending.{ListsExactly}
+use Rattle.sd_value.specs.Members.{Contains-nil}
+use Rattle.sd_value.specs.declared.Term.{Term}
+use Rattle.sd_value.specs.declared.Value.{Value}
+use Rattle.sd_value.specs.declared.Value.TheVariants.{Page}
+use Rattle.graph_spec.specs.DataGraph.{DataGraph, Name, text}
+use Rattle.query_spec.specs.declared.Variable.{Variable}
+use Rattle.query_spec.specs.Query.{SkolemTerm, made, Link, LinkLabel, quoted, label_variable, Chain}
+use Rattle.query_spec.specs.Holds.{Assignment}
+use Rattle.query_spec.specs.Rows.{value_in, row_cmp, IsAnswer}
+use Rattle.skolem.specs.Solved.{Solves, HasNone, Adds, Refutes, HasName}
+use Rattle.site_spec.specs.Site.{IsTermUnder, IsTargetUnder, IsLabelUnder, IsJoined}
+use Rattle.site_lookups.specs.Counts.{IsLinkRow}
+use Rattle.sd_value.specs.Gathered.{Gathered}
+use Rattle.site_lookups.specs.Ends.{IsLabelled, StartsBy}
+use Rattle.site_lookups.proofs.Rows.{row_long, none_case}
+use Rattle.site_lookups.proofs.Targets.{source_to, source_from}
+
+-- ---- a label that is quoted
+
+pub quoted_same : (variables : List Variable) (written label : Name) (k : LinkLabel) (bound : List (Option Value)) → k ≡ quoted written → label ≡ written → Adds (IsLabelled variables k label) bound bound
+quoted_same variables written label k bound is same = record {
+  one_each = refl;
+  to = λ row l a. (a, subst (λ z. IsLabelUnder (value_in variables row) z label) (sym is) same);
+  from = λ row l a h. a;
+}
+
+pub quoted_other : (variables : List Variable) (written label : Name) (k : LinkLabel) (bound : List (Option Value)) → k ≡ quoted written → (label ≡ written → ⊥) → Refutes (IsLabelled variables k label) bound
+quoted_other variables written label k bound is differs = record { never = λ row l a h. differs (subst (λ z. IsLabelUnder (value_in variables row) z label) is h) }
+
+pub variable_label : (variables : List Variable) (x label : Name) (k : LinkLabel) (bound : List (Option Value)) (o : Option (List (Option Value))) → k ≡ label_variable x
+    → MatchOption o (Refutes (HasName variables x (text label)) bound) (λ b. Adds (HasName variables x (text label)) bound b) → MatchOption o (Refutes (IsLabelled variables k label) bound) (λ b. Adds (IsLabelled variables k label) bound b)
+variable_label variables x label k bound None is r = subst (λ z. Refutes (IsLabelled variables z label) bound) (sym is) record { never = λ row l a h. r.never row l a h }
+variable_label variables x label k bound (Some b) is r =
+    subst (λ z. Adds (IsLabelled variables z label) bound b) (sym is) record { one_each = r.one_each; to = λ row l a. r.to row l a; from = λ row l a h. r.from row l a h }
+
+-- ---- a source and a label
+
+module _ (variables : List Variable) (k : Link) (t : SkolemTerm) (p : Term) (label : Name) (source : k.source ≡ made t) where
+  pub none_starts : HasNone variables (λ s. IsTermUnder s t p) → HasNone variables (StartsBy k p label)
+  none_starts n = record { never = λ row l h. n.never row l (source_to (value_in variables row) t p k.source source h.0) }
+
+  refuted : (bound : List (Option Value)) → Solves variables (λ s. IsTermUnder s t p) bound → Refutes (IsLabelled variables k.label label) bound → HasNone variables (StartsBy k p label)
+  refuted bound s r = record { never = λ row l h. r.never row (l ∙ sym s.one_each) (s.from row l (source_to (value_in variables row) t p k.source source h.0)) h.1 }
+
+  added : (bound new : List (Option Value)) → Solves variables (λ s. IsTermUnder s t p) bound → Adds (IsLabelled variables k.label label) bound new → Solves variables (StartsBy k p label) new
+  added bound new s a = record {
+    one_each = a.one_each ∙ s.one_each;
+    to = λ row l h. let both = a.to row (l ∙ sym s.one_each) h in (source_from (value_in variables row) t p k.source source (s.to row l both.0), both.1);
+    from = λ row l h. a.from row (l ∙ sym s.one_each) (s.from row l (source_to (value_in variables row) t p k.source source h.0)) h.1;
+  }
+
+  pub starts_solved : (bound : List (Option Value)) (o : Option (List (Option Value))) → Solves variables (λ s. IsTermUnder s t p) bound
+      → MatchOption o (Refutes (IsLabelled variables k.label label) bound) (λ b. Adds (IsLabelled variables k.label label) bound b) → MatchOption o (HasNone variables (StartsBy k p label)) (λ b. Solves variables (StartsBy k p label) b)
+  starts_solved bound None s r = refuted bound s r
+  starts_solved bound (Some new) s a = added bound new s a
+
+pub solves_long : (variables : List Variable) (P : Assignment → Type 0) (o : Option (List (Option Value))) (bound : List (Option Value)) → o ≡ Some bound → MatchOption o (HasNone variables P) (λ b. Solves variables P b) → Solves variables P bound
+solves_long variables P o bound e m = subst (λ (x : Option (List (Option Value))). MatchOption x (HasNone variables P) (λ b. Solves variables P b)) e m
+
+pub none_solved : (variables : List Variable) (P : Assignment → Type 0) (o : Option (List (Option Value))) → o ≡ None → MatchOption o (HasNone variables P) (λ b. Solves variables P b) → HasNone variables P
+none_solved variables P o e m = subst (λ (x : Option (List (Option Value))). MatchOption x (HasNone variables P) (λ b. Solves variables P b)) e m
+
+-- ---- rows
+
+pub link_rows : (G : DataGraph) (c : Chain) (k : Link) (p : Term) (label : Name) (bound : List (Option Value)) → Solves c.variables (StartsBy k p label) bound → (row : List Value) → IsAnswer G c bound row → IsLinkRow G c p label k row
+link_rows G c k p label bound s row a = let h = s.to row (row_long G c row a.is_row) a.agrees in (a.is_row, h.0, h.1)
+
+pub joined_ends : (G : DataGraph) (c : Chain) (k : Link) (p : Term) (label : Name) (bound : List (Option Value)) (rows : List (List Value)) (ends : List Value)
+    → Solves c.variables (StartsBy k p label) bound → ListsExactly row_cmp (IsAnswer G c bound) rows
+    → Gathered (λ (row : List Value) (v : Value). IsTargetUnder (value_in c.variables row) k.target v) rows ends → (v : Value) → Contains ends v ↔ IsJoined G c (Page p) label v k
+joined_ends G c k p label bound rows ends s exact g v = (
+  λ h.
+      let r = g.sound v h in
+      let a = exact.sound r.0 r.1 in
+      let starts = s.to r.0 (row_long G c r.0 a.is_row) a.agrees in
+      record { row = r.0; is_row = a.is_row; holds = record { from = starts.0; by = starts.1; to = r.2 } },
+  λ j.
+      let listed = exact.complete j.row (record { is_row = j.is_row; agrees = s.from j.row (row_long G c j.row j.is_row) (j.holds.from, j.holds.by) }) in
+      g.complete j.row v listed j.holds.to,
+)
+
+pub none_joined : (G : DataGraph) (c : Chain) (k : Link) (p : Term) (label : Name) (variables : List Variable) (o : Option (List (Option Value))) (ends : List Value) → variables ≡ c.variables → o ≡ None
+    → MatchOption o (HasNone variables (StartsBy k p label)) (λ b. Solves variables (StartsBy k p label) b) → ends ≡ [] → (v : Value) → Contains ends v ↔ IsJoined G c (Page p) label v k
+none_joined G c k p label variables o ends same is m e v = (
+  λ h. absurd (Contains-nil v (subst (λ (l : List Value). Contains l v) e h)),
+  λ j. absurd (none_case G c (StartsBy k p label) variables o same is m record { row = j.row; is_row = j.is_row; holds = (j.holds.from, j.holds.by) }),
+)

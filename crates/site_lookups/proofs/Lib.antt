@@ -1,0 +1,12 @@
+pub mod Some
+pub mod Rows
+pub mod Blocks
+pub mod Targets
+pub mod Free
+pub mod MemberRows
+pub mod Puts
+pub mod Firsts
+pub mod Stays
+pub mod TemplateOf
+pub mod Counts
+pub mod Labels

@@ -1,0 +1,25 @@
+use Rattle.site_lookups.proofs.Labels.{none_starts, starts_solved, solves_long, none_solved}
+use Rattle.site_spec.specs.Site.{IsTermUnder}
+use Rattle.struql_ast.specs.Reading.{term_of, target_of, link_of, operand_of}
+use Rattle.sd_value.specs.Members.{Contains-here}
+use Rattle.std.proofs.Common.{◌≡◌, [], ap, sym, ◌∙◌}
+use Rattle.query_spec.specs.Query.{Operand, SkolemTerm, plain, made}
+use Rattle.site_lookups.proofs.linked.bound_by.Goals as goal
+
+not_made : (o : Operand) (t : SkolemTerm) → plain o ≡ made t → ⊥
+not_made o t e = cc
+
+pub returns-in_default : goal.returns-in_default
+returns-in_default c = absurd (not_made (operand_of c.in_default.field-0) c.requires.made.0 (sym (ap target_of c.in_default.is) ∙ c.requires.made.1))
+
+pub matches-requires : goal.matches-requires
+matches-requires c =
+    record { declared = c.requires.declared (term_of c.in-Made.written) (rw c.in-Made.is (Contains-here (term_of c.in-Made.written) [])) }
+
+pub returns-in-None : goal.returns-in-None
+returns-in-None c =
+    none_starts c.args.variables.now (link_of c.args.link.now) (term_of c.in-Made.written) c.args.term.now c.args.label.now (ap target_of c.in-Made.is) (none_solved c.args.variables.now (λ s. IsTermUnder s (term_of c.in-Made.written) c.args.term.now) c.in_ok-matches.field-0 c.in-None.is c.in_ok-matches.ensures)
+
+pub returns-in_ok-bound-in-Some : goal.returns-in_ok-bound-in-Some
+returns-in_ok-bound-in-Some c =
+    starts_solved c.args.variables.now (link_of c.args.link.now) (term_of c.in-Made.written) c.args.term.now c.args.label.now (ap target_of c.in-Made.is) c.in-Some.bound c.in_ok-bound-in-Some.bound (solves_long c.args.variables.now (λ s. IsTermUnder s (term_of c.in-Made.written) c.args.term.now) c.in_ok-matches.field-0 c.in-Some.bound c.in-Some.is c.in_ok-matches.ensures) c.in_ok-bound-in-Some.ensures

@@ -1,0 +1,207 @@
+//! The ends of the site's edges from a value.
+ghost use Rattle.std.specs.Prelude.{◌≡◌, ◌↔◌, length, Contains, IfOk, MatchOption};
+ghost use Rattle.sd_value.specs.declared.Value.{Value as AnyValue};
+ghost use Rattle.sd_value.specs.declared.Value.TheVariants.{Page};
+ghost use Rattle.sd_value.specs.Order.{value_cmp};
+ghost use Rattle.sd_value.specs.Ascending.{ListsExactly};
+ghost use Rattle.query_spec.specs.Mentions.{IsWellMade};
+ghost use Rattle.query_spec.specs.Query.{SkolemTerm};
+ghost use Rattle.std.specs.Prelude.{ℕ};
+ghost use Rattle.struql_ast.specs.Reading.{operand_of, target_of, label_of, link_of};
+ghost use Rattle.site_spec.specs.Site.{IsTargetUnder, IsLabelUnder, IsJoined, Linked, SiteEdge, SomeOf, target_terms};
+ghost use Rattle.query_blocks.specs.Blocks.{AllDeclared, IsMade, IsCheckedBlock, AreCheckedBlocks};
+ghost use Rattle.query_blocks.specs.Blocks.{scope_of};
+ghost use Rattle.tmpl.specs.Body.{TemplateFile};
+ghost use Rattle.page_spec.specs.Question.{out as asks_out};
+ghost use Rattle.skolem.specs.Solved.{Solves, HasNone, Adds, Refutes};
+ghost use Rattle.weight_spec.specs.Charges.{IsCause};
+ghost use Rattle.weight_spec.specs.CountsAtMost.{CountsAtMost, IsAt};
+ghost use Rattle.site_lookups.specs.Counts.{IsLinkRow};
+ghost use Rattle.sd_value.specs.Gathered.{Gathered};
+ghost use Rattle.site_lookups.specs.Ends.{IsLabelled, StartsBy};
+
+use crate::all_rows::targets_under;
+use asker::Asker;
+use query_blocks::{QueryBlock, QueryBlocks};
+use query_spec::{Bound, Variable};
+use sd_value::{Datum, NoMemory, Str, Term, Value, sort_and_dedup};
+use skolem::{matches, with_value};
+use std::alloc::Global;
+use struql_ast::{Chain, Link, LinkLabel, Target};
+
+// The values under which the link has the label too, where some do.
+fn bound_by_label(
+    alloc: Global,
+    variables: &[Variable],
+    bound: Bound,
+    written: &LinkLabel,
+    label: &Str,
+) -> Result<Option<Bound>, NoMemory>
+    requires one_each { length bound ≡ length variables.now }
+    ensures { IfOk result
+        (λ b. MatchOption b
+        (Refutes (IsLabelled variables.now (label_of written.now) label.now) bound)
+        (λ b. Adds (IsLabelled variables.now (label_of written.now) label.now) bound b)) }
+{
+    match written {
+        LinkLabel::Quoted(name) => {
+            if *label == *name {
+                Ok(Some(bound))
+            } else {
+                Ok(None)
+            }
+        }
+        LinkLabel::Variable(name, _) => {
+            let value = Value::Data(Datum::Text(label.copy(alloc)?));
+            let bound = with_value(alloc, variables, &bound, name, value)?;
+            Ok(bound)
+        }
+    }
+}
+
+// The values under which the link starts at the page and has the label, where some do.
+fn bound_by(
+    alloc: Global,
+    variables: &[Variable],
+    link: &Link,
+    term: &Term,
+    label: &Str,
+) -> Result<Option<Bound>, NoMemory>
+    requires made { IsMade (link_of link.now).source }
+    requires declared { (t : SkolemTerm) → Contains (target_terms (link_of link.now).source) t
+        → AllDeclared variables.now t }
+    ensures { IfOk result
+        (λ b. MatchOption b
+        (HasNone variables.now (StartsBy (link_of link.now) term.now label.now))
+        (λ b. Solves variables.now (StartsBy (link_of link.now) term.now label.now) b)) }
+{
+    let Target::Made(written) = &link.source else {
+        return Ok(None);
+    };
+    match matches(alloc, written, variables, term)? {
+        None => Ok(None),
+        Some(bound) => {
+            let bound = bound_by_label(alloc, variables, bound, &link.label, label)?;
+            Ok(bound)
+        }
+    }
+}
+
+// Where the link leads from the page by the label.
+fn ends_of_link<A: Asker>(
+    alloc: Global,
+    asker: &mut A,
+    chain: &Chain,
+    link: &Link,
+    term: &Term,
+    label: &Str,
+) -> Result<Vec<Value>, NoMemory>
+    requires well_made { IsWellMade chain.now }
+    requires made { IsMade (link_of link.now).source }
+    requires declared { (t : SkolemTerm) → Contains (target_terms (link_of link.now).source) t
+        → AllDeclared chain.now.variables t }
+    ensures graph { A.graph asker.new ≡ A.graph asker.old }
+    ensures counted { CountsAtMost
+        (IsLinkRow (A.graph asker.old) chain.now term.now label.now (link_of link.now))
+        (A.count asker.old) (A.count asker.new) }
+    ensures ends { IfOk result
+        (λ ends. (v : AnyValue) → Contains ends.items v
+        ↔ IsJoined (A.graph asker.old) chain.now (Page term.now) label.now v (link_of link.now)) }
+{
+    match bound_by(alloc, chain.variables(), link, term, label)? {
+        None => Ok(Vec::new(alloc)),
+        Some(bound) => {
+            let rows = asker.ask(alloc, chain, &bound)?;
+            let ends = targets_under(alloc, chain.variables(), rows.as_slice(), &link.target)?;
+            Ok(ends)
+        }
+    }
+}
+
+// Where the links of a block lead from the page by the label.
+fn ends_of_block<A: Asker>(
+    alloc: Global,
+    asker: &mut A,
+    block: &QueryBlock,
+    term: &Term,
+    label: &Str,
+) -> Result<Vec<Value>, NoMemory>
+    requires scoped { (version : ℕ) × IsCheckedBlock version block.now }
+    ensures graph { A.graph asker.new ≡ A.graph asker.old }
+    ensures counted { CountsAtMost
+        (IsAt block.now.links.items
+        (λ k. IsLinkRow (A.graph asker.old) block.now.chain term.now label.now (link_of k)))
+        (A.count asker.old) (A.count asker.new) }
+    ensures ends { IfOk result
+        (λ ends. Gathered
+        (λ k v. IsJoined (A.graph asker.old) block.now.chain (Page term.now) label.now v
+        (link_of k)) block.now.links.items ends.items) }
+{
+    let links = block.links.as_slice();
+    let mut ends = Vec::new(alloc);
+    for link in links {
+        let mut more = ends_of_link(alloc, asker, &block.chain, link, term, label)?;
+        ends.append(&mut more)?;
+    }
+    Ok(ends)
+}
+
+/// Where the site's links lead from the page by the label, ascending.
+pub fn links_out<A: Asker>(
+    alloc: Global,
+    asker: &mut A,
+    scopes: &QueryBlocks,
+    term: &Term,
+    label: &Str,
+) -> Result<Vec<Value>, NoMemory>
+    requires scoped { AreCheckedBlocks scopes.now.version scopes.now.blocks.items }
+    ensures graph { A.graph asker.new ≡ A.graph asker.old }
+    ensures counted { CountsAtMost
+        (IsAt scopes.now.blocks.items
+        (λ b. IsAt b.links.items
+        (λ k. IsLinkRow (A.graph asker.old) b.chain term.now label.now (link_of k))))
+        (A.count asker.old) (A.count asker.new) }
+    ensures ends { IfOk result
+        (λ ends. ListsExactly value_cmp
+        (Linked (A.graph asker.old) (scope_of scopes.now) (Page term.now) label.now) ends.items) }
+{
+    let blocks = scopes.blocks.as_slice();
+    let mut ends = Vec::new(alloc);
+    for block in blocks {
+        let mut more = ends_of_block(alloc, asker, block, term, label)?;
+        ends.append(&mut more)?;
+    }
+    sort_and_dedup(&mut ends);
+    Ok(ends)
+}
+
+/// The ends of the site's edges from the value by the label, ascending. Each row of a link that starts at the value and
+/// has the label counts one, and each data edge.
+pub fn edges_out<A: Asker>(
+    alloc: Global,
+    asker: &mut A,
+    scopes: &QueryBlocks,
+    value: &Value,
+    label: &Str,
+) -> Result<Vec<Value>, NoMemory>
+    requires scoped { AreCheckedBlocks scopes.now.version scopes.now.blocks.items }
+    ensures graph { A.graph asker.new ≡ A.graph asker.old }
+    ensures counted { (f : TemplateFile)
+        → CountsAtMost
+        (IsCause (A.graph asker.old) (scope_of scopes.now) f (asks_out value.now label.now))
+        (A.count asker.old) (A.count asker.new) }
+    ensures ends { IfOk result
+        (λ ends. ListsExactly value_cmp
+        (SiteEdge (A.graph asker.old) (scope_of scopes.now) value.now label.now) ends.items) }
+{
+    match value {
+        Value::Page(term) => {
+            let ends = links_out(alloc, asker, scopes, term, label)?;
+            Ok(ends)
+        }
+        Value::Data(_) => {
+            let ends = asker.out(alloc, value, label)?;
+            Ok(ends)
+        }
+    }
+}

@@ -1,5 +1,0 @@
-pub mod TokenParts
-pub mod ExpressionParts
-pub mod ListParts
-pub mod TermParts
-pub mod ConditionParts

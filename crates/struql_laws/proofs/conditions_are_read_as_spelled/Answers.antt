@@ -1,5 +1,0 @@
-use Rattle.struql_laws.proofs.ConditionParts.{read_as_spelled}
-use Rattle.struql_laws.proofs.conditions_are_read_as_spelled.Goals as goal
-
-pub returns : goal.returns
-returns c = read_as_spelled

@@ -1,0 +1,89 @@
+-- Conditions that were read can be spelled.
+use Rattle.std.proofs.Common.{◌≡◌, List, refl, sym, subst, inl, inr}
+use Rattle.std.specs.Prelude.{Option, Some, None}
+use Rattle.sd_lex.specs.declared.token.Span.{Span}
+use Rattle.sd_lex.specs.declared.token.Token.{Token}
+use Rattle.query_spec.specs.declared.Test.{Test}
+use Rattle.query_spec.specs.Query as plain
+use Rattle.grammar.specs.Grammar.{one}
+use Rattle.struql_ast.specs.declared.Operand.{Operand}
+use Rattle.struql_ast.specs.declared.Operand.TheVariants.{Variable, Constant}
+use Rattle.struql_ast.specs.Written as tree
+use Rattle.struql_text.specs.declared.keyword.Word.{Word}
+use Rattle.struql_text.specs.Terminals.{constant_value, test_of}
+use Rattle.struql_text.specs.Expression.{expression_within}
+use Rattle.struql_text.specs.Grammar as text
+use Rattle.struql_round.specs.ShownParts.{step_kept, condition_kept}
+use Rattle.struql_round.specs.Spellable.{IsWord, IsConstant, IsStep, IsPlain, IsCondition}
+use Rattle.struql_round.proofs.Fitting.{expression_fits}
+use Rattle.struql_round.proofs.ParsedTerms.{Real, front_real, back_real, is_word, OperandKept, is_operand, is_constant, listed_some}
+
+abbrev PlainKept : tree.Condition → Type 0
+PlainKept c = IsPlain (condition_kept c)
+
+abbrev pub ConditionKept : tree.Condition → Type 0
+ConditionKept c = IsCondition (condition_kept c)
+
+called : (k : Option Test) (c x : Word) (close : Span) → test_of c.text ≡ k → IsWord c.text → IsWord x.text → PlainKept (text.call_with k c x close)
+called None c x close e word argument = (word, e, argument)
+called (Some t) c x close e word argument = argument
+
+call_plain : (c : Word) → IsWord c.text → (ts : List Token) (condition : tree.Condition) → Real ts → text.call c ts condition → PlainKept condition
+call_plain c word ts condition real (f1, b1, opening, cut1, sign1, (f2, b2, x, cut2, named, (f3, b3, close, cut3, sign2, (none, same)))) =
+    let argument = is_word f2 x (front_real b1 f2 b2 cut2 (back_real ts f1 b1 cut1 real)) named in
+    subst PlainKept (sym same) (called (test_of c.text) c x close refl word argument)
+
+comparison_plain : (t : Operand) → OperandKept t → (ts : List Token) (condition : tree.Condition) → Real ts → text.comparison t ts condition → PlainKept condition
+comparison_plain t kept ts condition real (f1, b1, o, cut1, op, (f2, b2, u, cut2, operand, (none, same))) =
+    let other = is_operand f2 u (front_real b1 f2 b2 cut2 (back_real ts f1 b1 cut1 real)) operand in
+    subst PlainKept (sym same) (kept, other)
+
+membership_plain : (t : Operand) → OperandKept t → (ts : List Token) (condition : tree.Condition) → Real ts → text.membership t ts condition → PlainKept condition
+membership_plain t kept ts condition real (f1, b1, word, cut1, is, (f2, b2, opening, cut2, sign1, (f3, b3, vs, cut3, listed, (f4, b4, close, cut4, sign2, (none, same))))) =
+    let real2 = back_real b1 f2 b2 cut2 (back_real ts f1 b1 cut1 real) in
+    let values = listed_some (one constant_value) IsConstant is_constant f3 vs (front_real b2 f3 b3 cut3 real2) listed in
+    subst PlainKept (sym same) (kept, values)
+
+abbrev StepKept : tree.Step → Type 0
+StepKept s = IsStep (step_kept s)
+
+is_step : (ts : List Token) (s : tree.Step) → Real ts → text.step expression_within ts s → StepKept s
+is_step ts s real (inl (front, back, x, cut, named, (none, same))) =
+    subst StepKept (sym same) (is_word front x (front_real ts front back cut real) named)
+is_step ts s real (inr (front, back, e, cut, read, (none, same))) = subst StepKept (sym same) (expression_fits front e read)
+
+path_plain : (t : Operand) → OperandKept t → (ts : List Token) (condition : tree.Condition) → Real ts → text.path expression_within t ts condition → PlainKept condition
+path_plain t kept ts condition real (f1, b1, arrow1, cut1, sign1, (f2, b2, s, cut2, step, (f3, b3, arrow2, cut3, sign2, (f4, b4, u, cut4, operand, (none, same))))) =
+    let real1 = back_real ts f1 b1 cut1 real in
+    let real3 = back_real b2 f3 b3 cut3 (back_real b1 f2 b2 cut2 real1) in
+    let step_is = is_step f2 s (front_real b1 f2 b2 cut2 real1) step in
+    let other = is_operand f4 u (front_real b3 f4 b4 cut4 real3) operand in
+    subst PlainKept (sym same) (kept, step_is, other)
+
+relation_plain : (t : Operand) → OperandKept t → (ts : List Token) (condition : tree.Condition) → Real ts → text.relation expression_within t ts condition → PlainKept condition
+relation_plain t kept ts condition real (inl h) = path_plain t kept ts condition real h
+relation_plain t kept ts condition real (inr (inl h)) = membership_plain t kept ts condition real h
+relation_plain t kept ts condition real (inr (inr h)) = comparison_plain t kept ts condition real h
+
+behind_plain : (t : Operand) → OperandKept t → (ts : List Token) (condition : tree.Condition) → Real ts → text.behind expression_within t ts condition → PlainKept condition
+behind_plain (Variable x span) kept ts condition real (inl h) = call_plain (record { text = x; span = span }) kept ts condition real h
+behind_plain (Variable x span) kept ts condition real (inr h) = relation_plain (Variable x span) kept ts condition real h
+behind_plain (Constant v span) kept ts condition real h = relation_plain (Constant v span) kept ts condition real h
+
+is_plain : (ts : List Token) (condition : tree.Condition) → Real ts → text.plain expression_within ts condition → PlainKept condition
+is_plain ts condition real (front, back, t, cut, operand, rest) =
+    behind_plain t (is_operand front t (front_real ts front back cut real) operand) back condition (back_real ts front back cut real) rest
+
+plain_condition : (c : plain.Condition) → IsPlain c → IsCondition c
+plain_condition (plain.member c x) h = h
+plain_condition (plain.path t s u) h = h
+plain_condition (plain.compare t o u) h = h
+plain_condition (plain.one_of t vs) h = h
+plain_condition (plain.kind k x) h = h
+plain_condition (plain.negation c) h = absurd h
+
+pub is_condition : (ts : List Token) (condition : tree.Condition) → Real ts → text.condition expression_within ts condition → ConditionKept condition
+is_condition ts condition real (inl (f1, b1, word, cut1, is, (f2, b2, opening, cut2, sign1, (f3, b3, c, cut3, read, (f4, b4, close, cut4, sign2, (none, same)))))) =
+    let real2 = back_real b1 f2 b2 cut2 (back_real ts f1 b1 cut1 real) in
+    subst ConditionKept (sym same) (is_plain f3 c (front_real b2 f3 b3 cut3 real2) read)
+is_condition ts condition real (inr h) = plain_condition (condition_kept condition) (is_plain ts condition real h)

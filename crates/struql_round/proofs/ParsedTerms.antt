@@ -1,0 +1,228 @@
+-- Names, constants, terms, links and conditions that were read can be spelled.
+use Rattle.std.proofs.Common.{◌≡◌, ℕ, zero, suc, ◌<◌, ◌≤◌, ◌^◌, ℤ, pos, Bool, true, false, List, [], ◌∷◌, ◌++◌, refl, sym, subst, arith, inl, inr}
+use Rattle.std.specs.Prelude.{nat_le, nat_eq, neg_ℤ, Option, Some, None}
+use Rattle.std.proofs.lemmas.Bool.{leb-true}
+use Rattle.std.specs.Int.Signed.{mag}
+use Rattle.sd_value.specs.declared.Datum.TheVariants as datum
+use Rattle.sd_value.specs.declared.Value.{Value}
+use Rattle.sd_value.specs.declared.Value.TheVariants.{Data}
+use Rattle.sd_lex.specs.Lexing.{Spells, int_of, positive, negative, decimal}
+use Rattle.sd_lex.specs.declared.token.Span.{Span}
+use Rattle.sd_lex.specs.declared.token.Token.{Token}
+use Rattle.sd_lex.specs.declared.token.TokenKind.{TokenKind}
+use Rattle.sd_lex.specs.declared.token.TokenKind.TheVariants as kinds
+use Rattle.grammar.specs.Grammar.{one}
+use Rattle.grammar.specs.Fault.{Every as All}
+use Rattle.token_reader.specs.Gives.{IsReal}
+use Rattle.token_reader.proofs.Faults.{every_front, every_back}
+use Rattle.struql_ast.specs.declared.Operand.{Operand}
+use Rattle.struql_ast.specs.declared.Operand.TheVariants.{Variable, Constant}
+use Rattle.struql_ast.specs.declared.LinkLabel.{LinkLabel}
+use Rattle.struql_ast.specs.declared.LinkLabel.TheVariants as label
+use Rattle.struql_ast.specs.Reading.{operand_of, label_of}
+use Rattle.struql_ast.specs.Written as tree
+use Rattle.struql_text.specs.declared.keyword.Keyword.{Keyword}
+use Rattle.struql_text.specs.declared.keyword.Word.{Word}
+use Rattle.struql_text.specs.Terminals.{keyword_of, named, name_kind_value, operand_kind_value, constant_kind_value, constant_value, label_kind_value, label_value}
+use Rattle.struql_text.specs.Grammar as text
+use Rattle.struql_round.specs.ShownParts.{term_kept}
+use Rattle.struql_round.specs.Spellable.{Every, IsSome, IsWord, IsConstant, IsOperand, IsTerm, IsSource, IsTarget, IsLabel, IsLink, IsCollect}
+use Rattle.struql_round.specs.Kept.{target_kept, link_kept, collect_kept}
+use Rattle.struql_round.proofs.Kept.{some_snoc, some_every, every_mapped, steps_keep}
+
+abbrev pub Real : List Token → Type 0
+Real = All IsReal
+
+pub front_real : (ts front back : List Token) → ts ≡ front ++ back → Real ts → Real front
+front_real ts front back e h = every_front IsReal front back (subst Real e h)
+
+pub back_real : (ts front back : List Token) → ts ≡ front ++ back → Real ts → Real back
+back_real ts front back e h = every_back IsReal front back (subst Real e h)
+
+-- ---- single tokens
+
+pub named_free : {A : Type 0} (v : A) (k : Option Keyword) (w : A) → named v k ≡ Some w → (v ≡ w) × (k ≡ None)
+named_free v None w h = (cc, refl)
+named_free v (Some k) w h = absurd cc
+
+positive_small : (n : ℕ) (z : ℤ) → positive n ≡ Some z → mag z < 2 ^ 63
+positive_small n z h = by_case (nat_le n 9223372036854775807) refl
+  where
+    by_case : (b : Bool) → nat_le n 9223372036854775807 ≡ b → mag z < 2 ^ 63
+    by_case true e =
+        let g = rw e at h in
+        let same : pos n ≡ z = cc in
+        subst (λ x. mag x < 2 ^ 63) same (let fits = leb-true n 9223372036854775807 e in omega (arith, fits))
+    by_case false e = absurd (let g = rw e at h in cc)
+
+opposite_small : (n : ℕ) → n ≤ 9223372036854775808 → mag (neg_ℤ (pos n)) < 2 ^ 63
+opposite_small zero l = omega arith
+opposite_small (suc n) l = omega (arith, l)
+
+negative_small : (n : ℕ) (z : ℤ) → negative n ≡ Some z → mag z < 2 ^ 63
+negative_small n z h = by_case (nat_le n 9223372036854775808) refl
+  where
+    by_case : (b : Bool) → nat_le n 9223372036854775808 ≡ b → mag z < 2 ^ 63
+    by_case true e =
+        let g = rw e at h in
+        let same : neg_ℤ (pos n) ≡ z = cc in
+        subst (λ x. mag x < 2 ^ 63) same (opposite_small n (leb-true n 9223372036854775808 e))
+    by_case false e = absurd (let g = rw e at h in cc)
+
+int_small : (text : List ℕ) (z : ℤ) → int_of text ≡ Some z → mag z < 2 ^ 63
+int_small [] z h = absurd cc
+int_small (b ∷ digits) z h = by_case (nat_eq b 45) refl
+  where
+    by_case : (m : Bool) → nat_eq b 45 ≡ m → mag z < 2 ^ 63
+    by_case true e = let g = rw e at h in negative_small (decimal 0 digits) z g
+    by_case false e = let g = rw e at h in positive_small (decimal 0 (b ∷ digits)) z g
+
+word_kind : (bytes : List ℕ) (k : TokenKind) (span : Span) (w : Word) → Spells bytes k → name_kind_value span k ≡ Some w → IsWord w.text
+word_kind bytes (kinds.Name n) span w s h =
+    let word : Word = record { text = n; span = span } in
+    let f = named_free word (keyword_of n) w h in
+    subst (λ x. IsWord x.text) f.0 (s.1, f.1)
+word_kind bytes (kinds.Quoted q) span w s h = absurd cc
+word_kind bytes (kinds.Int i) span w s h = absurd cc
+word_kind bytes (kinds.Sign r) span w s h = absurd cc
+
+pub is_word : (ts : List Token) (w : Word) → Real ts → text.name ts w → IsWord w.text
+is_word ts w real h =
+    let r = (subst Real h.1 real).0 in
+    word_kind r.0 h.0.kind h.0.span w r.1 h.2
+
+abbrev pub OperandKept : Operand → Type 0
+OperandKept o = IsOperand (operand_of o)
+
+operand_kind : (bytes : List ℕ) (k : TokenKind) (span : Span) (o : Operand) → Spells bytes k → operand_kind_value span k ≡ Some o → OperandKept o
+operand_kind bytes (kinds.Name n) span o s h =
+    let f = named_free (Variable n span) (keyword_of n) o h in
+    subst OperandKept f.0 (s.1, f.1)
+operand_kind bytes (kinds.Quoted q) span o s h =
+    let same : Constant (Data (datum.Text q)) span ≡ o = cc in
+    subst OperandKept same tt
+operand_kind bytes (kinds.Int i) span o s h =
+    let same : Constant (Data (datum.Int i)) span ≡ o = cc in
+    subst OperandKept same (int_small bytes i s.1)
+operand_kind bytes (kinds.Sign r) span o s h = absurd cc
+
+pub is_operand : (ts : List Token) (o : Operand) → Real ts → text.operand ts o → OperandKept o
+is_operand ts o real h =
+    let r = (subst Real h.1 real).0 in
+    operand_kind r.0 h.0.kind h.0.span o r.1 h.2
+
+constant_kind : (bytes : List ℕ) (k : TokenKind) (v : Value) → Spells bytes k → constant_kind_value k ≡ Some v → IsConstant v
+constant_kind bytes (kinds.Name n) v s h = absurd cc
+constant_kind bytes (kinds.Quoted q) v s h =
+    let same : Data (datum.Text q) ≡ v = cc in
+    subst IsConstant same tt
+constant_kind bytes (kinds.Int i) v s h =
+    let same : Data (datum.Int i) ≡ v = cc in
+    subst IsConstant same (int_small bytes i s.1)
+constant_kind bytes (kinds.Sign r) v s h = absurd cc
+
+pub is_constant : (ts : List Token) (v : Value) → Real ts → one constant_value ts v → IsConstant v
+is_constant ts v real h =
+    let r = (subst Real h.1 real).0 in
+    constant_kind r.0 h.0.kind v r.1 h.2
+
+label_kind : (bytes : List ℕ) (k : TokenKind) (span : Span) (l : LinkLabel) → Spells bytes k → label_kind_value span k ≡ Some l → IsLabel (label_of l)
+label_kind bytes (kinds.Name n) span l s h =
+    let f = named_free (label.Variable n span) (keyword_of n) l h in
+    subst (λ x. IsLabel (label_of x)) f.0 (s.1, f.1)
+label_kind bytes (kinds.Quoted q) span l s h =
+    let same : label.Quoted q ≡ l = cc in
+    subst (λ x. IsLabel (label_of x)) same tt
+label_kind bytes (kinds.Int i) span l s h = absurd cc
+label_kind bytes (kinds.Sign r) span l s h = absurd cc
+
+is_label : (ts : List Token) (l : LinkLabel) → Real ts → one label_value ts l → IsLabel (label_of l)
+is_label ts l real h =
+    let r = (subst Real h.1 real).0 in
+    label_kind r.0 h.0.kind h.0.span l r.1 h.2
+
+-- ---- lists
+
+module _ {A : Type 0} (P : List Token → A → Type 0) (Q : A → Type 0) (each : (ts : List Token) (x : A) → Real ts → P ts x → Q x) where
+  further_keeps : (s : List A) (ts : List Token) (s2 : List A) → Real ts → IsSome Q s → text.further P s ts s2 → IsSome Q s2
+  further_keeps s ts s2 real is (front, back, comma, cut, sign, (f, b, item, cut2, p, (none, same))) =
+      let item_real = front_real back f b cut2 (back_real ts front back cut real) in
+      subst (IsSome Q) (sym same) (some_snoc Q s item is (each f item item_real p))
+
+  pub listed_some : (ts : List Token) (xs : List A) → Real ts → text.listed P ts xs → IsSome Q xs
+  listed_some ts xs real (front, back, first, cut, p, (k, more)) =
+      let first_is : IsSome Q (first ∷ []) = (each front first (front_real ts front back cut real) p, tt) in
+      steps_keep IsReal (text.further P) (IsSome Q) further_keeps k (first ∷ []) back xs (back_real ts front back cut real) first_is more
+
+  pub listed_every : (ts : List Token) (xs : List A) → Real ts → text.listed P ts xs → Every Q xs
+  listed_every ts xs real h = some_every Q xs (listed_some ts xs real h)
+
+-- ---- terms, links and collections
+
+abbrev pub TermKept : tree.Term → Type 0
+TermKept t = IsTerm (term_kept t)
+
+arguments_term : (f : Word) → IsWord f.text → (ts : List Token) (t : tree.Term) → Real ts → text.arguments f ts t → TermKept t
+arguments_term f word ts t real (front, back, opening, cut, sign, inl (f2, b2, close, cut2, sign2, (none, same))) =
+    subst TermKept (sym same) (word, tt)
+arguments_term f word ts t real (front, back, opening, cut, sign, inr (f2, b2, args, cut2, listed, (f3, b3, close, cut3, sign3, (none, same)))) =
+    let args_real = front_real back f2 b2 cut2 (back_real ts front back cut real) in
+    let all = listed_every text.operand OperandKept is_operand f2 args args_real listed in
+    subst TermKept (sym same) (word, every_mapped IsOperand operand_of args all)
+
+pub is_term : (ts : List Token) (t : tree.Term) → Real ts → text.term ts t → TermKept t
+is_term ts t real (front, back, f, cut, name, args) =
+    arguments_term f (is_word front f (front_real ts front back cut real) name) back t (back_real ts front back cut real) args
+
+abbrev SourceKept : tree.Target → Type 0
+SourceKept t = IsSource (target_kept t)
+
+abbrev TargetKept : tree.Target → Type 0
+TargetKept t = IsTarget (target_kept t)
+
+named_source : (x : Word) → IsWord x.text → (ts : List Token) (t : tree.Target) → Real ts → text.named_target x ts t → SourceKept t
+named_source x word ts t real (inl (front, back, m, cut, args, (none, same))) =
+    subst SourceKept (sym same) (arguments_term x word front m (front_real ts front back cut real) args)
+named_source x word ts t real (inr (none, same)) = subst SourceKept (sym same) word
+
+named_target : (x : Word) → IsWord x.text → (ts : List Token) (t : tree.Target) → Real ts → text.named_target x ts t → TargetKept t
+named_target x word ts t real (inl (front, back, m, cut, args, (none, same))) =
+    subst TargetKept (sym same) (arguments_term x word front m (front_real ts front back cut real) args)
+named_target x word ts t real (inr (none, same)) = subst TargetKept (sym same) word
+
+is_source : (ts : List Token) (t : tree.Target) → Real ts → text.source ts t → SourceKept t
+is_source ts t real (front, back, x, cut, name, rest) =
+    named_source x (is_word front x (front_real ts front back cut real) name) back t (back_real ts front back cut real) rest
+
+operand_target : (o : Operand) → OperandKept o → (ts : List Token) (t : tree.Target) → Real ts → text.operand_target o ts t → TargetKept t
+operand_target (Variable x span) kept ts t real h = named_target (record { text = x; span = span }) kept ts t real h
+operand_target (Constant v span) kept ts t real (none, same) = subst TargetKept (sym same) kept
+
+is_target : (ts : List Token) (t : tree.Target) → Real ts → text.target ts t → TargetKept t
+is_target ts t real (front, back, o, cut, operand, rest) =
+    operand_target o (is_operand front o (front_real ts front back cut real) operand) back t (back_real ts front back cut real) rest
+
+abbrev pub LinkKept : tree.Link → Type 0
+LinkKept k = IsLink (link_kept k)
+
+pub is_link : (ts : List Token) (k : tree.Link) → Real ts → text.link ts k → LinkKept k
+is_link ts k real (f1, b1, s, cut1, source, (f2, b2, arrow1, cut2, sign1, (f3, b3, l, cut3, labelled, (f4, b4, arrow2, cut4, sign2, (f5, b5, t, cut5, target, (none, same)))))) =
+    let real1 = back_real ts f1 b1 cut1 real in
+    let real2 = back_real b1 f2 b2 cut2 real1 in
+    let real3 = back_real b2 f3 b3 cut3 real2 in
+    let real4 = back_real b3 f4 b4 cut4 real3 in
+    let source_kept = is_source f1 s (front_real ts f1 b1 cut1 real) source in
+    let label_kept = is_label f3 l (front_real b2 f3 b3 cut3 real2) labelled in
+    let goal_kept = is_target f5 t (front_real b4 f5 b5 cut5 real4) target in
+    subst LinkKept (sym same) (source_kept, label_kept, goal_kept)
+
+abbrev pub CollectKept : tree.Collect → Type 0
+CollectKept c = IsCollect (collect_kept c)
+
+pub is_collect : (ts : List Token) (c : tree.Collect) → Real ts → text.collect ts c → CollectKept c
+is_collect ts c real (f1, b1, name, cut1, named, (f2, b2, opening, cut2, sign1, (f3, b3, t, cut3, source, (f4, b4, close, cut4, sign2, (none, same))))) =
+    let real1 = back_real ts f1 b1 cut1 real in
+    let real2 = back_real b1 f2 b2 cut2 real1 in
+    let word = is_word f1 name (front_real ts f1 b1 cut1 real) named in
+    let member = is_source f3 t (front_real b2 f3 b3 cut3 real2) source in
+    subst CollectKept (sym same) (word, member)

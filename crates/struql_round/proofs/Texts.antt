@@ -1,0 +1,176 @@
+-- The canonical texts of expressions and conditions split into tokens that show them.
+use Rattle.std.proofs.Common.{◌≡◌, ℕ, Bool, true, false, List, [], ◌∷◌, ◌++◌, Some, refl, sym, ap, ◌∙◌}
+use Rattle.std.specs.Prelude.{codes, map}
+use Rattle.std.specs.Fmt.{signed_decimal}
+use Rattle.std.specs.List.{flat_map}
+use Rattle.std.proofs.lemmas.List.{append-nil}
+use Rattle.sd_value.specs.declared.Datum.TheVariants as datum
+use Rattle.sd_value.specs.declared.Value.{Value}
+use Rattle.sd_value.specs.declared.Value.TheVariants.{Data, Page}
+use Rattle.sd_lex.specs.declared.token.Token.{Token}
+use Rattle.sd_lex.specs.declared.token.TokenKind.TheVariants as kinds
+use Rattle.sd_lex.specs.declared.token.Sign.TheVariants as signs
+use Rattle.sd_lex.specs.Lexing.{Spells, IsName}
+use Rattle.rpe.specs.Regex.{Regex, label, any, empty, seq, alt, star}
+use Rattle.token_writer.specs.Writing.{quoted_text, escaped_byte}
+use Rattle.token_writer.proofs.Numbers.{number_spells}
+use Rattle.token_writer.proofs.Quotes.{text_spells}
+use Rattle.query_spec.specs.declared.Op.{Op}
+use Rattle.query_spec.specs.declared.Op.TheVariants as op
+use Rattle.query_spec.specs.declared.Test.{Test}
+use Rattle.query_spec.specs.declared.Test.TheVariants as test
+use Rattle.query_spec.specs.Query.{Operand, variable, constant, PathStep, arc_variable, expression, Condition, member, path, compare, one_of, kind, negation}
+use Rattle.struql_text.specs.declared.keyword.Keyword.TheVariants as words
+use Rattle.struql_text.specs.Terminals.{keyword_of, is_keyword, op_value, test_of}
+use Rattle.struql_print.specs.Texts.{is_alt, is_alt_or_seq, enclosed, regex_text, value_text, operand_text, further, joined, step_text, op_text, test_text, condition_text}
+use Rattle.struql_round.specs.Shown.{Wrapped, Shows}
+use Rattle.struql_round.specs.ShownParts.{ShowsName, ShowsValue, ShowsOperand, ShowsStep, ShowsMore, ShowsListed, ShowsPlain, ShowsCondition}
+use Rattle.struql_round.specs.Spellable.{Every, IsSome, IsWord, IsConstant, IsOperand, IsStep, IsPlain, IsCondition}
+use Rattle.struql_round.proofs.Lexing.{Lexing, Safe, Nil, Cons, shown, same_text, nothing_more, gap, both, token_then, cons_shown, token_last, sign_then, sign_last}
+
+-- ---- single tokens
+
+quoted_spells : (s : List ℕ) → Spells (quoted_text s) (kinds.Quoted s)
+quoted_spells s = (flat_map escaped_byte s, refl, text_spells s)
+
+pub word_then : {T : List Token → Type 0} {W : List ℕ → Type 0} {others : List ℕ} (x : List ℕ) → IsName x → ((later : List ℕ) → W later → Safe (others ++ later)) → Lexing T W others
+    → Lexing (Cons (λ t. t.kind ≡ kinds.Name x) T) W (x ++ others)
+word_then x is ends h = token_then (kinds.Name x) x (refl, is) (λ later w. (ends later w).0) h
+
+pub name_then : {T : List Token → Type 0} {W : List ℕ → Type 0} {others : List ℕ} (x : List ℕ) → IsWord x → ((later : List ℕ) → W later → Safe (others ++ later)) → Lexing T W others
+    → Lexing (Cons (ShowsName x) T) W (x ++ others)
+name_then x is ends h = cons_shown (λ t e. (e, is.1)) (word_then x is.0 ends h)
+
+pub quoted_then : {T : List Token → Type 0} {W : List ℕ → Type 0} {others : List ℕ} (s : List ℕ) → Lexing T W others → Lexing (Cons (λ t. t.kind ≡ kinds.Quoted s) T) W (quoted_text s ++ others)
+quoted_then s h = token_then (kinds.Quoted s) (quoted_text s) (quoted_spells s) (λ later w. tt) h
+
+pub value_then : {T : List Token → Type 0} {W : List ℕ → Type 0} {others : List ℕ} (v : Value) → IsConstant v → ((later : List ℕ) → W later → Safe (others ++ later)) → Lexing T W others
+    → Lexing (Cons (ShowsValue v) T) W (value_text v ++ others)
+value_then (Data (datum.Int n)) is ends h = token_then (kinds.Int n) (signed_decimal n) (number_spells n is) (λ later w. (ends later w).1) h
+value_then (Data (datum.Text s)) is ends h = quoted_then s h
+value_then (Data (datum.Url s)) is ends h = absurd is
+value_then (Data (datum.File s)) is ends h = absurd is
+value_then (Data (datum.Node s)) is ends h = absurd is
+value_then (Page p) is ends h = absurd is
+
+pub operand_then : {T : List Token → Type 0} {W : List ℕ → Type 0} {others : List ℕ} (o : Operand) → IsOperand o → ((later : List ℕ) → W later → Safe (others ++ later)) → Lexing T W others
+    → Lexing (Cons (ShowsOperand o) T) W (operand_text o ++ others)
+operand_then (variable x) is ends h = name_then x is ends h
+operand_then (constant v) is ends h = value_then v is ends h
+
+pub operand_last : (o : Operand) → IsOperand o → Lexing (Cons (ShowsOperand o) Nil) Safe (operand_text o)
+operand_last o is = same_text (operand_text o) (append-nil (operand_text o)) (operand_then {others = []} o is (λ later w. w) nothing_more)
+
+-- what begins with a byte that makes no token longer
+comma_safe : (later : List ℕ) → Safe (44 ∷ later)
+comma_safe later = (refl, refl, refl)
+
+pub further_safe : (texts : List (List ℕ)) (later : List ℕ) → Safe later → Safe (further texts ++ later)
+further_safe [] later w = w
+further_safe (text ∷ texts) later w = (refl, refl, refl)
+
+-- ---- expressions
+
+wrapped : (b : Bool) (r : Regex) → Lexing (Shows r) Safe (regex_text r) → Lexing (Wrapped b (Shows r)) Safe (enclosed b (regex_text r))
+wrapped false r h = same_text (regex_text r ++ []) refl (same_text (regex_text r ++ []) (sym (append-nil (regex_text r))) h)
+wrapped true r h =
+    shown (λ tokens c. (c.0, c.4.0, c.4.4.0, c.2 ∙ ap (λ x. c.0 ∷ x) (c.4.2 ∙ ap (λ x. c.4.0 ++ x) (c.4.4.2 ∙ ap (λ x. c.4.4.0 ∷ x) c.4.4.4)), c.3, c.4.3, c.4.4.3))
+    (sign_then signs.OpenParen (λ later w. tt) (both h (λ later w. (refl, refl, refl)) (sign_last signs.CloseParen (λ later w. tt))))
+
+true_name : IsName (codes "true")
+true_name = (refl, (refl, (refl, (refl, tt))))
+
+pub regex_lexing : (r : Regex) → Lexing (Shows r) Safe (regex_text r)
+regex_lexing (label l) = shown (λ tokens c. (c.0, c.2 ∙ ap (λ x. c.0 ∷ x) c.4, c.3)) (token_last (kinds.Quoted l) (quoted_text l) (quoted_spells l) (λ later w. tt))
+regex_lexing any = shown (λ tokens c. (c.0, c.2 ∙ ap (λ x. c.0 ∷ x) c.4, c.3)) (token_last (kinds.Name (codes "true")) (codes "true") (refl, true_name) (λ later w. w.0))
+regex_lexing empty =
+    shown (λ tokens c. (c.0, c.4.0, c.2 ∙ ap (λ x. c.0 ∷ x) (c.4.2 ∙ ap (λ x. c.4.0 ∷ x) c.4.4), c.3, c.4.3))
+    (sign_then signs.OpenParen (λ later w. tt) (sign_last signs.CloseParen (λ later w. tt)))
+regex_lexing (seq r s) =
+    shown (λ tokens c. (c.0, c.4.0, c.4.1, c.2 ∙ ap (λ x. c.0 ++ x) c.4.2, c.3, c.4.3, c.4.4))
+    (both (wrapped (is_alt r) r (regex_lexing r)) (λ later w. (refl, refl, refl)) (sign_then signs.Dot (λ later w. tt) (wrapped (is_alt_or_seq s) s (regex_lexing s))))
+regex_lexing (alt r s) =
+    shown (λ tokens c. (c.0, c.4.0, c.4.1, c.2 ∙ ap (λ x. c.0 ++ x) c.4.2, c.3, c.4.3, c.4.4))
+    (both (regex_lexing r) (λ later w. (refl, refl, refl)) (sign_then signs.Bar (λ later w. tt) (wrapped (is_alt s) s (regex_lexing s))))
+regex_lexing (star r) =
+    shown (λ tokens c. (c.0, c.4.0, c.2 ∙ ap (λ x. c.0 ++ x) (c.4.2 ∙ ap (λ x. c.4.0 ∷ x) c.4.4), c.3, c.4.3))
+    (both (wrapped (is_alt_or_seq r) r (regex_lexing r)) (λ later w. (refl, refl, refl)) (sign_last signs.Star (λ later w. tt)))
+
+-- ---- conditions
+
+step_lexing : (s : PathStep) → IsStep s → Lexing (ShowsStep s) Safe (step_text s)
+step_lexing (arc_variable x) is =
+    shown (λ tokens c. (c.0, c.2 ∙ ap (λ y. c.0 ∷ y) c.4, c.3)) (same_text x (append-nil x) (name_then {others = []} x is (λ later w. w) nothing_more))
+step_lexing (expression r) is = shown (λ tokens h. (h, is)) (regex_lexing r)
+
+more_lexing : (vs : List Value) → Every IsConstant vs → Lexing (ShowsMore vs) Safe (further (map value_text vs))
+more_lexing [] is = nothing_more
+more_lexing (v ∷ vs) is =
+    shown (λ tokens c. (c.0, c.4.0, c.4.1, c.2 ∙ ap (λ x. c.0 ∷ x) c.4.2, c.3, c.4.3, c.4.4))
+    (sign_then signs.Comma (λ later w. tt) (gap 32 refl (value_then v is.0 (λ later w. further_safe (map value_text vs) later w) (more_lexing vs is.1))))
+
+listed_lexing : (vs : List Value) → IsSome IsConstant vs → Lexing (ShowsListed vs) Safe (joined (map value_text vs))
+listed_lexing [] is = absurd is
+listed_lexing (v ∷ vs) is = shown (λ tokens c. (c.0, c.1, c.2, c.3, c.4)) (value_then v is.0 (λ later w. further_safe (map value_text vs) later w) (more_lexing vs is.1))
+
+op_then : {T : List Token → Type 0} {W : List ℕ → Type 0} {others : List ℕ} (o : Op) → Lexing T W others → Lexing (Cons (λ t. op_value t ≡ Some o) T) W (op_text o ++ (32 ∷ others))
+op_then op.Eq h = cons_shown (λ t e. rw e refl) (token_then (kinds.Sign signs.Eq) (codes "=") refl (λ later w. tt) (gap 32 refl h))
+op_then op.Ne h = cons_shown (λ t e. rw e refl) (token_then (kinds.Sign signs.Ne) (codes "!=") refl (λ later w. tt) (gap 32 refl h))
+op_then op.Lt h = cons_shown (λ t e. rw e refl) (token_then (kinds.Sign signs.Lt) (codes "<") refl (λ later w. refl) (gap 32 refl h))
+op_then op.Le h = cons_shown (λ t e. rw e refl) (token_then (kinds.Sign signs.Le) (codes "<=") refl (λ later w. tt) (gap 32 refl h))
+op_then op.Gt h = cons_shown (λ t e. rw e refl) (token_then (kinds.Sign signs.Gt) (codes ">") refl (λ later w. refl) (gap 32 refl h))
+op_then op.Ge h = cons_shown (λ t e. rw e refl) (token_then (kinds.Sign signs.Ge) (codes ">=") refl (λ later w. tt) (gap 32 refl h))
+
+test_word : (k : Test) → IsWord (test_text k)
+unfolding keyword_of
+test_word test.IsInt = ((refl, (refl, (refl, (refl, (refl, tt))))), refl)
+test_word test.IsText = ((refl, (refl, (refl, (refl, (refl, (refl, tt)))))), refl)
+test_word test.IsUrl = ((refl, (refl, (refl, (refl, (refl, tt))))), refl)
+test_word test.IsFile = ((refl, (refl, (refl, (refl, (refl, (refl, tt)))))), refl)
+test_word test.IsNode = ((refl, (refl, (refl, (refl, (refl, (refl, tt)))))), refl)
+
+test_known : (k : Test) → test_of (test_text k) ≡ Some k
+unfolding test_of
+test_known test.IsInt = refl
+test_known test.IsText = refl
+test_known test.IsUrl = refl
+test_known test.IsFile = refl
+test_known test.IsNode = refl
+
+in_shown : (t : Token) → t.kind ≡ kinds.Name (codes "in") → is_keyword words.In t ≡ true
+unfolding keyword_of
+in_shown t e = rw e refl
+
+not_shown : (t : Token) → t.kind ≡ kinds.Name (codes "not") → is_keyword words.Not t ≡ true
+unfolding keyword_of
+not_shown t e = rw e refl
+
+plain_lexing : (k : Condition) → IsPlain k → Lexing (ShowsPlain k) Safe (condition_text k)
+plain_lexing (member c x) is =
+    shown (λ tokens h. (h.0, h.4.0, h.4.4.0, h.4.4.4.0, h.2 ∙ ap (λ y. h.0 ∷ y) (h.4.2 ∙ ap (λ y. h.4.0 ∷ y) (h.4.4.2 ∙ ap (λ y. h.4.4.0 ∷ y) (h.4.4.4.2 ∙ ap (λ y. h.4.4.4.0 ∷ y) h.4.4.4.4))), h.3, is.1, h.4.3, h.4.4.3, h.4.4.4.3))
+    (name_then c is.0 (λ later w. (refl, refl, refl)) (sign_then signs.OpenParen (λ later w. tt) (name_then x is.2 (λ later w. (refl, refl, refl)) (sign_last signs.CloseParen (λ later w. tt)))))
+plain_lexing (kind k x) is =
+    shown (λ tokens h. (test_text k, h.0, h.4.0, h.4.4.0, h.4.4.4.0, h.2 ∙ ap (λ y. h.0 ∷ y) (h.4.2 ∙ ap (λ y. h.4.0 ∷ y) (h.4.4.2 ∙ ap (λ y. h.4.4.0 ∷ y) (h.4.4.4.2 ∙ ap (λ y. h.4.4.4.0 ∷ y) h.4.4.4.4))), h.3, test_known k, h.4.3, h.4.4.3, h.4.4.4.3))
+    (name_then (test_text k) (test_word k) (λ later w. (refl, refl, refl)) (sign_then signs.OpenParen (λ later w. tt) (name_then x is (λ later w. (refl, refl, refl)) (sign_last signs.CloseParen (λ later w. tt)))))
+plain_lexing (compare t o u) is =
+    shown (λ tokens h. (h.0, h.4.0, h.4.4.0, h.2 ∙ ap (λ y. h.0 ∷ y) (h.4.2 ∙ ap (λ y. h.4.0 ∷ y) (h.4.4.2 ∙ ap (λ y. h.4.4.0 ∷ y) h.4.4.4)), h.3, h.4.3, h.4.4.3))
+    (operand_then t is.0 (λ later w. (refl, refl, refl)) (gap 32 refl (op_then o (operand_last u is.1))))
+plain_lexing (path t s u) is =
+    shown (λ tokens h. (h.0, h.4.0, h.4.4.0, h.4.4.4.0, h.4.4.4.4.0, h.2 ∙ ap (λ y. h.0 ∷ y) (h.4.2 ∙ ap (λ y. h.4.0 ∷ y) (h.4.4.2 ∙ ap (λ y. h.4.4.0 ++ y) (h.4.4.4.2 ∙ ap (λ y. h.4.4.4.0 ∷ y) (h.4.4.4.4.2 ∙ ap (λ y. h.4.4.4.4.0 ∷ y) h.4.4.4.4.4)))), h.3, h.4.3, h.4.4.3, h.4.4.4.3, h.4.4.4.4.3))
+    (operand_then t is.0 (λ later w. (refl, refl, refl)) (gap 32 refl (sign_then signs.Arrow (λ later w. tt) (gap 32 refl
+    (both (step_lexing s is.1) (λ later w. (refl, refl, refl)) (gap 32 refl (sign_then signs.Arrow (λ later w. tt) (gap 32 refl (operand_last u is.2)))))))))
+plain_lexing (one_of t vs) is =
+    shown (λ tokens h. (h.0, h.4.0, h.4.4.0, h.4.4.4.0, h.4.4.4.4.0, h.2 ∙ ap (λ y. h.0 ∷ y) (h.4.2 ∙ ap (λ y. h.4.0 ∷ y) (h.4.4.2 ∙ ap (λ y. h.4.4.0 ∷ y) (h.4.4.4.2 ∙ ap (λ y. h.4.4.4.0 ++ y) (h.4.4.4.4.2 ∙ ap (λ y. h.4.4.4.4.0 ∷ y) h.4.4.4.4.4)))), h.3, in_shown h.4.0 h.4.3, h.4.4.3, h.4.4.4.3, h.4.4.4.4.3))
+    (operand_then t is.0 (λ later w. (refl, refl, refl)) (gap 32 refl (word_then (codes "in") (refl, (refl, tt)) (λ later w. (refl, refl, refl)) (gap 32 refl
+    (sign_then signs.OpenBrace (λ later w. tt) (both (listed_lexing vs is.1) (λ later w. (refl, refl, refl)) (sign_last signs.CloseBrace (λ later w. tt))))))))
+plain_lexing (negation c) is = absurd is
+
+pub condition_lexing : (k : Condition) → IsCondition k → Lexing (ShowsCondition k) Safe (condition_text k)
+condition_lexing (negation c) is =
+    shown (λ tokens h. (h.0, h.4.0, h.4.4.0, h.4.4.4.0, h.2 ∙ ap (λ y. h.0 ∷ y) (h.4.2 ∙ ap (λ y. h.4.0 ∷ y) (h.4.4.2 ∙ ap (λ y. h.4.4.0 ++ y) (h.4.4.4.2 ∙ ap (λ y. h.4.4.4.0 ∷ y) h.4.4.4.4))), not_shown h.0 h.3, h.4.3, h.4.4.3, h.4.4.4.3))
+    (word_then (codes "not") (refl, (refl, (refl, tt))) (λ later w. (refl, refl, refl)) (sign_then signs.OpenParen (λ later w. tt) (both (plain_lexing c is) (λ later w. (refl, refl, refl)) (sign_last signs.CloseParen (λ later w. tt)))))
+condition_lexing (member c x) is = plain_lexing (member c x) is
+condition_lexing (path t s u) is = plain_lexing (path t s u) is
+condition_lexing (compare t o u) is = plain_lexing (compare t o u) is
+condition_lexing (one_of t vs) is = plain_lexing (one_of t vs) is
+condition_lexing (kind k x) is = plain_lexing (kind k x) is

@@ -1,0 +1,153 @@
+-- Conditions, with their readers.
+use Rattle.std.proofs.Common.{◌≡◌, true, false, List, refl}
+use Rattle.sd_lex.specs.declared.token.Token.{Token}
+use Rattle.sd_lex.specs.declared.token.Sign.TheVariants as signs
+use Rattle.struql_ast.specs.declared.Operand.{Operand}
+use Rattle.struql_ast.specs.declared.Operand.TheVariants.{Variable, Constant}
+use Rattle.struql_ast.specs.Written as tree
+use Rattle.grammar.specs.Grammar.{one, either}
+use Rattle.grammar.proofs.Parts.{Opens, opens_then, opens_either, Part, ◌>>=◌, give_part, then_part, then_opens, weaken_part, either_part}
+use Rattle.grammar.proofs.Laws.{Always}
+use Rattle.struql_text.specs.declared.keyword.Keyword.TheVariants as words
+use Rattle.struql_text.specs.declared.keyword.Word.{Word}
+use Rattle.struql_text.specs.Terminals.{from_to, is_name, is_keyword, operand_span, op_value, test_of}
+use Rattle.token_reader.specs.Terminals.{is_sign}
+use Rattle.struql_text.specs.Expression.{sign, keyword, Counted, expression_within, expression_spelled}
+use Rattle.struql_text.specs.Grammar.{name, operand, call_with, call, between, comparison, membership, arc_step, expression_step, step, path, relation, behind, plain, negated, condition}
+use Rattle.struql_text.specs.Reading.{read_call, read_comparison, read_membership, read_arc_step, read_expression_step, read_step, read_path, read_relation, read_behind, read_plain, read_negated, read_condition}
+use Rattle.struql_text.proofs.TokenParts.{sign_part, sign_opens, keyword_opens, keyword_no_sign, in_part, not_part, name_part, name_opens, operand_part, constant_part, op_part, operand_opens_no_keyword, op_opens_no_keyword, op_opens_no_sign}
+use Rattle.token_reader.proofs.Terminals.{other_sign}
+use Rattle.struql_text.proofs.ExpressionParts.{AfterAlt, limited_part, expression_opens_no_name}
+use Rattle.struql_text.proofs.ListParts.{listed_part}
+use Rattle.struql_text.proofs.TermParts.{ends_with}
+use Rattle.token_reader.specs.Gives.{IsReal}
+use Rattle.struql_text.specs.SpelledConditions.{IsReadAsSpelled}
+
+-- within the limits, and at all
+abbrev pub E : List Token → Counted → Type 0
+E = expression_within
+
+abbrev pub S : List Token → Counted → Type 0
+S = expression_spelled
+
+call_part : (c : Word) → Part IsReal (call c) (call c) Always (read_call c)
+unfolding read_call
+call_part c = do
+  _ ← sign_part signs.OpenParen refl
+  x ← name_part
+  close ← sign_part signs.CloseParen refl
+  give_part (call_with (test_of c.text) c x close)
+
+comparison_part : (t : Operand) → Part IsReal (comparison t) (comparison t) Always (read_comparison t)
+unfolding read_comparison
+comparison_part t = do
+  o ← op_part
+  u ← operand_part
+  give_part (tree.compare t o u (between t u))
+
+membership_part : (t : Operand) → Part IsReal (membership t) (membership t) Always (read_membership t)
+unfolding read_membership
+membership_part t = do
+  _ ← in_part
+  _ ← sign_part signs.OpenBrace refl
+  then_opens (λ t. is_sign signs.CloseBrace t ≡ true) (listed_part constant_part (λ _ _ _. tt))
+      (λ vs. do
+        close ← sign_part signs.CloseBrace refl
+        give_part (tree.one_of t vs (from_to (operand_span t) close)))
+      (λ vs. opens_then (sign signs.CloseBrace) _ _ (sign_opens signs.CloseBrace _ (λ t is. is)))
+      (λ t later is. (tt, other_sign signs.CloseBrace signs.Comma t.kind refl is))
+
+arc_step_part : Part IsReal arc_step arc_step Always read_arc_step
+unfolding read_arc_step
+arc_step_part = do
+  x ← name_part
+  give_part (tree.arc_variable x.text x.span)
+
+expression_step_part : Part IsReal (expression_step E) (expression_step S) AfterAlt read_expression_step
+unfolding read_expression_step
+expression_step_part =
+    then_part limited_part
+    (λ e. weaken_part AfterAlt (λ _ _. tt) (give_part (tree.expression e.tree e.span)))
+    (λ e y w rest h f. ends_with AfterAlt _ y w rest h f)
+
+spelled_opens_no_name : Opens S (λ t. is_name t ≡ false)
+spelled_opens_no_name x v h = expression_opens_no_name h.0 0 x v h.1
+
+step_part : Part IsReal (step E) (step S) AfterAlt read_step
+unfolding read_step
+step_part =
+    either_part is_name (weaken_part AfterAlt (λ _ _. tt) arc_step_part) expression_step_part
+    (opens_then name _ _ name_opens)
+    (opens_then S _ _ spelled_opens_no_name)
+
+path_part : (t : Operand) → Part IsReal (path E t) (path S t) Always (read_path t)
+unfolding read_path
+path_part t = do
+  _ ← sign_part signs.Arrow refl
+  then_opens (λ t. is_sign signs.Arrow t ≡ true) step_part
+      (λ s. do
+        _ ← sign_part signs.Arrow refl
+        u ← operand_part
+        give_part (tree.path t s u (between t u)))
+      (λ s. opens_then (sign signs.Arrow) _ _ (sign_opens signs.Arrow _ (λ t is. is)))
+      (λ t later is. ((other_sign signs.Arrow signs.Star t.kind refl is, other_sign signs.Arrow signs.Dot t.kind refl is), other_sign signs.Arrow signs.Bar t.kind refl is))
+
+membership_opens : (t : Operand) (W : Token → Type 0) → ((k : Token) → is_keyword words.In k ≡ true → W k) → Opens (membership t) W
+membership_opens t W known = opens_then (keyword words.In) _ W (keyword_opens words.In W known)
+
+relation_part : (t : Operand) → Part IsReal (relation E t) (relation S t) Always (read_relation t)
+unfolding read_relation
+relation_part t =
+    either_part (is_sign signs.Arrow) (path_part t)
+    (either_part (is_keyword words.In) (membership_part t) (comparison_part t)
+    (membership_opens t _ (λ k is. is))
+    (opens_then (one op_value) _ _ (op_opens_no_keyword words.In)))
+    (opens_then (sign signs.Arrow) _ _ (sign_opens signs.Arrow _ (λ k is. is)))
+    (opens_either (membership t) (comparison t) _
+    (membership_opens t _ (λ k. keyword_no_sign words.In signs.Arrow k.kind))
+    (opens_then (one op_value) _ _ (op_opens_no_sign signs.Arrow refl)))
+
+-- behind an operand no parenthesis opens, if it isn't a name's
+relation_opens : (t : Operand) → Opens (relation S t) (λ k. is_sign signs.OpenParen k ≡ false)
+relation_opens t =
+    opens_either (path S t) (either (membership t) (comparison t)) _
+    (opens_then (sign signs.Arrow) _ _ (sign_opens signs.Arrow _ (λ k. other_sign signs.Arrow signs.OpenParen k.kind refl)))
+    (opens_either (membership t) (comparison t) _
+    (membership_opens t _ (λ k. keyword_no_sign words.In signs.OpenParen k.kind))
+    (opens_then (one op_value) _ _ (op_opens_no_sign signs.OpenParen refl)))
+
+behind_part : (t : Operand) → Part IsReal (behind E t) (behind S t) Always (read_behind t)
+unfolding read_behind
+behind_part (Constant v span) = relation_part (Constant v span)
+behind_part (Variable x span) =
+    either_part (is_sign signs.OpenParen) (call_part (record { text = x; span = span })) (relation_part (Variable x span))
+    (opens_then (sign signs.OpenParen) _ _ (sign_opens signs.OpenParen _ (λ k is. is)))
+    (relation_opens (Variable x span))
+
+plain_part : Part IsReal (plain E) (plain S) Always read_plain
+unfolding read_plain
+plain_part = do
+  t ← operand_part
+  behind_part t
+
+negated_part : Part IsReal (negated E) (negated S) Always read_negated
+unfolding read_negated
+negated_part = do
+  n ← not_part
+  _ ← sign_part signs.OpenParen refl
+  c ← plain_part
+  close ← sign_part signs.CloseParen refl
+  give_part (tree.negation c (from_to n close))
+
+pub condition_part : Part IsReal (condition E) (condition S) Always read_condition
+unfolding read_condition
+condition_part =
+    either_part (is_keyword words.Not) negated_part plain_part
+    (opens_then (keyword words.Not) _ _ (keyword_opens words.Not _ (λ k is. is)))
+    (opens_then operand _ _ (operand_opens_no_keyword words.Not))
+
+-- a condition is read exactly where it is spelled
+pub read_as_spelled : (tokens : List Token) → IsReadAsSpelled tokens
+read_as_spelled tokens =
+    let r = condition_part.reads tokens in
+    (r.sound, λ front value rest is h. r.complete front value rest is h tt)

@@ -1,0 +1,14 @@
+pub mod Known
+pub mod Ends
+pub mod ItemFacts
+pub mod WordParts
+pub mod SettingParts
+pub mod BodyParts
+pub mod BodyLoop
+pub mod FileParts
+pub mod Seen
+pub mod Filing
+pub mod Answer
+pub mod Faultless
+pub mod Scanned
+pub mod TemplateFiles

@@ -1,0 +1,351 @@
+-- Reading a file of templates from left to right.
+use Rattle.std.specs.Prelude.{ℕ, zero, suc, Bool, true, false, ◌||◌, List, [], ◌∷◌, ◌++◌, Option, Some, None}
+use Rattle.grammar.specs.Reading.{Outcome, Past, and_then, ◌>>=◌, ◌>>◌, give, finish, take_one, choose}
+use Rattle.grammar.specs.Reading as reading
+use Rattle.std.specs.Option.{is_some}
+use Rattle.template_items.specs.declared.item.Item.{Item}
+use Rattle.template_items.specs.declared.item.Mark.{Mark}
+use Rattle.template_items.specs.declared.item.Mark.TheVariants as marks
+use Rattle.tmpl.specs.Body.{Body, done, text, format, choice, repeat}
+use Rattle.tmpl.specs.declared.Against.{Against}
+use Rattle.tmpl.specs.declared.Cmp.{Cmp}
+use Rattle.tmpl.specs.declared.Expr.{Expr}
+use Rattle.tmpl.specs.declared.Mode.TheVariants.{Link}
+use Rattle.tmpl.specs.declared.WordRoot.TheVariants.{Here, Loop, Collection}
+use Rattle.tmpl.specs.declared.Order.{Order}
+use Rattle.template_reader.specs.declared.words.Bound.{Bound}
+use Rattle.template_reader.specs.declared.settings.Setting.{Setting}
+use Rattle.template_reader.specs.declared.settings.Setting.TheVariants as setting
+use Rattle.template_reader.specs.declared.settings.Settings.{Settings}
+use Rattle.template_reader.specs.Terminals.{is_mark, mark_value, is_text, text_value, is_dot, dot_value, is_equals, equals_value, name_value, quoted_value, label_value, joined_value, constant_value, direction_value, is_not, not_value, in_value, is_compare, compare_value, is_setting, setting_value, mode_of, order_of, no_settings, loop_settings, variable_value, is_known, known_value, is_unknown}
+use Rattle.template_reader.specs.Template.{from, with_embed, with_link, chain, Entry, Head, named_value}
+
+-- the reader of a mark
+unfoldable pub read_mark : Mark → List Item → Outcome Item ℕ
+read_mark m = take_one true (mark_value m)
+
+-- a dot and a label
+unfoldable pub read_dotted : List Item → Outcome Item (List ℕ)
+read_dotted = do
+  take_one true dot_value
+  take_one true joined_value
+
+-- labels with dots before them
+abbrev pub read_labels : List Item → Outcome Item (List (List ℕ))
+read_labels = reading.repeat is_dot read_dotted
+
+-- a label, and labels behind it
+unfoldable pub read_word : List Item → Outcome Item (List (List ℕ))
+read_word = do
+  first ← take_one true label_value
+  others ← read_labels
+  give (first ∷ others)
+
+-- the same right behind a sign
+unfoldable pub read_joined_word : List Item → Outcome Item (List (List ℕ))
+read_joined_word = do
+  first ← take_one true joined_value
+  others ← read_labels
+  give (first ∷ others)
+
+-- an expression that begins at the page
+unfoldable pub read_here : List Item → Outcome Item Expr
+read_here = do
+  read_mark marks.Here
+  give (from Here [])
+
+-- the same, with labels
+unfoldable pub read_here_of : List Item → Outcome Item Expr
+read_here_of = do
+  read_mark marks.HereOf
+  labels ← read_joined_word
+  give (from Here labels)
+
+-- an expression that begins at a collection
+unfoldable pub read_collection : List Item → Outcome Item Expr
+read_collection = do
+  read_mark marks.Hash
+  name ← take_one true joined_value
+  labels ← read_labels
+  give (from (Collection name) labels)
+
+-- what is behind a variable
+unfoldable pub read_of_loop : ℕ → List Item → Outcome Item Expr
+read_of_loop number = do
+  labels ← read_labels
+  give (from (Loop number) labels)
+
+-- an expression that begins at a variable
+unfoldable pub read_loop : List Bound → List Item → Outcome Item Expr
+read_loop scope = do
+  number ← take_one true (known_value scope)
+  read_of_loop number
+
+-- an expression that begins at no variable
+unfoldable pub read_place : List Item → Outcome Item Expr
+read_place =
+    choose (is_mark marks.Here) read_here
+    (choose (is_mark marks.HereOf) read_here_of read_collection)
+
+-- an expression, where these loops are round it
+unfoldable pub read_expr : List Bound → List Item → Outcome Item Expr
+read_expr scope =
+    choose (is_unknown scope) Past (choose (is_known scope) (read_loop scope) read_place)
+
+-- ---- settings
+
+-- the word of values' keys
+unfoldable pub read_key : Settings → List Item → Outcome Item Settings
+read_key s = do
+  take_one true equals_value
+  w ← read_word
+  give (record { key = Some w; descend = s.descend; delimiter = s.delimiter; mode = s.mode })
+
+-- a direction
+unfoldable pub read_order : Settings → List Item → Outcome Item Settings
+read_order s = do
+  take_one true equals_value
+  d ← take_one true direction_value
+  give (record { key = s.key; descend = Some d; delimiter = s.delimiter; mode = s.mode })
+
+-- a text between values
+unfoldable pub read_delimiter : Settings → List Item → Outcome Item Settings
+read_delimiter s = do
+  take_one true equals_value
+  q ← take_one true quoted_value
+  give (record { key = s.key; descend = s.descend; delimiter = Some q; mode = s.mode })
+
+-- the word of a link's text
+unfoldable pub read_label : Settings → List Item → Outcome Item Settings
+read_label s = do
+  take_one true equals_value
+  w ← read_word
+  give (record {
+    key = s.key;
+    descend = s.descend;
+    delimiter = s.delimiter;
+    mode = Some (Link (Some w));
+  })
+
+-- a link, with its text or without
+unfoldable pub read_link : Settings → List Item → Outcome Item Settings
+read_link s = choose is_equals (read_label s) (give (with_link s))
+
+-- the reader of one setting
+abbrev pub read_set : Settings → Setting → List Item → Outcome Item Settings
+read_set s setting.Key = read_key s
+read_set s setting.Order = read_order s
+read_set s setting.Delimiter = read_delimiter s
+read_set s setting.Embed = give (with_embed s)
+read_set s setting.Link = read_link s
+
+-- the end of the settings
+unfoldable pub read_close : Settings → List Item → Outcome Item Settings
+read_close s = do
+  read_mark marks.Close
+  give s
+
+-- the next setting, and then the others
+unfoldable pub read_next : (Settings → List Item → Outcome Item Settings) → Settings → List Item
+    → Outcome Item Settings
+read_next others s = do
+  x ← take_one true (setting_value s)
+  next ← read_set s x
+  others next
+
+-- at most n more settings, and the end of the tag
+unfoldable pub read_settings : ℕ → Settings → List Item → Outcome Item Settings
+read_settings zero s = read_close s
+read_settings (suc n) s = choose (is_setting s) (read_next (read_settings n) s) (read_close s)
+
+-- ---- bodies
+
+-- text between tags
+unfoldable pub read_text : List Item → Outcome Item Body
+read_text = do
+  t ← take_one true text_value
+  give (text t done)
+
+-- the tag of an expression's values
+unfoldable pub read_format : List Bound → List Item → Outcome Item Body
+read_format scope = do
+  read_mark marks.OpenFormat
+  e ← read_expr scope
+  s ← read_settings 4 no_settings
+  give (format e (mode_of s) (order_of s) done)
+
+-- a part without a body
+unfoldable pub read_leaf : List Bound → List Item → Outcome Item Body
+read_leaf scope = choose is_text read_text (read_format scope)
+
+-- a comparison's right side
+unfoldable pub read_compared : Cmp → List Item → Outcome Item (Option Against)
+read_compared c = do
+  k ← take_one true constant_value
+  read_mark marks.Close
+  give (Some (record { compare = c; constant = k }))
+
+-- no comparison
+unfoldable pub read_not_compared : List Item → Outcome Item (Option Against)
+read_not_compared = do
+  read_mark marks.Close
+  give None
+
+-- a comparison and its right side
+unfoldable pub read_comparing : List Item → Outcome Item (Option Against)
+read_comparing = do
+  c ← take_one true compare_value
+  read_compared c
+
+-- the comparison, if there is one, and the end of the tag
+unfoldable pub read_comparison : List Item → Outcome Item (Option Against)
+read_comparison = choose is_compare read_comparing read_not_compared
+
+-- no other branch
+unfoldable pub read_no_other : List Item → Outcome Item Body
+read_no_other = do
+  read_mark marks.EndChoice
+  give done
+
+module _ (body : List Item → Outcome Item Body) where
+  -- the other branch
+  unfoldable pub read_other_branch : List Item → Outcome Item Body
+  read_other_branch = do
+    read_mark marks.Otherwise
+    other ← body
+    read_mark marks.EndChoice
+    give other
+
+  -- the other branch, if there is one
+  unfoldable pub read_ending : List Item → Outcome Item Body
+  read_ending = choose (is_mark marks.Otherwise) read_other_branch read_no_other
+
+  -- the branches of a choice
+  unfoldable pub read_branches : Bool → Expr → Option Against → List Item → Outcome Item Body
+  read_branches negated e a = do
+    taken ← body
+    other ← read_ending
+    give (choice negated e a taken other done)
+
+module _ (body : List Bound → List Item → Outcome Item Body) where
+  -- a test, and the branches
+  unfoldable pub read_tested : List Bound → Bool → List Item → Outcome Item Body
+  read_tested scope negated = do
+    e ← read_expr scope
+    a ← read_comparison
+    read_branches (body scope) negated e a
+
+  -- the same with `NOT`
+  unfoldable pub read_negated : List Bound → List Item → Outcome Item Body
+  read_negated scope = do
+    take_one true not_value
+    read_tested scope true
+
+  -- what is behind `<SIF`
+  unfoldable pub read_choice_rest : List Bound → List Item → Outcome Item Body
+  read_choice_rest scope = choose is_not (read_negated scope) (read_tested scope false)
+
+  -- a loop over the values of `e` from its body on, where `bound` is its variable
+  unfoldable pub read_repeated : List Bound → Bound → Expr → Order → List Item → Outcome Item Body
+  read_repeated scope bound e order = do
+    inner ← body (scope ++ bound ∷ [])
+    read_mark marks.EndRepeat
+    give (repeat bound.number e order inner done)
+
+  -- what is behind `<SFOR`
+  unfoldable pub read_repeat_rest : List Bound → ℕ → List Item → Outcome Item Body
+  read_repeat_rest scope number = do
+    name ← take_one true variable_value
+    take_one true in_value
+    e ← read_expr scope
+    s ← read_settings 3 loop_settings
+    read_repeated scope (record { name = name; number = number }) e (order_of s)
+
+  -- a choice
+  unfoldable pub read_choice : List Bound → List Item → Outcome Item Body
+  read_choice scope = do
+    read_mark marks.OpenChoice
+    read_choice_rest scope
+
+  -- a loop
+  unfoldable pub read_repeat : List Bound → List Item → Outcome Item Body
+  read_repeat scope = do
+    number ← read_mark marks.OpenRepeat
+    read_repeat_rest scope number
+
+  -- a part with a body
+  unfoldable pub read_block : List Bound → List Item → Outcome Item Body
+  read_block scope = choose (is_mark marks.OpenChoice) (read_choice scope) (read_repeat scope)
+
+-- the item begins a block
+abbrev pub is_block : Item → Bool
+is_block i = is_mark marks.OpenChoice i || is_mark marks.OpenRepeat i
+
+-- the item begins a part of a body
+abbrev pub is_part : Item → Bool
+is_part i = is_block i || (is_text i || is_mark marks.OpenFormat i)
+
+-- the tag of a block, and what is in it, where one more may be open
+unfoldable pub read_part : (List Bound → List Item → Outcome Item Body) → List Bound → List Item
+    → Outcome Item Body
+read_part block scope = choose is_block (block scope) (read_leaf scope)
+
+-- parts of a body, one after another
+unfoldable pub read_body_of : (List Item → Outcome Item Body) → List Item → Outcome Item Body
+read_body_of part = do
+  parts ← reading.repeat is_part part
+  give (chain parts)
+
+-- a body with at most n tags open at once
+unfoldable pub read_body : ℕ → List Bound → List Item → Outcome Item Body
+read_body zero scope = read_body_of (read_part (λ _. Past) scope)
+read_body (suc depth) scope = read_body_of (read_part (read_block (read_body depth)) scope)
+
+-- a block, with at most n tags still to open
+unfoldable pub read_block_at : ℕ → List Bound → List Item → Outcome Item Body
+read_block_at zero scope = Past
+read_block_at (suc depth) scope = read_block (read_body depth) scope
+
+-- ---- templates
+
+-- the head of a collection's template
+unfoldable pub read_collection_head : List ℕ → List Item → Outcome Item Head
+read_collection_head name = do
+  read_mark marks.Close
+  give (record { of_collection = true; name = name })
+
+-- the head of a function's template
+unfoldable pub read_function_head : List ℕ → List Item → Outcome Item Head
+read_function_head name = do
+  read_mark marks.Close
+  give (record { of_collection = false; name = name })
+
+-- the head behind the word COLLECTION
+unfoldable pub read_named_head : List ℕ → List Item → Outcome Item Head
+read_named_head n = do
+  name ← take_one true (named_value n)
+  read_collection_head name
+
+-- the item is this word
+abbrev pub is_named : List ℕ → Item → Bool
+is_named n i = is_some (named_value n i)
+
+-- a head behind its first word
+unfoldable pub read_head_rest : List ℕ → List Item → Outcome Item Head
+read_head_rest n = choose (is_named n) (read_named_head n) (read_function_head n)
+
+-- a template
+unfoldable pub read_template : List Item → Outcome Item Entry
+read_template = do
+  read_mark marks.OpenTemplate
+  n ← take_one true name_value
+  h ← read_head_rest n
+  b ← read_body 32 []
+  read_mark marks.EndTemplate
+  give (record { of_collection = h.of_collection; name = h.name; body = b })
+
+-- a whole file
+unfoldable pub read_file : List Item → Outcome Item (List Entry)
+read_file = do
+  entries ← reading.repeat (is_mark marks.OpenTemplate) read_template
+  finish entries

@@ -1,0 +1,445 @@
+//! Bodies of templates.
+
+ghost use Rattle.std.specs.Prelude.{◌≡◌, ◌++◌, ◌∷◌, [], true, map, IfOk, Some};
+ghost use Rattle.grammar.specs.Reading.{starts};
+ghost use Rattle.grammar.specs.Reading as reading;
+ghost use Rattle.tmpl.specs.Body.{body_of, done, choice, repeat};
+ghost use Rattle.template_reader.specs.Gives.{Gives, single};
+ghost use Rattle.template_reader.specs.Terminals.{no_settings, loop_settings};
+ghost use Rattle.template_reader.specs.Template.{chain};
+ghost use Rattle.template_reader.specs.Reading.{read_text, read_format, read_leaf, read_compared, read_not_compared, read_comparing, read_comparison, read_other_branch, read_no_other, read_ending, read_branches, read_tested, read_negated, read_choice_rest, read_repeated, read_repeat_rest, read_choice, read_repeat, read_block, is_block, is_part, read_part, read_body_of, read_body, read_block_at};
+
+use crate::expression::{expression_at, settings_at};
+use crate::halt::Halt;
+use crate::settings::{Settings, mode_and_order};
+use crate::tokens::{
+    compare_at, constant_at, has_compare, has_mark, has_not, has_text, in_at, mark_at, not_at,
+    text_at, variable_at,
+};
+use crate::words::Bound;
+use sd_value::{NoMemory, Str};
+use std::alloc::Global;
+use template_items::{Item, Mark};
+use tmpl::{Against, Choice, Expr, Format, Mode, Order, Part, Repeat};
+
+#[tactic(auto, unfolding(crate::specs::Reading::read_text))]
+fn text_part_at(alloc: Global, items: &[Item]) -> Result<(Part, &[Item]), Halt>
+    ensures { Gives (λ x. single x.0) (λ x. x.1.now) result (read_text items.now) }
+{
+    let (text, rest) = text_at(alloc, items)?;
+    Ok((Part::Text(text), rest))
+}
+
+/// No settings yet.
+fn no_settings() -> Settings
+    ensures { result ≡ no_settings }
+{
+    Settings {
+        key: None,
+        descend: None,
+        delimiter: None,
+        mode: None,
+    }
+}
+
+/// No settings yet, of a loop's tag.
+fn loop_settings() -> Settings
+    ensures { result ≡ loop_settings }
+{
+    Settings {
+        key: None,
+        descend: None,
+        delimiter: None,
+        mode: Some(Mode::Plain),
+    }
+}
+
+/// A tag `<SFMT`.
+#[tactic(auto, unfolding(crate::specs::Reading::read_format))]
+fn format_at<'a>(
+    alloc: Global,
+    scope: &[Bound],
+    items: &'a [Item],
+) -> Result<(Part, &'a [Item]), Halt<'a>>
+    ensures { Gives (λ x. single x.0) (λ x. x.1.now) result (read_format scope.now items.now) }
+{
+    let (_, rest) = mark_at(items, Mark::OpenFormat)?;
+    let (values, rest) = expression_at(alloc, scope, rest)?;
+    let (settings, rest) = settings_at(alloc, 4, no_settings(), rest)?;
+    let (mode, order) = mode_and_order(settings);
+    Ok((
+        Part::Format(Format {
+            values,
+            mode,
+            order,
+        }),
+        rest,
+    ))
+}
+
+#[tactic(auto, unfolding(crate::specs::Reading::read_leaf))]
+fn leaf_at<'a>(
+    alloc: Global,
+    scope: &[Bound],
+    items: &'a [Item],
+) -> Result<(Part, &'a [Item]), Halt<'a>>
+    ensures { Gives (λ x. single x.0) (λ x. x.1.now) result (read_leaf scope.now items.now) }
+{
+    if has_text(items) {
+        text_part_at(alloc, items)
+    } else {
+        format_at(alloc, scope, items)
+    }
+}
+
+/// A comparison with a constant, and the end of the tag.
+#[tactic(auto, unfolding(crate::specs::Reading::read_comparing, crate::specs::Reading::read_compared))]
+fn comparing_at(alloc: Global, items: &[Item]) -> Result<(Option<Against>, &[Item]), Halt>
+    ensures { Gives (λ x. x.0) (λ x. x.1.now) result (read_comparing items.now) }
+{
+    let (compare, rest) = compare_at(items)?;
+    let (constant, rest) = constant_at(alloc, rest)?;
+    let (_, rest) = mark_at(rest, Mark::Close)?;
+    Ok((Some(Against { compare, constant }), rest))
+}
+
+#[tactic(auto, unfolding(crate::specs::Reading::read_not_compared))]
+fn not_compared_at(items: &[Item]) -> Result<(Option<Against>, &[Item]), Halt>
+    ensures { Gives (λ x. x.0) (λ x. x.1.now) result (read_not_compared items.now) }
+{
+    let (_, rest) = mark_at(items, Mark::Close)?;
+    Ok((None, rest))
+}
+
+/// The comparison, if there is one, and the end of the tag.
+#[tactic(auto, unfolding(crate::specs::Reading::read_comparison))]
+fn comparison_at(alloc: Global, items: &[Item]) -> Result<(Option<Against>, &[Item]), Halt>
+    ensures { Gives (λ x. x.0) (λ x. x.1.now) result (read_comparison items.now) }
+{
+    if has_compare(items) {
+        comparing_at(alloc, items)
+    } else {
+        not_compared_at(items)
+    }
+}
+
+/// `</SIF>`, and no other branch.
+#[tactic(auto, unfolding(crate::specs::Reading::read_no_other))]
+fn no_other_at(alloc: Global, items: &[Item]) -> Result<(Vec<Part>, &[Item]), Halt>
+    ensures { Gives (λ x. body_of x.0.items) (λ x. x.1.now) result (read_no_other items.now) }
+{
+    let (_, rest) = mark_at(items, Mark::EndChoice)?;
+    Ok((Vec::new(alloc), rest))
+}
+
+/// The loops round a body, and one more, which is the innermost.
+fn extended(alloc: Global, scope: &[Bound], name: Str, number: u32) -> Result<Vec<Bound>, NoMemory>
+    ensures { IfOk result (λ v. v.items ≡ scope.now ++ record { name = name; number = number }
+        ∷ []) }
+{
+    let mut bounds = Vec::new(alloc);
+    for bound in scope {
+        let name = bound.name.copy(alloc)?;
+        bounds.push(Bound {
+            name,
+            number: bound.number,
+        })?;
+    }
+    bounds.push(Bound { name, number })?;
+    Ok(bounds)
+}
+
+fn choice_of(
+    negated: bool,
+    values: Expr,
+    against: Option<Against>,
+    taken: Vec<Part>,
+    other: Vec<Part>,
+) -> Part
+    ensures { single result ≡ choice negated values against (body_of taken.items)
+        (body_of other.items) done }
+{
+    Part::Choice(Choice {
+        negated,
+        values,
+        against,
+        taken,
+        other,
+    })
+}
+
+fn repeat_of(number: u32, values: Expr, order: Order, body: Vec<Part>) -> Part
+    ensures { single result ≡ repeat number values order (body_of body.items) done }
+{
+    Part::Repeat(Repeat {
+        number,
+        values,
+        order,
+        body,
+    })
+}
+
+fn has_block(items: &[Item]) -> bool
+    ensures { result ≡ starts is_block items.now }
+{
+    has_mark(items, Mark::OpenChoice) || has_mark(items, Mark::OpenRepeat)
+}
+
+fn has_part(items: &[Item]) -> bool
+    ensures { result ≡ starts is_part items.now }
+{
+    has_block(items) || has_text(items) || has_mark(items, Mark::OpenFormat)
+}
+
+/// A body in which `depth` tags more may be open at once.
+#[cycle(body)]
+pub fn body_at<'a>(
+    alloc: Global,
+    depth: u32,
+    scope: &[Bound],
+    items: &'a [Item],
+) -> Result<(Vec<Part>, &'a [Item]), Halt<'a>>
+    ensures { Gives (λ x. body_of x.0.items) (λ x. x.1.now) result
+        (read_body depth scope.now items.now) }
+{
+    parts_at(alloc, depth, scope, items)
+}
+
+/// Parts, one after another.
+#[cycle(body)]
+fn parts_at<'a>(
+    alloc: Global,
+    depth: u32,
+    scope: &[Bound],
+    items: &'a [Item],
+) -> Result<(Vec<Part>, &'a [Item]), Halt<'a>>
+    ensures { Gives (λ x. map single x.0.items) (λ x. x.1.now) result
+        (reading.repeat is_part (read_part (read_block_at depth) scope.now) items.now) }
+{
+    let mut parts = Vec::new(alloc);
+    let mut rest = items;
+    'list: while has_part(rest) {
+        let (part, after) = part_at(alloc, depth, scope, rest)?;
+        parts.push(part)?;
+        rest = after;
+    }
+    Ok((parts, rest))
+}
+
+/// A part of a body.
+#[cycle(body)]
+#[tactic(auto, unfolding(crate::specs::Reading::read_part))]
+fn part_at<'a>(
+    alloc: Global,
+    depth: u32,
+    scope: &[Bound],
+    items: &'a [Item],
+) -> Result<(Part, &'a [Item]), Halt<'a>>
+    ensures { Gives (λ x. single x.0) (λ x. x.1.now) result
+        (read_part (read_block_at depth) scope.now items.now) }
+{
+    if has_block(items) {
+        block_at(alloc, depth, scope, items)
+    } else {
+        leaf_at(alloc, scope, items)
+    }
+}
+
+/// A choice or a loop, where one more may be open.
+#[cycle(body)]
+fn block_at<'a>(
+    alloc: Global,
+    depth: u32,
+    scope: &[Bound],
+    items: &'a [Item],
+) -> Result<(Part, &'a [Item]), Halt<'a>>
+    ensures { Gives (λ x. single x.0) (λ x. x.1.now) result
+        (read_block_at depth scope.now items.now) }
+{
+    if depth == 0 {
+        Err(Halt::TooDeep(items))
+    } else {
+        tag_at(alloc, depth - 1, scope, items)
+    }
+}
+
+/// A choice or a loop, in which `depth` tags more may be open at once.
+#[cycle(body)]
+#[tactic(auto, unfolding(crate::specs::Reading::read_block))]
+fn tag_at<'a>(
+    alloc: Global,
+    depth: u32,
+    scope: &[Bound],
+    items: &'a [Item],
+) -> Result<(Part, &'a [Item]), Halt<'a>>
+    ensures { Gives (λ x. single x.0) (λ x. x.1.now) result
+        (read_block (read_body depth) scope.now items.now) }
+{
+    if has_mark(items, Mark::OpenChoice) {
+        choice_at(alloc, depth, scope, items)
+    } else {
+        repeat_at(alloc, depth, scope, items)
+    }
+}
+
+/// A choice.
+#[cycle(body)]
+#[tactic(auto, unfolding(crate::specs::Reading::read_choice))]
+fn choice_at<'a>(
+    alloc: Global,
+    depth: u32,
+    scope: &[Bound],
+    items: &'a [Item],
+) -> Result<(Part, &'a [Item]), Halt<'a>>
+    ensures { Gives (λ x. single x.0) (λ x. x.1.now) result
+        (read_choice (read_body depth) scope.now items.now) }
+{
+    let (_, rest) = mark_at(items, Mark::OpenChoice)?;
+    choice_rest_at(alloc, depth, scope, rest)
+}
+
+/// What is behind `<SIF`.
+#[cycle(body)]
+#[tactic(auto, unfolding(crate::specs::Reading::read_choice_rest, crate::specs::Reading::read_negated))]
+fn choice_rest_at<'a>(
+    alloc: Global,
+    depth: u32,
+    scope: &[Bound],
+    items: &'a [Item],
+) -> Result<(Part, &'a [Item]), Halt<'a>>
+    ensures { Gives (λ x. single x.0) (λ x. x.1.now) result
+        (read_choice_rest (read_body depth) scope.now items.now) }
+{
+    if has_not(items) {
+        let (_, rest) = not_at(items)?;
+        tested_at(alloc, depth, scope, true, rest)
+    } else {
+        tested_at(alloc, depth, scope, false, items)
+    }
+}
+
+/// A choice from its expression on.
+#[cycle(body)]
+#[tactic(auto, unfolding(crate::specs::Reading::read_tested))]
+fn tested_at<'a>(
+    alloc: Global,
+    depth: u32,
+    scope: &[Bound],
+    negated: bool,
+    items: &'a [Item],
+) -> Result<(Part, &'a [Item]), Halt<'a>>
+    ensures { Gives (λ x. single x.0) (λ x. x.1.now) result
+        (read_tested (read_body depth) scope.now negated items.now) }
+{
+    let (values, rest) = expression_at(alloc, scope, items)?;
+    let (against, rest) = comparison_at(alloc, rest)?;
+    branches_at(alloc, depth, scope, negated, values, against, rest)
+}
+
+/// A choice from its first branch on.
+#[cycle(body)]
+#[tactic(auto, unfolding(crate::specs::Reading::read_branches))]
+fn branches_at<'a>(
+    alloc: Global,
+    depth: u32,
+    scope: &[Bound],
+    negated: bool,
+    values: Expr,
+    against: Option<Against>,
+    items: &'a [Item],
+) -> Result<(Part, &'a [Item]), Halt<'a>>
+    ensures { Gives (λ x. single x.0) (λ x. x.1.now) result
+        (read_branches (read_body depth scope.now) negated values against items.now) }
+{
+    let (taken, rest) = body_at(alloc, depth, scope, items)?;
+    let (other, rest) = ending_at(alloc, depth, scope, rest)?;
+    Ok((choice_of(negated, values, against, taken, other), rest))
+}
+
+/// The end of a choice, with its other branch if it has one.
+#[cycle(body)]
+#[tactic(auto, unfolding(crate::specs::Reading::read_ending, crate::specs::Reading::read_other_branch))]
+fn ending_at<'a>(
+    alloc: Global,
+    depth: u32,
+    scope: &[Bound],
+    items: &'a [Item],
+) -> Result<(Vec<Part>, &'a [Item]), Halt<'a>>
+    ensures { Gives (λ x. body_of x.0.items) (λ x. x.1.now) result
+        (read_ending (read_body depth scope.now) items.now) }
+{
+    if !has_mark(items, Mark::Otherwise) {
+        return no_other_at(alloc, items);
+    }
+    let (_, rest) = mark_at(items, Mark::Otherwise)?;
+    let (other, rest) = body_at(alloc, depth, scope, rest)?;
+    let (_, rest) = mark_at(rest, Mark::EndChoice)?;
+    Ok((other, rest))
+}
+
+/// A loop.
+#[cycle(body)]
+#[tactic(auto, unfolding(crate::specs::Reading::read_repeat))]
+fn repeat_at<'a>(
+    alloc: Global,
+    depth: u32,
+    scope: &[Bound],
+    items: &'a [Item],
+) -> Result<(Part, &'a [Item]), Halt<'a>>
+    ensures { Gives (λ x. single x.0) (λ x. x.1.now) result
+        (read_repeat (read_body depth) scope.now items.now) }
+{
+    let (number, rest) = mark_at(items, Mark::OpenRepeat)?;
+    repeat_rest_at(alloc, depth, scope, number, rest)
+}
+
+/// What is behind `<SFOR`.
+#[cycle(body)]
+#[tactic(auto, unfolding(crate::specs::Reading::read_repeat_rest))]
+fn repeat_rest_at<'a>(
+    alloc: Global,
+    depth: u32,
+    scope: &[Bound],
+    number: u32,
+    items: &'a [Item],
+) -> Result<(Part, &'a [Item]), Halt<'a>>
+    ensures { Gives (λ x. single x.0) (λ x. x.1.now) result
+        (read_repeat_rest (read_body depth) scope.now number items.now) }
+{
+    let (name, rest) = variable_at(alloc, items)?;
+    let (_, rest) = in_at(rest)?;
+    let (values, rest) = expression_at(alloc, scope, rest)?;
+    let (settings, rest) = settings_at(alloc, 3, loop_settings(), rest)?;
+    let (_, order) = mode_and_order(settings);
+    repeated_at(
+        alloc,
+        depth,
+        scope,
+        Bound { name, number },
+        values,
+        order,
+        rest,
+    )
+}
+
+/// A loop of this variable from its body on.
+#[cycle(body)]
+#[tactic(auto, unfolding(crate::specs::Reading::read_repeated))]
+fn repeated_at<'a>(
+    alloc: Global,
+    depth: u32,
+    scope: &[Bound],
+    bound: Bound,
+    values: Expr,
+    order: Order,
+    items: &'a [Item],
+) -> Result<(Part, &'a [Item]), Halt<'a>>
+    ensures { Gives (λ x. single x.0) (λ x. x.1.now) result
+        (read_repeated (read_body depth) scope.now bound values order items.now) }
+{
+    let Bound { name, number } = bound;
+    let inner = extended(alloc, scope, name, number)?;
+    let (body, rest) = body_at(alloc, depth, inner.as_slice(), items)?;
+    let (_, rest) = mark_at(rest, Mark::EndRepeat)?;
+    Ok((repeat_of(number, values, order, body), rest))
+}

@@ -1,0 +1,187 @@
+//! The reader of a file of templates.
+
+ghost use Rattle.std.specs.Prelude.{◌≡◌, ◌<◌, ◌≤◌, ◌^◌, ◌++◌, ◌∷◌, [], List, length, map, IfOk};
+ghost use Rattle.template_items.specs.declared.item.Item.{Item as AnyItem};
+ghost use Rattle.template_items.specs.Scanning.{AreItems};
+ghost use Rattle.tmpl.specs.Reading.{file_of};
+ghost use Rattle.template_reader.specs.Template.{Entry as PlainEntry, within};
+ghost use Rattle.template_reader.specs.Reading.{is_block};
+ghost use Rattle.template_reader.specs.Entries.{entry_of, file_from};
+ghost use Rattle.template_reader.specs.Faults.{twice, unless_before, unless_twice, past_at, whole_answer, unfit_answer, beyond_answer, IsItemsAnswer, IsAnswer, UnlessNoMemory, Answers, OrNoMemory};
+ghost use Rattle.template_reader.specs.Filed.{Filed};
+
+use crate::file::{Entry, file_at};
+use crate::halt::Halt;
+use crate::refusal::TmplRefusal;
+use crate::titles::{innermost, is_mark, twice};
+use sd_value::NoMemory;
+use std::alloc::Global;
+use template_items::{Item, Mark, items};
+use tmpl::{NamedTemplate, Template, Templates};
+
+/// The templates that were filed, with their names.
+#[derive(Drop)]
+struct Tables {
+    functions: Vec<NamedTemplate>,
+    collections: Vec<NamedTemplate>,
+    bodies: Vec<Template>,
+}
+
+impl Tables {
+    /// Files one more template.
+    fn add(&mut self, entry: Entry) -> Result<(), NoMemory>
+        ensures { IfOk result (λ _. (entries : List PlainEntry) → Filed self.old entries
+            → Filed self.new (entries ++ entry_of entry ∷ [])) }
+    {
+        // A text has fewer templates than bytes, so their numbers don't run out.
+        let Ok(number) = u32::try_from(self.bodies.len()) else {
+            return Err(NoMemory);
+        };
+        let named = NamedTemplate {
+            name: entry.name,
+            template: number,
+        };
+        self.bodies.push(Template { parts: entry.parts })?;
+        if entry.of_collection {
+            self.collections.push(named)?;
+            Ok(())
+        } else {
+            self.functions.push(named)?;
+            Ok(())
+        }
+    }
+}
+
+/// The file of these templates.
+fn filed(alloc: Global, entries: Vec<Entry>) -> Result<Templates, NoMemory>
+    ensures { IfOk result (λ t. file_of t ≡ file_from (map entry_of entries.items)) }
+{
+    let mut tables = Tables {
+        functions: Vec::new(alloc),
+        collections: Vec::new(alloc),
+        bodies: Vec::new(alloc),
+    };
+    for entry in entries {
+        tables.add(entry)?;
+    }
+    let Tables {
+        functions,
+        collections,
+        bodies,
+    } = tables;
+    Ok(Templates::of(functions, collections, bodies))
+}
+
+/// The fault at this place, unless a name occurs twice before it.
+fn unless_before(doubled: Option<u64>, place: u64, refusal: TmplRefusal) -> TmplRefusal
+    ensures { result ≡ unless_before doubled place refusal }
+{
+    match doubled {
+        Some(at) => {
+            if at < place {
+                TmplRefusal::Twice(at)
+            } else {
+                refusal
+            }
+        }
+        None => refusal,
+    }
+}
+
+fn unless_twice(doubled: Option<u64>, refusal: TmplRefusal) -> TmplRefusal
+    ensures { result ≡ unless_twice doubled refusal }
+{
+    match doubled {
+        Some(at) => TmplRefusal::Twice(at),
+        None => refusal,
+    }
+}
+
+fn is_block(item: &Item) -> bool
+    ensures { result ≡ is_block item.now }
+{
+    is_mark(item, Mark::OpenChoice) || is_mark(item, Mark::OpenRepeat)
+}
+
+/// The limit that the item passes: a tag goes too deep, and a name is an unknown variable.
+fn past_at(item: &Item) -> TmplRefusal
+    ensures { result ≡ past_at item.now }
+{
+    if is_block(item) {
+        TmplRefusal::TooDeep(item.place)
+    } else {
+        TmplRefusal::UnknownVariable(item.place)
+    }
+}
+
+/// The answer to a whole file.
+fn whole(alloc: Global, doubled: Option<u64>, entries: Vec<Entry>) -> Result<Templates, TmplRefusal>
+    ensures { Answers (whole_answer doubled (map entry_of entries.items)) result }
+{
+    if let Some(at) = doubled {
+        return Err(TmplRefusal::Twice(at));
+    }
+    match filed(alloc, entries) {
+        Ok(templates) => Ok(templates),
+        Err(_) => Err(TmplRefusal::NoMemory),
+    }
+}
+
+/// The refusal of items of which the first of `rest` doesn't fit.
+fn unfit(alloc: Global, doubled: Option<u64>, items: &[Item], rest: &[Item]) -> TmplRefusal
+    ensures { OrNoMemory result (unfit_answer doubled items.now rest.now) }
+{
+    match rest {
+        [] => match innermost(alloc, items) {
+            Ok(place) => unless_twice(doubled, TmplRefusal::Unclosed(place)),
+            Err(_) => TmplRefusal::NoMemory,
+        },
+        [first, ..] => unless_before(doubled, first.place, TmplRefusal::Expected(first.place)),
+    }
+}
+
+/// The refusal of items of which the first of `rest` passes a limit.
+fn beyond(doubled: Option<u64>, rest: &[Item]) -> TmplRefusal
+    ensures { result ≡ beyond_answer doubled rest.now }
+{
+    match rest {
+        [] => TmplRefusal::NoMemory,
+        [first, ..] => unless_before(doubled, first.place, past_at(first)),
+    }
+}
+
+/// The answer to items among which a name occurs twice at `doubled`, or none does.
+fn answer(alloc: Global, items: &[Item], doubled: Option<u64>) -> Result<Templates, TmplRefusal>
+    requires { doubled ≡ twice items.now }
+    ensures exact { UnlessNoMemory (IsItemsAnswer items.now) result }
+    ensures only { (entries : List PlainEntry) → within items.now entries
+        → Answers (whole_answer (twice items.now) entries) result }
+{
+    match file_at(alloc, items) {
+        Ok(entries) => whole(alloc, doubled, entries),
+        Err(Halt::Expected(rest)) => Err(unfit(alloc, doubled, items, rest)),
+        Err(Halt::TooDeep(rest)) => Err(beyond(doubled, rest)),
+        Err(Halt::NoMemory) => Err(TmplRefusal::NoMemory),
+    }
+}
+
+/// The templates of a file of at most `limit` bytes, each SFOR of a template numbered from 0 in the order
+/// of the text. The fault with the least place is reported; that a body is not closed only where there is no other.
+pub fn read_templates(alloc: Global, bytes: &[u8], limit: u64) -> Result<Templates, TmplRefusal>
+    requires { limit < 2 ^ 32 }
+    ensures exact { UnlessNoMemory (IsAnswer limit bytes.now) result }
+    ensures only { (items : List AnyItem) (entries : List PlainEntry) → length bytes.now ≤ limit
+        → AreItems bytes.now items → within items entries
+        → Answers (whole_answer (twice items) entries) result }
+{
+    if bytes.len() as u64 > limit {
+        return Err(TmplRefusal::TooLong(limit));
+    }
+    let Ok(items) = items(alloc, bytes) else {
+        return Err(TmplRefusal::NoMemory);
+    };
+    let Ok(doubled) = twice(alloc, items.as_slice()) else {
+        return Err(TmplRefusal::NoMemory);
+    };
+    answer(alloc, items.as_slice(), doubled)
+}

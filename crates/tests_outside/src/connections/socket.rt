@@ -1,0 +1,35 @@
+// A request over a socket.
+use super::no_pages::NoPages;
+use crate::inputs::{check, check_text};
+use hub::{Hub, HubEnd, serve};
+use std::io::{Read, Write};
+use std::net::{Ipv4Addr, SocketAddr, SocketAddrV4, TcpStream};
+use std::test::Fail;
+use tcp_wire::TcpWire;
+use versions::Still;
+use wire::Wire;
+
+/// A request for a page that isn't there.
+pub const REQUEST: &[u8] = b"GET /x.html HTTP/1.1\r\nHost: a\r\n\r\n";
+
+/// The reply to it, after which the connection closes.
+pub const MISSING: &[u8] =
+    b"HTTP/1.1 404 Not Found\r\nContent-Type: text/plain; charset=utf-8\r\nContent-Length: 10\r\nConnection: close\r\n\r\nnot found\n";
+
+// One thread is client and server: the system keeps what a connection sends until it is taken.
+#[test]
+fn a_request_over_a_socket_has_its_reply(rt: HostRuntime) -> Result<(), Fail> {
+    let alloc = rt.alloc();
+    let mut wire = TcpWire::new(&rt);
+    check(wire.listen(0, 1).is_ok(), "no socket")?;
+    let port = wire.port().ok_or("no port")?;
+    let address = SocketAddr::from(SocketAddrV4::new(Ipv4Addr::LOCALHOST, port));
+    let mut client = TcpStream::connect(&rt, address)?;
+    client.write_all(REQUEST)?;
+    let mut hub = Hub::of(alloc, Still { pages: NoPages }, 1, None);
+    let end = serve(alloc, &mut hub, &mut wire, 1000);
+    check(end == HubEnd::Done, "another end")?;
+    let mut taken = Vec::new(alloc);
+    client.read_to_end(&mut taken)?;
+    check_text(&taken, MISSING)
+}

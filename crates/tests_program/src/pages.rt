@@ -1,0 +1,521 @@
+// Pages and refusals of the command `page`, over files and outputs in memory.
+use crate::inputs::{BIB, file, no_connections, texts};
+use command_run::strudel;
+use edge_io::{MemFiles, MemSink};
+use sd_value::NoMemory;
+use std::alloc::Global;
+use std::process::Abort;
+use std::test::Fail;
+
+// The files `d`, `q` and `t`, the address of the page, the exit code, and the output and the standard error.
+struct PageRow {
+    data_text: &'static str,
+    query: &'static str,
+    templates: &'static str,
+    address: &'static str,
+    code: u8,
+    out: &'static str,
+    err: &'static str,
+}
+
+const SITE: &str =
+    "INPUT Bib\n{ CREATE RootPage() }\n{ WHERE Publications(x), x -> l -> v\n  CREATE PaperPage(x)\n  LINK PaperPage(x) -> l -> v, RootPage() -> \"Paper\" -> PaperPage(x)\n  { WHERE l = \"year\"\n    CREATE YearPage(v)\n    LINK YearPage(v) -> \"Year\" -> v, YearPage(v) -> \"Paper\" -> PaperPage(x),\n         RootPage() -> \"Year\" -> YearPage(v) } }\nOUTPUT Home\n";
+
+const LOOKS: &str =
+    "<TEMPLATE RootPage><h1>Home</h1><SFMT @Paper LINK=title DELIM=\", \"></TEMPLATE>\n<TEMPLATE PaperPage><h1><SFMT @title></h1><SFMT @author DELIM=\" and \"></TEMPLATE>\n<TEMPLATE YearPage><h1><SFMT @Year></h1><SFMT @Paper LINK=title DELIM=\", \"></TEMPLATE>\n";
+
+const OK: &str = "<TEMPLATE F>ok</TEMPLATE>";
+
+const NOT_FOUND: &str = "strudel: not found\n";
+
+const YEAR: &str = "<h1>1998</h1><a href=\"/PaperPage/npub1.html\">Strudel</a>";
+
+const ENDS: &str = "INPUT D WHERE y -> \"v\" -> x CREATE F(x) OUTPUT S";
+
+const VALUES: &str = "INPUT D WHERE x -> \"a\" -> y CREATE F(x) LINK F(x) -> \"a\" -> y OUTPUT S";
+
+const CYCLE: &str =
+    "INPUT D CREATE A(), B() LINK A() -> \"e\" -> B(), B() -> \"e\" -> A() OUTPUT S";
+
+const BRACKETS: &str =
+    "<TEMPLATE A>[<SFMT @e EMBED>]</TEMPLATE><TEMPLATE B>(<SFMT @e EMBED>)</TEMPLATE>";
+
+const SEVENS: &str = "object o { v 7 v \"7\" v \"07\" }";
+
+const EQUAL_TO_SEVEN: &str = "STRUQL 2 INPUT D WHERE x -> \"v\" -> y, y = 7 CREATE F(y) OUTPUT S";
+
+const PAGES: &[PageRow] = &[
+    PageRow {
+        data_text: BIB,
+        query: SITE,
+        templates: LOOKS,
+        address: "/YearPage/i1998.html",
+        code: 0,
+        out: YEAR,
+        err: "",
+    },
+    PageRow {
+        data_text: BIB,
+        query: SITE,
+        templates: LOOKS,
+        address: "/%59earPage/i1998.html?x=1",
+        code: 0,
+        out: YEAR,
+        err: "",
+    },
+    PageRow {
+        data_text: BIB,
+        query: SITE,
+        templates: LOOKS,
+        address: "http://a/YearPage/i1998.html",
+        code: 0,
+        out: YEAR,
+        err: "",
+    },
+    PageRow {
+        data_text: BIB,
+        query: SITE,
+        templates: LOOKS,
+        address: "/YearPage/i1996.html",
+        code: 9,
+        out: "",
+        err: NOT_FOUND,
+    },
+    PageRow {
+        data_text: BIB,
+        query: SITE,
+        templates: LOOKS,
+        address: "/PaperPage/npub2.html",
+        code: 0,
+        out: "<h1>Lorel &lt;1&gt;</h1>Dan",
+        err: "",
+    },
+    PageRow {
+        data_text: BIB,
+        query: SITE,
+        templates: LOOKS,
+        address: "/PaperPage/npub1.html",
+        code: 0,
+        out: "<h1>Strudel</h1>Dan and Mary",
+        err: "",
+    },
+    PageRow {
+        data_text: BIB,
+        query: SITE,
+        templates: LOOKS,
+        address: "/",
+        code: 0,
+        out: "<h1>Home</h1><a href=\"/PaperPage/npub1.html\">Strudel</a>, <a href=\"/PaperPage/npub2.html\">Lorel &lt;1&gt;</a>",
+        err: "",
+    },
+    PageRow {
+        data_text: "",
+        query: SITE,
+        templates: LOOKS,
+        address: "/",
+        code: 0,
+        out: "<h1>Home</h1>",
+        err: "",
+    },
+    PageRow {
+        data_text: "",
+        query: SITE,
+        templates: LOOKS,
+        address: "/PaperPage/npub1.html",
+        code: 9,
+        out: "",
+        err: NOT_FOUND,
+    },
+    PageRow {
+        data_text: "object o { v 1 v 2 }",
+        query: "INPUT D WHERE y -> \"v\" -> x CREATE F(x, x) OUTPUT S",
+        templates: OK,
+        address: "/F/i1/i1.html",
+        code: 0,
+        out: "ok",
+        err: "",
+    },
+    PageRow {
+        data_text: "object o { v 1 v 2 }",
+        query: "INPUT D WHERE y -> \"v\" -> x CREATE F(x, x) OUTPUT S",
+        templates: OK,
+        address: "/F/i1/i2.html",
+        code: 9,
+        out: "",
+        err: NOT_FOUND,
+    },
+    PageRow {
+        data_text: "object o { v \"a b\" }",
+        query: ENDS,
+        templates: OK,
+        address: "/F/ta~20b.html",
+        code: 0,
+        out: "ok",
+        err: "",
+    },
+    PageRow {
+        data_text: "object o { v \"a b\" }",
+        query: ENDS,
+        templates: OK,
+        address: "/F/ta%7E20b.html",
+        code: 0,
+        out: "ok",
+        err: "",
+    },
+    PageRow {
+        data_text: "object o { v \"a b\" }",
+        query: ENDS,
+        templates: OK,
+        address: "/F/ta%20b.html",
+        code: 9,
+        out: "",
+        err: NOT_FOUND,
+    },
+    PageRow {
+        data_text: "object o { v 1 }",
+        query: ENDS,
+        templates: OK,
+        address: "/F/i01.html",
+        code: 9,
+        out: "",
+        err: NOT_FOUND,
+    },
+    PageRow {
+        data_text: "object o { a 1 a 2 }",
+        query: VALUES,
+        templates: "<TEMPLATE F><SFOR v IN @a ORDER=descend DELIM=\", \"><SIF v GT 1>big<SELSE><SFMT v></SIF></SFOR></TEMPLATE>",
+        address: "/F/no.html",
+        code: 0,
+        out: "big, 1",
+        err: "",
+    },
+    PageRow {
+        data_text: "object o { a &p a &q } object p { k 2 } object q { k 1 }",
+        query: VALUES,
+        templates: "<TEMPLATE F><SFMT @a KEY=k DELIM=\" \"></TEMPLATE>",
+        address: "/F/no.html",
+        code: 0,
+        out: "q p",
+        err: "",
+    },
+    PageRow {
+        data_text: "object o { a 1 }",
+        query: VALUES,
+        templates: "<TEMPLATE F><SFMT @a>=x</TEMPLATE>",
+        address: "/F/no.html",
+        code: 0,
+        out: "1=x",
+        err: "",
+    },
+    PageRow {
+        data_text: "",
+        query: CYCLE,
+        templates: BRACKETS,
+        address: "/A.html",
+        code: 7,
+        out: "",
+        err: "strudel: page /A.html: cyclic embedding at /A.html\n",
+    },
+    PageRow {
+        data_text: "",
+        query: CYCLE,
+        templates: BRACKETS,
+        address: "/B.html",
+        code: 7,
+        out: "",
+        err: "strudel: page /B.html: cyclic embedding at /B.html\n",
+    },
+    PageRow {
+        data_text: "",
+        query: CYCLE,
+        templates: "<TEMPLATE A>[<SFMT @e EMBED>]</TEMPLATE><TEMPLATE B>(<SIF @f><SFMT @e EMBED></SIF>)</TEMPLATE>",
+        address: "/A.html",
+        code: 0,
+        out: "[()]",
+        err: "",
+    },
+    PageRow {
+        data_text: "object n1 in Ns { next &n2 } object n2 in Ns { next &n3 } object n3 in Ns { next &n4 } object n4 in Ns { next &n5 } object n5 in Ns { next &n6 } object n6 in Ns { next &n7 } object n7 in Ns { next &n8 } object n8 in Ns { next &n9 } object n9 in Ns { next &n10 } object n10 in Ns { next &n11 } object n11 in Ns { next &n12 } object n12 in Ns { next &n13 } object n13 in Ns { next &n14 } object n14 in Ns { } object n1 in Top { }",
+        query: "INPUT D WHERE Top(x) CREATE R() LINK R() -> \"top\" -> x OUTPUT S",
+        templates: "<TEMPLATE R><SFMT @top EMBED></TEMPLATE><TEMPLATE COLLECTION Ns>x<SFMT @next EMBED><SFMT @next EMBED><SFMT @next EMBED><SFMT @next EMBED></TEMPLATE>",
+        address: "/R.html",
+        code: 7,
+        out: "",
+        err: "strudel: page /R.html: too long\n",
+    },
+    PageRow {
+        data_text: SEVENS,
+        query: EQUAL_TO_SEVEN,
+        templates: OK,
+        address: "/F/i7.html",
+        code: 0,
+        out: "ok",
+        err: "",
+    },
+    PageRow {
+        data_text: SEVENS,
+        query: EQUAL_TO_SEVEN,
+        templates: OK,
+        address: "/F/t7.html",
+        code: 0,
+        out: "ok",
+        err: "",
+    },
+    PageRow {
+        data_text: SEVENS,
+        query: EQUAL_TO_SEVEN,
+        templates: OK,
+        address: "/F/t07.html",
+        code: 9,
+        out: "",
+        err: NOT_FOUND,
+    },
+    PageRow {
+        data_text: SEVENS,
+        query: "INPUT D WHERE x -> \"v\" -> y, y = 7 CREATE F(y) OUTPUT S",
+        templates: OK,
+        address: "/F/t7.html",
+        code: 9,
+        out: "",
+        err: NOT_FOUND,
+    },
+];
+
+const REFUSALS: &[PageRow] = &[
+    PageRow {
+        data_text: "$",
+        query: SITE,
+        templates: LOOKS,
+        address: "/",
+        code: 3,
+        out: "",
+        err: "strudel: d: 21 BadByte at 0\n",
+    },
+    PageRow {
+        data_text: "object a { v \"x",
+        query: SITE,
+        templates: LOOKS,
+        address: "/",
+        code: 3,
+        out: "",
+        err: "strudel: d: 22 OpenString at 13\n",
+    },
+    PageRow {
+        data_text: "object a { n 9223372036854775808 }",
+        query: SITE,
+        templates: LOOKS,
+        address: "/",
+        code: 3,
+        out: "",
+        err: "strudel: d: 23 IntOutOfRange at 13\n",
+    },
+    PageRow {
+        data_text: "object a {",
+        query: SITE,
+        templates: LOOKS,
+        address: "/",
+        code: 3,
+        out: "",
+        err: "strudel: d: 31 Expected at 10\n",
+    },
+    PageRow {
+        data_text: "collection A { u url } collection B { u file } object o in A, B { u \"x\" }",
+        query: SITE,
+        templates: LOOKS,
+        address: "/",
+        code: 3,
+        out: "",
+        err: "strudel: d: 32 KindConflict at 68\n",
+    },
+    PageRow {
+        data_text: "",
+        query: "INPUT D CREATE F(x) OUTPUT S",
+        templates: LOOKS,
+        address: "/",
+        code: 3,
+        out: "",
+        err: "strudel: q: 61 Unbound at 17\n",
+    },
+    PageRow {
+        data_text: "",
+        query: "INPUT D WHERE C(x) CREATE F(x) LINK F(x) -> \"l\" -> G(x) OUTPUT S",
+        templates: LOOKS,
+        address: "/",
+        code: 3,
+        out: "",
+        err: "strudel: q: 62 NeverCreated at 51\n",
+    },
+    PageRow {
+        data_text: "",
+        query: "INPUT D WHERE C(x) CREATE F(x), F(x, x) OUTPUT S",
+        templates: LOOKS,
+        address: "/",
+        code: 3,
+        out: "",
+        err: "strudel: q: 63 Arity at 32\n",
+    },
+    PageRow {
+        data_text: "",
+        query: "INPUT D WHERE C(x) LINK x -> \"l\" -> F(x) OUTPUT S",
+        templates: LOOKS,
+        address: "/",
+        code: 3,
+        out: "",
+        err: "strudel: q: 64 LinkFromData at 24\n",
+    },
+    PageRow {
+        data_text: "",
+        query: "INPUT D WHERE x -> l -> y, l -> \"a\" -> z CREATE F(y) OUTPUT S",
+        templates: LOOKS,
+        address: "/",
+        code: 3,
+        out: "",
+        err: "strudel: q: 65 ArcAsNode at 27\n",
+    },
+    PageRow {
+        data_text: "",
+        query: "INPUT D WHERE C(x) CREATE F(x) LINK F(x) -> x -> x OUTPUT S",
+        templates: LOOKS,
+        address: "/",
+        code: 3,
+        out: "",
+        err: "strudel: q: 66 NotLabel at 44\n",
+    },
+    PageRow {
+        data_text: "",
+        query: "INPUT D CREATE index() OUTPUT S",
+        templates: LOOKS,
+        address: "/",
+        code: 3,
+        out: "",
+        err: "strudel: q: 67 Reserved at 15\n",
+    },
+    PageRow {
+        data_text: "",
+        query: "INPUT",
+        templates: LOOKS,
+        address: "/",
+        code: 3,
+        out: "",
+        err: "strudel: q: 71 Expected at 5\n",
+    },
+    PageRow {
+        data_text: "",
+        query: "INPUT D {{{{{{{{{{{{{{{{{",
+        templates: LOOKS,
+        address: "/",
+        code: 3,
+        out: "",
+        err: "strudel: q: 72 TooDeep at 24\n",
+    },
+    PageRow {
+        data_text: "",
+        query: "STRUQL 3",
+        templates: LOOKS,
+        address: "/",
+        code: 3,
+        out: "",
+        err: "strudel: q: 73 BadVersion at 7\n",
+    },
+    PageRow {
+        data_text: "",
+        query: SITE,
+        templates: "x",
+        address: "/",
+        code: 3,
+        out: "",
+        err: "strudel: t: 81 Expected at 0\n",
+    },
+    PageRow {
+        data_text: "",
+        query: SITE,
+        templates: "<TEMPLATE F>",
+        address: "/",
+        code: 3,
+        out: "",
+        err: "strudel: t: 82 Unclosed at 0\n",
+    },
+    PageRow {
+        data_text: "",
+        query: SITE,
+        templates: "<TEMPLATE F></TEMPLATE><TEMPLATE F></TEMPLATE>",
+        address: "/",
+        code: 3,
+        out: "",
+        err: "strudel: t: 83 Twice at 33\n",
+    },
+    PageRow {
+        data_text: "",
+        query: SITE,
+        templates: "<TEMPLATE F><SIF @a><SIF @a><SIF @a><SIF @a><SIF @a><SIF @a><SIF @a><SIF @a><SIF @a><SIF @a><SIF @a><SIF @a><SIF @a><SIF @a><SIF @a><SIF @a><SIF @a><SIF @a><SIF @a><SIF @a><SIF @a><SIF @a><SIF @a><SIF @a><SIF @a><SIF @a><SIF @a><SIF @a><SIF @a><SIF @a><SIF @a><SIF @a><SIF @a>",
+        address: "/",
+        code: 3,
+        out: "",
+        err: "strudel: t: 84 TooDeep at 268\n",
+    },
+    PageRow {
+        data_text: "",
+        query: SITE,
+        templates: "<TEMPLATE F><SFMT v.a></TEMPLATE>",
+        address: "/",
+        code: 3,
+        out: "",
+        err: "strudel: t: 85 UnknownVariable at 18\n",
+    },
+    PageRow {
+        data_text: "$",
+        query: "INPUT",
+        templates: "x",
+        address: "/",
+        code: 3,
+        out: "",
+        err: "strudel: d: 21 BadByte at 0\n",
+    },
+    PageRow {
+        data_text: "",
+        query: "INPUT",
+        templates: "x",
+        address: "/",
+        code: 3,
+        out: "",
+        err: "strudel: q: 71 Expected at 5\n",
+    },
+];
+
+fn files(alloc: Global, row: &PageRow) -> Result<MemFiles, NoMemory> {
+    let mut files = Vec::new(alloc);
+    files.push(file(alloc, "d", row.data_text)?)?;
+    files.push(file(alloc, "q", row.query)?)?;
+    files.push(file(alloc, "t", row.templates)?)?;
+    Ok(MemFiles::new(alloc, files, Vec::new(alloc)))
+}
+
+fn check_page<R: AllocGlobal + Abort>(rt: &R, row: &PageRow) -> Result<(), Fail> {
+    let alloc = rt.alloc();
+    let words = texts(alloc, &["page", "q", "t", row.address, "d"])?;
+    let mut files = files(alloc, row)?;
+    let mut out = MemSink::new(alloc, Vec::new(alloc));
+    let mut err = MemSink::new(alloc, Vec::new(alloc));
+    let mut wire = no_connections(alloc)?;
+    let status = strudel(alloc, &words, &mut files, &mut out, &mut err, &mut wire);
+    assert_eq!(rt; status.code(), row.code, "{}", row.address);
+    assert_eq!(rt; out.bytes(), row.out.as_bytes());
+    assert_eq!(rt; err.bytes(), row.err.as_bytes());
+    Ok(())
+}
+
+#[test]
+fn pages_are_as_the_site_has_them(rt: HostRuntime) -> Result<(), Fail> {
+    for row in PAGES {
+        check_page(&rt, row)?;
+    }
+    Ok(())
+}
+
+#[test]
+fn the_first_fault_is_reported(rt: HostRuntime) -> Result<(), Fail> {
+    for row in REFUSALS {
+        check_page(&rt, row)?;
+    }
+    Ok(())
+}

@@ -1,0 +1,179 @@
+// Plans and rows of queries, worked by hand; the rows of each block are behind a bar.
+use crate::inputs::{check_text, index_of, list_of, query_of, quoted, scopes_of};
+use crate::rows::check_rows;
+use command_explain::plans_text;
+use sd_graph::Store;
+use std::process::Abort;
+use std::test::Fail;
+use struql_check::Checked;
+
+// A data text, a query, the text of its plans, and the rows of its blocks, with `'` for each quote.
+struct Example {
+    data_text: &'static str,
+    query: &'static str,
+    plans: &'static str,
+    rows: &'static str,
+}
+
+const BIBLIOGRAPHY: &str =
+    "object pub1 in Publications { title 'Strudel' year 1998 author 'Mary' author 'Dan' } object pub2 in Publications { title 'Lorel <1>' year 1997 author 'Dan' }";
+
+const SEVENS: &str = "object o { v 7 v '7' v '07' }";
+
+const EXAMPLES: &[Example] = &[
+    // Seven edges and two nodes: an arc from a known node costs 7 div 2 + 1.
+    Example {
+        data_text: BIBLIOGRAPHY,
+        query: "INPUT Bib { CREATE RootPage() } { WHERE Publications(x), x -> l -> v CREATE PaperPage(x) LINK PaperPage(x) -> l -> v, RootPage() -> 'Paper' -> PaperPage(x) { WHERE l = 'year' CREATE YearPage(v) LINK YearPage(v) -> 'Year' -> v, YearPage(v) -> 'Paper' -> PaperPage(x), RootPage() -> 'Year' -> YearPage(v) } } OUTPUT Home",
+        plans: "block 1\nblock 2\n  use Publications(x) cost 2\n  use x -> l -> v cost 4\nblock 2.1\n  use l = 'year' cost 1\n  use Publications(x) cost 2\n  use x -> l -> v cost 4\n",
+        rows: "|;| &pub1 'author' 'Dan'; &pub1 'author' 'Mary'; &pub1 'title' 'Strudel'; &pub1 'year' 1998; &pub2 'author' 'Dan'; &pub2 'title' 'Lorel <1>'; &pub2 'year' 1997;| &pub1 'year' 1998; &pub2 'year' 1997;",
+    },
+    // A negation can't be used before its variables are bound, so they take their domains.
+    Example {
+        data_text: "object a { e &b }",
+        query: "INPUT D WHERE not(p -> l -> q) CREATE F(p, l, q) OUTPUT S",
+        plans: "block 1\n  domain p cost 2\n  domain l cost 1\n  domain q cost 2\n  use not(p -> l -> q) cost 0\n",
+        rows: "| &a 'e' &a; &b 'e' &a; &b 'e' &b;",
+    },
+    // Walks with no end known: an edge more than there are, for each value.
+    Example {
+        data_text: "object a { e &a }",
+        query: "INPUT D WHERE x -> * -> y CREATE F(x, y) OUTPUT S",
+        plans: "block 1\n  use x -> true* -> y cost 2\n",
+        rows: "| &a &a;",
+    },
+    Example {
+        data_text: "object p { a &q } object q { b &r } object r { b &q }",
+        query: "INPUT D WHERE x -> 'a'.'b'* -> y CREATE F(x, y) OUTPUT S",
+        plans: "block 1\n  use x -> 'a'.'b'* -> y cost 12\n",
+        rows: "| &p &q; &p &r;",
+    },
+    Example {
+        data_text: "object o { v 1 v 2 }",
+        query: "INPUT D WHERE y -> 'v' -> x CREATE F(x, x) OUTPUT S",
+        plans: "block 1\n  use y -> 'v' -> x cost 2\n",
+        rows: "| &o 1; &o 2;",
+    },
+    // A walk from a constant, which is no value of an empty graph.
+    Example {
+        data_text: BIBLIOGRAPHY,
+        query: "INPUT D WHERE 1997 -> * -> y CREATE F(y) OUTPUT S",
+        plans: "block 1\n  use 1997 -> true* -> y cost 8\n",
+        rows: "| 1997;",
+    },
+    Example {
+        data_text: "",
+        query: "INPUT D WHERE 1997 -> * -> y CREATE F(y) OUTPUT S",
+        plans: "block 1\n  use 1997 -> true* -> y cost 1\n",
+        rows: "|",
+    },
+    // The cheaper condition comes first: one member, and then 3 edges div 3 nodes, and one.
+    Example {
+        data_text: "object a in C { b 1 } object c { b 2 } object d { b 3 }",
+        query: "INPUT D WHERE x -> 'b' -> y, C(x) CREATE F(x, y) OUTPUT S",
+        plans: "block 1\n  use C(x) cost 1\n  use x -> 'b' -> y cost 2\n",
+        rows: "| &a 1;",
+    },
+    // An equation costs 1, and under version 2, where a value has a twin, 2.
+    Example {
+        data_text: SEVENS,
+        query: "STRUQL 2 INPUT D WHERE x -> 'v' -> y, y = 7 CREATE F(y) OUTPUT S",
+        plans: "block 1\n  use y = 7 cost 2\n  use x -> 'v' -> y cost 4\n",
+        rows: "| &o 7; &o '7';",
+    },
+    Example {
+        data_text: SEVENS,
+        query: "INPUT D WHERE x -> 'v' -> y, y = 7 CREATE F(y) OUTPUT S",
+        plans: "block 1\n  use y = 7 cost 1\n  use x -> 'v' -> y cost 4\n",
+        rows: "| &o 7;",
+    },
+    // A list costs its constants, and under version 2 twice as many, which is more than 3 edges.
+    Example {
+        data_text: SEVENS,
+        query: "INPUT D WHERE x -> 'v' -> y, y in {7, '07'} CREATE F(y) OUTPUT S",
+        plans: "block 1\n  use y in {7, '07'} cost 2\n  use x -> 'v' -> y cost 4\n",
+        rows: "| &o 7; &o '07';",
+    },
+    Example {
+        data_text: SEVENS,
+        query: "STRUQL 2 INPUT D WHERE x -> 'v' -> y, y in {7, '07'} CREATE F(y) OUTPUT S",
+        plans: "block 1\n  use x -> 'v' -> y cost 3\n  use y in {7, '07'} cost 0\n",
+        rows: "| &o 7; &o '07'; &o '7';",
+    },
+    // Of two conditions of one cost the first in the chain is used.
+    Example {
+        data_text: "object a in C, E { } object b in C, E { } object c in E { } object d in C { }",
+        query: "INPUT D WHERE C(x), E(y), E(x) CREATE F(x, y) OUTPUT S",
+        plans: "block 1\n  use C(x) cost 3\n  use E(x) cost 0\n  use E(y) cost 3\n",
+        rows: "| &a &a; &a &b; &a &c; &b &a; &b &b; &b &c;",
+    },
+    // An order can't list values: both variables take the domain, of two numbers and a node.
+    Example {
+        data_text: "object a { e 1 f 2 }",
+        query: "INPUT D WHERE x < y CREATE F(x, y) OUTPUT S",
+        plans: "block 1\n  domain x cost 3\n  domain y cost 3\n  use x < y cost 0\n",
+        rows: "| 1 2;",
+    },
+    // Nor can an equation with no side known, or a test.
+    Example {
+        data_text: "object a { e 1 f &b }",
+        query: "INPUT D WHERE x = y, isNode(z), x = z CREATE F(x, y, z) OUTPUT S",
+        plans: "block 1\n  domain x cost 3\n  use x = y cost 1\n  use x = z cost 1\n  use isNode(z) cost 0\n",
+        rows: "| &a &a &a; &b &b &b;",
+    },
+    // An arc with no end known costs all edges, and a walk from a known value an edge more.
+    Example {
+        data_text: "object a { e &b } object b { f &c }",
+        query: "INPUT D WHERE x -> l -> y, y -> true.true|'f' -> z CREATE F(x, z) OUTPUT S",
+        plans: "block 1\n  use x -> l -> y cost 2\n  use y -> true.true|'f' -> z cost 3\n",
+        rows: "| &a 'e' &b &c;",
+    },
+];
+
+fn check_plan<R: AllocGlobal + Abort, S: Store>(
+    rt: &R,
+    checked: &Checked,
+    store: &S,
+    plans: &str,
+) -> Result<(), Fail> {
+    let text = plans_text(rt.alloc(), checked, store)?;
+    Ok(check_text(rt, text.as_slice(), plans)?)
+}
+
+fn check_plans<R: AllocGlobal + Abort>(rt: &R, example: &Example) -> Result<(), Fail> {
+    let alloc = rt.alloc();
+    let checked = query_of(alloc, example.query)?;
+    check_plan(
+        rt,
+        &checked,
+        &list_of(alloc, example.data_text)?,
+        example.plans,
+    )?;
+    check_plan(
+        rt,
+        &checked,
+        &index_of(alloc, example.data_text)?,
+        example.plans,
+    )
+}
+
+fn check_example<R: AllocGlobal + Abort>(rt: &R, example: &Example) -> Result<(), Fail> {
+    let scopes = scopes_of(rt.alloc(), &quoted(rt.alloc(), example.query)?)?;
+    let rows = quoted(rt.alloc(), example.rows)?;
+    check_rows(
+        rt,
+        example.data_text,
+        &scopes,
+        rows.as_slice(),
+        example.rows,
+    )
+}
+
+#[test]
+fn plans_are_the_cheapest_steps_and_give_the_rows(rt: HostRuntime) -> Result<(), Fail> {
+    for example in EXAMPLES {
+        check_plans(&rt, example)?;
+        check_example(&rt, example)?;
+    }
+    Ok(())
+}

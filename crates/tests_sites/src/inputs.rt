@@ -1,0 +1,95 @@
+// Stores, queries and templates of texts, with `'` for each quote.
+ghost use Rattle.std.specs.Prelude.{IfOk};
+ghost use Rattle.query_blocks.specs.Blocks.{AreCheckedBlocks};
+
+use address::term_of;
+use bindings::StoreAsker;
+use index_store::IndexStore;
+use list_store::ListStore;
+use query_blocks::QueryBlocks;
+use query_reader::read_query;
+use query_scoping::scopes;
+use sd_ddl::read_ddl;
+use sd_graph::{Graph, GraphBuilder, PROGRAM_LIMITS};
+use sd_value::{NoMemory, Term};
+use std::alloc::Global;
+use std::process::Abort;
+use std::test::Fail;
+use template_reader::read_templates;
+use tmpl::Templates;
+
+// The most bytes of a text here.
+const LIMIT: u64 = 4096;
+
+/// The bibliography of two publications.
+pub const BIBLIOGRAPHY: &str =
+    "object pub1 in Publications { title 'Strudel' year 1998 author 'Mary' author 'Dan' } object pub2 in Publications { title 'Lorel <1>' year 1997 author 'Dan' }";
+
+/// The text with its quotes.
+pub fn quoted(alloc: Global, text: &str) -> Result<Vec<u8>, NoMemory> {
+    let mut out = Vec::new(alloc);
+    for byte in text.as_bytes() {
+        match byte {
+            b'\'' => out.push(b'"')?,
+            _ => out.push(*byte)?,
+        }
+    }
+    Ok(out)
+}
+
+fn graph_of(alloc: Global, text: &str) -> Result<Graph, Fail> {
+    let text = quoted(alloc, text)?;
+    let mut builder = GraphBuilder::new(alloc, PROGRAM_LIMITS);
+    read_ddl(alloc, text.as_slice(), LIMIT, &mut builder)?;
+    Ok(builder.finish(alloc)?)
+}
+
+/// The plain store of the graph that a data text states.
+pub fn list_of(alloc: Global, text: &str) -> Result<ListStore, Fail> {
+    Ok(ListStore::of(alloc, graph_of(alloc, text)?)?)
+}
+
+/// The program's store of the graph that a data text states.
+pub fn index_of(alloc: Global, text: &str) -> Result<IndexStore, Fail> {
+    Ok(IndexStore::of(alloc, graph_of(alloc, text)?)?)
+}
+
+/// The asker over the graph that a data text states.
+pub fn asker_of(alloc: Global, text: &str) -> Result<StoreAsker<IndexStore>, Fail> {
+    Ok(StoreAsker::of(index_of(alloc, text)?))
+}
+
+/// The blocks of the query that the text spells.
+pub fn scopes_of(alloc: Global, query: &str) -> Result<QueryBlocks, Fail>
+    ensures { IfOk result (λ s. AreCheckedBlocks s.version s.blocks.items) }
+{
+    let text = quoted(alloc, query)?;
+    let checked = read_query(alloc, text.as_slice(), LIMIT)?;
+    let scopes = scopes(alloc, &checked)?;
+    Ok(scopes)
+}
+
+/// The templates that the text spells.
+pub fn templates_of(alloc: Global, text: &str) -> Result<Templates, Fail> {
+    let text = quoted(alloc, text)?;
+    Ok(read_templates(alloc, text.as_slice(), LIMIT)?)
+}
+
+/// The term of the page at the address.
+pub fn term_at(alloc: Global, address: &str) -> Result<Term, Fail> {
+    match term_of(alloc, address.as_bytes(), None)? {
+        Some(term) => Ok(term),
+        None => Err(Fail::new("the address names no term")),
+    }
+}
+
+/// Compares what was found with a text.
+pub fn check_text<R: AllocGlobal + Abort>(
+    rt: &R,
+    found: &[u8],
+    wanted: &str,
+) -> Result<(), NoMemory> {
+    let bytes = quoted(rt.alloc(), wanted)?;
+    assert_eq!(rt; found, bytes.as_slice(), "{wanted}");
+    Ok(())
+}

@@ -1,0 +1,62 @@
+// Sites by what their pages show: arcs of the data, labels, kinds of values, and collections.
+use crate::sites::SiteRow;
+
+/// Their sites, each with the outcomes of its pages.
+pub const SITES: &[SiteRow] = &[
+    // A page goes on along arcs of the data.
+    SiteRow {
+        data_text: "object p { title 'T' to &q } object q { title 'Q' n 1 n 2 }",
+        query: "INPUT D WHERE x -> 'to' -> y CREATE F(x) LINK F(x) -> 'd' -> x OUTPUT S",
+        templates: "<TEMPLATE F><SFMT @d.title>:<SFMT @d.to.title>:<SFMT @d.to.n DELIM=','>:<SFMT @d.to LINK=title></TEMPLATE>",
+        outside: &["/F/nq.html"],
+        outcomes: "/F/np.html T:Q:1,2:Q;/F/nq.html -;",
+    },
+    // Links by the labels of the data, and these labels as values.
+    SiteRow {
+        data_text: "object o { a 1 b 2 }",
+        query: "INPUT D WHERE x -> l -> v CREATE F(x) LINK F(x) -> l -> v, F(x) -> 'label' -> l OUTPUT S",
+        templates: "<TEMPLATE F><SFMT @a>,<SFMT @b>,<SFMT @label DELIM='/'></TEMPLATE>",
+        outside: &["/F/to.html"],
+        outcomes: "/F/no.html 1,2,a/b;/F/to.html -;",
+    },
+    // Labels as arguments of pages.
+    SiteRow {
+        data_text: "object o { a 1 a 2 b 'x' }",
+        query: "INPUT D WHERE x -> l -> y CREATE F(l) LINK F(l) -> 'has' -> y OUTPUT S",
+        templates: "<TEMPLATE F><SFMT @has DELIM=','></TEMPLATE>",
+        outside: &["/F/tc.html", "/F/na.html"],
+        outcomes: "/F/ta.html 1,2;/F/tb.html x;/F/tc.html -;/F/na.html -;",
+    },
+    // Each kind of value, as an argument and as a link.
+    SiteRow {
+        data_text: "object o { u url 'http://a/' f file 'x.txt' t 'T' i 5 n &p }",
+        query: "INPUT D WHERE x -> l -> v CREATE F(v) LINK F(v) -> 'v' -> v OUTPUT S",
+        templates: "<TEMPLATE F><SFMT @v LINK></TEMPLATE>",
+        outside: &["/F/t5.html", "/F/tp.html"],
+        outcomes: "/F/i5.html 5;/F/tT.html T;/F/uhttp~3A~2F~2Fa~2F.html <a href='http://a/'>http://a/</a>;/F/fx~2Etxt.html <a href='x.txt'>x.txt</a>;/F/np.html p;/F/t5.html -;/F/tp.html -;",
+    },
+    // Collected values, beside the members of the data.
+    SiteRow {
+        data_text: "object a in C { v 2 } object b { v 1 }",
+        query: "INPUT D CREATE R() { WHERE C(x) CREATE F(x) COLLECT All(F(x)), C(F(x)) } { WHERE x -> 'v' -> y COLLECT Ends(y) } OUTPUT S",
+        templates: "<TEMPLATE R><SFMT #All>|<SFMT #C DELIM=','>|<SFMT #Ends DELIM=','>|<SFMT #None></TEMPLATE><TEMPLATE F>f</TEMPLATE>",
+        outside: &["/F/nb.html"],
+        outcomes: "/F/na.html f;/R.html /F/na.html|a,/F/na.html|1,2|;/F/nb.html -;",
+    },
+    // A page that only a COLLECT names.
+    SiteRow {
+        data_text: "object a in C { } object b { e &a }",
+        query: "INPUT D CREATE R() { WHERE C(x) CREATE F(x) } { WHERE x -> 'e' -> y COLLECT All(F(x)) } OUTPUT S",
+        templates: "<TEMPLATE R><SFMT #All EMBED></TEMPLATE><TEMPLATE F>f</TEMPLATE>",
+        outside: &["/F/nc.html"],
+        outcomes: "/F/na.html f;/F/nb.html f;/R.html f;/F/nc.html -;",
+    },
+    // Loops, branches and keys.
+    SiteRow {
+        data_text: "object o { a 1 a 2 } object s { a &p a &q a &r } object p { k 2 } object q { k 1 } object r { }",
+        query: "INPUT D WHERE x -> 'a' -> y CREATE F(x) LINK F(x) -> 'a' -> y OUTPUT S",
+        templates: "<TEMPLATE F><SFOR v IN @a ORDER=descend DELIM=', '><SIF v GT 1>big<SELSE><SFMT v></SIF></SFOR>;<SFMT @a KEY=k DELIM=' '></TEMPLATE>",
+        outside: &["/F/np.html"],
+        outcomes: "/F/no.html big, 1;1 2;/F/ns.html r, q, p;q p r;/F/np.html -;",
+    },
+];

@@ -1,0 +1,180 @@
+// Words that give a command, and every kind of word that a user can get wrong.
+use super::texts::command_text;
+use crate::checks::check_text;
+use command_words::read_command;
+use sd_value::{NoMemory, Str};
+use std::alloc::Global;
+use std::test::Fail;
+
+fn words_of(alloc: Global, words: &[&str]) -> Result<Vec<Str>, NoMemory> {
+    let mut texts = Vec::new(alloc);
+    for word in words {
+        texts.push(Str::new(alloc, word.as_bytes())?)?;
+    }
+    Ok(texts)
+}
+
+// The command of these words as a text, which is empty where they give none.
+fn text_of(alloc: Global, words: &[Str]) -> Result<Vec<u8>, NoMemory> {
+    match read_command(alloc, words)? {
+        Some(command) => command_text(alloc, &command),
+        None => Ok(Vec::new(alloc)),
+    }
+}
+
+fn check_command(alloc: Global, words: &[&str], command: &str) -> Result<(), Fail> {
+    let words = words_of(alloc, words)?;
+    let found = text_of(alloc, &words)?;
+    check_text(&found, command.as_bytes())
+}
+
+// Words, and the text of their command.
+struct CommandRow {
+    words: &'static [&'static str],
+    command: &'static str,
+}
+
+fn check_commands(alloc: Global, rows: &[CommandRow]) -> Result<(), Fail> {
+    for row in rows {
+        check_command(alloc, row.words, row.command)?;
+    }
+    Ok(())
+}
+
+const COMMANDS: &[CommandRow] = &[
+    CommandRow {
+        words: &["page", "q", "t", "a", "d"],
+        command: "page q t a d",
+    },
+    CommandRow {
+        words: &["page", "q", "t", "--", "a", "d", "e"],
+        command: "page q t a d e",
+    },
+    CommandRow {
+        words: &["build", "q", "t", "folder", "d"],
+        command: "build q t folder d",
+    },
+    CommandRow {
+        words: &["data", "-"],
+        command: "data -",
+    },
+    CommandRow {
+        words: &["data", "--", "--"],
+        command: "data --",
+    },
+    CommandRow {
+        words: &["explain", "q", "a"],
+        command: "explain q a",
+    },
+    CommandRow {
+        words: &["trial", "1"],
+        command: "trial 1",
+    },
+    CommandRow {
+        words: &["trial", "0000020000"],
+        command: "trial 20000",
+    },
+    CommandRow {
+        words: &["serve", "q", "t", "a", "b"],
+        command: "serve q t a b 8080 4294967296 1 4294967296 256",
+    },
+    CommandRow {
+        words: &[
+            "serve",
+            "--port=65535",
+            "q",
+            "--cache",
+            "0004096",
+            "t",
+            "--requests=1",
+            "--turns",
+            "4294967296",
+            "--",
+            "--port",
+        ],
+        command: "serve q t --port 65535 4294967296 1 4294967296 4096",
+    },
+    CommandRow {
+        words: &["replay", "q", "t", "s", "a"],
+        command: "replay q t s a 1 4294967296 256",
+    },
+];
+
+#[test]
+fn words_give_their_command(rt: HostRuntime) -> Result<(), Fail> {
+    check_commands(rt.alloc(), COMMANDS)
+}
+
+// Words that give no command.
+const NO_COMMANDS: &[&[&str]] = &[
+    &[],
+    &[""],
+    &["frob"],
+    &["Serve", "q", "t", "d"],
+    &["serve", "", "q", "t", "d"],
+    &["serve", "q", "t"],
+    &["replay", "q", "t", "s"],
+    &["explain", "q"],
+    &["page", "q", "t", "a"],
+    &["build", "q", "t", "d"],
+    &["data"],
+    &["data", "--"],
+    &["data", "-v", "d"],
+    &["explain", "--port=1", "q", "d"],
+    &["serve", "-p", "q", "t", "d"],
+    &["serve", "--help", "q", "t", "d"],
+    &["serve", "--Port=1", "q", "t", "d"],
+    &["serve", "--por=1", "q", "t", "d"],
+    &["serve", "--=1", "q", "t", "d"],
+    &["replay", "--port=1", "q", "t", "s", "d"],
+    &["replay", "--connections=1", "q", "t", "s", "d"],
+    &["serve", "q", "t", "d", "--port"],
+    &["serve", "--port=", "q", "t", "d"],
+    &["serve", "--port", "--cache", "q", "t", "d"],
+    &["serve", "--port", "--", "1", "q", "t", "d"],
+    &["serve", "--port", "-", "q", "t", "d"],
+    &["serve", "--port=1", "--port=1", "q", "t", "d"],
+    &["serve", "--port=1", "--port", "2", "q", "t", "d"],
+    &["serve", "--port=0", "q", "t", "d"],
+    &["serve", "--port=65536", "q", "t", "d"],
+    &["serve", "--cache", "0", "q", "t", "d"],
+    &["serve", "--cache", "4097", "q", "t", "d"],
+    &["serve", "--requests=4294967297", "q", "t", "d"],
+    &["serve", "--turns=0", "q", "t", "d"],
+    &["serve", "--turns=00000000001", "q", "t", "d"],
+    &["serve", "--turns=+1", "q", "t", "d"],
+    &["serve", "--turns=-1", "q", "t", "d"],
+    &["serve", "--turns=1.0", "q", "t", "d"],
+    &["serve", "--turns=1=1", "q", "t", "d"],
+    &["serve", "--connections=99999999999999999999", "q", "t", "d"],
+    &["trial"],
+    &["trial", "0"],
+    &["trial", "20001"],
+    &["trial", "1", "1"],
+    &["trial", "--cache=1", "1"],
+];
+
+fn check_no_commands(alloc: Global, rows: &[&[&str]]) -> Result<(), Fail> {
+    for words in rows {
+        check_command(alloc, words, "")?;
+    }
+    Ok(())
+}
+
+#[test]
+fn other_words_give_no_command(rt: HostRuntime) -> Result<(), Fail> {
+    check_no_commands(rt.alloc(), NO_COMMANDS)
+}
+
+// The word `data`, and behind it one that is no text.
+fn not_utf_8(alloc: Global, word: &[u8]) -> Result<Vec<u8>, NoMemory> {
+    let mut words = words_of(alloc, &["data"])?;
+    words.push(Str::new(alloc, word)?)?;
+    text_of(alloc, &words)
+}
+
+#[test]
+fn a_word_that_is_not_utf_8_gives_no_command(rt: HostRuntime) -> Result<(), Fail> {
+    let found = not_utf_8(rt.alloc(), b"\xff")?;
+    check_text(&found, b"")
+}

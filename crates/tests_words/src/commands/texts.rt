@@ -1,0 +1,80 @@
+// Commands as texts: the name, and then each part behind a blank.
+use command_spec::Command;
+use sd_value::{NoMemory, Str};
+use std::alloc::Global;
+
+fn push(out: &mut Vec<u8>, word: &[u8]) -> Result<(), NoMemory> {
+    out.push(b' ')?;
+    out.extend_from_slice(word)?;
+    Ok(())
+}
+
+fn push_paths(out: &mut Vec<u8>, paths: &[&Str]) -> Result<(), NoMemory> {
+    for path in paths {
+        push(out, path.bytes())?;
+    }
+    Ok(())
+}
+
+fn push_sources(out: &mut Vec<u8>, sources: &[Str]) -> Result<(), NoMemory> {
+    for source in sources {
+        push(out, source.bytes())?;
+    }
+    Ok(())
+}
+
+fn push_numbers(alloc: Global, out: &mut Vec<u8>, numbers: &[u64]) -> Result<(), NoMemory> {
+    for number in numbers {
+        push(out, number.to_string(alloc)?.as_bytes())?;
+    }
+    Ok(())
+}
+
+fn named(
+    alloc: Global,
+    name: &[u8],
+    paths: &[&Str],
+    sources: &[Str],
+    numbers: &[u64],
+) -> Result<Vec<u8>, NoMemory> {
+    let mut out = Vec::from_slice(alloc, name)?;
+    push_paths(&mut out, paths)?;
+    push_sources(&mut out, sources)?;
+    push_numbers(alloc, &mut out, numbers)?;
+    Ok(out)
+}
+
+/// The command as a text: its paths as they are in it, and behind them its numbers.
+pub fn command_text(alloc: Global, command: &Command) -> Result<Vec<u8>, NoMemory> {
+    match command {
+        Command::Page(c) => {
+            let paths = [&c.query, &c.templates, &c.address];
+            named(alloc, b"page", &paths, c.sources.items(), &[])
+        }
+        Command::Build(c) => {
+            let paths = [&c.query, &c.templates, &c.folder];
+            named(alloc, b"build", &paths, c.sources.items(), &[])
+        }
+        Command::Data(c) => named(alloc, b"data", &[], c.sources.items(), &[]),
+        Command::Explain(c) => named(alloc, b"explain", &[&c.query], c.sources.items(), &[]),
+        Command::Serve(c) => {
+            let paths = [&c.query, &c.templates];
+            let limits = &c.options.limits;
+            let numbers = [
+                u64::from(c.options.port),
+                c.options.connections,
+                limits.requests,
+                limits.turns,
+                u64::from(limits.cache),
+            ];
+            named(alloc, b"serve", &paths, c.sources.items(), &numbers)
+        }
+        Command::Replay(c) => {
+            let paths = [&c.query, &c.templates, &c.script];
+            let limits = &c.limits;
+            let numbers = [limits.requests, limits.turns, u64::from(limits.cache)];
+            named(alloc, b"replay", &paths, c.sources.items(), &numbers)
+        }
+        Command::Trial(c) => named(alloc, b"trial", &[], &[], &[u64::from(c.entries)]),
+    }
+}

@@ -1,3 +1,0 @@
-pub mod Faultless
-pub mod Scanned
-pub mod Templates

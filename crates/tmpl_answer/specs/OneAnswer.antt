@@ -1,9 +1,0 @@
--- What it means that a file of templates has one answer.
-use Rattle.std.specs.Prelude.{◌≡◌, ℕ, List, Result}
-use Rattle.tmpl.specs.Body.{TemplateFile}
-use Rattle.tmpl_read.specs.declared.refusal.TmplRefusal.{TmplRefusal}
-use Rattle.tmpl_read.specs.Faults.{IsAnswer}
-
--- two answers to the same bytes are equal
-abbrev pub HasOneAnswer : ℕ → List ℕ → Type 0
-HasOneAnswer limit bytes = (r s : Result TemplateFile TmplRefusal) → IsAnswer limit bytes r → IsAnswer limit bytes s → r ≡ s

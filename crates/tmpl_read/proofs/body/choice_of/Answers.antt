@@ -1,6 +1,0 @@
-use Rattle.tmpl.specs.Body.{done}
-use Rattle.tmpl.proofs.Bodies.{choice_body}
-use Rattle.tmpl_read.proofs.body.choice_of.Goals as goal
-
-pub returns : goal.returns
-returns c = choice_body (record { negated = c.args.negated; values = c.args.values; against = c.args.against; taken = c.args.taken; other = c.args.other }) done

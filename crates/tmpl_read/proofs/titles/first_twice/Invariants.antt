@@ -1,6 +1,0 @@
-use Rattle.std.proofs.Common.{◌≡◌, drop}
-use Rattle.tmpl_read.specs.Faults.{Seen, first_twice, nothing_seen, Holds}
-use Rattle.tmpl_read.proofs.titles.first_twice.Given as goal
-
-abbrev pub invariant-loop-title : goal.invariant-loop-title
-invariant-loop-title l = (s : Seen) × Holds l.names s × (first_twice s (drop l.title-index l.titles) ≡ first_twice nothing_seen l.titles)

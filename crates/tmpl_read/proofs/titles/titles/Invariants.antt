@@ -1,9 +1,0 @@
-use Rattle.std.proofs.Common.{◌≡◌, ◌++◌, length}
-use Rattle.tmpl_read.specs.Faults.{titles}
-use Rattle.tmpl_read.proofs.titles.titles.Given as goal
-
-abbrev pub invariant-items : goal.invariant-items
-invariant-items l = l.found.items ++ titles l.rest ≡ titles l.items
-
-abbrev pub decreases-items : goal.decreases-items
-decreases-items l = length l.rest

@@ -1,6 +1,0 @@
-use Rattle.std.proofs.Common.{◌≡◌, take}
-use Rattle.trial_command.specs.Events.{events_from}
-use Rattle.trial_command.proofs.requests.events.Given as goal
-
-abbrev pub invariant-loop-i : goal.invariant-loop-i
-invariant-loop-i l = l.events.items ≡ events_from 1 (take l.i l.targets)

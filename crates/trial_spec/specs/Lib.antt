@@ -1,0 +1,5 @@
+pub mod Data
+pub mod Requests
+pub mod Texts
+pub mod Numbers
+pub mod Events

@@ -1,0 +1,19 @@
+//! The trial: its data, its query and templates, what is asked for, and what is counted.
+#![tactic(auto)]
+
+/// How many replies have a page, how many have none, and how many bytes the pages have.
+#[derive(Clone, Copy)]
+pub struct Counts {
+    pub ok: u64,
+    pub missing: u64,
+    pub bytes: u64,
+}
+
+/// What an entry says: its number, its year, and the numbers of two authors, who may be one.
+#[derive(Clone, Copy)]
+pub struct Entry {
+    pub number: u64,
+    pub year: u64,
+    pub first: u64,
+    pub second: u64,
+}

@@ -1,5 +1,0 @@
-use Rattle.weight_example.proofs.Charged.{weighs_ten, within_ten, not_eleven}
-use Rattle.weight_example.proofs.year_page_weighs_ten.Goals as goal
-
-pub returns : goal.returns
-returns c = record { weight = weighs_ten; ten = within_ten; not_eleven = not_eleven }

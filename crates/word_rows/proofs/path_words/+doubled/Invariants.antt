@@ -1,4 +1,0 @@
-use Rattle.word_rows.proofs.path_words.+doubled.Given as goal
-
-abbrev pub decreases-doubled : goal.decreases-doubled
-decreases-doubled l = l.times
