@@ -6,7 +6,7 @@ use Rattle.edge_io.specs.Files.{FileMap}
 use Rattle.run_report.specs.declared.status.Status.{Status}
 use Rattle.run_report.specs.declared.status.Status.TheVariants as status
 use Rattle.command_spec.specs.declared.Command.{Command}
-use Rattle.command_spec.specs.declared.Command.TheVariants.{Page, Build, Data, Explain, Serve, Replay, Trial}
+use Rattle.command_spec.specs.declared.Command.TheVariants.{Page, Build, Data, Explain, Serve, Replay, Trial, Help, Version}
 use Rattle.site_inputs.specs.Statuses.{ReadRose}
 use Rattle.edge_io.specs.Counts.{Rose}
 use Rattle.wire.specs.Told.{Told}
@@ -35,6 +35,8 @@ module _ (before after : Outside) where
   complete_end (Data command) reached ends read write wire = λ all. tt
   complete_end (Explain command) reached ends read write wire = λ all. tt
   complete_end (Trial command) reached ends read write wire = λ all. tt
+  complete_end (Help command) reached ends read write wire = λ all. tt
+  complete_end Version reached ends read write wire = λ all. tt
 
   complete_run : (given : Option Command) (command : Command) (reached : Status)
       → given ≡ Some command → RunEnds given before after reached → Read (given_inputs given) reached → (reached ≡ status.WriteFault → Wrote given) → (reached ≡ status.WireFault → EventsRose before.wire after.wire)
@@ -53,6 +55,8 @@ module _ (before after : Outside) where
   short_run (Data command) reached memory = tt
   short_run (Explain command) reached memory = tt
   short_run (Trial command) reached memory = tt
+  short_run (Help command) reached memory = tt
+  short_run Version reached memory = tt
 
   reported_complete : (command : Command) (reached reported : Status) → IsComplete command before after reached → (reported ≡ reached) ⊎ (reported ≡ status.NoMemory) → IsComplete command before after reported
   reported_complete command reached reported complete (inl same) = rw same complete

@@ -9,7 +9,7 @@ use Rattle.site_inputs.specs.declared.fault.Fault.TheVariants as fault
 use Rattle.run_report.specs.declared.status.Status.{Status}
 use Rattle.run_report.specs.declared.status.Status.TheVariants.{Ok, NotAllYes, Usage, Refused, ReadFault, WriteFault, WireFault, PageFault, NoMemory, NotFound, TurnsSpent}
 use Rattle.command_spec.specs.declared.Command.{Command}
-use Rattle.command_spec.specs.declared.Command.TheVariants.{Page, Build, Data, Explain, Serve, Replay, Trial}
+use Rattle.command_spec.specs.declared.Command.TheVariants.{Page, Build, Data, Explain, Serve, Replay, Trial, Help, Version}
 use Rattle.command_spec.specs.declared.BuildCommand.{BuildCommand}
 use Rattle.command_spec.specs.declared.PageCommand.{PageCommand}
 use Rattle.command_spec.specs.declared.DataCommand.{DataCommand}
@@ -17,6 +17,7 @@ use Rattle.command_spec.specs.declared.ExplainCommand.{ExplainCommand}
 use Rattle.command_spec.specs.declared.ServeCommand.{ServeCommand}
 use Rattle.command_spec.specs.declared.ReplayCommand.{ReplayCommand}
 use Rattle.command_spec.specs.declared.TrialCommand.{TrialCommand}
+use Rattle.command_spec.specs.declared.HelpCommand.{HelpCommand}
 use Rattle.site_inputs.specs.Sites.{InputsEnd}
 use Rattle.site_inputs.specs.Sources.{GraphEnds, empty_building}
 use Rattle.sd_graph.specs.Statement.{Building}
@@ -27,7 +28,7 @@ use Rattle.command_serve.specs.Ends.{ServeEnds}
 use Rattle.site_inputs.specs.Outside.{Host, Outside, host, outside}
 use Rattle.wire.specs.Told.{Told}
 use Rattle.run_report.specs.Report.{IsFixed}
-use Rattle.site_inputs.specs.Runs.{ReadsHaveCause, UnreadRose}
+use Rattle.site_inputs.specs.Runs.{Gives, ReadsHaveCause, UnreadRose}
 use Rattle.command_spec.specs.Inputs.{input_paths}
 use Rattle.site_inputs.specs.Statuses.{ReadRose, IsSilent, status_of}
 use Rattle.command_page.specs.Ends.{PageEnds}
@@ -35,6 +36,8 @@ use Rattle.command_build.specs.Ends.{BuildEnds, FolderRose}
 use Rattle.command_build.proofs.Built.{faulty_is_no_memory}
 use Rattle.command_serve.proofs.Told.{never_silent}
 use Rattle.command_trial.specs.Ends.{TrialEnds}
+use Rattle.command_help.specs.Texts.{usage_of, version_text}
+use Rattle.command_help.specs.Ends.{HelpEnds, VersionEnds}
 use Rattle.command_data.specs.Ends.{DataEnds}
 use Rattle.command_spec.specs.Inputs.{explain_paths}
 use Rattle.command_explain.specs.Ends.{ExplainEnds}
@@ -114,6 +117,28 @@ trial_read_rose command c answer old new before now status is h ends =
     by (PageFault term kind) h = tt
     by NotFound h = tt
 
+-- a fixed text has no fault of reading
+fixed_reads_none : (text : List ℕ) (path : List ℕ) → Gives text (prelude.Err (fault.Unread path)) → ⊥
+fixed_reads_none text path (inl e) = cc
+fixed_reads_none text path (inr e) = cc
+
+fixed_read_rose : (text : List ℕ) (answer : Result (List ℕ) Fault) (old new : Option (List ℕ)) (paths : List (List ℕ)) (before now : List ℕ → ℕ) (status : Status)
+    → TextEnds (λ a. a ≡ answer) old new status → Gives text answer → ReadRose paths before now status
+fixed_read_rose text answer old new paths before now status h ends =
+    by status (text_as (λ a. a ≡ answer) (Gives text) old new status (λ a e. subst (Gives text) (sym e) ends) h)
+  where
+    by : (status : Status) → TextEnds (Gives text) old new status → ReadRose paths before now status
+    by (ReadFault path) h = absurd (fixed_reads_none text path h)
+    by status h = tt
+
+pub help_read_rose : (command : Command) (c : HelpCommand) (answer : Result (List ℕ) Fault) (old new : Option (List ℕ)) (before now : List ℕ → ℕ) (status : Status)
+    → TextEnds (λ a. a ≡ answer) old new status → HelpEnds c answer → ReadRose (inputs_of_command command) before now status
+help_read_rose command c answer old new before now status h ends = fixed_read_rose (usage_of c.name) answer old new (inputs_of_command command) before now status h ends
+
+pub version_read_rose : (command : Command) (answer : Result (List ℕ) Fault) (old new : Option (List ℕ)) (before now : List ℕ → ℕ) (status : Status)
+    → TextEnds (λ a. a ≡ answer) old new status → VersionEnds answer → ReadRose (inputs_of_command command) before now status
+version_read_rose command answer old new before now status h ends = fixed_read_rose version_text answer old new (inputs_of_command command) before now status h ends
+
 pub build_read_rose : (command : Command) (c : BuildCommand) (before now : List ℕ → ℕ) (status : Status) → command ≡ Build c
     → ReadRose (input_paths c.sources c.query c.templates) before now status → ReadRose (inputs_of_command command) before now status
 build_read_rose command c before now status is h = subst (λ (d : Command). ReadRose (inputs_of_command d) before now status) (sym is) h
@@ -154,6 +179,8 @@ no_memory_ends (Some (Page command)) before after files out wire = out
 no_memory_ends (Some (Data command)) before after files out wire = out
 no_memory_ends (Some (Explain command)) before after files out wire = out
 no_memory_ends (Some (Trial command)) before after files out wire = out
+no_memory_ends (Some (Help command)) before after files out wire = out
+no_memory_ends (Some Version) before after files out wire = out
 no_memory_ends (Some (Build command)) before after files out wire = (inl files, out)
 no_memory_ends (Some (Serve command)) before after files out wire = serve_no_memory command before after wire out
 no_memory_ends (Some (Replay command)) before after files out wire = replay_no_memory command before.host after.host out
@@ -236,6 +263,8 @@ module _ (before after : Outside) where
   memory_run_ends (Some (Data command)) status reported ends silent fixed memory = memory_text_ends (DataEnds before.host.files command) before.host.output after.host.output status reported ends silent fixed memory
   memory_run_ends (Some (Explain command)) status reported ends silent fixed memory = memory_text_ends (ExplainEnds before.host.files command) before.host.output after.host.output status reported ends silent fixed memory
   memory_run_ends (Some (Trial command)) status reported ends silent fixed memory = memory_text_ends (TrialEnds command) before.host.output after.host.output status reported ends silent fixed memory
+  memory_run_ends (Some (Help command)) status reported ends silent fixed memory = memory_text_ends (HelpEnds command) before.host.output after.host.output status reported ends silent fixed memory
+  memory_run_ends (Some Version) status reported ends silent fixed memory = memory_text_ends VersionEnds before.host.output after.host.output status reported ends silent fixed memory
   memory_run_ends (Some (Build command)) status reported ends silent fixed memory = memory_build_ends command before.host after.host status reported ends silent fixed memory
   memory_run_ends (Some (Serve command)) status reported ends silent fixed memory = memory_serve_ends command before after reported status ends fixed memory
   memory_run_ends (Some (Replay command)) status reported ends silent fixed memory = memory_replay_ends command before.host after.host reported status ends silent fixed memory
@@ -315,6 +344,14 @@ module _ (reads reads_now writes writes_now : List ℕ → ℕ) (output output_n
       → TrialEnds c answer → TextEnds (λ a. a ≡ answer) output output_now status → IsSomeAnd n (λ now. Ends command (Before map) (After now) status)
   trial_told o n map command c answer status same told is ends put = stays o n map command (Trial c) status same told is (answered (TrialEnds c) answer status ends put)
 
+  pub help_told : (o n : Option FileMap) (map : FileMap) (command : Command) (c : HelpCommand) (answer : Result (List ℕ) Fault) (status : Status) → n ≡ o → o ≡ Some map → command ≡ Help c
+      → HelpEnds c answer → TextEnds (λ a. a ≡ answer) output output_now status → IsSomeAnd n (λ now. Ends command (Before map) (After now) status)
+  help_told o n map command c answer status same told is ends put = stays o n map command (Help c) status same told is (answered (HelpEnds c) answer status ends put)
+
+  pub version_told : (o n : Option FileMap) (map : FileMap) (command : Command) (answer : Result (List ℕ) Fault) (status : Status) → n ≡ o → o ≡ Some map → command ≡ Version
+      → VersionEnds answer → TextEnds (λ a. a ≡ answer) output output_now status → IsSomeAnd n (λ now. Ends command (Before map) (After now) status)
+  version_told o n map command answer status same told is ends put = stays o n map command Version status same told is (answered VersionEnds answer status ends put)
+
   pub build_told : (n : Option FileMap) (map : FileMap) (command : Command) (c : BuildCommand) (status : Status) → command ≡ Build c
       → IsSomeAnd n (λ now. BuildEnds c (host map reads writes output puts) (host now reads_now writes_now output_now puts_now) status)
       → IsSomeAnd n (λ now. Ends command (Before map) (After now) status)
@@ -348,6 +385,12 @@ explain_write_rose command c before now P is p = subst (λ (d : Command). WriteR
 
 pub trial_write_rose : (command : Command) (c : TrialCommand) (before now : List ℕ → ℕ) (P : Type 0) → command ≡ Trial c → P → WriteRose (Some command) before now P
 trial_write_rose command c before now P is p = subst (λ (d : Command). WriteRose (Some d) before now P) (sym is) p
+
+pub help_write_rose : (command : Command) (c : HelpCommand) (before now : List ℕ → ℕ) (P : Type 0) → command ≡ Help c → P → WriteRose (Some command) before now P
+help_write_rose command c before now P is p = subst (λ (d : Command). WriteRose (Some d) before now P) (sym is) p
+
+pub version_write_rose : (command : Command) (before now : List ℕ → ℕ) (P : Type 0) → command ≡ Version → P → WriteRose (Some command) before now P
+version_write_rose command before now P is p = subst (λ (d : Command). WriteRose (Some d) before now P) (sym is) p
 
 pub replay_write_rose : (command : Command) (c : ReplayCommand) (before now : List ℕ → ℕ) (P : Type 0) → command ≡ Replay c → P → WriteRose (Some command) before now P
 replay_write_rose command c before now P is p = subst (λ (d : Command). WriteRose (Some d) before now P) (sym is) p

@@ -10,7 +10,7 @@ use Rattle.site_inputs.specs.declared.fault.Fault.TheVariants as fault
 use Rattle.run_report.specs.declared.status.Status.{Status}
 use Rattle.run_report.specs.declared.status.Status.TheVariants.{Ok, NotAllYes, Usage, Refused, ReadFault, WriteFault, WireFault, PageFault, NoMemory, NotFound, TurnsSpent}
 use Rattle.command_spec.specs.declared.Command.{Command}
-use Rattle.command_spec.specs.declared.Command.TheVariants.{Page, Build, Data, Explain, Serve, Replay, Trial}
+use Rattle.command_spec.specs.declared.Command.TheVariants.{Page, Build, Data, Explain, Serve, Replay, Trial, Help, Version}
 use Rattle.std.specs.Option.{IsSomeAnd}
 use Rattle.site_inputs.specs.Runs.{IsDecided, Decides}
 use Rattle.site_inputs.specs.Statuses.{ReadRose}
@@ -18,6 +18,7 @@ use Rattle.command_page.specs.Ends.{PageEnds}
 use Rattle.site_inputs.specs.Outside.{Host, Outside, PutsRose, AllRead, host, outside}
 use Rattle.wire.specs.Told.{Told}
 use Rattle.command_trial.specs.Ends.{TrialEnds}
+use Rattle.command_help.specs.Ends.{HelpEnds, VersionEnds}
 use Rattle.command_data.specs.Ends.{DataEnds}
 use Rattle.command_explain.specs.Ends.{ExplainEnds}
 use Rattle.command_spec.specs.Inputs.{inputs_of_command, given_inputs}
@@ -65,6 +66,8 @@ module _ (before after : Outside) where
   exact_end (Data command) status ends read write = exact_text (DataEnds before.host.files command) (answer_decides before.host.files (Data command)) before.host after.host (inputs_of_command (Data command)) status ends read write
   exact_end (Explain command) status ends read write = exact_text (ExplainEnds before.host.files command) (answer_decides before.host.files (Explain command)) before.host after.host (inputs_of_command (Explain command)) status ends read write
   exact_end (Trial command) status ends read write = exact_text (TrialEnds command) (answer_decides before.host.files (Trial command)) before.host after.host (inputs_of_command (Trial command)) status ends read write
+  exact_end (Help command) status ends read write = exact_text (HelpEnds command) (answer_decides before.host.files (Help command)) before.host after.host (inputs_of_command (Help command)) status ends read write
+  exact_end Version status ends read write = exact_text VersionEnds (answer_decides before.host.files Version) before.host after.host (inputs_of_command Version) status ends read write
   exact_end (Build command) status ends read write = λ answer its d no_read no_write. absurd its
   exact_end (Serve command) status ends read write = λ answer its d no_read no_write. absurd its
   exact_end (Replay command) status ends read write = λ answer its d no_read no_write. absurd its

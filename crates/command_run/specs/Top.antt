@@ -5,7 +5,8 @@ use Rattle.edge_io.specs.Files.{FileMap}
 use Rattle.edge_io.specs.Sink.{Gains, GainsPart}
 use Rattle.command_spec.specs.Inputs.{inputs_of_command}
 use Rattle.command_spec.specs.declared.Command.{Command}
-use Rattle.command_spec.specs.declared.Command.TheVariants.{Page, Build, Data, Explain, Serve, Replay, Trial}
+use Rattle.command_spec.specs.declared.Command.TheVariants.{Page, Build, Data, Explain, Serve}
+use Rattle.command_spec.specs.declared.Command.TheVariants.{Replay, Trial, Help, Version}
 use Rattle.site_inputs.specs.declared.fault.Fault.{Fault}
 use Rattle.site_inputs.specs.declared.fault.Fault.TheVariants as fault
 use Rattle.site_inputs.specs.Outside.{Host, Outside, PutsRose, AllRead}
@@ -18,6 +19,7 @@ use Rattle.command_explain.specs.Ends.{ExplainEnds}
 use Rattle.command_serve.specs.Ends.{ServeEnds}
 use Rattle.command_replay.specs.Ends.{ReplayEnds}
 use Rattle.command_trial.specs.Ends.{TrialEnds}
+use Rattle.command_help.specs.Ends.{HelpEnds, VersionEnds}
 use Rattle.run_report.specs.declared.status.Status.{Status}
 use Rattle.run_report.specs.declared.status.Status.TheVariants.{Ok, NotAllYes, Usage, Refused, ReadFault, WriteFault}
 use Rattle.run_report.specs.declared.status.Status.TheVariants.{WireFault, PageFault, NoMemory, NotFound, TurnsSpent}
@@ -29,6 +31,8 @@ Answers map (Page command) = PageEnds map command
 Answers map (Data command) = DataEnds map command
 Answers map (Explain command) = ExplainEnds map command
 Answers map (Trial command) = TrialEnds command
+Answers map (Help command) = HelpEnds command
+Answers map Version = VersionEnds
 Answers map (Build command) = λ answer. ⊥
 Answers map (Serve command) = λ answer. ⊥
 Answers map (Replay command) = λ answer. ⊥
@@ -72,6 +76,9 @@ Ends (Explain command) before after =
     TextEnds (ExplainEnds before.host.files command) before.host.output after.host.output
 Ends (Trial command) before after =
     TextEnds (TrialEnds command) before.host.output after.host.output
+Ends (Help command) before after =
+    TextEnds (HelpEnds command) before.host.output after.host.output
+Ends Version before after = TextEnds VersionEnds before.host.output after.host.output
 Ends (Build command) before after = BuildEnds command before.host after.host
 Ends (Serve command) before after = ServeEnds command before after
 Ends (Replay command) before after = ReplayEnds command before.host after.host

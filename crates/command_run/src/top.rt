@@ -17,6 +17,7 @@ ghost use Rattle.command_run.specs.Top.{WriteRose, WritesNoFile, UsesNoWire};
 use command_build::build;
 use command_data::data;
 use command_explain::explain;
+use command_help::{help, version};
 use command_page::page;
 use command_replay::replay;
 use command_serve::serve;
@@ -93,6 +94,14 @@ fn run_command<F: Files, O: Sink, W: Wire>(
         }
         Command::Trial(command) => {
             let answer = trial(alloc, command);
+            put_answer(answer, out)
+        }
+        Command::Help(command) => {
+            let answer = help(alloc, command);
+            put_answer(answer, out)
+        }
+        Command::Version => {
+            let answer = version(alloc);
             put_answer(answer, out)
         }
     }

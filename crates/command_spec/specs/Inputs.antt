@@ -3,7 +3,8 @@ use Rattle.std.specs.Prelude.{ℕ, List, [], ◌∷◌, ◌++◌, Option, None, 
 use Rattle.command_spec.specs.declared.ExplainCommand.{ExplainCommand}
 use Rattle.command_spec.specs.declared.ReplayCommand.{ReplayCommand}
 use Rattle.command_spec.specs.declared.Command.{Command}
-use Rattle.command_spec.specs.declared.Command.TheVariants.{Page, Build, Data, Explain, Serve, Replay, Trial}
+use Rattle.command_spec.specs.declared.Command.TheVariants.{Page, Build, Data, Explain, Serve}
+use Rattle.command_spec.specs.declared.Command.TheVariants.{Replay, Trial, Help, Version}
 
 -- the inputs of a site: the data, the query and the templates
 abbrev pub input_paths : (sources : List (List ℕ)) (query templates : List ℕ) → List (List ℕ)
@@ -27,6 +28,8 @@ inputs_of_command (Explain command) = explain_paths command
 inputs_of_command (Serve command) = input_paths command.sources command.query command.templates
 inputs_of_command (Replay command) = replay_paths command
 inputs_of_command (Trial command) = []
+inputs_of_command (Help command) = []
+inputs_of_command Version = []
 
 -- those of the command that the words give, if any
 abbrev pub given_inputs : Option Command → List (List ℕ)

@@ -1,6 +1,7 @@
 pub mod Limits
 pub mod Options
 pub mod Numbers
+pub mod Names
 pub mod Words
 pub mod Ranges
 pub mod Inputs

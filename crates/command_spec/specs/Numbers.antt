@@ -1,22 +1,26 @@
 -- The numbers of options.
-use Rattle.std.specs.Prelude.{ℕ, List, [], ◌∷◌, map, filter, length, Bool, ◌&&◌, nat_le}
+use Rattle.std.specs.Prelude.{ℕ, List, [], ◌∷◌, ◌++◌, map, filter, length, Bool, ◌&&◌, nat_le}
 use Rattle.std.specs.Prelude.{Option, None, Some, if◌then◌else◌, codes}
 use Rattle.std.specs.List.{list_all, list_any}
 use Rattle.std.specs.Char.{is_ascii_digit}
 use Rattle.std.specs.Str.{bytes_eq}
 use Rattle.std.specs.Str.Parse.{digits_value}
 use Rattle.command_spec.specs.Limits.{count_limit, port_limit, cache_limit}
-use Rattle.command_spec.specs.declared.options.Setting.{Setting}
+use Rattle.command_spec.specs.Options.{Setting}
 use Rattle.command_spec.specs.declared.numbers.NumberOption.{NumberOption}
 use Rattle.command_spec.specs.declared.numbers.NumberOption.TheVariants.{Port, Connections, Requests, Turns, Cache}
 
+-- the option's name
+abbrev pub option_name : NumberOption → List ℕ
+option_name Port = codes "port"
+option_name Connections = codes "connections"
+option_name Requests = codes "requests"
+option_name Turns = codes "turns"
+option_name Cache = codes "cache"
+
 -- how the option is written
 abbrev pub option_word : NumberOption → List ℕ
-option_word Port = codes "--port"
-option_word Connections = codes "--connections"
-option_word Requests = codes "--requests"
-option_word Turns = codes "--turns"
-option_word Cache = codes "--cache"
+option_word option = codes "--" ++ option_name option
 
 -- the greatest number of the option, from 1 on
 abbrev pub greatest : NumberOption → ℕ

@@ -2,9 +2,20 @@
 use Rattle.std.specs.Prelude.{ℕ, ◌+◌, List, [], ◌∷◌, take, drop, position, Bool, true, false}
 use Rattle.std.specs.Prelude.{nat_eq, Option, None, Some, option_map, if◌then◌else◌, codes}
 use Rattle.std.specs.Str.{bytes_eq}
-use Rattle.command_spec.specs.declared.options.Setting.{Setting}
-use Rattle.command_spec.specs.declared.options.Role.{Role}
-use Rattle.command_spec.specs.declared.options.Role.TheVariants.{Plain, Dashes, Complete, Open, Misplaced}
+
+-- an option with its value
+pub record Setting : Type 0 where
+  pub name : List ℕ
+  pub value : List ℕ
+
+-- What a word is: no option, the `--` behind which no word is an option, an option with its value, an option whose value
+-- is the next word, or a word that can't be here.
+pub data Role : Type 0 where
+  Plain : Role
+  Dashes : Role
+  Complete : Setting → Role
+  Open : Role
+  Misplaced : Role
 
 -- the options with their values, and the words that are no options, each in order
 pub record Parts : Type 0 where

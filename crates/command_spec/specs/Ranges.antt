@@ -4,7 +4,8 @@ use Rattle.command_spec.specs.Limits.{entry_limit, count_limit, port_limit, cach
 use Rattle.command_spec.specs.declared.RunLimits.{RunLimits}
 use Rattle.command_spec.specs.declared.ServeOptions.{ServeOptions}
 use Rattle.command_spec.specs.declared.Command.{Command}
-use Rattle.command_spec.specs.declared.Command.TheVariants.{Page, Build, Data, Explain, Serve, Replay, Trial}
+use Rattle.command_spec.specs.declared.Command.TheVariants.{Page, Build, Data, Explain, Serve}
+use Rattle.command_spec.specs.declared.Command.TheVariants.{Replay, Trial, Help, Version}
 
 -- a number from 1 to `most`
 abbrev pub IsFrom1To : ℕ → ℕ → Type 0
@@ -31,3 +32,5 @@ IsInRange (Build c) = Unit {0}
 IsInRange (Data c) = Unit {0}
 IsInRange (Explain c) = Unit {0}
 IsInRange (Trial c) = IsFrom1To entry_limit c.entries
+IsInRange (Help c) = Unit {0}
+IsInRange Version = Unit {0}

@@ -4,15 +4,15 @@ use Rattle.std.specs.Prelude.{Option, None, Some, option_and_then, if◌then◌e
 use Rattle.std.specs.List.{list_all}
 use Rattle.std.specs.Str.{bytes_eq, is_utf8}
 use Rattle.command_spec.specs.Limits.{entry_limit}
-use Rattle.command_spec.specs.declared.options.Setting.{Setting}
 use Rattle.command_spec.specs.declared.numbers.NumberOption.TheVariants.{Port, Connections, Requests}
 use Rattle.command_spec.specs.declared.numbers.NumberOption.TheVariants.{Turns, Cache}
 use Rattle.command_spec.specs.declared.RunLimits.{RunLimits}
 use Rattle.command_spec.specs.declared.ServeOptions.{ServeOptions}
 use Rattle.command_spec.specs.declared.Command.{Command}
 use Rattle.command_spec.specs.declared.Command.TheVariants.{Page, Build, Data, Explain, Serve}
-use Rattle.command_spec.specs.declared.Command.TheVariants.{Replay, Trial}
-use Rattle.command_spec.specs.Options.{Parts, is_empty, parts_of}
+use Rattle.command_spec.specs.declared.Command.TheVariants.{Replay, Trial, Help, Version}
+use Rattle.command_spec.specs.Names.{name_of}
+use Rattle.command_spec.specs.Options.{Parts, Setting, is_empty, parts_of}
 use Rattle.command_spec.specs.Numbers.{number, number_of, are_among}
 
 -- the first answer, and then the second of it
@@ -63,6 +63,19 @@ trial_command (entries ∷ []) = do
   n ← number entry_limit entries
   Some (Trial (record { entries = n }))
 trial_command words = None
+
+-- the words after `help`
+abbrev pub help_command : List (List ℕ) → Option Command
+help_command [] = Some (Help (record { name = None }))
+help_command (word ∷ []) = do
+  name ← name_of word
+  Some (Help (record { name = Some name }))
+help_command words = None
+
+-- the words after `version`
+abbrev pub version_command : List (List ℕ) → Option Command
+version_command [] = Some Version
+version_command words = None
 
 -- the limits of a run
 abbrev pub run_limits : List Setting → Option RunLimits
@@ -128,6 +141,8 @@ plain_command name words =
     else if bytes_eq name (codes "data") then data_command words
     else if bytes_eq name (codes "explain") then explain_command words
     else if bytes_eq name (codes "trial") then trial_command words
+    else if bytes_eq name (codes "help") then help_command words
+    else if bytes_eq name (codes "version") then version_command words
     else None
 
 -- the parts behind `serve`

@@ -1,13 +1,13 @@
 //! The commands of the program, and the words that give them: definitions for a reader who must believe them.
 #![tactic(auto)]
 
-ghost use Rattle.std.specs.Prelude.{◌≡◌, IfOk};
+ghost use Rattle.std.specs.Prelude.{◌≡◌, IfOk, map};
 
+mod names;
 mod numbers;
-mod options;
 
+pub use names::CommandName;
 pub use numbers::NumberOption;
-pub use options::{Parts, Role, Setting};
 use sd_value::{NoMemory, Str};
 use std::alloc::Global;
 use std::marker::Model;
@@ -28,12 +28,12 @@ impl Model for Paths {
 
 impl Paths {
     /// Copies of these words.
-    pub fn of(alloc: Global, words: &[Str]) -> Result<Paths, NoMemory>
-        ensures { IfOk result (λ paths. paths ≡ words.now) }
+    pub fn of(alloc: Global, words: &[&str]) -> Result<Paths, NoMemory>
+        ensures { IfOk result (λ paths. paths ≡ map (λ word. word.now) words.now) }
     {
         let mut items = Vec::with_capacity(alloc, words.len())?;
         for word in words {
-            items.push(word.copy(alloc)?)?;
+            items.push(Str::new(alloc, word.as_bytes())?)?;
         }
         Ok(Paths { items })
     }
@@ -124,6 +124,12 @@ pub struct TrialCommand {
     pub entries: u32,
 }
 
+/// `help [COMMAND]`: the usage of the program, or of one command, is printed.
+#[derive(Clone, Copy, Debug, PartialEq, Eq)]
+pub struct HelpCommand {
+    pub name: Option<CommandName>,
+}
+
 /// What the program is asked to do.
 #[derive(Debug, Drop)]
 pub enum Command {
@@ -134,4 +140,7 @@ pub enum Command {
     Serve(ServeCommand),
     Replay(ReplayCommand),
     Trial(TrialCommand),
+    Help(HelpCommand),
+    /// `version`: the version of the program and of the kit that proved it is printed.
+    Version,
 }

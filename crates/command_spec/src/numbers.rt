@@ -13,16 +13,16 @@ pub enum NumberOption {
 }
 
 impl NumberOption {
-    /// The word of the option.
-    pub fn word(self) -> &'static [u8]
-        ensures { result.now ≡ specs.option_word self }
+    /// The name of the option, without its dashes.
+    pub fn name<'a>(self) -> &'a str
+        ensures { result.now ≡ specs.option_name self }
     {
         match self {
-            NumberOption::Port => b"--port",
-            NumberOption::Connections => b"--connections",
-            NumberOption::Requests => b"--requests",
-            NumberOption::Turns => b"--turns",
-            NumberOption::Cache => b"--cache",
+            NumberOption::Port => "port",
+            NumberOption::Connections => "connections",
+            NumberOption::Requests => "requests",
+            NumberOption::Turns => "turns",
+            NumberOption::Cache => "cache",
         }
     }
 

@@ -2,20 +2,26 @@
 #![tactic(auto)]
 
 ghost use Rattle.std.specs.Prelude.{◌≡◌, Some, IfOk, IfSome};
+ghost use Rattle.std.specs.Prelude.{◌≢◌, map, MatchOption, true, false};
 ghost use Rattle.std.specs.List.{list_all};
-ghost use Rattle.std.specs.Str.{is_utf8};
+ghost use Rattle.clap.specs.Words.{found_of, kind_of, rows_of};
+ghost use Rattle.clap.specs.Walk.{texts};
+ghost use Rattle.command_words.specs.Parsed as parsed;
+ghost use Rattle.command_spec.specs.Options.{is_empty};
 ghost use Rattle.command_spec.specs.Words as specs;
 ghost use Rattle.command_spec.specs.Ranges.{IsInRange, AreLimits, AreServeOptions};
 
 mod numbers;
-mod options;
+mod program;
 
+use clap::error::ErrorKind;
+use clap::{ArgMatches, Error};
 use command_spec::{
-    BuildCommand, Command, DataCommand, ExplainCommand, NumberOption, PageCommand, Parts, Paths,
-    ReplayCommand, RunLimits, ServeCommand, ServeOptions, Setting, TrialCommand,
+    BuildCommand, Command, CommandName, DataCommand, ExplainCommand, HelpCommand, NumberOption,
+    PageCommand, Paths, ReplayCommand, RunLimits, ServeCommand, ServeOptions, TrialCommand,
 };
-use numbers::{are_among, number, number_of};
-use options::parts_of;
+use numbers::{number, number_of};
+use program::{WORDS, program};
 use sd_value::{NoMemory, Str};
 use std::alloc::Global;
 use std::str;
@@ -23,29 +29,8 @@ use std::str;
 // The most entries of a trial.
 const MAX_ENTRIES: u64 = 20_000;
 
-fn is_text(word: &[u8]) -> bool
-    ensures { result ≡ is_utf8 word.now }
-{
-    match str::from_utf8(word) {
-        Ok(_) => true,
-        Err(_) => false,
-    }
-}
-
-fn is_word(word: &[u8]) -> bool
-    ensures { result ≡ specs.is_word word.now }
-{
-    is_text(word) && !word.is_empty()
-}
-
-fn are_words(words: &[Str]) -> bool
-    ensures { result ≡ list_all specs.is_word words.now }
-{
-    words.iter().all(|word| is_word(word.bytes()))
-}
-
-fn page_command(alloc: Global, words: &[Str]) -> Result<Option<Command>, NoMemory>
-    ensures exact { IfOk result (λ given. given ≡ specs.page_command words.now) }
+fn page_command(alloc: Global, words: &[&str]) -> Result<Option<Command>, NoMemory>
+    ensures exact { IfOk result (λ given. given ≡ specs.page_command (texts words.now)) }
     ensures ranges { IfOk result (λ given. IfSome given IsInRange) }
 {
     let [query, templates, address, sources @ ..] = words else {
@@ -55,15 +40,15 @@ fn page_command(alloc: Global, words: &[Str]) -> Result<Option<Command>, NoMemor
         return Ok(None);
     }
     Ok(Some(Command::Page(PageCommand {
-        query: query.copy(alloc)?,
-        templates: templates.copy(alloc)?,
-        address: address.copy(alloc)?,
+        query: Str::new(alloc, query.as_bytes())?,
+        templates: Str::new(alloc, templates.as_bytes())?,
+        address: Str::new(alloc, address.as_bytes())?,
         sources: Paths::of(alloc, sources)?,
     })))
 }
 
-fn build_command(alloc: Global, words: &[Str]) -> Result<Option<Command>, NoMemory>
-    ensures exact { IfOk result (λ given. given ≡ specs.build_command words.now) }
+fn build_command(alloc: Global, words: &[&str]) -> Result<Option<Command>, NoMemory>
+    ensures exact { IfOk result (λ given. given ≡ specs.build_command (texts words.now)) }
     ensures ranges { IfOk result (λ given. IfSome given IsInRange) }
 {
     let [query, templates, folder, sources @ ..] = words else {
@@ -73,15 +58,15 @@ fn build_command(alloc: Global, words: &[Str]) -> Result<Option<Command>, NoMemo
         return Ok(None);
     }
     Ok(Some(Command::Build(BuildCommand {
-        query: query.copy(alloc)?,
-        templates: templates.copy(alloc)?,
-        folder: folder.copy(alloc)?,
+        query: Str::new(alloc, query.as_bytes())?,
+        templates: Str::new(alloc, templates.as_bytes())?,
+        folder: Str::new(alloc, folder.as_bytes())?,
         sources: Paths::of(alloc, sources)?,
     })))
 }
 
-fn data_command(alloc: Global, words: &[Str]) -> Result<Option<Command>, NoMemory>
-    ensures exact { IfOk result (λ given. given ≡ specs.data_command words.now) }
+fn data_command(alloc: Global, words: &[&str]) -> Result<Option<Command>, NoMemory>
+    ensures exact { IfOk result (λ given. given ≡ specs.data_command (texts words.now)) }
     ensures ranges { IfOk result (λ given. IfSome given IsInRange) }
 {
     if words.is_empty() {
@@ -92,8 +77,8 @@ fn data_command(alloc: Global, words: &[Str]) -> Result<Option<Command>, NoMemor
     })))
 }
 
-fn explain_command(alloc: Global, words: &[Str]) -> Result<Option<Command>, NoMemory>
-    ensures exact { IfOk result (λ given. given ≡ specs.explain_command words.now) }
+fn explain_command(alloc: Global, words: &[&str]) -> Result<Option<Command>, NoMemory>
+    ensures exact { IfOk result (λ given. given ≡ specs.explain_command (texts words.now)) }
     ensures ranges { IfOk result (λ given. IfSome given IsInRange) }
 {
     let [query, sources @ ..] = words else {
@@ -103,93 +88,78 @@ fn explain_command(alloc: Global, words: &[Str]) -> Result<Option<Command>, NoMe
         return Ok(None);
     }
     Ok(Some(Command::Explain(ExplainCommand {
-        query: query.copy(alloc)?,
+        query: Str::new(alloc, query.as_bytes())?,
         sources: Paths::of(alloc, sources)?,
     })))
 }
 
-fn trial_command(words: &[Str]) -> Option<Command>
-    ensures exact { result ≡ specs.trial_command words.now }
+fn trial_command(words: &[&str]) -> Option<Command>
+    ensures exact { result ≡ specs.trial_command (texts words.now) }
     ensures ranges { IfSome result IsInRange }
 {
     let [entries] = words else {
         return None;
     };
-    let entries = number(MAX_ENTRIES, entries.bytes())?;
+    let entries = number(MAX_ENTRIES, entries.as_bytes())?;
     Some(Command::Trial(TrialCommand {
         entries: entries as u32,
     }))
 }
 
-fn are_none(settings: &[Setting]) -> bool
-    ensures { result ≡ specs.are_none settings.now }
+fn help_command(words: &[&str]) -> Option<Command>
+    ensures exact { result ≡ specs.help_command (texts words.now) }
+    ensures ranges { IfSome result IsInRange }
 {
-    settings.is_empty()
+    match words {
+        [] => Some(Command::Help(HelpCommand { name: None })),
+        [word] => {
+            let name = CommandName::of(word)?;
+            Some(Command::Help(HelpCommand { name: Some(name) }))
+        }
+        _ => None,
+    }
 }
 
-fn run_limits(settings: &[Setting]) -> Option<RunLimits>
-    ensures exact { result ≡ specs.run_limits settings.now }
+fn version_command(words: &[&str]) -> Option<Command>
+    ensures exact { result ≡ specs.version_command (texts words.now) }
+    ensures ranges { IfSome result IsInRange }
+{
+    if words.is_empty() {
+        Some(Command::Version)
+    } else {
+        None
+    }
+}
+
+fn run_limits(matches: &ArgMatches<'_>) -> Option<RunLimits>
+    ensures exact { result ≡ parsed.run_limits (rows_of (found_of matches.now)) }
     ensures ranges { IfSome result AreLimits }
 {
     Some(RunLimits {
-        requests: number_of(NumberOption::Requests, settings)?,
-        turns: number_of(NumberOption::Turns, settings)?,
-        cache: number_of(NumberOption::Cache, settings)? as u32,
+        requests: number_of(NumberOption::Requests, matches)?,
+        turns: number_of(NumberOption::Turns, matches)?,
+        cache: number_of(NumberOption::Cache, matches)? as u32,
     })
 }
 
-fn serve_numbers(settings: &[Setting]) -> Option<ServeOptions>
-    ensures exact { result ≡ specs.serve_numbers settings.now }
+fn serve_options(matches: &ArgMatches<'_>) -> Option<ServeOptions>
+    ensures exact { result ≡ parsed.serve_options (rows_of (found_of matches.now)) }
     ensures ranges { IfSome result AreServeOptions }
 {
     Some(ServeOptions {
-        port: number_of(NumberOption::Port, settings)? as u16,
-        connections: number_of(NumberOption::Connections, settings)?,
-        limits: run_limits(settings)?,
+        port: number_of(NumberOption::Port, matches)? as u16,
+        connections: number_of(NumberOption::Connections, matches)?,
+        limits: run_limits(matches)?,
     })
-}
-
-fn serve_options(settings: &[Setting]) -> Option<ServeOptions>
-    ensures exact { result ≡ specs.serve_options settings.now }
-    ensures ranges { IfSome result AreServeOptions }
-{
-    let options = [
-        NumberOption::Port,
-        NumberOption::Connections,
-        NumberOption::Requests,
-        NumberOption::Turns,
-        NumberOption::Cache,
-    ];
-    if are_among(&options, settings) {
-        serve_numbers(settings)
-    } else {
-        None
-    }
-}
-
-fn replay_options(settings: &[Setting]) -> Option<RunLimits>
-    ensures exact { result ≡ specs.replay_options settings.now }
-    ensures ranges { IfSome result AreLimits }
-{
-    let options = [
-        NumberOption::Requests,
-        NumberOption::Turns,
-        NumberOption::Cache,
-    ];
-    if are_among(&options, settings) {
-        run_limits(settings)
-    } else {
-        None
-    }
 }
 
 fn serve_command(
     alloc: Global,
     options: ServeOptions,
-    words: &[Str],
+    words: &[&str],
 ) -> Result<Option<Command>, NoMemory>
     requires { AreServeOptions options }
-    ensures exact { IfOk result (λ given. given ≡ specs.serve_command options words.now) }
+    ensures exact { IfOk result (λ given. given ≡ specs.serve_command options (texts words.now)) }
     ensures ranges { IfOk result (λ given. IfSome given IsInRange) }
 {
     let [query, templates, sources @ ..] = words else {
@@ -199,8 +169,8 @@ fn serve_command(
         return Ok(None);
     }
     Ok(Some(Command::Serve(ServeCommand {
-        query: query.copy(alloc)?,
-        templates: templates.copy(alloc)?,
+        query: Str::new(alloc, query.as_bytes())?,
+        templates: Str::new(alloc, templates.as_bytes())?,
         sources: Paths::of(alloc, sources)?,
         options,
     })))
@@ -209,10 +179,10 @@ fn serve_command(
 fn replay_command(
     alloc: Global,
     limits: RunLimits,
-    words: &[Str],
+    words: &[&str],
 ) -> Result<Option<Command>, NoMemory>
     requires { AreLimits limits }
-    ensures exact { IfOk result (λ given. given ≡ specs.replay_command limits words.now) }
+    ensures exact { IfOk result (λ given. given ≡ specs.replay_command limits (texts words.now)) }
     ensures ranges { IfOk result (λ given. IfSome given IsInRange) }
 {
     let [query, templates, script, sources @ ..] = words else {
@@ -222,76 +192,165 @@ fn replay_command(
         return Ok(None);
     }
     Ok(Some(Command::Replay(ReplayCommand {
-        query: query.copy(alloc)?,
-        templates: templates.copy(alloc)?,
-        script: script.copy(alloc)?,
+        query: Str::new(alloc, query.as_bytes())?,
+        templates: Str::new(alloc, templates.as_bytes())?,
+        script: Str::new(alloc, script.as_bytes())?,
         sources: Paths::of(alloc, sources)?,
         limits,
     })))
 }
 
 /// A command that takes no options.
-fn plain_command(alloc: Global, name: &[u8], words: &[Str]) -> Result<Option<Command>, NoMemory>
-    ensures exact { IfOk result (λ given. given ≡ specs.plain_command name.now words.now) }
+fn plain_command(alloc: Global, name: &str, words: &[&str]) -> Result<Option<Command>, NoMemory>
+    ensures exact { IfOk result (λ given. given ≡ specs.plain_command name.now (texts words.now)) }
     ensures ranges { IfOk result (λ given. IfSome given IsInRange) }
 {
-    if name == b"page".as_slice() {
-        page_command(alloc, words)
-    } else if name == b"build".as_slice() {
-        build_command(alloc, words)
-    } else if name == b"data".as_slice() {
-        data_command(alloc, words)
-    } else if name == b"explain".as_slice() {
-        explain_command(alloc, words)
-    } else if name == b"trial".as_slice() {
-        Ok(trial_command(words))
-    } else {
-        Ok(None)
+    match name {
+        "page" => page_command(alloc, words),
+        "build" => build_command(alloc, words),
+        "data" => data_command(alloc, words),
+        "explain" => explain_command(alloc, words),
+        "trial" => Ok(trial_command(words)),
+        "help" => Ok(help_command(words)),
+        "version" => Ok(version_command(words)),
+        _ => Ok(None),
     }
 }
 
-fn serve_parts(alloc: Global, parts: &Parts) -> Result<Option<Command>, NoMemory>
-    ensures exact { IfOk result (λ given. given ≡ specs.serve_parts parts.now) }
+fn serve_with_words(
+    alloc: Global,
+    matches: &ArgMatches<'_>,
+    words: &[&str],
+) -> Result<Option<Command>, NoMemory>
+    ensures exact { IfOk result
+        (λ given. given
+        ≡ parsed.serve_with_words (rows_of (found_of matches.now)) (texts words.now)) }
     ensures ranges { IfOk result (λ given. IfSome given IsInRange) }
 {
-    match serve_options(&parts.settings) {
-        Some(options) => serve_command(alloc, options, &parts.words),
+    match serve_options(matches) {
+        Some(options) => serve_command(alloc, options, words),
         None => Ok(None),
     }
 }
 
-fn replay_parts(alloc: Global, parts: &Parts) -> Result<Option<Command>, NoMemory>
-    ensures exact { IfOk result (λ given. given ≡ specs.replay_parts parts.now) }
+fn replay_with_words(
+    alloc: Global,
+    matches: &ArgMatches<'_>,
+    words: &[&str],
+) -> Result<Option<Command>, NoMemory>
+    ensures exact { IfOk result
+        (λ given. given
+        ≡ parsed.replay_with_words (rows_of (found_of matches.now)) (texts words.now)) }
     ensures ranges { IfOk result (λ given. IfSome given IsInRange) }
 {
-    match replay_options(&parts.settings) {
-        Some(limits) => replay_command(alloc, limits, &parts.words),
+    match run_limits(matches) {
+        Some(limits) => replay_command(alloc, limits, words),
         None => Ok(None),
     }
 }
 
-fn plain_parts(alloc: Global, name: &[u8], parts: &Parts) -> Result<Option<Command>, NoMemory>
-    ensures exact { IfOk result (λ given. given ≡ specs.plain_parts name.now parts.now) }
+/// The command of this name, with the options of the matches and these words.
+fn command_with_words(
+    alloc: Global,
+    name: &str,
+    matches: &ArgMatches<'_>,
+    words: &[&str],
+) -> Result<Option<Command>, NoMemory>
+    ensures exact { IfOk result
+        (λ given. given
+        ≡ parsed.command_with_words name.now (rows_of (found_of matches.now)) (texts words.now)) }
     ensures ranges { IfOk result (λ given. IfSome given IsInRange) }
 {
-    if are_none(&parts.settings) {
-        plain_command(alloc, name, &parts.words)
-    } else {
-        Ok(None)
+    match name {
+        "serve" => serve_with_words(alloc, matches, words),
+        "replay" => replay_with_words(alloc, matches, words),
+        _ => plain_command(alloc, name, words),
     }
 }
 
-fn named_command(alloc: Global, name: &[u8], parts: &Parts) -> Result<Option<Command>, NoMemory>
-    ensures exact { IfOk result (λ given. given ≡ specs.named_command name.now (Some parts.now)) }
+fn named_command(
+    alloc: Global,
+    name: &str,
+    matches: &ArgMatches<'_>,
+) -> Result<Option<Command>, NoMemory>
+    ensures exact { IfOk result
+        (λ given. given ≡ parsed.command_in_rows name.now (rows_of (found_of matches.now))) }
     ensures ranges { IfOk result (λ given. IfSome given IsInRange) }
 {
-    if name == b"serve".as_slice() {
-        serve_parts(alloc, parts)
-    } else if name == b"replay".as_slice() {
-        replay_parts(alloc, parts)
-    } else {
-        plain_parts(alloc, name, parts)
+    match matches.get_strs(WORDS) {
+        Some(words) => command_with_words(alloc, name, matches, words),
+        None => command_with_words(alloc, name, matches, &[]),
     }
+}
+
+fn is_out_of_memory(error: &Error) -> bool
+    ensures { result ≡ false → kind_of error.now ≢ ErrorKind.OutOfMemory }
+{
+    error.kind() == ErrorKind::OutOfMemory
+}
+
+/// What `clap` makes of the words, or none where it refuses them.
+fn matches_of<'a>(alloc: Global, words: &'a [&'a str]) -> Result<Option<ArgMatches<'a>>, NoMemory>
+    ensures { IfOk result (parsed.IsParsedFrom (texts words.now)) }
+{
+    match program(alloc)?.try_get_matches_from(words) {
+        Ok(matches) => Ok(Some(matches)),
+        Err(error) => {
+            if is_out_of_memory(&error) {
+                Err(NoMemory)
+            } else {
+                Ok(None)
+            }
+        }
+    }
+}
+
+/// The command that these texts give, or none.
+fn text_command(alloc: Global, words: &[&str]) -> Result<Option<Command>, NoMemory>
+    ensures exact { IfOk result (λ given. given ≡ parsed.command (texts words.now)) }
+    ensures ranges { IfOk result (λ given. IfSome given IsInRange) }
+{
+    let Some(matches) = matches_of(alloc, words)? else {
+        return Ok(None);
+    };
+    match matches.subcommand() {
+        Some((name, matches)) => named_command(alloc, name, matches),
+        None => Ok(None),
+    }
+}
+
+fn non_empty(text: &str) -> Option<&str>
+    ensures { MatchOption result (is_empty text.now ≡ true)
+        (λ r. (r.now ≡ text.now) × (is_empty text.now ≡ false)) }
+{
+    if text.is_empty() { None } else { Some(text) }
+}
+
+/// The word as a text that isn't empty.
+fn text_of(word: &Str) -> Option<&str>
+    ensures { MatchOption result (specs.is_word word.now ≡ false)
+        (λ text. (text.now ≡ word.now) × (specs.is_word word.now ≡ true)) }
+{
+    match str::from_utf8(word.bytes()) {
+        Ok(text) => non_empty(text),
+        Err(_) => None,
+    }
+}
+
+/// The words as texts, unless one is no text or empty.
+fn texts_of<'a>(alloc: Global, words: &'a [Str]) -> Result<Option<Vec<&'a str>>, NoMemory>
+    ensures { IfOk result
+        (λ t. MatchOption t (list_all specs.is_word words.now ≡ false)
+        (λ found. parsed.AreTexts words.now found.items)) }
+{
+    let mut found = Vec::with_capacity(alloc, words.len())?;
+    for word in words {
+        match text_of(word) {
+            Some(text) => found.push(text)?,
+            None => return Ok(None),
+        }
+    }
+    Ok(Some(found))
 }
 
 /// The command that the words after the program's name give, or none.
@@ -305,14 +364,8 @@ pub fn read_command(alloc: Global, words: &[Str]) -> Result<Option<Command>, NoM
     ensures exact { IfOk result (λ given. given ≡ specs.command words.now) }
     ensures ranges { IfOk result (λ given. IfSome given IsInRange) }
 {
-    if !are_words(words) {
-        return Ok(None);
-    }
-    let [name, words @ ..] = words else {
-        return Ok(None);
-    };
-    match parts_of(alloc, words)? {
-        Some(parts) => named_command(alloc, name.bytes(), &parts),
+    match texts_of(alloc, words)? {
+        Some(texts) => text_command(alloc, &texts),
         None => Ok(None),
     }
 }

@@ -6,8 +6,11 @@ ghost use Rattle.std.specs.List.{list_all};
 ghost use Rattle.std.specs.Str.Parse.{digits_value};
 ghost use Rattle.command_spec.specs.Numbers as specs;
 ghost use Rattle.command_spec.specs.Ranges.{IsFrom1To};
+ghost use Rattle.clap.specs.Words.{found_of, rows_of};
+ghost use Rattle.command_words.specs.Parsed as parsed;
 
-use command_spec::{NumberOption, Setting};
+use clap::ArgMatches;
+use command_spec::NumberOption;
 use std::str;
 
 fn are_digits(text: &[u8]) -> bool
@@ -58,38 +61,13 @@ pub fn number(most: u64, text: &[u8]) -> Option<u64>
     }
 }
 
-/// What the option is: its default where it isn't given, and nothing where it occurs twice or its value is no such
-/// number.
-pub fn number_of(option: NumberOption, settings: &[Setting]) -> Option<u64>
-    ensures exact { result ≡ specs.number_of option settings.now }
+/// What the option is: its default where it isn't given, and nothing where its value is no such number.
+pub fn number_of(option: NumberOption, matches: &ArgMatches<'_>) -> Option<u64>
+    ensures exact { result ≡ parsed.number_in option (rows_of (found_of matches.now)) }
     ensures range { IfSome result (IsFrom1To (specs.greatest option)) }
 {
-    let mut found: Option<&[u8]> = None;
-    for setting in settings {
-        if setting.name.bytes() == option.word() {
-            if found.is_some() {
-                return None;
-            }
-            found = Some(setting.value.bytes());
-        }
-    }
-    match found {
+    match matches.get_str(option.name()) {
         None => Some(option.otherwise()),
-        Some(value) => number(option.greatest(), value),
+        Some(text) => number(option.greatest(), text.as_bytes()),
     }
-}
-
-fn is_among(options: &[NumberOption], name: &[u8]) -> bool
-    ensures { result ≡ specs.is_among options.now name.now }
-{
-    options.iter().any(|option| name == option.word())
-}
-
-/// Whether each option is one of these.
-pub fn are_among(options: &[NumberOption], settings: &[Setting]) -> bool
-    ensures { result ≡ specs.are_among options.now settings.now }
-{
-    settings
-        .iter()
-        .all(|setting| is_among(options, setting.name.bytes()))
 }

@@ -1,5 +1,5 @@
 //! The commands by worked rows, over files, outputs and a wire in memory: the lines of files that `page` and `replay`
-//! refuse, and what `serve` and `replay` send and print.
+//! refuse, what `serve` and `replay` send and print, and the usages that `help` prints beside what each command takes.
 #![tactic(auto)]
 
 #[cfg(test)]
@@ -10,3 +10,5 @@ mod refused;
 mod run;
 #[cfg(test)]
 mod served;
+#[cfg(test)]
+mod usages;

@@ -147,7 +147,10 @@ fn wrong_words_are_refused(rt: HostRuntime) -> Result<(), Fail> {
     let line = "strudel: bad command line\n";
     check_row(&rt, &expects(&[], 2, "", line))?;
     check_row(&rt, &expects(&["frob"], 2, "", line))?;
-    check_row(&rt, &expects(&["data", "-x"], 2, "", line))
+    check_row(&rt, &expects(&["data", "-x"], 2, "", line))?;
+    check_row(&rt, &expects(&["--help"], 2, "", line))?;
+    check_row(&rt, &expects(&["help", "frob"], 2, "", line))?;
+    check_row(&rt, &expects(&["version", "x"], 2, "", line))
 }
 
 #[test]
@@ -398,6 +401,20 @@ fn connections_are_served(rt: HostRuntime) -> Result<(), Fail> {
 fn a_trial_is_run(rt: HostRuntime) -> Result<(), Fail> {
     let text = "entries 1\nrequests 64\nok 6\nmissing 58\nbytes 304\nhits 3\n";
     check_build(&rt, &expects(&["trial", "1"], 0, text, ""), &[])
+}
+
+#[test]
+fn help_and_version_are_printed(rt: HostRuntime) -> Result<(), Fail> {
+    let usage =
+        "usage: strudel version\n\nPrints the version of the program and of the kit that proved it.\n";
+    check_row(&rt, &expects(&["help", "version"], 0, usage, ""))?;
+    let versions = "strudel 0.1.0\nrattle-kit-13f logic dac8208d650f15bf\n";
+    check_row(&rt, &expects(&["version"], 0, versions, ""))?;
+    let unwritten = Row {
+        failing_puts: &[1],
+        ..expects(&["version"], 5, "", "strudel: cannot write\n")
+    };
+    check_row(&rt, &unwritten)
 }
 
 const FIRST_NAME: &[Written] = &[

@@ -1,4 +1,6 @@
 use Rattle.std.specs.Prelude.{None}
+use Rattle.std.proofs.Common.{inl, List, ℕ, Ok, subst}
+use Rattle.site_inputs.specs.Sites.{InputsEnd}
 use Rattle.site_inputs.specs.Values.{inputs_of}
 use Rattle.site_inputs.specs.Outside.{outside}
 use Rattle.command_serve.proofs.Told.{never_silent, never_usage, over_read_rose}
@@ -23,3 +25,11 @@ pub returns-in-Ok-clause-read_cause : goal.returns-in-Ok-clause-read_cause
 returns-in-Ok-clause-read_cause g c =
     over_read_rose (inputs_of c.in-Ok.inputs) c.args.command.now.options (outside (λ path. None) (λ path. 0) (λ path. 0) (g.O.Sink.text c.args.out.now) (g.O.Sink.failed c.args.out.now) (g.W.Wire.told c.args.wire.now)) (outside (λ path. None) (λ path. 0) (λ path. 0) (g.O.Sink.text c.serve_over.new.out) (g.O.Sink.failed c.serve_over.new.out) (g.W.Wire.told c.serve_over.new.wire)) _ _ _ c.serve_over.result
     (c.serve_over.ensures.ends (λ path. None) (λ path. None) (λ path. 0) (λ path. 0) (λ path. 0) (λ path. 0))
+
+pub returns-in-Ok-clause-ends : goal.returns-in-Ok-clause-ends
+returns-in-Ok-clause-ends g c = λ x e.
+    inl (record {
+      inputs = inputs_of c.in-Ok.inputs;
+      taken = subst (λ (ss : List (List ℕ)). InputsEnd x ss c.args.command.now.query c.args.command.now.templates (Ok (inputs_of c.in-Ok.inputs))) c.items.ensures (c.in-Ok.ensures.ends x e);
+      ends = c.serve_over.ensures.ends x x (g.F.Files.failed_reads c.args.files.now) (g.F.Files.failed_reads c.load_inputs.new.files) (g.F.Files.failed_writes c.args.files.now) (g.F.Files.failed_writes c.load_inputs.new.files);
+    })

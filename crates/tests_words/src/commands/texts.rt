@@ -1,5 +1,5 @@
 // Commands as texts: the name, and then each part behind a blank.
-use command_spec::Command;
+use command_spec::{Command, CommandName, HelpCommand};
 use sd_value::{NoMemory, Str};
 use std::alloc::Global;
 
@@ -44,6 +44,27 @@ fn named(
     Ok(out)
 }
 
+fn name_text(name: CommandName) -> &'static [u8] {
+    match name {
+        CommandName::Page => b"help page",
+        CommandName::Build => b"help build",
+        CommandName::Data => b"help data",
+        CommandName::Explain => b"help explain",
+        CommandName::Serve => b"help serve",
+        CommandName::Replay => b"help replay",
+        CommandName::Trial => b"help trial",
+        CommandName::Help => b"help help",
+        CommandName::Version => b"help version",
+    }
+}
+
+fn help_text(command: &HelpCommand) -> &'static [u8] {
+    match command.name {
+        Some(name) => name_text(name),
+        None => b"help",
+    }
+}
+
 /// The command as a text: its paths as they are in it, and behind them its numbers.
 pub fn command_text(alloc: Global, command: &Command) -> Result<Vec<u8>, NoMemory> {
     match command {
@@ -76,5 +97,7 @@ pub fn command_text(alloc: Global, command: &Command) -> Result<Vec<u8>, NoMemor
             named(alloc, b"replay", &paths, c.sources.items(), &numbers)
         }
         Command::Trial(c) => named(alloc, b"trial", &[], &[], &[u64::from(c.entries)]),
+        Command::Help(c) => named(alloc, help_text(c), &[], &[], &[]),
+        Command::Version => named(alloc, b"version", &[], &[], &[]),
     }
 }

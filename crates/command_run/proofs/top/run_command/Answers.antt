@@ -1,5 +1,5 @@
 use Rattle.std.proofs.Common.{refl}
-use Rattle.command_run.proofs.Ends.{page_told, data_told, explain_told, build_told, serve_told, replay_told, build_writes, serve_uses, serve_read_rose, replay_read_rose, serve_write_rose, replay_write_rose, page_read_rose, data_read_rose, explain_read_rose, build_read_rose, page_write_rose, data_write_rose, explain_write_rose, build_write_rose, trial_told, trial_read_rose, trial_write_rose}
+use Rattle.command_run.proofs.Ends.{page_told, data_told, explain_told, build_told, serve_told, replay_told, build_writes, serve_uses, serve_read_rose, replay_read_rose, serve_write_rose, replay_write_rose, page_read_rose, data_read_rose, explain_read_rose, build_read_rose, page_write_rose, data_write_rose, explain_write_rose, build_write_rose, trial_told, trial_read_rose, trial_write_rose, help_told, help_read_rose, help_write_rose, version_told, version_read_rose, version_write_rose}
 use Rattle.command_run.proofs.top.run_command.Goals as goal
 
 pub returns-in-Page-clause-ends : goal.returns-in-Page-clause-ends
@@ -76,3 +76,21 @@ returns-in-Trial-clause-read_cause g c = trial_read_rose c.args.command.now c.in
 
 pub returns-in-Trial-clause-write_cause : goal.returns-in-Trial-clause-write_cause
 returns-in-Trial-clause-write_cause g c = λ e. trial_write_rose c.args.command.now c.in-Trial.command _ _ _ c.in-Trial.is (c.put_answer-in-Trial.ensures.write_cause e)
+
+pub returns-in-Help-clause-ends : goal.returns-in-Help-clause-ends
+returns-in-Help-clause-ends g c = λ map told. help_told (g.F.Files.failed_reads c.args.files.now) (g.F.Files.failed_reads c.args.files.now) (g.F.Files.failed_writes c.args.files.now) (g.F.Files.failed_writes c.args.files.now) (g.O.Sink.text c.args.out.now) (g.O.Sink.text c.put_answer-in-Help.new.out) (g.O.Sink.failed c.args.out.now) (g.O.Sink.failed c.put_answer-in-Help.new.out) (g.W.Wire.told c.args.wire.now) (g.W.Wire.told c.args.wire.now) _ _ map c.args.command.now c.in-Help.command c.help-answer.result _ refl told c.in-Help.is c.help-answer.ensures c.put_answer-in-Help.ensures.ends
+
+pub returns-in-Help-clause-read_cause : goal.returns-in-Help-clause-read_cause
+returns-in-Help-clause-read_cause g c = help_read_rose c.args.command.now c.in-Help.command c.help-answer.result _ _ _ _ _ c.put_answer-in-Help.ensures.ends c.help-answer.ensures
+
+pub returns-in-Help-clause-write_cause : goal.returns-in-Help-clause-write_cause
+returns-in-Help-clause-write_cause g c = λ e. help_write_rose c.args.command.now c.in-Help.command _ _ _ c.in-Help.is (c.put_answer-in-Help.ensures.write_cause e)
+
+pub returns-in-Version-clause-ends : goal.returns-in-Version-clause-ends
+returns-in-Version-clause-ends g c = λ map told. version_told (g.F.Files.failed_reads c.args.files.now) (g.F.Files.failed_reads c.args.files.now) (g.F.Files.failed_writes c.args.files.now) (g.F.Files.failed_writes c.args.files.now) (g.O.Sink.text c.args.out.now) (g.O.Sink.text c.put_answer-in-Version.new.out) (g.O.Sink.failed c.args.out.now) (g.O.Sink.failed c.put_answer-in-Version.new.out) (g.W.Wire.told c.args.wire.now) (g.W.Wire.told c.args.wire.now) _ _ map c.args.command.now c.version-answer.result _ refl told c.in-Version.is c.version-answer.ensures c.put_answer-in-Version.ensures.ends
+
+pub returns-in-Version-clause-read_cause : goal.returns-in-Version-clause-read_cause
+returns-in-Version-clause-read_cause g c = version_read_rose c.args.command.now c.version-answer.result _ _ _ _ _ c.put_answer-in-Version.ensures.ends c.version-answer.ensures
+
+pub returns-in-Version-clause-write_cause : goal.returns-in-Version-clause-write_cause
+returns-in-Version-clause-write_cause g c = λ e. version_write_rose c.args.command.now _ _ _ c.in-Version.is (c.put_answer-in-Version.ensures.write_cause e)

@@ -1,0 +1,162 @@
+-- What a parse finds among the arguments of a command: its options by their names, and the words.
+use Rattle.std.proofs.Common.{◌≡◌, ◌∙◌, ℕ, Bool, true, false, refl, sym, ap, inl, inr, List, [], ◌∷◌, map, None, Some, true≢false, ◌&&◌, ◌||◌}
+use Rattle.std.specs.Prelude.{◌⊎◌, codes, find, not, is_some}
+use Rattle.std.specs.Str.{bytes_eq}
+use Rattle.std.proofs.lemmas.Slice.Eq.{bytes_eq-Decides}
+use Rattle.clap.specs.Walk.{Rule, Text, arg_by_id, arg_by_long, arg_by_short, has_short}
+use Rattle.clap.specs.declared.builder.value_parser.ValueParser.TheVariants.{String}
+use Rattle.command_spec.specs.declared.numbers.NumberOption.{NumberOption}
+use Rattle.command_spec.specs.declared.numbers.NumberOption.TheVariants.{Port, Connections, Requests, Turns, Cache}
+use Rattle.command_spec.specs.Numbers.{option_name, option_word, is_among}
+use Rattle.command_words.specs.Parsed.{option_rule, words_rule}
+
+-- the arguments as building leaves them
+abbrev pub option_built : Text → Rule
+option_built name = record (option_rule name) { range = Some (record { start_inclusive = 1; end_inclusive = 1 }) }
+
+abbrev pub words_built : Rule
+words_built = record words_rule {
+  index = Some 1;
+  range = Some (record { start_inclusive = 1; end_inclusive = 1 });
+  parser = Some String;
+}
+
+abbrev pub built_option : NumberOption → Rule
+built_option option = option_built (option_name option)
+
+abbrev pub built_rules : List NumberOption → List Rule
+built_rules options = words_built ∷ map built_option options
+
+pub two : (b : Bool) → (b ≡ true) ⊎ (b ≡ false)
+two true = inl refl
+two false = inr refl
+
+pub same : (a b : Text) → bytes_eq a b ≡ true → a ≡ b
+same a b = (bytes_eq-Decides a b).0
+
+pub equal : (a : Text) → bytes_eq a a ≡ true
+equal a = (bytes_eq-Decides a a).1 refl
+
+pub not_true : (b : Bool) → (b ≡ true → ⊥) → b ≡ false
+not_true true never = absurd (never refl)
+not_true false never = refl
+
+pub false_is : (b : Bool) → b ≡ false → b ≡ true → ⊥
+false_is b f t = true≢false (sym t ∙ f)
+
+pub turned : (a b : Text) → bytes_eq a b ≡ bytes_eq b a
+turned a b = elim (two (bytes_eq b a)) [
+  | inl t ↦ (bytes_eq-Decides a b).1 (sym (same b a t)) ∙ sym t
+  | inr f ↦ not_true (bytes_eq a b) (λ t. false_is (bytes_eq b a) f ((bytes_eq-Decides b a).1 (sym (same a b t)))) ∙ sym f
+]
+
+pub dashed : (option : NumberOption) → option_word option ≡ 45 ∷ 45 ∷ option_name option
+dashed Port = refl
+dashed Connections = refl
+dashed Requests = refl
+dashed Turns = refl
+dashed Cache = refl
+
+pub own_name : (option : NumberOption) → bytes_eq (codes "words") (option_name option) ≡ false
+own_name Port = refl
+own_name Connections = refl
+own_name Requests = refl
+own_name Turns = refl
+own_name Cache = refl
+
+-- options of one name are one
+pub one_option : (a b : NumberOption) → option_name a ≡ option_name b → a ≡ b
+one_option a b e = by_test a b ((bytes_eq-Decides (option_name a) (option_name b)).1 e)
+  where
+    by_test : (a b : NumberOption) → bytes_eq (option_name a) (option_name b) ≡ true → a ≡ b
+    by_test Port Port t = refl
+    by_test Port Connections t = absurd (true≢false (sym t))
+    by_test Port Requests t = absurd (true≢false (sym t))
+    by_test Port Turns t = absurd (true≢false (sym t))
+    by_test Port Cache t = absurd (true≢false (sym t))
+    by_test Connections Port t = absurd (true≢false (sym t))
+    by_test Connections Connections t = refl
+    by_test Connections Requests t = absurd (true≢false (sym t))
+    by_test Connections Turns t = absurd (true≢false (sym t))
+    by_test Connections Cache t = absurd (true≢false (sym t))
+    by_test Requests Port t = absurd (true≢false (sym t))
+    by_test Requests Connections t = absurd (true≢false (sym t))
+    by_test Requests Requests t = refl
+    by_test Requests Turns t = absurd (true≢false (sym t))
+    by_test Requests Cache t = absurd (true≢false (sym t))
+    by_test Turns Port t = absurd (true≢false (sym t))
+    by_test Turns Connections t = absurd (true≢false (sym t))
+    by_test Turns Requests t = absurd (true≢false (sym t))
+    by_test Turns Turns t = refl
+    by_test Turns Cache t = absurd (true≢false (sym t))
+    by_test Cache Port t = absurd (true≢false (sym t))
+    by_test Cache Connections t = absurd (true≢false (sym t))
+    by_test Cache Requests t = absurd (true≢false (sym t))
+    by_test Cache Turns t = absurd (true≢false (sym t))
+    by_test Cache Cache t = refl
+
+-- one of the options
+abbrev pub IsIn : List NumberOption → NumberOption → Type 0
+IsIn options option = is_among options (option_word option) ≡ true
+
+-- what a long name finds
+pub record IsFound (options : List NumberOption) (name : Text) : Type 0 where
+  pub option : NumberOption
+  pub named : name ≡ option_name option
+  pub found : arg_by_long (built_rules options) name ≡ Some (built_option option)
+  pub in_it : IsIn options option
+
+pub record IsUnknown (options : List NumberOption) (name : Text) : Type 0 where
+  pub found : arg_by_long (built_rules options) name ≡ None
+  pub not_in : is_among options (45 ∷ 45 ∷ name) ≡ false
+
+word_test : (option : NumberOption) (name : Text) → bytes_eq (45 ∷ 45 ∷ name) (option_word option) ≡ bytes_eq (option_name option) name
+word_test option name = ap (bytes_eq (45 ∷ 45 ∷ name)) (dashed option) ∙ turned name (option_name option)
+
+pub by_long : (options : List NumberOption) (name : Text) → IsFound options name ⊎ IsUnknown options name
+by_long [] name = inr (record { found = refl; not_in = refl })
+by_long (o ∷ os) name = elim (two (bytes_eq (option_name o) name)) [
+  | inl t ↦ inl (record {
+    option = o;
+    named = sym (same (option_name o) name t);
+    found = rw t refl;
+    in_it = ap (λ b. b || is_among os (option_word o)) (equal (option_word o));
+  })
+  | inr f ↦ elim (by_long os name) [
+    | inl h ↦ inl (record {
+      option = h.option;
+      named = h.named;
+      found = rw f h.found;
+      in_it = or_right (bytes_eq (option_word h.option) (option_word o)) _ h.in_it;
+    })
+    | inr h ↦ inr (record { found = rw f h.found; not_in = rw (word_test o name, f) h.not_in })
+  ]
+]
+  where
+    or_right : (a b : Bool) → b ≡ true → (a || b) ≡ true
+    or_right true b e = refl
+    or_right false b e = e
+
+by_id_in : (options : List NumberOption) (option : NumberOption) → IsIn options option → find (λ a. bytes_eq a.id (option_name option)) (map built_option options) ≡ Some (built_option option)
+by_id_in [] option i = absurd (true≢false (sym i))
+by_id_in (o ∷ os) option i = elim (two (bytes_eq (option_name o) (option_name option))) [
+  | inl t ↦ rw t (ap (λ x. Some (built_option x)) (one_option o option (same _ _ t)))
+  | inr f ↦ rw f (by_id_in os option (rest (sym (ap (λ b. b || is_among os (option_word option)) (miss f)) ∙ i)))
+]
+  where
+    miss : bytes_eq (option_name o) (option_name option) ≡ false → bytes_eq (option_word option) (option_word o) ≡ false
+    miss f = ap (λ w. bytes_eq w (option_word o)) (dashed option) ∙ word_test o (option_name option) ∙ f
+
+    rest : {b : Bool} → (false || b) ≡ true → b ≡ true
+    rest e = e
+
+pub by_id : (options : List NumberOption) (option : NumberOption) → IsIn options option → arg_by_id (built_rules options) (option_name option) ≡ Some (built_option option)
+by_id options option i = rw (own_name option) (by_id_in options option i)
+
+no_short : (options : List NumberOption) (x : ℕ) → find (λ a. not (is_some a.index) && has_short a x) (map built_option options) ≡ None
+no_short [] x = refl
+no_short (o ∷ os) x = no_short os x
+
+-- no option has a short name
+pub by_short : (options : List NumberOption) (x : ℕ) → arg_by_short (built_rules options) x ≡ None
+by_short options x = no_short options x

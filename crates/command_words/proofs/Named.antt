@@ -1,0 +1,124 @@
+-- The command of what was found behind a name, and of what the definition makes of the same words.
+use Rattle.std.proofs.Common.{◌≡◌, ◌∙◌, ℕ, Bool, true, false, cond, refl, sym, ap, inl, inr, List, [], ◌∷◌, Option, None, Some, true≢false}
+use Rattle.std.specs.Prelude.{◌⊎◌, codes, option_and_then}
+use Rattle.std.specs.Str.{bytes_eq}
+use Rattle.clap.specs.Walk.{Row, Text}
+use Rattle.command_spec.specs.declared.numbers.NumberOption.{NumberOption}
+use Rattle.command_spec.specs.declared.numbers.NumberOption.TheVariants.{Port, Connections, Requests, Turns, Cache}
+use Rattle.command_spec.specs.declared.RunLimits.{RunLimits}
+use Rattle.command_spec.specs.declared.ServeOptions.{ServeOptions}
+use Rattle.command_spec.specs.Numbers.{are_among, number_of, one_number, values_of}
+use Rattle.command_spec.specs.Options.{Parts, Setting}
+use Rattle.command_words.specs.Parsed as parsed
+use Rattle.command_words.specs.Parsed.{number_in, command_in_rows, run_numbers, command_with_words}
+use Rattle.command_spec.specs.Words as words
+use Rattle.command_spec.specs.Words.{are_none, named_command, replay_command, serve_command}
+use Rattle.command_words.proofs.Lookups.{IsIn}
+use Rattle.command_words.proofs.Found.{values_at}
+use Rattle.command_words.proofs.Settings.{AreUnfit, IsUnfit, twice, unknown}
+use Rattle.command_words.proofs.Behind.{Agrees, Slot, set, unset}
+
+pub none_later : {A B : Type 0} (x : Option A) (f : A → Option B) → ((a : A) → f a ≡ None) → option_and_then f x ≡ None
+none_later None f none = refl
+none_later (Some a) f none = none a
+
+same_number : (o : NumberOption) (rows : List Row) (settings : List Setting) → Slot o rows settings → number_in o rows ≡ number_of o settings
+same_number o rows settings (unset empty no_row first) = ap (parsed.number_or_default o) first ∙ sym (ap (one_number o) empty)
+same_number o rows settings (set text one some first) = ap (parsed.number_or_default o) first ∙ sym (ap (one_number o) one)
+
+abbrev limits_by : Option ℕ → Option ℕ → Option ℕ → Option RunLimits
+limits_by requests turns cache = option_and_then (λ r. option_and_then (λ t. option_and_then (λ c. Some (record { requests = r; turns = t; cache = c })) cache) turns) requests
+
+abbrev serve_by : Option ℕ → Option ℕ → Option RunLimits → Option ServeOptions
+serve_by port connections limits = option_and_then (λ p. option_and_then (λ n. option_and_then (λ l. Some (record { port = p; connections = n; limits = l })) limits) connections) port
+
+module _ (rows : List Row) (settings : List Setting) (slots : (o : NumberOption) → Slot o rows settings) where
+  same : (o : NumberOption) → number_in o rows ≡ number_of o settings
+  same o = same_number o rows settings (slots o)
+
+  pub same_limits : parsed.run_limits rows ≡ words.run_limits settings
+  same_limits = rw (same Requests, same Turns, same Cache) refl
+
+  pub same_options : parsed.serve_options rows ≡ words.serve_numbers settings
+  same_options = rw (same Port, same Connections, same_limits) refl
+
+no_limits : (a b c : Option ℕ) → (a ≡ None) ⊎ ((b ≡ None) ⊎ (c ≡ None)) → limits_by a b c ≡ None
+no_limits a b c (inl e) = rw e refl
+no_limits a b c (inr (inl e)) = none_later a _ (λ r. rw e refl)
+no_limits a b c (inr (inr e)) = none_later a _ (λ r. none_later b _ (λ t. rw e refl))
+
+no_options : (a b : Option ℕ) (c : Option RunLimits) → (a ≡ None) ⊎ ((b ≡ None) ⊎ (c ≡ None)) → serve_by a b c ≡ None
+no_options a b c (inl e) = rw e refl
+no_options a b c (inr (inl e)) = none_later a _ (λ r. rw e refl)
+no_options a b c (inr (inr e)) = none_later a _ (λ r. none_later b _ (λ t. rw e refl))
+
+no_number : (o : NumberOption) (settings : List Setting) (a b : Text) (rest : List Text) → values_of o settings ≡ a ∷ b ∷ rest → number_of o settings ≡ None
+no_number o settings a b rest e = ap (one_number o) e
+
+no_run : (o : NumberOption) (settings : List Setting) → IsIn run_numbers o → number_of o settings ≡ None → words.run_limits settings ≡ None
+no_run Port settings i e = absurd (true≢false (sym i))
+no_run Connections settings i e = absurd (true≢false (sym i))
+no_run Requests settings i e = no_limits _ _ _ (inl e)
+no_run Turns settings i e = no_limits _ _ _ (inr (inl e))
+no_run Cache settings i e = no_limits _ _ _ (inr (inr e))
+
+no_serve : (o : NumberOption) (settings : List Setting) → number_of o settings ≡ None → words.serve_numbers settings ≡ None
+no_serve Port settings e = no_options (number_of Port settings) (number_of Connections settings) (words.run_limits settings) (inl e)
+no_serve Connections settings e = no_options (number_of Port settings) (number_of Connections settings) (words.run_limits settings) (inr (inl e))
+no_serve Requests settings e = no_options (number_of Port settings) (number_of Connections settings) (words.run_limits settings) (inr (inr (no_run Requests settings refl e)))
+no_serve Turns settings e = no_options (number_of Port settings) (number_of Connections settings) (words.run_limits settings) (inr (inr (no_run Turns settings refl e)))
+no_serve Cache settings e = no_options (number_of Port settings) (number_of Connections settings) (words.run_limits settings) (inr (inr (no_run Cache settings refl e)))
+
+when : {A : Type 0} (b : Bool) (x : Option A) → x ≡ None → cond b x None ≡ None
+when true x e = e
+when false x e = refl
+
+-- ---- no command of what is unfit
+
+pub unfit_serve : (parts : Option Parts) → IsUnfit parsed.serve_numbers parts → named_command (codes "serve") parts ≡ None
+unfit_serve None u = refl
+unfit_serve (Some p) (unknown f) = rw f refl
+unfit_serve (Some p) (twice o i a b rest e) =
+    ap (option_and_then (λ options. serve_command options p.words)) (when (are_among parsed.serve_numbers p.settings) _ (no_serve o p.settings (no_number o p.settings a b rest e)))
+
+pub unfit_replay : (parts : Option Parts) → IsUnfit run_numbers parts → named_command (codes "replay") parts ≡ None
+unfit_replay None u = refl
+unfit_replay (Some p) (unknown f) = rw f refl
+unfit_replay (Some p) (twice o i a b rest e) =
+    ap (option_and_then (λ limits. replay_command limits p.words)) (when (are_among run_numbers p.settings) _ (no_run o p.settings i (no_number o p.settings a b rest e)))
+
+-- a name of a command without options
+pub record IsPlainName (name : Text) : Type 0 where
+  pub no_serve_name : bytes_eq name (codes "serve") ≡ false
+  pub no_replay_name : bytes_eq name (codes "replay") ≡ false
+
+some_unfit : (settings : List Setting) → AreUnfit [] settings → are_none settings ≡ false
+some_unfit [] (unknown f) = absurd (true≢false f)
+some_unfit [] (twice o i a b rest e) = absurd (true≢false (sym i))
+some_unfit (s ∷ ss) u = refl
+
+pub unfit_plain : (name : Text) (parts : Option Parts) → IsPlainName name → IsUnfit [] parts → named_command name parts ≡ None
+unfit_plain name None n u = refl
+unfit_plain name (Some p) n u = rw (n.no_serve_name, n.no_replay_name, some_unfit p.settings u) refl
+
+-- ---- the same command
+
+are_none_settings : (settings : List Setting) → are_among [] settings ≡ true → are_none settings ≡ true
+are_none_settings [] e = refl
+are_none_settings (s ∷ ss) e = absurd (true≢false (sym e))
+
+-- with the words that were found
+by_words : (name : Text) (rows : List Row) (p : Parts) → values_at (codes "words") rows ≡ p.words → command_with_words name rows p.words ≡ named_command name (Some p) → command_in_rows name rows ≡ named_command name (Some p)
+by_words name rows p are same = ap (command_with_words name rows) are ∙ same
+
+pub same_serve : (rows : List Row) (p : Parts) → Agrees parsed.serve_numbers rows p.settings p.words → command_in_rows (codes "serve") rows ≡ named_command (codes "serve") (Some p)
+same_serve rows p a = by_words (codes "serve") rows p a.words_are
+    (rw (a.known) (ap (option_and_then (λ options. serve_command options p.words)) (same_options rows p.settings a.options_are)))
+
+pub same_replay : (rows : List Row) (p : Parts) → Agrees run_numbers rows p.settings p.words → command_in_rows (codes "replay") rows ≡ named_command (codes "replay") (Some p)
+same_replay rows p a = by_words (codes "replay") rows p a.words_are
+    (rw (a.known) (ap (option_and_then (λ limits. replay_command limits p.words)) (same_limits rows p.settings a.options_are)))
+
+pub same_plain : (name : Text) (rows : List Row) (p : Parts) → IsPlainName name → Agrees [] rows p.settings p.words → command_in_rows name rows ≡ named_command name (Some p)
+same_plain name rows p n a = by_words name rows p a.words_are
+    (rw (n.no_serve_name, n.no_replay_name, are_none_settings p.settings a.known) refl)

@@ -1,5 +1,0 @@
-use Rattle.std.proofs.Common.{◌≡◌, ◌++◌, take}
-use Rattle.command_words.proofs.options.with_rest.Given as goal
-
-abbrev pub invariant-loop-word : goal.invariant-loop-word
-invariant-loop-word l = l.words.items ≡ l.fn.words.items ++ take l.word-index l.rest

@@ -1,0 +1,157 @@
+-- What `clap` makes of the words, and the command that this gives.
+use Rattle.std.specs.Prelude.{◌≡◌, ℕ, List, [], ◌∷◌, map, true, false}
+use Rattle.std.specs.Prelude.{Option, None, Some, option_and_then, unwrap_or, if◌then◌else◌, codes}
+use Rattle.std.specs.List.{list_all}
+use Rattle.std.specs.Str.{bytes_eq}
+use Rattle.clap.specs.Walk.{Row, Rule, Text, all_of, first_of, is_empty, texts}
+use Rattle.clap.specs.Simple.{App, Shape, app_of, new_rule, new_shape}
+use Rattle.clap.specs.Simple.{subcommand_of, subcommand_rows_of}
+use Rattle.clap.specs.Faults.{fault_of}
+use Rattle.clap.specs.declared.builder.action.ArgAction.TheVariants.{Set, Append}
+use Rattle.clap.specs.declared.builder.value_parser.ValueParser.TheVariants.{NonEmptyString}
+use Rattle.clap.specs.declared.builder.command.Command.{Command as Program}
+use Rattle.clap.specs.declared.builder.command.Command.TheViews.{out-Command}
+use Rattle.clap.specs.declared.parser.matches.ArgMatches.{ArgMatches}
+use Rattle.std.specs.Borrow.{Bor}
+use Rattle.command_spec.specs.declared.numbers.NumberOption.{NumberOption}
+use Rattle.command_spec.specs.declared.numbers.NumberOption.TheVariants.{Port, Connections}
+use Rattle.command_spec.specs.declared.numbers.NumberOption.TheVariants.{Requests, Turns, Cache}
+use Rattle.command_spec.specs.declared.RunLimits.{RunLimits}
+use Rattle.command_spec.specs.declared.ServeOptions.{ServeOptions}
+use Rattle.command_spec.specs.declared.Command.{Command}
+use Rattle.command_spec.specs.Numbers.{option_name, default_of, greatest, number}
+use Rattle.command_spec.specs.Words.{is_word, serve_command, replay_command, plain_command}
+
+-- the first answer, and then the second of it
+infixl 10 ◌>>=◌
+abbrev ◌>>=◌ : {A B : Type 0} → Option A → (A → Option B) → Option B
+found >>= next = option_and_then next found
+
+-- ---- the command line
+
+-- an option: a long name, and a value that isn't empty
+abbrev pub option_rule : List ℕ → Rule
+option_rule name =
+    record (new_rule name) { long = Some name; action = Some Set; parser = Some NonEmptyString }
+
+-- the words that are no options: each is one use of the argument
+abbrev pub words_rule : Rule
+words_rule = record (new_rule (codes "words")) { action = Some Append }
+
+-- the subcommand of this name with these options
+abbrev pub leaf : List ℕ → List NumberOption → Shape
+leaf name options = record (new_shape name) {
+  rules = words_rule ∷ map (λ option. option_rule (option_name option)) options;
+}
+
+-- a command line that is such a subcommand alone
+abbrev pub IsLeaf : List ℕ → List NumberOption → Program → Type 0
+IsLeaf name options c =
+    (app_of c ≡ record { top = leaf name options; subs = [] })
+    × ((out-Command c).has_globals ≡ false)
+
+-- the options of `serve`
+abbrev pub serve_numbers : List NumberOption
+serve_numbers = Port ∷ Connections ∷ Requests ∷ Turns ∷ Cache ∷ []
+
+-- the options of `replay`
+abbrev pub run_numbers : List NumberOption
+run_numbers = Requests ∷ Turns ∷ Cache ∷ []
+
+-- the program itself, which has no options, and prints neither help nor a version
+abbrev pub top : Shape
+top = record (new_shape (codes "strudel")) {
+  no_binary_name = true;
+  disable_help_flag = true;
+  disable_help_subcommand = true;
+  disable_version_flag = true;
+  subcommand_required = true;
+  is_leaf = false;
+}
+
+-- the command line: a subcommand for each command
+abbrev pub program : App
+program = record {
+  top = top;
+  subs =
+      leaf (codes "page") [] ∷ leaf (codes "build") [] ∷ leaf (codes "data") []
+      ∷ leaf (codes "explain") [] ∷ leaf (codes "serve") serve_numbers
+      ∷ leaf (codes "replay") run_numbers ∷ leaf (codes "trial") []
+      ∷ leaf (codes "help") [] ∷ leaf (codes "version") [] ∷ [];
+}
+
+-- ---- the command of the matches
+
+-- the number of an option's text, or its default
+abbrev pub number_or_default : NumberOption → Option Text → Option ℕ
+number_or_default option None = Some (default_of option)
+number_or_default option (Some text) = number (greatest option) text
+
+-- the number of an option among what was found
+abbrev pub number_in : NumberOption → List Row → Option ℕ
+number_in option rows = number_or_default option (first_of (option_name option) rows)
+
+-- the limits of a run
+abbrev pub run_limits : List Row → Option RunLimits
+run_limits rows = do
+  requests ← number_in Requests rows
+  turns ← number_in Turns rows
+  cache ← number_in Cache rows
+  Some (record { requests = requests; turns = turns; cache = cache })
+
+-- the numbers of `serve`
+abbrev pub serve_options : List Row → Option ServeOptions
+serve_options rows = do
+  port ← number_in Port rows
+  connections ← number_in Connections rows
+  limits ← run_limits rows
+  Some (record { port = port; connections = connections; limits = limits })
+
+-- `serve` with these words
+abbrev pub serve_with_words : List Row → List Text → Option Command
+serve_with_words rows words =
+    option_and_then (λ options. serve_command options words) (serve_options rows)
+
+-- `replay` with these words
+abbrev pub replay_with_words : List Row → List Text → Option Command
+replay_with_words rows words =
+    option_and_then (λ limits. replay_command limits words) (run_limits rows)
+
+-- the command of this name with these words
+abbrev pub command_with_words : List ℕ → List Row → List Text → Option Command
+command_with_words name rows words =
+    if bytes_eq name (codes "serve") then serve_with_words rows words
+    else if bytes_eq name (codes "replay") then replay_with_words rows words
+    else plain_command name words
+
+-- the words that are no options
+abbrev pub words_in : List Row → List Text
+words_in rows = unwrap_or (all_of (codes "words") rows) []
+
+-- the command of this name with all that was found
+abbrev pub command_in_rows : List ℕ → List Row → Option Command
+command_in_rows name rows = command_with_words name rows (words_in rows)
+
+-- the command of the subcommand that was entered
+abbrev pub entered_command : Option (Text × List Row) → Option Command
+entered_command entered = option_and_then (λ p. command_in_rows p.0 p.1) entered
+
+-- the command of texts, as `clap` reads them
+abbrev pub command : List Text → Option Command
+command words =
+    if is_empty (fault_of program words)
+    then entered_command (subcommand_of program words)
+    else None
+
+-- ---- what the functions answer
+
+-- the matches of the words, or none where they have a fault
+abbrev pub IsParsedFrom : List Text → Option ArgMatches → Type 0
+IsParsedFrom words None = is_empty (fault_of program words) ≡ false
+IsParsedFrom words (Some m) =
+    (is_empty (fault_of program words) ≡ true)
+    × (subcommand_rows_of m ≡ subcommand_of program words)
+
+-- the words, each of which is a text that isn't empty
+abbrev pub AreTexts : List Text → List (Bor Text) → Type 0
+AreTexts words found = (texts found ≡ words) × (list_all is_word words ≡ true)

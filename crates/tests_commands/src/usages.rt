@@ -1,0 +1,305 @@
+// The texts of `help` beside what the commands take: each of its operands and options, and no other.
+use crate::inputs::{check, check_text, words_of};
+use command_help::usage;
+use command_spec::{CommandName, NumberOption};
+use command_words::read_command;
+use sd_value::{NoMemory, Str};
+use std::alloc::Global;
+use std::str;
+use std::test::Fail;
+
+// A command's name, words that give it, how many of them it takes at least, and its operands and options.
+struct UsageRow {
+    name: CommandName,
+    words: &'static [&'static str],
+    fewest: usize,
+    operands: &'static str,
+    options: &'static [NumberOption],
+}
+
+const ROWS: &[UsageRow] = &[
+    UsageRow {
+        name: CommandName::Page,
+        words: &["page", "q", "t", "a", "d"],
+        fewest: 5,
+        operands: "QUERY TEMPLATES ADDRESS DATA..",
+        options: &[],
+    },
+    UsageRow {
+        name: CommandName::Build,
+        words: &["build", "q", "t", "f", "d"],
+        fewest: 5,
+        operands: "QUERY TEMPLATES DIR DATA..",
+        options: &[],
+    },
+    UsageRow {
+        name: CommandName::Data,
+        words: &["data", "d"],
+        fewest: 2,
+        operands: "DATA..",
+        options: &[],
+    },
+    UsageRow {
+        name: CommandName::Explain,
+        words: &["explain", "q", "d"],
+        fewest: 3,
+        operands: "QUERY DATA..",
+        options: &[],
+    },
+    UsageRow {
+        name: CommandName::Serve,
+        words: &["serve", "q", "t", "d"],
+        fewest: 4,
+        operands: "QUERY TEMPLATES DATA..",
+        options: &[
+            NumberOption::Port,
+            NumberOption::Connections,
+            NumberOption::Requests,
+            NumberOption::Turns,
+            NumberOption::Cache,
+        ],
+    },
+    UsageRow {
+        name: CommandName::Replay,
+        words: &["replay", "q", "t", "s", "d"],
+        fewest: 5,
+        operands: "QUERY TEMPLATES SCRIPT DATA..",
+        options: &[
+            NumberOption::Requests,
+            NumberOption::Turns,
+            NumberOption::Cache,
+        ],
+    },
+    UsageRow {
+        name: CommandName::Trial,
+        words: &["trial", "1"],
+        fewest: 2,
+        operands: "N",
+        options: &[],
+    },
+    UsageRow {
+        name: CommandName::Help,
+        words: &["help", "page"],
+        fewest: 1,
+        operands: "[COMMAND]",
+        options: &[],
+    },
+    UsageRow {
+        name: CommandName::Version,
+        words: &["version"],
+        fewest: 1,
+        operands: "",
+        options: &[],
+    },
+];
+
+const OPTIONS: &[NumberOption] = &[
+    NumberOption::Port,
+    NumberOption::Connections,
+    NumberOption::Requests,
+    NumberOption::Turns,
+    NumberOption::Cache,
+];
+
+fn text_of(name: Option<CommandName>) -> Result<&'static str, Fail> {
+    match str::from_utf8(usage(name)) {
+        Ok(text) => Ok(text),
+        Err(_) => Err(Fail::new("a text that is not UTF-8")),
+    }
+}
+
+fn name_of<'a>(row: &UsageRow) -> &'a str {
+    match row.words.first() {
+        Some(name) => name,
+        None => "",
+    }
+}
+
+fn push_parts(out: &mut Vec<u8>, parts: &[&str]) -> Result<(), NoMemory> {
+    for part in parts {
+        out.extend_from_slice(part.as_bytes())?;
+    }
+    Ok(())
+}
+
+// ---- the rows are what the commands take
+
+fn gives_command(alloc: Global, words: &[&str], last: Option<Str>) -> Result<bool, NoMemory> {
+    let mut words = words_of(alloc, words)?;
+    if let Some(last) = last {
+        words.push(last)?;
+    }
+    Ok(read_command(alloc, &words)?.is_some())
+}
+
+// The option with the number 1.
+fn option_word(alloc: Global, option: NumberOption) -> Result<Str, NoMemory> {
+    let mut word = Vec::new(alloc);
+    push_parts(&mut word, &["--", option.name(), "=1"])?;
+    Str::of(alloc, word)
+}
+
+fn check_options(alloc: Global, row: &UsageRow) -> Result<(), Fail> {
+    for option in OPTIONS {
+        let word = option_word(alloc, *option)?;
+        let taken = gives_command(alloc, row.words, Some(word))?;
+        check(
+            taken == row.options.contains(option),
+            "an option of the row",
+        )?;
+    }
+    Ok(())
+}
+
+// With each number of words: a command from the fewest on.
+fn check_counts(alloc: Global, row: &UsageRow) -> Result<(), Fail> {
+    for count in 0..row.words.len() {
+        let taken = gives_command(alloc, &row.words[..count], None)?;
+        check(taken == (row.fewest <= count), "the count of operands")?;
+    }
+    Ok(())
+}
+
+fn check_row(alloc: Global, row: &UsageRow) -> Result<(), Fail> {
+    let taken = gives_command(alloc, row.words, None)?;
+    check(taken, "the words of the row")?;
+    let is_named = CommandName::of(name_of(row)) == Some(row.name);
+    check(is_named, "the name of the row")?;
+    check_counts(alloc, row)?;
+    check_options(alloc, row)
+}
+
+#[test]
+fn each_row_is_what_its_command_takes(rt: HostRuntime) -> Result<(), Fail> {
+    for row in ROWS {
+        check_row(rt.alloc(), row)?;
+    }
+    Ok(())
+}
+
+// ---- the texts are those of the rows
+
+// What a line lists: its operand, or its option with the range and the default.
+fn push_listed(out: &mut Vec<u8>, line: &str) -> Result<(), NoMemory> {
+    let Some(line) = line.strip_prefix("  ") else {
+        return Ok(());
+    };
+    let Some((name, about)) = line.split_once(' ') else {
+        return push_parts(out, &[line, "\n"]);
+    };
+    match about.rsplit_once(", ") {
+        Some((_, range)) if name.starts_with("--") => push_parts(out, &[name, " ", range, "\n"]),
+        _ => push_parts(out, &[name, "\n"]),
+    }
+}
+
+fn listed(alloc: Global, text: &str) -> Result<Vec<u8>, NoMemory> {
+    let mut out = Vec::new(alloc);
+    for line in text.lines() {
+        push_listed(&mut out, line)?;
+    }
+    Ok(out)
+}
+
+fn push_operands(out: &mut Vec<u8>, operands: &str) -> Result<(), NoMemory> {
+    for operand in operands.split_whitespace() {
+        let name = operand.trim_matches(['.', '[', ']']);
+        push_parts(out, &[name, "\n"])?;
+    }
+    Ok(())
+}
+
+fn push_options(
+    alloc: Global,
+    out: &mut Vec<u8>,
+    options: &[NumberOption],
+) -> Result<(), NoMemory> {
+    for option in options {
+        let greatest = option.greatest().to_string(alloc)?;
+        let otherwise = option.otherwise().to_string(alloc)?;
+        push_parts(out, &["--", option.name(), " 1 to ", &greatest])?;
+        push_parts(out, &[" (", &otherwise, ")\n"])?;
+    }
+    Ok(())
+}
+
+fn check_listed(alloc: Global, row: &UsageRow, text: &str) -> Result<(), Fail> {
+    let mut wanted = Vec::new(alloc);
+    push_operands(&mut wanted, row.operands)?;
+    push_options(alloc, &mut wanted, row.options)?;
+    let found = listed(alloc, text)?;
+    check_text(&found, &wanted)
+}
+
+// The command's name and its operands.
+fn push_words(out: &mut Vec<u8>, row: &UsageRow, options: &str) -> Result<(), NoMemory> {
+    push_parts(out, &[name_of(row), options])?;
+    if row.operands.is_empty() {
+        return Ok(());
+    }
+    push_parts(out, &[" ", row.operands])
+}
+
+fn check_first_line(alloc: Global, row: &UsageRow, text: &str) -> Result<(), Fail> {
+    let options = if row.options.is_empty() {
+        ""
+    } else {
+        " [OPTION..]"
+    };
+    let mut wanted = Vec::new(alloc);
+    push_parts(&mut wanted, &["usage: strudel "])?;
+    push_words(&mut wanted, row, options)?;
+    match text.lines().next() {
+        Some(line) => check_text(line.as_bytes(), &wanted),
+        None => Err(Fail::new("an empty text")),
+    }
+}
+
+fn check_usage(alloc: Global, row: &UsageRow) -> Result<(), Fail> {
+    let text = text_of(Some(row.name))?;
+    check_first_line(alloc, row, text)?;
+    check_listed(alloc, row, text)
+}
+
+#[test]
+fn each_usage_has_the_words_of_its_row(rt: HostRuntime) -> Result<(), Fail> {
+    for row in ROWS {
+        check_usage(rt.alloc(), row)?;
+    }
+    Ok(())
+}
+
+// The words of a line of the program's usage, before what they do.
+fn push_command(out: &mut Vec<u8>, line: &str) -> Result<(), NoMemory> {
+    let Some(line) = line.strip_prefix("  ") else {
+        return Ok(());
+    };
+    match line.split_once("  ") {
+        Some((words, _)) => push_parts(out, &[words, "\n"]),
+        None => push_parts(out, &[line, "\n"]),
+    }
+}
+
+fn commands_in(alloc: Global, text: &str) -> Result<Vec<u8>, NoMemory> {
+    let mut out = Vec::new(alloc);
+    for line in text.lines() {
+        push_command(&mut out, line)?;
+    }
+    Ok(out)
+}
+
+fn commands_of(alloc: Global, rows: &[UsageRow]) -> Result<Vec<u8>, NoMemory> {
+    let mut out = Vec::new(alloc);
+    for row in rows {
+        push_words(&mut out, row, "")?;
+        out.push(b'\n')?;
+    }
+    Ok(out)
+}
+
+#[test]
+fn the_usage_of_the_program_has_each_command(rt: HostRuntime) -> Result<(), Fail> {
+    let found = commands_in(rt.alloc(), text_of(None)?)?;
+    let wanted = commands_of(rt.alloc(), ROWS)?;
+    check_text(&found, &wanted)
+}
