@@ -1,6 +1,6 @@
 -- How a build ends.
-use Rattle.std.proofs.Common.{◌≡◌, ◌∙◌, ℕ, List, inl, inr, ⊎_elim, refl, sym, ap, subst, append_assoc, arith}
-use Rattle.std.specs.Prelude.{Option, None, Some, Result, Ok, Err, codes, ⊤}
+use Rattle.std.proofs.Common.{◌≡◌, ◌∙◌, ℕ, List, inl, inr, ⊎_elim, refl, sym, ap, subst, arith}
+use Rattle.std.specs.Prelude.{Option, None, Some, Result, Ok, Err, ⊤}
 use Rattle.sd_value.specs.declared.Term.{Term}
 use Rattle.edge_io.specs.Files.{FileMap}
 use Rattle.graph_spec.specs.DataGraph.{DataGraph}
@@ -11,7 +11,6 @@ use Rattle.page_spec.specs.Site.{Site}
 use Rattle.run_report.specs.declared.status.PageKind.{PageKind}
 use Rattle.files_spec.specs.declared.stop.Stop.{Stop}
 use Rattle.files_spec.specs.declared.stop.Stop.TheVariants as stop
-use Rattle.files_spec.specs.Paths.{file_name}
 use Rattle.files_spec.specs.Files.{SiteEnds}
 use Rattle.files_spec.specs.Causes.{IsSitePath, WritesHaveCause}
 use Rattle.command_spec.specs.declared.BuildCommand.{BuildCommand}
@@ -25,13 +24,14 @@ use Rattle.site_spec.specs.Root.{root_function}
 use Rattle.run_report.specs.declared.status.Status.{Status}
 use Rattle.run_report.specs.declared.status.Status.TheVariants as status
 use Rattle.edge_io.specs.Sink.{Gains, GainsPart}
+use Rattle.edge_io.specs.Counts.{Rose}
 use Rattle.site_inputs.specs.declared.fault.Fault.{Fault}
 use Rattle.site_inputs.specs.declared.fault.Fault.TheVariants as fault
 use Rattle.site_inputs.specs.Sites.{Inputs, InputsEnd}
 use Rattle.site_inputs.specs.Statuses.{ReadRose, status_of}
 use Rattle.site_inputs.specs.Outside.{Host, host}
 use Rattle.site_inputs.proofs.PageFaults.{inputs_none}
-use Rattle.command_build.specs.Ends.{BuiltEnds, Builds, BuildEnds, IsUnder, build_text, written_end, stop_status}
+use Rattle.command_build.specs.Ends.{BuiltEnds, Builds, BuildEnds, IsSiteFile, SiteRose, build_text, written_end, stop_status}
 
 -- a page's fault leaves what want of memory at that page leaves
 site_no_memory : (s : Site) (f : TemplateFile) (folder : List ℕ) (terms : List Term) (root : Option (List ℕ)) (old new : FileMap) (term : Term) (kind : PageKind)
@@ -58,10 +58,14 @@ pub site_ends_over : (graph graph2 : DataGraph) (scope scope2 : Scope) (file fil
     → graph ≡ graph2 → scope ≡ scope2 → file ≡ file2 → root ≡ root2 → SiteEnds (site_of graph scope) file folder terms root old new end → SiteEnds (site_of graph2 scope2) file2 folder terms root2 old new end
 site_ends_over graph graph2 scope scope2 file file2 root root2 folder terms old new end is_graph is_scope is_file is_root ends = rw (sym is_graph, sym is_scope, sym is_file, sym is_root) ends
 
--- the paths of a site lie under its folder
-pub under_folder : (folder : List ℕ) (terms : List Term) (path : List ℕ) → IsSitePath folder terms path → IsUnder folder path
-under_folder folder terms path (inl page) = (file_name page.0, page.2)
-under_folder folder terms path (inr index) = (codes "index.html", index ∙ sym (append_assoc folder (codes "/") (codes "index.html")))
+-- a path of a site that was written from its inputs
+pub site_file : (s : Inputs) (graph : DataGraph) (scope : Scope) (file : TemplateFile) (folder : List ℕ) (terms : List Term) (path : List ℕ)
+    → graph ≡ s.graph → scope ≡ scope_of s.query → file ≡ s.templates → ListsExactly term_cmp (IsPresent (site_of graph scope) file) terms → IsSitePath folder terms path → IsSiteFile s folder path
+site_file s graph scope file folder terms path is_graph is_scope is_file listed is_path = record {
+  pages = terms;
+  are_pages = rw (sym is_graph, sym is_scope, sym is_file) listed;
+  is_path = is_path;
+}
 
 -- a site that was written from its inputs
 pub built_told : (n : Option FileMap) (s : Inputs) (graph : DataGraph) (scope : Scope) (file : TemplateFile) (root : Option (List ℕ)) (folder : List ℕ) (terms : List Term) (old : FileMap) (end : Result (List ℕ) Stop)
@@ -100,10 +104,11 @@ stopped_ends : (command : BuildCommand) (before after : Host) (s : Inputs) (reas
     → after.output ≡ before.output
     → InputsEnd before.files command.sources command.query command.templates (Ok s)
     → BuiltEnds s command.folder before.files after.files (Err reason)
+    → (reason ≡ stop.Unwritten → SiteRose s command.folder before.failed_writes after.failed_writes)
     → BuildEnds command before after (stop_status reason)
-stopped_ends command before after s (stop.Faulty term kind) out taken built = record { inputs = s; taken = taken; built = built }
-stopped_ends command before after s stop.Unwritten out taken built = inl (record { inputs = s; taken = taken; built = built }, out)
-stopped_ends command before after s stop.NoMemory out taken built = (inr (record { inputs = s; taken = taken; built = built }), out)
+stopped_ends command before after s (stop.Faulty term kind) out taken built rose = record { inputs = s; taken = taken; built = built }
+stopped_ends command before after s stop.Unwritten out taken built rose = inl (record { builds = record { inputs = s; taken = taken; built = built }; rose = rose refl; quiet = out })
+stopped_ends command before after s stop.NoMemory out taken built rose = (inr (record { inputs = s; taken = taken; built = built }), out)
 
 -- the counts and the output before and after
 module _ (reads reads_now writes writes_now : List ℕ → ℕ) (output output_now : Option (List ℕ)) (puts puts_now : ℕ) where
@@ -126,10 +131,11 @@ module _ (reads reads_now writes writes_now : List ℕ → ℕ) (output output_n
       → output_now ≡ output → ended ≡ stop_status reason
       → InputsEnd old command.sources command.query command.templates (Ok s)
       → IsSomeAnd n (λ new. BuiltEnds s command.folder old new (Err reason))
+      → (reason ≡ stop.Unwritten → SiteRose s command.folder writes writes_now)
       → IsSomeAnd n (λ new. BuildEnds command (Before old) (After new) ended)
-  stopped_told None old command s reason ended out is taken h = h
-  stopped_told (Some new) old command s reason ended out is taken h =
-      subst (BuildEnds command (Before old) (After new)) (sym is) (stopped_ends command (Before old) (After new) s reason out taken h)
+  stopped_told None old command s reason ended out is taken h rose = h
+  stopped_told (Some new) old command s reason ended out is taken h rose =
+      subst (BuildEnds command (Before old) (After new)) (sym is) (stopped_ends command (Before old) (After new) s reason out taken h rose)
 
   pub whole_told : (n : Option FileMap) (old : FileMap) (command : BuildCommand) (s : Inputs) (line : List ℕ)
       → InputsEnd old command.sources command.query command.templates (Ok s)
@@ -140,10 +146,10 @@ module _ (reads reads_now writes writes_now : List ℕ → ℕ) (output output_n
 
   pub part_told : (n : Option FileMap) (old : FileMap) (command : BuildCommand) (s : Inputs) (line : List ℕ)
       → InputsEnd old command.sources command.query command.templates (Ok s)
-      → IsSomeAnd n (λ new. BuiltEnds s command.folder old new (Ok line)) → GainsPart output output_now line
+      → IsSomeAnd n (λ new. BuiltEnds s command.folder old new (Ok line)) → GainsPart output output_now line → Rose puts puts_now
       → IsSomeAnd n (λ new. BuildEnds command (Before old) (After new) status.WriteFault)
-  part_told None old command s line taken h gained = h
-  part_told (Some new) old command s line taken h gained = inr (line, record { inputs = s; taken = taken; built = h }, gained)
+  part_told None old command s line taken h gained rose = h
+  part_told (Some new) old command s line taken h gained rose = inr (record { text = line; builds = record { inputs = s; taken = taken; built = h }; gained = gained; rose = rose })
 
 pub stop_read_rose : (paths : List (List ℕ)) (before now : List ℕ → ℕ) (reason : Stop) (ended : Status) → ended ≡ stop_status reason → ReadRose paths before now ended
 stop_read_rose paths before now reason ended is = subst (ReadRose paths before now) (sym is) (by reason)

@@ -26,7 +26,7 @@ use Rattle.command_spec.specs.Inputs.{input_paths}
 use Rattle.site_inputs.specs.Sites.{Inputs, InputsEnd, site_at}
 use Rattle.site_inputs.specs.Statuses.{ReadRose, status_of}
 use Rattle.site_inputs.proofs.DecidedInputs.{inputs_decide}
-use Rattle.command_build.specs.Ends.{IsBuilt, Builds, BuildEnds, FolderRose}
+use Rattle.command_build.specs.Ends.{IsBuilt, Builds, BuildEnds, IsUnwritten, SiteRose}
 use Rattle.site_inputs.specs.Outside.{Host, PutsRose, AllRead, HasStatus}
 use Rattle.command_build.specs.Law.{AllCanBeWritten, BuildIsDecided, BuildEndsWell}
 use Rattle.site_inputs.proofs.Endings.{ok_same, not_both, by_reason, not_refused}
@@ -78,24 +78,27 @@ module _ (command : BuildCommand) (before after : Host) where
       by_built t can (inl built) = no_page_fault t can command.folder before.files after.files term kind built
       by_built t can (inr h) = (let same = h.0 in cc)
 
-  accepted : (reached : Status) → BuildEnds command before after reached → ReadRose Paths before.failed_reads after.failed_reads reached → (reached ≡ status.WriteFault → PutsRose before after ⊎ FolderRose command.folder before.failed_writes after.failed_writes) → AllRead Paths before after
-      → (s : Inputs) → Ended (Ok s) → AllCanBeWritten s → ¬ PutsRose before after → ¬ FolderRose command.folder before.failed_writes after.failed_writes → HasStatus status.Ok reached
-  accepted status.Ok ends read write all s taken writable no_put no_write = inl refl
-  accepted status.NoMemory ends read write all s taken writable no_put no_write = inr refl
-  accepted status.WriteFault ends read write all s taken writable no_put no_write = absurd (either_absurd (write refl))
-    where
-      either_absurd : PutsRose before after ⊎ FolderRose command.folder before.failed_writes after.failed_writes → ⊥
-      either_absurd (inl p) = no_put p
-      either_absurd (inr w) = no_write w
-  accepted (status.PageFault term kind) ends read write all s taken writable no_put no_write = absurd (no_fault s taken writable term kind ends)
-  accepted (status.Refused file number place) ends read write all s taken writable no_put no_write =
+  -- a file of the one site of the inputs could not be written
+  no_unwritten : (s : Inputs) → Ended (Ok s) → ¬ SiteRose s command.folder before.failed_writes after.failed_writes → IsUnwritten command before after → ⊥
+  no_unwritten s taken no_write unwritten =
+      let same : unwritten.builds.inputs ≡ s = ok_same unwritten.builds.inputs s (decides.once (Ok unwritten.builds.inputs) (Ok s) unwritten.builds.taken taken tt tt) in
+      no_write (subst (λ (t : Inputs). SiteRose t command.folder before.failed_writes after.failed_writes) same unwritten.rose)
+
+  accepted : (reached : Status) → BuildEnds command before after reached → ReadRose Paths before.failed_reads after.failed_reads reached → AllRead Paths before after
+      → (s : Inputs) → Ended (Ok s) → AllCanBeWritten s → ¬ PutsRose before after → ¬ SiteRose s command.folder before.failed_writes after.failed_writes → HasStatus status.Ok reached
+  accepted status.Ok ends read all s taken writable no_put no_write = inl refl
+  accepted status.NoMemory ends read all s taken writable no_put no_write = inr refl
+  accepted status.WriteFault (inl ends) read all s taken writable no_put no_write = absurd (no_unwritten s taken no_write ends)
+  accepted status.WriteFault (inr ends) read all s taken writable no_put no_write = absurd (no_put ends.rose)
+  accepted (status.PageFault term kind) ends read all s taken writable no_put no_write = absurd (no_fault s taken writable term kind ends)
+  accepted (status.Refused file number place) ends read all s taken writable no_put no_write =
       absurd (not_both Ended decides s (fault.Refused (record { file = file; number = number; place = place })) taken ends.0 tt)
-  accepted (status.ReadFault path) ends read write all s taken writable no_put no_write = absurd (all path read.0 read.1)
-  accepted status.NotFound ends read write all s taken writable no_put no_write = absurd ends
-  accepted status.Usage ends read write all s taken writable no_put no_write = absurd ends
-  accepted status.NotAllYes ends read write all s taken writable no_put no_write = absurd ends
-  accepted status.WireFault ends read write all s taken writable no_put no_write = absurd ends
-  accepted status.TurnsSpent ends read write all s taken writable no_put no_write = absurd ends
+  accepted (status.ReadFault path) ends read all s taken writable no_put no_write = absurd (all path read.0 read.1)
+  accepted status.NotFound ends read all s taken writable no_put no_write = absurd ends
+  accepted status.Usage ends read all s taken writable no_put no_write = absurd ends
+  accepted status.NotAllYes ends read all s taken writable no_put no_write = absurd ends
+  accepted status.WireFault ends read all s taken writable no_put no_write = absurd ends
+  accepted status.TurnsSpent ends read all s taken writable no_put no_write = absurd ends
 
   -- an input was refused: the site wasn't built
   not_built : {end : Result (List ℕ) Stop} (reason : Fault) → Ended (Err reason) → IsDecidedFault reason → Builds before.files after.files command end → ⊥
@@ -105,8 +108,8 @@ module _ (command : BuildCommand) (before after : Host) where
       → (reason : Fault) → Ended (Err reason) → IsDecidedFault reason → HasStatus (status_of reason) reached
   refused status.Ok ends read all reason ended decided = absurd (not_built reason ended decided ends.1)
   refused status.NoMemory ends read all reason ended decided = inr refl
-  refused status.WriteFault (inl ends) read all reason ended decided = absurd (not_built reason ended decided ends.0)
-  refused status.WriteFault (inr ends) read all reason ended decided = absurd (not_built reason ended decided ends.1)
+  refused status.WriteFault (inl ends) read all reason ended decided = absurd (not_built reason ended decided ends.builds)
+  refused status.WriteFault (inr ends) read all reason ended decided = absurd (not_built reason ended decided ends.builds)
   refused (status.PageFault term kind) ends read all reason ended decided = absurd (not_built reason ended decided ends)
   refused (status.Refused file number place) ends read all reason ended decided =
       by_reason Ended decides Paths before after all (fault.Refused (record { file = file; number = number; place = place })) tt ends.0 reason ended decided
@@ -118,5 +121,5 @@ module _ (command : BuildCommand) (before after : Host) where
   refused status.TurnsSpent ends read all reason ended decided = absurd ends
 
 pub build_ends_well : (command : BuildCommand) (before after : Host) (reached : Status) → BuildEndsWell command before after reached
-build_ends_well command before after reached ends read write all =
-    record { accepted = accepted command before after reached ends read write all; refused = refused command before after reached ends read all }
+build_ends_well command before after reached ends read all =
+    record { accepted = accepted command before after reached ends read all; refused = refused command before after reached ends read all }

@@ -1,5 +1,7 @@
 -- The command `build`: the whole site in files under a folder.
-use Rattle.std.specs.Prelude.{◌≡◌, ◌⊎◌, ℕ, List, ◌++◌, length, codes, Result, Ok, Err, IfOk, ⊤}
+use Rattle.std.specs.Prelude.{◌≡◌, ◌⊎◌, ℕ, List, ◌++◌, length, codes, Option, Result, Ok, Err}
+use Rattle.std.specs.Prelude.{IfOk, ⊤}
+use Rattle.std.specs.Option.{ForSome}
 use Rattle.std.specs.Fmt.{decimal}
 use Rattle.sd_value.specs.declared.Term.{Term}
 use Rattle.sd_value.specs.Order.{term_cmp}
@@ -12,13 +14,14 @@ use Rattle.site_spec.specs.Root.{root_function}
 use Rattle.files_spec.specs.declared.stop.Stop.{Stop}
 use Rattle.files_spec.specs.declared.stop.Stop.TheVariants as stop
 use Rattle.files_spec.specs.Files.{SiteEnds}
+use Rattle.files_spec.specs.Causes.{IsSitePath}
 use Rattle.run_report.specs.declared.status.Status.{Status}
 use Rattle.run_report.specs.declared.status.Status.TheVariants as status
 use Rattle.command_spec.specs.declared.BuildCommand.{BuildCommand}
 use Rattle.site_inputs.specs.declared.fault.Fault.{Fault}
 use Rattle.site_inputs.specs.declared.fault.Fault.TheVariants as fault
 use Rattle.site_inputs.specs.Sites.{Inputs, InputsEnd, site_at}
-use Rattle.site_inputs.specs.Outside.{Host}
+use Rattle.site_inputs.specs.Outside.{Host, PutsRose}
 
 -- what is printed of a site of n pages
 abbrev pub build_text : ℕ → List ℕ
@@ -56,15 +59,46 @@ abbrev pub IsRefused : (old new : FileMap) → BuildCommand → Fault → Type 0
 IsRefused old new command reason =
     InputsEnd old command.sources command.query command.templates (Err reason) × (new ≡ old)
 
+-- the path is that of one of the files, under the folder, of the site of these inputs
+pub record IsSiteFile (s : Inputs) (folder path : List ℕ) : Type 0 where
+  pub pages : List Term
+  pub are_pages : ListsExactly term_cmp (IsPresent (site_at s) s.templates) pages
+  pub is_path : IsSitePath folder pages path
+
+-- the count of failed writes of one of the files of the site of these inputs rose
+abbrev pub SiteRose : Inputs → (folder : List ℕ) → (before now : List ℕ → ℕ) → Type 0
+SiteRose s folder before now =
+    (path : List ℕ) × IsSiteFile s folder path × Rose (before path) (now path)
+
+-- The count of failed writes of one of a site's files rose. Where the contents of the files are reported, the site is
+-- that of the command's inputs, which were accepted.
+pub record FileRose (contents : Option FileMap) (command : BuildCommand)
+    (before now : List ℕ → ℕ) : Type 0 where
+  pub inputs : Inputs
+  pub taken : ForSome contents
+      (λ map. InputsEnd map command.sources command.query command.templates (Ok inputs))
+  pub rose : SiteRose inputs command.folder before now
+
+-- one of the site's files could not be written, which was counted, and nothing was put
+pub record IsUnwritten (command : BuildCommand) (before after : Host) : Type 0 where
+  pub builds : Builds before.files after.files command (Err stop.Unwritten)
+  pub rose : SiteRose builds.inputs command.folder before.failed_writes after.failed_writes
+  pub quiet : after.output ≡ before.output
+
+-- the site was written, and the output failed, which was counted, after a part of the text
+pub record IsPartlyPut (command : BuildCommand) (before after : Host) : Type 0 where
+  pub text : List ℕ
+  pub builds : Builds before.files after.files command (Ok text)
+  pub gained : GainsPart before.output after.output text
+  pub rose : PutsRose before after
+
 -- What a build has written and put, and why it has this status.
 abbrev pub BuildEnds : BuildCommand → (before after : Host) → Status → Type 0
 BuildEnds command before after status.Ok =
     (text : List ℕ) × Builds before.files after.files command (Ok text)
     × Gains before.output after.output text
 BuildEnds command before after status.WriteFault =
-    (Builds before.files after.files command (Err stop.Unwritten) × (after.output ≡ before.output))
-    ⊎ ((text : List ℕ) × Builds before.files after.files command (Ok text)
-    × GainsPart before.output after.output text)
+    IsUnwritten command before after ⊎ IsPartlyPut command before after
 BuildEnds command before after (status.PageFault term kind) =
     Builds before.files after.files command (Err (stop.Faulty term kind))
 BuildEnds command before after status.NoMemory =
@@ -80,14 +114,6 @@ BuildEnds command before after status.Usage = ⊥
 BuildEnds command before after status.NotAllYes = ⊥
 BuildEnds command before after status.WireFault = ⊥
 BuildEnds command before after status.TurnsSpent = ⊥
-
--- the path lies under the folder
-abbrev pub IsUnder : (folder path : List ℕ) → Type 0
-IsUnder folder path = (name : List ℕ) × (path ≡ folder ++ codes "/" ++ name)
-
--- the count of failed writes of some path under the folder rose
-abbrev pub FolderRose : (folder : List ℕ) → (before now : List ℕ → ℕ) → Type 0
-FolderRose folder before now = (path : List ℕ) × IsUnder folder path × Rose (before path) (now path)
 
 -- the status of a build that stops so
 abbrev pub stop_status : Stop → Status

@@ -1,5 +1,5 @@
 -- A build ends well, unless memory runs out, where its inputs are accepted and nothing outside fails.
-use Rattle.std.specs.Prelude.{◌≡◌, ◌⊎◌, ℕ, List, Ok, Err}
+use Rattle.std.specs.Prelude.{ℕ, List, Ok, Err}
 use Rattle.sd_value.specs.declared.Term.{Term}
 use Rattle.page_spec.specs.Page.{IsPresent}
 use Rattle.files_spec.specs.Files.{IsPageText}
@@ -12,7 +12,7 @@ use Rattle.site_inputs.specs.Runs.{IsDecidedFault}
 use Rattle.site_inputs.specs.Sites.{Inputs, InputsEnd, site_at}
 use Rattle.site_inputs.specs.Statuses.{ReadRose, status_of}
 use Rattle.site_inputs.specs.Outside.{Host, PutsRose, AllRead, HasStatus}
-use Rattle.command_build.specs.Ends.{BuildEnds, FolderRose}
+use Rattle.command_build.specs.Ends.{BuildEnds, SiteRose}
 
 -- each page has a text, and its file a name of no more bytes than a file's name may have
 abbrev pub AllCanBeWritten : Inputs → Type 0
@@ -21,15 +21,12 @@ AllCanBeWritten s =
     → (text : List ℕ) × IsPageText (site_at s) s.templates t text
 
 module _ (command : BuildCommand) (before after : Host) (reached : Status) where
-  -- the count of failed writes of some path under the folder rose
-  abbrev pub FolderWriteRose : Type 0
-  FolderWriteRose = FolderRose command.folder before.failed_writes after.failed_writes
-
   -- Where the inputs are read, they decide how a build ends that nothing outside fails.
   pub record BuildIsDecided : Type 0 where
     pub accepted : (s : Inputs)
         → InputsEnd before.files command.sources command.query command.templates (Ok s)
-        → AllCanBeWritten s → ¬ PutsRose before after → ¬ FolderWriteRose
+        → AllCanBeWritten s → ¬ PutsRose before after
+        → ¬ SiteRose s command.folder before.failed_writes after.failed_writes
         → HasStatus status.Ok reached
     pub refused : (reason : Fault)
         → InputsEnd before.files command.sources command.query command.templates (Err reason)
@@ -41,6 +38,5 @@ module _ (command : BuildCommand) (before after : Host) (reached : Status) where
       BuildEnds command before after reached
       → ReadRose (input_paths command.sources command.query command.templates)
       before.failed_reads after.failed_reads reached
-      → (reached ≡ status.WriteFault → PutsRose before after ⊎ FolderWriteRose)
       → AllRead (input_paths command.sources command.query command.templates) before after
       → BuildIsDecided

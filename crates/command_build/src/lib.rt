@@ -9,8 +9,8 @@ ghost use Rattle.site_inputs.specs.Values.{inputs_of};
 ghost use Rattle.command_spec.specs.Inputs.{input_paths};
 ghost use Rattle.site_inputs.specs.Statuses.{ReadRose, IsSilent};
 ghost use Rattle.site_inputs.specs.Outside.{host};
-ghost use Rattle.command_build.specs.Ends.{build_text, BuiltEnds, BuildEnds, IsUnder};
-ghost use Rattle.command_build.specs.Ends.{FolderRose, stop_status};
+ghost use Rattle.command_build.specs.Ends.{build_text, BuiltEnds, BuildEnds};
+ghost use Rattle.command_build.specs.Ends.{IsSiteFile, FileRose, stop_status};
 
 mod laws;
 
@@ -50,7 +50,7 @@ fn write_built<F: Files>(
     ensures ends { ForSome (F.contents files.old) (λ old. IsSomeAnd (F.contents files.new) (λ new.
         BuiltEnds (inputs_of inputs) folder.now old new result)) }
     ensures reads { F.failed_reads files.new ≡ F.failed_reads files.old }
-    ensures cause { WritesHaveCause (IsUnder folder.now)
+    ensures cause { WritesHaveCause (IsSiteFile (inputs_of inputs) folder.now)
         (F.failed_writes files.old) (F.failed_writes files.new) result }
 {
     let scopes = scopes(alloc, &inputs.query)?;
@@ -100,7 +100,8 @@ pub fn build<F: Files, O: Sink>(
         (F.failed_reads files.old) (F.failed_reads files.new) result }
     ensures write_cause { result ≡ Status.WriteFault
         → Rose (O.failed out.old) (O.failed out.new)
-        ⊎ FolderRose command.now.folder (F.failed_writes files.old) (F.failed_writes files.new) }
+        ⊎ FileRose (F.contents files.old) command.now
+        (F.failed_writes files.old) (F.failed_writes files.new) }
 {
     let inputs = match load_inputs(
         alloc,

@@ -18,9 +18,9 @@ use Rattle.command_spec.specs.Inputs.{inputs_of_command, given_inputs}
 use Rattle.command_run.specs.Top.{Ends, RunEnds, WriteRose}
 use Rattle.command_run.specs.Complete.{IsDecidedRun, IsComplete}
 
-module _ (before after : Outside) where
+module _ (contents : Option FileMap) (before after : Outside) where
   abbrev Wrote : Option Command → Type 0
-  Wrote given = WriteRose given before.host.failed_writes after.host.failed_writes (PutsRose before.host after.host)
+  Wrote given = WriteRose given contents before.host.failed_writes after.host.failed_writes (PutsRose before.host after.host)
 
   abbrev Read : List (List ℕ) → Status → Type 0
   Read paths = ReadRose paths before.host.failed_reads after.host.failed_reads
@@ -28,7 +28,7 @@ module _ (before after : Outside) where
   complete_end : (command : Command) (reached : Status)
       → Ends command before after reached → Read (inputs_of_command command) reached → (reached ≡ status.WriteFault → Wrote (Some command)) → (reached ≡ status.WireFault → EventsRose before.wire after.wire)
       → IsComplete command before after reached
-  complete_end (Build command) reached ends read write wire = λ all. build_ends_well command before.host after.host reached ends read write all
+  complete_end (Build command) reached ends read write wire = λ all. build_ends_well command before.host after.host reached ends read all
   complete_end (Serve command) reached ends read write wire = λ all. serving_ends_well command before after reached ends read write wire all
   complete_end (Replay command) reached ends read write wire = λ all. replay_ends_well command before.host after.host reached ends read write all
   complete_end (Page command) reached ends read write wire = λ all. tt
@@ -69,10 +69,10 @@ module _ (reads reads_now writes writes_now : List ℕ → ℕ) (output output_n
   abbrev pub After : FileMap → Outside
   After map = outside map reads_now writes_now output_now puts_now wire_now
 
-  pub complete_told : (n : Option FileMap) (map : FileMap) (given : Option Command) (command : Command) (reached reported : Status)
+  pub complete_told : (o n : Option FileMap) (map : FileMap) (given : Option Command) (command : Command) (reached reported : Status)
       → given ≡ Some command → IsSomeAnd n (λ now. RunEnds given (Before map) (After now) reached) → ReadRose (given_inputs given) reads reads_now reached
-      → (reached ≡ status.WriteFault → WriteRose given writes writes_now (Rose puts puts_now)) → (reached ≡ status.WireFault → Rose wire.next_faults wire_now.next_faults)
+      → (reached ≡ status.WriteFault → WriteRose given o writes writes_now (Rose puts puts_now)) → (reached ≡ status.WireFault → Rose wire.next_faults wire_now.next_faults)
       → (reported ≡ reached) ⊎ (reported ≡ status.NoMemory) → IsSomeAnd n (λ now. IsComplete command (Before map) (After now) reported)
-  complete_told None map given command reached reported is_given ends read write wire_rose is = ends
-  complete_told (Some now) map given command reached reported is_given ends read write wire_rose is =
-      reported_complete (Before map) (After now) command reached reported (complete_run (Before map) (After now) given command reached is_given ends read write wire_rose) is
+  complete_told o None map given command reached reported is_given ends read write wire_rose is = ends
+  complete_told o (Some now) map given command reached reported is_given ends read write wire_rose is =
+      reported_complete o (Before map) (After now) command reached reported (complete_run o (Before map) (After now) given command reached is_given ends read write wire_rose) is

@@ -32,7 +32,7 @@ use Rattle.site_inputs.specs.Runs.{Gives, ReadsHaveCause, UnreadRose}
 use Rattle.command_spec.specs.Inputs.{input_paths}
 use Rattle.site_inputs.specs.Statuses.{ReadRose, IsSilent, status_of}
 use Rattle.command_page.specs.Ends.{PageEnds}
-use Rattle.command_build.specs.Ends.{BuildEnds, FolderRose}
+use Rattle.command_build.specs.Ends.{BuildEnds, FileRose}
 use Rattle.command_build.proofs.Built.{faulty_is_no_memory}
 use Rattle.command_serve.proofs.Told.{never_silent}
 use Rattle.command_trial.specs.Ends.{TrialEnds}
@@ -374,32 +374,32 @@ build_writes command c is h = subst (λ (d : Command). WritesNoFile (Some d)) is
 
 -- ---- a fault of writing
 
-pub page_write_rose : (command : Command) (c : PageCommand) (before now : List ℕ → ℕ) (P : Type 0) → command ≡ Page c → P → WriteRose (Some command) before now P
-page_write_rose command c before now P is p = subst (λ (d : Command). WriteRose (Some d) before now P) (sym is) p
+pub page_write_rose : (command : Command) (c : PageCommand) (contents : Option FileMap) (before now : List ℕ → ℕ) (P : Type 0) → command ≡ Page c → P → WriteRose (Some command) contents before now P
+page_write_rose command c contents before now P is p = subst (λ (d : Command). WriteRose (Some d) contents before now P) (sym is) p
 
-pub data_write_rose : (command : Command) (c : DataCommand) (before now : List ℕ → ℕ) (P : Type 0) → command ≡ Data c → P → WriteRose (Some command) before now P
-data_write_rose command c before now P is p = subst (λ (d : Command). WriteRose (Some d) before now P) (sym is) p
+pub data_write_rose : (command : Command) (c : DataCommand) (contents : Option FileMap) (before now : List ℕ → ℕ) (P : Type 0) → command ≡ Data c → P → WriteRose (Some command) contents before now P
+data_write_rose command c contents before now P is p = subst (λ (d : Command). WriteRose (Some d) contents before now P) (sym is) p
 
-pub explain_write_rose : (command : Command) (c : ExplainCommand) (before now : List ℕ → ℕ) (P : Type 0) → command ≡ Explain c → P → WriteRose (Some command) before now P
-explain_write_rose command c before now P is p = subst (λ (d : Command). WriteRose (Some d) before now P) (sym is) p
+pub explain_write_rose : (command : Command) (c : ExplainCommand) (contents : Option FileMap) (before now : List ℕ → ℕ) (P : Type 0) → command ≡ Explain c → P → WriteRose (Some command) contents before now P
+explain_write_rose command c contents before now P is p = subst (λ (d : Command). WriteRose (Some d) contents before now P) (sym is) p
 
-pub trial_write_rose : (command : Command) (c : TrialCommand) (before now : List ℕ → ℕ) (P : Type 0) → command ≡ Trial c → P → WriteRose (Some command) before now P
-trial_write_rose command c before now P is p = subst (λ (d : Command). WriteRose (Some d) before now P) (sym is) p
+pub trial_write_rose : (command : Command) (c : TrialCommand) (contents : Option FileMap) (before now : List ℕ → ℕ) (P : Type 0) → command ≡ Trial c → P → WriteRose (Some command) contents before now P
+trial_write_rose command c contents before now P is p = subst (λ (d : Command). WriteRose (Some d) contents before now P) (sym is) p
 
-pub help_write_rose : (command : Command) (c : HelpCommand) (before now : List ℕ → ℕ) (P : Type 0) → command ≡ Help c → P → WriteRose (Some command) before now P
-help_write_rose command c before now P is p = subst (λ (d : Command). WriteRose (Some d) before now P) (sym is) p
+pub help_write_rose : (command : Command) (c : HelpCommand) (contents : Option FileMap) (before now : List ℕ → ℕ) (P : Type 0) → command ≡ Help c → P → WriteRose (Some command) contents before now P
+help_write_rose command c contents before now P is p = subst (λ (d : Command). WriteRose (Some d) contents before now P) (sym is) p
 
-pub version_write_rose : (command : Command) (before now : List ℕ → ℕ) (P : Type 0) → command ≡ Version → P → WriteRose (Some command) before now P
-version_write_rose command before now P is p = subst (λ (d : Command). WriteRose (Some d) before now P) (sym is) p
+pub version_write_rose : (command : Command) (contents : Option FileMap) (before now : List ℕ → ℕ) (P : Type 0) → command ≡ Version → P → WriteRose (Some command) contents before now P
+version_write_rose command contents before now P is p = subst (λ (d : Command). WriteRose (Some d) contents before now P) (sym is) p
 
-pub replay_write_rose : (command : Command) (c : ReplayCommand) (before now : List ℕ → ℕ) (P : Type 0) → command ≡ Replay c → P → WriteRose (Some command) before now P
-replay_write_rose command c before now P is p = subst (λ (d : Command). WriteRose (Some d) before now P) (sym is) p
+pub replay_write_rose : (command : Command) (c : ReplayCommand) (contents : Option FileMap) (before now : List ℕ → ℕ) (P : Type 0) → command ≡ Replay c → P → WriteRose (Some command) contents before now P
+replay_write_rose command c contents before now P is p = subst (λ (d : Command). WriteRose (Some d) contents before now P) (sym is) p
 
-pub serve_write_rose : (command : Command) (c : ServeCommand) (before now : List ℕ → ℕ) (P : Type 0) → command ≡ Serve c → P → WriteRose (Some command) before now P
-serve_write_rose command c before now P is p = subst (λ (d : Command). WriteRose (Some d) before now P) (sym is) p
+pub serve_write_rose : (command : Command) (c : ServeCommand) (contents : Option FileMap) (before now : List ℕ → ℕ) (P : Type 0) → command ≡ Serve c → P → WriteRose (Some command) contents before now P
+serve_write_rose command c contents before now P is p = subst (λ (d : Command). WriteRose (Some d) contents before now P) (sym is) p
 
-pub build_write_rose : (command : Command) (c : BuildCommand) (before now : List ℕ → ℕ) (P : Type 0) → command ≡ Build c → P ⊎ FolderRose c.folder before now → WriteRose (Some command) before now P
-build_write_rose command c before now P is p = subst (λ (d : Command). WriteRose (Some d) before now P) (sym is) p
+pub build_write_rose : (command : Command) (c : BuildCommand) (contents : Option FileMap) (before now : List ℕ → ℕ) (P : Type 0) → command ≡ Build c → P ⊎ FileRose contents c before now → WriteRose (Some command) contents before now P
+build_write_rose command c contents before now P is p = subst (λ (d : Command). WriteRose (Some d) contents before now P) (sym is) p
 
-pub given_write_rose : (given : Option Command) (command : Command) (before now : List ℕ → ℕ) (P : Type 0) → given ≡ Some command → WriteRose (Some command) before now P → WriteRose given before now P
-given_write_rose given command before now P is p = subst (λ (g : Option Command). WriteRose g before now P) (sym is) p
+pub given_write_rose : (given : Option Command) (command : Command) (contents : Option FileMap) (before now : List ℕ → ℕ) (P : Type 0) → given ≡ Some command → WriteRose (Some command) contents before now P → WriteRose given contents before now P
+given_write_rose given command contents before now P is p = subst (λ (g : Option Command). WriteRose g contents before now P) (sym is) p

@@ -56,12 +56,12 @@ module _ (Answer : Result (List ℕ) Fault → Type 0) (decides : Decides Answer
   exact_text paths NoMemory ends read write = λ answer its d no_read no_write. inr refl
   exact_text paths NotFound ends read write = λ answer its d no_read no_write. inl (by_answer (prelude.Err fault.NotFound) answer ends tt tt its d)
 
-abbrev Wrote : Option Command → Host → Host → Type 0
-Wrote given before after = WriteRose given before.failed_writes after.failed_writes (PutsRose before after)
+abbrev Wrote : Option FileMap → Option Command → Host → Host → Type 0
+Wrote contents given before after = WriteRose given contents before.failed_writes after.failed_writes (PutsRose before after)
 
-module _ (before after : Outside) where
+module _ (contents : Option FileMap) (before after : Outside) where
   exact_end : (command : Command) (status : Status)
-      → Ends command before after status → ReadRose (inputs_of_command command) before.host.failed_reads after.host.failed_reads status → (status ≡ WriteFault → Wrote (Some command) before.host after.host) → IsExact command before.host after.host status
+      → Ends command before after status → ReadRose (inputs_of_command command) before.host.failed_reads after.host.failed_reads status → (status ≡ WriteFault → Wrote contents (Some command) before.host after.host) → IsExact command before.host after.host status
   exact_end (Page command) status ends read write = exact_text (PageEnds before.host.files command) (answer_decides before.host.files (Page command)) before.host after.host (inputs_of_command (Page command)) status ends read write
   exact_end (Data command) status ends read write = exact_text (DataEnds before.host.files command) (answer_decides before.host.files (Data command)) before.host after.host (inputs_of_command (Data command)) status ends read write
   exact_end (Explain command) status ends read write = exact_text (ExplainEnds before.host.files command) (answer_decides before.host.files (Explain command)) before.host after.host (inputs_of_command (Explain command)) status ends read write
@@ -73,11 +73,11 @@ module _ (before after : Outside) where
   exact_end (Replay command) status ends read write = λ answer its d no_read no_write. absurd its
 
   exact_run : (given : Option Command) (command : Command) (status : Status)
-      → given ≡ Some command → RunEnds given before after status → ReadRose (given_inputs given) before.host.failed_reads after.host.failed_reads status → (status ≡ WriteFault → Wrote given before.host after.host) → IsExact command before.host after.host status
+      → given ≡ Some command → RunEnds given before after status → ReadRose (given_inputs given) before.host.failed_reads after.host.failed_reads status → (status ≡ WriteFault → Wrote contents given before.host after.host) → IsExact command before.host after.host status
   exact_run given command status is_given ends read write =
       exact_end command status (subst (λ (g : Option Command). RunEnds g before after status) is_given ends)
       (subst (λ (g : Option Command). ReadRose (given_inputs g) before.host.failed_reads after.host.failed_reads status) is_given read)
-      (λ e. subst (λ (g : Option Command). Wrote g before.host after.host) is_given (write e))
+      (λ e. subst (λ (g : Option Command). Wrote contents g before.host after.host) is_given (write e))
 
   reported_exact : (command : Command) (status reported : Status)
       → IsExact command before.host after.host status → (reported ≡ status) ⊎ (reported ≡ NoMemory) → IsExact command before.host after.host reported
@@ -91,10 +91,10 @@ module _ (reads reads_now writes writes_now : List ℕ → ℕ) (output output_n
   abbrev pub After : FileMap → Outside
   After map = outside map reads_now writes_now output_now puts_now wire_now
 
-  pub exact_told : (n : Option FileMap) (map : FileMap) (given : Option Command) (command : Command) (status reported : Status)
+  pub exact_told : (o n : Option FileMap) (map : FileMap) (given : Option Command) (command : Command) (status reported : Status)
       → given ≡ Some command → IsSomeAnd n (λ now. RunEnds given (Before map) (After now) status) → ReadRose (given_inputs given) reads reads_now status
-      → (status ≡ WriteFault → WriteRose given writes writes_now (Rose puts puts_now)) → (reported ≡ status) ⊎ (reported ≡ NoMemory)
+      → (status ≡ WriteFault → WriteRose given o writes writes_now (Rose puts puts_now)) → (reported ≡ status) ⊎ (reported ≡ NoMemory)
       → IsSomeAnd n (λ now. IsExact command (host map reads writes output puts) (host now reads_now writes_now output_now puts_now) reported)
-  exact_told None map given command status reported is_given ends read write is = ends
-  exact_told (Some now) map given command status reported is_given ends read write is =
-      reported_exact (Before map) (After now) command status reported (exact_run (Before map) (After now) given command status is_given ends read write) is
+  exact_told o None map given command status reported is_given ends read write is = ends
+  exact_told o (Some now) map given command status reported is_given ends read write is =
+      reported_exact o (Before map) (After now) command status reported (exact_run o (Before map) (After now) given command status is_given ends read write) is

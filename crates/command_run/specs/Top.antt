@@ -13,7 +13,7 @@ use Rattle.site_inputs.specs.Outside.{Host, Outside, PutsRose, AllRead}
 use Rattle.site_inputs.specs.Runs.{IsDecided}
 use Rattle.site_inputs.specs.Statuses.{status_of}
 use Rattle.command_page.specs.Ends.{PageEnds}
-use Rattle.command_build.specs.Ends.{BuildEnds, FolderRose}
+use Rattle.command_build.specs.Ends.{BuildEnds, FileRose}
 use Rattle.command_data.specs.Ends.{DataEnds}
 use Rattle.command_explain.specs.Ends.{ExplainEnds}
 use Rattle.command_serve.specs.Ends.{ServeEnds}
@@ -98,11 +98,14 @@ abbrev pub WritesNoFile : Option Command → Type 0
 WritesNoFile (prelude.Some (Build command)) = ⊥
 WritesNoFile command = ⊤
 
--- a fault of writing comes only where the count of the output rose, or that of a path under the folder of a build
-abbrev pub WriteRose : Option Command → (before now : List ℕ → ℕ) → (PutsRose : Type 0) → Type 0
-WriteRose (prelude.Some (Build command)) before now PutsRose =
-    PutsRose ⊎ FolderRose command.folder before now
-WriteRose command before now PutsRose = PutsRose
+-- A fault of writing comes only where the count of the output rose, or that of one of the files of a build's site. The
+-- contents are those of the files before the run, where they are reported.
+abbrev pub WriteRose
+    : Option Command → (contents : Option FileMap) → (before now : List ℕ → ℕ)
+    → (PutsRose : Type 0) → Type 0
+WriteRose (prelude.Some (Build command)) contents before now PutsRose =
+    PutsRose ⊎ FileRose contents command before now
+WriteRose command contents before now PutsRose = PutsRose
 
 -- the status of an answer that is put whole
 abbrev pub answer_status : Result (List ℕ) Fault → Status

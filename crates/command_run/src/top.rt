@@ -73,7 +73,8 @@ fn run_command<F: Files, O: Sink, W: Wire>(
     ensures read_cause { ReadRose (inputs_of_command command.now)
         (F.failed_reads files.old) (F.failed_reads files.new) result }
     ensures write_cause { result ≡ Status.WriteFault
-        → WriteRose (Some command.now) (F.failed_writes files.old) (F.failed_writes files.new)
+        → WriteRose (Some command.now) (F.contents files.old)
+        (F.failed_writes files.old) (F.failed_writes files.new)
         (Rose (O.failed out.old) (O.failed out.new)) }
 {
     match command {
@@ -135,7 +136,8 @@ fn run<F: Files, O: Sink, W: Wire>(
     ensures read_cause { ReadRose (given_inputs (command words.now))
         (F.failed_reads files.old) (F.failed_reads files.new) result }
     ensures write_cause { result ≡ Status.WriteFault
-        → WriteRose (command words.now) (F.failed_writes files.old) (F.failed_writes files.new)
+        → WriteRose (command words.now) (F.contents files.old)
+        (F.failed_writes files.old) (F.failed_writes files.new)
         (Rose (O.failed out.old) (O.failed out.new)) }
 {
     let command = match read_command(alloc, words) {
@@ -203,7 +205,8 @@ pub fn strudel<F: Files, O: Sink, E: Sink, W: Wire>(
     ensures read_cause { ReadRose (given_inputs (command words.now))
         (F.failed_reads files.old) (F.failed_reads files.new) result }
     ensures write_cause { result ≡ Status.WriteFault
-        → WriteRose (command words.now) (F.failed_writes files.old) (F.failed_writes files.new)
+        → WriteRose (command words.now) (F.contents files.old)
+        (F.failed_writes files.old) (F.failed_writes files.new)
         (Rose (O.failed out.old) (O.failed out.new)) }
 
     // The line on `err`.

@@ -1,10 +1,19 @@
 //! Whole runs by worked rows, over files, outputs and a wire in memory: runs of each command beside their status, the
-//! files that a build leaves, and pages with the first fault of inputs that are refused.
+//! files that a build leaves, pages with the first fault of inputs that are refused, runs of which a device fails, and
+//! one page of a site that is never made.
 #![tactic(auto)]
 
 #[cfg(test)]
+mod devices;
+#[cfg(test)]
 mod inputs;
 #[cfg(test)]
+mod large;
+#[cfg(test)]
 mod pages;
+#[cfg(test)]
+mod refusing;
+#[cfg(test)]
+mod site;
 #[cfg(test)]
 mod statuses;

@@ -1,5 +1,6 @@
 // Pages and refusals of the command `page`, over files and outputs in memory.
 use crate::inputs::{BIB, file, no_connections, texts};
+use crate::site::{LOOKS, SITE, YEAR};
 use command_run::strudel;
 use edge_io::{MemFiles, MemSink};
 use sd_value::NoMemory;
@@ -18,17 +19,9 @@ struct PageRow {
     err: &'static str,
 }
 
-const SITE: &str =
-    "INPUT Bib\n{ CREATE RootPage() }\n{ WHERE Publications(x), x -> l -> v\n  CREATE PaperPage(x)\n  LINK PaperPage(x) -> l -> v, RootPage() -> \"Paper\" -> PaperPage(x)\n  { WHERE l = \"year\"\n    CREATE YearPage(v)\n    LINK YearPage(v) -> \"Year\" -> v, YearPage(v) -> \"Paper\" -> PaperPage(x),\n         RootPage() -> \"Year\" -> YearPage(v) } }\nOUTPUT Home\n";
-
-const LOOKS: &str =
-    "<TEMPLATE RootPage><h1>Home</h1><SFMT @Paper LINK=title DELIM=\", \"></TEMPLATE>\n<TEMPLATE PaperPage><h1><SFMT @title></h1><SFMT @author DELIM=\" and \"></TEMPLATE>\n<TEMPLATE YearPage><h1><SFMT @Year></h1><SFMT @Paper LINK=title DELIM=\", \"></TEMPLATE>\n";
-
 const OK: &str = "<TEMPLATE F>ok</TEMPLATE>";
 
 const NOT_FOUND: &str = "strudel: not found\n";
-
-const YEAR: &str = "<h1>1998</h1><a href=\"/PaperPage/npub1.html\">Strudel</a>";
 
 const ENDS: &str = "INPUT D WHERE y -> \"v\" -> x CREATE F(x) OUTPUT S";
 

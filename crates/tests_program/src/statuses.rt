@@ -1,4 +1,4 @@
-// Runs of each command beside their status, their output and their line. No row here has the status 6, 8 or 10.
+// Runs of each command beside their status, their output and their line.
 use crate::inputs::{BIB, FileRow, files_of, no_connections, texts};
 use command_run::strudel;
 use edge_io::{MemFiles, MemSink};

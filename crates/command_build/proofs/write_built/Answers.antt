@@ -12,8 +12,8 @@ use Rattle.query_blocks.specs.Blocks.{scope_of}
 use Rattle.query_blocks.specs.Roots.{root_of_bodies}
 use Rattle.site_inputs.specs.Values.{inputs_of}
 use Rattle.site_inputs.proofs.Sites.{root_copied}
-use Rattle.command_build.specs.Ends.{IsUnder}
-use Rattle.command_build.proofs.Built.{built_told, unbuilt_told, under_folder, unwritten_again, no_write}
+use Rattle.command_build.specs.Ends.{IsSiteFile}
+use Rattle.command_build.proofs.Built.{built_told, unbuilt_told, site_file, unwritten_again, no_write}
 use Rattle.command_build.proofs.write_built.Goals as goal
 
 pub write_site-requires-clause-present : goal.write_site-requires-clause-present
@@ -42,7 +42,20 @@ returns-clause-ends g c = λ old told.
     (c.in-Err.ensures.ends old told)
 
 pub returns-clause-cause : goal.returns-clause-cause
-returns-clause-cause g c = record { later = c.in-Err.ensures.cause.later; failed = λ e. let r = c.in-Err.ensures.cause.failed (unwritten_again c.in-Err.stop e) in (r.0, under_folder c.args.folder.now c.as_slice-terms.result.now r.0 r.1, r.2) }
+returns-clause-cause g c = record {
+  later = c.in-Err.ensures.cause.later;
+  failed = λ e.
+      let r = c.in-Err.ensures.cause.failed (unwritten_again c.in-Err.stop e) in (
+        r.0,
+        site_file (inputs_of c.args.inputs) _ _ _ c.args.folder.now c.as_slice-terms.result.now r.0
+            (c.in_ok-whole.ensures.graph ∙ c.of-asker.ensures.store ∙ c.in_ok-store.ensures)
+            (ap scope_of c.in_ok-whole.ensures.scopes ∙ c.in_ok-scopes.ensures.scope)
+            (ap file_of c.in_ok-whole.ensures.templates)
+            (subst (ListsExactly term_cmp (IsPresent (site_of _ (scope_of c.in_ok-whole.whole.scopes.now)) (file_of c.in_ok-whole.whole.templates.now))) (sym c.as_slice-terms.ensures.value) c.in_ok-pages.ensures)
+            r.1,
+        r.2,
+      );
+}
 
 pub returns-in_err-pages-clause-ends : goal.returns-in_err-pages-clause-ends
 returns-in_err-pages-clause-ends g c = λ old told.
@@ -57,9 +70,9 @@ returns-in_err-line-clause-ends g c = λ old told.
 pub returns-in_err-pages-clause-cause : goal.returns-in_err-pages-clause-cause
 returns-in_err-pages-clause-cause g c =
     let p = err_from_is_err_and c.from_residual-in_err-pages.result c.from_residual-in_err-pages.ensures.1 in
-    no_write (IsUnder c.args.folder.now) (g.F.Files.failed_writes c.args.files.now) c.from_residual-in_err-pages.result (p.1 ∙ ap (λ (r : Stop). Err r) p.2)
+    no_write (IsSiteFile (inputs_of c.args.inputs) c.args.folder.now) (g.F.Files.failed_writes c.args.files.now) c.from_residual-in_err-pages.result (p.1 ∙ ap (λ (r : Stop). Err r) p.2)
 
 pub returns-in_err-line-clause-cause : goal.returns-in_err-line-clause-cause
 returns-in_err-line-clause-cause g c =
     let p = err_from_is_err_and c.from_residual-in_err-line.result c.from_residual-in_err-line.ensures.1 in
-    no_write (IsUnder c.args.folder.now) (g.F.Files.failed_writes c.args.files.now) c.from_residual-in_err-line.result (p.1 ∙ ap (λ (r : Stop). Err r) p.2)
+    no_write (IsSiteFile (inputs_of c.args.inputs) c.args.folder.now) (g.F.Files.failed_writes c.args.files.now) c.from_residual-in_err-line.result (p.1 ∙ ap (λ (r : Stop). Err r) p.2)

@@ -18,7 +18,7 @@ returns-clause-files g c = λ none. c.run_command.ensures.files (subst WritesNoF
 
 pub returns-clause-write_cause : goal.returns-clause-write_cause
 returns-clause-write_cause g c = λ e.
-    given_write_rose _ c.in-Ok-Some.command (g.F.Files.failed_writes c.args.files.now) (g.F.Files.failed_writes c.run_command.new.files) (Rose (g.O.Sink.failed c.args.out.now) (g.O.Sink.failed c.run_command.new.out))
+    given_write_rose _ c.in-Ok-Some.command (g.F.Files.contents c.args.files.now) (g.F.Files.failed_writes c.args.files.now) (g.F.Files.failed_writes c.run_command.new.files) (Rose (g.O.Sink.failed c.args.out.now) (g.O.Sink.failed c.run_command.new.out))
     (sym c.in-Ok-Some.ensures.exact ∙ c.in-Ok-Some.field-0-is) (c.run_command.ensures.write_cause e)
 
 pub returns-clause-read_cause : goal.returns-clause-read_cause

@@ -9,7 +9,7 @@ pub returns-in-Page-clause-read_cause : goal.returns-in-Page-clause-read_cause
 returns-in-Page-clause-read_cause g c = page_read_rose c.args.command.now c.in-Page.command c.page-answer.result _ _ _ _ _ c.in-Page.is c.put_answer.ensures.ends c.page-answer.ensures.cause
 
 pub returns-in-Page-clause-write_cause : goal.returns-in-Page-clause-write_cause
-returns-in-Page-clause-write_cause g c = λ e. page_write_rose c.args.command.now c.in-Page.command _ _ _ c.in-Page.is (c.put_answer.ensures.write_cause e)
+returns-in-Page-clause-write_cause g c = λ e. page_write_rose c.args.command.now c.in-Page.command (g.F.Files.contents c.args.files.now) _ _ _ c.in-Page.is (c.put_answer.ensures.write_cause e)
 
 pub returns-in-Build-clause-ends : goal.returns-in-Build-clause-ends
 returns-in-Build-clause-ends g c = λ map told. build_told (g.F.Files.failed_reads c.args.files.now) (g.F.Files.failed_reads c.build.new.files) (g.F.Files.failed_writes c.args.files.now) (g.F.Files.failed_writes c.build.new.files) (g.O.Sink.text c.args.out.now) (g.O.Sink.text c.build.new.out) (g.O.Sink.failed c.args.out.now) (g.O.Sink.failed c.build.new.out) (g.W.Wire.told c.args.wire.now) (g.W.Wire.told c.args.wire.now) _ map c.args.command.now c.in-Build.command _ c.in-Build.is (c.build.ensures.ends map told)
@@ -21,7 +21,7 @@ pub returns-in-Build-clause-files : goal.returns-in-Build-clause-files
 returns-in-Build-clause-files g c = λ none. absurd (build_writes c.args.command.now c.in-Build.command c.in-Build.is none)
 
 pub returns-in-Build-clause-write_cause : goal.returns-in-Build-clause-write_cause
-returns-in-Build-clause-write_cause g c = λ e. build_write_rose c.args.command.now c.in-Build.command _ _ _ c.in-Build.is (c.build.ensures.write_cause e)
+returns-in-Build-clause-write_cause g c = λ e. build_write_rose c.args.command.now c.in-Build.command (g.F.Files.contents c.args.files.now) _ _ _ c.in-Build.is (c.build.ensures.write_cause e)
 
 pub returns-in-Data-clause-ends : goal.returns-in-Data-clause-ends
 returns-in-Data-clause-ends g c = λ map told. data_told (g.F.Files.failed_reads c.args.files.now) (g.F.Files.failed_reads c.data-answer.new.files) (g.F.Files.failed_writes c.args.files.now) (g.F.Files.failed_writes c.data-answer.new.files) (g.O.Sink.text c.args.out.now) (g.O.Sink.text c.put_answer-in-Data.new.out) (g.O.Sink.failed c.args.out.now) (g.O.Sink.failed c.put_answer-in-Data.new.out) (g.W.Wire.told c.args.wire.now) (g.W.Wire.told c.args.wire.now) _ _ map c.args.command.now c.in-Data.command c.data-answer.result _ c.data-answer.ensures.same told c.in-Data.is (c.data-answer.ensures.ends map told) c.put_answer-in-Data.ensures.ends
@@ -30,7 +30,7 @@ pub returns-in-Data-clause-read_cause : goal.returns-in-Data-clause-read_cause
 returns-in-Data-clause-read_cause g c = data_read_rose c.args.command.now c.in-Data.command c.data-answer.result _ _ _ _ _ c.in-Data.is c.put_answer-in-Data.ensures.ends c.data-answer.ensures.cause
 
 pub returns-in-Data-clause-write_cause : goal.returns-in-Data-clause-write_cause
-returns-in-Data-clause-write_cause g c = λ e. data_write_rose c.args.command.now c.in-Data.command _ _ _ c.in-Data.is (c.put_answer-in-Data.ensures.write_cause e)
+returns-in-Data-clause-write_cause g c = λ e. data_write_rose c.args.command.now c.in-Data.command (g.F.Files.contents c.args.files.now) _ _ _ c.in-Data.is (c.put_answer-in-Data.ensures.write_cause e)
 
 pub returns-in-Explain-clause-ends : goal.returns-in-Explain-clause-ends
 returns-in-Explain-clause-ends g c = λ map told. explain_told (g.F.Files.failed_reads c.args.files.now) (g.F.Files.failed_reads c.explain-answer.new.files) (g.F.Files.failed_writes c.args.files.now) (g.F.Files.failed_writes c.explain-answer.new.files) (g.O.Sink.text c.args.out.now) (g.O.Sink.text c.put_answer-in-Explain.new.out) (g.O.Sink.failed c.args.out.now) (g.O.Sink.failed c.put_answer-in-Explain.new.out) (g.W.Wire.told c.args.wire.now) (g.W.Wire.told c.args.wire.now) _ _ map c.args.command.now c.in-Explain.command c.explain-answer.result _ c.explain-answer.ensures.same told c.in-Explain.is (c.explain-answer.ensures.ends map told) c.put_answer-in-Explain.ensures.ends
@@ -39,7 +39,7 @@ pub returns-in-Explain-clause-read_cause : goal.returns-in-Explain-clause-read_c
 returns-in-Explain-clause-read_cause g c = explain_read_rose c.args.command.now c.in-Explain.command c.explain-answer.result _ _ _ _ _ c.in-Explain.is c.put_answer-in-Explain.ensures.ends c.explain-answer.ensures.cause
 
 pub returns-in-Explain-clause-write_cause : goal.returns-in-Explain-clause-write_cause
-returns-in-Explain-clause-write_cause g c = λ e. explain_write_rose c.args.command.now c.in-Explain.command _ _ _ c.in-Explain.is (c.put_answer-in-Explain.ensures.write_cause e)
+returns-in-Explain-clause-write_cause g c = λ e. explain_write_rose c.args.command.now c.in-Explain.command (g.F.Files.contents c.args.files.now) _ _ _ c.in-Explain.is (c.put_answer-in-Explain.ensures.write_cause e)
 
 pub returns-in-Serve-clause-ends : goal.returns-in-Serve-clause-ends
 returns-in-Serve-clause-ends g c = λ map told. serve_told (g.F.Files.failed_reads c.args.files.now) (g.F.Files.failed_reads c.serve.new.files) (g.F.Files.failed_writes c.args.files.now) (g.F.Files.failed_writes c.serve.new.files) (g.O.Sink.text c.args.out.now) (g.O.Sink.text c.serve.new.out) (g.O.Sink.failed c.args.out.now) (g.O.Sink.failed c.serve.new.out) (g.W.Wire.told c.args.wire.now) (g.W.Wire.told c.serve.new.wire) _ _ map c.args.command.now c.in-Serve.command _ c.serve.ensures.same told c.in-Serve.is (c.serve.ensures.ends map told)
@@ -51,7 +51,7 @@ pub returns-in-Serve-clause-read_cause : goal.returns-in-Serve-clause-read_cause
 returns-in-Serve-clause-read_cause g c = serve_read_rose c.args.command.now c.in-Serve.command _ _ _ c.in-Serve.is c.serve.ensures.read_cause
 
 pub returns-in-Serve-clause-write_cause : goal.returns-in-Serve-clause-write_cause
-returns-in-Serve-clause-write_cause g c = λ e. serve_write_rose c.args.command.now c.in-Serve.command _ _ _ c.in-Serve.is (c.serve.ensures.write_cause e)
+returns-in-Serve-clause-write_cause g c = λ e. serve_write_rose c.args.command.now c.in-Serve.command (g.F.Files.contents c.args.files.now) _ _ _ c.in-Serve.is (c.serve.ensures.write_cause e)
 
 pub returns-in-Replay-clause-ends : goal.returns-in-Replay-clause-ends
 returns-in-Replay-clause-ends g c = λ map told. replay_told (g.F.Files.failed_reads c.args.files.now) (g.F.Files.failed_reads c.replay.new.files) (g.F.Files.failed_writes c.args.files.now) (g.F.Files.failed_writes c.replay.new.files) (g.O.Sink.text c.args.out.now) (g.O.Sink.text c.replay.new.out) (g.O.Sink.failed c.args.out.now) (g.O.Sink.failed c.replay.new.out) (g.W.Wire.told c.args.wire.now) (g.W.Wire.told c.args.wire.now) _ _ map c.args.command.now c.in-Replay.command _ c.replay.ensures.same told c.in-Replay.is (c.replay.ensures.ends map told)
@@ -60,7 +60,7 @@ pub returns-in-Replay-clause-read_cause : goal.returns-in-Replay-clause-read_cau
 returns-in-Replay-clause-read_cause g c = replay_read_rose c.args.command.now c.in-Replay.command _ _ _ c.in-Replay.is c.replay.ensures.read_cause
 
 pub returns-in-Replay-clause-write_cause : goal.returns-in-Replay-clause-write_cause
-returns-in-Replay-clause-write_cause g c = λ e. replay_write_rose c.args.command.now c.in-Replay.command _ _ _ c.in-Replay.is (c.replay.ensures.write_cause e)
+returns-in-Replay-clause-write_cause g c = λ e. replay_write_rose c.args.command.now c.in-Replay.command (g.F.Files.contents c.args.files.now) _ _ _ c.in-Replay.is (c.replay.ensures.write_cause e)
 
 pub returns-in-Build-clause-wire_cause : goal.returns-in-Build-clause-wire_cause
 returns-in-Build-clause-wire_cause g c = λ e. absurd (c.build.ensures.no_wire e)
@@ -75,7 +75,7 @@ pub returns-in-Trial-clause-read_cause : goal.returns-in-Trial-clause-read_cause
 returns-in-Trial-clause-read_cause g c = trial_read_rose c.args.command.now c.in-Trial.command c.trial-answer.result _ _ _ _ _ c.in-Trial.is c.put_answer-in-Trial.ensures.ends c.trial-answer.ensures
 
 pub returns-in-Trial-clause-write_cause : goal.returns-in-Trial-clause-write_cause
-returns-in-Trial-clause-write_cause g c = λ e. trial_write_rose c.args.command.now c.in-Trial.command _ _ _ c.in-Trial.is (c.put_answer-in-Trial.ensures.write_cause e)
+returns-in-Trial-clause-write_cause g c = λ e. trial_write_rose c.args.command.now c.in-Trial.command (g.F.Files.contents c.args.files.now) _ _ _ c.in-Trial.is (c.put_answer-in-Trial.ensures.write_cause e)
 
 pub returns-in-Help-clause-ends : goal.returns-in-Help-clause-ends
 returns-in-Help-clause-ends g c = λ map told. help_told (g.F.Files.failed_reads c.args.files.now) (g.F.Files.failed_reads c.args.files.now) (g.F.Files.failed_writes c.args.files.now) (g.F.Files.failed_writes c.args.files.now) (g.O.Sink.text c.args.out.now) (g.O.Sink.text c.put_answer-in-Help.new.out) (g.O.Sink.failed c.args.out.now) (g.O.Sink.failed c.put_answer-in-Help.new.out) (g.W.Wire.told c.args.wire.now) (g.W.Wire.told c.args.wire.now) _ _ map c.args.command.now c.in-Help.command c.help-answer.result _ refl told c.in-Help.is c.help-answer.ensures c.put_answer-in-Help.ensures.ends
@@ -84,7 +84,7 @@ pub returns-in-Help-clause-read_cause : goal.returns-in-Help-clause-read_cause
 returns-in-Help-clause-read_cause g c = help_read_rose c.args.command.now c.in-Help.command c.help-answer.result _ _ _ _ _ c.put_answer-in-Help.ensures.ends c.help-answer.ensures
 
 pub returns-in-Help-clause-write_cause : goal.returns-in-Help-clause-write_cause
-returns-in-Help-clause-write_cause g c = λ e. help_write_rose c.args.command.now c.in-Help.command _ _ _ c.in-Help.is (c.put_answer-in-Help.ensures.write_cause e)
+returns-in-Help-clause-write_cause g c = λ e. help_write_rose c.args.command.now c.in-Help.command (g.F.Files.contents c.args.files.now) _ _ _ c.in-Help.is (c.put_answer-in-Help.ensures.write_cause e)
 
 pub returns-in-Version-clause-ends : goal.returns-in-Version-clause-ends
 returns-in-Version-clause-ends g c = λ map told. version_told (g.F.Files.failed_reads c.args.files.now) (g.F.Files.failed_reads c.args.files.now) (g.F.Files.failed_writes c.args.files.now) (g.F.Files.failed_writes c.args.files.now) (g.O.Sink.text c.args.out.now) (g.O.Sink.text c.put_answer-in-Version.new.out) (g.O.Sink.failed c.args.out.now) (g.O.Sink.failed c.put_answer-in-Version.new.out) (g.W.Wire.told c.args.wire.now) (g.W.Wire.told c.args.wire.now) _ _ map c.args.command.now c.version-answer.result _ refl told c.in-Version.is c.version-answer.ensures c.put_answer-in-Version.ensures.ends
@@ -93,4 +93,4 @@ pub returns-in-Version-clause-read_cause : goal.returns-in-Version-clause-read_c
 returns-in-Version-clause-read_cause g c = version_read_rose c.args.command.now c.version-answer.result _ _ _ _ _ c.put_answer-in-Version.ensures.ends c.version-answer.ensures
 
 pub returns-in-Version-clause-write_cause : goal.returns-in-Version-clause-write_cause
-returns-in-Version-clause-write_cause g c = λ e. version_write_rose c.args.command.now _ _ _ c.in-Version.is (c.put_answer-in-Version.ensures.write_cause e)
+returns-in-Version-clause-write_cause g c = λ e. version_write_rose c.args.command.now (g.F.Files.contents c.args.files.now) _ _ _ c.in-Version.is (c.put_answer-in-Version.ensures.write_cause e)

@@ -13,7 +13,7 @@ returns-clause-silent g c = reported_silent _ _ c.run-status.ensures.silent c.re
 
 pub returns-clause-exact : goal.returns-clause-exact
 returns-clause-exact g c = λ map told command is_given.
-    exact_told (g.F.Files.failed_reads c.args.files.now) (g.F.Files.failed_reads c.run-status.new.files) (g.F.Files.failed_writes c.args.files.now) (g.F.Files.failed_writes c.run-status.new.files) (g.O.Sink.text c.args.out.now) (g.O.Sink.text c.run-status.new.out) (g.O.Sink.failed c.args.out.now) (g.O.Sink.failed c.run-status.new.out) (g.W.Wire.told c.args.wire.now) (g.W.Wire.told c.run-status.new.wire) (g.F.Files.contents c.run-status.new.files) map _ command _ _ is_given
+    exact_told (g.F.Files.failed_reads c.args.files.now) (g.F.Files.failed_reads c.run-status.new.files) (g.F.Files.failed_writes c.args.files.now) (g.F.Files.failed_writes c.run-status.new.files) (g.O.Sink.text c.args.out.now) (g.O.Sink.text c.run-status.new.out) (g.O.Sink.failed c.args.out.now) (g.O.Sink.failed c.run-status.new.out) (g.W.Wire.told c.args.wire.now) (g.W.Wire.told c.run-status.new.wire) (g.F.Files.contents c.args.files.now) (g.F.Files.contents c.run-status.new.files) map _ command _ _ is_given
     (c.run-status.ensures.ends map told) c.run-status.ensures.read_cause c.run-status.ensures.write_cause c.report.ensures.status
 
 pub returns-clause-quiet : goal.returns-clause-quiet
@@ -21,5 +21,5 @@ returns-clause-quiet g c = reported_silent _ _ c.run-status.ensures.quiet c.repo
 
 pub returns-clause-complete : goal.returns-clause-complete
 returns-clause-complete g c = λ map told command is_given.
-    complete_told (g.F.Files.failed_reads c.args.files.now) (g.F.Files.failed_reads c.run-status.new.files) (g.F.Files.failed_writes c.args.files.now) (g.F.Files.failed_writes c.run-status.new.files) (g.O.Sink.text c.args.out.now) (g.O.Sink.text c.run-status.new.out) (g.O.Sink.failed c.args.out.now) (g.O.Sink.failed c.run-status.new.out) (g.W.Wire.told c.args.wire.now) (g.W.Wire.told c.run-status.new.wire) (g.F.Files.contents c.run-status.new.files) map _ command _ _ is_given
+    complete_told (g.F.Files.failed_reads c.args.files.now) (g.F.Files.failed_reads c.run-status.new.files) (g.F.Files.failed_writes c.args.files.now) (g.F.Files.failed_writes c.run-status.new.files) (g.O.Sink.text c.args.out.now) (g.O.Sink.text c.run-status.new.out) (g.O.Sink.failed c.args.out.now) (g.O.Sink.failed c.run-status.new.out) (g.W.Wire.told c.args.wire.now) (g.W.Wire.told c.run-status.new.wire) (g.F.Files.contents c.args.files.now) (g.F.Files.contents c.run-status.new.files) map _ command _ _ is_given
     (c.run-status.ensures.ends map told) c.run-status.ensures.read_cause c.run-status.ensures.write_cause c.run-status.ensures.wire_cause c.report.ensures.status

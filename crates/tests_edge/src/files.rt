@@ -1,0 +1,153 @@
+// Files of the system, each read as std wrote it, and each written as std reads it.
+use crate::checks::{check, check_bytes};
+use crate::folder::Folder;
+use edge_io::{Failed, Files, ReadEnd, RealFiles};
+use sd_value::{NoMemory, Str};
+use std::alloc::Global;
+use std::fs;
+use std::test::Fail;
+
+// A length of more than two of the buffers that a file is read by, and of no whole number of them.
+const LONG: usize = 20_000;
+
+// A text in which no two buffers are alike.
+fn long_text(alloc: Global) -> Result<Vec<u8>, NoMemory> {
+    let mut text = Vec::new(alloc);
+    for place in 0..LONG {
+        text.push((place % 251) as u8)?;
+    }
+    Ok(text)
+}
+
+// A bound on what is read, and how many bytes are read then.
+struct Bound {
+    at_most: u64,
+    length: usize,
+}
+
+const BOUNDS: &[Bound] = &[
+    Bound {
+        at_most: 1_000_000,
+        length: LONG,
+    },
+    Bound {
+        at_most: LONG as u64,
+        length: LONG,
+    },
+    Bound {
+        at_most: LONG as u64 - 1,
+        length: LONG - 1,
+    },
+    Bound {
+        at_most: 8_192,
+        length: 8_192,
+    },
+    Bound {
+        at_most: 8_193,
+        length: 8_193,
+    },
+    Bound {
+        at_most: 5,
+        length: 5,
+    },
+    Bound {
+        at_most: 0,
+        length: 0,
+    },
+];
+
+fn check_bounds<F: Files>(
+    alloc: Global,
+    files: &mut F,
+    path: &Str,
+    text: &[u8],
+) -> Result<(), Fail> {
+    for bound in BOUNDS {
+        let found = files.read(alloc, path, bound.at_most)?;
+        let wanted = text.get(..bound.length).ok_or("a short text")?;
+        check_bytes(&found, wanted, "what is read")?;
+    }
+    Ok(())
+}
+
+#[test]
+fn a_file_is_read_up_to_a_bound(rt: HostRuntime) -> Result<(), Fail> {
+    let alloc = rt.alloc();
+    let folder = Folder::fresh(&rt, "bounds")?;
+    let path = folder.path(&rt, "long")?;
+    let text = long_text(alloc)?;
+    fs::write(&rt, path.as_str(), text.as_slice())?;
+    let path = Str::new(alloc, path.as_bytes())?;
+    let mut files = RealFiles::new(&rt);
+    check_bounds(alloc, &mut files, &path, &text)?;
+    check(files.read_faults(&path) == 0, "a fault")?;
+    folder.remove(&rt)
+}
+
+// Reads the file of this name, which fails.
+fn check_unread(rt: &HostRuntime, folder: &Folder, name: &str) -> Result<(), Fail> {
+    let alloc = rt.alloc();
+    let path = folder.path(rt, name)?;
+    let path = Str::new(alloc, path.as_bytes())?;
+    let mut files = RealFiles::new(rt);
+    let end = files.read(alloc, &path, 9);
+    check(end == Err(ReadEnd::Failed), name)?;
+    check(files.read_faults(&path) == 1, "no fault of reading")?;
+    check(files.write_faults(&path) == 0, "a fault of writing")
+}
+
+#[test]
+fn a_missing_file_and_a_folder_are_not_read(rt: HostRuntime) -> Result<(), Fail> {
+    let folder = Folder::fresh(&rt, "unread")?;
+    check_unread(&rt, &folder, "none")?;
+    check_unread(&rt, &folder, "none/x")?;
+    check_unread(&rt, &folder, ".")?;
+    folder.remove(&rt)
+}
+
+// Writes the bytes, which std reads then.
+fn check_written(rt: &HostRuntime, folder: &Folder, name: &str, bytes: &[u8]) -> Result<(), Fail> {
+    let alloc = rt.alloc();
+    let path = folder.path(rt, name)?;
+    let named = Str::new(alloc, path.as_bytes())?;
+    let mut files = RealFiles::new(rt);
+    check(files.write(&named, bytes) == Ok(()), name)?;
+    check(files.write_faults(&named) == 0, "a fault of writing")?;
+    check_bytes(&fs::read(rt, path.as_str())?, bytes, name)
+}
+
+#[test]
+fn a_file_is_written_whole(rt: HostRuntime) -> Result<(), Fail> {
+    let folder = Folder::fresh(&rt, "written")?;
+    let text = long_text(rt.alloc())?;
+    check_written(&rt, &folder, "file", &text)?;
+    check_written(&rt, &folder, "file", b"over an old one")?;
+    check_written(&rt, &folder, "file", b"")?;
+    check_written(&rt, &folder, "new/folders/file", b"in a new folder")?;
+    check_written(&rt, &folder, "new/folders/second", &text)?;
+    folder.remove(&rt)
+}
+
+// Writes the file of this name, which fails.
+fn check_unwritten(rt: &HostRuntime, folder: &Folder, name: &str) -> Result<(), Fail> {
+    let alloc = rt.alloc();
+    let path = folder.path(rt, name)?;
+    let path = Str::new(alloc, path.as_bytes())?;
+    let mut files = RealFiles::new(rt);
+    check(files.write(&path, b"x") == Err(Failed), name)?;
+    check(files.write_faults(&path) == 1, "no fault of writing")?;
+    check(files.read_faults(&path) == 0, "a fault of reading")
+}
+
+#[test]
+fn no_file_is_written_at_a_folder_or_under_a_file(rt: HostRuntime) -> Result<(), Fail> {
+    let folder = Folder::fresh(&rt, "unwritten")?;
+    check_written(&rt, &folder, "file", b"a file")?;
+    check_written(&rt, &folder, "folder/file", b"a file")?;
+    check_unwritten(&rt, &folder, "folder")?;
+    check_unwritten(&rt, &folder, "file/x")?;
+    check_unwritten(&rt, &folder, "file/x/y")?;
+    let path = folder.path(&rt, "file")?;
+    check_bytes(&fs::read(&rt, path.as_str())?, b"a file", "the file")?;
+    folder.remove(&rt)
+}

@@ -1,0 +1,14 @@
+//! The system's own edge, as it really is: files in a fresh folder, and the worked page over a socket by a whole run of
+//! `serve`.
+#![tactic(auto)]
+
+#[cfg(test)]
+mod checks;
+#[cfg(test)]
+mod files;
+#[cfg(test)]
+mod folder;
+#[cfg(test)]
+mod served;
+#[cfg(test)]
+mod visited;
