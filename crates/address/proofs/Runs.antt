@@ -1,7 +1,7 @@
 -- Runs of bytes without a slash.
 use Rattle.std.proofs.Common.{◌≡◌, ◌⊎◌, ℕ, ◌+◌, ◌<◌, ◌≤◌, List, [], ◌∷◌, ◌++◌, length, inl, inr, sym, ap, ◌∙◌, refl, arith}
 use Rattle.std.proofs.lemmas.List.Elements.{All-nil, All-cons, All-head, All-tail}
-use Rattle.address.specs.declared.places.TheConstants.{NAME_LIMIT}
+use Rattle.page_spec.specs.declared.TheConstants.{NAME_LIMIT}
 use Rattle.address.specs.Segments.{HasNoSlash, HasLongSegment}
 
 abbrev IsOther : ℕ → Type 0

@@ -4,11 +4,9 @@ ghost use Rattle.page_spec.specs.Show as spec;
 ghost use Rattle.address.specs.Segments.{HasLongSegment, FileEnds};
 
 use crate::written::address;
+use page_spec::NAME_LIMIT;
 use sd_value::{NoMemory, Term};
 use std::alloc::Global;
-
-/// The most bytes that a file system takes as one name.
-pub const NAME_LIMIT: usize = 255;
 
 /// Why a page has no file: a name on its way would have more than 255 bytes, or memory ran out.
 #[derive(Clone, Copy, Debug, PartialEq, Eq)]
@@ -32,7 +30,8 @@ impl From<NoMemory> for FileRefusal {
 /// exactly where a segment between slashes has more than 255 bytes. After a refusal `out` is as it was.
 pub fn file_of(alloc: Global, term: &Term, out: &mut Vec<u8>) -> Result<(), FileRefusal>
     ensures out { out.new.items
-        ≡ (if is_ok result then out.old.items ++ drop 1 (spec.address term.now) else out.old.items) }
+        ≡ (if is_ok result then out.old.items ++ drop 1 (spec.address term.now)
+        else out.old.items) }
     ensures ends { FileEnds (drop 1 (spec.address term.now)) result }
 {
     let mut text = Vec::new(alloc);

@@ -1,5 +1,5 @@
 -- How the rows of a choice's values make up the rows of the choice.
-use Rattle.std.proofs.Common.{◌≡◌, ℕ, zero, suc, ◌+◌, ◌<◌, ◌≤◌, List, [], ◌∷◌, ◌++◌, length, arith, refl, ap, sym, ◌∙◌, inl, inr, subst, append_assoc}
+use Rattle.std.proofs.Common.{◌≡◌, ℕ, zero, suc, ◌≤◌, List, [], ◌∷◌, ◌++◌, length, arith, refl, ap, sym, ◌∙◌, inl, inr, subst, append_assoc}
 use Rattle.std.specs.Prelude.{Option, None, Some, slice_get, slice_set, ◌⊎◌, Bool, Contains}
 use Rattle.std.proofs.lemmas.List.Elements.{Contains-append_cases, Contains-append_left, Contains-append_right, Contains-push_cases, Contains-push}
 use Rattle.std.specs.declared.cmp.Ordering.{Ordering}
@@ -8,11 +8,10 @@ use Rattle.sd_value.specs.Ascending.{ListsExactly}
 use Rattle.query_spec.specs.Rows.{row_cmp}
 use Rattle.sd_value.specs.declared.Value.{Value}
 use Rattle.graph_spec.specs.DataGraph.{DataGraph}
-use Rattle.condition_tests.specs.Known.{known_part, Agrees, InDomains, KnownInDomains, IsCandidate, is_arc}
-use Rattle.condition_tests.specs.Meaning.{GoalHolds}
+use Rattle.condition_tests.specs.Known.{known_part, Agrees, KnownInDomains, IsCandidate, is_arc}
 use Rattle.bindings.specs.Fits.{Fits, SomeFits, Adds, IsPassed, IsChoice, IsComplete}
 use Rattle.condition_tests.specs.declared.literal.Goal.{Goal}
-use Rattle.bindings.proofs.Known.{slice_get-set_same, slice_get-set_cases, set_back, length-set, known_part-agrees, agrees-known_part}
+use Rattle.bindings.proofs.Known.{slice_get-set_same, slice_get-set_cases, length-set, known_part-agrees, agrees-known_part}
 
 pub Adds-none : {X : Type 0} (P : X → Type 0) (xs : List X) → ((x : X) → P x → ⊥) → Adds P xs xs
 Adds-none P xs none = record { kept = λ x h. h; added = λ x p. absurd (none x p); nothing_else = λ x h. inl h }

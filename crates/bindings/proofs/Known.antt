@@ -1,8 +1,8 @@
 -- Laws of what is known of a row.
-use Rattle.std.proofs.Common.{◌≡◌, ℕ, zero, suc, ◌+◌, ◌<◌, List, [], ◌∷◌, ◌++◌, take, get_or, add-one, length, arith, refl, ap, sym, ◌∙◌, inl, inr, subst}
+use Rattle.std.proofs.Common.{◌≡◌, ℕ, zero, suc, ◌+◌, ◌<◌, List, [], ◌∷◌, ◌++◌, take, get_or, add-one, length, arith, refl, ap, inl, inr}
 use Rattle.std.specs.Prelude.{Option, None, Some, slice_get, slice_set, ◌⊎◌}
 use Rattle.sd_value.specs.declared.Value.{Value}
-use Rattle.condition_tests.specs.Known.{known_part, Agrees, InDomains, KnownInDomains}
+use Rattle.condition_tests.specs.Known.{known_part, Agrees}
 
 -- how many variables have no value yet
 abbrev pub free_count : List (Option Value) → ℕ

@@ -5,3 +5,4 @@ pub mod Offers
 pub mod Steps
 pub mod Rows
 pub mod Made
+pub mod Kept

@@ -1,15 +1,15 @@
 -- Goals made one by one for the steps of a plan.
 use Rattle.std.proofs.Common.{◌≡◌, ℕ, zero, suc, ◌+◌, ◌<◌, ◌≤◌, List, [], ◌∷◌, ◌++◌, length, map, take, add-one, arith, refl, ap, sym, ◌∙◌, inl, inr, subst, get_or}
-use Rattle.std.specs.Prelude.{◌⊎◌, ◌↔◌, Option, None, Some, slice_get, Contains, All}
+use Rattle.std.specs.Prelude.{Some, slice_get, Contains, All}
 use Rattle.std.specs.List.{AllZip, flat_map}
-use Rattle.std.proofs.lemmas.List.Elements.{Contains-append_left, Contains-append_right, Contains-push}
+use Rattle.std.proofs.lemmas.List.Elements.{Contains-append_left, Contains-append_right}
 use Rattle.std.proofs.lemmas.Option.{slice_get_within, slice_get-get_or}
 use Rattle.sd_value.specs.declared.Value.{Value}
 use Rattle.sd_value.specs.Members.{Contains-here}
 use Rattle.graph_spec.specs.DataGraph.{DataGraph}
 use Rattle.query_spec.specs.declared.Variable.{Variable}
 use Rattle.query_spec.specs.Query.{Chain, Operand, variable, constant, PathStep, arc_variable, expression, Condition, member, path, compare, one_of, kind, negation}
-use Rattle.query_spec.specs.Mentions.{names, operand_names, step_names, IsWellMade, IsFlat, condition_positions}
+use Rattle.query_spec.specs.Mentions.{names, operand_names, step_names, IsDeclared, IsWellMade, IsFlat, condition_positions}
 use Rattle.query_spec.specs.Holds.{Holds}
 use Rattle.query_spec.specs.Rows.{value_in}
 use Rattle.struql_ast.specs.declared.Condition.{Condition as Written}
@@ -17,7 +17,7 @@ use Rattle.struql_ast.specs.Reading.{condition_of}
 use Rattle.condition_tests.specs.declared.literal.Goal.{Goal}
 use Rattle.condition_tests.specs.Meaning.{GoalHolds}
 use Rattle.condition_tests.specs.Places.{GoalInRange, GoalsInRange}
-use Rattle.condition_tests.specs.Resolved.{IsGoalOf, AreGoalsOf, StandsFor, declared, operand_declared, step_declared}
+use Rattle.condition_tests.specs.Resolved.{IsGoalOf, AreGoalsOf, declared, step_declared}
 use Rattle.plan_spec.specs.declared.PlanStep.{PlanStep}
 use Rattle.plan_spec.specs.declared.PlanStep.TheVariants.{Use, Domain}
 use Rattle.plan_spec.specs.Plan.{Uses, AreStepsOver}
@@ -110,7 +110,7 @@ followed_in_range variables written steps goals z = λ j g h. (let w = zip_back 
 
 -- each name that a condition of the chain has is a variable's
 module _ (variables : List Variable) where
-  operand_named : (t : Operand) → ((x : List ℕ) → Contains (operand_names t) x → Contains (map (λ v. v.name) variables) x) → operand_declared variables t
+  operand_named : (t : Operand) → ((x : List ℕ) → Contains (operand_names t) x → Contains (map (λ v. v.name) variables) x) → IsDeclared variables t
   operand_named (variable x) h = h x (Contains-here x [])
   operand_named (constant v) h = tt
 

@@ -1,31 +1,30 @@
 -- Laws of what a condition offers.
-use Rattle.std.proofs.Common.{◌≡◌, ℕ, zero, suc, ◌+◌, ◌<◌, List, [], ◌∷◌, ◌++◌, length, map, arith, refl, ap, sym, ◌∙◌, inl, inr, subst}
-use Rattle.std.specs.Prelude.{◌⊎◌, ◌↔◌, Contains, Bool, true, false, IsTrue, Option, None, Some, slice_get, ⊤}
+use Rattle.std.proofs.Common.{◌≡◌, ℕ, List, map, refl, sym, subst}
+use Rattle.std.specs.Prelude.{◌↔◌, Contains, Bool, true, false, IsTrue, Option, None, Some, slice_get}
 use Rattle.sd_value.specs.declared.Datum.TheVariants.{Text, Node}
 use Rattle.sd_value.specs.declared.Value.{Value}
-use Rattle.sd_value.specs.declared.Value.TheVariants.{Data, Page}
+use Rattle.sd_value.specs.declared.Value.TheVariants.{Data}
 use Rattle.sd_value.specs.Ascending.{ListsExactly}
 use Rattle.sd_value.specs.Order.{bytes_cmp, value_cmp}
-use Rattle.graph_spec.specs.DataGraph.{DataGraph, node, text, HasEdge, IsLabelOf, IsLabelValueOf}
+use Rattle.graph_spec.specs.DataGraph.{DataGraph, node, text, HasEdge, IsLabelOf}
 use Rattle.condition_tests.specs.declared.literal.Place.{Place}
-use Rattle.condition_tests.specs.declared.literal.Place.TheVariants.{Variable, Fixed}
+use Rattle.condition_tests.specs.declared.literal.Place.TheVariants.{Variable}
 use Rattle.condition_tests.specs.declared.literal.Property.{Property}
 use Rattle.condition_tests.specs.declared.literal.Relation.{Relation}
 use Rattle.condition_tests.specs.declared.literal.Atom.{Atom}
 use Rattle.condition_tests.specs.declared.literal.Atom.TheVariants.{One, Two, Arc}
-use Rattle.condition_tests.specs.Known.{Agrees, InDomains, IsCandidate, is_arc}
-use Rattle.condition_tests.specs.Places.{IsKnown, IsFree, IsWhole}
+use Rattle.condition_tests.specs.Known.{Agrees, IsCandidate, is_arc}
+use Rattle.condition_tests.specs.Places.{IsKnown}
 use Rattle.condition_tests.specs.Meaning.{Stands, Has, HasArc, Relates, AtomHolds}
-use Rattle.bindings.specs.Fits.{IsListOf, IsPartOf, IsOffer, Lists, IsSettled, IsAny}
+use Rattle.bindings.specs.Fits.{IsListOf, IsOffer, Lists, IsSettled, IsAny}
 use Rattle.graph_spec.specs.declared.Step.{Step}
 use Rattle.graph_spec.specs.declared.Edge.{Edge as GraphEdge}
 use Rattle.graph_spec.specs.Orders.{step_cmp, edge_cmp}
 use Rattle.graph_spec.specs.Steps.{IsStepFrom, IsStepTo, IsLabelled}
-use Rattle.query_spec.specs.declared.Op.TheVariants.{Eq}
 use Rattle.query_spec.specs.Holds.{IsEqual}
 use Rattle.condition_tests.proofs.Equal.{equal_turned}
-use Rattle.condition_tests.specs.declared.literal.Relation.TheVariants.{Edge, Walk, Compare}
-use Rattle.condition_tests.proofs.Decided.{known_stands, same_standing, not_free}
+use Rattle.condition_tests.specs.declared.literal.Relation.TheVariants.{Edge}
+use Rattle.condition_tests.proofs.Decided.{known_stands, same_standing}
 use Rattle.bindings.proofs.Parts.{Contains-map, from_map}
 
 pub labels_are_domain : (G : DataGraph) (labels : List (List ℕ)) (values : List Value) (arc : Bool) → arc ≡ true → ListsExactly bytes_cmp (IsLabelOf G) labels → values ≡ map text labels → IsListOf (IsCandidate G arc) values

@@ -1,6 +1,6 @@
 -- The rows that fit a chain's goals are the chain's rows that agree with what is bound.
-use Rattle.std.proofs.Common.{◌≡◌, ℕ, zero, suc, ◌+◌, ◌<◌, ◌≤◌, List, [], ◌∷◌, length, map, arith, refl, ap, sym, ◌∙◌, inl, inr, subst, get_or}
-use Rattle.std.specs.Prelude.{◌⊎◌, ◌↔◌, All, IsTrue, Bool, true, false, Option, None, Some, slice_get, slice_index_or, ⊤}
+use Rattle.std.proofs.Common.{◌≡◌, ℕ, zero, suc, List, [], ◌∷◌, length, arith, refl, ap, sym, ◌∙◌, subst, get_or}
+use Rattle.std.specs.Prelude.{◌↔◌, All, IsTrue, Bool, true, false, Option, None, Some, slice_get}
 use Rattle.std.specs.Bool.{MatchBool}
 use Rattle.std.specs.List.{AllZip}
 use Rattle.std.proofs.lemmas.Option.{slice_get_within, slice_get-get_or}
@@ -11,13 +11,12 @@ use Rattle.query_spec.specs.Query.{Chain, Condition}
 use Rattle.query_spec.specs.Holds.{Holds}
 use Rattle.sd_value.specs.Ascending.{ListsExactly}
 use Rattle.query_spec.specs.Rows as rows
-use Rattle.query_spec.specs.Rows.{value_in, IsRow, IsInDomain, row_cmp, IsAnswer, SomeAnswer}
+use Rattle.query_spec.specs.Rows.{arcs_of, value_in, IsRow, IsInDomain, row_cmp, IsAnswer, SomeAnswer}
 use Rattle.condition_tests.specs.declared.literal.Goal.{Goal}
 use Rattle.condition_tests.specs.Known.{Agrees, InDomains, KnownInDomains, IsCandidate, is_arc}
-use Rattle.condition_tests.specs.Meaning.{GoalHolds}
 use Rattle.bindings.specs.Fits.{Fits, SomeFits}
 use Rattle.bindings.proofs.Found.{fits_in_domains}
-use Rattle.condition_tests.specs.Resolved.{arcs_of, AreGoalsOf}
+use Rattle.condition_tests.specs.Resolved.{AreGoalsOf}
 
 tail : (v : Value) (o : Option Value) (t : List Value) (s : List (Option Value)) → Agrees (v ∷ t) (o ∷ s) → Agrees t s
 tail v o t s a = record { as_long = (let e = a.as_long in omega (arith, e)); same = λ k w h. a.same (suc k) w h }

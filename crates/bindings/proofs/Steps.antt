@@ -1,17 +1,14 @@
 -- Laws of the steps of a search.
-use Rattle.std.proofs.Common.{◌≡◌, ℕ, zero, suc, ◌+◌, ◌<◌, ◌≤◌, List, length, arith, refl, ap, sym, ◌∙◌, inl, inr, subst}
-use Rattle.std.specs.Prelude.{◌⊎◌, ◌↔◌, Contains, Bool, true, false, not, IsTrue, Option, None, Some, slice_get, if◌then◌else◌}
-use Rattle.std.proofs.lemmas.Option.{slice_get_within}
+use Rattle.std.proofs.Common.{◌≡◌, ℕ, ◌+◌, ◌<◌, ◌≤◌, List, arith, refl, sym, inl, inr, subst}
+use Rattle.std.specs.Prelude.{◌⊎◌, Bool, true, false, Option, None, Some, slice_get, if◌then◌else◌}
 use Rattle.sd_value.specs.declared.Value.{Value}
 use Rattle.graph_spec.specs.DataGraph.{DataGraph}
-use Rattle.condition_tests.specs.declared.literal.Atom.{Atom}
 use Rattle.condition_tests.specs.declared.literal.Literal.{Literal}
 use Rattle.condition_tests.specs.declared.literal.Goal.{Goal}
-use Rattle.condition_tests.specs.declared.literal.Goal.TheVariants.{Holds, Domain}
-use Rattle.condition_tests.specs.Known.{Agrees, InDomains, IsCandidate, is_arc}
+use Rattle.condition_tests.specs.declared.literal.Goal.TheVariants.{Holds}
+use Rattle.condition_tests.specs.Known.{Agrees, IsCandidate, is_arc}
 use Rattle.condition_tests.specs.Meaning.{Signed, AtomHolds, LiteralHolds, GoalHolds}
-use Rattle.bindings.specs.Fits.{Fits, IsTold, HasFree, IsStopped, IsPassed, IsOffer, IsOpening, IsAny, IsChoice, IsComplete, IsListOf}
-use Rattle.condition_tests.specs.Places.{Decides}
+use Rattle.bindings.specs.Fits.{Fits, IsTold, HasFree, IsStopped, IsPassed, IsOffer, IsOpening, IsAny, IsChoice, IsComplete}
 
 -- the goals between the two numbers hold of each row that agrees
 pub record IsReached (G : DataGraph) (version : ℕ) (arcs : List Bool) (goals : List Goal) (at next : ℕ) (s : List (Option Value)) : Type 0 where
@@ -90,6 +87,17 @@ module _ (G : DataGraph) (version : ℕ) (arcs : List Bool) (goals : List Goal) 
     within = o.within;
     complete = λ t v f h. o.complete t v f.agrees f.in_domains (f.goals_hold at (Holds l) (omega arith) here) h;
     exact = λ t v c h f. subst (λ n. Fits G version arcs goals n s t) e f;
+  }
+
+  -- a later goal's values are a choice too, since a row has to meet that goal
+  pub choice_early : (at later : ℕ) (s : List (Option Value)) (l : Literal) (slot : ℕ) (values : List Value) (settled : Bool) → at ≤ later
+      → slice_get goals later ≡ Some (Holds l) → IsOpening G arcs (LiteralHolds G version l) s slot values settled → IsChoice G version arcs goals at s slot values at
+  choice_early at later s l slot values settled from here o = record {
+    free = o.free;
+    forward = omega arith;
+    within = o.within;
+    complete = λ t v f h. o.complete t v f.agrees f.in_domains (f.goals_hold later (Holds l) from here) h;
+    exact = λ t v c h f. f;
   }
 
   pub choice_any : (at : ℕ) (s : List (Option Value)) (slot slot2 : ℕ) (values : List Value) (settled : Bool) → slice_get s slot ≡ Some None → IsAny G arcs slot slot2 values settled → IsChoice G version arcs goals at s slot2 values at

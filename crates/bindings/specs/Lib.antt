@@ -1,3 +1,4 @@
 pub mod Asked
 pub mod Fits
 pub mod Followed
+pub mod Kept

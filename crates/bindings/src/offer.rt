@@ -77,7 +77,7 @@ fn labels_of(alloc: Global, steps: Vec<Step>) -> Result<Vec<Value>, NoMemory>
     Ok(labels)
 }
 
-// The values to which `u` is related.
+// The values to which `u` is related, walks aside.
 pub(crate) fn after<S: Store>(
     alloc: Global,
     store: &S,
@@ -98,13 +98,6 @@ pub(crate) fn after<S: Store>(
                 exact: true,
             }))
         }
-        Relation::Walk(automaton) => {
-            let values = walks::from(alloc, store, automaton, u)?;
-            Ok(Some(Ends {
-                values,
-                exact: true,
-            }))
-        }
         Relation::Compare(Op::Eq) => {
             let values = equals_of(alloc, version, u)?;
             Ok(Some(Ends {
@@ -112,7 +105,7 @@ pub(crate) fn after<S: Store>(
                 exact: true,
             }))
         }
-        Relation::Compare(_) => Ok(None),
+        Relation::Walk(_) | Relation::Compare(_) => Ok(None),
     }
 }
 
@@ -134,7 +127,7 @@ fn compared_before(alloc: Global, version: u8, op: Op, v: &Value) -> Result<Opti
     }
 }
 
-// The values that are related to `v`.
+// The values that are related to `v`, walks aside.
 pub(crate) fn before<S: Store>(
     alloc: Global,
     store: &S,
@@ -156,13 +149,7 @@ pub(crate) fn before<S: Store>(
                 exact: true,
             }))
         }
-        Relation::Walk(automaton) => {
-            let values = walks::to(alloc, store, automaton, v)?;
-            Ok(Some(Ends {
-                values,
-                exact: true,
-            }))
-        }
+        Relation::Walk(_) => Ok(None),
         Relation::Compare(op) => {
             let ends = compared_before(alloc, version, *op, v)?;
             Ok(ends)
@@ -171,7 +158,7 @@ pub(crate) fn before<S: Store>(
 }
 
 // Those of the values that the variable may take.
-fn settle<S: Store>(
+pub(crate) fn settle<S: Store>(
     alloc: Global,
     search: &Search<S>,
     slot: usize,

@@ -1,17 +1,21 @@
 // A search, depth first, for all rows that meet a list of goals.
 ghost use Rattle.std.specs.Prelude.{◌≡◌, ◌↔◌, IsTrue, false, ◌≤◌, ℕ, IfOk, MatchOption, IfSome, length, Some, None, ◌<◌, ◌+◌, slice_set, slice_get, if◌then◌else◌};
 ghost use Rattle.sd_value.specs.Ascending.{ListsExactly};
-ghost use Rattle.query_spec.specs.Rows.{row_cmp, IsAnswer, SomeAnswer};
-ghost use Rattle.condition_tests.specs.Resolved.{arcs_of, AreGoalsOf};
+ghost use Rattle.query_spec.specs.Rows.{arcs_of, row_cmp, IsAnswer, SomeAnswer};
+ghost use Rattle.condition_tests.specs.Resolved.{AreGoalsOf};
 ghost use Rattle.condition_tests.specs.Meaning.{LiteralHolds};
-ghost use Rattle.condition_tests.specs.Places.{AtomInRange, GoalInRange, GoalsInRange};
+ghost use Rattle.condition_tests.specs.Places.{AtomInRange, Decides, GoalInRange, GoalsInRange, IsGround};
 ghost use Rattle.condition_tests.specs.Known.{KnownInDomains};
-ghost use Rattle.bindings.specs.Fits.{Fits, SomeFits, Adds, HasFree, IsTold, IsStopped, IsPassed, IsOpening, IsChoice, IsComplete};
+ghost use Rattle.bindings.specs.Fits.{Fits, SomeFits, Adds, HasFree, IsTold, IsStopped, IsPassed, IsOffer, IsOpening, IsChoice, IsComplete};
+ghost use Rattle.bindings.specs.Kept.{IsKept, IsFrom};
 
 use crate::domain::in_domain;
+use crate::fewest::fewest;
 use crate::offer::{Offer, any, offer_values};
+use crate::reaches::Reaches;
 use crate::row::row_of;
-use condition_tests::{Goal, Literal, free_slot, test_atom, value_of};
+use crate::walk_offer::{offer_walk, walk_of};
+use condition_tests::{Goal, Literal, free_slot, known, test_atom, value_of};
 use query_spec::Row;
 use sd_value::{NoMemory, Value, sort_and_dedup};
 use std::alloc::Global;
@@ -34,15 +38,49 @@ pub(crate) struct Choice {
     pub(crate) next: usize,
 }
 
+// Whether the literal's atom holds, whose variables all have values.
+fn holds_now<S: Store>(
+    alloc: Global,
+    search: &Search<S>,
+    kept: &mut Reaches,
+    at: usize,
+    literal: &Literal,
+    current: &[Option<Value>],
+) -> Result<bool, NoMemory>
+    requires in_range { AtomInRange (length current.now) literal.now.atom }
+    requires ground { IsGround literal.now.atom current.now }
+    requires there { slice_get search.now.goals.now at ≡ Some (Goal.Holds literal.now) }
+    requires kept { IsKept (S.graph search.now.store.now) search.now.goals.now kept.old }
+    ensures kept { IfOk result
+        (λ _. IsKept (S.graph search.now.store.now) search.now.goals.now kept.new) }
+    ensures decides { IfOk result
+        (Decides (S.graph search.now.store.now) search.now.version literal.now.atom current.now) }
+{
+    if let Some(walk) = walk_of(&literal.atom) {
+        if let (Some(u), Some(v)) = (known(walk.from, current), known(walk.to, current)) {
+            let joined = kept.joins(alloc, search, at, walk.automaton, u, v)?;
+            return Ok(joined);
+        }
+    }
+    let holds = test_atom(alloc, search.store, search.version, &literal.atom, current)?;
+    Ok(holds)
+}
+
 // Whether the goal holds, where its variables all have values.
 fn tested<S: Store>(
     alloc: Global,
     search: &Search<S>,
+    kept: &mut Reaches,
+    at: usize,
     goal: &Goal,
     current: &[Option<Value>],
 ) -> Result<Option<bool>, NoMemory>
-    requires { GoalInRange (length current.now) goal.now }
-    ensures { IfOk result
+    requires in_range { GoalInRange (length current.now) goal.now }
+    requires there { slice_get search.now.goals.now at ≡ Some goal.now }
+    requires kept { IsKept (S.graph search.now.store.now) search.now.goals.now kept.old }
+    ensures kept { IfOk result
+        (λ _. IsKept (S.graph search.now.store.now) search.now.goals.now kept.new) }
+    ensures told { IfOk result
         (IsTold (S.graph search.now.store.now) search.now.version goal.now current.now) }
 {
     match goal {
@@ -53,7 +91,7 @@ fn tested<S: Store>(
         Goal::Holds(literal) => match free_slot(&literal.atom, current) {
             Some(_) => Ok(None),
             None => {
-                let holds = test_atom(alloc, search.store, search.version, &literal.atom, current)?;
+                let holds = holds_now(alloc, search, kept, at, literal, current)?;
                 Ok(Some(holds != literal.negated))
             }
         },
@@ -64,18 +102,22 @@ fn tested<S: Store>(
 fn passed<S: Store>(
     alloc: Global,
     search: &Search<S>,
+    kept: &mut Reaches,
     at: usize,
     current: &[Option<Value>],
 ) -> Result<Option<usize>, NoMemory>
-    requires { GoalsInRange (length current.now) search.now.goals.now }
-    ensures { IfOk result
+    requires in_range { GoalsInRange (length current.now) search.now.goals.now }
+    requires kept { IsKept (S.graph search.now.store.now) search.now.goals.now kept.old }
+    ensures kept { IfOk result
+        (λ _. IsKept (S.graph search.now.store.now) search.now.goals.now kept.new) }
+    ensures passed { IfOk result
         (λ r. IsPassed
         (S.graph search.now.store.now) search.now.version search.now.arcs.now search.now.goals.now
         at current.now r) }
 {
     let mut next = at;
     while next < search.goals.len() {
-        match tested(alloc, search, &search.goals[next], current)? {
+        match tested(alloc, search, kept, next, &search.goals[next], current)? {
             Some(true) => next += 1,
             Some(false) => return Ok(None),
             None => return Ok(Some(next)),
@@ -96,10 +138,12 @@ fn first_free(current: &[Option<Value>]) -> Option<usize>
     None
 }
 
-// Values for a variable of the literal.
-fn offer_literal<S: Store>(
+// Values for a variable of the atom, whose literal is not negated.
+fn offer_atom<S: Store>(
     alloc: Global,
     search: &Search<S>,
+    kept: &mut Reaches,
+    at: usize,
     literal: &Literal,
     slot: usize,
     current: &[Option<Value>],
@@ -107,7 +151,50 @@ fn offer_literal<S: Store>(
     requires as_long { length search.now.arcs.now ≡ length current.now }
     requires in_range { AtomInRange (length current.now) literal.now.atom }
     requires free { slice_get current.now slot ≡ Some None }
-    ensures { IfOk result
+    requires there { slice_get search.now.goals.now at ≡ Some (Goal.Holds literal.now) }
+    requires kept { IsKept (S.graph search.now.store.now) search.now.goals.now kept.old }
+    ensures kept { IfOk result
+        (λ _. IsKept (S.graph search.now.store.now) search.now.goals.now kept.new) }
+    ensures offer { IfOk result
+        (λ o. IsOffer (S.graph search.now.store.now) search.now.version search.now.arcs.now
+        literal.now.atom current.now o.slot o.values.items o.settled) }
+{
+    let Some(walk) = walk_of(&literal.atom) else {
+        let offer = offer_values(alloc, search, &literal.atom, slot, current)?;
+        return Ok(offer);
+    };
+    let offer = offer_walk(
+        alloc,
+        search,
+        kept,
+        at,
+        walk.from,
+        walk.automaton,
+        walk.to,
+        slot,
+        current,
+    )?;
+    Ok(offer)
+}
+
+// Values for a variable of the literal.
+fn offer_literal<S: Store>(
+    alloc: Global,
+    search: &Search<S>,
+    kept: &mut Reaches,
+    at: usize,
+    literal: &Literal,
+    slot: usize,
+    current: &[Option<Value>],
+) -> Result<Offer, NoMemory>
+    requires as_long { length search.now.arcs.now ≡ length current.now }
+    requires in_range { AtomInRange (length current.now) literal.now.atom }
+    requires free { slice_get current.now slot ≡ Some None }
+    requires there { slice_get search.now.goals.now at ≡ Some (Goal.Holds literal.now) }
+    requires kept { IsKept (S.graph search.now.store.now) search.now.goals.now kept.old }
+    ensures kept { IfOk result
+        (λ _. IsKept (S.graph search.now.store.now) search.now.goals.now kept.new) }
+    ensures offer { IfOk result
         (λ o. IsOpening (S.graph search.now.store.now) search.now.arcs.now
         (LiteralHolds (S.graph search.now.store.now) search.now.version literal.now) current.now
         o.slot o.values.items o.settled) }
@@ -116,7 +203,7 @@ fn offer_literal<S: Store>(
         let offer = any(alloc, search, slot)?;
         Ok(offer)
     } else {
-        let offer = offer_values(alloc, search, &literal.atom, slot, current)?;
+        let offer = offer_atom(alloc, search, kept, at, literal, slot, current)?;
         Ok(offer)
     }
 }
@@ -130,16 +217,20 @@ fn next_goal(at: usize, settled: bool) -> usize
 }
 
 // Values for a variable of the goal, if it has a free one.
-fn choose_for<S: Store>(
+fn choose_planned<S: Store>(
     alloc: Global,
     search: &Search<S>,
+    kept: &mut Reaches,
     at: usize,
     current: &[Option<Value>],
 ) -> Result<Option<Choice>, NoMemory>
     requires as_long { length search.now.arcs.now ≡ length current.now }
     requires in_range { GoalsInRange (length current.now) search.now.goals.now }
     requires within { at < length search.now.goals.now }
-    ensures { IfOk result
+    requires kept { IsKept (S.graph search.now.store.now) search.now.goals.now kept.old }
+    ensures kept { IfOk result
+        (λ _. IsKept (S.graph search.now.store.now) search.now.goals.now kept.new) }
+    ensures choice { IfOk result
         (λ r. IfSome r
         (λ c. IsChoice
         (S.graph search.now.store.now) search.now.version search.now.arcs.now search.now.goals.now
@@ -151,13 +242,78 @@ fn choose_for<S: Store>(
     let Some(slot) = free_slot(&literal.atom, current) else {
         return Ok(None);
     };
-    let offer = offer_literal(alloc, search, literal, slot, current)?;
+    let offer = offer_literal(alloc, search, kept, at, literal, slot, current)?;
     let next = next_goal(at, offer.settled);
     Ok(Some(Choice {
         slot: offer.slot,
         values: offer.values,
         next,
     }))
+}
+
+// Values for a variable of a later goal, if it has a free one.
+fn choose_early<S: Store>(
+    alloc: Global,
+    search: &Search<S>,
+    kept: &mut Reaches,
+    at: usize,
+    later: usize,
+    current: &[Option<Value>],
+) -> Result<Option<Choice>, NoMemory>
+    requires as_long { length search.now.arcs.now ≡ length current.now }
+    requires in_range { GoalsInRange (length current.now) search.now.goals.now }
+    requires from { IsFrom search.now.goals.now at later }
+    requires kept { IsKept (S.graph search.now.store.now) search.now.goals.now kept.old }
+    ensures kept { IfOk result
+        (λ _. IsKept (S.graph search.now.store.now) search.now.goals.now kept.new) }
+    ensures choice { IfOk result
+        (λ r. IfSome r
+        (λ c. IsChoice
+        (S.graph search.now.store.now) search.now.version search.now.arcs.now search.now.goals.now
+        at current.now c.slot c.values.items c.next)) }
+{
+    let Goal::Holds(literal) = &search.goals[later] else {
+        return Ok(None);
+    };
+    let Some(slot) = free_slot(&literal.atom, current) else {
+        return Ok(None);
+    };
+    let offer = offer_literal(alloc, search, kept, later, literal, slot, current)?;
+    Ok(Some(Choice {
+        slot: offer.slot,
+        values: offer.values,
+        next: at,
+    }))
+}
+
+// Values for a variable of the goal, or of a later one that offers fewer.
+fn choose_for<S: Store>(
+    alloc: Global,
+    search: &Search<S>,
+    kept: &mut Reaches,
+    at: usize,
+    current: &[Option<Value>],
+) -> Result<Option<Choice>, NoMemory>
+    requires as_long { length search.now.arcs.now ≡ length current.now }
+    requires in_range { GoalsInRange (length current.now) search.now.goals.now }
+    requires within { at < length search.now.goals.now }
+    requires kept { IsKept (S.graph search.now.store.now) search.now.goals.now kept.old }
+    ensures kept { IfOk result
+        (λ _. IsKept (S.graph search.now.store.now) search.now.goals.now kept.new) }
+    ensures choice { IfOk result
+        (λ r. IfSome r
+        (λ c. IsChoice
+        (S.graph search.now.store.now) search.now.version search.now.arcs.now search.now.goals.now
+        at current.now c.slot c.values.items c.next)) }
+{
+    let goal = fewest(alloc, search, kept, at, current)?;
+    if goal == at {
+        let choice = choose_planned(alloc, search, kept, at, current)?;
+        Ok(choice)
+    } else {
+        let choice = choose_early(alloc, search, kept, at, goal, current)?;
+        Ok(choice)
+    }
 }
 
 fn choose_any<S: Store>(
@@ -188,25 +344,30 @@ fn choose_any<S: Store>(
 fn choose<S: Store>(
     alloc: Global,
     search: &Search<S>,
+    kept: &mut Reaches,
     at: usize,
     current: &[Option<Value>],
 ) -> Result<Option<Choice>, NoMemory>
     requires as_long { length search.now.arcs.now ≡ length current.now }
     requires in_range { GoalsInRange (length current.now) search.now.goals.now }
     requires stopped { IsStopped search.now.goals.now at current.now }
-    ensures { IfOk result
+    requires kept { IsKept (S.graph search.now.store.now) search.now.goals.now kept.old }
+    ensures kept { IfOk result
+        (λ _. IsKept (S.graph search.now.store.now) search.now.goals.now kept.new) }
+    ensures choice { IfOk result
         (λ r. MatchOption r (IsComplete search.now.goals.now at current.now)
         (λ c. IsChoice
         (S.graph search.now.store.now) search.now.version search.now.arcs.now search.now.goals.now
         at current.now c.slot c.values.items c.next)) }
 {
     if at < search.goals.len() {
-        let choice = choose_for(alloc, search, at, current)?;
+        let choice = choose_for(alloc, search, kept, at, current)?;
         if choice.is_some() {
             return Ok(choice);
         }
     }
-    choose_any(alloc, search, at, current)
+    let choice = choose_any(alloc, search, at, current)?;
+    Ok(choice)
 }
 
 fn put(current: &mut [Option<Value>], slot: usize, value: Value)
@@ -227,6 +388,7 @@ fn clear(current: &mut [Option<Value>], slot: usize)
 pub(crate) fn rows<S: Store>(
     alloc: Global,
     search: &Search<S>,
+    kept: &mut Reaches,
     at: usize,
     current: &mut [Option<Value>],
     found: &mut Vec<Row>,
@@ -234,15 +396,18 @@ pub(crate) fn rows<S: Store>(
     requires known { KnownInDomains (S.graph search.now.store.now) search.now.arcs.now current.old }
     requires as_long { length search.now.arcs.now ≡ length current.old }
     requires in_range { GoalsInRange (length current.old) search.now.goals.now }
+    requires kept { IsKept (S.graph search.now.store.now) search.now.goals.now kept.old }
+    ensures kept { IfOk result
+        (λ _. IsKept (S.graph search.now.store.now) search.now.goals.now kept.new) }
     ensures restored { IfOk result (λ _. current.new ≡ current.old) }
     ensures exact { IfOk result
         (λ _. Adds (Fits (S.graph search.now.store.now) search.now.version search.now.arcs.now
         search.now.goals.now at current.old) found.old.items found.new.items) }
 {
-    let Some(at) = passed(alloc, search, at, current)? else {
+    let Some(at) = passed(alloc, search, kept, at, current)? else {
         return Ok(());
     };
-    let Some(choice) = choose(alloc, search, at, current)? else {
+    let Some(choice) = choose(alloc, search, kept, at, current)? else {
         found.push(row_of(alloc, current)?)?;
         return Ok(());
     };
@@ -253,7 +418,7 @@ pub(crate) fn rows<S: Store>(
     } = choice;
     while let Some(value) = values.pop() {
         put(current, slot, value);
-        rows(alloc, search, next, current, found)?;
+        rows(alloc, search, kept, next, current, found)?;
         clear(current, slot);
     }
     Ok(())
@@ -263,22 +428,26 @@ pub(crate) fn rows<S: Store>(
 pub(crate) fn finds<S: Store>(
     alloc: Global,
     search: &Search<S>,
+    kept: &mut Reaches,
     at: usize,
     current: &mut [Option<Value>],
 ) -> Result<bool, NoMemory>
     requires known { KnownInDomains (S.graph search.now.store.now) search.now.arcs.now current.old }
     requires as_long { length search.now.arcs.now ≡ length current.old }
     requires in_range { GoalsInRange (length current.old) search.now.goals.now }
+    requires kept { IsKept (S.graph search.now.store.now) search.now.goals.now kept.old }
+    ensures kept { IfOk result
+        (λ _. IsKept (S.graph search.now.store.now) search.now.goals.now kept.new) }
     ensures restored { IfOk result (λ b. b ≡ false → current.new ≡ current.old) }
     ensures exact { IfOk result
         (λ b. IsTrue b
         ↔ SomeFits (S.graph search.now.store.now) search.now.version search.now.arcs.now
         search.now.goals.now at current.old) }
 {
-    let Some(at) = passed(alloc, search, at, current)? else {
+    let Some(at) = passed(alloc, search, kept, at, current)? else {
         return Ok(false);
     };
-    let Some(choice) = choose(alloc, search, at, current)? else {
+    let Some(choice) = choose(alloc, search, kept, at, current)? else {
         return Ok(true);
     };
     let Choice {
@@ -288,7 +457,7 @@ pub(crate) fn finds<S: Store>(
     } = choice;
     while let Some(value) = values.pop() {
         put(current, slot, value);
-        if finds(alloc, search, next, current)? {
+        if finds(alloc, search, kept, next, current)? {
             return Ok(true);
         }
         clear(current, slot);
@@ -311,7 +480,8 @@ pub(crate) fn all_rows<S: Store>(
         search.now.goals.now 0 current.old) found.items) }
 {
     let mut found = Vec::new(alloc);
-    rows(alloc, search, 0, current, &mut found)?;
+    let mut kept = Reaches::new(alloc);
+    rows(alloc, search, &mut kept, 0, current, &mut found)?;
     sort_and_dedup(&mut found);
     Ok(found)
 }
@@ -406,6 +576,7 @@ pub fn chain_finds<S: Store>(
         arcs,
         goals,
     };
-    let found = finds(alloc, &search, 0, current.as_mut_slice())?;
+    let mut kept = Reaches::new(alloc);
+    let found = finds(alloc, &search, &mut kept, 0, current.as_mut_slice())?;
     Ok(found)
 }

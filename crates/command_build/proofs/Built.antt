@@ -59,12 +59,12 @@ pub site_ends_over : (graph graph2 : DataGraph) (scope scope2 : Scope) (file fil
 site_ends_over graph graph2 scope scope2 file file2 root root2 folder terms old new end is_graph is_scope is_file is_root ends = rw (sym is_graph, sym is_scope, sym is_file, sym is_root) ends
 
 -- a path of a site that was written from its inputs
-pub site_file : (s : Inputs) (graph : DataGraph) (scope : Scope) (file : TemplateFile) (folder : List ℕ) (terms : List Term) (path : List ℕ)
-    → graph ≡ s.graph → scope ≡ scope_of s.query → file ≡ s.templates → ListsExactly term_cmp (IsPresent (site_of graph scope) file) terms → IsSitePath folder terms path → IsSiteFile s folder path
-site_file s graph scope file folder terms path is_graph is_scope is_file listed is_path = record {
+pub site_file : (s : Inputs) (graph : DataGraph) (scope : Scope) (file : TemplateFile) (root : Option (List ℕ)) (folder : List ℕ) (terms : List Term) (path : List ℕ)
+    → graph ≡ s.graph → scope ≡ scope_of s.query → file ≡ s.templates → root ≡ root_function s.query → ListsExactly term_cmp (IsPresent (site_of graph scope) file) terms → IsSitePath folder terms root path → IsSiteFile s folder path
+site_file s graph scope file root folder terms path is_graph is_scope is_file is_root listed is_path = record {
   pages = terms;
   are_pages = rw (sym is_graph, sym is_scope, sym is_file) listed;
-  is_path = is_path;
+  is_path = rw (sym is_root) is_path;
 }
 
 -- a site that was written from its inputs

@@ -63,7 +63,7 @@ IsRefused old new command reason =
 pub record IsSiteFile (s : Inputs) (folder path : List ℕ) : Type 0 where
   pub pages : List Term
   pub are_pages : ListsExactly term_cmp (IsPresent (site_at s) s.templates) pages
-  pub is_path : IsSitePath folder pages path
+  pub is_path : IsSitePath folder pages (root_function s.query) path
 
 -- the count of failed writes of one of the files of the site of these inputs rose
 abbrev pub SiteRose : Inputs → (folder : List ℕ) → (before now : List ℕ → ℕ) → Type 0

@@ -1,4 +1,3 @@
-pub mod PathLists
 pub mod Texts
 pub mod Once
 pub mod Causes

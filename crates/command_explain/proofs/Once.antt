@@ -1,5 +1,5 @@
 -- The graph and the query decide the plans, and so the text.
-use Rattle.std.proofs.Common.{◌≡◌, ℕ, suc, ◌<◌, List, [], ◌∷◌, ◌++◌, length, map, refl, sym, ap, subst, ◌∙◌, arith}
+use Rattle.std.proofs.Common.{◌≡◌, ℕ, List, [], ◌∷◌, ◌++◌, length, map, refl, sym, ap, subst, ◌∙◌}
 use Rattle.std.specs.Prelude.{Bool, false, Contains}
 use Rattle.std.specs.declared.cmp.Ordering.{Ordering}
 use Rattle.std.specs.Cmp.{IsTotalOrder}
@@ -22,7 +22,7 @@ use Rattle.plan_spec.specs.Plan.{IsPlan}
 use Rattle.plan_spec.specs.Shape.{number_of, side_of, one, two, shape_of, shapes_of, IsPlanOf, CountsOf}
 use Rattle.planner.proofs.Unique.{one_plan}
 use Rattle.command_explain.specs.Lines.{block_text}
-use Rattle.command_explain.specs.Explained.{IsPlanIn, AppendsBlock, AreExplained, HasOneExplanation}
+use Rattle.command_explain.specs.Explained.{AppendsBlock, AreExplained, HasOneExplanation}
 
 count_once : {X : Type 0} (R : X → X → Ordering) (P : X → Type 0) (m n : ℕ) → IsTotalOrder R → IsCountOf R P m → IsCountOf R P n → m ≡ n
 count_once R P m n total (xs, h, is) (ys, k, is2) =

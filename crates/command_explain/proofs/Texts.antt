@@ -1,5 +1,5 @@
 -- One block's text more.
-use Rattle.std.proofs.Common.{◌≡◌, ℕ, ◌+◌, ◌<◌, List, [], ◌∷◌, ◌++◌, length, map, take, get_or, refl, sym, ap, subst, ◌∙◌, arith, append_assoc}
+use Rattle.std.proofs.Common.{◌≡◌, ℕ, ◌+◌, ◌<◌, List, [], ◌∷◌, ◌++◌, length, map, take, get_or, refl, sym, ap, subst, ◌∙◌, append_assoc}
 use Rattle.std.specs.Prelude.{Bool, false, Contains, codes}
 use Rattle.std.specs.List.{flat_map}
 use Rattle.std.proofs.Math.Seq.{take-length}
@@ -11,8 +11,8 @@ use Rattle.query_spec.specs.Mentions.{IsWellMade, chain_of}
 use Rattle.query_blocks.specs.Blocks.{body_of}
 use Rattle.query_scoping.specs.Blocks.{IsSafe, HaveChains}
 use Rattle.query_blocks.specs.declared.QueryBlock.{QueryBlock}
-use Rattle.command_explain.specs.Paths.{paths_from}
-use Rattle.command_explain.proofs.PathLists.{paths_length}
+use Rattle.schema_spec.specs.Paths.{paths_from}
+use Rattle.block_paths.proofs.PathLists.{paths_length}
 use Rattle.struql_ast.specs.declared.Block.{Block}
 use Rattle.struql_ast.specs.declared.Query as declared
 use Rattle.struql_ast.specs.Reading.{blocks_of, query_of}

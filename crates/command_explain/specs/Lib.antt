@@ -1,4 +1,3 @@
-pub mod Paths
 pub mod Lines
 pub mod Explained
 pub mod Ends

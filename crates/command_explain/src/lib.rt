@@ -10,7 +10,6 @@ ghost use Rattle.command_explain.specs.Ends.{ExplainTaken, ExplainEnds};
 mod block;
 mod laws;
 mod lines;
-mod paths;
 mod plans;
 
 use command_spec::ExplainCommand;

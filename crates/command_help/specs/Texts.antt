@@ -2,7 +2,7 @@
 use Rattle.std.specs.Prelude.{ℕ, List, ◌++◌, codes}
 use Rattle.std.specs.Prelude.{Option, None, Some}
 use Rattle.command_spec.specs.declared.names.CommandName.{CommandName}
-use Rattle.command_spec.specs.declared.names.CommandName.TheVariants.{Page, Build, Data, Explain, Serve}
+use Rattle.command_spec.specs.declared.names.CommandName.TheVariants.{Page, Build, Data, Explain, Schema, Serve}
 use Rattle.command_spec.specs.declared.names.CommandName.TheVariants.{Replay, Trial, Help, Version}
 
 -- the usage of the program
@@ -14,6 +14,7 @@ program_usage =
     ++ codes "  build QUERY TEMPLATES DIR DATA..      writes every page to its file under a folder\n"
     ++ codes "  data DATA..                           prints the union of the data\n"
     ++ codes "  explain QUERY DATA..                  prints the plan of each block of the query\n"
+    ++ codes "  schema QUERY                          prints the functions and the links of the site\n"
     ++ codes "  serve QUERY TEMPLATES DATA..          serves the site over HTTP\n"
     ++ codes "  replay QUERY TEMPLATES SCRIPT DATA..  serves the site over the events of a script\n"
     ++ codes "  trial N                               serves a site of made data, and counts\n"
@@ -56,6 +57,14 @@ explain_usage =
     ++ codes "  QUERY            the file of the query\n"
     ++ codes "  DATA             a data file: data text, CSV or JSON\n"
 
+-- that of `schema`
+abbrev pub schema_usage : List ℕ
+schema_usage =
+    codes "usage: strudel schema [--dot] QUERY\n\n"
+    ++ codes "Prints the functions and the links of the site.\n\n"
+    ++ codes "  QUERY            the file of the query\n"
+    ++ codes "  --dot            prints a picture in Graphviz's language\n"
+
 -- that of `serve`
 abbrev pub serve_usage : List ℕ
 serve_usage =
@@ -69,6 +78,9 @@ serve_usage =
     ++ codes "  --requests N     replies of one connection, 1 to 4294967296 (1)\n"
     ++ codes "  --turns N        events that are taken, 1 to 4294967296 (4294967296)\n"
     ++ codes "  --cache N        pages that are kept, 1 to 4096 (256)\n"
+    ++ codes "  --idle MS        milliseconds that a silent client has, 1 to 4294967295 (5000)\n"
+    ++ codes "  --stall MS       milliseconds that a reply waits for its client, 1 to 4294967295 "
+    ++ codes "(10000)\n"
 
 -- that of `replay`
 abbrev pub replay_usage : List ℕ
@@ -116,6 +128,7 @@ usage_of (Some Page) = page_usage
 usage_of (Some Build) = build_usage
 usage_of (Some Data) = data_usage
 usage_of (Some Explain) = explain_usage
+usage_of (Some Schema) = schema_usage
 usage_of (Some Serve) = serve_usage
 usage_of (Some Replay) = replay_usage
 usage_of (Some Trial) = trial_usage

@@ -13,6 +13,7 @@ usage: strudel COMMAND\n\
 \x20 build QUERY TEMPLATES DIR DATA..      writes every page to its file under a folder\n\
 \x20 data DATA..                           prints the union of the data\n\
 \x20 explain QUERY DATA..                  prints the plan of each block of the query\n\
+\x20 schema QUERY                          prints the functions and the links of the site\n\
 \x20 serve QUERY TEMPLATES DATA..          serves the site over HTTP\n\
 \x20 replay QUERY TEMPLATES SCRIPT DATA..  serves the site over the events of a script\n\
 \x20 trial N                               serves a site of made data, and counts\n\
@@ -56,6 +57,14 @@ Prints the plan of each block of the query over the data.\n\
 \x20 QUERY            the file of the query\n\
 \x20 DATA             a data file: data text, CSV or JSON\n";
 
+const SCHEMA_USAGE: &[u8] = b"\
+usage: strudel schema [--dot] QUERY\n\
+\n\
+Prints the functions and the links of the site.\n\
+\n\
+\x20 QUERY            the file of the query\n\
+\x20 --dot            prints a picture in Graphviz's language\n";
+
 const SERVE_USAGE: &[u8] = b"\
 usage: strudel serve [OPTION..] QUERY TEMPLATES DATA..\n\
 \n\
@@ -68,7 +77,9 @@ Serves the pages of the site on 127.0.0.1 over HTTP.\n\
 \x20 --connections N  connections that are taken, 1 to 4294967296 (4294967296)\n\
 \x20 --requests N     replies of one connection, 1 to 4294967296 (1)\n\
 \x20 --turns N        events that are taken, 1 to 4294967296 (4294967296)\n\
-\x20 --cache N        pages that are kept, 1 to 4096 (256)\n";
+\x20 --cache N        pages that are kept, 1 to 4096 (256)\n\
+\x20 --idle MS        milliseconds that a silent client has, 1 to 4294967295 (5000)\n\
+\x20 --stall MS       milliseconds that a reply waits for its client, 1 to 4294967295 (10000)\n";
 
 const REPLAY_USAGE: &[u8] = b"\
 usage: strudel replay [OPTION..] QUERY TEMPLATES SCRIPT DATA..\n\
@@ -118,6 +129,7 @@ pub fn usage(name: Option<CommandName>) -> &'static [u8]
         CommandName::Build => BUILD_USAGE,
         CommandName::Data => DATA_USAGE,
         CommandName::Explain => EXPLAIN_USAGE,
+        CommandName::Schema => SCHEMA_USAGE,
         CommandName::Serve => SERVE_USAGE,
         CommandName::Replay => REPLAY_USAGE,
         CommandName::Trial => TRIAL_USAGE,

@@ -6,7 +6,7 @@ use Rattle.edge_io.specs.Files.{FileMap}
 use Rattle.run_report.specs.declared.status.Status.{Status}
 use Rattle.run_report.specs.declared.status.Status.TheVariants as status
 use Rattle.command_spec.specs.declared.Command.{Command}
-use Rattle.command_spec.specs.declared.Command.TheVariants.{Page, Build, Data, Explain, Serve, Replay, Trial, Help, Version}
+use Rattle.command_spec.specs.declared.Command.TheVariants.{Page, Build, Data, Explain, Schema, Serve, Replay, Trial, Help, Version}
 use Rattle.site_inputs.specs.Statuses.{ReadRose}
 use Rattle.edge_io.specs.Counts.{Rose}
 use Rattle.wire.specs.Told.{Told}
@@ -34,6 +34,7 @@ module _ (contents : Option FileMap) (before after : Outside) where
   complete_end (Page command) reached ends read write wire = λ all. tt
   complete_end (Data command) reached ends read write wire = λ all. tt
   complete_end (Explain command) reached ends read write wire = λ all. tt
+  complete_end (Schema command) reached ends read write wire = λ all. tt
   complete_end (Trial command) reached ends read write wire = λ all. tt
   complete_end (Help command) reached ends read write wire = λ all. tt
   complete_end Version reached ends read write wire = λ all. tt
@@ -54,6 +55,7 @@ module _ (contents : Option FileMap) (before after : Outside) where
   short_run (Page command) reached memory = tt
   short_run (Data command) reached memory = tt
   short_run (Explain command) reached memory = tt
+  short_run (Schema command) reached memory = tt
   short_run (Trial command) reached memory = tt
   short_run (Help command) reached memory = tt
   short_run Version reached memory = tt

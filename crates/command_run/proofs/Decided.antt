@@ -1,11 +1,12 @@
 -- The inputs decide the answer of each command.
 use Rattle.edge_io.specs.Files.{FileMap}
 use Rattle.command_spec.specs.declared.Command.{Command}
-use Rattle.command_spec.specs.declared.Command.TheVariants.{Page, Build, Data, Explain, Serve, Replay, Trial, Help, Version}
+use Rattle.command_spec.specs.declared.Command.TheVariants.{Page, Build, Data, Explain, Schema, Serve, Replay, Trial, Help, Version}
 use Rattle.site_inputs.specs.Runs.{Decides}
 use Rattle.command_page.proofs.Law.{page_decides}
 use Rattle.command_data.proofs.Law.{data_decides}
 use Rattle.command_explain.proofs.Law.{explain_decides}
+use Rattle.command_schema.proofs.Law.{schema_decides}
 use Rattle.command_trial.proofs.Once.{trial_decides}
 use Rattle.command_help.proofs.Law.{help_decides, version_decides}
 use Rattle.command_run.specs.Top.{Answers}
@@ -14,6 +15,7 @@ pub answer_decides : (map : FileMap) (command : Command) → Decides (Answers ma
 answer_decides map (Page command) = page_decides map command
 answer_decides map (Data command) = data_decides map command
 answer_decides map (Explain command) = explain_decides map command
+answer_decides map (Schema command) = schema_decides map command
 answer_decides map (Trial command) = trial_decides command
 answer_decides map (Help command) = help_decides command
 answer_decides map Version = version_decides

@@ -9,11 +9,12 @@ use Rattle.site_inputs.specs.declared.fault.Fault.TheVariants as fault
 use Rattle.run_report.specs.declared.status.Status.{Status}
 use Rattle.run_report.specs.declared.status.Status.TheVariants.{Ok, NotAllYes, Usage, Refused, ReadFault, WriteFault, WireFault, PageFault, NoMemory, NotFound, TurnsSpent}
 use Rattle.command_spec.specs.declared.Command.{Command}
-use Rattle.command_spec.specs.declared.Command.TheVariants.{Page, Build, Data, Explain, Serve, Replay, Trial, Help, Version}
+use Rattle.command_spec.specs.declared.Command.TheVariants.{Page, Build, Data, Explain, Schema, Serve, Replay, Trial, Help, Version}
 use Rattle.command_spec.specs.declared.BuildCommand.{BuildCommand}
 use Rattle.command_spec.specs.declared.PageCommand.{PageCommand}
 use Rattle.command_spec.specs.declared.DataCommand.{DataCommand}
 use Rattle.command_spec.specs.declared.ExplainCommand.{ExplainCommand}
+use Rattle.command_spec.specs.declared.SchemaCommand.{SchemaCommand}
 use Rattle.command_spec.specs.declared.ServeCommand.{ServeCommand}
 use Rattle.command_spec.specs.declared.ReplayCommand.{ReplayCommand}
 use Rattle.command_spec.specs.declared.TrialCommand.{TrialCommand}
@@ -41,6 +42,7 @@ use Rattle.command_help.specs.Ends.{HelpEnds, VersionEnds}
 use Rattle.command_data.specs.Ends.{DataEnds}
 use Rattle.command_spec.specs.Inputs.{explain_paths}
 use Rattle.command_explain.specs.Ends.{ExplainEnds}
+use Rattle.command_schema.specs.Ends.{SchemaEnds}
 use Rattle.command_spec.specs.Inputs.{inputs_of_command, given_inputs}
 use Rattle.command_run.specs.Top.{TextEnds, Ends, RunEnds, WriteRose, WritesNoFile, UsesNoWire}
 
@@ -98,6 +100,11 @@ pub explain_read_rose : (command : Command) (c : ExplainCommand) (answer : Resul
     → TextEnds (λ a. a ≡ answer) old new status → ReadsHaveCause (explain_paths c) before now answer → ReadRose (inputs_of_command command) before now status
 explain_read_rose command c answer old new before now status is h cause =
     subst (λ (d : Command). ReadRose (inputs_of_command d) before now status) (sym is) (text_read_rose (explain_paths c) answer old new before now status h cause)
+
+pub schema_read_rose : (command : Command) (c : SchemaCommand) (answer : Result (List ℕ) Fault) (old new : Option (List ℕ)) (before now : List ℕ → ℕ) (status : Status) → command ≡ Schema c
+    → TextEnds (λ a. a ≡ answer) old new status → ReadsHaveCause (c.query ∷ []) before now answer → ReadRose (inputs_of_command command) before now status
+schema_read_rose command c answer old new before now status is h cause =
+    subst (λ (d : Command). ReadRose (inputs_of_command d) before now status) (sym is) (text_read_rose (c.query ∷ []) answer old new before now status h cause)
 
 pub trial_read_rose : (command : Command) (c : TrialCommand) (answer : Result (List ℕ) Fault) (old new : Option (List ℕ)) (before now : List ℕ → ℕ) (status : Status) → command ≡ Trial c
     → TextEnds (λ a. a ≡ answer) old new status → TrialEnds c answer → ReadRose (inputs_of_command command) before now status
@@ -178,6 +185,7 @@ no_memory_ends None before after files out wire = inr refl
 no_memory_ends (Some (Page command)) before after files out wire = out
 no_memory_ends (Some (Data command)) before after files out wire = out
 no_memory_ends (Some (Explain command)) before after files out wire = out
+no_memory_ends (Some (Schema command)) before after files out wire = out
 no_memory_ends (Some (Trial command)) before after files out wire = out
 no_memory_ends (Some (Help command)) before after files out wire = out
 no_memory_ends (Some Version) before after files out wire = out
@@ -262,6 +270,7 @@ module _ (before after : Outside) where
   memory_run_ends (Some (Page command)) status reported ends silent fixed memory = memory_text_ends (PageEnds before.host.files command) before.host.output after.host.output status reported ends silent fixed memory
   memory_run_ends (Some (Data command)) status reported ends silent fixed memory = memory_text_ends (DataEnds before.host.files command) before.host.output after.host.output status reported ends silent fixed memory
   memory_run_ends (Some (Explain command)) status reported ends silent fixed memory = memory_text_ends (ExplainEnds before.host.files command) before.host.output after.host.output status reported ends silent fixed memory
+  memory_run_ends (Some (Schema command)) status reported ends silent fixed memory = memory_text_ends (SchemaEnds before.host.files command) before.host.output after.host.output status reported ends silent fixed memory
   memory_run_ends (Some (Trial command)) status reported ends silent fixed memory = memory_text_ends (TrialEnds command) before.host.output after.host.output status reported ends silent fixed memory
   memory_run_ends (Some (Help command)) status reported ends silent fixed memory = memory_text_ends (HelpEnds command) before.host.output after.host.output status reported ends silent fixed memory
   memory_run_ends (Some Version) status reported ends silent fixed memory = memory_text_ends VersionEnds before.host.output after.host.output status reported ends silent fixed memory
@@ -340,6 +349,10 @@ module _ (reads reads_now writes writes_now : List ℕ → ℕ) (output output_n
       → ExplainEnds map c answer → TextEnds (λ a. a ≡ answer) output output_now status → IsSomeAnd n (λ now. Ends command (Before map) (After now) status)
   explain_told o n map command c answer status same told is ends put = stays o n map command (Explain c) status same told is (answered (ExplainEnds map c) answer status ends put)
 
+  pub schema_told : (o n : Option FileMap) (map : FileMap) (command : Command) (c : SchemaCommand) (answer : Result (List ℕ) Fault) (status : Status) → n ≡ o → o ≡ Some map → command ≡ Schema c
+      → SchemaEnds map c answer → TextEnds (λ a. a ≡ answer) output output_now status → IsSomeAnd n (λ now. Ends command (Before map) (After now) status)
+  schema_told o n map command c answer status same told is ends put = stays o n map command (Schema c) status same told is (answered (SchemaEnds map c) answer status ends put)
+
   pub trial_told : (o n : Option FileMap) (map : FileMap) (command : Command) (c : TrialCommand) (answer : Result (List ℕ) Fault) (status : Status) → n ≡ o → o ≡ Some map → command ≡ Trial c
       → TrialEnds c answer → TextEnds (λ a. a ≡ answer) output output_now status → IsSomeAnd n (λ now. Ends command (Before map) (After now) status)
   trial_told o n map command c answer status same told is ends put = stays o n map command (Trial c) status same told is (answered (TrialEnds c) answer status ends put)
@@ -382,6 +395,9 @@ data_write_rose command c contents before now P is p = subst (λ (d : Command). 
 
 pub explain_write_rose : (command : Command) (c : ExplainCommand) (contents : Option FileMap) (before now : List ℕ → ℕ) (P : Type 0) → command ≡ Explain c → P → WriteRose (Some command) contents before now P
 explain_write_rose command c contents before now P is p = subst (λ (d : Command). WriteRose (Some d) contents before now P) (sym is) p
+
+pub schema_write_rose : (command : Command) (c : SchemaCommand) (contents : Option FileMap) (before now : List ℕ → ℕ) (P : Type 0) → command ≡ Schema c → P → WriteRose (Some command) contents before now P
+schema_write_rose command c contents before now P is p = subst (λ (d : Command). WriteRose (Some d) contents before now P) (sym is) p
 
 pub trial_write_rose : (command : Command) (c : TrialCommand) (contents : Option FileMap) (before now : List ℕ → ℕ) (P : Type 0) → command ≡ Trial c → P → WriteRose (Some command) contents before now P
 trial_write_rose command c contents before now P is p = subst (λ (d : Command). WriteRose (Some d) contents before now P) (sym is) p

@@ -10,7 +10,7 @@ use Rattle.site_inputs.specs.declared.fault.Fault.TheVariants as fault
 use Rattle.run_report.specs.declared.status.Status.{Status}
 use Rattle.run_report.specs.declared.status.Status.TheVariants.{Ok, NotAllYes, Usage, Refused, ReadFault, WriteFault, WireFault, PageFault, NoMemory, NotFound, TurnsSpent}
 use Rattle.command_spec.specs.declared.Command.{Command}
-use Rattle.command_spec.specs.declared.Command.TheVariants.{Page, Build, Data, Explain, Serve, Replay, Trial, Help, Version}
+use Rattle.command_spec.specs.declared.Command.TheVariants.{Page, Build, Data, Explain, Schema, Serve, Replay, Trial, Help, Version}
 use Rattle.std.specs.Option.{IsSomeAnd}
 use Rattle.site_inputs.specs.Runs.{IsDecided, Decides}
 use Rattle.site_inputs.specs.Statuses.{ReadRose}
@@ -21,6 +21,7 @@ use Rattle.command_trial.specs.Ends.{TrialEnds}
 use Rattle.command_help.specs.Ends.{HelpEnds, VersionEnds}
 use Rattle.command_data.specs.Ends.{DataEnds}
 use Rattle.command_explain.specs.Ends.{ExplainEnds}
+use Rattle.command_schema.specs.Ends.{SchemaEnds}
 use Rattle.command_spec.specs.Inputs.{inputs_of_command, given_inputs}
 use Rattle.command_run.specs.Top.{TextEnds, Ends, RunEnds, WriteRose, IsExact, answer_status}
 use Rattle.command_run.proofs.Decided.{answer_decides}
@@ -65,6 +66,7 @@ module _ (contents : Option FileMap) (before after : Outside) where
   exact_end (Page command) status ends read write = exact_text (PageEnds before.host.files command) (answer_decides before.host.files (Page command)) before.host after.host (inputs_of_command (Page command)) status ends read write
   exact_end (Data command) status ends read write = exact_text (DataEnds before.host.files command) (answer_decides before.host.files (Data command)) before.host after.host (inputs_of_command (Data command)) status ends read write
   exact_end (Explain command) status ends read write = exact_text (ExplainEnds before.host.files command) (answer_decides before.host.files (Explain command)) before.host after.host (inputs_of_command (Explain command)) status ends read write
+  exact_end (Schema command) status ends read write = exact_text (SchemaEnds before.host.files command) (answer_decides before.host.files (Schema command)) before.host after.host (inputs_of_command (Schema command)) status ends read write
   exact_end (Trial command) status ends read write = exact_text (TrialEnds command) (answer_decides before.host.files (Trial command)) before.host after.host (inputs_of_command (Trial command)) status ends read write
   exact_end (Help command) status ends read write = exact_text (HelpEnds command) (answer_decides before.host.files (Help command)) before.host after.host (inputs_of_command (Help command)) status ends read write
   exact_end Version status ends read write = exact_text VersionEnds (answer_decides before.host.files Version) before.host after.host (inputs_of_command Version) status ends read write

@@ -5,7 +5,7 @@ use Rattle.edge_io.specs.Files.{FileMap}
 use Rattle.edge_io.specs.Sink.{Gains, GainsPart}
 use Rattle.command_spec.specs.Inputs.{inputs_of_command}
 use Rattle.command_spec.specs.declared.Command.{Command}
-use Rattle.command_spec.specs.declared.Command.TheVariants.{Page, Build, Data, Explain, Serve}
+use Rattle.command_spec.specs.declared.Command.TheVariants.{Page, Build, Data, Explain, Schema, Serve}
 use Rattle.command_spec.specs.declared.Command.TheVariants.{Replay, Trial, Help, Version}
 use Rattle.site_inputs.specs.declared.fault.Fault.{Fault}
 use Rattle.site_inputs.specs.declared.fault.Fault.TheVariants as fault
@@ -16,6 +16,7 @@ use Rattle.command_page.specs.Ends.{PageEnds}
 use Rattle.command_build.specs.Ends.{BuildEnds, FileRose}
 use Rattle.command_data.specs.Ends.{DataEnds}
 use Rattle.command_explain.specs.Ends.{ExplainEnds}
+use Rattle.command_schema.specs.Ends.{SchemaEnds}
 use Rattle.command_serve.specs.Ends.{ServeEnds}
 use Rattle.command_replay.specs.Ends.{ReplayEnds}
 use Rattle.command_trial.specs.Ends.{TrialEnds}
@@ -30,6 +31,7 @@ abbrev pub Answers : FileMap → Command → Result (List ℕ) Fault → Type 0
 Answers map (Page command) = PageEnds map command
 Answers map (Data command) = DataEnds map command
 Answers map (Explain command) = ExplainEnds map command
+Answers map (Schema command) = SchemaEnds map command
 Answers map (Trial command) = TrialEnds command
 Answers map (Help command) = HelpEnds command
 Answers map Version = VersionEnds
@@ -74,6 +76,8 @@ Ends (Data command) before after =
     TextEnds (DataEnds before.host.files command) before.host.output after.host.output
 Ends (Explain command) before after =
     TextEnds (ExplainEnds before.host.files command) before.host.output after.host.output
+Ends (Schema command) before after =
+    TextEnds (SchemaEnds before.host.files command) before.host.output after.host.output
 Ends (Trial command) before after =
     TextEnds (TrialEnds command) before.host.output after.host.output
 Ends (Help command) before after =

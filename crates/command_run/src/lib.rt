@@ -2,5 +2,7 @@
 #![tactic(auto)]
 
 mod top;
+mod waits;
 
 pub use top::strudel;
+pub use waits::wire_waits;

@@ -20,6 +20,7 @@ use command_explain::explain;
 use command_help::{help, version};
 use command_page::page;
 use command_replay::replay;
+use command_schema::schema_text;
 use command_serve::serve;
 use command_spec::Command;
 use command_trial::trial;
@@ -91,6 +92,10 @@ fn run_command<F: Files, O: Sink, W: Wire>(
         Command::Replay(command) => replay(alloc, files, out, command),
         Command::Explain(command) => {
             let answer = explain(alloc, files, command);
+            put_answer(answer, out)
+        }
+        Command::Schema(command) => {
+            let answer = schema_text(alloc, files, command);
             put_answer(answer, out)
         }
         Command::Trial(command) => {

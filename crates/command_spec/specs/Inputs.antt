@@ -3,7 +3,7 @@ use Rattle.std.specs.Prelude.{ℕ, List, [], ◌∷◌, ◌++◌, Option, None, 
 use Rattle.command_spec.specs.declared.ExplainCommand.{ExplainCommand}
 use Rattle.command_spec.specs.declared.ReplayCommand.{ReplayCommand}
 use Rattle.command_spec.specs.declared.Command.{Command}
-use Rattle.command_spec.specs.declared.Command.TheVariants.{Page, Build, Data, Explain, Serve}
+use Rattle.command_spec.specs.declared.Command.TheVariants.{Page, Build, Data, Explain, Schema, Serve}
 use Rattle.command_spec.specs.declared.Command.TheVariants.{Replay, Trial, Help, Version}
 
 -- the inputs of a site: the data, the query and the templates
@@ -25,6 +25,7 @@ inputs_of_command (Page command) = input_paths command.sources command.query com
 inputs_of_command (Build command) = input_paths command.sources command.query command.templates
 inputs_of_command (Data command) = command.sources
 inputs_of_command (Explain command) = explain_paths command
+inputs_of_command (Schema command) = command.query ∷ []
 inputs_of_command (Serve command) = input_paths command.sources command.query command.templates
 inputs_of_command (Replay command) = replay_paths command
 inputs_of_command (Trial command) = []

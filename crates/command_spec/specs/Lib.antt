@@ -5,3 +5,4 @@ pub mod Names
 pub mod Words
 pub mod Ranges
 pub mod Inputs
+pub mod Waits

@@ -37,3 +37,7 @@ port_limit = 65535
 -- the most pages that are kept
 abbrev pub cache_limit : ℕ
 cache_limit = 4096
+
+-- the longest wait for a connection, in milliseconds
+abbrev pub wait_limit : ℕ
+wait_limit = 4294967295

@@ -5,10 +5,11 @@ use Rattle.std.specs.List.{list_all, list_any}
 use Rattle.std.specs.Char.{is_ascii_digit}
 use Rattle.std.specs.Str.{bytes_eq}
 use Rattle.std.specs.Str.Parse.{digits_value}
-use Rattle.command_spec.specs.Limits.{count_limit, port_limit, cache_limit}
+use Rattle.command_spec.specs.Limits.{count_limit, port_limit, cache_limit, wait_limit}
 use Rattle.command_spec.specs.Options.{Setting}
 use Rattle.command_spec.specs.declared.numbers.NumberOption.{NumberOption}
 use Rattle.command_spec.specs.declared.numbers.NumberOption.TheVariants.{Port, Connections, Requests, Turns, Cache}
+use Rattle.command_spec.specs.declared.numbers.NumberOption.TheVariants.{Idle, Stall}
 
 -- the option's name
 abbrev pub option_name : NumberOption → List ℕ
@@ -17,6 +18,8 @@ option_name Connections = codes "connections"
 option_name Requests = codes "requests"
 option_name Turns = codes "turns"
 option_name Cache = codes "cache"
+option_name Idle = codes "idle"
+option_name Stall = codes "stall"
 
 -- how the option is written
 abbrev pub option_word : NumberOption → List ℕ
@@ -29,6 +32,8 @@ greatest Connections = count_limit
 greatest Requests = count_limit
 greatest Turns = count_limit
 greatest Cache = cache_limit
+greatest Idle = wait_limit
+greatest Stall = wait_limit
 
 -- what an option is where it isn't given
 abbrev pub default_of : NumberOption → ℕ
@@ -37,6 +42,8 @@ default_of Connections = count_limit
 default_of Requests = 1
 default_of Turns = count_limit
 default_of Cache = 256
+default_of Idle = 5000
+default_of Stall = 10000
 
 -- at most 10 digits
 abbrev pub is_numeral : List ℕ → Bool

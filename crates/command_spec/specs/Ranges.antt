@@ -1,10 +1,11 @@
 -- The ranges in which the numbers of a command lie.
 use Rattle.std.specs.Prelude.{ℕ, ◌≤◌}
-use Rattle.command_spec.specs.Limits.{entry_limit, count_limit, port_limit, cache_limit}
+use Rattle.command_spec.specs.Limits.{entry_limit, count_limit, port_limit, cache_limit, wait_limit}
 use Rattle.command_spec.specs.declared.RunLimits.{RunLimits}
 use Rattle.command_spec.specs.declared.ServeOptions.{ServeOptions}
+use Rattle.command_spec.specs.declared.ServeWaits.{ServeWaits}
 use Rattle.command_spec.specs.declared.Command.{Command}
-use Rattle.command_spec.specs.declared.Command.TheVariants.{Page, Build, Data, Explain, Serve}
+use Rattle.command_spec.specs.declared.Command.TheVariants.{Page, Build, Data, Explain, Schema, Serve}
 use Rattle.command_spec.specs.declared.Command.TheVariants.{Replay, Trial, Help, Version}
 
 -- a number from 1 to `most`
@@ -17,11 +18,17 @@ pub record AreLimits (limits : RunLimits) : Type 0 where
   pub turns : IsFrom1To count_limit limits.turns
   pub cache : IsFrom1To cache_limit limits.cache
 
+-- the waits of `serve` are in their ranges
+pub record AreWaits (waits : ServeWaits) : Type 0 where
+  pub idle : IsFrom1To wait_limit waits.idle
+  pub stall : IsFrom1To wait_limit waits.stall
+
 -- the options of `serve` are in their ranges
 pub record AreServeOptions (options : ServeOptions) : Type 0 where
   pub port : IsFrom1To port_limit options.port
   pub connections : IsFrom1To count_limit options.connections
   pub limits : AreLimits options.limits
+  pub waits : AreWaits options.waits
 
 -- the numbers of the command are in their ranges
 abbrev pub IsInRange : Command → Type 0
@@ -31,6 +38,7 @@ IsInRange (Page c) = Unit {0}
 IsInRange (Build c) = Unit {0}
 IsInRange (Data c) = Unit {0}
 IsInRange (Explain c) = Unit {0}
+IsInRange (Schema c) = Unit {0}
 IsInRange (Trial c) = IsFrom1To entry_limit c.entries
 IsInRange (Help c) = Unit {0}
 IsInRange Version = Unit {0}

@@ -1,15 +1,16 @@
 -- Which words give a command.
-use Rattle.std.specs.Prelude.{ℕ, List, [], ◌∷◌, Bool, true, false, ◌&&◌, not}
-use Rattle.std.specs.Prelude.{Option, None, Some, option_and_then, if◌then◌else◌, codes}
+use Rattle.std.specs.Prelude.{ℕ, suc, ◌+◌, List, [], ◌∷◌, ◌++◌, take, drop, Bool, true, false, ◌&&◌, not}
+use Rattle.std.specs.Prelude.{Option, None, Some, option_map, option_and_then, if◌then◌else◌, codes}
 use Rattle.std.specs.List.{list_all}
 use Rattle.std.specs.Str.{bytes_eq, is_utf8}
 use Rattle.command_spec.specs.Limits.{entry_limit}
 use Rattle.command_spec.specs.declared.numbers.NumberOption.TheVariants.{Port, Connections, Requests}
-use Rattle.command_spec.specs.declared.numbers.NumberOption.TheVariants.{Turns, Cache}
+use Rattle.command_spec.specs.declared.numbers.NumberOption.TheVariants.{Turns, Cache, Idle, Stall}
 use Rattle.command_spec.specs.declared.RunLimits.{RunLimits}
 use Rattle.command_spec.specs.declared.ServeOptions.{ServeOptions}
+use Rattle.command_spec.specs.declared.ServeWaits.{ServeWaits}
 use Rattle.command_spec.specs.declared.Command.{Command}
-use Rattle.command_spec.specs.declared.Command.TheVariants.{Page, Build, Data, Explain, Serve}
+use Rattle.command_spec.specs.declared.Command.TheVariants.{Page, Build, Data, Explain, Schema, Serve}
 use Rattle.command_spec.specs.declared.Command.TheVariants.{Replay, Trial, Help, Version}
 use Rattle.command_spec.specs.Names.{name_of}
 use Rattle.command_spec.specs.Options.{Parts, Setting, is_empty, parts_of}
@@ -57,6 +58,11 @@ explain_command (query ∷ source ∷ sources) =
     Some (Explain (record { query = query; sources = source ∷ sources }))
 explain_command words = None
 
+-- the words after `schema`, its flag aside
+abbrev pub schema_command : List (List ℕ) → Option Command
+schema_command (query ∷ []) = Some (Schema (record { query = query; dot = false }))
+schema_command words = None
+
 -- the words after `trial`
 abbrev pub trial_command : List (List ℕ) → Option Command
 trial_command (entries ∷ []) = do
@@ -85,13 +91,21 @@ run_limits settings = do
   cache ← number_of Cache settings
   Some (record { requests = requests; turns = turns; cache = cache })
 
+-- how long `serve` waits for a connection
+abbrev pub serve_waits : List Setting → Option ServeWaits
+serve_waits settings = do
+  idle ← number_of Idle settings
+  stall ← number_of Stall settings
+  Some (record { idle = idle; stall = stall })
+
 -- the numbers of `serve`
 abbrev pub serve_numbers : List Setting → Option ServeOptions
 serve_numbers settings = do
   port ← number_of Port settings
   connections ← number_of Connections settings
   limits ← run_limits settings
-  Some (record { port = port; connections = connections; limits = limits })
+  waits ← serve_waits settings
+  Some (record { port = port; connections = connections; limits = limits; waits = waits })
 
 -- whether there are no options
 abbrev pub are_none : List Setting → Bool
@@ -101,7 +115,7 @@ are_none (setting ∷ settings) = false
 -- the options of `serve`
 abbrev pub serve_options : List Setting → Option ServeOptions
 serve_options settings =
-    if are_among (Port ∷ Connections ∷ Requests ∷ Turns ∷ Cache ∷ []) settings
+    if are_among (Port ∷ Connections ∷ Requests ∷ Turns ∷ Cache ∷ Idle ∷ Stall ∷ []) settings
     then serve_numbers settings
     else None
 
@@ -140,6 +154,7 @@ plain_command name words =
     else if bytes_eq name (codes "build") then build_command words
     else if bytes_eq name (codes "data") then data_command words
     else if bytes_eq name (codes "explain") then explain_command words
+    else if bytes_eq name (codes "schema") then schema_command words
     else if bytes_eq name (codes "trial") then trial_command words
     else if bytes_eq name (codes "help") then help_command words
     else if bytes_eq name (codes "version") then version_command words
@@ -168,11 +183,48 @@ named_command name (Some parts) =
     else if bytes_eq name (codes "replay") then replay_parts parts
     else plain_parts name parts
 
--- what the words say, each of which is a text
+-- what the words say, where no word is a flag
 abbrev pub word_command : List (List ℕ) → Option Command
 word_command [] = None
 word_command (name ∷ words) = named_command name (parts_of None words)
 
+-- ---- flags: options without a value
+
+-- the flag of the command of this name, if it has one
+abbrev pub flag_of : List ℕ → Option (List ℕ)
+flag_of name =
+    if bytes_eq name (codes "schema") then Some (codes "--dot") else None
+
+-- where the flag stands first before a `--`, if it stands there at all
+abbrev pub flag_place : List ℕ → List (List ℕ) → Option ℕ
+flag_place flag [] = None
+flag_place flag (word ∷ words) =
+    if bytes_eq word (codes "--") then None
+    else if bytes_eq word flag then Some 0
+    else option_map suc (flag_place flag words)
+
+-- the command with its flag, or without it
+abbrev pub with_flag : Bool → Command → Option Command
+with_flag set (Schema c) = Some (Schema (record c { dot = set }))
+with_flag set command = Some command
+
+-- the command of this name, where the flag stands at this place among the words after the name
+abbrev pub placed_command : List ℕ → List (List ℕ) → Option ℕ → Option Command
+placed_command name words None =
+    option_and_then (with_flag false) (word_command (name ∷ words))
+placed_command name words (Some at) =
+    option_and_then (with_flag true) (word_command (name ∷ (take at words ++ drop (at + 1) words)))
+
+-- the command of this name, where this is its flag
+abbrev pub marked_command : List ℕ → List (List ℕ) → Option (List ℕ) → Option Command
+marked_command name words None = word_command (name ∷ words)
+marked_command name words (Some flag) = placed_command name words (flag_place flag words)
+
+-- what the words say, each of which is a text
+abbrev pub flagged_command : List (List ℕ) → Option Command
+flagged_command [] = None
+flagged_command (name ∷ words) = marked_command name words (flag_of name)
+
 -- the command that the words give
 abbrev pub command : List (List ℕ) → Option Command
-command words = if list_all is_word words then word_command words else None
+command words = if list_all is_word words then flagged_command words else None

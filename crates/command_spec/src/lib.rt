@@ -77,6 +77,14 @@ pub struct ExplainCommand {
     pub sources: Paths,
 }
 
+/// `schema [--dot] QUERY`: the schema of the site is printed, or a picture of it.
+#[derive(Debug, Drop)]
+pub struct SchemaCommand {
+    pub query: Str,
+    /// Whether it is printed in Graphviz's language.
+    pub dot: bool,
+}
+
 /// The limits of a run over connections.
 #[derive(Clone, Copy, Debug, PartialEq, Eq)]
 pub struct RunLimits {
@@ -88,6 +96,15 @@ pub struct RunLimits {
     pub cache: u32,
 }
 
+/// How long `serve` waits for a connection, in milliseconds.
+#[derive(Clone, Copy, Debug, PartialEq, Eq)]
+pub struct ServeWaits {
+    /// For bytes, after its opening or its last reply, 1 to 4,294,967,295.
+    pub idle: u32,
+    /// For room, while a reply is sent, 1 to 4,294,967,295.
+    pub stall: u32,
+}
+
 /// The options of `serve`.
 #[derive(Clone, Copy, Debug, PartialEq, Eq)]
 pub struct ServeOptions {
@@ -96,6 +113,7 @@ pub struct ServeOptions {
     /// Connections that are taken, 1 to 4,294,967,296.
     pub connections: u64,
     pub limits: RunLimits,
+    pub waits: ServeWaits,
 }
 
 /// `serve QUERY TEMPLATES DATA..`: pages are served over HTTP.
@@ -137,6 +155,7 @@ pub enum Command {
     Build(BuildCommand),
     Data(DataCommand),
     Explain(ExplainCommand),
+    Schema(SchemaCommand),
     Serve(ServeCommand),
     Replay(ReplayCommand),
     Trial(TrialCommand),

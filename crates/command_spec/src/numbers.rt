@@ -10,6 +10,8 @@ pub enum NumberOption {
     Requests,
     Turns,
     Cache,
+    Idle,
+    Stall,
 }
 
 impl NumberOption {
@@ -23,6 +25,8 @@ impl NumberOption {
             NumberOption::Requests => "requests",
             NumberOption::Turns => "turns",
             NumberOption::Cache => "cache",
+            NumberOption::Idle => "idle",
+            NumberOption::Stall => "stall",
         }
     }
 
@@ -36,6 +40,7 @@ impl NumberOption {
                 4_294_967_296
             }
             NumberOption::Cache => 4_096,
+            NumberOption::Idle | NumberOption::Stall => 4_294_967_295,
         }
     }
 
@@ -48,6 +53,8 @@ impl NumberOption {
             NumberOption::Connections | NumberOption::Turns => 4_294_967_296,
             NumberOption::Requests => 1,
             NumberOption::Cache => 256,
+            NumberOption::Idle => 5_000,
+            NumberOption::Stall => 10_000,
         }
     }
 }

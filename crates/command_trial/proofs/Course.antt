@@ -21,7 +21,7 @@ use Rattle.serve_run.specs.Steps.{still_rules}
 use Rattle.serve_run.specs.Texts.{bytes_taken}
 use Rattle.command_trial.specs.Askable.{IsAskable}
 use Rattle.trial_spec.specs.Events.{events_from}
-use Rattle.command_trial.specs.Asked.{IsAsked, AreAsked}
+use Rattle.trial_spec.specs.Asked.{IsAsked, AreAsked}
 use Rattle.command_trial.specs.Replies.{reply_to}
 use Rattle.trial_spec.specs.Requests.{request}
 use Rattle.command_trial.proofs.Connections.{unopened, opened, Fine, IsTroubled, opening, Replied, piece, passed_over, finished}

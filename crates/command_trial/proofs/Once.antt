@@ -25,7 +25,7 @@ use Rattle.site_inputs.specs.declared.fault.Fault.TheVariants.{Refused, Unread, 
 use Rattle.site_inputs.specs.Runs.{IsDecided, Decides}
 use Rattle.command_spec.specs.Limits.{text_limit}
 use Rattle.site_inputs.specs.Sites.{Inputs, site_at}
-use Rattle.command_trial.specs.Asked.{IsAsked, AreAsked, none_kept}
+use Rattle.trial_spec.specs.Asked.{IsAsked, AreAsked, IsTrialText, none_kept}
 use Rattle.trial_spec.specs.Numbers.{lines_of, counts_of}
 use Rattle.trial_spec.specs.Requests.{targets}
 use Rattle.trial_spec.specs.Texts.{query_text, templates_text}
@@ -97,10 +97,10 @@ module _ (root : Option (List ℕ)) (s : Site) (f : TemplateFile) where
 pub one_trial : (entries : ℕ) (text other : List ℕ) → IsTrial entries text → IsTrial entries other → text ≡ other
 one_trial entries text other x y =
     let sites : x.site ≡ y.site = one_site entries x.site y.site x.made y.made in
-    let asked : AreAsked (root_function y.site.query) (site_at y.site) y.site.templates none_kept (targets entries) x.outcomes x.kept =
-    subst (λ (s : Inputs). AreAsked (root_function s.query) (site_at s) s.templates none_kept (targets entries) x.outcomes x.kept) sites x.asked in
-    let same = all_asked (root_function y.site.query) (site_at y.site) y.site.templates (targets entries) none_kept x.outcomes y.outcomes x.kept y.kept asked y.asked in
-    x.is ∙ (λ i. lines_of entries (length (targets entries)) (counts_of (same.0 i)) (same.1 i).hits) ∙ sym y.is
+    let there : IsTrialText (root_function y.site.query) (site_at y.site) y.site.templates entries text =
+    subst (λ (s : Inputs). IsTrialText (root_function s.query) (site_at s) s.templates entries text) sites x.is in
+    let same = all_asked (root_function y.site.query) (site_at y.site) y.site.templates (targets entries) none_kept there.outcomes y.is.outcomes there.kept y.is.kept there.asked y.is.asked in
+    there.is ∙ (λ i. lines_of entries (length (targets entries)) (counts_of (same.0 i)) (same.1 i).hits) ∙ sym y.is.is
 
 module _ (command : TrialCommand) where
   trial_once : (one other : Result (List ℕ) Fault) → TrialEnds command one → TrialEnds command other → IsDecided one → IsDecided other → one ≡ other

@@ -28,7 +28,7 @@ use Rattle.serving_spec.specs.declared.Served.{Served}
 use Rattle.trial_spec.specs.declared.Counts.{Counts}
 use Rattle.command_trial.specs.Askable.{IsAskable}
 use Rattle.trial_spec.specs.Events.{events_from}
-use Rattle.command_trial.specs.Asked.{AreAsked, none_kept}
+use Rattle.trial_spec.specs.Asked.{AreAsked, none_kept}
 use Rattle.trial_spec.specs.Numbers.{counts_of}
 use Rattle.command_trial.specs.Replies.{IsFine, AreReplied, reply_to}
 use Rattle.trial_spec.specs.Requests.{request}

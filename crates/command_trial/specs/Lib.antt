@@ -1,5 +1,4 @@
 pub mod Data
-pub mod Asked
 pub mod Askable
 pub mod Replies
 pub mod Runs

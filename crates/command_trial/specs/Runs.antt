@@ -5,7 +5,7 @@ use Rattle.page_spec.specs.declared.Outcome.{Outcome}
 use Rattle.page_spec.specs.Site.{Site}
 use Rattle.serving_spec.specs.Looks.{Kept}
 use Rattle.trial_spec.specs.declared.Counts.{Counts}
-use Rattle.command_trial.specs.Asked.{AreAsked, none_kept}
+use Rattle.trial_spec.specs.Asked.{AreAsked, none_kept}
 use Rattle.trial_spec.specs.Numbers.{counts_of}
 
 -- the targets were asked for, one after another, and these are the counts of their outcomes and the hits

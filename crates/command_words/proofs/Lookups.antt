@@ -1,12 +1,12 @@
 -- What a parse finds among the arguments of a command: its options by their names, and the words.
 use Rattle.std.proofs.Common.{◌≡◌, ◌∙◌, ℕ, Bool, true, false, refl, sym, ap, inl, inr, List, [], ◌∷◌, map, None, Some, true≢false, ◌&&◌, ◌||◌}
-use Rattle.std.specs.Prelude.{◌⊎◌, codes, find, not, is_some}
+use Rattle.std.specs.Prelude.{◌⊎◌, codes, find, not, is_some, Option, unwrap_or, if◌then◌else◌}
 use Rattle.std.specs.Str.{bytes_eq}
 use Rattle.std.proofs.lemmas.Slice.Eq.{bytes_eq-Decides}
 use Rattle.clap.specs.Walk.{Rule, Text, arg_by_id, arg_by_long, arg_by_short, has_short}
 use Rattle.clap.specs.declared.builder.value_parser.ValueParser.TheVariants.{String}
 use Rattle.command_spec.specs.declared.numbers.NumberOption.{NumberOption}
-use Rattle.command_spec.specs.declared.numbers.NumberOption.TheVariants.{Port, Connections, Requests, Turns, Cache}
+use Rattle.command_spec.specs.declared.numbers.NumberOption.TheVariants.{Port, Connections, Requests, Turns, Cache, Idle, Stall}
 use Rattle.command_spec.specs.Numbers.{option_name, option_word, is_among}
 use Rattle.command_words.specs.Parsed.{option_rule, words_rule}
 
@@ -56,6 +56,8 @@ dashed Connections = refl
 dashed Requests = refl
 dashed Turns = refl
 dashed Cache = refl
+dashed Idle = refl
+dashed Stall = refl
 
 pub own_name : (option : NumberOption) → bytes_eq (codes "words") (option_name option) ≡ false
 own_name Port = refl
@@ -63,37 +65,34 @@ own_name Connections = refl
 own_name Requests = refl
 own_name Turns = refl
 own_name Cache = refl
+own_name Idle = refl
+own_name Stall = refl
+
+-- the option of a name
+which : Text → Option NumberOption
+which name =
+    if bytes_eq name (codes "port") then Some Port
+    else if bytes_eq name (codes "connections") then Some Connections
+    else if bytes_eq name (codes "requests") then Some Requests
+    else if bytes_eq name (codes "turns") then Some Turns
+    else if bytes_eq name (codes "cache") then Some Cache
+    else if bytes_eq name (codes "idle") then Some Idle
+    else if bytes_eq name (codes "stall") then Some Stall
+    else None
+
+which_own : (option : NumberOption) → which (option_name option) ≡ Some option
+unfolding which
+which_own Port = refl
+which_own Connections = refl
+which_own Requests = refl
+which_own Turns = refl
+which_own Cache = refl
+which_own Idle = refl
+which_own Stall = refl
 
 -- options of one name are one
 pub one_option : (a b : NumberOption) → option_name a ≡ option_name b → a ≡ b
-one_option a b e = by_test a b ((bytes_eq-Decides (option_name a) (option_name b)).1 e)
-  where
-    by_test : (a b : NumberOption) → bytes_eq (option_name a) (option_name b) ≡ true → a ≡ b
-    by_test Port Port t = refl
-    by_test Port Connections t = absurd (true≢false (sym t))
-    by_test Port Requests t = absurd (true≢false (sym t))
-    by_test Port Turns t = absurd (true≢false (sym t))
-    by_test Port Cache t = absurd (true≢false (sym t))
-    by_test Connections Port t = absurd (true≢false (sym t))
-    by_test Connections Connections t = refl
-    by_test Connections Requests t = absurd (true≢false (sym t))
-    by_test Connections Turns t = absurd (true≢false (sym t))
-    by_test Connections Cache t = absurd (true≢false (sym t))
-    by_test Requests Port t = absurd (true≢false (sym t))
-    by_test Requests Connections t = absurd (true≢false (sym t))
-    by_test Requests Requests t = refl
-    by_test Requests Turns t = absurd (true≢false (sym t))
-    by_test Requests Cache t = absurd (true≢false (sym t))
-    by_test Turns Port t = absurd (true≢false (sym t))
-    by_test Turns Connections t = absurd (true≢false (sym t))
-    by_test Turns Requests t = absurd (true≢false (sym t))
-    by_test Turns Turns t = refl
-    by_test Turns Cache t = absurd (true≢false (sym t))
-    by_test Cache Port t = absurd (true≢false (sym t))
-    by_test Cache Connections t = absurd (true≢false (sym t))
-    by_test Cache Requests t = absurd (true≢false (sym t))
-    by_test Cache Turns t = absurd (true≢false (sym t))
-    by_test Cache Cache t = refl
+one_option a b e = ap (λ found. unwrap_or found a) (sym (which_own a) ∙ ap which e ∙ which_own b)
 
 -- one of the options
 abbrev pub IsIn : List NumberOption → NumberOption → Type 0

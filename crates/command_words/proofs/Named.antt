@@ -4,9 +4,10 @@ use Rattle.std.specs.Prelude.{◌⊎◌, codes, option_and_then}
 use Rattle.std.specs.Str.{bytes_eq}
 use Rattle.clap.specs.Walk.{Row, Text}
 use Rattle.command_spec.specs.declared.numbers.NumberOption.{NumberOption}
-use Rattle.command_spec.specs.declared.numbers.NumberOption.TheVariants.{Port, Connections, Requests, Turns, Cache}
+use Rattle.command_spec.specs.declared.numbers.NumberOption.TheVariants.{Port, Connections, Requests, Turns, Cache, Idle, Stall}
 use Rattle.command_spec.specs.declared.RunLimits.{RunLimits}
 use Rattle.command_spec.specs.declared.ServeOptions.{ServeOptions}
+use Rattle.command_spec.specs.declared.ServeWaits.{ServeWaits}
 use Rattle.command_spec.specs.Numbers.{are_among, number_of, one_number, values_of}
 use Rattle.command_spec.specs.Options.{Parts, Setting}
 use Rattle.command_words.specs.Parsed as parsed
@@ -29,8 +30,11 @@ same_number o rows settings (set text one some first) = ap (parsed.number_or_def
 abbrev limits_by : Option ℕ → Option ℕ → Option ℕ → Option RunLimits
 limits_by requests turns cache = option_and_then (λ r. option_and_then (λ t. option_and_then (λ c. Some (record { requests = r; turns = t; cache = c })) cache) turns) requests
 
-abbrev serve_by : Option ℕ → Option ℕ → Option RunLimits → Option ServeOptions
-serve_by port connections limits = option_and_then (λ p. option_and_then (λ n. option_and_then (λ l. Some (record { port = p; connections = n; limits = l })) limits) connections) port
+abbrev waits_by : Option ℕ → Option ℕ → Option ServeWaits
+waits_by idle stall = option_and_then (λ i. option_and_then (λ s. Some (record { idle = i; stall = s })) stall) idle
+
+abbrev serve_by : Option ℕ → Option ℕ → Option RunLimits → Option ServeWaits → Option ServeOptions
+serve_by port connections limits waits = option_and_then (λ p. option_and_then (λ n. option_and_then (λ l. option_and_then (λ w. Some (record { port = p; connections = n; limits = l; waits = w })) waits) limits) connections) port
 
 module _ (rows : List Row) (settings : List Setting) (slots : (o : NumberOption) → Slot o rows settings) where
   same : (o : NumberOption) → number_in o rows ≡ number_of o settings
@@ -39,18 +43,26 @@ module _ (rows : List Row) (settings : List Setting) (slots : (o : NumberOption)
   pub same_limits : parsed.run_limits rows ≡ words.run_limits settings
   same_limits = rw (same Requests, same Turns, same Cache) refl
 
+  pub same_waits : parsed.serve_waits rows ≡ words.serve_waits settings
+  same_waits = rw (same Idle, same Stall) refl
+
   pub same_options : parsed.serve_options rows ≡ words.serve_numbers settings
-  same_options = rw (same Port, same Connections, same_limits) refl
+  same_options = rw (same Port, same Connections, same_limits, same_waits) refl
 
 no_limits : (a b c : Option ℕ) → (a ≡ None) ⊎ ((b ≡ None) ⊎ (c ≡ None)) → limits_by a b c ≡ None
 no_limits a b c (inl e) = rw e refl
 no_limits a b c (inr (inl e)) = none_later a _ (λ r. rw e refl)
 no_limits a b c (inr (inr e)) = none_later a _ (λ r. none_later b _ (λ t. rw e refl))
 
-no_options : (a b : Option ℕ) (c : Option RunLimits) → (a ≡ None) ⊎ ((b ≡ None) ⊎ (c ≡ None)) → serve_by a b c ≡ None
-no_options a b c (inl e) = rw e refl
-no_options a b c (inr (inl e)) = none_later a _ (λ r. rw e refl)
-no_options a b c (inr (inr e)) = none_later a _ (λ r. none_later b _ (λ t. rw e refl))
+no_waits : (a b : Option ℕ) → (a ≡ None) ⊎ (b ≡ None) → waits_by a b ≡ None
+no_waits a b (inl e) = rw e refl
+no_waits a b (inr e) = none_later a _ (λ i. rw e refl)
+
+no_options : (a b : Option ℕ) (c : Option RunLimits) (d : Option ServeWaits) → (a ≡ None) ⊎ ((b ≡ None) ⊎ ((c ≡ None) ⊎ (d ≡ None))) → serve_by a b c d ≡ None
+no_options a b c d (inl e) = rw e refl
+no_options a b c d (inr (inl e)) = none_later a _ (λ p. rw e refl)
+no_options a b c d (inr (inr (inl e))) = none_later a _ (λ p. none_later b _ (λ n. rw e refl))
+no_options a b c d (inr (inr (inr e))) = none_later a _ (λ p. none_later b _ (λ n. none_later c _ (λ l. rw e refl)))
 
 no_number : (o : NumberOption) (settings : List Setting) (a b : Text) (rest : List Text) → values_of o settings ≡ a ∷ b ∷ rest → number_of o settings ≡ None
 no_number o settings a b rest e = ap (one_number o) e
@@ -61,13 +73,21 @@ no_run Connections settings i e = absurd (true≢false (sym i))
 no_run Requests settings i e = no_limits _ _ _ (inl e)
 no_run Turns settings i e = no_limits _ _ _ (inr (inl e))
 no_run Cache settings i e = no_limits _ _ _ (inr (inr e))
+no_run Idle settings i e = absurd (true≢false (sym i))
+no_run Stall settings i e = absurd (true≢false (sym i))
+
+-- the options of `serve` where one of them has no number
+no_serve_by : (settings : List Setting) → (number_of Port settings ≡ None) ⊎ ((number_of Connections settings ≡ None) ⊎ ((words.run_limits settings ≡ None) ⊎ (words.serve_waits settings ≡ None))) → words.serve_numbers settings ≡ None
+no_serve_by settings none = no_options (number_of Port settings) (number_of Connections settings) (words.run_limits settings) (words.serve_waits settings) none
 
 no_serve : (o : NumberOption) (settings : List Setting) → number_of o settings ≡ None → words.serve_numbers settings ≡ None
-no_serve Port settings e = no_options (number_of Port settings) (number_of Connections settings) (words.run_limits settings) (inl e)
-no_serve Connections settings e = no_options (number_of Port settings) (number_of Connections settings) (words.run_limits settings) (inr (inl e))
-no_serve Requests settings e = no_options (number_of Port settings) (number_of Connections settings) (words.run_limits settings) (inr (inr (no_run Requests settings refl e)))
-no_serve Turns settings e = no_options (number_of Port settings) (number_of Connections settings) (words.run_limits settings) (inr (inr (no_run Turns settings refl e)))
-no_serve Cache settings e = no_options (number_of Port settings) (number_of Connections settings) (words.run_limits settings) (inr (inr (no_run Cache settings refl e)))
+no_serve Port settings e = no_serve_by settings (inl e)
+no_serve Connections settings e = no_serve_by settings (inr (inl e))
+no_serve Requests settings e = no_serve_by settings (inr (inr (inl (no_run Requests settings refl e))))
+no_serve Turns settings e = no_serve_by settings (inr (inr (inl (no_run Turns settings refl e))))
+no_serve Cache settings e = no_serve_by settings (inr (inr (inl (no_run Cache settings refl e))))
+no_serve Idle settings e = no_serve_by settings (inr (inr (inr (no_waits _ _ (inl e)))))
+no_serve Stall settings e = no_serve_by settings (inr (inr (inr (no_waits _ _ (inr e)))))
 
 when : {A : Type 0} (b : Bool) (x : Option A) → x ≡ None → cond b x None ≡ None
 when true x e = e

@@ -15,9 +15,10 @@ use Rattle.clap.specs.declared.parser.matches.ArgMatches.{ArgMatches}
 use Rattle.std.specs.Borrow.{Bor}
 use Rattle.command_spec.specs.declared.numbers.NumberOption.{NumberOption}
 use Rattle.command_spec.specs.declared.numbers.NumberOption.TheVariants.{Port, Connections}
-use Rattle.command_spec.specs.declared.numbers.NumberOption.TheVariants.{Requests, Turns, Cache}
+use Rattle.command_spec.specs.declared.numbers.NumberOption.TheVariants.{Requests, Turns, Cache, Idle, Stall}
 use Rattle.command_spec.specs.declared.RunLimits.{RunLimits}
 use Rattle.command_spec.specs.declared.ServeOptions.{ServeOptions}
+use Rattle.command_spec.specs.declared.ServeWaits.{ServeWaits}
 use Rattle.command_spec.specs.declared.Command.{Command}
 use Rattle.command_spec.specs.Numbers.{option_name, default_of, greatest, number}
 use Rattle.command_spec.specs.Words.{is_word, serve_command, replay_command, plain_command}
@@ -52,7 +53,7 @@ IsLeaf name options c =
 
 -- the options of `serve`
 abbrev pub serve_numbers : List NumberOption
-serve_numbers = Port ∷ Connections ∷ Requests ∷ Turns ∷ Cache ∷ []
+serve_numbers = Port ∷ Connections ∷ Requests ∷ Turns ∷ Cache ∷ Idle ∷ Stall ∷ []
 
 -- the options of `replay`
 abbrev pub run_numbers : List NumberOption
@@ -75,7 +76,8 @@ program = record {
   top = top;
   subs =
       leaf (codes "page") [] ∷ leaf (codes "build") [] ∷ leaf (codes "data") []
-      ∷ leaf (codes "explain") [] ∷ leaf (codes "serve") serve_numbers
+      ∷ leaf (codes "explain") [] ∷ leaf (codes "schema") []
+      ∷ leaf (codes "serve") serve_numbers
       ∷ leaf (codes "replay") run_numbers ∷ leaf (codes "trial") []
       ∷ leaf (codes "help") [] ∷ leaf (codes "version") [] ∷ [];
 }
@@ -99,13 +101,21 @@ run_limits rows = do
   cache ← number_in Cache rows
   Some (record { requests = requests; turns = turns; cache = cache })
 
+-- how long `serve` waits for a connection
+abbrev pub serve_waits : List Row → Option ServeWaits
+serve_waits rows = do
+  idle ← number_in Idle rows
+  stall ← number_in Stall rows
+  Some (record { idle = idle; stall = stall })
+
 -- the numbers of `serve`
 abbrev pub serve_options : List Row → Option ServeOptions
 serve_options rows = do
   port ← number_in Port rows
   connections ← number_in Connections rows
   limits ← run_limits rows
-  Some (record { port = port; connections = connections; limits = limits })
+  waits ← serve_waits rows
+  Some (record { port = port; connections = connections; limits = limits; waits = waits })
 
 -- `serve` with these words
 abbrev pub serve_with_words : List Row → List Text → Option Command
@@ -136,7 +146,7 @@ command_in_rows name rows = command_with_words name rows (words_in rows)
 abbrev pub entered_command : Option (Text × List Row) → Option Command
 entered_command entered = option_and_then (λ p. command_in_rows p.0 p.1) entered
 
--- the command of texts, as `clap` reads them
+-- the command of texts without a flag, as `clap` reads them
 abbrev pub command : List Text → Option Command
 command words =
     if is_empty (fault_of program words)

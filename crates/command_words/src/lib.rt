@@ -9,8 +9,9 @@ ghost use Rattle.clap.specs.Walk.{texts};
 ghost use Rattle.command_words.specs.Parsed as parsed;
 ghost use Rattle.command_spec.specs.Options.{is_empty};
 ghost use Rattle.command_spec.specs.Words as specs;
-ghost use Rattle.command_spec.specs.Ranges.{IsInRange, AreLimits, AreServeOptions};
+ghost use Rattle.command_spec.specs.Ranges.{IsInRange, AreLimits, AreWaits, AreServeOptions};
 
+mod flags;
 mod numbers;
 mod program;
 
@@ -18,8 +19,10 @@ use clap::error::ErrorKind;
 use clap::{ArgMatches, Error};
 use command_spec::{
     BuildCommand, Command, CommandName, DataCommand, ExplainCommand, HelpCommand, NumberOption,
-    PageCommand, Paths, ReplayCommand, RunLimits, ServeCommand, ServeOptions, TrialCommand,
+    PageCommand, Paths, ReplayCommand, RunLimits, SchemaCommand, ServeCommand, ServeOptions,
+    ServeWaits, TrialCommand,
 };
+use flags::{flag_of, flag_place, marked, without};
 use numbers::{number, number_of};
 use program::{WORDS, program};
 use sd_value::{NoMemory, Str};
@@ -93,6 +96,19 @@ fn explain_command(alloc: Global, words: &[&str]) -> Result<Option<Command>, NoM
     })))
 }
 
+fn schema_command(alloc: Global, words: &[&str]) -> Result<Option<Command>, NoMemory>
+    ensures exact { IfOk result (λ given. given ≡ specs.schema_command (texts words.now)) }
+    ensures ranges { IfOk result (λ given. IfSome given IsInRange) }
+{
+    let [query] = words else {
+        return Ok(None);
+    };
+    Ok(Some(Command::Schema(SchemaCommand {
+        query: Str::new(alloc, query.as_bytes())?,
+        dot: false,
+    })))
+}
+
 fn trial_command(words: &[&str]) -> Option<Command>
     ensures exact { result ≡ specs.trial_command (texts words.now) }
     ensures ranges { IfSome result IsInRange }
@@ -142,6 +158,16 @@ fn run_limits(matches: &ArgMatches<'_>) -> Option<RunLimits>
     })
 }
 
+fn serve_waits(matches: &ArgMatches<'_>) -> Option<ServeWaits>
+    ensures exact { result ≡ parsed.serve_waits (rows_of (found_of matches.now)) }
+    ensures ranges { IfSome result AreWaits }
+{
+    Some(ServeWaits {
+        idle: number_of(NumberOption::Idle, matches)? as u32,
+        stall: number_of(NumberOption::Stall, matches)? as u32,
+    })
+}
+
 fn serve_options(matches: &ArgMatches<'_>) -> Option<ServeOptions>
     ensures exact { result ≡ parsed.serve_options (rows_of (found_of matches.now)) }
     ensures ranges { IfSome result AreServeOptions }
@@ -150,6 +176,7 @@ fn serve_options(matches: &ArgMatches<'_>) -> Option<ServeOptions>
         port: number_of(NumberOption::Port, matches)? as u16,
         connections: number_of(NumberOption::Connections, matches)?,
         limits: run_limits(matches)?,
+        waits: serve_waits(matches)?,
     })
 }
 
@@ -210,6 +237,7 @@ fn plain_command(alloc: Global, name: &str, words: &[&str]) -> Result<Option<Com
         "build" => build_command(alloc, words),
         "data" => data_command(alloc, words),
         "explain" => explain_command(alloc, words),
+        "schema" => schema_command(alloc, words),
         "trial" => Ok(trial_command(words)),
         "help" => Ok(help_command(words)),
         "version" => Ok(version_command(words)),
@@ -319,6 +347,31 @@ fn text_command(alloc: Global, words: &[&str]) -> Result<Option<Command>, NoMemo
     }
 }
 
+/// The command that these words give, or none: its flag is taken out before `clap` reads the other words.
+fn flagged_command(alloc: Global, words: &[&str]) -> Result<Option<Command>, NoMemory>
+    requires { list_all specs.is_word (texts words.now) ≡ true }
+    ensures exact { IfOk result (λ given. given ≡ specs.flagged_command (texts words.now)) }
+    ensures ranges { IfOk result (λ given. IfSome given IsInRange) }
+{
+    let [name, later @ ..] = words else {
+        return text_command(alloc, words);
+    };
+    let Some(flag) = flag_of(name) else {
+        return text_command(alloc, words);
+    };
+    match flag_place(flag, later) {
+        None => {
+            let given = text_command(alloc, words)?;
+            Ok(marked(false, given))
+        }
+        Some(at) => {
+            let rest = without(alloc, words, at + 1)?;
+            let given = text_command(alloc, &rest)?;
+            Ok(marked(true, given))
+        }
+    }
+}
+
 fn non_empty(text: &str) -> Option<&str>
     ensures { MatchOption result (is_empty text.now ≡ true)
         (λ r. (r.now ≡ text.now) × (is_empty text.now ≡ false)) }
@@ -358,14 +411,14 @@ fn texts_of<'a>(alloc: Global, words: &'a [Str]) -> Result<Option<Vec<&'a str>>,
 /// The first word is a command's name. Of the words behind it, those before `--` that have two bytes or more and begin
 /// with a dash are options: `--name=value`, or `--name` with the next word as its value, which is no option itself. The
 /// first `--` is dropped, and the words behind it are no options. Each option is one of the command's, occurs at most
-/// once, and has a number of 1 to 10 digits within its range. The other words are as many as the command wants. Every
-/// word is a text, and none is empty.
+/// once, and has a number of 1 to 10 digits within its range. `--dot` of `schema` has no value. The other words are as
+/// many as the command wants. Every word is a text, and none is empty.
 pub fn read_command(alloc: Global, words: &[Str]) -> Result<Option<Command>, NoMemory>
     ensures exact { IfOk result (λ given. given ≡ specs.command words.now) }
     ensures ranges { IfOk result (λ given. IfSome given IsInRange) }
 {
     match texts_of(alloc, words)? {
-        Some(texts) => text_command(alloc, &texts),
+        Some(texts) => flagged_command(alloc, &texts),
         None => Ok(None),
     }
 }

@@ -59,6 +59,8 @@ pub fn program<'a>(alloc: Global) -> Result<Command<'a>, NoMemory>
         NumberOption::Requests,
         NumberOption::Turns,
         NumberOption::Cache,
+        NumberOption::Idle,
+        NumberOption::Stall,
     ];
     let program = Command::new(alloc, "strudel")
         .no_binary_name(true)
@@ -70,6 +72,7 @@ pub fn program<'a>(alloc: Global) -> Result<Command<'a>, NoMemory>
         .subcommand(command_of(alloc, "build", &[])?)?
         .subcommand(command_of(alloc, "data", &[])?)?
         .subcommand(command_of(alloc, "explain", &[])?)?
+        .subcommand(command_of(alloc, "schema", &[])?)?
         .subcommand(command_of(alloc, "serve", &serve)?)?
         .subcommand(command_of(alloc, "replay", &run)?)?
         .subcommand(command_of(alloc, "trial", &[])?)?

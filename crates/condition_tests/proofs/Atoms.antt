@@ -10,6 +10,7 @@ use Rattle.graph_spec.specs.Walk.{Walk as WalkOf}
 use Rattle.query_spec.specs.declared.Op.{Op}
 use Rattle.query_spec.specs.declared.Test.{Test}
 use Rattle.query_spec.specs.declared.Variable.{Variable}
+use Rattle.query_spec.specs.Rows.{IsNumberOf}
 use Rattle.query_spec.specs.Query.{Operand, arc_variable, expression, Condition, member, path, compare, one_of, kind, negation}
 use Rattle.condition_tests.specs.declared.literal.Place.{Place}
 use Rattle.condition_tests.specs.declared.literal.Place.TheVariants.{Variable as Numbered}
@@ -22,7 +23,7 @@ use Rattle.condition_tests.specs.Meaning.{HasArc}
 use Rattle.rpe.specs.Language.{InLanguage}
 use Rattle.automaton.specs.Table.{Table, HasWord}
 use Rattle.condition_tests.specs.declared.literal.Relation.{Relation}
-use Rattle.condition_tests.specs.Resolved.{IsPlaceOf, IsNumberOf, IsAtomOf, IsGoalOf, IsRelationOf, StandsFor}
+use Rattle.condition_tests.specs.Resolved.{IsPlaceOf, IsAtomOf, IsGoalOf, IsRelationOf, StandsFor}
 use Rattle.condition_tests.specs.Places.{AtomInRange}
 
 edge_of : (G : DataGraph) (u : Value) (name : List ℕ) (v : Value) (word : Word) → word ≡ name ∷ [] → WalkOf G u word v → HasEdge G u name v

@@ -6,7 +6,7 @@ use Rattle.rpe.specs.Language.{InLanguage}
 use Rattle.graph_spec.specs.DataGraph.{DataGraph}
 use Rattle.query_spec.specs.declared.Variable.{Variable}
 use Rattle.query_spec.specs.Query.{Chain, Operand, variable, constant, Condition, PathStep, arc_variable, expression, member, path, compare, one_of, kind, negation}
-use Rattle.query_spec.specs.Mentions.{IsFlat, condition_positions}
+use Rattle.query_spec.specs.Mentions.{IsDeclared, IsFlat, condition_positions}
 use Rattle.query_spec.specs.Holds.{Holds, operand_value}
 use Rattle.query_spec.specs.Rows.{value_in}
 use Rattle.automaton.specs.Table.{HasWord}
@@ -17,10 +17,6 @@ use Rattle.condition_tests.specs.declared.literal.Atom.{Atom}
 use Rattle.condition_tests.specs.declared.literal.Place.{Place}
 use Rattle.condition_tests.specs.Meaning.{GoalHolds, AtomHolds, Stands}
 use Rattle.condition_tests.specs.Places.{GoalInRange}
-
--- which of the variables are arc variables
-abbrev pub arcs_of : List Variable → List Bool
-arcs_of variables = map (λ v. v.arc) variables
 
 -- at the place is the operand's value, in each row
 pub record IsPlaceOf (variables : List Variable) (operand : Operand) (p : Place) : Type 0 where
@@ -41,17 +37,9 @@ pub record AreGoalsOf (c : Chain) (goals : List Goal) : Type 0 where
       × (slice_get goals j ≡ Some g) × IsGoalOf c.version c.variables k g
   pub no_more : (g : Goal) (j : ℕ) → slice_get goals j ≡ Some g → (G : DataGraph) (t : List Value)
       → length t ≡ length c.variables
-      → ((i : ℕ) (k : Condition) → slice_get c.conditions i ≡ Some k → Holds G c.version k (value_in c.variables t)) → GoalHolds G c.version g t
-
--- the value of the name in a row is that of the variable of that number
-pub record IsNumberOf (variables : List Variable) (name : List ℕ) (i : ℕ) : Type 0 where
-  pub same : (t : List Value) → length t ≡ length variables
-      → value_in variables t name ≡ slice_get t i
-
--- a constant, or one of these variables
-abbrev pub operand_declared : List Variable → Operand → Type 0
-operand_declared variables (variable x) = Contains (map (λ v. v.name) variables) x
-operand_declared variables (constant v) = ⊤
+      → ((i : ℕ) (k : Condition) → slice_get c.conditions i ≡ Some k
+      → Holds G c.version k (value_in c.variables t))
+      → GoalHolds G c.version g t
 
 -- the atom holds of a row exactly where the condition does
 abbrev pub IsAtomOf : ℕ → List Variable → Condition → Atom → Type 0
@@ -74,9 +62,9 @@ IsRelationOf r (Compare op) = ⊥
 abbrev pub declared : List Variable → Condition → Type 0
 declared variables (member collection x) = Contains (map (λ v. v.name) variables) x
 declared variables (path t step u) =
-    operand_declared variables t × step_declared variables step × operand_declared variables u
-declared variables (compare t op u) = operand_declared variables t × operand_declared variables u
-declared variables (one_of t constants) = operand_declared variables t
+    IsDeclared variables t × step_declared variables step × IsDeclared variables u
+declared variables (compare t op u) = IsDeclared variables t × IsDeclared variables u
+declared variables (one_of t constants) = IsDeclared variables t
 declared variables (kind test x) = Contains (map (λ v. v.name) variables) x
 declared variables (negation k) = declared variables k
 

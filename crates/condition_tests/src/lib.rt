@@ -10,5 +10,5 @@ mod test;
 pub use compare::{equals_of, equals_of_any};
 pub use literal::{Atom, Goal, Literal, Place, Property, Relation};
 pub use place::{free_at, free_slot, known, value_of};
-pub use resolve::{arcs_of_variables, goal_of};
+pub use resolve::goal_of;
 pub use test::test as test_atom;

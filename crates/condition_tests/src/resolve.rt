@@ -1,38 +1,24 @@
 // Conditions with names, made into goals with numbers.
-ghost use Rattle.std.specs.Prelude.{◌≡◌, ◌<◌, ◌≤◌, ℕ, length, map, IfOk, Contains};
+ghost use Rattle.std.specs.Prelude.{◌≡◌, ◌≤◌, ℕ, length, map, IfOk, Contains};
 ghost use Rattle.rpe.specs.Language.{positions};
-ghost use Rattle.query_spec.specs.Mentions.{condition_positions};
+ghost use Rattle.query_spec.specs.Mentions.{IsDeclared, condition_positions};
 ghost use Rattle.query_spec.specs.Query.{path};
 ghost use Rattle.rpe.specs.Reading.{regex_of};
 ghost use Rattle.struql_ast.specs.Reading.{operand_of, step_of, condition_of};
-ghost use Rattle.condition_tests.specs.Resolved.{IsNumberOf, IsPlaceOf, IsAtomOf, IsRelationOf, IsReady, IsPlain, StandsFor, arcs_of, operand_declared, step_declared, declared};
+ghost use Rattle.condition_tests.specs.Resolved.{IsPlaceOf, IsAtomOf, IsRelationOf, IsReady, IsPlain, StandsFor, step_declared, declared};
 ghost use Rattle.condition_tests.specs.Places.{PlaceInRange, AtomInRange};
 
 use crate::literal::{Atom, Goal, Literal, Place, Property, Relation};
 use automaton::{Automaton, RpeRefusal};
-use query_spec::Variable;
+use query_spec::{Variable, index_of};
 use rpe::Rpe;
-use sd_value::{NoMemory, Str, Value, copy};
+use sd_value::{NoMemory, Value, copy};
 use std::alloc::Global;
 use struql_ast::{Condition, Constants, Operand, PathStep};
 
-// The number of the variable of that name.
-fn index_of(variables: &[Variable], name: &Str) -> usize
-    requires { Contains (map (λ v. v.name) variables.now) name.now }
-    ensures within { result < length variables.now }
-    ensures number { IsNumberOf variables.now name.now result }
-{
-    for i in 0..variables.len() {
-        if variables[i].name == *name {
-            return i;
-        }
-    }
-    0
-}
-
 // Where the operand's value is in a row.
 fn place_of(alloc: Global, variables: &[Variable], operand: &Operand) -> Result<Place, NoMemory>
-    requires { operand_declared variables.now (operand_of operand.now) }
+    requires { IsDeclared variables.now (operand_of operand.now) }
     ensures place { IfOk result (λ p. IsPlaceOf variables.now (operand_of operand.now) p) }
     ensures in_range { IfOk result (λ p. PlaceInRange (length variables.now) p) }
 {
@@ -46,17 +32,6 @@ fn place_of(alloc: Global, variables: &[Variable], operand: &Operand) -> Result<
             Ok(Place::Fixed(value))
         }
     }
-}
-
-/// Which variables stand for labels.
-pub fn arcs_of_variables(alloc: Global, variables: &[Variable]) -> Result<Vec<bool>, NoMemory>
-    ensures { IfOk result (λ arcs. arcs.items ≡ arcs_of variables.now) }
-{
-    let mut arcs = Vec::new(alloc);
-    for variable in variables {
-        arcs.push(variable.arc)?;
-    }
-    Ok(arcs)
 }
 
 fn constants_of(alloc: Global, items: &[Value]) -> Result<Constants, NoMemory>
@@ -94,9 +69,9 @@ fn path_of(
     step: &PathStep,
     to: &Operand,
 ) -> Result<Atom, NoMemory>
-    requires from { operand_declared variables.now (operand_of from.now) }
+    requires from { IsDeclared variables.now (operand_of from.now) }
     requires step { step_declared variables.now (step_of step.now) }
-    requires to { operand_declared variables.now (operand_of to.now) }
+    requires to { IsDeclared variables.now (operand_of to.now) }
     requires small { condition_positions (path (operand_of from.now) (step_of step.now)
         (operand_of to.now)) ≤ 256 }
     ensures atom { IfOk result (λ a. (version : ℕ)
@@ -137,10 +112,7 @@ fn atom_of(alloc: Global, variables: &[Variable], condition: &Condition) -> Resu
             let collection = collection.copy(alloc)?;
             Ok(Atom::One(Place::Variable(slot), Property::Member(collection)))
         }
-        Condition::Path { from, step, to, .. } => {
-            let atom = path_of(alloc, variables, from, step, to)?;
-            Ok(atom)
-        }
+        Condition::Path { from, step, to, .. } => path_of(alloc, variables, from, step, to),
         Condition::Compare {
             left,
             op,

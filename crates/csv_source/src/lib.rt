@@ -3,7 +3,7 @@
 
 ghost use Rattle.std.specs.Prelude.{◌≡◌, List, ℕ};
 ghost use Rattle.sd_graph.specs.Statement.{Building};
-ghost use Rattle.csv_source.specs.Fields.{IsFieldValue, value_of};
+ghost use Rattle.csv_source.specs.Fields.{IsFieldValue, value_of as field_value};
 ghost use Rattle.csv_source.specs.Reads.{Reads, HasOneAnswer};
 
 mod reader;
@@ -18,6 +18,7 @@ use sd_graph::GraphBuilder;
 use sd_value::Str;
 use source_steps::without_mark;
 use std::alloc::Global;
+pub use value::value_of;
 
 /// Adds what a CSV text states. The first record is the header, and record k from 1 is the node
 /// `STEM_k`, a member of STEM, with an edge for each field that isn't empty. After a refusal the
@@ -46,5 +47,5 @@ pub fn texts_have_one_answer()
 
 /// A field is the integer whose decimal form it is, where there is one of 64 bits, and else a text.
 pub fn fields_have_values()
-    ensures { (field : List ℕ) → IsFieldValue field (value_of field) }
+    ensures { (field : List ℕ) → IsFieldValue field (field_value field) }
 {}

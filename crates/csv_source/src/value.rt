@@ -26,7 +26,7 @@ fn integer_of(field: &[u8]) -> Option<i64>
 }
 
 /// The value of a field that isn't empty.
-pub(crate) fn value_of(alloc: Global, field: &[u8]) -> Result<Value, NoMemory>
+pub fn value_of(alloc: Global, field: &[u8]) -> Result<Value, NoMemory>
     ensures { IfOk result (λ v. v ≡ field_value field.now) }
 {
     match integer_of(field) {

@@ -4,19 +4,16 @@ use Rattle.std.proofs.Common.{refl, sym, ◌∙◌, ap}
 use Rattle.sd_graph.specs.Statement.{Building}
 use Rattle.sd_ddl.specs.declared.refusal.DdlRefusal.{DdlRefusal}
 use Rattle.sd_ddl.specs.declared.refusal.DdlRefusal.TheVariants as ddl
-use Rattle.csv_source.specs.declared.refusal.CsvRefusal.{CsvRefusal}
-use Rattle.csv_source.specs.declared.refusal.CsvRefusal.TheVariants as csv
 use Rattle.csv_source.specs.Once as csv_law
-use Rattle.json_source.specs.declared.refusal.JsonRefusal.{JsonRefusal}
-use Rattle.json_source.specs.declared.refusal.JsonRefusal.TheVariants as json
 use Rattle.json_source.specs.Once as json_law
+use Rattle.wrap_bibtex.specs.Once as bib_law
 use Rattle.ddl_laws.specs.OneAnswer.{IsSettled}
 use Rattle.ddl_laws.proofs.DataText as ddl_law
 use Rattle.data_source.specs.declared.format.Format.{Format}
-use Rattle.data_source.specs.declared.format.Format.TheVariants.{DataText, Csv, Json}
+use Rattle.data_source.specs.declared.format.Format.TheVariants.{DataText, Csv, Json, BibTex}
 use Rattle.data_source.specs.declared.refusal.SourceRefusal.{SourceRefusal}
 use Rattle.data_source.specs.declared.refusal.SourceRefusal.TheVariants.{NoMemory}
-use Rattle.data_source.specs.Told.{ddl_told, csv_told, json_told, answer_told}
+use Rattle.data_source.specs.Told.{ddl_told, csv_told, json_told, bib_told, answer_told}
 use Rattle.data_source.specs.Formats.{format_of}
 use Rattle.data_source.specs.Takes.{TakesAs}
 use Rattle.data_source.specs.OneAnswer.{HasOneAnswer}
@@ -38,6 +35,9 @@ as_one (Csv stem) limit bytes b c d r s (p, reads, is) (q, reads2, is2) left rig
 as_one (Json stem) limit bytes b c d r s (p, reads, is) (q, reads2, is2) left right =
     let both = json_law.has_one_answer stem bytes b c d p q reads reads2 (λ e. left (is ∙ ap (answer_told json_told) e)) (λ e. right (is2 ∙ ap (answer_told json_told) e)) in
     (both.0, is ∙ ap (answer_told json_told) both.1 ∙ sym is2)
+as_one (BibTex stem) limit bytes b c d r s (p, reads, is) (q, reads2, is2) left right =
+    let both = bib_law.has_one_answer stem bytes b c d p q reads reads2 (λ e. left (is ∙ ap (answer_told bib_told) e)) (λ e. right (is2 ∙ ap (answer_told bib_told) e)) in
+    (both.0, is ∙ ap (answer_told bib_told) both.1 ∙ sym is2)
 
 pub one_answer : (path : List ℕ) (limit : ℕ) (bytes : List ℕ) (b : Building) → HasOneAnswer path limit bytes b
 one_answer path limit bytes b = as_one (format_of path) limit bytes b

@@ -3,7 +3,7 @@ use Rattle.std.specs.Prelude.{◌-◌, ℕ, Bool, nat_eq, List, [], ◌∷◌, l
 use Rattle.std.specs.List.{list_any}
 use Rattle.std.specs.Cmp.Lexicographic.{pointwise}
 use Rattle.data_source.specs.declared.format.Format.{Format}
-use Rattle.data_source.specs.declared.format.Format.TheVariants.{DataText, Csv, Json}
+use Rattle.data_source.specs.declared.format.Format.TheVariants.{DataText, Csv, Json, BibTex}
 
 abbrev pub is_slash : ℕ → Bool
 is_slash b = nat_eq b 47
@@ -25,4 +25,5 @@ abbrev pub format_of : List ℕ → Format
 format_of path =
     if ends_with path (codes ".csv") then Csv (stem_of path (codes ".csv"))
     else if ends_with path (codes ".json") then Json (stem_of path (codes ".json"))
+    else if ends_with path (codes ".bib") then BibTex (stem_of path (codes ".bib"))
     else DataText

@@ -4,11 +4,12 @@ use Rattle.sd_graph.specs.Statement.{Building}
 use Rattle.sd_ddl.specs.Reads as ddl
 use Rattle.csv_source.specs.Reads as csv
 use Rattle.json_source.specs.Reads as json
+use Rattle.wrap_bibtex.specs.Reads as bib
 use Rattle.data_source.specs.declared.format.Format.{Format}
-use Rattle.data_source.specs.declared.format.Format.TheVariants.{DataText, Csv, Json}
+use Rattle.data_source.specs.declared.format.Format.TheVariants.{DataText, Csv, Json, BibTex}
 use Rattle.data_source.specs.declared.refusal.SourceRefusal.{SourceRefusal}
 use Rattle.data_source.specs.Formats.{format_of}
-use Rattle.data_source.specs.Told.{ddl_told, csv_told, json_told, answer_told}
+use Rattle.data_source.specs.Told.{ddl_told, csv_told, json_told, bib_told, answer_told}
 
 -- the answer reports one of these answers of a reader
 abbrev pub Tells : {E : Type 0} → (Result ⊤ E → Type 0) → (E → SourceRefusal)
@@ -21,6 +22,7 @@ abbrev pub TakesAs : Format → ℕ → List ℕ → Building → Building → R
 TakesAs DataText limit bytes b c result = Tells (ddl.Reads limit bytes b c) ddl_told result
 TakesAs (Csv stem) limit bytes b c result = Tells (csv.Reads stem bytes b c) csv_told result
 TakesAs (Json stem) limit bytes b c result = Tells (json.Reads stem bytes b c) json_told result
+TakesAs (BibTex stem) limit bytes b c result = Tells (bib.Reads stem bytes b c) bib_told result
 
 -- the bytes of the file of this path are read by its format
 abbrev pub Takes : List ℕ → ℕ → List ℕ → Building → Building → Result ⊤ SourceRefusal → Type 0

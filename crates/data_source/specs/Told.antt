@@ -7,6 +7,8 @@ use Rattle.csv_source.specs.declared.refusal.CsvRefusal.{CsvRefusal}
 use Rattle.csv_source.specs.declared.refusal.CsvRefusal.TheVariants as csv
 use Rattle.json_source.specs.declared.refusal.JsonRefusal.{JsonRefusal}
 use Rattle.json_source.specs.declared.refusal.JsonRefusal.TheVariants as json
+use Rattle.wrap_bibtex.specs.declared.refusal.BibRefusal.{BibRefusal}
+use Rattle.wrap_bibtex.specs.declared.refusal.BibRefusal.TheVariants as bib
 use Rattle.data_source.specs.declared.refusal.SourceRefusal.{SourceRefusal}
 use Rattle.data_source.specs.declared.refusal.SourceRefusal.TheVariants.{Refused, NoMemory}
 
@@ -36,6 +38,14 @@ json_told (json.NotRecords path) = Refused 46 (Path path)
 json_told (json.TooManyEdges path) = Refused 11 (Path path)
 json_told (json.TooManyNodes path) = Refused 12 (Path path)
 json_told json.NoMemory = NoMemory
+
+abbrev pub bib_told : BibRefusal → SourceRefusal
+bib_told (bib.Expected at) = Refused 121 (At at)
+bib_told (bib.UnknownMacro at) = Refused 122 (At at)
+bib_told (bib.TooDeep at) = Refused 123 (At at)
+bib_told (bib.TooManyEdges at) = Refused 11 (At at)
+bib_told (bib.TooManyNodes at) = Refused 12 (At at)
+bib_told bib.NoMemory = NoMemory
 
 -- a reader's answer, with its refusal reported
 abbrev pub answer_told : {E : Type 0} → (E → SourceRefusal) → Result ⊤ E → Result ⊤ SourceRefusal

@@ -5,12 +5,13 @@ ghost use Rattle.data_source.specs.Formats.{behind_slashes as name_in, format_of
 use sd_value::{NoMemory, Str};
 use std::alloc::Global;
 
-/// The format of a data file; in CSV and JSON with the stem of its name.
+/// The format of a data file; of all but the data text with the stem of its name.
 #[derive(Debug, Drop)]
 pub enum Format {
     DataText,
     Csv(Str),
     Json(Str),
+    BibTex(Str),
 }
 
 // What is behind the last slash.
@@ -28,8 +29,8 @@ fn behind_slashes(path: &[u8]) -> &[u8]
     name
 }
 
-/// The format that a path's end reports: `.csv`, `.json`, or any other for the data text. The stem is what is between
-/// the last slash and that end.
+/// The format that a path's end reports: `.csv`, `.json`, `.bib`, or any other for the data text. The stem is what is
+/// between the last slash and that end.
 pub fn format_of(alloc: Global, path: &Str) -> Result<Format, NoMemory>
     ensures { IfOk result (λ format. format ≡ format_named path.now) }
 {
@@ -38,6 +39,9 @@ pub fn format_of(alloc: Global, path: &Str) -> Result<Format, NoMemory>
     }
     if let Some(front) = path.bytes().strip_suffix(b".json".as_slice()) {
         return Ok(Format::Json(Str::new(alloc, behind_slashes(front))?));
+    }
+    if let Some(front) = path.bytes().strip_suffix(b".bib".as_slice()) {
+        return Ok(Format::BibTex(Str::new(alloc, behind_slashes(front))?));
     }
     Ok(Format::DataText)
 }

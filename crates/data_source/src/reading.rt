@@ -1,9 +1,10 @@
 // Reading a data file into a graph.
 ghost use Rattle.data_source.specs.Takes.{Takes, Tells};
-ghost use Rattle.data_source.specs.Told.{ddl_told, csv_told, json_told};
+ghost use Rattle.data_source.specs.Told.{ddl_told, csv_told, json_told, bib_told};
 ghost use Rattle.sd_ddl.specs.Reads.{Reads as ReadsDdl};
 ghost use Rattle.csv_source.specs.Reads.{Reads as ReadsCsv};
 ghost use Rattle.json_source.specs.Reads.{Reads as ReadsJson};
+ghost use Rattle.wrap_bibtex.specs.Reads.{Reads as ReadsBib};
 
 use crate::format::{Format, format_of};
 use crate::refusal::SourceRefusal;
@@ -13,6 +14,7 @@ use sd_ddl::read_ddl;
 use sd_graph::GraphBuilder;
 use sd_value::Str;
 use std::alloc::Global;
+use wrap_bibtex::read_bibtex;
 
 fn take_ddl(
     alloc: Global,
@@ -56,8 +58,22 @@ fn take_json(
     }
 }
 
-/// Adds what the file of this path and of these bytes states, read by its format: CSV and JSON by the end of the path,
-/// and else the data text, of at most `limit` bytes. What the graph holds after a refusal is as the reader says.
+fn take_bibtex(
+    alloc: Global,
+    stem: &Str,
+    bytes: &[u8],
+    graph: &mut GraphBuilder,
+) -> Result<(), SourceRefusal>
+    ensures { Tells (ReadsBib stem.now bytes.now graph.old graph.new) bib_told result }
+{
+    match read_bibtex(alloc, stem, bytes, graph) {
+        Ok(()) => Ok(()),
+        Err(refusal) => Err(SourceRefusal::from(refusal)),
+    }
+}
+
+/// Adds what the file of this path and of these bytes states, read by its format: CSV, JSON and BibTeX by the end of the
+/// path, and else the data text, of at most `limit` bytes. What the graph holds after a refusal is as the reader says.
 pub fn read_source(
     alloc: Global,
     path: &Str,
@@ -71,5 +87,6 @@ pub fn read_source(
         Format::DataText => take_ddl(alloc, bytes, limit, graph),
         Format::Csv(stem) => take_csv(alloc, &stem, bytes, graph),
         Format::Json(stem) => take_json(alloc, &stem, bytes, graph),
+        Format::BibTex(stem) => take_bibtex(alloc, &stem, bytes, graph),
     }
 }

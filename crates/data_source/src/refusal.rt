@@ -1,6 +1,6 @@
 // The numbers and places of refusals.
 ghost use Rattle.std.specs.Prelude.{◌≡◌};
-ghost use Rattle.data_source.specs.Told.{ddl_told, csv_told, json_told};
+ghost use Rattle.data_source.specs.Told.{ddl_told, csv_told, json_told, bib_told};
 ghost use Rattle.data_source.specs.declared.refusal.SourceRefusal.TheVariants.{NoMemory as OutOfMemory};
 
 use csv_source::CsvRefusal;
@@ -8,6 +8,7 @@ use json_source::JsonRefusal;
 use run_report::Place;
 use sd_ddl::DdlRefusal;
 use sd_value::NoMemory;
+use wrap_bibtex::BibRefusal;
 
 /// Why a data file is refused: the number of the refusal and its place.
 #[derive(Debug, Drop)]
@@ -74,6 +75,21 @@ impl From<JsonRefusal> for SourceRefusal {
             JsonRefusal::TooManyEdges(path) => refused(11, Place::Path(path)),
             JsonRefusal::TooManyNodes(path) => refused(12, Place::Path(path)),
             JsonRefusal::NoMemory => SourceRefusal::NoMemory,
+        }
+    }
+}
+
+impl From<BibRefusal> for SourceRefusal {
+    ghost from_gives = { λ e told. told ≡ bib_told e };
+
+    fn from(refusal: BibRefusal) -> SourceRefusal {
+        match refusal {
+            BibRefusal::Expected(at) => refused(121, Place::At(at)),
+            BibRefusal::UnknownMacro(at) => refused(122, Place::At(at)),
+            BibRefusal::TooDeep(at) => refused(123, Place::At(at)),
+            BibRefusal::TooManyEdges(at) => refused(11, Place::At(at)),
+            BibRefusal::TooManyNodes(at) => refused(12, Place::At(at)),
+            BibRefusal::NoMemory => SourceRefusal::NoMemory,
         }
     }
 }

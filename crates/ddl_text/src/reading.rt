@@ -21,7 +21,7 @@ use token_reader::{
 };
 
 /// A kind's word at the front.
-fn kind_at(tokens: &[Token]) -> Result<(KindWord, &[Token]), Halt>
+fn kind_at(tokens: &[Token]) -> Result<(KindWord, &[Token]), Halt<Token>>
     ensures { Gives (λ x. x.0) (λ x. x.1.now) result (take_one true kind_value tokens.now) }
 {
     let [first, rest @ ..] = tokens else {
@@ -61,7 +61,7 @@ fn kind_at(tokens: &[Token]) -> Result<(KindWord, &[Token]), Halt>
 }
 
 #[tactic(auto, unfolding(crate::specs::Reading::read_entry))]
-fn entry_at(alloc: Global, tokens: &[Token]) -> Result<(Entry, &[Token]), Halt>
+fn entry_at(alloc: Global, tokens: &[Token]) -> Result<(Entry, &[Token]), Halt<Token>>
     ensures { Gives (λ x. x.0) (λ x. x.1.now) result (read_entry tokens.now) }
 {
     let (name, rest) = name_at(alloc, tokens)?;
@@ -69,7 +69,7 @@ fn entry_at(alloc: Global, tokens: &[Token]) -> Result<(Entry, &[Token]), Halt>
     Ok((Entry { name, kind }, rest))
 }
 
-fn entries_at(alloc: Global, tokens: &[Token]) -> Result<(Vec<Entry>, &[Token]), Halt>
+fn entries_at(alloc: Global, tokens: &[Token]) -> Result<(Vec<Entry>, &[Token]), Halt<Token>>
     ensures { Gives (λ x. x.0.items) (λ x. x.1.now) result (repeat is_name read_entry tokens.now) }
 {
     let mut entries = Vec::new(alloc);
@@ -83,7 +83,7 @@ fn entries_at(alloc: Global, tokens: &[Token]) -> Result<(Vec<Entry>, &[Token]),
 }
 
 #[tactic(auto, unfolding(crate::specs::Reading::read_directive))]
-fn directive_at(alloc: Global, tokens: &[Token]) -> Result<(Statement, &[Token]), Halt>
+fn directive_at(alloc: Global, tokens: &[Token]) -> Result<(Statement, &[Token]), Halt<Token>>
     ensures { Gives (λ x. x.0) (λ x. x.1.now) result (read_directive tokens.now) }
 {
     let (_, rest) = word_at(tokens, b"collection")?;
@@ -98,7 +98,7 @@ fn directive_at(alloc: Global, tokens: &[Token]) -> Result<(Statement, &[Token])
 }
 
 #[tactic(auto, unfolding(crate::specs::Reading::read_kinded))]
-fn kinded_at(alloc: Global, tokens: &[Token]) -> Result<(Given, &[Token]), Halt>
+fn kinded_at(alloc: Global, tokens: &[Token]) -> Result<(Given, &[Token]), Halt<Token>>
     ensures { Gives (λ x. x.0) (λ x. x.1.now) result (read_kinded tokens.now) }
 {
     let (word, rest) = kind_at(tokens)?;
@@ -114,7 +114,7 @@ fn kinded_at(alloc: Global, tokens: &[Token]) -> Result<(Given, &[Token]), Halt>
 }
 
 #[tactic(auto, unfolding(crate::specs::Reading::read_node))]
-fn node_at(alloc: Global, tokens: &[Token]) -> Result<(Given, &[Token]), Halt>
+fn node_at(alloc: Global, tokens: &[Token]) -> Result<(Given, &[Token]), Halt<Token>>
     ensures { Gives (λ x. x.0) (λ x. x.1.now) result (read_node tokens.now) }
 {
     let (place, rest) = sign_at(tokens, Sign::Amp)?;
@@ -124,7 +124,7 @@ fn node_at(alloc: Global, tokens: &[Token]) -> Result<(Given, &[Token]), Halt>
 }
 
 #[tactic(auto, unfolding(crate::specs::Reading::read_value))]
-fn value_at(alloc: Global, tokens: &[Token]) -> Result<(Given, &[Token]), Halt>
+fn value_at(alloc: Global, tokens: &[Token]) -> Result<(Given, &[Token]), Halt<Token>>
     ensures { Gives (λ x. x.0) (λ x. x.1.now) result (read_value tokens.now) }
 {
     let [first, rest @ ..] = tokens else {
@@ -149,7 +149,7 @@ fn value_at(alloc: Global, tokens: &[Token]) -> Result<(Given, &[Token]), Halt>
 }
 
 #[tactic(auto, unfolding(crate::specs::Reading::read_field))]
-fn field_at(alloc: Global, tokens: &[Token]) -> Result<(Field, &[Token]), Halt>
+fn field_at(alloc: Global, tokens: &[Token]) -> Result<(Field, &[Token]), Halt<Token>>
     ensures { Gives (λ x. x.0) (λ x. x.1.now) result (read_field tokens.now) }
 {
     let (name, rest) = name_at(alloc, tokens)?;
@@ -157,7 +157,7 @@ fn field_at(alloc: Global, tokens: &[Token]) -> Result<(Field, &[Token]), Halt>
     Ok((Field { name, value }, rest))
 }
 
-fn fields_at(alloc: Global, tokens: &[Token]) -> Result<(Vec<Field>, &[Token]), Halt>
+fn fields_at(alloc: Global, tokens: &[Token]) -> Result<(Vec<Field>, &[Token]), Halt<Token>>
     ensures { Gives (λ x. x.0.items) (λ x. x.1.now) result (repeat is_name read_field tokens.now) }
 {
     let mut fields = Vec::new(alloc);
@@ -172,7 +172,7 @@ fn fields_at(alloc: Global, tokens: &[Token]) -> Result<(Vec<Field>, &[Token]), 
 
 /// The names of `in`, perhaps none.
 #[tactic(auto, unfolding(crate::specs::Reading::read_in))]
-fn collections_at(alloc: Global, tokens: &[Token]) -> Result<(Vec<Word>, &[Token]), Halt>
+fn collections_at(alloc: Global, tokens: &[Token]) -> Result<(Vec<Word>, &[Token]), Halt<Token>>
     ensures { Gives (λ x. x.0.items) (λ x. x.1.now) result (read_in tokens.now) }
 {
     if has_word(tokens, b"in") {
@@ -183,7 +183,7 @@ fn collections_at(alloc: Global, tokens: &[Token]) -> Result<(Vec<Word>, &[Token
 }
 
 #[tactic(auto, unfolding(crate::specs::Reading::read_further_name))]
-fn further_name_at(alloc: Global, tokens: &[Token]) -> Result<(Word, &[Token]), Halt>
+fn further_name_at(alloc: Global, tokens: &[Token]) -> Result<(Word, &[Token]), Halt<Token>>
     ensures { Gives (λ x. x.0) (λ x. x.1.now) result (read_further_name tokens.now) }
 {
     let (_, rest) = sign_at(tokens, Sign::Comma)?;
@@ -195,7 +195,7 @@ fn further_names_at(
     alloc: Global,
     first: Word,
     tokens: &[Token],
-) -> Result<(Vec<Word>, &[Token]), Halt>
+) -> Result<(Vec<Word>, &[Token]), Halt<Token>>
     ensures { Gives (λ x. x.0.items) (λ x. x.1.now) result
         (with_front (first ∷ []) (repeat (is_sign signs.Comma) read_further_name tokens.now)) }
 {
@@ -211,7 +211,7 @@ fn further_names_at(
 }
 
 #[tactic(auto, unfolding(crate::specs::Reading::read_collections))]
-fn names_at(alloc: Global, tokens: &[Token]) -> Result<(Vec<Word>, &[Token]), Halt>
+fn names_at(alloc: Global, tokens: &[Token]) -> Result<(Vec<Word>, &[Token]), Halt<Token>>
     ensures { Gives (λ x. x.0.items) (λ x. x.1.now) result (read_collections tokens.now) }
 {
     let (_, rest) = word_at(tokens, b"in")?;
@@ -220,7 +220,7 @@ fn names_at(alloc: Global, tokens: &[Token]) -> Result<(Vec<Word>, &[Token]), Ha
 }
 
 #[tactic(auto, unfolding(crate::specs::Reading::read_object))]
-fn object_at(alloc: Global, tokens: &[Token]) -> Result<(Statement, &[Token]), Halt>
+fn object_at(alloc: Global, tokens: &[Token]) -> Result<(Statement, &[Token]), Halt<Token>>
     ensures { Gives (λ x. x.0) (λ x. x.1.now) result (read_object tokens.now) }
 {
     let (_, rest) = word_at(tokens, b"object")?;
@@ -236,7 +236,7 @@ fn object_at(alloc: Global, tokens: &[Token]) -> Result<(Statement, &[Token]), H
 }
 
 #[tactic(auto, unfolding(crate::specs::Reading::read_statement))]
-fn statement_at(alloc: Global, tokens: &[Token]) -> Result<(Statement, &[Token]), Halt>
+fn statement_at(alloc: Global, tokens: &[Token]) -> Result<(Statement, &[Token]), Halt<Token>>
     ensures { Gives (λ x. x.0) (λ x. x.1.now) result (read_statement tokens.now) }
 {
     if has_word(tokens, b"collection") {
@@ -253,7 +253,7 @@ fn has_statement(tokens: &[Token]) -> bool
     has_word(tokens, b"collection") || has_word(tokens, b"object")
 }
 
-fn statements_at(alloc: Global, tokens: &[Token]) -> Result<(Vec<Statement>, &[Token]), Halt>
+fn statements_at(alloc: Global, tokens: &[Token]) -> Result<(Vec<Statement>, &[Token]), Halt<Token>>
     ensures { Gives (λ x. x.0.items) (λ x. x.1.now) result
         (repeat begins_statement read_statement tokens.now) }
 {
@@ -268,7 +268,7 @@ fn statements_at(alloc: Global, tokens: &[Token]) -> Result<(Vec<Statement>, &[T
 }
 
 #[tactic(auto, unfolding(crate::specs::Reading::read_file))]
-fn file_at(alloc: Global, tokens: &[Token]) -> Result<Vec<Statement>, Halt>
+fn file_at(alloc: Global, tokens: &[Token]) -> Result<Vec<Statement>, Halt<Token>>
     ensures { Gives (λ x. x.items) (λ _. []) result (read_file tokens.now) }
 {
     let (statements, rest) = statements_at(alloc, tokens)?;

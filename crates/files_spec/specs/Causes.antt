@@ -1,10 +1,11 @@
 -- Why a file of a site could not be written: a write of one of its paths failed, and was counted.
-use Rattle.std.specs.Prelude.{◌≡◌, ◌⊎◌, ℕ, List, Contains, Result, IsErrOf}
+use Rattle.std.specs.Prelude.{◌≡◌, ◌⊎◌, ℕ, List, Contains, Option, Some, Result, IsErrOf}
 use Rattle.sd_value.specs.declared.Term.{Term}
 use Rattle.edge_io.specs.Counts.{Rose, NoneFell}
 use Rattle.files_spec.specs.declared.stop.Stop.{Stop}
 use Rattle.files_spec.specs.declared.stop.Stop.TheVariants.{Unwritten}
 use Rattle.files_spec.specs.Paths.{page_path, index_path}
+use Rattle.files_spec.specs.Files.{root_term}
 
 -- no count fell, and where writing failed the count of some path with P rose
 pub record WritesHaveCause {T : Type 0} (P : List ℕ → Type 0) (before now : List ℕ → ℕ)
@@ -17,6 +18,13 @@ pub record WritesHaveCause {T : Type 0} (P : List ℕ → Type 0) (before now : 
 abbrev pub IsPagePath : List ℕ → List Term → List ℕ → Type 0
 IsPagePath folder terms path = (t : Term) × Contains terms t × (path ≡ page_path folder t)
 
+-- the path of `index.html`, where there is a root and its page is one of the terms
+abbrev pub IsIndexPath : List ℕ → List Term → (root : Option (List ℕ)) → List ℕ → Type 0
+IsIndexPath folder terms root path =
+    (function : List ℕ) × (root ≡ Some function) × Contains terms (root_term function)
+    × (path ≡ index_path folder)
+
 -- the path of one of the site's files
-abbrev pub IsSitePath : List ℕ → List Term → List ℕ → Type 0
-IsSitePath folder terms path = IsPagePath folder terms path ⊎ (path ≡ index_path folder)
+abbrev pub IsSitePath : List ℕ → List Term → (root : Option (List ℕ)) → List ℕ → Type 0
+IsSitePath folder terms root path =
+    IsPagePath folder terms path ⊎ IsIndexPath folder terms root path

@@ -6,7 +6,7 @@ use Rattle.tmpl.specs.Body.{TemplateFile}
 use Rattle.page_spec.specs.Site.{Site}
 use Rattle.page_spec.specs.Page.{IsOutcome}
 use Rattle.page_spec.specs.declared.Outcome.TheVariants as outcome
-use Rattle.address.specs.Segments.{HasLongSegment}
+use Rattle.page_spec.specs.Segments.{HasLongSegment}
 use Rattle.edge_io.specs.Files.{FileMap, put_file, ChangesOnly}
 use Rattle.run_report.specs.declared.status.PageKind.{PageKind}
 use Rattle.run_report.specs.declared.status.PageKind.TheVariants.{Cyclic, TooLong, LongName}

@@ -7,19 +7,19 @@ use Rattle.httparse.specs.Grammar.{print_request}
 use Rattle.http_spec.proofs.HeadLemmas.{no_head_stays, doomed_more}
 use Rattle.http_spec.proofs.StreamLemmas.{cut_later, bytes-append}
 
-refused_later : (ended : Bool) (rest more : List ℕ) → IsRefused false rest → IsRefused ended (rest ++ more)
+pub refused_later : (ended : Bool) (rest more : List ℕ) → IsRefused false rest → IsRefused ended (rest ++ more)
 refused_later ended rest more (none, inl full) =
     (no_head_stays rest more none (inl full), inl (omega (arith, length-append rest more, full)))
 refused_later ended rest more (none, inr (inl doomed)) =
     (no_head_stays rest more none (inr doomed), inr (inl (doomed_more rest more doomed)))
 refused_later ended rest more (none, inr (inr (never, within))) = absurd (let e : false ≡ true = never in cc)
 
-due_later : (ended : Bool) (rest more : List ℕ) → IsDue false rest → IsDue ended (rest ++ more)
+pub due_later : (ended : Bool) (rest more : List ℕ) → IsDue false rest → IsDue ended (rest ++ more)
 due_later ended rest more (inl (h, tail, reads)) =
     inl (h, tail ++ more, record { head = reads.head; whole = ap (λ s. s ++ more) reads.whole ∙ append_assoc (print_request h) tail more })
 due_later ended rest more (inr refused) = inr (refused_later ended rest more refused)
 
-closed_ends_later : (ended closed : Bool) (rest more : List ℕ) (last : List (List ℕ)) → Ends false Closed rest closed last → Ends ended Closed (rest ++ more) closed last
+pub closed_ends_later : (ended closed : Bool) (rest more : List ℕ) (last : List (List ℕ)) → Ends false Closed rest closed last → Ends ended Closed (rest ++ more) closed last
 closed_ends_later ended closed rest more last (inl over) = inl over
 closed_ends_later ended closed rest more last (inr (inl (goes, refused, one))) = inr (inl (goes, refused_later ended rest more refused, one))
 closed_ends_later ended closed rest more last (inr (inr (goes, never, waits, clean, nothing))) = absurd (let e : false ≡ true = never in cc)

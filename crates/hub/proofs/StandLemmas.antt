@@ -2,16 +2,16 @@
 use Rattle.std.proofs.Common.{◌≡◌, ◌≢◌, ℕ, ◌+◌, ◌-◌, ◌<◌, ◌≤◌, Bool, true, false, List, [], ◌∷◌, ◌++◌, length, refl, sym, ap, ◌∙◌, subst, arith, append_assoc, take, inl, inr, Option, length-append, lit≤}
 use Rattle.std.proofs.lemmas.List.{append-nil, map-append, length-map}
 use Rattle.edge_io.specs.Counts.{Rose}
-use Rattle.httparse.specs.Grammar.{RequestHead, print_request}
+use Rattle.httparse.specs.Grammar.{RequestHead}
 use Rattle.sd_value.specs.declared.Term.{Term}
 use Rattle.http_spec.specs.declared.Standing.{Standing}
 use Rattle.http_spec.specs.declared.Standing.TheVariants.{Open, Closed, Short, Lost}
 use Rattle.http_spec.specs.Heads.{max_head, HasNoHead}
 use Rattle.http_spec.specs.Replies.{no_memory_bytes}
-use Rattle.http_spec.specs.Sessions.{OutcomeAt, IsRefused, IsDue, refusal, Ends, Answers}
+use Rattle.http_spec.specs.Sessions.{OutcomeAt, refusal, IsRefused, IsDue, Ends, Answers}
 use Rattle.http_spec.specs.Streams.{Timed, Request, timed, bytes_in}
-use Rattle.http_spec.proofs.HeadLemmas.{no_head_stays, doomed_more}
 use Rattle.http_spec.proofs.StreamLemmas.{cut_later, bytes-append}
+use Rattle.http_spec.proofs.LaterLemmas.{due_later, closed_ends_later}
 use Rattle.wire.specs.Accounts.{Account, gain, send_to}
 use Rattle.serving_spec.specs.Counted.{LookUp, look_up, look_ups, Counts, counts_with, LooksUpFor, CountedAnswer, HasCounts}
 use Rattle.serving_spec.specs.Delivered.{IsDelivered}
@@ -24,23 +24,6 @@ use Rattle.hub.specs.Pieces.{AtEnd, Steps}
 use Rattle.hub.specs.Turns.{At, FrontSteps, EndSteps}
 use Rattle.hub.proofs.DateLemmas.{timed-append, requests_of, requests-length, session_more}
 use Rattle.hub.proofs.ServeLemmas.{gain_append}
-
-refused_later : (ended : Bool) (rest more : List ℕ) → IsRefused false rest → IsRefused ended (rest ++ more)
-refused_later ended rest more (none, inl full) =
-    (no_head_stays rest more none (inl full), inl (omega (arith, length-append rest more, full)))
-refused_later ended rest more (none, inr (inl doomed)) =
-    (no_head_stays rest more none (inr doomed), inr (inl (doomed_more rest more doomed)))
-refused_later ended rest more (none, inr (inr (never, within))) = absurd (let e : false ≡ true = never in cc)
-
-due_later : (ended : Bool) (rest more : List ℕ) → IsDue false rest → IsDue ended (rest ++ more)
-due_later ended rest more (inl (h, tail, reads)) =
-    inl (h, tail ++ more, record { head = reads.head; whole = ap (λ s. s ++ more) reads.whole ∙ append_assoc (print_request h) tail more })
-due_later ended rest more (inr refused) = inr (refused_later ended rest more refused)
-
-closed_ends_later : (ended closed : Bool) (rest more : List ℕ) (last : List (List ℕ)) → Ends false Closed rest closed last → Ends ended Closed (rest ++ more) closed last
-closed_ends_later ended closed rest more last (inl over) = inl over
-closed_ends_later ended closed rest more last (inr (inl (goes, refused, one))) = inr (inl (goes, refused_later ended rest more refused, one))
-closed_ends_later ended closed rest more last (inr (inr (goes, never, waits, clean, nothing))) = absurd (let e : false ≡ true = never in cc)
 
 ends_later : (ended closed : Bool) (standing : Standing) (rest more : List ℕ) (last : List (List ℕ)) → (standing ≢ Open) → Ends false standing rest closed last → Ends ended standing (rest ++ more) closed last
 ends_later ended closed Open rest more last over ends = absurd (over refl)

@@ -9,14 +9,14 @@ mod positions;
 mod ranks;
 
 use crate::orders::{by_end, by_label};
-use crate::positions::{count_at, pick_at};
+use crate::positions::{count_at, first_at, pick_at};
 use crate::ranks::{is_among, sorted_set};
 use edge_queries::{
     EdgeAt, Incoming, IncomingBy, Labelled, MemberAt, Members, Out, OutAll, all_labels, all_values,
     copy_names, copy_values,
 };
 use indexmap::IndexSet;
-use list_lookup::{give_all, has, part};
+use list_lookup::{first, give_all, has, part};
 use sd_graph::{Edge, Graph, Sizes, Step, Store};
 use sd_value::{NoMemory, Str, Value};
 use std::alloc::Global;
@@ -155,5 +155,67 @@ impl Store for IndexStore {
 
     fn members_of(&self, collection: &Str) -> u64 {
         part(self.graph.member_pairs(), &Members { collection }).len() as u64
+    }
+
+    fn count_out(&self, from: &Value, label: &Str) -> u64 {
+        part(self.graph.edges(), &Out { from, label }).len() as u64
+    }
+
+    fn count_incoming(&self, to: &Value, label: &Str) -> u64 {
+        let edges = self.graph.edges();
+        count_at(edges, self.by_end.as_slice(), &IncomingBy { to, label })
+    }
+
+    fn degree_out(&self, from: &Value) -> u64 {
+        part(self.graph.edges(), &OutAll { from }).len() as u64
+    }
+
+    fn degree_incoming(&self, to: &Value) -> u64 {
+        let edges = self.graph.edges();
+        count_at(edges, self.by_end.as_slice(), &Incoming { to })
+    }
+
+    fn first_out(
+        &self,
+        alloc: Global,
+        from: &Value,
+        label: &Str,
+        most: usize,
+    ) -> Result<Vec<Value>, NoMemory> {
+        let query = Out { from, label };
+        give_all(alloc, first(part(self.graph.edges(), &query), most), &query)
+    }
+
+    fn first_incoming(
+        &self,
+        alloc: Global,
+        to: &Value,
+        label: &Str,
+        most: usize,
+    ) -> Result<Vec<Value>, NoMemory> {
+        let edges = self.graph.edges();
+        let query = IncomingBy { to, label };
+        first_at(alloc, edges, self.by_end.as_slice(), &query, most)
+    }
+
+    fn first_edges(&self, alloc: Global, label: &Str, most: usize) -> Result<Vec<Edge>, NoMemory> {
+        let edges = self.graph.edges();
+        let query = Labelled { label };
+        first_at(alloc, edges, self.by_label.as_slice(), &query, most)
+    }
+
+    fn first_members(
+        &self,
+        alloc: Global,
+        collection: &Str,
+        most: usize,
+    ) -> Result<Vec<Value>, NoMemory> {
+        let query = Members { collection };
+        let nodes = part(self.graph.member_pairs(), &query);
+        give_all(alloc, first(nodes, most), &query)
+    }
+
+    fn first_values(&self, alloc: Global, most: usize) -> Result<Vec<Value>, NoMemory> {
+        copy_values(alloc, first(self.values.as_slice(), most))
     }
 }

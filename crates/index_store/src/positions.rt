@@ -1,9 +1,9 @@
 // Queries over edges that are by their positions in the query's order.
-ghost use Rattle.std.specs.Prelude.{◌≡◌, ◌<◌, IfOk, All, length, map};
+ghost use Rattle.std.specs.Prelude.{◌≡◌, ◌<◌, IfOk, All, length, map, take};
 ghost use Rattle.list_lookup.specs.Picked.{in_place, picked, IsPlaced};
 ghost use Rattle.index_store.specs.Indexed.{edge_at, edges_at, place_at};
 
-use list_lookup::{Query, part};
+use list_lookup::{Query, first, part};
 use sd_graph::Edge;
 use sd_value::NoMemory;
 use std::alloc::Global;
@@ -72,6 +72,25 @@ where
 {
     let at = part(positions, &AtPositions { edges, query });
     give_at(alloc, edges, at, query)
+}
+
+/// The first of what the query picks from edges, whose positions are ordered by it: at most `most`.
+pub(crate) fn first_at<Q: Query<Edge> + Drop>(
+    alloc: Global,
+    edges: &[Edge],
+    positions: &[usize],
+    query: &Q,
+    most: usize,
+) -> Result<Vec<Q::Given>, NoMemory>
+where
+    Q::Given: Drop,
+    requires fits { All (λ i. i < length edges.now) positions.now }
+    requires placed { IsPlaced (Q.at query.now) (edges_at edges.now positions.now) }
+    ensures { IfOk result (λ found. found.items
+        ≡ take most (picked (Q.at query.now) Q.gives (edges_at edges.now positions.now))) }
+{
+    let at = part(positions, &AtPositions { edges, query });
+    give_at(alloc, edges, first(at, most), query)
 }
 
 /// How many of the edges lie in the query's place.

@@ -1,7 +1,7 @@
 //! Picking from lists: what a query gives of each item that lies in its place.
 #![tactic(auto)]
 
-ghost use Rattle.std.specs.Prelude.{◌≡◌, ◌↔◌, IfOk, IsTrue, true, length, map};
+ghost use Rattle.std.specs.Prelude.{◌≡◌, ◌↔◌, IfOk, IsTrue, true, length, map, take};
 ghost use Rattle.std.specs.Ordering.{is_eq};
 ghost use Rattle.std.specs.declared.cmp.Ordering.{Ordering};
 ghost use Rattle.list_lookup.specs.Picked.{in_place, picked, IsPlaced, passes, EndsAt, EndsBy, HasOne};
@@ -109,6 +109,17 @@ fn is_passed(order: Ordering, through: bool) -> bool
     ensures { result ≡ passes through order }
 {
     order.is_lt() || through && order.is_eq()
+}
+
+/// The first items, at most `most`.
+pub fn first<T>(items: &[T], most: usize) -> &[T]
+    ensures { result.now ≡ take most items.now }
+{
+    if most < items.len() {
+        &items[..most]
+    } else {
+        items
+    }
 }
 
 /// What the query gives of each item.

@@ -10,7 +10,7 @@ use edge_queries::{
     EdgeAt, Incoming, IncomingBy, Labelled, MemberAt, Members, NameAt, Out, OutAll, ValueAt,
     copy_names, copy_values,
 };
-use list_lookup::{any, count, has, scan};
+use list_lookup::{any, count, first, has, scan};
 use sd_graph::{Edge, Graph, Sizes, Step, Store};
 use sd_value::{NoMemory, Str, Value, sort_and_dedup};
 use std::alloc::Global;
@@ -132,5 +132,66 @@ impl Store for ListStore {
 
     fn members_of(&self, collection: &Str) -> u64 {
         count(self.graph.member_pairs(), &Members { collection })
+    }
+
+    fn count_out(&self, from: &Value, label: &Str) -> u64 {
+        count(self.graph.edges(), &Out { from, label })
+    }
+
+    fn count_incoming(&self, to: &Value, label: &Str) -> u64 {
+        count(self.graph.edges(), &IncomingBy { to, label })
+    }
+
+    fn degree_out(&self, from: &Value) -> u64 {
+        count(self.graph.edges(), &OutAll { from })
+    }
+
+    fn degree_incoming(&self, to: &Value) -> u64 {
+        count(self.graph.edges(), &Incoming { to })
+    }
+
+    fn first_out(
+        &self,
+        alloc: Global,
+        from: &Value,
+        label: &Str,
+        most: usize,
+    ) -> Result<Vec<Value>, NoMemory> {
+        let mut ends = self.out(alloc, from, label)?;
+        ends.truncate(most);
+        Ok(ends)
+    }
+
+    fn first_incoming(
+        &self,
+        alloc: Global,
+        to: &Value,
+        label: &Str,
+        most: usize,
+    ) -> Result<Vec<Value>, NoMemory> {
+        let mut starts = self.incoming_by(alloc, to, label)?;
+        starts.truncate(most);
+        Ok(starts)
+    }
+
+    fn first_edges(&self, alloc: Global, label: &Str, most: usize) -> Result<Vec<Edge>, NoMemory> {
+        let mut edges = self.edges_by(alloc, label)?;
+        edges.truncate(most);
+        Ok(edges)
+    }
+
+    fn first_members(
+        &self,
+        alloc: Global,
+        collection: &Str,
+        most: usize,
+    ) -> Result<Vec<Value>, NoMemory> {
+        let mut nodes = self.members(alloc, collection)?;
+        nodes.truncate(most);
+        Ok(nodes)
+    }
+
+    fn first_values(&self, alloc: Global, most: usize) -> Result<Vec<Value>, NoMemory> {
+        copy_values(alloc, first(self.values.as_slice(), most))
     }
 }

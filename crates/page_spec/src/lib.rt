@@ -8,6 +8,9 @@ mod keys;
 /// The most bytes that a page has.
 pub const PAGE_LIMIT: usize = 16_777_216;
 
+/// The most bytes that a file system takes as one name.
+pub const NAME_LIMIT: usize = 255;
+
 /// What asking for a page gives: its text, that there is none, the value at which its embedding
 /// comes round again, or that its text is too long.
 #[derive(Drop)]

@@ -30,19 +30,38 @@ pub struct Shape {
 }
 
 /// The number of edges of a label, or of members of a collection.
-#[derive(Debug, Drop)]
+#[derive(Debug)]
 pub struct Counted {
     pub name: Str,
     pub count: u64,
 }
 
+impl Drop for Counted {
+    fn drop(self) {
+        let Counted {
+            name: _name,
+            count: _count,
+        } = self;
+    }
+}
+
 /// What the costs of a chain's conditions depend on: the graph's sizes, how many edges each label has, and how many
 /// members each collection. What isn't listed counts nothing.
-#[derive(Debug, Drop)]
+#[derive(Debug)]
 pub struct Counts {
     pub sizes: Sizes,
     pub labels: Vec<Counted>,
     pub collections: Vec<Counted>,
+}
+
+impl Drop for Counts {
+    fn drop(self) {
+        let Counts {
+            sizes: _sizes,
+            labels: _labels,
+            collections: _collections,
+        } = self;
+    }
 }
 
 /// A step of a plan, with its cost.

@@ -9,7 +9,7 @@ use Rattle.plan_spec.specs.declared.PlanStep.TheVariants.{Use, Domain}
 use Rattle.plan_spec.specs.Cost.{cost_of, all_bound, side_bound}
 use Rattle.planner.specs.Ranges.{SideInRange, ShapeInRange, ShapesInRange}
 use Rattle.plan_spec.specs.Plan.{CanUse, State, state, IsStep, Leads, IsDone, IsPlan, AllFalse, Uses, bind, bind_all}
-use Rattle.planner.specs.Choices.{IsNext, TakesDomain}
+use Rattle.planner.specs.Choices.{AreCostlyBefore, IsNext, TakesDomain}
 
 pub all_false-nil : AllFalse []
 all_false-nil = record { each = λ i b h. cc }
@@ -120,33 +120,43 @@ leads-push : (sizes : Sizes) (arcs : List Bool) (shapes : List Shape) (s m r : S
 leads-push sizes arcs shapes s m r [] step l t = (r, subst (λ x. IsStep sizes arcs shapes x step r) (sym l) t, refl)
 leads-push sizes arcs shapes s m r (x ∷ steps) step l t = (l.0, l.1, leads-push sizes arcs shapes l.0 m r steps step l.2 t)
 
--- while a plan is made: the steps so far lead from the beginning to here
-pub record IsUnderWay (sizes : Sizes) (arcs : List Bool) (shapes : List Shape) (bound used now : List Bool) (steps : List PlanStep) : Type 0 where
+-- while a plan is made: the steps so far lead from the beginning to here, and no condition before a number costs nothing
+pub record IsUnderWay (sizes : Sizes) (arcs : List Bool) (shapes : List Shape) (bound used now : List Bool) (from : ℕ) (steps : List PlanStep) : Type 0 where
   pub used_long : length used ≡ length shapes
   pub bound_long : length now ≡ length bound
   pub first : List Bool
   pub first_long : length first ≡ length shapes
   pub first_unused : AllFalse first
   pub leads : Leads sizes arcs shapes (state first bound) steps (state used now)
+  pub costly : AreCostlyBefore sizes shapes used now from
 
-pub under_way-init : (sizes : Sizes) (arcs : List Bool) (shapes : List Shape) (bound used : List Bool) → length used ≡ length shapes → AllFalse used → IsUnderWay sizes arcs shapes bound used bound []
-under_way-init sizes arcs shapes bound used long none = record { used_long = long; bound_long = refl; first = used; first_long = long; first_unused = none; leads = refl }
+pub under_way-init : (sizes : Sizes) (arcs : List Bool) (shapes : List Shape) (bound used : List Bool) → length used ≡ length shapes → AllFalse used → IsUnderWay sizes arcs shapes bound used bound 0 []
+under_way-init sizes arcs shapes bound used long none = record {
+  used_long = long;
+  bound_long = refl;
+  first = used;
+  first_long = long;
+  first_unused = none;
+  leads = refl;
+  costly = λ j cost l k. absurd (omega (arith, l));
+}
 
-pub under_way-more : (sizes : Sizes) (arcs : List Bool) (shapes : List Shape) (bound used now : List Bool) (steps : List PlanStep) (step : PlanStep) (used2 now2 : List Bool)
-    → IsUnderWay sizes arcs shapes bound used now steps → length used2 ≡ length used → length now2 ≡ length now → IsStep sizes arcs shapes (state used now) step (state used2 now2)
-    → IsUnderWay sizes arcs shapes bound used2 now2 (steps ++ step ∷ [])
-under_way-more sizes arcs shapes bound used now steps step used2 now2 w lu ln s = record {
+pub under_way-more : (sizes : Sizes) (arcs : List Bool) (shapes : List Shape) (bound used now : List Bool) (from : ℕ) (steps : List PlanStep) (step : PlanStep) (used2 now2 : List Bool) (from2 : ℕ)
+    → IsUnderWay sizes arcs shapes bound used now from steps → length used2 ≡ length used → length now2 ≡ length now → IsStep sizes arcs shapes (state used now) step (state used2 now2)
+    → AreCostlyBefore sizes shapes used2 now2 from2 → IsUnderWay sizes arcs shapes bound used2 now2 from2 (steps ++ step ∷ [])
+under_way-more sizes arcs shapes bound used now from steps step used2 now2 from2 w lu ln s costly = record {
   used_long = lu ∙ w.used_long;
   bound_long = ln ∙ w.bound_long;
   first = w.first;
   first_long = w.first_long;
   first_unused = w.first_unused;
   leads = leads-push sizes arcs shapes (state w.first bound) (state used now) (state used2 now2) steps step w.leads s;
+  costly = costly;
 }
 
-pub under_way-end : (sizes : Sizes) (arcs : List Bool) (shapes : List Shape) (bound used now : List Bool) (steps : List PlanStep)
-    → IsUnderWay sizes arcs shapes bound used now steps → IsDone (state used now) → IsPlan sizes arcs shapes bound steps
-under_way-end sizes arcs shapes bound used now steps w d = record {
+pub under_way-end : (sizes : Sizes) (arcs : List Bool) (shapes : List Shape) (bound used now : List Bool) (from : ℕ) (steps : List PlanStep)
+    → IsUnderWay sizes arcs shapes bound used now from steps → IsDone (state used now) → IsPlan sizes arcs shapes bound steps
+under_way-end sizes arcs shapes bound used now from steps w d = record {
   used = w.first;
   one_each = w.first_long;
   none_used = w.first_unused;

@@ -23,10 +23,8 @@ abbrev pub AddsCount : (Condition → Option Name) → (Name → ℕ → Type 0)
     → List Counted → Type 0
 AddsCount priced IsRight k before after =
     ((priced k ≡ None) × (after ≡ before))
-    ⊎ ((name : Name) × (n : ℕ) × (priced k ≡ Some name) × IsRight name n × (after ≡ before ++ record {
-      name = name;
-      count = n;
-    } ∷ []))
+    ⊎ ((name : Name) × (n : ℕ) × (priced k ≡ Some name) × IsRight name n
+    × (after ≡ before ++ record { name = name; count = n } ∷ []))
 
 -- n edges have the label
 abbrev pub LabelCount : DataGraph → Name → ℕ → Type 0

@@ -16,7 +16,8 @@ pub(crate) fn is_bound(side: Option<u32>, bound: &[bool]) -> bool
     }
 }
 
-fn are_bound(shape: &Shape, bound: &[bool]) -> bool
+/// Whether all variables of the condition are bound.
+pub(crate) fn are_bound(shape: &Shape, bound: &[bool]) -> bool
     requires { ShapeInRange (length bound.now) shape.now }
     ensures { result ≡ all_bound bound.now shape.now }
 {

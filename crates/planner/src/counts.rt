@@ -1,7 +1,7 @@
 //! How often a graph has what a chain names.
 ghost use Rattle.std.specs.Prelude.{◌≡◌, IfOk, MatchOption, None, Some, map};
 ghost use Rattle.struql_ast.specs.Reading.{condition_of};
-ghost use Rattle.plan_spec.specs.Shape.{count_of, CountsOf};
+ghost use Rattle.plan_spec.specs.Shape.{CountsOf};
 ghost use Rattle.planner.specs.Counting.{priced_label, priced_collection, AddsCount, LabelCount, MemberCount, AreCountsOf};
 
 use plan_spec::{Counted, Counts};
@@ -10,18 +10,6 @@ use sd_value::{NoMemory, Str};
 use std::alloc::Global;
 use store::Store;
 use struql_ast::{Chain, Condition, PathStep};
-
-// The count of that name.
-pub(crate) fn count_of(counted: &[Counted], name: &Str) -> u64
-    ensures { result ≡ count_of counted.now name.now }
-{
-    for entry in counted {
-        if entry.name == *name {
-            return entry.count;
-        }
-    }
-    0
-}
 
 // The label of a path by a label alone.
 fn label_of(condition: &Condition) -> Option<&Str>

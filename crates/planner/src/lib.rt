@@ -3,6 +3,7 @@
 
 mod cost;
 mod counts;
+mod prices;
 mod shape;
 mod steps;
 

@@ -4,9 +4,10 @@ ghost use Rattle.query_spec.specs.Query.{path};
 ghost use Rattle.rpe.specs.Reading.{regex_of};
 ghost use Rattle.struql_ast.specs.Reading.{operand_of, step_of, condition_of};
 ghost use Rattle.plan_spec.specs.Shape.{number_of, side_of, one, path_kind, compare_kind, shape_of, shapes_of};
+ghost use Rattle.planner.specs.Prices.{IsPriced};
 ghost use Rattle.planner.specs.Ranges.{ShapesInRange};
 
-use crate::counts::count_of;
+use crate::prices::{Prices, count_in, priced};
 use plan_spec::{Counts, Kind, Shape};
 use query_spec::{Op, Variable};
 use rpe::Rpe;
@@ -37,37 +38,39 @@ fn side_of(variables: &[Variable], operand: &Operand) -> Option<u32>
     }
 }
 
-fn path_kind(counts: &Counts, expression: &Rpe) -> Kind
-    ensures { result ≡ path_kind counts.now (regex_of expression.now) }
+fn path_kind(prices: &Prices, expression: &Rpe) -> Kind
+    requires { IsPriced prices.now.counts.now prices.now.labels prices.now.collections }
+    ensures { result ≡ path_kind prices.now.counts.now (regex_of expression.now) }
 {
     match expression {
-        Rpe::Label(label) => Kind::Edges(count_of(counts.labels.as_slice(), label)),
+        Rpe::Label(label) => Kind::Edges(count_in(&prices.labels, label)),
         _ => Kind::Walk,
     }
 }
 
 fn path_shape(
-    counts: &Counts,
+    prices: &Prices,
     variables: &[Variable],
     from: &Operand,
     step: &PathStep,
     to: &Operand,
 ) -> Shape
-    requires { length variables.now < 2 ^ 32 }
-    ensures { (version : ℕ) → result ≡ shape_of counts.now version variables.now
+    requires priced { IsPriced prices.now.counts.now prices.now.labels prices.now.collections }
+    requires few { length variables.now < 2 ^ 32 }
+    ensures { (version : ℕ) → result ≡ shape_of prices.now.counts.now version variables.now
         (path (operand_of from.now) (step_of step.now) (operand_of to.now)) }
 {
     let from = side_of(variables, from);
     let to = side_of(variables, to);
     match step {
         PathStep::ArcVariable(name, _) => Shape {
-            kind: Kind::Edges(counts.sizes.edges),
+            kind: Kind::Edges(prices.counts.sizes.edges),
             from,
             arc: number_of(variables, name),
             to,
         },
         PathStep::Expression(expression, _) => Shape {
-            kind: path_kind(counts, expression),
+            kind: path_kind(prices, expression),
             from,
             arc: None,
             to,
@@ -96,9 +99,11 @@ fn one(kind: Kind, side: Option<u32>) -> Shape
     }
 }
 
-fn shape_of(counts: &Counts, version: u8, variables: &[Variable], condition: &Condition) -> Shape
-    requires { length variables.now < 2 ^ 32 }
-    ensures { result ≡ shape_of counts.now version variables.now (condition_of condition.now) }
+fn shape_of(prices: &Prices, version: u8, variables: &[Variable], condition: &Condition) -> Shape
+    requires priced { IsPriced prices.now.counts.now prices.now.labels prices.now.collections }
+    requires few { length variables.now < 2 ^ 32 }
+    ensures { result
+        ≡ shape_of prices.now.counts.now version variables.now (condition_of condition.now) }
 {
     match condition {
         Condition::Member {
@@ -106,10 +111,10 @@ fn shape_of(counts: &Counts, version: u8, variables: &[Variable], condition: &Co
             variable,
             ..
         } => {
-            let count = count_of(counts.collections.as_slice(), collection);
+            let count = count_in(&prices.collections, collection);
             one(Kind::Listed(count as u128), number_of(variables, variable))
         }
-        Condition::Path { from, step, to, .. } => path_shape(counts, variables, from, step, to),
+        Condition::Path { from, step, to, .. } => path_shape(prices, variables, from, step, to),
         Condition::Compare {
             left,
             op,
@@ -132,7 +137,7 @@ fn shape_of(counts: &Counts, version: u8, variables: &[Variable], condition: &Co
         Condition::Kind { variable, .. } => one(Kind::Test, number_of(variables, variable)),
         Condition::Not(inner, _) => Shape {
             kind: Kind::Test,
-            ..shape_of(counts, version, variables, inner)
+            ..shape_of(prices, version, variables, inner)
         },
     }
 }
@@ -140,31 +145,22 @@ fn shape_of(counts: &Counts, version: u8, variables: &[Variable], condition: &Co
 // The shapes of the conditions, one each.
 fn shapes_from(
     alloc: Global,
-    counts: &Counts,
+    prices: &Prices,
     version: u8,
     variables: &[Variable],
     conditions: &[Condition],
 ) -> Result<Vec<Shape>, NoMemory>
-    requires { length variables.now < 2 ^ 32 }
+    requires priced { IsPriced prices.now.counts.now prices.now.labels prices.now.collections }
+    requires few { length variables.now < 2 ^ 32 }
     ensures { IfOk result (λ shapes. shapes.items
-        ≡ map (shape_of counts.now version variables.now) (map condition_of conditions.now)) }
+        ≡ map (shape_of prices.now.counts.now version variables.now)
+        (map condition_of conditions.now)) }
 {
     let mut shapes = Vec::new(alloc);
     for condition in conditions {
-        shapes.push(shape_of(counts, version, variables, condition))?;
+        shapes.push(shape_of(prices, version, variables, condition))?;
     }
     Ok(shapes)
-}
-
-// Which variables stand for labels.
-pub(crate) fn arcs_from(alloc: Global, variables: &[Variable]) -> Result<Vec<bool>, NoMemory>
-    ensures { IfOk result (λ arcs. arcs.items ≡ map (λ v. v.arc) variables.now) }
-{
-    let mut arcs = Vec::new(alloc);
-    for variable in variables {
-        arcs.push(variable.arc)?;
-    }
-    Ok(arcs)
 }
 
 // The shapes of a chain's conditions.
@@ -178,9 +174,10 @@ pub(crate) fn shapes_of_chain(
     ensures in_range { IfOk result (λ shapes.
         ShapesInRange (length chain.now.variables) shapes.items) }
 {
+    let prices = priced(alloc, counts)?;
     let shapes = shapes_from(
         alloc,
-        counts,
+        &prices,
         chain.version(),
         chain.variables(),
         chain.conditions(),

@@ -1,9 +1,9 @@
 //! Plans.
-ghost use Rattle.std.specs.Prelude.{◌≡◌, ◌<◌, ◌^◌, ℕ, length, IfOk, MatchOption, Option, None, Some, slice_get, slice_set, true, false, if◌then◌else◌};
+ghost use Rattle.std.specs.Prelude.{◌≡◌, ◌↔◌, ◌<◌, ◌≤◌, ◌^◌, IsTrue, ℕ, length, IfOk, MatchOption, Option, None, Some, slice_get, slice_set, true, false, if◌then◌else◌};
 ghost use Rattle.plan_spec.specs.Cost.{cost_of};
 ghost use Rattle.planner.specs.Ranges.{SideInRange, ShapeInRange, ShapesInRange};
 ghost use Rattle.plan_spec.specs.Plan.{CanUse, IsBest, IsFirstFree, AllFalse, Uses, IsPlan, bind, bind_all};
-ghost use Rattle.planner.specs.Choices.{IsBetter, BindsShape, TakesDomain, IsNext};
+ghost use Rattle.planner.specs.Choices.{IsBetter, CostsNothing, IsBestFrom, AreCostlyBefore, LooksFrom, BindsShape, TakesDomain, IsNext};
 ghost use Rattle.std.specs.Prelude.{List, Bool};
 ghost use Rattle.store.specs.declared.Sizes.{Sizes as PlainSizes};
 ghost use Rattle.plan_spec.specs.declared.Shape.{Shape as PlainShape};
@@ -11,9 +11,10 @@ ghost use Rattle.query_spec.specs.Mentions.{IsWellMade};
 ghost use Rattle.plan_spec.specs.Plan.{NoneTwice, AreStepsOver, IsTheOnlyPlan};
 ghost use Rattle.plan_spec.specs.Shape.{IsPlanOf};
 
-use crate::cost::cost;
-use crate::shape::{arcs_from, shapes_of_chain};
+use crate::cost::{are_bound, cost};
+use crate::shape::shapes_of_chain;
 use plan_spec::{Counts, PlanStep, Shape};
+use query_spec::arcs_of_variables;
 use sd_value::NoMemory;
 use std::alloc::{AllocError, Global};
 use std::marker::Model;
@@ -50,20 +51,79 @@ fn better(best: Option<Candidate>, condition: usize, cost: Option<u128>) -> Opti
     }
 }
 
-// The condition to use next.
-fn best(shapes: &[Shape], sizes: Sizes, used: &[bool], bound: &[bool]) -> Option<Candidate>
+// Whether nothing can cost less.
+fn costs_nothing(best: Option<Candidate>) -> bool
+    ensures { IsTrue result ↔ CostsNothing best }
+{
+    match best {
+        Some(best) => best.cost == 0,
+        None => false,
+    }
+}
+
+// The best of the conditions from `from` on. The first of them that costs nothing ends the look.
+fn best_from(
+    shapes: &[Shape],
+    sizes: Sizes,
+    used: &[bool],
+    bound: &[bool],
+    from: usize,
+) -> Option<Candidate>
     requires as_long { length used.now ≡ length shapes.now }
     requires in_range { ShapesInRange (length bound.now) shapes.now }
+    ensures { MatchOption result
+        ((i cost : ℕ) → from ≤ i → CanUse sizes shapes.now used.now bound.now i cost → ⊥)
+        (λ c. IsBestFrom sizes shapes.now used.now bound.now from c.condition c.cost) }
+{
+    let mut best = None;
+    for i in from..shapes.len() {
+        let cost = open_cost(&shapes[i], used[i], sizes, bound);
+        best = better(best, i, cost);
+        if costs_nothing(best) {
+            return best;
+        }
+    }
+    best
+}
+
+// The condition to use next, where none before `from` costs nothing.
+fn best(
+    shapes: &[Shape],
+    sizes: Sizes,
+    used: &[bool],
+    bound: &[bool],
+    from: usize,
+) -> Option<Candidate>
+    requires as_long { length used.now ≡ length shapes.now }
+    requires in_range { ShapesInRange (length bound.now) shapes.now }
+    requires costly_before { AreCostlyBefore sizes shapes.now used.now bound.now from }
     ensures { MatchOption result
         ((i cost : ℕ) → CanUse sizes shapes.now used.now bound.now i cost → ⊥)
         (λ c. IsBest sizes shapes.now used.now bound.now c.condition c.cost) }
 {
-    let mut best = None;
-    for i in 0..shapes.len() {
-        let cost = open_cost(&shapes[i], used[i], sizes, bound);
-        best = better(best, i, cost);
+    let next = best_from(shapes, sizes, used, bound, from);
+    if from == 0 {
+        return next;
     }
-    best
+    if costs_nothing(next) {
+        return next;
+    }
+    best_from(shapes, sizes, used, bound, 0)
+}
+
+// Where the next look for a condition that costs nothing begins, once this one is used: behind it, where it binds
+// nothing new, since costs stay as they are then.
+fn look_from(shapes: &[Shape], condition: usize, bound: &[bool]) -> usize
+    requires in_range { ShapesInRange (length bound.now) shapes.now }
+    requires within { condition < length shapes.now }
+    requires few_conditions { length shapes.now < 2 ^ 32 }
+    ensures { LooksFrom shapes.now condition bound.now result }
+{
+    if are_bound(&shapes[condition], bound) {
+        condition + 1
+    } else {
+        0
+    }
 }
 
 fn first_free(bound: &[bool]) -> Option<usize>
@@ -134,31 +194,39 @@ fn take_domain(arcs: &[bool], sizes: Sizes, bound: &mut Vec<bool>) -> Option<Pla
     })
 }
 
-// Takes the next step of the plan, or none where all conditions are used and all variables bound.
+// Takes the next step of the plan, or none where all conditions are used and all variables bound. No condition before
+// `from` costs nothing.
 fn advance(
     shapes: &[Shape],
     arcs: &[bool],
     sizes: Sizes,
     used: &mut Vec<bool>,
     bound: &mut Vec<bool>,
+    from: &mut usize,
 ) -> Option<PlanStep>
     requires in_range { ShapesInRange (length bound.old.items) shapes.now }
     requires as_long { length used.old.items ≡ length shapes.now }
     requires one_each { length arcs.now ≡ length bound.old.items }
     requires few_conditions { length shapes.now < 2 ^ 32 }
     requires few_variables { length bound.old.items < 2 ^ 32 }
+    requires costly_before { AreCostlyBefore sizes shapes.now used.old.items bound.old.items
+        from.old }
+    ensures costly_before { AreCostlyBefore sizes shapes.now used.new.items bound.new.items
+        from.new }
     ensures lengths { (length used.new.items ≡ length used.old.items)
         × (length bound.new.items ≡ length bound.old.items) }
     ensures step { IsNext sizes arcs.now shapes.now used.old.items bound.old.items result
         used.new.items bound.new.items }
 {
-    if let Some(next) = best(shapes, sizes, used.as_slice(), bound.as_slice()) {
+    if let Some(next) = best(shapes, sizes, used.as_slice(), bound.as_slice(), *from) {
+        *from = look_from(shapes, next.condition, bound.as_slice());
         use_condition(shapes, next.condition, used, bound);
         return Some(PlanStep::Use {
             condition: next.condition as u32,
             cost: next.cost,
         });
     }
+    *from = 0;
     take_domain(arcs, sizes, bound)
 }
 
@@ -216,7 +284,8 @@ pub(crate) fn make_plan(
     let mut used = none_used(alloc, shapes.len())?;
     let mut bound = bound.to_vec(alloc)?;
     let mut steps = Vec::new(alloc);
-    while let Some(step) = advance(shapes, arcs, sizes, &mut used, &mut bound) {
+    let mut from = 0;
+    while let Some(step) = advance(shapes, arcs, sizes, &mut used, &mut bound, &mut from) {
         steps.push(step)?;
     }
     Ok(StepList { steps })
@@ -242,7 +311,7 @@ pub fn plan(
         (length chain.now.variables)) }
 {
     let shapes = shapes_of_chain(alloc, counts, chain)?;
-    let arcs = arcs_from(alloc, chain.variables())?;
+    let arcs = arcs_of_variables(alloc, chain.variables())?;
     let steps = make_plan(
         alloc,
         shapes.as_slice(),

@@ -1,5 +1,5 @@
 -- The rows of a chain: values for its variables under which all its conditions hold.
-use Rattle.std.specs.Prelude.{◌≡◌, List, [], ◌∷◌, All, ⊤, if◌then◌else◌, Option, Some, None}
+use Rattle.std.specs.Prelude.{◌≡◌, ℕ, Bool, List, [], ◌∷◌, length, map, slice_get, All, ⊤, if◌then◌else◌, Option, Some, None}
 use Rattle.std.specs.Bool.{MatchBool}
 use Rattle.std.specs.List.{AllZip}
 use Rattle.std.specs.declared.cmp.Ordering.{Ordering}
@@ -22,6 +22,15 @@ value_in [] row x = None
 value_in (v ∷ variables) [] x = None
 value_in (v ∷ variables) (a ∷ row) x =
     if same_name v.name x then Some a else value_in variables row x
+
+-- which variables stand for labels
+abbrev pub arcs_of : List Variable → List Bool
+arcs_of variables = map (λ v. v.arc) variables
+
+-- the value of the name in a row is that of the variable of that number
+pub record IsNumberOf (variables : List Variable) (name : Name) (i : ℕ) : Type 0 where
+  pub same : (row : List Value) → length row ≡ length variables
+      → value_in variables row name ≡ slice_get row i
 
 -- a node variable is one of the graph's values, and an arc variable one of its labels
 abbrev pub IsInDomain : DataGraph → Variable → Value → Type 0

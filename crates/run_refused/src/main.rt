@@ -1,14 +1,16 @@
 //! Web pages from data, a query and templates.
 #![tactic(auto)]
 
-use command_run::strudel;
+use command_run::{strudel, wire_waits};
 use edge_io::{RealFiles, RealOut};
 use run_report::{Status, report};
-use sd_value::Str;
+use sd_value::{NoMemory, Str};
+use std::net::Net;
 use std::process::ExitCode;
 use std::rt::Env;
-use std::{env, io};
-use tcp_wire::TcpWire;
+use std::time::Clock;
+use std::{env, io, process};
+use tcp_wire::{TcpWire, Waits};
 
 // The words after the program's name. A word that isn't text fails them all.
 fn given_words<R: Env + AllocGlobal>(rt: &R) -> io::Result<Vec<Str>> {
@@ -22,14 +24,31 @@ fn given_words<R: Env + AllocGlobal>(rt: &R) -> io::Result<Vec<Str>> {
     Ok(words)
 }
 
+// A wire over the system's sockets that waits as the words say.
+fn given_wire<'r, R: Net + Clock + AllocGlobal>(
+    rt: &'r R,
+    words: &[Str],
+) -> Result<TcpWire<'r, R>, NoMemory> {
+    let waits = wire_waits(rt.alloc(), words)?;
+    Ok(TcpWire::new(
+        rt,
+        Waits {
+            idle: waits.idle,
+            stall: waits.stall,
+        },
+    ))
+}
+
 fn main(rt: HostRuntime) -> ExitCode {
     let alloc = rt.alloc();
-    let mut files = RealFiles::new(&rt);
+    let mut files = RealFiles::new(&rt, process::id(rt.process()));
     let mut out = RealOut::new(rt.stdout());
     let mut err = RealOut::new(rt.stderr());
-    let mut wire = TcpWire::new(&rt);
     let status = match given_words(&rt) {
-        Ok(words) => strudel(alloc, &words, &mut files, &mut out, &mut err, &mut wire),
+        Ok(words) => match given_wire(&rt, &words) {
+            Ok(mut wire) => strudel(alloc, &words, &mut files, &mut out, &mut err, &mut wire),
+            Err(NoMemory) => report(alloc, Status::NoMemory, &mut err),
+        },
         Err(error) if error.kind() == io::ErrorKind::OutOfMemory => {
             report(alloc, Status::NoMemory, &mut err)
         }

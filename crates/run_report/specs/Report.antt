@@ -23,7 +23,7 @@ code NoMemory = 8
 code NotFound = 9
 code TurnsSpent = 10
 
--- the names of refusals of CSV and JSON, of graphs, and of tokens and data text
+-- the names of refusals of CSV, JSON and BibTeX, of graphs, and of tokens and data text
 abbrev pub source_refusal_name : ℕ → List ℕ
 source_refusal_name number =
     if number == 11 then codes "TooManyEdges"
@@ -40,6 +40,9 @@ source_refusal_name number =
     else if number == 44 then codes "NotJson"
     else if number == 45 then codes "NotInteger"
     else if number == 46 then codes "NotRecords"
+    else if number == 121 then codes "Expected"
+    else if number == 122 then codes "UnknownMacro"
+    else if number == 123 then codes "TooDeep"
     else []
 
 -- those of queries, templates and scripts

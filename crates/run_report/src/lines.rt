@@ -31,6 +31,9 @@ fn source_refusal_name(number: u32) -> &'static [u8]
         44 => b"NotJson",
         45 => b"NotInteger",
         46 => b"NotRecords",
+        121 => b"Expected",
+        122 => b"UnknownMacro",
+        123 => b"TooDeep",
         _ => b"",
     }
 }

@@ -15,7 +15,7 @@ use token_reader::{Halt, has_word, place_of, quoted_at, word_at};
 use wire::WireEvent;
 
 /// The number of a connection at the front.
-fn connection_at(tokens: &[Token]) -> Result<(u64, &[Token]), Halt>
+fn connection_at(tokens: &[Token]) -> Result<(u64, &[Token]), Halt<Token>>
     ensures { Gives (λ x. x.0) (λ x. x.1.now) result (read_connection tokens.now) }
 {
     if let [first, rest @ ..] = tokens {
@@ -29,7 +29,7 @@ fn connection_at(tokens: &[Token]) -> Result<(u64, &[Token]), Halt>
 }
 
 #[tactic(auto, unfolding(crate::specs::Reading::read_opening))]
-fn opening_at(tokens: &[Token]) -> Result<(WireEvent, &[Token]), Halt>
+fn opening_at(tokens: &[Token]) -> Result<(WireEvent, &[Token]), Halt<Token>>
     ensures { Gives (λ x. x.0) (λ x. x.1.now) result (read_opening tokens.now) }
 {
     let (_, rest) = word_at(tokens, b"open")?;
@@ -38,7 +38,7 @@ fn opening_at(tokens: &[Token]) -> Result<(WireEvent, &[Token]), Halt>
 }
 
 #[tactic(auto, unfolding(crate::specs::Reading::read_piece))]
-fn piece_at(alloc: Global, tokens: &[Token]) -> Result<(WireEvent, &[Token]), Halt>
+fn piece_at(alloc: Global, tokens: &[Token]) -> Result<(WireEvent, &[Token]), Halt<Token>>
     ensures { Gives (λ x. x.0) (λ x. x.1.now) result (read_piece tokens.now) }
 {
     let (_, rest) = word_at(tokens, b"bytes")?;
@@ -48,7 +48,7 @@ fn piece_at(alloc: Global, tokens: &[Token]) -> Result<(WireEvent, &[Token]), Ha
 }
 
 #[tactic(auto, unfolding(crate::specs::Reading::read_ending))]
-fn ending_at(tokens: &[Token]) -> Result<(WireEvent, &[Token]), Halt>
+fn ending_at(tokens: &[Token]) -> Result<(WireEvent, &[Token]), Halt<Token>>
     ensures { Gives (λ x. x.0) (λ x. x.1.now) result (read_ending tokens.now) }
 {
     let (_, rest) = word_at(tokens, b"end")?;
@@ -57,7 +57,7 @@ fn ending_at(tokens: &[Token]) -> Result<(WireEvent, &[Token]), Halt>
 }
 
 #[tactic(auto, unfolding(crate::specs::Reading::read_loss))]
-fn loss_at(tokens: &[Token]) -> Result<(WireEvent, &[Token]), Halt>
+fn loss_at(tokens: &[Token]) -> Result<(WireEvent, &[Token]), Halt<Token>>
     ensures { Gives (λ x. x.0) (λ x. x.1.now) result (read_loss tokens.now) }
 {
     let (_, rest) = word_at(tokens, b"lost")?;
@@ -66,7 +66,7 @@ fn loss_at(tokens: &[Token]) -> Result<(WireEvent, &[Token]), Halt>
 }
 
 #[tactic(auto, unfolding(crate::specs::Reading::read_phrase))]
-fn phrase_at(alloc: Global, tokens: &[Token]) -> Result<(WireEvent, &[Token]), Halt>
+fn phrase_at(alloc: Global, tokens: &[Token]) -> Result<(WireEvent, &[Token]), Halt<Token>>
     ensures { Gives (λ x. x.0) (λ x. x.1.now) result (read_phrase tokens.now) }
 {
     if has_word(tokens, b"open") {
@@ -90,7 +90,7 @@ fn has_phrase(tokens: &[Token]) -> bool
         || has_word(tokens, b"lost")
 }
 
-fn phrases_at(alloc: Global, tokens: &[Token]) -> Result<(Vec<WireEvent>, &[Token]), Halt>
+fn phrases_at(alloc: Global, tokens: &[Token]) -> Result<(Vec<WireEvent>, &[Token]), Halt<Token>>
     ensures { Gives (λ x. x.0.items) (λ x. x.1.now) result
         (repeat begins_phrase read_phrase tokens.now) }
 {
@@ -105,7 +105,7 @@ fn phrases_at(alloc: Global, tokens: &[Token]) -> Result<(Vec<WireEvent>, &[Toke
 }
 
 #[tactic(auto, unfolding(crate::specs::Reading::read_phrases))]
-fn script_at(alloc: Global, tokens: &[Token]) -> Result<Vec<WireEvent>, Halt>
+fn script_at(alloc: Global, tokens: &[Token]) -> Result<Vec<WireEvent>, Halt<Token>>
     ensures { Gives (λ x. x.items) (λ _. []) result (read_phrases tokens.now) }
 {
     let (phrases, rest) = phrases_at(alloc, tokens)?;

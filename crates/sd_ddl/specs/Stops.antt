@@ -25,7 +25,8 @@ IsFirst parts None =
     (steps parts ≡ all_said (kinds_told parts) parts) × NoFails (all_said (kinds_told parts) parts)
 IsFirst parts (Some c) =
     (c.count ≤ length parts) × NoFails (all_said (kinds_told parts) (take c.count parts))
-    × ((rest : List (Step ℕ ℕ)) × (steps parts ≡ all_said (kinds_told parts) (take c.count parts) ++ (fails c.place ∷ rest)))
+    × ((rest : List (Step ℕ ℕ))
+    × (steps parts ≡ all_said (kinds_told parts) (take c.count parts) ++ (fails c.place ∷ rest)))
 
 abbrev pub stop_ending : Result ⊤ Stop → Ending ℕ ℕ
 stop_ending (Ok u) = done

@@ -1,10 +1,12 @@
--- What a text states of a data graph, and the graph with it.
+-- A graph that is being built: what is stated of it, one statement after another, and when there is no room.
 use Rattle.std.specs.Prelude.{◌≡◌, ◌<◌, ◌≤◌, ◌+◌, ℕ, List, [], length, Contains, Result, Ok, Err, Option, Some, None, ⊤}
 use Rattle.std.specs.BTreeSet.{insert_key}
 use Rattle.sd_value.specs.declared.Datum.TheVariants.{Node}
 use Rattle.sd_value.specs.declared.Value.{Value}
 use Rattle.sd_value.specs.declared.Value.TheVariants.{Data, Page}
 use Rattle.sd_value.specs.Order.{bytes_cmp}
+pub use Rattle.graph_spec.specs.Statement.{Statement, a_node, a_member, an_edge}
+pub use Rattle.graph_spec.specs.Statement.{with_name, with_edge, with_member, with_end, graph_with}
 use Rattle.graph_spec.specs.DataGraph.{DataGraph, Name, IsWellFormed}
 use Rattle.graph_spec.specs.Orders.{edge_cmp, member_cmp}
 use Rattle.graph_spec.specs.declared.Edge.{Edge}
@@ -13,50 +15,10 @@ use Rattle.sd_graph.specs.declared.Limits.{Limits}
 use Rattle.sd_graph.specs.declared.GraphRefusal.{GraphRefusal}
 use Rattle.sd_graph.specs.declared.GraphRefusal.TheVariants.{TooManyNodes, TooManyEdges, NoMemory}
 
-pub data Statement : Type 0 where
-  a_node : Name → Statement
-  a_member : Name → Name → Statement
-  an_edge : Name → Name → Value → Statement
-
 -- a graph that is being built, and how large it may become
 pub record Building : Type 0 where
   pub limits : Limits
   pub graph : DataGraph
-
--- `insert_key` is std's: the ascending list with one element more at its place, or the list itself where that is in it
-abbrev pub with_name : Name → List Name → List Name
-with_name n names = insert_key bytes_cmp names n
-
-abbrev pub with_edge : Edge → List Edge → List Edge
-with_edge e edges = insert_key edge_cmp edges e
-
-abbrev pub with_member : Member → List Member → List Member
-with_member m members = insert_key member_cmp members m
-
--- the names, with that of a value that is a node
-abbrev pub with_end : Value → List Name → List Name
-with_end (Data (Node n)) names = with_name n names
-with_end v names = names
-
--- the graph with what is stated. An edge and a member also state their nodes
-abbrev pub graph_with : Statement → DataGraph → DataGraph
-graph_with (a_node n) G = record {
-  nodes = with_name n G.nodes;
-  edges = G.edges;
-  members = G.members;
-}
-graph_with (a_member c n) G =
-    record {
-      nodes = with_name n G.nodes;
-      edges = G.edges;
-      members = with_member (record { collection = c; node = n }) G.members;
-    }
-graph_with (an_edge n l v) G =
-    record {
-      nodes = with_end v (with_name n G.nodes);
-      edges = with_edge (record { from = n; label = l; to = v }) G.edges;
-      members = G.members;
-    }
 
 abbrev pub building_with : Statement → Building → Building
 building_with s b = record { limits = b.limits; graph = graph_with s b.graph }

@@ -121,7 +121,8 @@ impl<K: Element> Gathered<K> {
     pub(crate) fn push(&mut self, key: K) -> Result<(), NoMemory>
         requires { IsInOrder K.cmp self.old }
         ensures { elements K.cmp self.new
-            ≡ (if is_ok result then insert_key K.cmp (elements K.cmp self.old) key else elements K.cmp self.old) }
+            ≡ (if is_ok result then insert_key K.cmp (elements K.cmp self.old) key
+            else elements K.cmp self.old) }
     {
         let at = place(self.fresh.as_slice(), &key);
         self.fresh.insert(at, key)?;

@@ -75,7 +75,8 @@ fn put_settled<K: Element, J: Element>(
     requires set { IsSettled set.old }
     requires others { IsSettled others.now }
     ensures keys { elements K.cmp set.new
-        ≡ (if is_ok result then insert_key K.cmp (elements K.cmp set.old) key else elements K.cmp set.old) }
+        ≡ (if is_ok result then insert_key K.cmp (elements K.cmp set.old) key
+        else elements K.cmp set.old) }
     ensures fits { Fits limits nodes
         (length (insert_key K.cmp (elements K.cmp set.old) key) + length
         (elements J.cmp others.now)) result }
@@ -95,7 +96,8 @@ pub(crate) fn put<K: Element, J: Element>(
 ) -> Result<(), GraphRefusal>
     ensures others { elements J.cmp others.new ≡ elements J.cmp others.old }
     ensures keys { elements K.cmp set.new
-        ≡ (if is_ok result then insert_key K.cmp (elements K.cmp set.old) key else elements K.cmp set.old) }
+        ≡ (if is_ok result then insert_key K.cmp (elements K.cmp set.old) key
+        else elements K.cmp set.old) }
     ensures fits { Fits limits nodes
         (length (insert_key K.cmp (elements K.cmp set.old) key) + length
         (elements J.cmp others.old)) result }

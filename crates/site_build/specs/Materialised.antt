@@ -38,7 +38,9 @@ IsPutUnder k s p = (k.collection ≡ p.collection) × IsTargetUnder s k.target p
 -- the terms have all that these CREATEs name under the rows
 abbrev pub HasCreated : List Variable → List (List Value) → List SkolemTerm → List Term → Type 0
 HasCreated variables rows creates terms =
-    (p : Term) → SomeOf (λ row. SomeOf (λ w. IsTermUnder (value_in variables row) (term_of w) p) creates) rows → Contains terms p
+    (p : Term)
+    → SomeOf (λ row. SomeOf (λ w. IsTermUnder (value_in variables row) (term_of w) p) creates) rows
+    → Contains terms p
 
 -- what the rows of one block add
 pub record BlockAdds (G : DataGraph) (b : QueryBlock) (old new : Made) : Type 0 where

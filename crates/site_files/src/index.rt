@@ -86,7 +86,8 @@ pub fn write_index<F: Files, P: Pages>(
         IndexEnds (P.site (P.fixed pages.old)) (P.templates (P.fixed pages.old))
         folder.now terms.now root.now old new result)) }
     ensures reads { F.failed_reads files.new ≡ F.failed_reads files.old }
-    ensures cause { WritesHaveCause (λ path. path ≡ index_file folder.now)
+    ensures cause { WritesHaveCause
+        (λ path. Contains terms.now (root_term root.now) × (path ≡ index_file folder.now))
         (F.failed_writes files.old) (F.failed_writes files.new) result }
 {
     let page = root_page(alloc, root)?;

@@ -34,7 +34,7 @@ pub fn write_site<F: Files, P: Pages>(
         SiteEnds (P.site (P.fixed pages.old)) (P.templates (P.fixed pages.old))
         folder.now terms.now (root_name root.entry) old new result)) }
     ensures reads { F.failed_reads files.new ≡ F.failed_reads files.old }
-    ensures cause { WritesHaveCause (IsSitePath folder.now terms.now)
+    ensures cause { WritesHaveCause (IsSitePath folder.now terms.now (root_name root.entry))
         (F.failed_writes files.old) (F.failed_writes files.new) result }
 {
     match write_pages(alloc, files, pages, folder, terms) {

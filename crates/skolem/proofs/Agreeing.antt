@@ -2,7 +2,7 @@
 use Rattle.std.proofs.Common.{◌≡◌, ℕ, zero, suc, ◌+◌, List, [], ◌∷◌, ◌++◌, length, length-append, arith, refl, ap, sym, ◌∙◌, subst}
 use Rattle.std.specs.Prelude.{Option, None, Some, Bool, true, false, slice_get, set}
 use Rattle.sd_value.specs.declared.Value.{Value}
-use Rattle.query_spec.specs.Rows.{Agrees}
+use Rattle.query_spec.specs.Rows.{Agrees, IsNumberOf}
 use Rattle.std.specs.Bool.{MatchBool}
 use Rattle.std.specs.Ordering.{eq_by_cmp, is_eq}
 use Rattle.std.specs.declared.cmp.Ordering.{Ordering}
@@ -16,7 +16,7 @@ use Rattle.sd_value.specs.declared.Value.TheVariants.{Data}
 use Rattle.graph_spec.specs.DataGraph.{Name}
 use Rattle.query_spec.specs.declared.Variable.{Variable}
 use Rattle.query_spec.specs.Query.{variable, constant}
-use Rattle.skolem.specs.Solved.{HasAt, Adds, Refutes, Gives, IsNumberOf, AllFree}
+use Rattle.skolem.specs.Solved.{HasAt, Adds, Refutes, Gives, AllFree}
 
 tie : (o : Ordering) → is_eq o ≡ true → o ≡ Equal
 tie Less e = cc

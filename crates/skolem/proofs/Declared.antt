@@ -9,8 +9,8 @@ use Rattle.sd_value.specs.Members.{Contains-here, Contains-there, Contains-mappe
 use Rattle.graph_spec.specs.DataGraph.{Name}
 use Rattle.query_spec.specs.declared.Variable.{Variable}
 use Rattle.query_spec.specs.Mentions.{same_name}
-use Rattle.query_spec.specs.Rows.{value_in}
-use Rattle.skolem.specs.Solved.{HasAt, HasName, Adds, Refutes, IsNumberOf}
+use Rattle.query_spec.specs.Rows.{value_in, IsNumberOf}
+use Rattle.skolem.specs.Solved.{HasAt, HasName, Adds, Refutes}
 use Rattle.query_spec.proofs.VariableNumbers.{names_equal}
 
 pub undeclared_more : (variables : List Variable) (name : Name) (i : ℕ) (x : Variable) → i < length variables → x ≡ get_or variables i x → (x.name ≡ name → ⊥)

@@ -9,11 +9,6 @@ use Rattle.sd_value.specs.declared.Datum.{Datum}
 use Rattle.sd_value.specs.declared.Value.TheVariants.{Data}
 use Rattle.query_spec.specs.Rows.{value_in, Agrees}
 
--- the value of the name in a row is that of the variable of that number
-pub record IsNumberOf (variables : List Variable) (name : Name) (i : ℕ) : Type 0 where
-  pub same : (row : List Value) → length row ≡ length variables
-      → value_in variables row name ≡ slice_get row i
-
 abbrev pub HasAt : ℕ → Value → List Value → Type 0
 HasAt i v row = slice_get row i ≡ Some v
 

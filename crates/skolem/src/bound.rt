@@ -2,8 +2,8 @@
 ghost use Rattle.std.specs.Prelude.{◌≡◌, ◌↔◌, length, map, Contains, IfOk, IsTrue, MatchOption};
 ghost use Rattle.skolem.specs.Solved.{Adds, Refutes, HasName};
 
-use crate::solve::{index_of, put};
-use query_spec::{Bound, Variable};
+use crate::solve::put;
+use query_spec::{Bound, Variable, index_of};
 use sd_value::{NoMemory, Str, Value};
 use std::alloc::Global;
 

@@ -5,26 +5,12 @@ ghost use Rattle.query_spec.specs.Mentions.{IsDeclared};
 ghost use Rattle.query_spec.specs.Rows.{Agrees};
 ghost use Rattle.struql_ast.specs.Reading.{operand_of, term_of};
 ghost use Rattle.site_spec.specs.Site.{IsTermUnder};
-ghost use Rattle.skolem.specs.Solved.{IsNumberOf, Adds, Refutes, Solves, HasNone, HasAt, Gives};
+ghost use Rattle.skolem.specs.Solved.{Adds, Refutes, Solves, HasNone, HasAt, Gives};
 
-use query_spec::{Bound, Variable};
-use sd_value::{Datum, NoMemory, Str, Term, Value, copy};
+use query_spec::{Bound, Variable, index_of};
+use sd_value::{Datum, NoMemory, Term, Value, copy};
 use std::alloc::Global;
 use struql_ast::{Chain, Operand, SkolemTerm};
-
-// The number of the variable with the name.
-pub(crate) fn index_of(variables: &[Variable], name: &Str) -> usize
-    requires { Contains (map (λ v. v.name) variables.now) name.now }
-    ensures within { result < length variables.now }
-    ensures number { IsNumberOf variables.now name.now result }
-{
-    for i in 0..variables.len() {
-        if variables[i].name == *name {
-            return i;
-        }
-    }
-    0
-}
 
 // Binds the variable of that number to the value; false where it is bound to another.
 pub(crate) fn put(values: &mut Vec<Option<Value>>, slot: usize, value: Value) -> bool
@@ -51,7 +37,9 @@ fn bind(
     requires one_each { length values.old.items ≡ length variables.now }
     ensures { IfOk result
         (λ b. MatchBool b
-        (Adds (Gives variables.now (operand_of operand.now) datum.now) values.old.items values.new.items) (Refutes (Gives variables.now (operand_of operand.now) datum.now) values.old.items)) }
+        (Adds (Gives variables.now (operand_of operand.now) datum.now)
+        values.old.items values.new.items)
+        (Refutes (Gives variables.now (operand_of operand.now) datum.now) values.old.items)) }
 {
     let value = Value::Data(datum.copy(alloc)?);
     match operand {

@@ -16,7 +16,8 @@ IsTold no_memory = ⊥
 abbrev HasNoRoom : {P F : Type 0} → Building → Building → P → Statement → Ending P F → Type 0
 HasNoRoom b c p s e =
     (b ≡ c) × (((e ≡ too_many_nodes p) × HasTooMany_nodes (building_with s b))
-    ⊎ ((e ≡ too_many_edges p) × (length (building_with s b).graph.nodes ≤ b.limits.nodes) × HasTooMany_edges (building_with s b)))
+    ⊎ ((e ≡ too_many_edges p) × (length (building_with s b).graph.nodes ≤ b.limits.nodes)
+    × HasTooMany_edges (building_with s b)))
 
 -- how the steps end, found from the front
 abbrev Comes : {P F : Type 0} → Building → List (Step P F) → Building → Ending P F → Type 0

@@ -7,6 +7,7 @@ ghost use Rattle.sd_value.specs.Order.{bytes_cmp, value_cmp};
 ghost use Rattle.graph_spec.specs.DataGraph.{DataGraph, IsWellFormed, HasEdge, IsValueOf, IsLabelOf};
 ghost use Rattle.graph_spec.specs.Orders.{edge_cmp, step_cmp};
 ghost use Rattle.graph_spec.specs.Steps.{IsStepFrom, IsStepTo, IsStart, IsLabelled, IsMemberValue, IsCountOf};
+ghost use Rattle.store.specs.First.{AreFirst};
 
 use graph_spec::{Edge, Step};
 use sd_value::{NoMemory, Str, Value};
@@ -100,4 +101,66 @@ pub trait Store {
     /// How many nodes the collection has.
     fn members_of(&self, collection: &Str) -> u64
         ensures { IsCountOf value_cmp (IsMemberValue (graph self.now) collection.now) result };
+
+    /// How many ends the edges from a value by a label have.
+    fn count_out(&self, from: &Value, label: &Str) -> u64
+        ensures { IsCountOf value_cmp (HasEdge (graph self.now) from.now label.now) result };
+
+    /// How many starts the edges to a value by a label have.
+    fn count_incoming(&self, to: &Value, label: &Str) -> u64
+        ensures { IsCountOf value_cmp (IsStart (graph self.now) to.now label.now) result };
+
+    /// How many edges there are from a value.
+    fn degree_out(&self, from: &Value) -> u64
+        ensures { IsCountOf step_cmp (IsStepFrom (graph self.now) from.now) result };
+
+    /// How many edges there are to a value.
+    fn degree_incoming(&self, to: &Value) -> u64
+        ensures { IsCountOf step_cmp (IsStepTo (graph self.now) to.now) result };
+
+    /// The first ends of the edges from a value by a label, at most `most`.
+    fn first_out(
+        &self,
+        alloc: Global,
+        from: &Value,
+        label: &Str,
+        most: usize,
+    ) -> Result<Vec<Value>, NoMemory>
+        ensures { IfOk result
+            (λ ends. AreFirst most value_cmp
+            (HasEdge (graph self.now) from.now label.now) ends.items) };
+
+    /// The first starts of the edges to a value by a label, at most `most`.
+    fn first_incoming(
+        &self,
+        alloc: Global,
+        to: &Value,
+        label: &Str,
+        most: usize,
+    ) -> Result<Vec<Value>, NoMemory>
+        ensures { IfOk result
+            (λ starts. AreFirst most value_cmp
+            (IsStart (graph self.now) to.now label.now) starts.items) };
+
+    /// The first edges of a label, by start and then end, at most `most`.
+    fn first_edges(&self, alloc: Global, label: &Str, most: usize) -> Result<Vec<Edge>, NoMemory>
+        ensures { IfOk result
+            (λ edges. AreFirst most edge_cmp
+            (IsLabelled (graph self.now) label.now) edges.items) };
+
+    /// The first nodes of a collection, at most `most`.
+    fn first_members(
+        &self,
+        alloc: Global,
+        collection: &Str,
+        most: usize,
+    ) -> Result<Vec<Value>, NoMemory>
+        ensures { IfOk result
+            (λ nodes. AreFirst most value_cmp
+            (IsMemberValue (graph self.now) collection.now) nodes.items) };
+
+    /// The first values that a node variable may be, at most `most`.
+    fn first_values(&self, alloc: Global, most: usize) -> Result<Vec<Value>, NoMemory>
+        ensures { IfOk result
+            (λ values. AreFirst most value_cmp (IsValueOf (graph self.now)) values.items) };
 }

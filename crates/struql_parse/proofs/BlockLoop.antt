@@ -58,12 +58,12 @@ module _ (depth : ℕ) where
   pub block_step : (s : Blocks) (ts : List Token) (p : Placed) (rest : List Token) → guard (has_room depth) (read_block (read_below depth)) ts ≡ Read p rest → step s ts ≡ Read (onto_end s p.body p.span) rest
   block_step s ts p rest was = step_is (has_room depth) s ts ∙ ap (λ (o : Outcome Token Placed). and_then o (λ p rest. Read (onto_end s p.body p.span) rest)) was
 
-  step_fails : (e : Halt) (s : Blocks) (ts : List Token) → Fails e (guard (has_room depth) (read_block (read_below depth)) ts) → Fails e (step s ts)
+  step_fails : (e : Halt Token) (s : Blocks) (ts : List Token) → Fails e (guard (has_room depth) (read_block (read_below depth)) ts) → Fails e (step s ts)
   step_fails NoMemory s ts was = tt
   step_fails (Expected rest) s ts was = step_is (has_room depth) s ts ∙ ap (λ (o : Outcome Token Placed). and_then o (λ p rest. Read (onto_end s p.body p.span) rest)) was
   step_fails (TooDeep rest) s ts was = step_is (has_room depth) s ts ∙ ap (λ (o : Outcome Token Placed). and_then o (λ p rest. Read (onto_end s p.body p.span) rest)) was
 
-  pub blocks_end : (e : Halt) (s : Blocks) (ts : List Token) (total : Outcome Token Blocks) → starts (is_sign signs.OpenBrace) ts ≡ true → Fails e (guard (has_room depth) (read_block (read_below depth)) ts)
+  pub blocks_end : (e : Halt Token) (s : Blocks) (ts : List Token) (total : Outcome Token Blocks) → starts (is_sign signs.OpenBrace) ts ≡ true → Fails e (guard (has_room depth) (read_block (read_below depth)) ts)
       → read_blocks (has_room depth) (read_below depth) s ts ≡ total → Fails e total
   blocks_end e s ts total is was so_far = ends (is_sign signs.OpenBrace) step (braces_shrinks depth) e s ts total is (step_fails e s ts was) so_far
 

@@ -4,3 +4,4 @@ pub mod Found
 pub mod Stated
 pub mod Refused
 pub mod Text
+pub mod Keeping

@@ -3,6 +3,8 @@
 
 mod clauses;
 mod entry;
+mod items;
+mod listed;
 mod query;
 mod refusal;
 

@@ -10,7 +10,8 @@ ghost use Rattle.struql_parse.specs.Found.{body_found, placed_found, groups_foun
 ghost use Rattle.struql_parse.specs.Reading.{read_top_braces, read_item_step, begins_item, read_version, read_head, read_query};
 ghost use Rattle.struql_parse.specs.Stated.{States, IsOnly};
 
-use crate::clauses::{Inner, braces_at, collects_at, conditions_at, links_at, terms_at};
+use crate::clauses::{Inner, braces_at};
+use crate::listed::list_at;
 use crate::refusal::TokenRefusal;
 use sd_lex::{Sign, Span, Token, TokenKind};
 use sd_value::NoMemory;
@@ -125,49 +126,19 @@ fn no_clauses(alloc: Global) -> Inner
     }
 }
 
-fn with_item(inner: Inner, item: Item) -> Inner
+fn with_item(mut inner: Inner, item: Item) -> Inner
     ensures { body_found result ≡ record {
       clauses = plain_with_item (body_found inner).clauses (item_found item);
       blocks = (body_found inner).blocks;
     } }
 {
-    let Inner {
-        conditions,
-        creates,
-        links,
-        collects,
-        blocks,
-    } = inner;
     match item {
-        Item::Conditions(conditions) => Inner {
-            conditions,
-            creates,
-            links,
-            collects,
-            blocks,
-        },
-        Item::Creates(creates) => Inner {
-            conditions,
-            creates,
-            links,
-            collects,
-            blocks,
-        },
-        Item::Links(links) => Inner {
-            conditions,
-            creates,
-            links,
-            collects,
-            blocks,
-        },
-        Item::Collects(collects) => Inner {
-            conditions,
-            creates,
-            links,
-            collects,
-            blocks,
-        },
+        Item::Conditions(conditions) => inner.conditions = conditions,
+        Item::Creates(creates) => inner.creates = creates,
+        Item::Links(links) => inner.links = links,
+        Item::Collects(collects) => inner.collects = collects,
     }
+    inner
 }
 
 fn stage_of(item: &Item) -> u32
@@ -281,7 +252,11 @@ fn join(alloc: Global, groups: Groups, place: Span, item: Item) -> Result<Groups
 
 /// A block in braces at the top.
 #[tactic(auto, using(crate::proofs::BlockLoop::body_by_room), unfolding(crate::specs::Reading::read_top_braces))]
-fn top_block_at(alloc: Global, groups: Groups, tokens: &[Token]) -> Result<(Groups, &[Token]), Halt>
+fn top_block_at(
+    alloc: Global,
+    groups: Groups,
+    tokens: &[Token],
+) -> Result<(Groups, &[Token]), Halt<Token>>
     ensures { Gives (λ x. groups_found x.0) (λ x. x.1.now) result
         (read_top_braces (groups_found groups) tokens.now) }
 {
@@ -293,28 +268,32 @@ fn top_block_at(alloc: Global, groups: Groups, tokens: &[Token]) -> Result<(Grou
 
 /// A clause or a block in braces.
 #[tactic(auto, unfolding(crate::specs::Reading::read_item_step, crate::specs::Reading::read_item))]
-fn item_at(alloc: Global, groups: Groups, tokens: &[Token]) -> Result<(Groups, &[Token]), Halt>
+fn item_at(
+    alloc: Global,
+    groups: Groups,
+    tokens: &[Token],
+) -> Result<(Groups, &[Token]), Halt<Token>>
     ensures { Gives (λ x. groups_found x.0) (λ x. x.1.now) result
         (read_item_step (groups_found groups) tokens.now) }
 {
     if has_keyword(tokens, Keyword::Where) {
         let (place, rest) = keyword_at(tokens, Keyword::Where)?;
-        let (items, rest) = conditions_at(alloc, rest)?;
+        let (items, rest) = list_at(alloc, rest)?;
         let groups = join(alloc, groups, place, Item::Conditions(items))?;
         Ok((groups, rest))
     } else if has_keyword(tokens, Keyword::Create) {
         let (place, rest) = keyword_at(tokens, Keyword::Create)?;
-        let (items, rest) = terms_at(alloc, rest)?;
+        let (items, rest) = list_at(alloc, rest)?;
         let groups = join(alloc, groups, place, Item::Creates(items))?;
         Ok((groups, rest))
     } else if has_keyword(tokens, Keyword::Link) {
         let (place, rest) = keyword_at(tokens, Keyword::Link)?;
-        let (items, rest) = links_at(alloc, rest)?;
+        let (items, rest) = list_at(alloc, rest)?;
         let groups = join(alloc, groups, place, Item::Links(items))?;
         Ok((groups, rest))
     } else if has_keyword(tokens, Keyword::Collect) {
         let (place, rest) = keyword_at(tokens, Keyword::Collect)?;
-        let (items, rest) = collects_at(alloc, rest)?;
+        let (items, rest) = list_at(alloc, rest)?;
         let groups = join(alloc, groups, place, Item::Collects(items))?;
         Ok((groups, rest))
     } else {
@@ -333,7 +312,7 @@ fn has_item(tokens: &[Token]) -> bool
 }
 
 /// The items between INPUT and OUTPUT.
-fn items_at(alloc: Global, tokens: &[Token]) -> Result<(Groups, &[Token]), Halt>
+fn items_at(alloc: Global, tokens: &[Token]) -> Result<(Groups, &[Token]), Halt<Token>>
     ensures { Gives (λ x. groups_found x.0) (λ x. x.1.now) result
         (iterate begins_item read_item_step no_groups tokens.now) }
 {
@@ -396,7 +375,7 @@ fn has_other_version(tokens: &[Token]) -> bool
 
 /// The number of a version.
 #[tactic(auto, unfolding(crate::specs::Reading::read_version))]
-fn version_at(tokens: &[Token]) -> Result<(u8, &[Token]), Halt>
+fn version_at(tokens: &[Token]) -> Result<(u8, &[Token]), Halt<Token>>
     ensures { Gives (λ x. x.0) (λ x. x.1.now) result (read_version tokens.now) }
 {
     let [first, rest @ ..] = tokens else {
@@ -416,7 +395,7 @@ fn version_at(tokens: &[Token]) -> Result<(u8, &[Token]), Halt>
 
 /// The version that a query begins with, or 1.
 #[tactic(auto, unfolding(crate::specs::Reading::read_head))]
-fn head_at(tokens: &[Token]) -> Result<(u8, &[Token]), Halt>
+fn head_at(tokens: &[Token]) -> Result<(u8, &[Token]), Halt<Token>>
     ensures { Gives (λ x. x.0) (λ x. x.1.now) result (read_head tokens.now) }
 {
     match tokens {
@@ -426,7 +405,7 @@ fn head_at(tokens: &[Token]) -> Result<(u8, &[Token]), Halt>
 }
 
 #[tactic(auto, unfolding(crate::specs::Reading::read_query))]
-fn whole_at(alloc: Global, tokens: &[Token]) -> Result<Query, Halt>
+fn whole_at(alloc: Global, tokens: &[Token]) -> Result<Query, Halt<Token>>
     ensures { Gives (λ x. query_written x) (λ _. []) result (read_query tokens.now) }
 {
     let (version, rest) = head_at(tokens)?;

@@ -18,4 +18,6 @@ clauses_text b =
 -- the text of a block, with braces
 abbrev pub block_text : Block → List ℕ
 block_text b =
-    codes "{" ++ (clauses_text b ++ (flat_map (λ text. codes " " ++ text) (block_texts (blocks_of (out-Block b).blocks.items)) ++ codes " }"))
+    codes "{" ++ (clauses_text b
+    ++ (flat_map (λ text. codes " " ++ text)
+    (block_texts (blocks_of (out-Block b).blocks.items)) ++ codes " }"))

@@ -158,10 +158,14 @@ body_text b =
 abbrev pub block_texts : Blocks → List (List ℕ)
 block_texts no_blocks = []
 block_texts (block b inner after) =
-    (codes "{" ++ (body_text b ++ (flat_map (λ text. codes " " ++ text) (block_texts inner) ++ codes " }"))) ∷ block_texts after
+    (codes "{" ++ (body_text b
+    ++ (flat_map (λ text. codes " " ++ text) (block_texts inner) ++ codes " }")))
+    ∷ block_texts after
 
 -- a line for the version where it is the second, one for the input, one for each block, and one for the output
 abbrev pub query_text : Query → List ℕ
 query_text q =
     (if nat_eq q.version 2 then codes "STRUQL 2\n" else [])
-    ++ (codes "INPUT " ++ (q.input ++ (codes "\n" ++ (flat_map (λ text. text ++ codes "\n") (block_texts q.blocks) ++ (codes "OUTPUT " ++ (q.output ++ codes "\n"))))))
+    ++ (codes "INPUT " ++ (q.input ++ (codes "\n"
+    ++ (flat_map (λ text. text ++ codes "\n") (block_texts q.blocks)
+    ++ (codes "OUTPUT " ++ (q.output ++ codes "\n"))))))

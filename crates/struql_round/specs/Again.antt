@@ -24,4 +24,5 @@ QueryIsReadAgain limit q =
 abbrev pub ParsedIsReadAgain : ℕ → List ℕ → List Token → tree.Query → Type 0
 ParsedIsReadAgain limit bytes tokens w =
     IsTextOrFault limit bytes (Ok tokens) → query_within tokens w → IsSpellable (query_kept w)
-    × (length (query_text (query_kept w)) ≤ limit → SpellsQuery limit (query_text (query_kept w)) (query_kept w))
+    × (length (query_text (query_kept w)) ≤ limit
+    → SpellsQuery limit (query_text (query_kept w)) (query_kept w))

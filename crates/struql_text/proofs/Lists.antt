@@ -32,12 +32,12 @@ module _ {A : Type 0} {p : List Token → Outcome Token A} (keeps : Keeps p) whe
   pub list_step : (items : List A) (ts : List Token) (item : A) (rest : List Token) → read_next p ts ≡ Read item rest → read_further p items ts ≡ Read (items ++ item ∷ []) rest
   list_step items ts item rest was = step_is items ts ∙ ap (λ o. and_then o (λ item rest. Read (items ++ item ∷ []) rest)) was
 
-  step_fails : (e : Halt) (items : List A) (ts : List Token) → Fails e (read_next p ts) → Fails e (read_further p items ts)
+  step_fails : (e : Halt Token) (items : List A) (ts : List Token) → Fails e (read_next p ts) → Fails e (read_further p items ts)
   step_fails NoMemory items ts was = tt
   step_fails (Expected rest) items ts was = step_is items ts ∙ ap (λ o. and_then o (λ item rest. Read (items ++ item ∷ []) rest)) was
   step_fails (TooDeep rest) items ts was = step_is items ts ∙ ap (λ o. and_then o (λ item rest. Read (items ++ item ∷ []) rest)) was
 
-  pub list_ends : (e : Halt) (items : List A) (ts : List Token) (total : Outcome Token (List A)) → starts (is_sign signs.Comma) ts ≡ true → Fails e (read_next p ts)
+  pub list_ends : (e : Halt Token) (items : List A) (ts : List Token) (total : Outcome Token (List A)) → starts (is_sign signs.Comma) ts ≡ true → Fails e (read_next p ts)
       → iterate (is_sign signs.Comma) (read_further p) items ts ≡ total → Fails e total
   list_ends e items ts total is was so_far = ends (is_sign signs.Comma) (read_further p) list_shrinks e items ts total is (step_fails e items ts was) so_far
 

@@ -17,7 +17,7 @@ use Rattle.struql_text.proofs.Shorter.{Takes, takes_keeps, give_keeps, past_take
 
 -- a loop that ends by an error
 pub ends : {S : Type 0} (first : Token → Bool) (step : S → List Token → Outcome Token S) → ((state : S) (ts : List Token) (next : S) (rest : List Token) → starts first ts ≡ true → step state ts ≡ Read next rest → length rest < length ts)
-    → (e : Halt) (state : S) (tokens : List Token) (total : Outcome Token S) → starts first tokens ≡ true → Fails e (step state tokens) → iterate first step state tokens ≡ total → Fails e total
+    → (e : Halt Token) (state : S) (tokens : List Token) (total : Outcome Token S) → starts first tokens ≡ true → Fails e (step state tokens) → iterate first step state tokens ≡ total → Fails e total
 ends first step shrinks NoMemory state tokens total is was so_far = tt
 ends first step shrinks (Expected rest) state tokens total is was so_far = is_stuck first step shrinks state tokens rest.now total is was so_far
 ends first step shrinks (TooDeep rest) state tokens total is was so_far = is_past first step shrinks state tokens rest.now total is was so_far
@@ -77,7 +77,7 @@ atom_takes (suc depth) n =
 pub star_shrinks : (state : Counted) (ts : List Token) (next : Counted) (rest : List Token) → starts (is_sign signs.Star) ts ≡ true → guard (bounded.star state.tree) (read_star_step state) ts ≡ Read next rest → length rest < length ts
 star_shrinks state ts next rest is was = guard_takes (bounded.star state.tree) (read_star_step state) (star_takes state) ts next rest was
 
-pub star_ends : (e : Halt) (state : Counted) (tokens : List Token) (total : Outcome Token Counted) → starts (is_sign signs.Star) tokens ≡ true → Fails e (guard (bounded.star state.tree) (read_star_step state) tokens)
+pub star_ends : (e : Halt Token) (state : Counted) (tokens : List Token) (total : Outcome Token Counted) → starts (is_sign signs.Star) tokens ≡ true → Fails e (guard (bounded.star state.tree) (read_star_step state) tokens)
     → iterate (is_sign signs.Star) (λ e. guard (bounded.star e.tree) (read_star_step e)) state tokens ≡ total → Fails e total
 star_ends = ends (is_sign signs.Star) (λ e. guard (bounded.star e.tree) (read_star_step e)) star_shrinks
 
@@ -85,14 +85,14 @@ module _ (depth : ℕ) where
   pub dot_shrinks : (state : Counted) (ts : List Token) (next : Counted) (rest : List Token) → starts (is_sign signs.Dot) ts ≡ true → guard (bounded.sign state.signs) (read_dot_step (read_atom depth) state) ts ≡ Read next rest → length rest < length ts
   dot_shrinks state ts next rest is was = guard_takes (bounded.sign state.signs) (read_dot_step (read_atom depth) state) (dot_takes (read_atom depth) (atom_takes depth) state) ts next rest was
 
-  pub dot_ends : (e : Halt) (state : Counted) (tokens : List Token) (total : Outcome Token Counted) → starts (is_sign signs.Dot) tokens ≡ true → Fails e (guard (bounded.sign state.signs) (read_dot_step (read_atom depth) state) tokens)
+  pub dot_ends : (e : Halt Token) (state : Counted) (tokens : List Token) (total : Outcome Token Counted) → starts (is_sign signs.Dot) tokens ≡ true → Fails e (guard (bounded.sign state.signs) (read_dot_step (read_atom depth) state) tokens)
       → iterate (is_sign signs.Dot) (λ e. guard (bounded.sign e.signs) (read_dot_step (read_atom depth) e)) state tokens ≡ total → Fails e total
   dot_ends = ends (is_sign signs.Dot) (λ e. guard (bounded.sign e.signs) (read_dot_step (read_atom depth) e)) dot_shrinks
 
   pub bar_shrinks : (state : Counted) (ts : List Token) (next : Counted) (rest : List Token) → starts (is_sign signs.Bar) ts ≡ true → guard (bounded.sign state.signs) (read_bar_step (read_atom depth) state) ts ≡ Read next rest → length rest < length ts
   bar_shrinks state ts next rest is was = guard_takes (bounded.sign state.signs) (read_bar_step (read_atom depth) state) (bar_takes (read_atom depth) (atom_takes depth) state) ts next rest was
 
-  pub bar_ends : (e : Halt) (state : Counted) (tokens : List Token) (total : Outcome Token Counted) → starts (is_sign signs.Bar) tokens ≡ true → Fails e (guard (bounded.sign state.signs) (read_bar_step (read_atom depth) state) tokens)
+  pub bar_ends : (e : Halt Token) (state : Counted) (tokens : List Token) (total : Outcome Token Counted) → starts (is_sign signs.Bar) tokens ≡ true → Fails e (guard (bounded.sign state.signs) (read_bar_step (read_atom depth) state) tokens)
       → iterate (is_sign signs.Bar) (λ e. guard (bounded.sign e.signs) (read_bar_step (read_atom depth) e)) state tokens ≡ total → Fails e total
   bar_ends = ends (is_sign signs.Bar) (λ e. guard (bounded.sign e.signs) (read_bar_step (read_atom depth) e)) bar_shrinks
 

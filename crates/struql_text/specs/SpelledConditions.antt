@@ -12,4 +12,5 @@ abbrev pub IsReadAsSpelled : List Token → Type 0
 IsReadAsSpelled tokens =
     ((value : Condition) (rest : List Token) → read_condition tokens ≡ Read value rest
     → (front : List Token) × (tokens ≡ front ++ rest) × condition expression_within front value)
-    × ((front : List Token) (value : Condition) (rest : List Token) → tokens ≡ front ++ rest → condition expression_within front value → read_condition tokens ≡ Read value rest)
+    × ((front : List Token) (value : Condition) (rest : List Token) → tokens ≡ front ++ rest
+    → condition expression_within front value → read_condition tokens ≡ Read value rest)

@@ -52,7 +52,7 @@ fn span_of(operand: &Operand) -> Span
 
 /// A comma and a constant.
 #[tactic(auto, unfolding(crate::specs::Reading::read_next))]
-fn next_constant_at(alloc: Global, tokens: &[Token]) -> Result<(Value, &[Token]), Halt>
+fn next_constant_at(alloc: Global, tokens: &[Token]) -> Result<(Value, &[Token]), Halt<Token>>
     ensures { Gives (λ x. x.0) (λ x. x.1.now) result
         (read_next (take_one true constant_value) tokens.now) }
 {
@@ -65,7 +65,7 @@ fn constants_from(
     alloc: Global,
     first: Value,
     tokens: &[Token],
-) -> Result<(Vec<Value>, &[Token]), Halt>
+) -> Result<(Vec<Value>, &[Token]), Halt<Token>>
     ensures { Gives (λ x. x.0.items) (λ x. x.1.now) result
         (iterate (is_sign sign_kinds.Comma) (read_further (take_one true constant_value))
         (first ∷ []) tokens.now) }
@@ -82,7 +82,7 @@ fn constants_from(
 }
 
 #[tactic(auto, unfolding(crate::specs::Reading::read_listed))]
-fn constants_at(alloc: Global, tokens: &[Token]) -> Result<(Vec<Value>, &[Token]), Halt>
+fn constants_at(alloc: Global, tokens: &[Token]) -> Result<(Vec<Value>, &[Token]), Halt<Token>>
     ensures { Gives (λ x. x.0.items) (λ x. x.1.now) result
         (read_listed (take_one true constant_value) tokens.now) }
 {
@@ -92,7 +92,11 @@ fn constants_at(alloc: Global, tokens: &[Token]) -> Result<(Vec<Value>, &[Token]
 
 /// `C(x)` or a test, behind its name.
 #[tactic(auto, unfolding(crate::specs::Reading::read_call))]
-fn call_at(alloc: Global, name: Word, tokens: &[Token]) -> Result<(Condition, &[Token]), Halt>
+fn call_at(
+    alloc: Global,
+    name: Word,
+    tokens: &[Token],
+) -> Result<(Condition, &[Token]), Halt<Token>>
     ensures { Gives (λ x. condition_written x.0) (λ x. x.1.now) result (read_call name tokens.now) }
 {
     let (_, rest) = sign_at(tokens, Sign::OpenParen)?;
@@ -124,7 +128,7 @@ fn comparison_at(
     alloc: Global,
     left: Operand,
     tokens: &[Token],
-) -> Result<(Condition, &[Token]), Halt>
+) -> Result<(Condition, &[Token]), Halt<Token>>
     ensures { Gives (λ x. condition_written x.0) (λ x. x.1.now) result
         (read_comparison left tokens.now) }
 {
@@ -148,7 +152,7 @@ fn membership_at(
     alloc: Global,
     operand: Operand,
     tokens: &[Token],
-) -> Result<(Condition, &[Token]), Halt>
+) -> Result<(Condition, &[Token]), Halt<Token>>
     ensures { Gives (λ x. condition_written x.0) (λ x. x.1.now) result
         (read_membership operand tokens.now) }
 {
@@ -170,7 +174,7 @@ fn membership_at(
 
 /// What is between the arrows of a path.
 #[tactic(auto, unfolding(crate::specs::Reading::read_step, crate::specs::Reading::read_arc_step, crate::specs::Reading::read_expression_step))]
-fn step_at(alloc: Global, tokens: &[Token]) -> Result<(PathStep, &[Token]), Halt>
+fn step_at(alloc: Global, tokens: &[Token]) -> Result<(PathStep, &[Token]), Halt<Token>>
     ensures { Gives (λ x. step_written x.0) (λ x. x.1.now) result (read_step tokens.now) }
 {
     if has_name(tokens) {
@@ -183,7 +187,11 @@ fn step_at(alloc: Global, tokens: &[Token]) -> Result<(PathStep, &[Token]), Halt
 
 /// A path, behind its first operand.
 #[tactic(auto, unfolding(crate::specs::Reading::read_path))]
-fn path_at(alloc: Global, from: Operand, tokens: &[Token]) -> Result<(Condition, &[Token]), Halt>
+fn path_at(
+    alloc: Global,
+    from: Operand,
+    tokens: &[Token],
+) -> Result<(Condition, &[Token]), Halt<Token>>
     ensures { Gives (λ x. condition_written x.0) (λ x. x.1.now) result (read_path from tokens.now) }
 {
     let (_, rest) = sign_at(tokens, Sign::Arrow)?;
@@ -208,7 +216,7 @@ fn relation_at(
     alloc: Global,
     first: Operand,
     tokens: &[Token],
-) -> Result<(Condition, &[Token]), Halt>
+) -> Result<(Condition, &[Token]), Halt<Token>>
     ensures { Gives (λ x. condition_written x.0) (λ x. x.1.now) result
         (read_relation first tokens.now) }
 {
@@ -223,7 +231,11 @@ fn relation_at(
 
 /// What is behind the operand that begins a condition.
 #[tactic(auto, unfolding(crate::specs::Reading::read_behind))]
-fn behind_at(alloc: Global, first: Operand, tokens: &[Token]) -> Result<(Condition, &[Token]), Halt>
+fn behind_at(
+    alloc: Global,
+    first: Operand,
+    tokens: &[Token],
+) -> Result<(Condition, &[Token]), Halt<Token>>
     ensures { Gives (λ x. condition_written x.0) (λ x. x.1.now) result
         (read_behind first tokens.now) }
 {
@@ -243,7 +255,7 @@ fn behind_at(alloc: Global, first: Operand, tokens: &[Token]) -> Result<(Conditi
 
 /// A condition that is no negation.
 #[tactic(auto, unfolding(crate::specs::Reading::read_plain))]
-fn plain_at(alloc: Global, tokens: &[Token]) -> Result<(Condition, &[Token]), Halt>
+fn plain_at(alloc: Global, tokens: &[Token]) -> Result<(Condition, &[Token]), Halt<Token>>
     ensures { Gives (λ x. condition_written x.0) (λ x. x.1.now) result (read_plain tokens.now) }
 {
     let (first, rest) = operand_at(alloc, tokens)?;
@@ -252,7 +264,7 @@ fn plain_at(alloc: Global, tokens: &[Token]) -> Result<(Condition, &[Token]), Ha
 
 /// A negation.
 #[tactic(auto, unfolding(crate::specs::Reading::read_negated))]
-fn negated_at(alloc: Global, tokens: &[Token]) -> Result<(Condition, &[Token]), Halt>
+fn negated_at(alloc: Global, tokens: &[Token]) -> Result<(Condition, &[Token]), Halt<Token>>
     ensures { Gives (λ x. condition_written x.0) (λ x. x.1.now) result (read_negated tokens.now) }
 {
     let (not, rest) = keyword_at(tokens, Keyword::Not)?;
@@ -265,7 +277,7 @@ fn negated_at(alloc: Global, tokens: &[Token]) -> Result<(Condition, &[Token]), 
 
 /// A condition.
 #[tactic(auto, unfolding(crate::specs::Reading::read_condition))]
-pub fn condition_at(alloc: Global, tokens: &[Token]) -> Result<(Condition, &[Token]), Halt>
+pub fn condition_at(alloc: Global, tokens: &[Token]) -> Result<(Condition, &[Token]), Halt<Token>>
     ensures { Gives (λ x. condition_written x.0) (λ x. x.1.now) result (read_condition tokens.now) }
 {
     if has_keyword(tokens, Keyword::Not) {

@@ -38,7 +38,7 @@ pub fn from_to(first: Span, last: Span) -> Span
 
 /// A label, `true` or `*` at the front.
 #[tactic(auto, unfolding(crate::specs::Reading::read_leaf))]
-fn leaf_at(alloc: Global, signs: u32, tokens: &[Token]) -> Result<(Found, &[Token]), Halt>
+fn leaf_at(alloc: Global, signs: u32, tokens: &[Token]) -> Result<(Found, &[Token]), Halt<Token>>
     ensures { Gives (λ x. found x.0) (λ x. x.1.now) result (read_leaf signs tokens.now) }
 {
     let [first, rest @ ..] = tokens else {
@@ -82,7 +82,11 @@ fn has_fewer_stars(tree: &Rpe, limit: u32) -> bool
 }
 
 /// The stars behind an expression.
-fn star_steps_at(alloc: Global, first: Found, tokens: &[Token]) -> Result<(Found, &[Token]), Halt>
+fn star_steps_at(
+    alloc: Global,
+    first: Found,
+    tokens: &[Token],
+) -> Result<(Found, &[Token]), Halt<Token>>
     ensures { Gives (λ x. found x.0) (λ x. x.1.now) result
         (iterate (is_sign sign_kinds.Star) (λ e. guard (bounded.star e.tree) (read_star_step e))
         (found first) tokens.now) }
@@ -99,7 +103,11 @@ fn star_steps_at(alloc: Global, first: Found, tokens: &[Token]) -> Result<(Found
 
 /// One star behind an expression.
 #[tactic(auto, unfolding(crate::specs::Reading::read_star_step))]
-fn star_step_at(alloc: Global, inner: Found, tokens: &[Token]) -> Result<(Found, &[Token]), Halt>
+fn star_step_at(
+    alloc: Global,
+    inner: Found,
+    tokens: &[Token],
+) -> Result<(Found, &[Token]), Halt<Token>>
     ensures { Gives (λ x. found x.0) (λ x. x.1.now) result
         (guard (bounded.star (regex_of inner.tree)) (read_star_step (found inner)) tokens.now) }
 {
@@ -121,7 +129,7 @@ pub fn alt_at<'a>(
     depth: u32,
     signs: u32,
     tokens: &'a [Token],
-) -> Result<(Found, &'a [Token]), Halt<'a>>
+) -> Result<(Found, &'a [Token]), Halt<'a, Token>>
     ensures { Gives (λ x. found x.0) (λ x. x.1.now) result
         (read_alt (read_atom depth) signs tokens.now) }
 {
@@ -136,7 +144,7 @@ fn bar_steps_at<'a>(
     depth: u32,
     first: Found,
     tokens: &'a [Token],
-) -> Result<(Found, &'a [Token]), Halt<'a>>
+) -> Result<(Found, &'a [Token]), Halt<'a, Token>>
     ensures { Gives (λ x. found x.0) (λ x. x.1.now) result
         (iterate (is_sign sign_kinds.Bar)
         (λ e. guard (bounded.sign e.signs) (read_bar_step (read_atom depth) e)) (found first)
@@ -159,7 +167,7 @@ fn bar_step_at<'a>(
     depth: u32,
     left: Found,
     tokens: &'a [Token],
-) -> Result<(Found, &'a [Token]), Halt<'a>>
+) -> Result<(Found, &'a [Token]), Halt<'a, Token>>
     ensures { Gives (λ x. found x.0) (λ x. x.1.now) result
         (guard (bounded.sign left.signs) (read_bar_step (read_atom depth) (found left))
         tokens.now) }
@@ -182,7 +190,7 @@ fn seq_at<'a>(
     depth: u32,
     signs: u32,
     tokens: &'a [Token],
-) -> Result<(Found, &'a [Token]), Halt<'a>>
+) -> Result<(Found, &'a [Token]), Halt<'a, Token>>
     ensures { Gives (λ x. found x.0) (λ x. x.1.now) result
         (read_seq (read_atom depth) signs tokens.now) }
 {
@@ -197,7 +205,7 @@ fn dot_steps_at<'a>(
     depth: u32,
     first: Found,
     tokens: &'a [Token],
-) -> Result<(Found, &'a [Token]), Halt<'a>>
+) -> Result<(Found, &'a [Token]), Halt<'a, Token>>
     ensures { Gives (λ x. found x.0) (λ x. x.1.now) result
         (iterate (is_sign sign_kinds.Dot)
         (λ e. guard (bounded.sign e.signs) (read_dot_step (read_atom depth) e)) (found first)
@@ -220,7 +228,7 @@ fn dot_step_at<'a>(
     depth: u32,
     left: Found,
     tokens: &'a [Token],
-) -> Result<(Found, &'a [Token]), Halt<'a>>
+) -> Result<(Found, &'a [Token]), Halt<'a, Token>>
     ensures { Gives (λ x. found x.0) (λ x. x.1.now) result
         (guard (bounded.sign left.signs) (read_dot_step (read_atom depth) (found left))
         tokens.now) }
@@ -243,7 +251,7 @@ fn post_at<'a>(
     depth: u32,
     signs: u32,
     tokens: &'a [Token],
-) -> Result<(Found, &'a [Token]), Halt<'a>>
+) -> Result<(Found, &'a [Token]), Halt<'a, Token>>
     ensures { Gives (λ x. found x.0) (λ x. x.1.now) result
         (read_post (read_atom depth) signs tokens.now) }
 {
@@ -257,7 +265,7 @@ fn atom_at<'a>(
     depth: u32,
     signs: u32,
     tokens: &'a [Token],
-) -> Result<(Found, &'a [Token]), Halt<'a>>
+) -> Result<(Found, &'a [Token]), Halt<'a, Token>>
     ensures { Gives (λ x. found x.0) (λ x. x.1.now) result (read_atom depth signs tokens.now) }
 {
     if !has_sign(tokens, Sign::OpenParen) {
@@ -276,7 +284,7 @@ fn paren_at<'a>(
     depth: u32,
     signs: u32,
     tokens: &'a [Token],
-) -> Result<(Found, &'a [Token]), Halt<'a>>
+) -> Result<(Found, &'a [Token]), Halt<'a, Token>>
     ensures { Gives (λ x. found x.0) (λ x. x.1.now) result
         (read_paren (read_alt (read_atom depth)) signs tokens.now) }
 {

@@ -19,7 +19,7 @@ use token_reader::{Halt, has_sign};
 
 /// A comma and an operand.
 #[tactic(auto, unfolding(crate::specs::Reading::read_next))]
-fn next_operand_at(alloc: Global, tokens: &[Token]) -> Result<(Operand, &[Token]), Halt>
+fn next_operand_at(alloc: Global, tokens: &[Token]) -> Result<(Operand, &[Token]), Halt<Token>>
     ensures { Gives (λ x. x.0) (λ x. x.1.now) result (read_next read_operand tokens.now) }
 {
     let (_, rest) = sign_at(tokens, Sign::Comma)?;
@@ -31,7 +31,7 @@ fn operands_from(
     alloc: Global,
     first: Operand,
     tokens: &[Token],
-) -> Result<(Vec<Operand>, &[Token]), Halt>
+) -> Result<(Vec<Operand>, &[Token]), Halt<Token>>
     ensures { Gives (λ x. x.0.items) (λ x. x.1.now) result
         (iterate (is_sign sign_kinds.Comma) (read_further read_operand) (first ∷ []) tokens.now) }
 {
@@ -47,7 +47,7 @@ fn operands_from(
 }
 
 #[tactic(auto, unfolding(crate::specs::Reading::read_listed))]
-fn operands_at(alloc: Global, tokens: &[Token]) -> Result<(Vec<Operand>, &[Token]), Halt>
+fn operands_at(alloc: Global, tokens: &[Token]) -> Result<(Vec<Operand>, &[Token]), Halt<Token>>
     ensures { Gives (λ x. x.0.items) (λ x. x.1.now) result (read_listed read_operand tokens.now) }
 {
     let (first, rest) = operand_at(alloc, tokens)?;
@@ -60,7 +60,7 @@ fn arguments_at(
     alloc: Global,
     function: Word,
     tokens: &[Token],
-) -> Result<(SkolemTerm, &[Token]), Halt>
+) -> Result<(SkolemTerm, &[Token]), Halt<Token>>
     ensures { Gives (λ x. term_written x.0) (λ x. x.1.now) result
         (read_arguments function tokens.now) }
 {
@@ -85,7 +85,7 @@ fn arguments_at(
 
 /// A term.
 #[tactic(auto, unfolding(crate::specs::Reading::read_term))]
-pub fn term_at(alloc: Global, tokens: &[Token]) -> Result<(SkolemTerm, &[Token]), Halt>
+pub fn term_at(alloc: Global, tokens: &[Token]) -> Result<(SkolemTerm, &[Token]), Halt<Token>>
     ensures { Gives (λ x. term_written x.0) (λ x. x.1.now) result (read_term tokens.now) }
 {
     let (function, rest) = name_at(alloc, tokens)?;
@@ -94,7 +94,11 @@ pub fn term_at(alloc: Global, tokens: &[Token]) -> Result<(SkolemTerm, &[Token])
 
 /// What a name is by what is behind it: a term or a variable.
 #[tactic(auto, unfolding(crate::specs::Reading::read_named_target, crate::specs::Reading::read_made))]
-fn named_target_at(alloc: Global, name: Word, tokens: &[Token]) -> Result<(Target, &[Token]), Halt>
+fn named_target_at(
+    alloc: Global,
+    name: Word,
+    tokens: &[Token],
+) -> Result<(Target, &[Token]), Halt<Token>>
     ensures { Gives (λ x. target_written x.0) (λ x. x.1.now) result
         (read_named_target name tokens.now) }
 {
@@ -109,7 +113,7 @@ fn named_target_at(alloc: Global, name: Word, tokens: &[Token]) -> Result<(Targe
 
 /// A name or a term.
 #[tactic(auto, unfolding(crate::specs::Reading::read_source))]
-fn source_at(alloc: Global, tokens: &[Token]) -> Result<(Target, &[Token]), Halt>
+fn source_at(alloc: Global, tokens: &[Token]) -> Result<(Target, &[Token]), Halt<Token>>
     ensures { Gives (λ x. target_written x.0) (λ x. x.1.now) result (read_source tokens.now) }
 {
     let (name, rest) = name_at(alloc, tokens)?;
@@ -118,7 +122,7 @@ fn source_at(alloc: Global, tokens: &[Token]) -> Result<(Target, &[Token]), Halt
 
 /// An operand or a term.
 #[tactic(auto, unfolding(crate::specs::Reading::read_target, crate::specs::Reading::read_operand_target))]
-fn target_at(alloc: Global, tokens: &[Token]) -> Result<(Target, &[Token]), Halt>
+fn target_at(alloc: Global, tokens: &[Token]) -> Result<(Target, &[Token]), Halt<Token>>
     ensures { Gives (λ x. target_written x.0) (λ x. x.1.now) result (read_target tokens.now) }
 {
     let (operand, rest) = operand_at(alloc, tokens)?;
@@ -142,7 +146,7 @@ fn span_of(target: &Target) -> Span
 
 /// A link.
 #[tactic(auto, unfolding(crate::specs::Reading::read_link))]
-pub fn link_at(alloc: Global, tokens: &[Token]) -> Result<(Link, &[Token]), Halt>
+pub fn link_at(alloc: Global, tokens: &[Token]) -> Result<(Link, &[Token]), Halt<Token>>
     ensures { Gives (λ x. link_written x.0) (λ x. x.1.now) result (read_link tokens.now) }
 {
     let (source, rest) = source_at(alloc, tokens)?;
@@ -164,7 +168,7 @@ pub fn link_at(alloc: Global, tokens: &[Token]) -> Result<(Link, &[Token]), Halt
 
 /// A value for a collection.
 #[tactic(auto, unfolding(crate::specs::Reading::read_collect))]
-pub fn collect_at(alloc: Global, tokens: &[Token]) -> Result<(Collect, &[Token]), Halt>
+pub fn collect_at(alloc: Global, tokens: &[Token]) -> Result<(Collect, &[Token]), Halt<Token>>
     ensures { Gives (λ x. collect_written x.0) (λ x. x.1.now) result (read_collect tokens.now) }
 {
     let (collection, rest) = name_at(alloc, tokens)?;

@@ -15,7 +15,7 @@ use struql_ast::{LinkLabel, Operand};
 use token_reader::Halt;
 
 /// This sign at the front, and its place.
-pub fn sign_at(tokens: &[Token], sign: Sign) -> Result<(Span, &[Token]), Halt>
+pub fn sign_at(tokens: &[Token], sign: Sign) -> Result<(Span, &[Token]), Halt<Token>>
     ensures { Gives (λ x. x.0) (λ x. x.1.now) result (take_one true (sign_value sign) tokens.now) }
 {
     if let [first, rest @ ..] = tokens {
@@ -50,7 +50,7 @@ fn is_name(token: &Token) -> bool
 }
 
 /// This keyword at the front, and its place.
-pub fn keyword_at(tokens: &[Token], keyword: Keyword) -> Result<(Span, &[Token]), Halt>
+pub fn keyword_at(tokens: &[Token], keyword: Keyword) -> Result<(Span, &[Token]), Halt<Token>>
     ensures { Gives (λ x. x.0) (λ x. x.1.now) result
         (take_one true (keyword_value keyword) tokens.now) }
 {
@@ -83,7 +83,7 @@ pub fn has_name(tokens: &[Token]) -> bool
 }
 
 /// A name at the front.
-pub fn name_at(alloc: Global, tokens: &[Token]) -> Result<(Word, &[Token]), Halt>
+pub fn name_at(alloc: Global, tokens: &[Token]) -> Result<(Word, &[Token]), Halt<Token>>
     ensures { Gives (λ x. x.0) (λ x. x.1.now) result (take_one true name_value tokens.now) }
 {
     if let [first, rest @ ..] = tokens {
@@ -99,7 +99,7 @@ pub fn name_at(alloc: Global, tokens: &[Token]) -> Result<(Word, &[Token]), Halt
 }
 
 /// A variable or a constant at the front.
-pub fn operand_at(alloc: Global, tokens: &[Token]) -> Result<(Operand, &[Token]), Halt>
+pub fn operand_at(alloc: Global, tokens: &[Token]) -> Result<(Operand, &[Token]), Halt<Token>>
     ensures { Gives (λ x. x.0) (λ x. x.1.now) result (take_one true operand_value tokens.now) }
 {
     let [first, rest @ ..] = tokens else {
@@ -123,7 +123,7 @@ pub fn operand_at(alloc: Global, tokens: &[Token]) -> Result<(Operand, &[Token])
 }
 
 /// A constant at the front.
-pub fn constant_at(alloc: Global, tokens: &[Token]) -> Result<(Value, &[Token]), Halt>
+pub fn constant_at(alloc: Global, tokens: &[Token]) -> Result<(Value, &[Token]), Halt<Token>>
     ensures { Gives (λ x. x.0) (λ x. x.1.now) result (take_one true constant_value tokens.now) }
 {
     let [first, rest @ ..] = tokens else {
@@ -137,7 +137,7 @@ pub fn constant_at(alloc: Global, tokens: &[Token]) -> Result<(Value, &[Token]),
 }
 
 /// A link's label at the front.
-pub fn label_at(alloc: Global, tokens: &[Token]) -> Result<(LinkLabel, &[Token]), Halt>
+pub fn label_at(alloc: Global, tokens: &[Token]) -> Result<(LinkLabel, &[Token]), Halt<Token>>
     ensures { Gives (λ x. x.0) (λ x. x.1.now) result (take_one true label_value tokens.now) }
 {
     let [first, rest @ ..] = tokens else {
@@ -154,7 +154,7 @@ pub fn label_at(alloc: Global, tokens: &[Token]) -> Result<(LinkLabel, &[Token])
 }
 
 /// A comparison's sign at the front.
-pub fn op_at(tokens: &[Token]) -> Result<(Op, &[Token]), Halt>
+pub fn op_at(tokens: &[Token]) -> Result<(Op, &[Token]), Halt<Token>>
     ensures { Gives (λ x. x.0) (λ x. x.1.now) result (take_one true op_value tokens.now) }
 {
     let [first, rest @ ..] = tokens else {

@@ -1,22 +1,59 @@
 -- What the wire over sockets holds, apart from the sockets, and the order in which its events come.
-use Rattle.std.specs.Prelude.{◌≡◌, ◌≢◌, ◌+◌, ◌-◌, ◌^◌, ◌==◌, ℕ, Bool, true, false, List, [], Option, Some, None, if◌then◌else◌}
+use Rattle.std.specs.Prelude.{◌≡◌, ◌≢◌, ◌<◌, ◌≤◌, ◌+◌, ◌-◌, ◌^◌, ◌==◌, ℕ, true, false, List, [], ◌∷◌, Option, Some, None, IsSome, option_map, if◌then◌else◌}
+use Rattle.std.specs.declared.net.socket_addr.SocketAddr.{SocketAddr}
+use Rattle.std.specs.declared.net.socket_addr.SocketAddr.TheVariants.{V4}
 use Rattle.wire.specs.Accounts.{up}
 use Rattle.wire.specs.Told.{Told}
 use Rattle.wire.specs.declared.WireEvent.{WireEvent}
 use Rattle.wire.specs.declared.WireEvent.TheVariants.{Opened, Bytes, Ended, Lost, Change, Done}
 use Rattle.wire.specs.declared.WireEnd.{WireEnd}
 use Rattle.wire.specs.declared.WireEnd.TheVariants.{Failed, NoMemory}
+use Rattle.tcp_wire.specs.declared.peer.Progress.{Progress}
+use Rattle.tcp_wire.specs.declared.waits.Waits.{Waits}
+use Rattle.tcp_wire.specs.Replies.{refuses}
+use Rattle.tcp_wire.specs.Waits.{piece_wait, most_parts}
+
+-- what is known of the connection in hand
+pub record Hand : Type 0 where
+  -- how far it is
+  pub progress : Progress
+  -- how long its reads wait, in milliseconds
+  pub read_wait : ℕ
 
 -- what the wire holds
 pub record TcpState : Type 0 where
-  -- whether the input of the connection in hand has ended, if one is in hand
-  pub hand : Option Bool
+  -- the connection in hand, if one is
+  pub hand : Option Hand
   -- the number of the last connection that was opened
   pub opened : ℕ
   -- how many more are taken
   pub left : ℕ
   -- how often listen and next failed
   pub next_faults : ℕ
+  -- the address that it listens at, if it does
+  pub address : Option SocketAddr
+  -- how long connections are waited for
+  pub waits : Waits
+
+-- the address 127.0.0.1 with this port
+abbrev pub local_address : ℕ → SocketAddr
+local_address port = V4 (record { ip = record { octets = 127 ∷ 0 ∷ 0 ∷ 1 ∷ [] }; port = port })
+
+-- nothing has come of a connection, and it was sent nothing
+abbrev pub fresh_progress : Progress
+fresh_progress = record { ended = false; pieces = 0; replied = false; refused = false }
+
+-- a connection that was just opened
+abbrev pub fresh_hand : Hand
+fresh_hand = record { progress = fresh_progress; read_wait = 0 }
+
+-- the wire has a connection in hand whose input goes on
+abbrev pub IsOpen : TcpState → Hand → Type 0
+IsOpen w hand = (w.hand ≡ Some hand) × (hand.progress.ended ≡ false)
+
+-- no connection is in hand whose input goes on
+abbrev pub IsFree : TcpState → Type 0
+IsFree w = (hand : Hand) → w.hand ≡ Some hand → hand.progress.ended ≡ true
 
 -- what the wire reports: only its failed calls, and of the sends that any may have failed
 abbrev pub told_of : TcpState → Told
@@ -33,32 +70,80 @@ told_of w = record {
 abbrev pub let_go : ℕ → TcpState → TcpState
 let_go number w = record w { hand = if number == w.opened then None else w.hand }
 
+-- the connection after one more piece
+abbrev pub with_piece : (idle : ℕ) → Hand → Hand
+with_piece idle hand = record {
+  progress = record hand.progress { pieces = hand.progress.pieces + 1 };
+  read_wait = piece_wait idle hand.progress.pieces;
+}
+
+-- the connection after the end of its input
+abbrev pub with_end : (idle : ℕ) → Hand → Hand
+with_end idle hand = record {
+  progress = record hand.progress { ended = true };
+  read_wait = piece_wait idle hand.progress.pieces;
+}
+
+-- the connection after a reply
+abbrev pub with_reply : (reply : List ℕ) → Hand → Hand
+with_reply reply hand = record hand {
+  progress = record hand.progress { pieces = 0; replied = true; refused = refuses reply };
+}
+
+-- so many bytes were read of a connection, by a read that waited no longer than it may
+abbrev pub HasRead : (idle : ℕ) → Progress → (read_wait count : ℕ) → Type 0
+HasRead idle before read_wait count =
+    (before.pieces < most_parts) × (read_wait ≡ piece_wait idle before.pieces) × (count ≤ 16384)
+
+-- a reply was sent whole to the connection in hand, which has this number
+abbrev pub IsSent : (number : ℕ) → (reply : List ℕ) → TcpState → TcpState → Type 0
+IsSent number reply w after =
+    IsSome w.hand × (number ≡ w.opened)
+    × (after ≡ record w { hand = option_map (with_reply reply) w.hand })
+
+-- What comes of the connection in hand: a piece or the end, for which no read waited longer than it may, or the loss. No
+-- piece comes after so many without a reply.
+abbrev pub IsPieceOf : (number idle : ℕ) → Hand → WireEvent → Hand → Type 0
+IsPieceOf connection idle hand (Opened number) after = ⊥
+IsPieceOf connection idle hand (Bytes number piece) after =
+    (number ≡ connection) × (piece ≢ []) × (hand.progress.pieces < most_parts)
+    × (after ≡ with_piece idle hand)
+IsPieceOf connection idle hand (Ended number) after =
+    (number ≡ connection) × (hand.progress.pieces < most_parts) × (after ≡ with_end idle hand)
+IsPieceOf connection idle hand (Lost number) after = number ≡ connection
+IsPieceOf connection idle hand (Change text) after = ⊥
+IsPieceOf connection idle hand Done after = ⊥
+
+-- the connection after what came of it, which is none where it is lost
+abbrev pub kept : WireEvent → Hand → Option Hand
+kept (Opened number) now = Some now
+kept (Bytes number piece) now = Some now
+kept (Ended number) now = Some now
+kept (Lost number) now = None
+kept (Change text) now = Some now
+kept Done now = Some now
+
 -- The next event. Connections come one after another under the numbers from 1 on: a piece, the end or the loss is of the
 -- one in hand, the next is opened only where none is in hand whose input goes on, and Done comes where no more are taken.
 abbrev pub IsNextIn : TcpState → WireEvent → TcpState → Type 0
 IsNextIn w (Opened number) after =
-    (w.hand ≢ Some false) × (number ≡ up w.opened) × (after.left + 1 ≡ w.left)
-    × (after ≡ record w { hand = Some false; opened = number; left = after.left })
+    IsFree w × (number ≡ up w.opened) × (after.left + 1 ≡ w.left)
+    × (after ≡ record w { hand = Some fresh_hand; opened = number; left = after.left })
 IsNextIn w (Bytes number piece) after =
-    (w.hand ≡ Some false) × (number ≡ w.opened) × (piece ≢ []) × (after ≡ w)
+    (hand now : Hand) × IsOpen w hand
+    × IsPieceOf w.opened w.waits.idle hand (Bytes number piece) now
+    × (after ≡ record w { hand = Some now })
 IsNextIn w (Ended number) after =
-    (w.hand ≡ Some false) × (number ≡ w.opened) × (after ≡ record w { hand = Some true })
+    (hand now : Hand) × IsOpen w hand
+    × IsPieceOf w.opened w.waits.idle hand (Ended number) now
+    × (after ≡ record w { hand = Some now })
 IsNextIn w (Lost number) after =
-    (w.hand ≡ Some false) × (number ≡ w.opened) × (after ≡ record w { hand = None })
+    (hand : Hand) × IsOpen w hand × (number ≡ w.opened) × (after ≡ record w { hand = None })
 IsNextIn w (Change text) after = ⊥
-IsNextIn w Done after = (w.hand ≢ Some false) × (w.left ≡ 0) × (after ≡ record w { hand = None })
+IsNextIn w Done after = IsFree w × (w.left ≡ 0) × (after ≡ record w { hand = None })
 
--- what is read of a connection
-abbrev pub IsPieceOf : ℕ → WireEvent → Type 0
-IsPieceOf connection (Opened number) = ⊥
-IsPieceOf connection (Bytes number piece) = (number ≡ connection) × (piece ≢ [])
-IsPieceOf connection (Ended number) = number ≡ connection
-IsPieceOf connection (Lost number) = number ≡ connection
-IsPieceOf connection (Change text) = ⊥
-IsPieceOf connection Done = ⊥
-
--- There is no event: no connection came, which is counted, or out of memory for a piece.
+-- There is no event: no connection came, which is counted. Out of memory costs a connection, which is lost.
 abbrev pub MissesNext : TcpState → TcpState → WireEnd → Type 0
 MissesNext w after Failed =
-    (w.hand ≢ Some false) × (after ≡ record w { hand = None; next_faults = up w.next_faults })
-MissesNext w after NoMemory = (w.hand ≡ Some false) × (after ≡ w)
+    IsFree w × (after ≡ record w { hand = None; next_faults = up w.next_faults })
+MissesNext w after NoMemory = ⊥

@@ -1,83 +1,142 @@
 //! A wire over the system's sockets: one connection after another.
 #![tactic(auto)]
 
-ghost use Rattle.std.specs.Prelude.{◌≡◌, None, Err, false, IsSome, IfOk, OnOk, OnErr, MatchResult};
-ghost use Rattle.wire.specs.Accounts.{up};
-ghost use Rattle.tcp_wire.specs.TcpState.{IsPieceOf, IsNextIn, MissesNext, let_go, told_of};
+ghost use Rattle.std.specs.Prelude.{◌≡◌, ◌≤◌, ℕ, take, Some, None, Err, IfOk, IfErr, OnOk, OnErr, IsErrOf, IfSome, MatchResult, option_map};
+ghost use Rattle.std.specs.declared.net.socket_addr.SocketAddr.TheVariants.{V4};
+ghost use Rattle.edge_io.specs.Counts.{Rose};
+ghost use Rattle.wire.specs.Accounts.{send_to, close_to, up};
+ghost use Rattle.wire.specs.Events.{add_event, IsNextOf, add_listen};
+ghost use Rattle.wire.specs.Told.{EventsStay, OtherAccountsStay, OtherFaultsStay};
+ghost use Rattle.tcp_wire.specs.Waits.{first_wait};
+ghost use Rattle.tcp_wire.specs.TcpState.{IsPieceOf, IsNextIn, IsSent, MissesNext, HasRead, kept, let_go, local_address, told_of};
 
+mod accepting;
+mod peer;
+mod waits;
+
+use accepting::{take_next, take_waiting};
 use edge_io::Failed;
+use peer::{NoBytes, Peer, refuses};
 use sd_value::Str;
 use std::alloc::Global;
 use std::io::{Read, Write};
 use std::marker::Model;
-use std::net::{Ipv4Addr, Net, OpenListener, OpenStream, Shutdown, SocketAddr, SocketAddrV4};
+use std::net::{Ipv4Addr, Net, OpenListener, OpenStream, SocketAddr, SocketAddrV4};
+use std::time::Clock;
+pub use waits::Waits;
+use waits::{MOST_PARTS, first_wait, first_waits, wait_at};
 use wire::{Wire, WireEnd, WireEvent};
 
 /// The longest piece, in bytes.
 const PIECE: usize = 16384;
 
-/// The connection in hand.
+/// Where the wire listens.
 #[derive(Drop)]
-struct Peer<S> {
-    stream: S,
-    /// Its input has ended.
-    ended: bool,
+struct Place<L> {
+    listener: L,
+    address: SocketAddr,
 }
 
 /// Connections to 127.0.0.1, one after another. A connection stays in hand until it is closed, a send to it fails or it
-/// is lost, or until the event after the end of its input is asked for; only then the next one is taken. So a client
-/// that connects and sends nothing holds up the others. The wire reports nothing of what its connections send and take,
-/// and the count of failed sends of each is at its last value, where every failure counts as a rise.
+/// is lost, or until the event after the end of its input is asked for; only then the next one is taken. It is lost where
+/// nothing comes for long enough (`Waits`), where too many pieces come without a reply, where it has sent nothing since its
+/// last reply and another one waits to be taken, and where memory is refused for what it sent. The wire reports nothing of
+/// what its connections send and take, and the count of failed sends of each is at its last value, where every failure
+/// counts as a rise.
 #[derive(Drop)]
-pub struct TcpWire<'r, R: Net> {
-    net: &'r R,
-    listener: Option<R::Listener>,
+pub struct TcpWire<'r, R: Net + Clock> {
+    system: &'r R,
+    waits: Waits,
+    place: Option<Place<R::Listener>>,
     peer: Option<Peer<R::Stream>>,
+    /// A connection that was taken while another was in hand.
+    waiting: Option<R::Stream>,
     /// The number of the last connection that was opened.
     opened: u64,
     /// How many more connections are taken.
     left: u64,
     next_faults: u64,
+    /// Where pieces are read into.
+    piece: [u8; PIECE],
 }
 
-impl<'r, R: Net> Model for TcpWire<'r, R> {
+impl<'r, R: Net + Clock> Model for TcpWire<'r, R> {
     ghost use Rattle.std.specs.Prelude.{option_map};
     ghost use Rattle.tcp_wire.specs.TcpState.{TcpState};
 
     ghost Value = { TcpState };
 
     ghost view = { λ w. record {
-      hand = option_map (λ p. p.ended) w.peer;
+      hand = option_map (λ p. record { progress = p.progress; read_wait = p.read_wait }) w.peer;
       opened = w.opened;
       left = w.left;
       next_faults = w.next_faults;
+      address = option_map (λ p. p.address) w.place;
+      waits = w.waits;
     } };
 }
 
-impl<'r, R: Net> TcpWire<'r, R> {
+impl<'r, R: Net + Clock> TcpWire<'r, R> {
     /// A wire that does not listen yet: until then it has no connection to give.
-    pub fn new(net: &'r R) -> Self
-        ensures { result ≡ record { hand = None; opened = 0; left = 0; next_faults = 0 } }
+    pub fn new(system: &'r R, waits: Waits) -> Self
+        ensures { result ≡ record {
+          hand = None;
+          opened = 0;
+          left = 0;
+          next_faults = 0;
+          address = None;
+          waits = waits;
+        } }
     {
         TcpWire {
-            net,
-            listener: None,
+            system,
+            waits,
+            place: None,
             peer: None,
+            waiting: None,
             opened: 0,
             left: 0,
             next_faults: 0,
+            piece: [0; PIECE],
         }
     }
 
     /// The port that the wire listens at, where it listens.
     pub fn port(&self) -> Option<u16> {
-        match self.listener.as_ref()?.local_addr() {
+        match self.place.as_ref()?.listener.local_addr() {
             Ok(address) => Some(address.port()),
             Err(_) => None,
         }
     }
 
-    /// The next connection, or `Done` where no more are taken.
+    // Whether another connection may be taken and waits for that. It is kept until its turn comes.
+    fn other_waits(&mut self) -> bool
+        ensures { self.new ≡ self.old }
+    {
+        if self.left > 0
+            && self.waiting.is_none()
+            && let Some(place) = &self.place
+        {
+            self.waiting = take_waiting(&place.listener);
+        }
+        self.waiting.is_some()
+    }
+
+    // The stream of the next connection.
+    fn take_stream(&mut self) -> Option<R::Stream>
+        ensures { self.new ≡ self.old }
+    {
+        if let Some(stream) = self.waiting.take() {
+            return Some(stream);
+        }
+        let place = self.place.as_ref()?;
+        match take_next(&place.listener, self.system) {
+            Ok(stream) => Some(stream),
+            Err(_) => None,
+        }
+    }
+
+    // The next connection, or `Done` where no more are taken.
     fn accept(&mut self) -> Result<WireEvent, WireEnd>
         requires { self.old.hand ≡ None }
         ensures event { IfOk result (λ event. IsNextIn self.old event self.new) }
@@ -88,19 +147,83 @@ impl<'r, R: Net> TcpWire<'r, R> {
         if self.left == 0 {
             return Ok(WireEvent::Done);
         }
-        if let Some(listener) = &self.listener
-            && let Ok((stream, _)) = listener.accept()
-        {
+        if let Some(stream) = self.take_stream() {
             self.left -= 1;
             self.opened = self.opened.saturating_add(1);
-            self.peer = Some(open(stream));
+            self.peer = Some(Peer::open(stream));
             return Ok(WireEvent::Opened(self.opened));
         }
         self.next_faults = self.next_faults.saturating_add(1);
         Err(WireEnd::Failed)
     }
 
-    /// The next event.
+    // Reads the first bytes of a connection since its opening or its last reply. Where it had a reply, another one that
+    // waits takes its place behind each wait that gave nothing.
+    fn read_first(&mut self, peer: &mut Peer<R::Stream>) -> Result<usize, NoBytes>
+        ensures bound { IfOk result (λ count. count ≤ 16384) }
+        ensures wait { OnOk result (peer.new.read_wait ≡ first_wait self.old.waits.idle) }
+        ensures progress { peer.new.progress ≡ peer.old.progress }
+        ensures same { self.new ≡ self.old }
+    {
+        let wait = first_wait(self.waits.idle);
+        for _ in 0..first_waits(self.waits.idle) {
+            let read = peer.read_within(wait, &mut self.piece);
+            if read != Err(NoBytes::Expired) {
+                return read;
+            }
+            if peer.progress.replied && self.other_waits() {
+                break;
+            }
+        }
+        Err(NoBytes::Expired)
+    }
+
+    // Reads the next bytes of a connection: how many, where 0 is the end, or none where it is lost.
+    fn read(&mut self, peer: &mut Peer<R::Stream>) -> Option<usize>
+        ensures read { IfSome result (λ count.
+            HasRead self.old.waits.idle peer.old.progress peer.new.read_wait count) }
+        ensures progress { peer.new.progress ≡ peer.old.progress }
+        ensures same { self.new ≡ self.old }
+    {
+        let pieces = peer.progress.pieces;
+        if pieces >= MOST_PARTS {
+            return None;
+        }
+        let read = if pieces == 0 {
+            self.read_first(peer)
+        } else {
+            peer.read_within(wait_at(self.waits.idle, pieces), &mut self.piece)
+        };
+        match read {
+            Ok(count) => Some(count),
+            Err(_) => None,
+        }
+    }
+
+    // What comes of the connection in hand.
+    fn event_of(&mut self, alloc: Global, peer: &mut Peer<R::Stream>) -> WireEvent
+        ensures event { IsPieceOf self.old.opened self.old.waits.idle
+            (record { progress = peer.old.progress; read_wait = peer.old.read_wait }) result
+            (record { progress = peer.new.progress; read_wait = peer.new.read_wait }) }
+        ensures same { self.new ≡ self.old }
+    {
+        let Some(count) = self.read(peer) else {
+            return WireEvent::Lost(self.opened);
+        };
+        if count == 0 {
+            peer.progress.ended = true;
+            return WireEvent::Ended(self.opened);
+        }
+        match Str::new(alloc, &self.piece[..count]) {
+            Ok(piece) => {
+                peer.progress.pieces += 1;
+                WireEvent::Bytes(self.opened, piece)
+            }
+            Err(_) => WireEvent::Lost(self.opened),
+        }
+    }
+
+    // The next event.
     fn draw(&mut self, alloc: Global) -> Result<WireEvent, WireEnd>
         ensures event { IfOk result (λ event. IsNextIn self.old event self.new) }
         ensures fine { OnOk result (self.new.next_faults ≡ self.old.next_faults) }
@@ -109,32 +232,27 @@ impl<'r, R: Net> TcpWire<'r, R> {
         let Some(mut peer) = self.peer.take() else {
             return self.accept();
         };
-        if peer.ended {
-            shut(peer);
+        if peer.progress.ended {
+            peer.shut();
             return self.accept();
         }
-        let event = read_piece(alloc, &mut peer.stream, self.opened);
-        match &event {
-            Ok(WireEvent::Lost(_)) => shut(peer),
-            Ok(WireEvent::Ended(_)) => {
-                peer.ended = true;
-                self.peer = Some(peer);
-            }
-            _ => self.peer = Some(peer),
-        }
-        event
+        let event = self.event_of(alloc, &mut peer);
+        self.peer = keep(peer, &event);
+        Ok(event)
     }
 
-    /// Listens at 127.0.0.1.
+    // Listens at 127.0.0.1.
     fn bind(&mut self, port: u16, connections: u64) -> Result<(), Failed>
-        ensures ok { OnOk result (self.new ≡ record self.old { left = connections }) }
+        ensures ok { OnOk result (self.new ≡ record self.old {
+          left = connections;
+          address = Some (local_address port);
+        }) }
         ensures err { OnErr result (self.new
             ≡ record self.old { next_faults = up self.old.next_faults }) }
     {
-        let address = SocketAddr::from(SocketAddrV4::new(Ipv4Addr::LOCALHOST, port));
-        match self.net.bind(address) {
-            Ok(listener) => {
-                self.listener = Some(listener);
+        match listen_at(self.system, SocketAddrV4::new(Ipv4Addr::LOCALHOST, port)) {
+            Ok(place) => {
+                self.place = Some(place);
                 self.left = connections;
                 Ok(())
             }
@@ -145,10 +263,9 @@ impl<'r, R: Net> TcpWire<'r, R> {
         }
     }
 
-    /// Sends to the connection in hand, which is let go where that fails. No other takes anything.
+    // Sends to the connection in hand, which is let go where that fails. No other takes anything.
     fn give(&mut self, connection: u64, bytes: &[u8]) -> Result<(), Failed>
-        ensures ok { OnOk result ((connection ≡ self.old.opened) × IsSome self.old.hand
-            × (self.new ≡ self.old)) }
+        ensures ok { OnOk result (IsSent connection bytes.now self.old self.new) }
         ensures err { OnErr result (self.new ≡ let_go connection self.old) }
     {
         if connection != self.opened {
@@ -157,79 +274,129 @@ impl<'r, R: Net> TcpWire<'r, R> {
         let Some(mut peer) = self.peer.take() else {
             return Err(Failed);
         };
-        if peer.stream.write_all(bytes).is_err() {
-            shut(peer);
+        if peer.send(self.waits.stall, bytes).is_err() {
+            peer.shut();
             return Err(Failed);
         }
+        peer.progress.pieces = 0;
+        peer.progress.replied = true;
+        peer.progress.refused = refuses(bytes);
         self.peer = Some(peer);
         Ok(())
     }
 
-    /// Lets the connection in hand go, where it has this number.
+    // Lets the connection in hand go, where it has this number.
     fn let_go(&mut self, connection: u64)
         ensures { self.new ≡ let_go connection self.old }
     {
         if connection == self.opened
             && let Some(peer) = self.peer.take()
         {
-            shut(peer);
+            peer.part(&mut self.piece);
         }
     }
 }
 
-/// A connection whose replies go out at once, each as it is sent.
-fn open<S: OpenStream>(stream: S) -> Peer<S>
-    ensures { result.ended ≡ false }
+// The connection after what came of it: none where it is lost.
+fn keep<S: Read + Write + OpenStream + Drop>(peer: Peer<S>, event: &WireEvent) -> Option<Peer<S>>
+    ensures { option_map (λ p. record { progress = p.progress; read_wait = p.read_wait }) result
+        ≡ kept event.now (record { progress = peer.progress; read_wait = peer.read_wait }) }
 {
-    let _ = stream.set_nodelay(true);
-    Peer {
-        stream,
-        ended: false,
-    }
-}
-
-/// Lets a connection go.
-fn shut<S: OpenStream + Drop>(peer: Peer<S>) {
-    let _ = peer.stream.shutdown(Shutdown::Both);
-}
-
-/// The next piece of a connection's bytes, or its end or loss.
-fn read_piece<S: Read>(alloc: Global, stream: &mut S, connection: u64) -> Result<WireEvent, WireEnd>
-    ensures { MatchResult result (IsPieceOf connection) (λ e. e ≡ WireEnd.NoMemory) }
-{
-    let Ok(mut piece) = vec![in alloc; 0; PIECE] else {
-        return Err(WireEnd::NoMemory);
-    };
-    match stream.read(&mut piece) {
-        Ok(0) => Ok(WireEvent::Ended(connection)),
-        Ok(count) => {
-            piece.truncate(count);
-            match Str::of(alloc, piece) {
-                Ok(piece) => Ok(WireEvent::Bytes(connection, piece)),
-                Err(_) => Err(WireEnd::NoMemory),
-            }
+    match event {
+        WireEvent::Lost(_) => {
+            peer.shut();
+            None
         }
-        Err(_) => Ok(WireEvent::Lost(connection)),
+        _ => Some(peer),
     }
 }
 
-impl<R: Net> Wire for TcpWire<'_, R> {
+// Listens at this address.
+fn listen_at<R: Net>(net: &R, address: SocketAddrV4) -> Result<Place<R::Listener>, Failed>
+    ensures { IfOk result (λ place. place.address ≡ V4 address) }
+{
+    let address = SocketAddr::from(address);
+    match net.bind(address) {
+        Ok(listener) => Ok(Place { listener, address }),
+        Err(_) => Err(Failed),
+    }
+}
+
+impl<R: Net + Clock> Wire for TcpWire<'_, R> {
     ghost told = { told_of };
 
     /// Listens at 127.0.0.1.
-    fn listen(&mut self, port: u16, connections: u64) -> Result<(), Failed> {
+    fn listen(&mut self, port: u16, connections: u64) -> Result<(), Failed>
+        ensures listens { (told_of self.new).listens
+            ≡ add_listen (told_of self.old).listens port connections }
+        ensures fine { OnOk result ((told_of self.new).next_faults
+            ≡ (told_of self.old).next_faults) }
+        ensures failed { OnErr result (Rose (told_of self.old).next_faults
+            (told_of self.new).next_faults) }
+        ensures stays { ((told_of self.new).account ≡ (told_of self.old).account)
+            × ((told_of self.new).faults ≡ (told_of self.old).faults)
+            × ((told_of self.new).given ≡ (told_of self.old).given)
+            × ((told_of self.new).left ≡ (told_of self.old).left) }
+        ensures at { OnOk result (self.new ≡ record self.old {
+          left = connections;
+          address = Some (local_address port);
+        }) }
+        ensures nowhere { OnErr result (self.new
+            ≡ record self.old { next_faults = up self.old.next_faults }) }
+    {
         self.bind(port, connections)
     }
 
-    fn next(&mut self, alloc: Global) -> Result<WireEvent, WireEnd> {
+    /// `Failed` where no connection could be taken. It never runs out of memory: that costs the connection.
+    fn next(&mut self, alloc: Global) -> Result<WireEvent, WireEnd>
+        ensures given { IfOk result (λ event. (told_of self.new).given
+            ≡ add_event (told_of self.old).given event) }
+        ensures left { IfOk result (λ event. IsNextOf (told_of self.old).left event
+            (told_of self.new).left) }
+        ensures err { OnErr result (((told_of self.new).given ≡ (told_of self.old).given)
+            × ((told_of self.new).left ≡ (told_of self.old).left)) }
+        ensures fine { OnOk result ((told_of self.new).next_faults
+            ≡ (told_of self.old).next_faults) }
+        ensures failed { IsErrOf result WireEnd.Failed
+            → Rose (told_of self.old).next_faults (told_of self.new).next_faults }
+        ensures stays { ((told_of self.new).account ≡ (told_of self.old).account)
+            × ((told_of self.new).faults ≡ (told_of self.old).faults)
+            × ((told_of self.new).listens ≡ (told_of self.old).listens) }
+        ensures event { IfOk result (λ event. IsNextIn self.old event self.new) }
+        ensures misses { IfErr result (MissesNext self.old self.new) }
+    {
         self.draw(alloc)
     }
 
-    fn send(&mut self, connection: u64, bytes: &[u8]) -> Result<(), Failed> {
+    /// Fails where the connection is not in hand, and where it doesn't take all in time, which lets it go.
+    fn send(&mut self, connection: u64, bytes: &[u8]) -> Result<(), Failed>
+        ensures ok { OnOk result ((told_of self.new).account connection
+            ≡ send_to ((told_of self.old).account connection) bytes.now) }
+        ensures err { OnErr result ((some : ℕ) × ((told_of self.new).account connection
+            ≡ send_to ((told_of self.old).account connection) (take some bytes.now))) }
+        ensures fine { OnOk result ((told_of self.new).faults connection
+            ≡ (told_of self.old).faults connection) }
+        ensures failed { OnErr result (Rose ((told_of self.old).faults connection)
+            ((told_of self.new).faults connection)) }
+        ensures others { OtherAccountsStay connection (told_of self.old) (told_of self.new) }
+        ensures others_fine { OtherFaultsStay connection (told_of self.old) (told_of self.new) }
+        ensures stays { EventsStay (told_of self.old) (told_of self.new) }
+        ensures sent { OnOk result (IsSent connection bytes.now self.old self.new) }
+        ensures gone { OnErr result (self.new ≡ let_go connection self.old) }
+    {
         self.give(connection, bytes)
     }
 
-    fn close(&mut self, connection: u64) {
+    /// Lets the connection go, where it is in hand.
+    fn close(&mut self, connection: u64)
+        ensures closed { (told_of self.new).account connection
+            ≡ close_to ((told_of self.old).account connection) }
+        ensures others { OtherAccountsStay connection (told_of self.old) (told_of self.new) }
+        ensures faults_stay { (other : ℕ)
+            → (told_of self.new).faults other ≡ (told_of self.old).faults other }
+        ensures stays { EventsStay (told_of self.old) (told_of self.new) }
+        ensures gone { self.new ≡ let_go connection self.old }
+    {
         self.let_go(connection);
     }
 }

@@ -8,14 +8,14 @@ use Rattle.grammar.proofs.RepeatLoop.{shrinks, goes_on, done}
 use Rattle.template_items.specs.declared.item.Item.{Item}
 use Rattle.tmpl.specs.Body.{Body, part_before, body_of}
 use Rattle.tmpl.specs.declared.Part.{Part, Text, Format, Choice', Repeat'}
-use Rattle.template_reader.specs.declared.halt.Halt.{Halt}
-use Rattle.template_reader.specs.declared.halt.Halt.TheVariants.{Expected, TooDeep, NoMemory}
+use Rattle.token_reader.specs.declared.halt.Halt.{Halt}
+use Rattle.token_reader.specs.declared.halt.Halt.TheVariants.{Expected, TooDeep, NoMemory}
 use Rattle.template_reader.specs.declared.words.Bound.{Bound}
-use Rattle.template_reader.specs.Gives.{Fails, Gives, single}
-use Rattle.template_reader.specs.Template.{before, chain}
+use Rattle.token_reader.specs.Gives.{Fails, Gives}
+use Rattle.template_reader.specs.Template.{before, chain, single}
 use Rattle.template_reader.specs.Reading.{is_part, read_part, read_body_of, read_body, read_block, read_block_at}
 use Rattle.template_reader.proofs.BodyParts.{part_part, part_opens}
-use Rattle.template_reader.proofs.Ends.{ends}
+use Rattle.token_reader.proofs.Ends.{ends}
 
 before_single : (p : Part) (rest : Body) → before (single p) rest ≡ part_before p rest
 before_single (Text s) rest = refl
@@ -45,7 +45,7 @@ block_by_room (suc depth) scope items e = rw sub-one refl
 
 -- the loop over the parts of a body
 module _ (depth : ℕ) (scope : List Bound) where
-  pub list_ends : (e : Halt) (front : List Body) (items : List Item) (total : Outcome Item (List Body)) → starts is_part items ≡ true → Fails e (read_part (read_block_at depth) scope items)
+  pub list_ends : (e : Halt Item) (front : List Body) (items : List Item) (total : Outcome Item (List Body)) → starts is_part items ≡ true → Fails e (read_part (read_block_at depth) scope items)
       → with_front front (repeat is_part (read_part (read_block_at depth) scope) items) ≡ total → Fails e total
   list_ends = ends is_part (part_part depth (suc depth) (omega arith) scope) (part_opens (suc depth) scope)
 
@@ -65,12 +65,12 @@ body_reads : (depth : ℕ) (scope : List Bound) (items : List Item) (o : Outcome
 unfolding read_body_of
 body_reads depth scope items o e = body_is depth scope items ∙ ap (λ p. and_then p (λ ps. give (chain ps))) e
 
-body_fails : (depth : ℕ) (scope : List Bound) (items : List Item) (e : Halt) → Fails e (repeat is_part (read_part (read_block_at depth) scope) items) → Fails e (read_body depth scope items)
+body_fails : (depth : ℕ) (scope : List Bound) (items : List Item) (e : Halt Item) → Fails e (repeat is_part (read_part (read_block_at depth) scope) items) → Fails e (read_body depth scope items)
 body_fails depth scope items NoMemory h = tt
 body_fails depth scope items (Expected rest) h = body_reads depth scope items (Stuck rest.now) h
 body_fails depth scope items (TooDeep rest) h = body_reads depth scope items (Past rest.now) h
 
-pub body_gives : (depth : ℕ) (scope : List Bound) (items : List Item) (r : Result (Vec Part × Bor (List Item)) Halt) → Gives (λ x. map single x.0.items) (λ x. x.1.now) r (repeat is_part (read_part (read_block_at depth) scope) items)
+pub body_gives : (depth : ℕ) (scope : List Bound) (items : List Item) (r : Result (Vec Part × Bor (List Item)) (Halt Item)) → Gives (λ x. map single x.0.items) (λ x. x.1.now) r (repeat is_part (read_part (read_block_at depth) scope) items)
     → Gives (λ x. body_of x.0.items) (λ x. x.1.now) r (read_body depth scope items)
 body_gives depth scope items (Ok x) h = body_reads depth scope items (Read (map single x.0.items) x.1.now) h ∙ ap (λ b. Read b x.1.now) (chain_is x.0.items)
 body_gives depth scope items (Err e) h = body_fails depth scope items e h

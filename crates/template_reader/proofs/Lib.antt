@@ -1,5 +1,4 @@
 pub mod Known
-pub mod Ends
 pub mod ItemFacts
 pub mod WordParts
 pub mod SettingParts

@@ -6,8 +6,8 @@ use Rattle.template_items.specs.declared.item.Item.{Item}
 use Rattle.tmpl.specs.Body.{body_of, Named, TemplateFile}
 use Rattle.template_reader.specs.declared.file.Head as declared_head
 use Rattle.template_reader.specs.declared.file.Entry as declared_entry
-use Rattle.template_reader.specs.declared.halt.Halt.{Halt}
-use Rattle.template_reader.specs.Gives.{Fails}
+use Rattle.token_reader.specs.declared.halt.Halt.{Halt}
+use Rattle.token_reader.specs.Gives.{Fails}
 use Rattle.template_reader.specs.Template.{Head, Entry}
 
 -- the head that the reader found
@@ -19,7 +19,7 @@ abbrev pub entry_of : declared_entry.Entry → Entry
 entry_of e = record { of_collection = e.of_collection; name = e.name; body = body_of e.parts.items }
 
 -- The whole answer is what reading the items to their end gives.
-abbrev pub GivesAll : Result (Vec declared_entry.Entry) Halt → Outcome Item (List Entry) → Type 0
+abbrev pub GivesAll : Result (Vec declared_entry.Entry) (Halt Item) → Outcome Item (List Entry) → Type 0
 GivesAll (Ok v) read = read ≡ Read (map entry_of v.items) []
 GivesAll (Err e) read = Fails e read
 

@@ -1,7 +1,6 @@
 pub mod Terminals
 pub mod Template
 pub mod Reading
-pub mod Gives
 pub mod Entries
 pub mod Faults
 pub mod Filed

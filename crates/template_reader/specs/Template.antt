@@ -15,11 +15,12 @@ use Rattle.grammar.specs.Grammar.{nothing, one, ◌>>=◌, ◌>>◌, either, man
 use Rattle.template_items.specs.declared.item.Item.{Item}
 use Rattle.template_items.specs.declared.item.Mark.{Mark}
 use Rattle.template_items.specs.declared.item.Mark.TheVariants as marks
-use Rattle.tmpl.specs.Body.{Body, done, text, format, choice, repeat}
+use Rattle.tmpl.specs.Body.{Body, done, part_before, text, format, choice, repeat}
 use Rattle.tmpl.specs.declared.Against.{Against}
 use Rattle.tmpl.specs.declared.Cmp.{Cmp}
 use Rattle.tmpl.specs.declared.Expr.{Expr}
 use Rattle.tmpl.specs.declared.Mode.TheVariants.{Embed, Link}
+use Rattle.tmpl.specs.declared.Part.{Part}
 use Rattle.tmpl.specs.declared.WordRoot.{WordRoot}
 use Rattle.tmpl.specs.declared.WordRoot.TheVariants.{Here, Loop, Collection}
 use Rattle.template_reader.specs.declared.words.Bound.{Bound}
@@ -185,6 +186,10 @@ before (text t b) rest = text t (before b rest)
 before (format e m o b) rest = format e m o (before b rest)
 before (choice n e a b c d) rest = choice n e a b c (before d rest)
 before (repeat n e o b c) rest = repeat n e o b (before c rest)
+
+-- one part as a body
+abbrev pub single : Part → Body
+single p = part_before p done
 
 -- parts one after another, as one body
 abbrev pub chain : List Body → Body

@@ -4,13 +4,13 @@ ghost use Rattle.std.specs.Prelude.{◌≡◌, ◌++◌, ◌∷◌, [], true, ma
 ghost use Rattle.grammar.specs.Reading.{starts};
 ghost use Rattle.grammar.specs.Reading as reading;
 ghost use Rattle.tmpl.specs.Body.{body_of, done, choice, repeat};
-ghost use Rattle.template_reader.specs.Gives.{Gives, single};
+ghost use Rattle.template_reader.specs.Template.{single};
+ghost use Rattle.token_reader.specs.Gives.{Gives};
 ghost use Rattle.template_reader.specs.Terminals.{no_settings, loop_settings};
 ghost use Rattle.template_reader.specs.Template.{chain};
 ghost use Rattle.template_reader.specs.Reading.{read_text, read_format, read_leaf, read_compared, read_not_compared, read_comparing, read_comparison, read_other_branch, read_no_other, read_ending, read_branches, read_tested, read_negated, read_choice_rest, read_repeated, read_repeat_rest, read_choice, read_repeat, read_block, is_block, is_part, read_part, read_body_of, read_body, read_block_at};
 
 use crate::expression::{expression_at, settings_at};
-use crate::halt::Halt;
 use crate::settings::{Settings, mode_and_order};
 use crate::tokens::{
     compare_at, constant_at, has_compare, has_mark, has_not, has_text, in_at, mark_at, not_at,
@@ -21,9 +21,10 @@ use sd_value::{NoMemory, Str};
 use std::alloc::Global;
 use template_items::{Item, Mark};
 use tmpl::{Against, Choice, Expr, Format, Mode, Order, Part, Repeat};
+use token_reader::Halt;
 
 #[tactic(auto, unfolding(crate::specs::Reading::read_text))]
-fn text_part_at(alloc: Global, items: &[Item]) -> Result<(Part, &[Item]), Halt>
+fn text_part_at(alloc: Global, items: &[Item]) -> Result<(Part, &[Item]), Halt<Item>>
     ensures { Gives (λ x. single x.0) (λ x. x.1.now) result (read_text items.now) }
 {
     let (text, rest) = text_at(alloc, items)?;
@@ -60,7 +61,7 @@ fn format_at<'a>(
     alloc: Global,
     scope: &[Bound],
     items: &'a [Item],
-) -> Result<(Part, &'a [Item]), Halt<'a>>
+) -> Result<(Part, &'a [Item]), Halt<'a, Item>>
     ensures { Gives (λ x. single x.0) (λ x. x.1.now) result (read_format scope.now items.now) }
 {
     let (_, rest) = mark_at(items, Mark::OpenFormat)?;
@@ -82,7 +83,7 @@ fn leaf_at<'a>(
     alloc: Global,
     scope: &[Bound],
     items: &'a [Item],
-) -> Result<(Part, &'a [Item]), Halt<'a>>
+) -> Result<(Part, &'a [Item]), Halt<'a, Item>>
     ensures { Gives (λ x. single x.0) (λ x. x.1.now) result (read_leaf scope.now items.now) }
 {
     if has_text(items) {
@@ -94,7 +95,7 @@ fn leaf_at<'a>(
 
 /// A comparison with a constant, and the end of the tag.
 #[tactic(auto, unfolding(crate::specs::Reading::read_comparing, crate::specs::Reading::read_compared))]
-fn comparing_at(alloc: Global, items: &[Item]) -> Result<(Option<Against>, &[Item]), Halt>
+fn comparing_at(alloc: Global, items: &[Item]) -> Result<(Option<Against>, &[Item]), Halt<Item>>
     ensures { Gives (λ x. x.0) (λ x. x.1.now) result (read_comparing items.now) }
 {
     let (compare, rest) = compare_at(items)?;
@@ -104,7 +105,7 @@ fn comparing_at(alloc: Global, items: &[Item]) -> Result<(Option<Against>, &[Ite
 }
 
 #[tactic(auto, unfolding(crate::specs::Reading::read_not_compared))]
-fn not_compared_at(items: &[Item]) -> Result<(Option<Against>, &[Item]), Halt>
+fn not_compared_at(items: &[Item]) -> Result<(Option<Against>, &[Item]), Halt<Item>>
     ensures { Gives (λ x. x.0) (λ x. x.1.now) result (read_not_compared items.now) }
 {
     let (_, rest) = mark_at(items, Mark::Close)?;
@@ -113,7 +114,7 @@ fn not_compared_at(items: &[Item]) -> Result<(Option<Against>, &[Item]), Halt>
 
 /// The comparison, if there is one, and the end of the tag.
 #[tactic(auto, unfolding(crate::specs::Reading::read_comparison))]
-fn comparison_at(alloc: Global, items: &[Item]) -> Result<(Option<Against>, &[Item]), Halt>
+fn comparison_at(alloc: Global, items: &[Item]) -> Result<(Option<Against>, &[Item]), Halt<Item>>
     ensures { Gives (λ x. x.0) (λ x. x.1.now) result (read_comparison items.now) }
 {
     if has_compare(items) {
@@ -125,7 +126,7 @@ fn comparison_at(alloc: Global, items: &[Item]) -> Result<(Option<Against>, &[It
 
 /// `</SIF>`, and no other branch.
 #[tactic(auto, unfolding(crate::specs::Reading::read_no_other))]
-fn no_other_at(alloc: Global, items: &[Item]) -> Result<(Vec<Part>, &[Item]), Halt>
+fn no_other_at(alloc: Global, items: &[Item]) -> Result<(Vec<Part>, &[Item]), Halt<Item>>
     ensures { Gives (λ x. body_of x.0.items) (λ x. x.1.now) result (read_no_other items.now) }
 {
     let (_, rest) = mark_at(items, Mark::EndChoice)?;
@@ -198,7 +199,7 @@ pub fn body_at<'a>(
     depth: u32,
     scope: &[Bound],
     items: &'a [Item],
-) -> Result<(Vec<Part>, &'a [Item]), Halt<'a>>
+) -> Result<(Vec<Part>, &'a [Item]), Halt<'a, Item>>
     ensures { Gives (λ x. body_of x.0.items) (λ x. x.1.now) result
         (read_body depth scope.now items.now) }
 {
@@ -212,7 +213,7 @@ fn parts_at<'a>(
     depth: u32,
     scope: &[Bound],
     items: &'a [Item],
-) -> Result<(Vec<Part>, &'a [Item]), Halt<'a>>
+) -> Result<(Vec<Part>, &'a [Item]), Halt<'a, Item>>
     ensures { Gives (λ x. map single x.0.items) (λ x. x.1.now) result
         (reading.repeat is_part (read_part (read_block_at depth) scope.now) items.now) }
 {
@@ -234,7 +235,7 @@ fn part_at<'a>(
     depth: u32,
     scope: &[Bound],
     items: &'a [Item],
-) -> Result<(Part, &'a [Item]), Halt<'a>>
+) -> Result<(Part, &'a [Item]), Halt<'a, Item>>
     ensures { Gives (λ x. single x.0) (λ x. x.1.now) result
         (read_part (read_block_at depth) scope.now items.now) }
 {
@@ -252,7 +253,7 @@ fn block_at<'a>(
     depth: u32,
     scope: &[Bound],
     items: &'a [Item],
-) -> Result<(Part, &'a [Item]), Halt<'a>>
+) -> Result<(Part, &'a [Item]), Halt<'a, Item>>
     ensures { Gives (λ x. single x.0) (λ x. x.1.now) result
         (read_block_at depth scope.now items.now) }
 {
@@ -271,7 +272,7 @@ fn tag_at<'a>(
     depth: u32,
     scope: &[Bound],
     items: &'a [Item],
-) -> Result<(Part, &'a [Item]), Halt<'a>>
+) -> Result<(Part, &'a [Item]), Halt<'a, Item>>
     ensures { Gives (λ x. single x.0) (λ x. x.1.now) result
         (read_block (read_body depth) scope.now items.now) }
 {
@@ -290,7 +291,7 @@ fn choice_at<'a>(
     depth: u32,
     scope: &[Bound],
     items: &'a [Item],
-) -> Result<(Part, &'a [Item]), Halt<'a>>
+) -> Result<(Part, &'a [Item]), Halt<'a, Item>>
     ensures { Gives (λ x. single x.0) (λ x. x.1.now) result
         (read_choice (read_body depth) scope.now items.now) }
 {
@@ -306,7 +307,7 @@ fn choice_rest_at<'a>(
     depth: u32,
     scope: &[Bound],
     items: &'a [Item],
-) -> Result<(Part, &'a [Item]), Halt<'a>>
+) -> Result<(Part, &'a [Item]), Halt<'a, Item>>
     ensures { Gives (λ x. single x.0) (λ x. x.1.now) result
         (read_choice_rest (read_body depth) scope.now items.now) }
 {
@@ -327,7 +328,7 @@ fn tested_at<'a>(
     scope: &[Bound],
     negated: bool,
     items: &'a [Item],
-) -> Result<(Part, &'a [Item]), Halt<'a>>
+) -> Result<(Part, &'a [Item]), Halt<'a, Item>>
     ensures { Gives (λ x. single x.0) (λ x. x.1.now) result
         (read_tested (read_body depth) scope.now negated items.now) }
 {
@@ -347,7 +348,7 @@ fn branches_at<'a>(
     values: Expr,
     against: Option<Against>,
     items: &'a [Item],
-) -> Result<(Part, &'a [Item]), Halt<'a>>
+) -> Result<(Part, &'a [Item]), Halt<'a, Item>>
     ensures { Gives (λ x. single x.0) (λ x. x.1.now) result
         (read_branches (read_body depth scope.now) negated values against items.now) }
 {
@@ -364,7 +365,7 @@ fn ending_at<'a>(
     depth: u32,
     scope: &[Bound],
     items: &'a [Item],
-) -> Result<(Vec<Part>, &'a [Item]), Halt<'a>>
+) -> Result<(Vec<Part>, &'a [Item]), Halt<'a, Item>>
     ensures { Gives (λ x. body_of x.0.items) (λ x. x.1.now) result
         (read_ending (read_body depth scope.now) items.now) }
 {
@@ -385,7 +386,7 @@ fn repeat_at<'a>(
     depth: u32,
     scope: &[Bound],
     items: &'a [Item],
-) -> Result<(Part, &'a [Item]), Halt<'a>>
+) -> Result<(Part, &'a [Item]), Halt<'a, Item>>
     ensures { Gives (λ x. single x.0) (λ x. x.1.now) result
         (read_repeat (read_body depth) scope.now items.now) }
 {
@@ -402,7 +403,7 @@ fn repeat_rest_at<'a>(
     scope: &[Bound],
     number: u32,
     items: &'a [Item],
-) -> Result<(Part, &'a [Item]), Halt<'a>>
+) -> Result<(Part, &'a [Item]), Halt<'a, Item>>
     ensures { Gives (λ x. single x.0) (λ x. x.1.now) result
         (read_repeat_rest (read_body depth) scope.now number items.now) }
 {
@@ -433,7 +434,7 @@ fn repeated_at<'a>(
     values: Expr,
     order: Order,
     items: &'a [Item],
-) -> Result<(Part, &'a [Item]), Halt<'a>>
+) -> Result<(Part, &'a [Item]), Halt<'a, Item>>
     ensures { Gives (λ x. single x.0) (λ x. x.1.now) result
         (read_repeated (read_body depth) scope.now bound values order items.now) }
 {

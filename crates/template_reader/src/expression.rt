@@ -2,11 +2,10 @@
 
 ghost use Rattle.std.specs.Prelude.{◌≡◌, true, Some};
 ghost use Rattle.grammar.specs.Reading.{take_one, repeat, with_front, choose};
-ghost use Rattle.template_reader.specs.Gives.{Gives};
+ghost use Rattle.token_reader.specs.Gives.{Gives};
 ghost use Rattle.template_reader.specs.Terminals.{is_dot, is_setting};
 ghost use Rattle.template_reader.specs.Reading.{read_dotted, read_word, read_joined_word, read_here, read_here_of, read_collection, read_of_loop, read_loop, read_place, read_expr, read_key, read_order, read_delimiter, read_label, read_link, read_set, read_close, read_next, read_settings};
 
-use crate::halt::Halt;
 use crate::settings::{Setting, Settings};
 use crate::tokens::{
     direction_at, dot_at, equals_at, has_dot, has_equals, has_known, has_mark, has_setting,
@@ -17,10 +16,11 @@ use sd_value::Str;
 use std::alloc::Global;
 use template_items::{Item, Mark};
 use tmpl::{Expr, Mode, Word, WordRoot};
+use token_reader::Halt;
 
 /// A dot and a label.
 #[tactic(auto, unfolding(crate::specs::Reading::read_dotted))]
-fn dotted_at(alloc: Global, items: &[Item]) -> Result<(Str, &[Item]), Halt>
+fn dotted_at(alloc: Global, items: &[Item]) -> Result<(Str, &[Item]), Halt<Item>>
     ensures { Gives (λ x. x.0) (λ x. x.1.now) result (read_dotted items.now) }
 {
     let (_, rest) = dot_at(items)?;
@@ -28,7 +28,11 @@ fn dotted_at(alloc: Global, items: &[Item]) -> Result<(Str, &[Item]), Halt>
 }
 
 /// The labels behind `labels`, each behind a dot.
-fn labels_from(alloc: Global, mut labels: Vec<Str>, items: &[Item]) -> Result<(Word, &[Item]), Halt>
+fn labels_from(
+    alloc: Global,
+    mut labels: Vec<Str>,
+    items: &[Item],
+) -> Result<(Word, &[Item]), Halt<Item>>
     ensures { Gives (λ x. x.0) (λ x. x.1.now) result
         (with_front labels.items (repeat is_dot read_dotted items.now)) }
 {
@@ -43,7 +47,7 @@ fn labels_from(alloc: Global, mut labels: Vec<Str>, items: &[Item]) -> Result<(W
 
 /// A word.
 #[tactic(auto, unfolding(crate::specs::Reading::read_word))]
-fn word_at(alloc: Global, items: &[Item]) -> Result<(Word, &[Item]), Halt>
+fn word_at(alloc: Global, items: &[Item]) -> Result<(Word, &[Item]), Halt<Item>>
     ensures { Gives (λ x. x.0) (λ x. x.1.now) result (read_word items.now) }
 {
     let (first, rest) = label_at(alloc, items)?;
@@ -52,7 +56,7 @@ fn word_at(alloc: Global, items: &[Item]) -> Result<(Word, &[Item]), Halt>
 
 /// A word right behind a sign.
 #[tactic(auto, unfolding(crate::specs::Reading::read_joined_word))]
-fn joined_word_at(alloc: Global, items: &[Item]) -> Result<(Word, &[Item]), Halt>
+fn joined_word_at(alloc: Global, items: &[Item]) -> Result<(Word, &[Item]), Halt<Item>>
     ensures { Gives (λ x. x.0) (λ x. x.1.now) result (read_joined_word items.now) }
 {
     let (first, rest) = joined_at(alloc, items)?;
@@ -61,7 +65,7 @@ fn joined_word_at(alloc: Global, items: &[Item]) -> Result<(Word, &[Item]), Halt
 
 /// `@` alone.
 #[tactic(auto, unfolding(crate::specs::Reading::read_here))]
-fn here_at(alloc: Global, items: &[Item]) -> Result<(Expr, &[Item]), Halt>
+fn here_at(alloc: Global, items: &[Item]) -> Result<(Expr, &[Item]), Halt<Item>>
     ensures { Gives (λ x. x.0) (λ x. x.1.now) result (read_here items.now) }
 {
     let (_, rest) = mark_at(items, Mark::Here)?;
@@ -79,7 +83,7 @@ fn here_at(alloc: Global, items: &[Item]) -> Result<(Expr, &[Item]), Halt>
 
 /// `@` and a word.
 #[tactic(auto, unfolding(crate::specs::Reading::read_here_of))]
-fn here_of_at(alloc: Global, items: &[Item]) -> Result<(Expr, &[Item]), Halt>
+fn here_of_at(alloc: Global, items: &[Item]) -> Result<(Expr, &[Item]), Halt<Item>>
     ensures { Gives (λ x. x.0) (λ x. x.1.now) result (read_here_of items.now) }
 {
     let (_, rest) = mark_at(items, Mark::HereOf)?;
@@ -95,7 +99,7 @@ fn here_of_at(alloc: Global, items: &[Item]) -> Result<(Expr, &[Item]), Halt>
 
 /// `#`, a collection's name, and perhaps a word.
 #[tactic(auto, unfolding(crate::specs::Reading::read_collection))]
-fn collection_at(alloc: Global, items: &[Item]) -> Result<(Expr, &[Item]), Halt>
+fn collection_at(alloc: Global, items: &[Item]) -> Result<(Expr, &[Item]), Halt<Item>>
     ensures { Gives (λ x. x.0) (λ x. x.1.now) result (read_collection items.now) }
 {
     let (_, rest) = mark_at(items, Mark::Hash)?;
@@ -116,7 +120,7 @@ fn loop_at<'a>(
     alloc: Global,
     scope: &[Bound],
     items: &'a [Item],
-) -> Result<(Expr, &'a [Item]), Halt<'a>>
+) -> Result<(Expr, &'a [Item]), Halt<'a, Item>>
     ensures { Gives (λ x. x.0) (λ x. x.1.now) result (read_loop scope.now items.now) }
 {
     let (number, rest) = known_at(items, scope)?;
@@ -132,7 +136,7 @@ fn loop_at<'a>(
 
 /// An expression without a variable.
 #[tactic(auto, unfolding(crate::specs::Reading::read_place))]
-fn place_at(alloc: Global, items: &[Item]) -> Result<(Expr, &[Item]), Halt>
+fn place_at(alloc: Global, items: &[Item]) -> Result<(Expr, &[Item]), Halt<Item>>
     ensures { Gives (λ x. x.0) (λ x. x.1.now) result (read_place items.now) }
 {
     if has_mark(items, Mark::Here) {
@@ -150,7 +154,7 @@ pub fn expression_at<'a>(
     alloc: Global,
     scope: &[Bound],
     items: &'a [Item],
-) -> Result<(Expr, &'a [Item]), Halt<'a>>
+) -> Result<(Expr, &'a [Item]), Halt<'a, Item>>
     ensures { Gives (λ x. x.0) (λ x. x.1.now) result (read_expr scope.now items.now) }
 {
     if has_unknown(items, scope) {
@@ -163,7 +167,11 @@ pub fn expression_at<'a>(
 }
 
 #[tactic(auto, unfolding(crate::specs::Reading::read_key))]
-fn key_at(alloc: Global, settings: Settings, items: &[Item]) -> Result<(Settings, &[Item]), Halt>
+fn key_at(
+    alloc: Global,
+    settings: Settings,
+    items: &[Item],
+) -> Result<(Settings, &[Item]), Halt<Item>>
     ensures { Gives (λ x. x.0) (λ x. x.1.now) result (read_key settings items.now) }
 {
     let (_, rest) = equals_at(items)?;
@@ -186,7 +194,7 @@ fn key_at(alloc: Global, settings: Settings, items: &[Item]) -> Result<(Settings
 }
 
 #[tactic(auto, unfolding(crate::specs::Reading::read_order))]
-fn order_at(settings: Settings, items: &[Item]) -> Result<(Settings, &[Item]), Halt>
+fn order_at(settings: Settings, items: &[Item]) -> Result<(Settings, &[Item]), Halt<Item>>
     ensures { Gives (λ x. x.0) (λ x. x.1.now) result (read_order settings items.now) }
 {
     let (_, rest) = equals_at(items)?;
@@ -213,7 +221,7 @@ fn delimiter_at(
     alloc: Global,
     settings: Settings,
     items: &[Item],
-) -> Result<(Settings, &[Item]), Halt>
+) -> Result<(Settings, &[Item]), Halt<Item>>
     ensures { Gives (λ x. x.0) (λ x. x.1.now) result (read_delimiter settings items.now) }
 {
     let (_, rest) = equals_at(items)?;
@@ -260,7 +268,11 @@ fn with_mode(settings: Settings, mode: Mode) -> Settings
 }
 
 #[tactic(auto, unfolding(crate::specs::Reading::read_link, crate::specs::Reading::read_label))]
-fn link_at(alloc: Global, settings: Settings, items: &[Item]) -> Result<(Settings, &[Item]), Halt>
+fn link_at(
+    alloc: Global,
+    settings: Settings,
+    items: &[Item],
+) -> Result<(Settings, &[Item]), Halt<Item>>
     ensures { Gives (λ x. x.0) (λ x. x.1.now) result (read_link settings items.now) }
 {
     if !has_equals(items) {
@@ -277,7 +289,7 @@ fn set_at(
     settings: Settings,
     setting: Setting,
     items: &[Item],
-) -> Result<(Settings, &[Item]), Halt>
+) -> Result<(Settings, &[Item]), Halt<Item>>
     ensures { Gives (λ x. x.0) (λ x. x.1.now) result (read_set settings setting items.now) }
 {
     match setting {
@@ -291,7 +303,7 @@ fn set_at(
 
 /// The end of a tag that has these settings.
 #[tactic(auto, unfolding(crate::specs::Reading::read_close))]
-fn close_at(settings: Settings, items: &[Item]) -> Result<(Settings, &[Item]), Halt>
+fn close_at(settings: Settings, items: &[Item]) -> Result<(Settings, &[Item]), Halt<Item>>
     ensures { Gives (λ x. x.0) (λ x. x.1.now) result (read_close settings items.now) }
 {
     let (_, rest) = mark_at(items, Mark::Close)?;
@@ -305,7 +317,7 @@ pub fn settings_at(
     turns: u32,
     settings: Settings,
     items: &[Item],
-) -> Result<(Settings, &[Item]), Halt>
+) -> Result<(Settings, &[Item]), Halt<Item>>
     ensures { Gives (λ x. x.0) (λ x. x.1.now) result (read_settings turns settings items.now) }
 {
     if turns == 0 {
@@ -322,7 +334,7 @@ fn further_at(
     turns: u32,
     settings: Settings,
     items: &[Item],
-) -> Result<(Settings, &[Item]), Halt>
+) -> Result<(Settings, &[Item]), Halt<Item>>
     ensures { Gives (λ x. x.0) (λ x. x.1.now) result
         (choose (is_setting settings) (read_next (read_settings turns) settings)
         (read_close settings) items.now) }
@@ -342,7 +354,7 @@ fn next_at(
     turns: u32,
     settings: Settings,
     items: &[Item],
-) -> Result<(Settings, &[Item]), Halt>
+) -> Result<(Settings, &[Item]), Halt<Item>>
     ensures { Gives (λ x. x.0) (λ x. x.1.now) result
         (read_next (read_settings turns) settings items.now) }
 {

@@ -4,20 +4,20 @@ ghost use Rattle.std.specs.Prelude.{◌≡◌, true, map};
 ghost use Rattle.grammar.specs.Reading.{take_one, starts};
 ghost use Rattle.grammar.specs.Reading as reading;
 ghost use Rattle.template_items.specs.declared.item.Mark.TheVariants as marks;
-ghost use Rattle.template_reader.specs.Gives.{Gives};
+ghost use Rattle.token_reader.specs.Gives.{Gives};
 ghost use Rattle.template_reader.specs.Terminals.{is_mark};
 ghost use Rattle.template_reader.specs.Template.{is_sort, named_value};
 ghost use Rattle.template_reader.specs.Entries.{head_of, entry_of, GivesAll};
 ghost use Rattle.template_reader.specs.Reading.{read_collection_head, read_function_head, read_named_head, is_named, read_head_rest, read_template, read_file};
 
 use crate::body::body_at;
-use crate::halt::Halt;
 use crate::tokens::{has_mark, mark_at, name_at};
 use sd_lex::TokenKind;
 use sd_value::Str;
 use std::alloc::Global;
 use template_items::{Item, ItemKind, Mark};
 use tmpl::Part;
+use token_reader::Halt;
 
 /// The sort and name of what a template presents.
 #[derive(Drop)]
@@ -62,7 +62,7 @@ fn named_at<'a>(
     alloc: Global,
     items: &'a [Item],
     word: &[u8],
-) -> Result<(Str, &'a [Item]), Halt<'a>>
+) -> Result<(Str, &'a [Item]), Halt<'a, Item>>
     ensures { Gives (λ x. x.0) (λ x. x.1.now) result
         (take_one true (named_value word.now) items.now) }
 {
@@ -81,7 +81,7 @@ fn named_head_at<'a>(
     alloc: Global,
     items: &'a [Item],
     word: &[u8],
-) -> Result<(Head, &'a [Item]), Halt<'a>>
+) -> Result<(Head, &'a [Item]), Halt<'a, Item>>
     ensures { Gives (λ x. head_of x.0) (λ x. x.1.now) result (read_named_head word.now items.now) }
 {
     let (name, rest) = named_at(alloc, items, word)?;
@@ -96,7 +96,7 @@ fn named_head_at<'a>(
 }
 
 #[tactic(auto, unfolding(crate::specs::Reading::read_function_head))]
-fn function_head_at(items: &[Item], name: Str) -> Result<(Head, &[Item]), Halt>
+fn function_head_at(items: &[Item], name: Str) -> Result<(Head, &[Item]), Halt<Item>>
     ensures { Gives (λ x. head_of x.0) (λ x. x.1.now) result (read_function_head name items.now) }
 {
     let (_, rest) = mark_at(items, Mark::Close)?;
@@ -111,7 +111,7 @@ fn function_head_at(items: &[Item], name: Str) -> Result<(Head, &[Item]), Halt>
 
 /// What is behind the first name of a template's tag.
 #[tactic(auto, unfolding(crate::specs::Reading::read_head_rest))]
-fn head_rest_at(alloc: Global, items: &[Item], word: Str) -> Result<(Head, &[Item]), Halt>
+fn head_rest_at(alloc: Global, items: &[Item], word: Str) -> Result<(Head, &[Item]), Halt<Item>>
     ensures { Gives (λ x. head_of x.0) (λ x. x.1.now) result (read_head_rest word items.now) }
 {
     if has_named(items, word.bytes()) {
@@ -123,7 +123,7 @@ fn head_rest_at(alloc: Global, items: &[Item], word: Str) -> Result<(Head, &[Ite
 
 /// A template.
 #[tactic(auto, unfolding(crate::specs::Reading::read_template))]
-fn template_at(alloc: Global, items: &[Item]) -> Result<(Entry, &[Item]), Halt>
+fn template_at(alloc: Global, items: &[Item]) -> Result<(Entry, &[Item]), Halt<Item>>
     ensures { Gives (λ x. entry_of x.0) (λ x. x.1.now) result (read_template items.now) }
 {
     let (_, rest) = mark_at(items, Mark::OpenTemplate)?;
@@ -142,7 +142,7 @@ fn template_at(alloc: Global, items: &[Item]) -> Result<(Entry, &[Item]), Halt>
 }
 
 /// Templates, one after another.
-fn templates_at(alloc: Global, items: &[Item]) -> Result<(Vec<Entry>, &[Item]), Halt>
+fn templates_at(alloc: Global, items: &[Item]) -> Result<(Vec<Entry>, &[Item]), Halt<Item>>
     ensures { Gives (λ x. map entry_of x.0.items) (λ x. x.1.now) result
         (reading.repeat (is_mark marks.OpenTemplate) read_template items.now) }
 {
@@ -158,7 +158,7 @@ fn templates_at(alloc: Global, items: &[Item]) -> Result<(Vec<Entry>, &[Item]), 
 
 /// A whole file.
 #[tactic(auto, unfolding(crate::specs::Reading::read_file))]
-pub fn file_at(alloc: Global, items: &[Item]) -> Result<Vec<Entry>, Halt>
+pub fn file_at(alloc: Global, items: &[Item]) -> Result<Vec<Entry>, Halt<Item>>
     ensures { GivesAll result (read_file items.now) }
 {
     let (entries, rest) = templates_at(alloc, items)?;

@@ -4,7 +4,6 @@
 mod body;
 mod expression;
 mod file;
-mod halt;
 mod laws;
 mod refusal;
 mod settings;

@@ -11,13 +11,13 @@ ghost use Rattle.template_reader.specs.Faults.{twice, unless_before, unless_twic
 ghost use Rattle.template_reader.specs.Filed.{Filed};
 
 use crate::file::{Entry, file_at};
-use crate::halt::Halt;
 use crate::refusal::TmplRefusal;
 use crate::titles::{innermost, is_mark, twice};
 use sd_value::NoMemory;
 use std::alloc::Global;
 use template_items::{Item, Mark, items};
 use tmpl::{NamedTemplate, Template, Templates};
+use token_reader::Halt;
 
 /// The templates that were filed, with their names.
 #[derive(Drop)]

@@ -2,11 +2,10 @@
 
 ghost use Rattle.std.specs.Prelude.{◌≡◌, true};
 ghost use Rattle.grammar.specs.Reading.{take_one, starts};
-ghost use Rattle.template_reader.specs.Gives.{Gives};
+ghost use Rattle.token_reader.specs.Gives.{Gives};
 ghost use Rattle.template_reader.specs.Reading.{read_mark};
 ghost use Rattle.template_reader.specs.Terminals.{is_mark, is_text, text_value, token_of, is_sign_of, name_value, quoted_value, label_value, joined_value, is_dot, dot_value, is_equals, equals_value, constant_value, direction_value, keyword_at, is_not, not_value, is_in, in_value, is_compare, compare_of, compare_value, setting_of, is_setting, setting_value, variable_value, is_known, known_value, is_unknown};
 
-use crate::halt::Halt;
 use crate::settings::{Setting, Settings, allows};
 use crate::words::{Bound, Keyword, find, keyword_of};
 use sd_lex::{Sign, TokenKind};
@@ -14,6 +13,7 @@ use sd_value::{Datum, Str, Value};
 use std::alloc::Global;
 use template_items::{Item, ItemKind, Mark};
 use tmpl::Cmp;
+use token_reader::Halt;
 
 /// Whether this mark is next.
 pub fn has_mark(items: &[Item], mark: Mark) -> bool
@@ -30,7 +30,7 @@ pub fn has_mark(items: &[Item], mark: Mark) -> bool
 
 /// This mark at the front, and how many loops begin before it.
 #[tactic(auto, unfolding(crate::specs::Reading::read_mark))]
-pub fn mark_at(items: &[Item], mark: Mark) -> Result<(u32, &[Item]), Halt>
+pub fn mark_at(items: &[Item], mark: Mark) -> Result<(u32, &[Item]), Halt<Item>>
     ensures { Gives (λ x. x.0) (λ x. x.1.now) result (read_mark mark items.now) }
 {
     if let [first, rest @ ..] = items {
@@ -57,7 +57,7 @@ pub fn has_text(items: &[Item]) -> bool
 }
 
 /// A text at the front.
-pub fn text_at(alloc: Global, items: &[Item]) -> Result<(Str, &[Item]), Halt>
+pub fn text_at(alloc: Global, items: &[Item]) -> Result<(Str, &[Item]), Halt<Item>>
     ensures { Gives (λ x. x.0) (λ x. x.1.now) result (take_one true text_value items.now) }
 {
     if let [first, rest @ ..] = items {
@@ -69,7 +69,7 @@ pub fn text_at(alloc: Global, items: &[Item]) -> Result<(Str, &[Item]), Halt>
 }
 
 /// A name at the front.
-pub fn name_at(alloc: Global, items: &[Item]) -> Result<(Str, &[Item]), Halt>
+pub fn name_at(alloc: Global, items: &[Item]) -> Result<(Str, &[Item]), Halt<Item>>
     ensures { Gives (λ x. x.0) (λ x. x.1.now) result (take_one true name_value items.now) }
 {
     if let [first, rest @ ..] = items {
@@ -81,7 +81,7 @@ pub fn name_at(alloc: Global, items: &[Item]) -> Result<(Str, &[Item]), Halt>
 }
 
 /// A quoted text at the front.
-pub fn quoted_at(alloc: Global, items: &[Item]) -> Result<(Str, &[Item]), Halt>
+pub fn quoted_at(alloc: Global, items: &[Item]) -> Result<(Str, &[Item]), Halt<Item>>
     ensures { Gives (λ x. x.0) (λ x. x.1.now) result (take_one true quoted_value items.now) }
 {
     if let [first, rest @ ..] = items {
@@ -93,7 +93,7 @@ pub fn quoted_at(alloc: Global, items: &[Item]) -> Result<(Str, &[Item]), Halt>
 }
 
 /// A label at the front.
-pub fn label_at(alloc: Global, items: &[Item]) -> Result<(Str, &[Item]), Halt>
+pub fn label_at(alloc: Global, items: &[Item]) -> Result<(Str, &[Item]), Halt<Item>>
     ensures { Gives (λ x. x.0) (λ x. x.1.now) result (take_one true label_value items.now) }
 {
     if let [first, rest @ ..] = items {
@@ -108,7 +108,7 @@ pub fn label_at(alloc: Global, items: &[Item]) -> Result<(Str, &[Item]), Halt>
 }
 
 /// A label at the front that no blank is before.
-pub fn joined_at(alloc: Global, items: &[Item]) -> Result<(Str, &[Item]), Halt>
+pub fn joined_at(alloc: Global, items: &[Item]) -> Result<(Str, &[Item]), Halt<Item>>
     ensures { Gives (λ x. x.0) (λ x. x.1.now) result (take_one true joined_value items.now) }
 {
     if let [first, rest @ ..] = items {
@@ -152,7 +152,7 @@ pub fn has_dot(items: &[Item]) -> bool
 }
 
 /// A dot at the front that no blank is before.
-pub fn dot_at(items: &[Item]) -> Result<(u32, &[Item]), Halt>
+pub fn dot_at(items: &[Item]) -> Result<(u32, &[Item]), Halt<Item>>
     ensures { Gives (λ x. x.0) (λ x. x.1.now) result (take_one true dot_value items.now) }
 {
     if let [first, rest @ ..] = items {
@@ -174,7 +174,7 @@ pub fn has_equals(items: &[Item]) -> bool
 }
 
 /// `=` at the front.
-pub fn equals_at(items: &[Item]) -> Result<(u32, &[Item]), Halt>
+pub fn equals_at(items: &[Item]) -> Result<(u32, &[Item]), Halt<Item>>
     ensures { Gives (λ x. x.0) (λ x. x.1.now) result (take_one true equals_value items.now) }
 {
     if let [first, rest @ ..] = items {
@@ -186,7 +186,7 @@ pub fn equals_at(items: &[Item]) -> Result<(u32, &[Item]), Halt>
 }
 
 /// An integer or a text at the front.
-pub fn constant_at(alloc: Global, items: &[Item]) -> Result<(Value, &[Item]), Halt>
+pub fn constant_at(alloc: Global, items: &[Item]) -> Result<(Value, &[Item]), Halt<Item>>
     ensures { Gives (λ x. x.0) (λ x. x.1.now) result (take_one true constant_value items.now) }
 {
     if let [first, rest @ ..] = items {
@@ -205,7 +205,7 @@ pub fn constant_at(alloc: Global, items: &[Item]) -> Result<(Value, &[Item]), Ha
 }
 
 /// `ascend` or `descend` at the front: whether it is the latter.
-pub fn direction_at(items: &[Item]) -> Result<(bool, &[Item]), Halt>
+pub fn direction_at(items: &[Item]) -> Result<(bool, &[Item]), Halt<Item>>
     ensures { Gives (λ x. x.0) (λ x. x.1.now) result (take_one true direction_value items.now) }
 {
     if let [first, rest @ ..] = items {
@@ -248,7 +248,7 @@ pub fn has_not(items: &[Item]) -> bool
 }
 
 /// NOT at the front.
-pub fn not_at(items: &[Item]) -> Result<(u32, &[Item]), Halt>
+pub fn not_at(items: &[Item]) -> Result<(u32, &[Item]), Halt<Item>>
     ensures { Gives (λ x. x.0) (λ x. x.1.now) result (take_one true not_value items.now) }
 {
     if let [first, rest @ ..] = items {
@@ -266,7 +266,7 @@ fn is_in(item: &Item) -> bool
 }
 
 /// IN at the front.
-pub fn in_at(items: &[Item]) -> Result<(u32, &[Item]), Halt>
+pub fn in_at(items: &[Item]) -> Result<(u32, &[Item]), Halt<Item>>
     ensures { Gives (λ x. x.0) (λ x. x.1.now) result (take_one true in_value items.now) }
 {
     if let [first, rest @ ..] = items {
@@ -303,7 +303,7 @@ pub fn has_compare(items: &[Item]) -> bool
 }
 
 /// A comparison's word at the front.
-pub fn compare_at(items: &[Item]) -> Result<(Cmp, &[Item]), Halt>
+pub fn compare_at(items: &[Item]) -> Result<(Cmp, &[Item]), Halt<Item>>
     ensures { Gives (λ x. x.0) (λ x. x.1.now) result (take_one true compare_value items.now) }
 {
     if let [first, rest @ ..] = items {
@@ -358,7 +358,7 @@ pub fn has_setting(items: &[Item], settings: &Settings) -> bool
 pub fn setting_at<'a>(
     items: &'a [Item],
     settings: &Settings,
-) -> Result<(Setting, &'a [Item]), Halt<'a>>
+) -> Result<(Setting, &'a [Item]), Halt<'a, Item>>
     ensures { Gives (λ x. x.0) (λ x. x.1.now) result
         (take_one true (setting_value settings.now) items.now) }
 {
@@ -371,7 +371,7 @@ pub fn setting_at<'a>(
 }
 
 /// A variable's name at the front.
-pub fn variable_at(alloc: Global, items: &[Item]) -> Result<(Str, &[Item]), Halt>
+pub fn variable_at(alloc: Global, items: &[Item]) -> Result<(Str, &[Item]), Halt<Item>>
     ensures { Gives (λ x. x.0) (λ x. x.1.now) result (take_one true variable_value items.now) }
 {
     if let [first, rest @ ..] = items {
@@ -431,7 +431,7 @@ pub fn has_known(items: &[Item], scope: &[Bound]) -> bool
 }
 
 /// A variable of a loop round it at the front: the loop's number.
-pub fn known_at<'a>(items: &'a [Item], scope: &[Bound]) -> Result<(u32, &'a [Item]), Halt<'a>>
+pub fn known_at<'a>(items: &'a [Item], scope: &[Bound]) -> Result<(u32, &'a [Item]), Halt<'a, Item>>
     ensures { Gives (λ x. x.0) (λ x. x.1.now) result
         (take_one true (known_value scope.now) items.now) }
 {

@@ -47,6 +47,13 @@ const ROWS: &[UsageRow] = &[
         options: &[],
     },
     UsageRow {
+        name: CommandName::Schema,
+        words: &["schema", "q"],
+        fewest: 2,
+        operands: "QUERY",
+        options: &[],
+    },
+    UsageRow {
         name: CommandName::Serve,
         words: &["serve", "q", "t", "d"],
         fewest: 4,
@@ -57,6 +64,8 @@ const ROWS: &[UsageRow] = &[
             NumberOption::Requests,
             NumberOption::Turns,
             NumberOption::Cache,
+            NumberOption::Idle,
+            NumberOption::Stall,
         ],
     },
     UsageRow {
@@ -99,7 +108,17 @@ const OPTIONS: &[NumberOption] = &[
     NumberOption::Requests,
     NumberOption::Turns,
     NumberOption::Cache,
+    NumberOption::Idle,
+    NumberOption::Stall,
 ];
+
+// The option of a command that has no value.
+fn flag_of(name: CommandName) -> Option<&'static str> {
+    match name {
+        CommandName::Schema => Some("--dot"),
+        _ => None,
+    }
+}
 
 fn text_of(name: Option<CommandName>) -> Result<&'static str, Fail> {
     match str::from_utf8(usage(name)) {
@@ -151,6 +170,17 @@ fn check_options(alloc: Global, row: &UsageRow) -> Result<(), Fail> {
     Ok(())
 }
 
+// The flag is taken, and no second one.
+fn check_flag(alloc: Global, row: &UsageRow) -> Result<(), Fail> {
+    let Some(flag) = flag_of(row.name) else {
+        return Ok(());
+    };
+    let word = Str::new(alloc, flag.as_bytes())?;
+    check(gives_command(alloc, row.words, Some(word))?, "the flag")?;
+    let twice = [name_of(row), flag, "q", flag];
+    check(!gives_command(alloc, &twice, None)?, "the flag twice")
+}
+
 // With each number of words: a command from the fewest on.
 fn check_counts(alloc: Global, row: &UsageRow) -> Result<(), Fail> {
     for count in 0..row.words.len() {
@@ -166,6 +196,7 @@ fn check_row(alloc: Global, row: &UsageRow) -> Result<(), Fail> {
     let is_named = CommandName::of(name_of(row)) == Some(row.name);
     check(is_named, "the name of the row")?;
     check_counts(alloc, row)?;
+    check_flag(alloc, row)?;
     check_options(alloc, row)
 }
 
@@ -223,10 +254,18 @@ fn push_options(
     Ok(())
 }
 
+fn push_flag(out: &mut Vec<u8>, name: CommandName) -> Result<(), NoMemory> {
+    match flag_of(name) {
+        Some(flag) => push_parts(out, &[flag, "\n"]),
+        None => Ok(()),
+    }
+}
+
 fn check_listed(alloc: Global, row: &UsageRow, text: &str) -> Result<(), Fail> {
     let mut wanted = Vec::new(alloc);
     push_operands(&mut wanted, row.operands)?;
     push_options(alloc, &mut wanted, row.options)?;
+    push_flag(&mut wanted, row.name)?;
     let found = listed(alloc, text)?;
     check_text(&found, &wanted)
 }
@@ -241,7 +280,9 @@ fn push_words(out: &mut Vec<u8>, row: &UsageRow, options: &str) -> Result<(), No
 }
 
 fn check_first_line(alloc: Global, row: &UsageRow, text: &str) -> Result<(), Fail> {
-    let options = if row.options.is_empty() {
+    let options = if flag_of(row.name).is_some() {
+        " [--dot]"
+    } else if row.options.is_empty() {
         ""
     } else {
         " [OPTION..]"

@@ -4,8 +4,9 @@ use crate::folder::Folder;
 use edge_io::{Failed, Files, ReadEnd, RealFiles};
 use sd_value::{NoMemory, Str};
 use std::alloc::Global;
-use std::fs;
+use std::os::unix::fs::symlink;
 use std::test::Fail;
+use std::{fs, process};
 
 // A length of more than two of the buffers that a file is read by, and of no whole number of them.
 const LONG: usize = 20_000;
@@ -78,7 +79,7 @@ fn a_file_is_read_up_to_a_bound(rt: HostRuntime) -> Result<(), Fail> {
     let text = long_text(alloc)?;
     fs::write(&rt, path.as_str(), text.as_slice())?;
     let path = Str::new(alloc, path.as_bytes())?;
-    let mut files = RealFiles::new(&rt);
+    let mut files = RealFiles::new(&rt, process::id(rt.process()));
     check_bounds(alloc, &mut files, &path, &text)?;
     check(files.read_faults(&path) == 0, "a fault")?;
     folder.remove(&rt)
@@ -89,7 +90,7 @@ fn check_unread(rt: &HostRuntime, folder: &Folder, name: &str) -> Result<(), Fai
     let alloc = rt.alloc();
     let path = folder.path(rt, name)?;
     let path = Str::new(alloc, path.as_bytes())?;
-    let mut files = RealFiles::new(rt);
+    let mut files = RealFiles::new(rt, process::id(rt.process()));
     let end = files.read(alloc, &path, 9);
     check(end == Err(ReadEnd::Failed), name)?;
     check(files.read_faults(&path) == 1, "no fault of reading")?;
@@ -110,7 +111,7 @@ fn check_written(rt: &HostRuntime, folder: &Folder, name: &str, bytes: &[u8]) ->
     let alloc = rt.alloc();
     let path = folder.path(rt, name)?;
     let named = Str::new(alloc, path.as_bytes())?;
-    let mut files = RealFiles::new(rt);
+    let mut files = RealFiles::new(rt, process::id(rt.process()));
     check(files.write(&named, bytes) == Ok(()), name)?;
     check(files.write_faults(&named) == 0, "a fault of writing")?;
     check_bytes(&fs::read(rt, path.as_str())?, bytes, name)
@@ -133,7 +134,7 @@ fn check_unwritten(rt: &HostRuntime, folder: &Folder, name: &str) -> Result<(), 
     let alloc = rt.alloc();
     let path = folder.path(rt, name)?;
     let path = Str::new(alloc, path.as_bytes())?;
-    let mut files = RealFiles::new(rt);
+    let mut files = RealFiles::new(rt, process::id(rt.process()));
     check(files.write(&path, b"x") == Err(Failed), name)?;
     check(files.write_faults(&path) == 1, "no fault of writing")?;
     check(files.read_faults(&path) == 0, "a fault of reading")
@@ -149,5 +150,54 @@ fn no_file_is_written_at_a_folder_or_under_a_file(rt: HostRuntime) -> Result<(),
     check_unwritten(&rt, &folder, "file/x/y")?;
     let path = folder.path(&rt, "file")?;
     check_bytes(&fs::read(&rt, path.as_str())?, b"a file", "the file")?;
+    folder.remove(&rt)
+}
+
+// The old file stays until the new one takes its place, and nothing else is left, also where that fails.
+#[test]
+fn no_other_file_is_left(rt: HostRuntime) -> Result<(), Fail> {
+    let folder = Folder::fresh(&rt, "left")?;
+    check_written(&rt, &folder, "file", b"a file")?;
+    check_written(&rt, &folder, "file", b"over an old one")?;
+    check_written(&rt, &folder, "folder/file", b"a file")?;
+    check_unwritten(&rt, &folder, "folder")?;
+    let path = folder.path(&rt, "folder/file")?;
+    check_bytes(
+        &fs::read(&rt, path.as_str())?,
+        b"a file",
+        "the file in the folder",
+    )?;
+    folder.remove(&rt)
+}
+
+// A process of the same number was killed while it wrote.
+#[test]
+fn a_file_that_was_left_is_taken_over(rt: HostRuntime) -> Result<(), Fail> {
+    let folder = Folder::fresh(&rt, "taken")?;
+    let number = process::id(rt.process());
+    let path = format!(in rt.alloc(); "{}/.strudel-{number}", folder.path(&rt, ".")?)?;
+    fs::write(&rt, path.as_str(), "a part that is longer than the file")?;
+    check_written(&rt, &folder, "file", b"a file")?;
+    folder.remove(&rt)
+}
+
+// What a link names stays as it is, and the link goes.
+#[test]
+fn a_link_is_replaced_and_not_followed(rt: HostRuntime) -> Result<(), Fail> {
+    let folder = Folder::fresh(&rt, "links")?;
+    check_written(&rt, &folder, "outside", b"outside")?;
+    let outside = folder.path(&rt, "outside")?;
+    let link = folder.path(&rt, "link")?;
+    symlink(&rt, outside.as_str(), link.as_str())?;
+    check_written(&rt, &folder, "link", b"inside")?;
+    check_bytes(
+        &fs::read(&rt, outside.as_str())?,
+        b"outside",
+        "what the link named",
+    )?;
+    check(
+        fs::symlink_metadata(&rt, link.as_str())?.is_file(),
+        "the link is still there",
+    )?;
     folder.remove(&rt)
 }

@@ -1,5 +1,5 @@
-//! The system's own edge, as it really is: files in a fresh folder, and the worked page over a socket by a whole run of
-//! `serve`.
+//! The system's own edge, as it really is: files in a fresh folder, connections over sockets that are silent, slow or
+//! refused, and the worked page over a socket by a whole run of `serve`.
 #![tactic(auto)]
 
 #[cfg(test)]

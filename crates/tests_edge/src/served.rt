@@ -8,7 +8,8 @@ use std::alloc::Global;
 use std::io::Read;
 use std::net::Net;
 use std::test::Fail;
-use tcp_wire::TcpWire;
+use std::time::Clock;
+use tcp_wire::{TcpWire, Waits};
 use wire::Wire;
 
 const BIB: &[u8] =
@@ -26,9 +27,14 @@ const REQUEST: &[u8] = b"GET /YearPage/i1998.html HTTP/1.1\r\nHost: a\r\n\r\n";
 const REPLY: &[u8] =
     b"HTTP/1.1 200 OK\r\nContent-Type: text/html; charset=utf-8\r\nContent-Length: 56\r\nConnection: close\r\n\r\n<h1>1998</h1><a href=\"/PaperPage/npub1.html\">Strudel</a>";
 
+const WAITS: Waits = Waits {
+    idle: 5_000,
+    stall: 10_000,
+};
+
 // A port at which nothing listens.
-fn free_port<R: Net>(net: &R) -> Result<u16, Fail> {
-    let mut wire = TcpWire::new(net);
+fn free_port<R: Net + Clock>(net: &R) -> Result<u16, Fail> {
+    let mut wire = TcpWire::new(net, WAITS);
     check(wire.listen(0, 1).is_ok(), "no socket")?;
     Ok(wire.port().ok_or("no port")?)
 }
@@ -86,7 +92,7 @@ fn check_serve<W: Wire>(alloc: Global, port: u16, wire: &mut W) -> Result<(), Fa
 fn the_worked_page_is_served_at_the_port_that_was_asked_for(rt: HostRuntime) -> Result<(), Fail> {
     let alloc = rt.alloc();
     let port = free_port(&rt)?;
-    let mut wire = Visited::new(TcpWire::new(&rt), &rt, REQUEST);
+    let mut wire = Visited::new(TcpWire::new(&rt, WAITS), &rt, REQUEST);
     check_serve(alloc, port, &mut wire)?;
     check(wire.is_refused_elsewhere, "it listens at another address")?;
     let mut client = wire.client.take().ok_or("no client")?;

@@ -45,6 +45,7 @@ const COMMANDS: &[&[&str]] = &[
     &["replay", "q", "t", "s", "d"],
     &["data", "d"],
     &["explain", "q", "d"],
+    &["schema", "q"],
 ];
 
 fn check_refused<R: AllocGlobal + Abort>(rt: &R, words: &[&str]) -> Result<(), Fail> {

@@ -32,6 +32,9 @@ const CONFLICT: &str =
 
 const CSV: &str = "\u{FEFF}title,year,note\r\n\"Two\nlines\",1999,\r\n";
 
+const BIBTEX: &str =
+    "@string{s = \"ACM\"}\n@article{k1, author = {Dan and {Mary and Co}}, title = \"A {B}\" # s, year = 1998, month = jan,}";
+
 const JSON: &str = "{\"P\": [{\"a\": [1, null, {\"b\": true}]}]}";
 
 // A run in which no call fails.
@@ -90,6 +93,18 @@ const FILES: &[FileRow] = &[
         text: "[1]",
     },
     FileRow {
+        path: "b.bib",
+        text: BIBTEX,
+    },
+    FileRow {
+        path: "x.bib",
+        text: "@misc{k, note = x}",
+    },
+    FileRow {
+        path: "cut.bib",
+        text: "@misc{k",
+    },
+    FileRow {
         path: "price.json",
         text: "[{\"price\": 3.5}]",
     },
@@ -125,7 +140,10 @@ fn other_formats_are_read(rt: HostRuntime) -> Result<(), Fail> {
     check_row(&rt, &expects(&["data", "p.json"], 0, p, ""))?;
     let both =
         "object \"a\" in \"C\" {\n  \"n\" 1\n}\nobject \"bib_1\" in \"bib\" {\n  \"title\" \"Two\\nlines\"\n  \"year\" 1999\n}\n";
-    check_row(&rt, &expects(&["data", "d/bib.csv", "a"], 0, both, ""))
+    check_row(&rt, &expects(&["data", "d/bib.csv", "a"], 0, both, ""))?;
+    let b =
+        "object \"k1\" in \"article\", \"b\" {\n  \"author\" \"Dan\"\n  \"author\" \"{Mary and Co}\"\n  \"month\" \"jan\"\n  \"title\" \"A {B}ACM\"\n  \"year\" 1998\n}\n";
+    check_row(&rt, &expects(&["data", "b.bib"], 0, b, ""))
 }
 
 #[test]
@@ -139,7 +157,11 @@ fn other_formats_are_refused(rt: HostRuntime) -> Result<(), Fail> {
     let one = "strudel: one.json: 46 NotRecords at #/0\n";
     check_row(&rt, &expects(&["data", "one.json"], 3, "", one))?;
     let price = "strudel: price.json: 45 NotInteger at #/0/price\n";
-    check_row(&rt, &expects(&["data", "price.json"], 3, "", price))
+    check_row(&rt, &expects(&["data", "price.json"], 3, "", price))?;
+    let unknown = "strudel: x.bib: 122 UnknownMacro at 16\n";
+    check_row(&rt, &expects(&["data", "x.bib"], 3, "", unknown))?;
+    let cut = "strudel: cut.bib: 121 Expected at 7\n";
+    check_row(&rt, &expects(&["data", "cut.bib"], 3, "", cut))
 }
 
 #[test]
@@ -379,6 +401,44 @@ fn plans_are_printed(rt: HostRuntime) -> Result<(), Fail> {
         ),
         &[],
     )
+}
+
+const SCHEMA: &str = "\
+other\n\
+PaperPage/1\n\
+\x20 link 1 in 2: PaperPage(x) -> l -> v to other\n\
+RootPage/0\n\
+\x20 link 2 in 2: RootPage() -> \"Paper\" -> PaperPage(x) to PaperPage\n\
+\x20 link 5 in 2.1: RootPage() -> \"Year\" -> YearPage(v) to YearPage\n\
+YearPage/1\n\
+\x20 link 3 in 2.1: YearPage(v) -> \"Year\" -> v to other\n\
+\x20 link 4 in 2.1: YearPage(v) -> \"Paper\" -> PaperPage(x) to PaperPage\n";
+
+const PICTURE: &str = "\
+digraph site {\n\
+\x20 \"other\"\n\
+\x20 \"PaperPage/1\"\n\
+\x20 \"PaperPage/1\" -> \"other\" [label=\"1: l\\nPublications(x)\\nx -> l -> v\"]\n\
+\x20 \"RootPage/0\"\n\
+\x20 \"RootPage/0\" -> \"PaperPage/1\" [label=\"2: \\\"Paper\\\"\\nPublications(x)\\nx -> l -> v\"]\n\
+\x20 \"RootPage/0\" -> \"YearPage/1\" [label=\"5: \\\"Year\\\"\\nPublications(x)\\nx -> l -> v\\nl = \\\"year\\\"\"]\n\
+\x20 \"YearPage/1\"\n\
+\x20 \"YearPage/1\" -> \"other\" [label=\"3: \\\"Year\\\"\\nPublications(x)\\nx -> l -> v\\nl = \\\"year\\\"\"]\n\
+\x20 \"YearPage/1\" -> \"PaperPage/1\" [label=\"4: \\\"Paper\\\"\\nPublications(x)\\nx -> l -> v\\nl = \\\"year\\\"\"]\n\
+}\n";
+
+#[test]
+fn schemas_are_printed(rt: HostRuntime) -> Result<(), Fail> {
+    check_build(&rt, &expects(&["schema", "q"], 0, SCHEMA, ""), &[])?;
+    check_build(
+        &rt,
+        &expects(&["schema", "--dot", "q"], 0, PICTURE, ""),
+        &[],
+    )?;
+    let unread = "strudel: cannot read none\n";
+    check_build(&rt, &expects(&["schema", "none"], 4, "", unread), &[])?;
+    let refused = "strudel: bib: 71 Expected at 0\n";
+    check_build(&rt, &expects(&["schema", "bib"], 3, "", refused), &[])
 }
 
 #[test]

@@ -5,7 +5,6 @@ ghost use Rattle.query_blocks.specs.Blocks.{AreCheckedBlocks};
 use address::term_of;
 use bindings::StoreAsker;
 use index_store::IndexStore;
-use list_store::ListStore;
 use query_blocks::QueryBlocks;
 use query_reader::read_query;
 use query_scoping::scopes;
@@ -42,11 +41,6 @@ fn graph_of(alloc: Global, text: &str) -> Result<Graph, Fail> {
     let mut builder = GraphBuilder::new(alloc, PROGRAM_LIMITS);
     read_ddl(alloc, text.as_slice(), LIMIT, &mut builder)?;
     Ok(builder.finish(alloc)?)
-}
-
-/// The plain store of the graph that a data text states.
-pub fn list_of(alloc: Global, text: &str) -> Result<ListStore, Fail> {
-    Ok(ListStore::of(alloc, graph_of(alloc, text)?)?)
 }
 
 /// The program's store of the graph that a data text states.

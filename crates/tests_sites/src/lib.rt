@@ -1,5 +1,5 @@
-//! Pages of small sites of each kind, from their own demand and from the whole site; both stores and the walks over
-//! them; and queries that are refused: each beside an answer worked by hand.
+//! Pages of small sites of each kind, from their own demand and from the whole site, and queries that are refused: each
+//! beside an answer worked by hand.
 #![tactic(auto)]
 
 #[cfg(test)]
@@ -8,5 +8,3 @@ mod inputs;
 mod refused;
 #[cfg(test)]
 mod sites;
-#[cfg(test)]
-mod stores;

@@ -6,7 +6,7 @@ use Rattle.sd_value.specs.declared.Datum.TheVariants.{Int}
 use Rattle.sd_value.specs.declared.Value.{Value}
 use Rattle.sd_value.specs.declared.Value.TheVariants.{Data}
 use Rattle.graph_spec.specs.DataGraph.{DataGraph, Name, text}
-use Rattle.sd_graph.specs.Statement.{Statement, a_member, an_edge, graph_with}
+use Rattle.graph_spec.specs.Statement.{Statement, a_member, an_edge, graph_with}
 use Rattle.trial_spec.specs.declared.Entry.{Entry}
 
 -- the numbers below one, ascending

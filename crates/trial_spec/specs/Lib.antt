@@ -3,3 +3,4 @@ pub mod Requests
 pub mod Texts
 pub mod Numbers
 pub mod Events
+pub mod Asked

@@ -1,5 +1,5 @@
 -- A search from its first steps to its end.
-use Rattle.std.proofs.Common.{◌≡◌, ℕ, zero, suc, ◌<◌, List, [], ◌∷◌, ◌++◌, ◌⊎◌, ◌↔◌, inl, inr, IsSome, refl, sym, ap, subst, arith, Contains}
+use Rattle.std.proofs.Common.{◌≡◌, ℕ, zero, suc, ◌<◌, List, [], ◌∷◌, ◌++◌, ◌⊎◌, ◌↔◌, inl, inr, IsSome, refl, sym, ap, subst, arith, length, length-append, Contains}
 use Rattle.std.proofs.lemmas.List.Elements.{Contains-append_left, Contains-append_right}
 use Rattle.std.specs.BTreeMap.{BTreeMap, get}
 use Rattle.sd_value.specs.declared.Value.{Value}
@@ -12,10 +12,11 @@ use Rattle.graph_spec.specs.DataGraph.{DataGraph, Name, HasEdge}
 use Rattle.automaton.specs.PositionSet.{Has}
 use Rattle.automaton.specs.Table.{Table}
 use Rattle.walks.specs.declared.search.Task.{Task}
+use Rattle.walks.specs.declared.search.Exploration.{Exploration}
 use Rattle.walks.specs.declared.direction.Direction.{Direction}
 use Rattle.walks.specs.declared.direction.Direction.TheVariants.{Onward, Backward}
 use Rattle.walks.specs.Directions.{Leaves}
-use Rattle.walks.specs.Search.{Visits, Waits, Reached, begins, goes_on, Explores, Leads, LeadsFirst, Searches, IsFollowed, below, pairs_at, led_to, pairs_of, all_pairs}
+use Rattle.walks.specs.Search.{Visits, Waits, Reached, begins, goes_on, Explores, Leads, LeadsFirst, Searches, IsFollowed, Advances, below, pairs_at, led_to, pairs_of, all_pairs}
 use Rattle.walks.proofs.Visits.{waits_parts, waits_left, waits_right}
 
 -- ---- all pairs
@@ -134,3 +135,12 @@ module _ (G : DataGraph) (t : Table) (d : Direction) where
 
   pub search_ends : (u : Value) (seen : BTreeMap Value (List ℕ)) → Searches G t d u seen [] → (v : Value) (p : ℕ) → Visits seen v p ↔ Reached G t d u v p
   search_ends u seen searches v p = (searches.sound v p, visits_all u seen searches v p)
+
+  -- ---- a task is followed
+
+  pub advances : (x y : Exploration) (task : Task) (tasks : List Task) → x.tasks.items ≡ tasks ++ task ∷ []
+      → Explores (Leads G t d task) x.seen y.seen tasks y.tasks.items → Advances G t d x y
+  advances x y task tasks popped explores = record {
+    goes_on = λ u under_way. search_goes_on u x.seen y.seen x.tasks.items tasks y.tasks.items task popped under_way explores;
+    less = λ _. let room = explores.room (all_pairs G t d) (leads_within task) in omega (arith, room, ap length popped, length-append tasks (task ∷ []));
+  }

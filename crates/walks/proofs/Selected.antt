@@ -1,5 +1,5 @@
 -- The values of a search at which a walk may end.
-use Rattle.std.proofs.Common.{◌≡◌, ℕ, zero, suc, ◌<◌, Bool, true, false, cond, List, [], ◌∷◌, ◌++◌, ◌⊎◌, ◌↔◌, inl, inr, length, IsSome, Option, Some, None, refl, sym, ◌∙◌, ap, subst, arith, append_assoc, append-nil, Contains}
+use Rattle.std.proofs.Common.{◌≡◌, ℕ, zero, suc, ◌<◌, Bool, true, false, cond, List, [], ◌∷◌, ◌++◌, ◌⊎◌, ◌↔◌, inl, inr, length, IsSome, IsTrue, Option, Some, None, refl, sym, ◌∙◌, ap, subst, arith, append_assoc, append-nil, Contains}
 use Rattle.std.specs.List.{AllByRecursion}
 use Rattle.std.specs.List.Sorted.{IsStrictlySortedBy}
 use Rattle.std.specs.Map.{lookup, keys_of}
@@ -14,10 +14,13 @@ use Rattle.sd_value.specs.declared.Value.{Value}
 use Rattle.sd_value.specs.Order.{value_cmp}
 use Rattle.sd_value.specs.OrderLaws.{same_value, value_cmp-total}
 use Rattle.sd_value.specs.Ascending.{ListsExactly}
+use Rattle.sd_value.specs.AscendingLaws.{listed_as}
 use Rattle.graph_spec.specs.DataGraph.{DataGraph}
 use Rattle.automaton.specs.Table.{Table}
 use Rattle.walks.specs.declared.direction.Direction.{Direction}
-use Rattle.walks.specs.Directions.{JoinsBy}
+use Rattle.walks.specs.declared.direction.Direction.TheVariants.{Onward, Backward}
+use Rattle.walks.specs.Joins.{Joins}
+use Rattle.walks.specs.Directions.{JoinsBy, origin}
 use Rattle.walks.specs.Search.{Searches, IsEnd, HasEnd, HasEndIn}
 use Rattle.walks.proofs.Searched.{search_ends}
 use Rattle.walks.proofs.Joined.{Meets, meets_joins}
@@ -144,3 +147,20 @@ ends_are_joined G t d u seen searches v = (to, from)
 
     from : JoinsBy G t d u v → HasEnd t d u seen v
     from j = by_cases ((meets_joins G t d u v).1 j)
+
+pub ends_listed : (G : DataGraph) (t : Table) (d : Direction) (u : Value) (seen : BTreeMap Value (List ℕ)) (values : List Value) → Searches G t d u seen []
+    → ListsExactly value_cmp (HasEnd t d u seen) values → ListsExactly value_cmp (JoinsBy G t d u) values
+ends_listed G t d u seen values searches h =
+    let same = ends_are_joined G t d u seen searches in
+    listed_as h (λ v. (same v).0) (λ v. (same v).1)
+
+origins_are_joined : (G : DataGraph) (t : Table) (d : Direction) (u v : Value) → JoinsBy G t d (origin d u v) (origin d v u) ↔ Joins G t u v
+origins_are_joined G t Onward u v = (λ j. j, λ j. j)
+origins_are_joined G t Backward u v = (λ j. j, λ j. j)
+
+pub other_is_joined : (G : DataGraph) (t : Table) (d : Direction) (u v : Value) (seen : BTreeMap Value (List ℕ)) (b : Bool) → Searches G t d (origin d u v) seen []
+    → (IsTrue b ↔ HasEnd t d (origin d u v) seen (origin d v u)) → IsTrue b ↔ Joins G t u v
+other_is_joined G t d u v seen b searches h =
+    let k = ends_are_joined G t d (origin d u v) seen searches (origin d v u) in
+    let j = origins_are_joined G t d u v in
+    (λ e. j.0 (k.0 (h.0 e)), λ e. h.1 (k.1 (j.1 e)))

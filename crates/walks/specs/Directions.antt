@@ -32,3 +32,8 @@ IsNext t Backward p q = Has (row t.next q) p
 abbrev pub JoinsBy : DataGraph → Table → Direction → Value → Value → Type 0
 JoinsBy G t Onward u v = Joins G t u v
 JoinsBy G t Backward u v = Joins G t v u
+
+-- the value at which a walk from the one to the other is begun on this way
+abbrev pub origin : Direction → Value → Value → Value
+origin Onward start end = start
+origin Backward start end = end

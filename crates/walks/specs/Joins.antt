@@ -8,7 +8,3 @@ use Rattle.automaton.specs.Table.{Table, HasWord}
 -- a walk from u to v spells a word of the automaton
 abbrev pub Joins : DataGraph → Table → Value → Value → Type 0
 Joins G t u v = (w : Word) × HasWord t w × Walk G u w v
-
--- the same, seen from the end
-abbrev pub JoinsTo : DataGraph → Table → Value → Value → Type 0
-JoinsTo G t v u = Joins G t u v

@@ -1,5 +1,5 @@
 -- What a search over pairs of a value and a position has visited, and what is still to be followed.
-use Rattle.std.specs.Prelude.{◌≡◌, ℕ, zero, suc, ◌++◌, ◌+◌, ◌/◌, ◌%◌, ◌≤◌, Bool, true, false, ◌&&◌, ◌==◌, nat_lt, List, [], ◌∷◌, length, Option, Some, None, ◌⊎◌, ◌↔◌, IsSome, Contains, if◌then◌else◌, slice_index}
+use Rattle.std.specs.Prelude.{◌≡◌, ℕ, zero, suc, ◌++◌, ◌+◌, ◌/◌, ◌%◌, ◌≤◌, ◌<◌, Bool, true, false, ◌&&◌, ◌==◌, nat_lt, List, [], ◌∷◌, length, Option, Some, None, ◌⊎◌, ◌↔◌, IsSome, Contains, if◌then◌else◌, slice_index}
 use Rattle.std.specs.Int.{bit_at}
 use Rattle.std.specs.BTreeMap.{BTreeMap, get}
 use Rattle.sd_value.specs.declared.Value.{Value}
@@ -15,6 +15,7 @@ use Rattle.automaton.specs.Table.{Table}
 use Rattle.walks.specs.declared.direction.Direction.{Direction}
 use Rattle.walks.specs.declared.direction.Direction.TheVariants.{Onward, Backward}
 use Rattle.walks.specs.declared.search.Task.{Task}
+use Rattle.walks.specs.declared.search.Exploration.{Exploration}
 use Rattle.walks.specs.Directions.{Leaves, Opens, Closes, IsNext}
 
 -- the pair was visited
@@ -125,6 +126,22 @@ pub record Searches (G : DataGraph) (t : Table) (d : Direction) (u : Value)
       → ReadsIn t.letters p l → Visits seen v p
   pub followed : (v : Value) (p : ℕ) → Visits seen v p → Waits tasks v p ⊎ IsFollowed G t d seen v p
   pub start : IsSome (get value_cmp seen u)
+
+-- nothing is left to be followed
+abbrev pub IsDone : Exploration → Type 0
+IsDone x = x.tasks.items ≡ []
+
+abbrev pub IsUnderWay : DataGraph → Table → Direction → Value → Exploration → Type 0
+IsUnderWay G t d u x = Searches G t d u x.seen x.tasks.items
+
+-- at most how many tasks are still to be followed
+abbrev pub left : DataGraph → Table → Direction → Exploration → ℕ
+left G t d x = spare (all_pairs G t d) x.seen + length x.tasks.items
+
+-- the search goes on from where it was, with less left unless nothing was
+pub record Advances (G : DataGraph) (t : Table) (d : Direction) (x y : Exploration) : Type 0 where
+  pub goes_on : (u : Value) → IsUnderWay G t d u x → IsUnderWay G t d u y
+  pub less : (IsDone x → ⊥) → left G t d y < left G t d x
 
 -- nothing was visited, and the value is there
 pub record IsStart (u : Value) (seen : BTreeMap Value (List ℕ)) : Type 0 where

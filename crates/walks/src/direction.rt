@@ -1,10 +1,10 @@
-// The two ways to search for a walk: from its start onward, or from its end backward.
+// Steps of a walk, seen from its start or from its end.
 
-ghost use Rattle.std.specs.Prelude.{ℕ, ◌↔◌, IfOk, IsTrue, Contains};
+ghost use Rattle.std.specs.Prelude.{ℕ, ◌≡◌, ◌↔◌, IfOk, IsTrue, Contains};
 ghost use Rattle.sd_value.specs.declared.Value.{Value as AnyValue};
 ghost use Rattle.graph_spec.specs.DataGraph.{Name};
 ghost use Rattle.automaton.specs.PositionSet.{Has};
-ghost use Rattle.walks.specs.Directions.{Leaves, Opens, Closes, IsNext};
+ghost use Rattle.walks.specs.Directions.{Leaves, Opens, Closes, IsNext, origin};
 
 use automaton::{Automaton, PositionSet};
 use graph_spec::Step;
@@ -12,15 +12,28 @@ use sd_value::{NoMemory, Value};
 use std::alloc::Global;
 use store::Store;
 
+/// The two ways to search for a walk.
 #[derive(Clone, Copy)]
 pub enum Direction {
+    /// From the walk's start.
     Onward,
+    /// From the walk's end.
     Backward,
 }
 
 impl Direction {
+    /// The value at which a search on this way for a walk from the one to the other begins.
+    pub fn origin<'a>(self, start: &'a Value, end: &'a Value) -> &'a Value
+        ensures { result.now ≡ origin self start.now end.now }
+    {
+        match self {
+            Direction::Onward => start,
+            Direction::Backward => end,
+        }
+    }
+
     // The edges that lead on from the value.
-    pub fn leaving<S: Store>(
+    pub(crate) fn leaving<S: Store>(
         self,
         alloc: Global,
         store: &S,
@@ -39,7 +52,7 @@ impl Direction {
     }
 
     // The positions that read a walk's first label on this way.
-    pub fn opening(self, automaton: &Automaton) -> PositionSet
+    pub(crate) fn opening(self, automaton: &Automaton) -> PositionSet
         ensures { (p : ℕ) → Has result p ↔ Opens automaton.now self p }
     {
         match self {
@@ -49,7 +62,7 @@ impl Direction {
     }
 
     // The positions that may read the next label after one of the set.
-    pub fn next(self, automaton: &Automaton, set: &PositionSet) -> PositionSet
+    pub(crate) fn next(self, automaton: &Automaton, set: &PositionSet) -> PositionSet
         ensures { (q : ℕ) → Has result q
             ↔ ((p : ℕ) × Has set.now p × IsNext automaton.now self p q) }
     {
@@ -63,7 +76,7 @@ impl Direction {
     }
 
     // Whether one of the positions may read a walk's last label on this way.
-    pub fn closes(self, automaton: &Automaton, set: &PositionSet) -> bool
+    pub(crate) fn closes(self, automaton: &Automaton, set: &PositionSet) -> bool
         ensures { IsTrue result ↔ ((p : ℕ) × Has set.now p × Closes automaton.now self p) }
     {
         match self {

@@ -16,7 +16,8 @@ ghost use Rattle.walks.specs.Joins.{Joins};
 mod direction;
 mod search;
 
-pub use search::{from, joins, to};
+pub use direction::Direction;
+pub use search::{Winner, joins, race, reach, within};
 
 /// Where an automaton's words are those of an expression, as `Automaton::of` reports, its walks are the walks that spell a word of
 /// the expression.

@@ -47,10 +47,11 @@ returns-clause-cause g c = record {
   failed = λ e.
       let r = c.in-Err.ensures.cause.failed (unwritten_again c.in-Err.stop e) in (
         r.0,
-        site_file (inputs_of c.args.inputs) _ _ _ c.args.folder.now c.as_slice-terms.result.now r.0
+        site_file (inputs_of c.args.inputs) _ _ _ _ c.args.folder.now c.as_slice-terms.result.now r.0
             (c.in_ok-whole.ensures.graph ∙ c.of-asker.ensures.store ∙ c.in_ok-store.ensures)
             (ap scope_of c.in_ok-whole.ensures.scopes ∙ c.in_ok-scopes.ensures.scope)
             (ap file_of c.in_ok-whole.ensures.templates)
+            (root_copied c.root_of-root.result ∙ c.root_of-root.ensures ∙ ap (λ s. root_of_bodies s.bodies) c.in_ok-scopes.ensures.scope)
             (subst (ListsExactly term_cmp (IsPresent (site_of _ (scope_of c.in_ok-whole.whole.scopes.now)) (file_of c.in_ok-whole.whole.templates.now))) (sym c.as_slice-terms.ensures.value) c.in_ok-pages.ensures)
             r.1,
         r.2,

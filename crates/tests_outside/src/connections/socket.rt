@@ -5,7 +5,7 @@ use hub::{Hub, HubEnd, serve};
 use std::io::{Read, Write};
 use std::net::{Ipv4Addr, SocketAddr, SocketAddrV4, TcpStream};
 use std::test::Fail;
-use tcp_wire::TcpWire;
+use tcp_wire::{TcpWire, Waits};
 use versions::Still;
 use wire::Wire;
 
@@ -16,11 +16,16 @@ pub const REQUEST: &[u8] = b"GET /x.html HTTP/1.1\r\nHost: a\r\n\r\n";
 pub const MISSING: &[u8] =
     b"HTTP/1.1 404 Not Found\r\nContent-Type: text/plain; charset=utf-8\r\nContent-Length: 10\r\nConnection: close\r\n\r\nnot found\n";
 
+const WAITS: Waits = Waits {
+    idle: 5_000,
+    stall: 10_000,
+};
+
 // One thread is client and server: the system keeps what a connection sends until it is taken.
 #[test]
 fn a_request_over_a_socket_has_its_reply(rt: HostRuntime) -> Result<(), Fail> {
     let alloc = rt.alloc();
-    let mut wire = TcpWire::new(&rt);
+    let mut wire = TcpWire::new(&rt, WAITS);
     check(wire.listen(0, 1).is_ok(), "no socket")?;
     let port = wire.port().ok_or("no port")?;
     let address = SocketAddr::from(SocketAddrV4::new(Ipv4Addr::LOCALHOST, port));

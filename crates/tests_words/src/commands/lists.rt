@@ -67,6 +67,30 @@ const COMMANDS: &[CommandRow] = &[
         command: "explain q a",
     },
     CommandRow {
+        words: &["schema", "q"],
+        command: "schema q",
+    },
+    CommandRow {
+        words: &["schema", "--dot", "q"],
+        command: "schema q 1",
+    },
+    CommandRow {
+        words: &["schema", "q", "--dot"],
+        command: "schema q 1",
+    },
+    CommandRow {
+        words: &["schema", "--", "--dot"],
+        command: "schema --dot",
+    },
+    CommandRow {
+        words: &["schema", "--dot", "--", "--dot"],
+        command: "schema --dot 1",
+    },
+    CommandRow {
+        words: &["help", "schema"],
+        command: "help schema",
+    },
+    CommandRow {
         words: &["trial", "1"],
         command: "trial 1",
     },
@@ -76,7 +100,7 @@ const COMMANDS: &[CommandRow] = &[
     },
     CommandRow {
         words: &["serve", "q", "t", "a", "b"],
-        command: "serve q t a b 8080 4294967296 1 4294967296 256",
+        command: "serve q t a b 8080 4294967296 1 4294967296 256 5000 10000",
     },
     CommandRow {
         words: &[
@@ -92,7 +116,7 @@ const COMMANDS: &[CommandRow] = &[
             "--",
             "--port",
         ],
-        command: "serve q t --port 65535 4294967296 1 4294967296 4096",
+        command: "serve q t --port 65535 4294967296 1 4294967296 4096 5000 10000",
     },
     CommandRow {
         words: &["replay", "q", "t", "s", "a"],
@@ -100,15 +124,19 @@ const COMMANDS: &[CommandRow] = &[
     },
     CommandRow {
         words: &["serve", "q", "t", "d", "--port", "1"],
-        command: "serve q t d 1 4294967296 1 4294967296 256",
+        command: "serve q t d 1 4294967296 1 4294967296 256 5000 10000",
     },
     CommandRow {
         words: &["serve", "q", "--port", "1", "t", "d", "--cache=2", "e"],
-        command: "serve q t d e 1 4294967296 1 4294967296 2",
+        command: "serve q t d e 1 4294967296 1 4294967296 2 5000 10000",
+    },
+    CommandRow {
+        words: &["serve", "--idle", "1", "q", "t", "d", "--stall=4294967295"],
+        command: "serve q t d 8080 4294967296 1 4294967296 256 1 4294967295",
     },
     CommandRow {
         words: &["serve", "q", "t", "--", "--port", "--", "d"],
-        command: "serve q t --port -- d 8080 4294967296 1 4294967296 256",
+        command: "serve q t --port -- d 8080 4294967296 1 4294967296 256 5000 10000",
     },
     CommandRow {
         words: &["data", "d", "--", "-5", "-x", "--port=1"],
@@ -225,6 +253,14 @@ const NO_COMMANDS: &[&[&str]] = &[
     &["data", "--"],
     &["data", "-v", "d"],
     &["explain", "--port=1", "q", "d"],
+    &["explain", "--dot", "q", "d"],
+    &["schema"],
+    &["schema", "--dot"],
+    &["schema", "q", "d"],
+    &["schema", "--dot=1", "q"],
+    &["schema", "--dot", "--dot", "q"],
+    &["schema", "--dot", "q", "--", "--dot"],
+    &["--dot", "schema", "q"],
     &["serve", "-p", "q", "t", "d"],
     &["serve", "--help", "q", "t", "d"],
     &["serve", "--Port=1", "q", "t", "d"],
@@ -244,6 +280,13 @@ const NO_COMMANDS: &[&[&str]] = &[
     &["serve", "--cache", "0", "q", "t", "d"],
     &["serve", "--cache", "4097", "q", "t", "d"],
     &["serve", "--requests=4294967297", "q", "t", "d"],
+    &["serve", "--idle=0", "q", "t", "d"],
+    &["serve", "--idle=4294967296", "q", "t", "d"],
+    &["serve", "--stall", "0", "q", "t", "d"],
+    &["serve", "--stall", "4294967296", "q", "t", "d"],
+    &["serve", "--idle=1", "--idle=1", "q", "t", "d"],
+    &["replay", "--idle=1", "q", "t", "s", "d"],
+    &["replay", "--stall=1", "q", "t", "s", "d"],
     &["serve", "--turns=0", "q", "t", "d"],
     &["serve", "--turns=00000000001", "q", "t", "d"],
     &["serve", "--turns=+1", "q", "t", "d"],
@@ -251,6 +294,9 @@ const NO_COMMANDS: &[&[&str]] = &[
     &["serve", "--turns=1.0", "q", "t", "d"],
     &["serve", "--turns=1=1", "q", "t", "d"],
     &["serve", "--connections=99999999999999999999", "q", "t", "d"],
+];
+
+const STRAY_WORDS: &[&[&str]] = &[
     &["trial"],
     &["trial", "0"],
     &["trial", "20001"],
@@ -325,6 +371,11 @@ fn check_no_commands(alloc: Global, rows: &[&[&str]]) -> Result<(), Fail> {
 #[test]
 fn other_words_give_no_command(rt: HostRuntime) -> Result<(), Fail> {
     check_no_commands(rt.alloc(), NO_COMMANDS)
+}
+
+#[test]
+fn stray_words_give_no_command(rt: HostRuntime) -> Result<(), Fail> {
+    check_no_commands(rt.alloc(), STRAY_WORDS)
 }
 
 // The word `data`, and behind it one that is no text.

@@ -50,6 +50,7 @@ fn name_text(name: CommandName) -> &'static [u8] {
         CommandName::Build => b"help build",
         CommandName::Data => b"help data",
         CommandName::Explain => b"help explain",
+        CommandName::Schema => b"help schema",
         CommandName::Serve => b"help serve",
         CommandName::Replay => b"help replay",
         CommandName::Trial => b"help trial",
@@ -78,6 +79,10 @@ pub fn command_text(alloc: Global, command: &Command) -> Result<Vec<u8>, NoMemor
         }
         Command::Data(c) => named(alloc, b"data", &[], c.sources.items(), &[]),
         Command::Explain(c) => named(alloc, b"explain", &[&c.query], c.sources.items(), &[]),
+        Command::Schema(c) => {
+            let numbers: &[u64] = if c.dot { &[1] } else { &[] };
+            named(alloc, b"schema", &[&c.query], &[], numbers)
+        }
         Command::Serve(c) => {
             let paths = [&c.query, &c.templates];
             let limits = &c.options.limits;
@@ -87,6 +92,8 @@ pub fn command_text(alloc: Global, command: &Command) -> Result<Vec<u8>, NoMemor
                 limits.requests,
                 limits.turns,
                 u64::from(limits.cache),
+                u64::from(c.options.waits.idle),
+                u64::from(c.options.waits.stall),
             ];
             named(alloc, b"serve", &paths, c.sources.items(), &numbers)
         }

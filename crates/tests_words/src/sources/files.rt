@@ -65,6 +65,24 @@ const FILES: &[FileRow] = &[
         number: 0,
         count: 0,
     },
+    FileRow {
+        path: b"b.bib",
+        bytes: b"@misc{k",
+        number: 121,
+        count: 7,
+    },
+    FileRow {
+        path: b"b.bib",
+        bytes: b"@misc{k, note = x}",
+        number: 122,
+        count: 16,
+    },
+    FileRow {
+        path: b"b.bib",
+        bytes: b"@misc{k}",
+        number: 0,
+        count: 0,
+    },
 ];
 
 fn count_of(place: &Place) -> u64 {
@@ -122,6 +140,11 @@ const FORMATS: &[FormatRow] = &[
         stem: b"p",
     },
     FormatRow {
+        path: b"d/p.bib",
+        format: b"bibtex",
+        stem: b"p",
+    },
+    FormatRow {
         path: b"p.JSON",
         format: b"data text",
         stem: b"",
@@ -134,6 +157,7 @@ fn named(format: &Format) -> (&[u8], &[u8]) {
         Format::DataText => (b"data text", b""),
         Format::Csv(stem) => (b"csv", stem.bytes()),
         Format::Json(stem) => (b"json", stem.bytes()),
+        Format::BibTex(stem) => (b"bibtex", stem.bytes()),
     }
 }
 

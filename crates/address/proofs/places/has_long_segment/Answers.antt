@@ -1,5 +1,5 @@
 use Rattle.std.proofs.Common.{◌+◌, ◌≤◌, get_or, drop, sym, refl, subst, arith, inr}
-use Rattle.address.specs.declared.places.TheConstants.{NAME_LIMIT}
+use Rattle.page_spec.specs.declared.TheConstants.{NAME_LIMIT}
 use Rattle.address.proofs.Runs.{IsLongAfter, after_slash, before_slash, after_other, before_other, found_long, long_at_start}
 use Rattle.address.proofs.Targets.{first_here}
 use Rattle.address.proofs.places.has_long_segment.Goals as goal

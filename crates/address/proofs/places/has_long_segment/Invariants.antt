@@ -1,5 +1,5 @@
 use Rattle.std.proofs.Common.{◌↔◌, ◌≤◌, drop}
-use Rattle.address.specs.declared.places.TheConstants.{NAME_LIMIT}
+use Rattle.page_spec.specs.declared.TheConstants.{NAME_LIMIT}
 use Rattle.address.specs.Segments.{HasLongSegment}
 use Rattle.address.proofs.Runs.{IsLongAfter}
 use Rattle.address.proofs.places.has_long_segment.Given as goal

@@ -1,4 +1,4 @@
-use Rattle.std.proofs.Common.{◌≡◌, ◌∙◌, ◌+◌, length, ap}
+use Rattle.std.proofs.Common.{◌∙◌, ◌+◌, ap}
 use Rattle.bindings.proofs.Made.{length_push}
 use Rattle.bindings.proofs.follow.bound_at_first.Goals as goal
 

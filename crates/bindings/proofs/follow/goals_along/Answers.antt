@@ -1,4 +1,3 @@
-use Rattle.std.proofs.Common.{◌≡◌, sym, refl}
 use Rattle.std.proofs.lemmas.Option.{slice_get-get_or}
 use Rattle.bindings.proofs.Made.{along-none, along-more, step_over}
 use Rattle.bindings.proofs.follow.goals_along.Goals as goal

@@ -1,4 +1,3 @@
-use Rattle.std.proofs.Common.{◌≡◌, sym, refl}
 use Rattle.bindings.proofs.Made.{chain_ready, followed, followed_in_range, written_length}
 use Rattle.bindings.proofs.follow.goals_of.Goals as goal
 

@@ -1,5 +1,4 @@
-use Rattle.std.proofs.Common.{rules, ◌≡◌, ℕ, ◌+◌, ◌<◌, length, List, ◌++◌, arith, sym, ◌∙◌}
-use Rattle.condition_tests.specs.Known.{known_part}
+use Rattle.std.proofs.Common.{sym, ◌∙◌}
 use Rattle.bindings.proofs.Known.{known_part-take_some, known_part-take_none}
 use Rattle.bindings.proofs.row.row_of.Goals as goal
 use Rattle.bindings.proofs.row.row_of.Goals.{in-Some+in_ok-copy+in_ok-push, in_default}

@@ -1,52 +1,53 @@
-use Rattle.std.proofs.Common.{rules, ◌≡◌, ◌≤◌, ℕ, IfOk, MatchOption, IfSome, length, Some, None, ◌+◌, ◌*◌, ◌<◌, List, [], ◌++◌, slice_set, arith, subst, sym, ap, ◌∙◌}
+use Rattle.std.proofs.Common.{◌≡◌, length, Some, None, ◌<◌, slice_set, arith, sym, ap, ◌∙◌}
 use Rattle.std.proofs.lemmas.Option.{slice_get_within}
-use Rattle.sd_value.specs.declared.Value.{Value}
-use Rattle.condition_tests.specs.Known.{KnownInDomains, known_part}
-use Rattle.bindings.specs.Fits.{Fits, Adds, IsPassed, IsChoice, IsComplete}
-use Rattle.bindings.proofs.Known.{set_back, length-set, slice_get-set_same, free_count-set, free_count}
-use Rattle.bindings.proofs.Found.{IsHalfway, halfway-init, halfway-step, halfway-end, known_more, complete_fits, only_complete, Adds-one, Adds-same, later, from_passed, one_complete, last_in}
+use Rattle.condition_tests.specs.Known.{KnownInDomains}
+use Rattle.bindings.proofs.Known.{set_back, length-set, free_count-set, free_count}
+use Rattle.bindings.proofs.Found.{halfway-init, halfway-step, halfway-end, known_more, from_passed, one_complete, last_in}
 use Rattle.bindings.proofs.search.+rows.Goals as goal
 
 pub returns-in_default-2-clause-exact : goal.returns-in_default-2-clause-exact
 returns-in_default-2-clause-exact g t c =
-    let ps = rw c.in-Some.is at c.in_ok-at.ensures in
-    let full = rw c.in_default-2.is at c.in_ok-choice.ensures in
+    let ps = rw c.in-Some.is at c.in_ok-at.ensures.passed in
+    let full = rw c.in_default-2.is at c.in_ok-choice.ensures.choice in
     rw c.in_ok-push.ensures.items (rw c.in_ok-row_of.ensures (from_passed _ _ _ _ _ _ _ _ _ ps (one_complete _ _ _ _ _ _ _ c.requires.known full)))
 
 pub loop-value-init : goal.loop-value-init
-loop-value-init g t c = halfway-init _ _ _ _ _ _ _ _ _
+loop-value-init g t c = record { halfway = halfway-init _ _ _ _ _ _ _ _ _; kept = c.in_ok-choice.ensures.kept }
 
 pub put-requires : goal.put-requires
 put-requires g t c =
-    let ch = rw c.in-Some-2.is at c.in_ok-choice.ensures in
-    rw c.loop-value.invariant.same (slice_get_within _ _ _ ch.free)
+    let ch = rw c.in-Some-2.is at c.in_ok-choice.ensures.choice in
+    rw c.loop-value.invariant.halfway.same (slice_get_within _ _ _ ch.free)
 
 pub rows-requires : goal.rows-requires
 rows-requires g t c κs within =
-    let ch = rw c.in-Some-2.is at c.in_ok-choice.ensures in
-    let put_is : c.put.new.current ≡ slice_set c.args.current.now c.in-Some-2.choice.slot (Some c.in-Some-pop.value) = c.put.ensures ∙ ap (λ s. slice_set s c.in-Some-2.choice.slot (Some c.in-Some-pop.value)) c.loop-value.invariant.same in
+    let ch = rw c.in-Some-2.is at c.in_ok-choice.ensures.choice in
+    let put_is : c.put.new.current ≡ slice_set c.args.current.now c.in-Some-2.choice.slot (Some c.in-Some-pop.value) = c.put.ensures ∙ ap (λ s. slice_set s c.in-Some-2.choice.slot (Some c.in-Some-pop.value)) c.loop-value.invariant.halfway.same in
     let less : free_count c.put.new.current < free_count c.args.current.now = rw put_is (free_count-set c.args.current.now c.in-Some-2.choice.slot c.in-Some-pop.value ch.free) in
     let known : KnownInDomains (g.S.Store.graph c.args.search.now.store.now) c.args.search.now.arcs.now c.put.new.current =
-    rw put_is (known_more _ c.args.search.now.version _ c.args.search.now.goals.now _ _ _ c.requires.known ch.free (ch.within _ (last_in _ _ _ _ _ c.loop-value.invariant.cut c.in-Some-pop.ensures.items))) in
+    rw put_is (known_more _ c.args.search.now.version _ c.args.search.now.goals.now _ _ _ c.requires.known ch.free (ch.within _ (last_in _ _ _ _ _ c.loop-value.invariant.halfway.cut c.in-Some-pop.ensures.items))) in
     let long : length c.put.new.current ≡ length c.args.current.now = ap length put_is ∙ length-set _ _ _ in
     let below_t : free_count c.put.new.current < t = omega (arith, less, c.decreases) in
-    (below_t, (within, (known, (c.requires.as_long ∙ sym long, rw long c.requires.in_range))))
+    (below_t, (within, (known, (c.requires.as_long ∙ sym long, (rw long c.requires.in_range, c.loop-value.invariant.kept)))))
 
 pub clear-requires : goal.clear-requires
 clear-requires g t c =
-    let ch = rw c.in-Some-2.is at c.in_ok-choice.ensures in
-    rw (c.in_ok-rows.ensures.restored, c.put.ensures, length-set, c.loop-value.invariant.same) (slice_get_within _ _ _ ch.free)
+    let ch = rw c.in-Some-2.is at c.in_ok-choice.ensures.choice in
+    rw (c.in_ok-rows.ensures.restored, c.put.ensures, length-set, c.loop-value.invariant.halfway.same) (slice_get_within _ _ _ ch.free)
 
 pub loop-value-preserved : goal.loop-value-preserved
 loop-value-preserved g t c =
-    let ch = rw c.in-Some-2.is at c.in_ok-choice.ensures in
-    let put_is : c.put.new.current ≡ slice_set c.args.current.now c.in-Some-2.choice.slot (Some c.in-Some-pop.value) = c.put.ensures ∙ ap (λ s. slice_set s c.in-Some-2.choice.slot (Some c.in-Some-pop.value)) c.loop-value.invariant.same in
-    halfway-step _ _ _ _ _ _ _ _ _ _ _ _ _ _ _ c.loop-value.invariant c.in-Some-pop.ensures.items (rw (← put_is) c.in_ok-rows.ensures.exact) _
-    (c.clear.ensures ∙ (ap (λ s. slice_set s c.in-Some-2.choice.slot None) (c.in_ok-rows.ensures.restored ∙ put_is) ∙ set_back _ _ _ _ ch.free))
+    let ch = rw c.in-Some-2.is at c.in_ok-choice.ensures.choice in
+    let put_is : c.put.new.current ≡ slice_set c.args.current.now c.in-Some-2.choice.slot (Some c.in-Some-pop.value) = c.put.ensures ∙ ap (λ s. slice_set s c.in-Some-2.choice.slot (Some c.in-Some-pop.value)) c.loop-value.invariant.halfway.same in
+    record {
+      halfway = halfway-step _ _ _ _ _ _ _ _ _ _ _ _ _ _ _ c.loop-value.invariant.halfway c.in-Some-pop.ensures.items (rw (← put_is) c.in_ok-rows.ensures.exact) _
+          (c.clear.ensures ∙ (ap (λ s. slice_set s c.in-Some-2.choice.slot None) (c.in_ok-rows.ensures.restored ∙ put_is) ∙ set_back _ _ _ _ ch.free));
+      kept = c.in_ok-rows.ensures.kept;
+    }
 
 pub returns-clause-exact : goal.returns-clause-exact
 returns-clause-exact g t c =
-    let ps = rw c.in-Some.is at c.in_ok-at.ensures in
-    let ch = rw c.in-Some-2.is at c.in_ok-choice.ensures in
+    let ps = rw c.in-Some.is at c.in_ok-at.ensures.passed in
+    let ch = rw c.in-Some-2.is at c.in_ok-choice.ensures.choice in
     let empty : length c.loop-value.values.items ≡ 0 = omega (arith, c.loop-value.values.ok, c.in_default-pop.ensures.cases.0) in
-    from_passed _ _ _ _ _ _ _ _ _ ps (halfway-end _ _ _ _ _ _ _ _ _ _ _ _ _ c.loop-value.invariant empty ch)
+    from_passed _ _ _ _ _ _ _ _ _ ps (halfway-end _ _ _ _ _ _ _ _ _ _ _ _ _ c.loop-value.invariant.halfway empty ch)

@@ -1,5 +1,3 @@
-use Rattle.std.proofs.Common.{◌≡◌}
-use Rattle.condition_tests.specs.Known.{KnownInDomains}
 use Rattle.bindings.proofs.Found.{none_outside}
 use Rattle.bindings.proofs.search.answers.Goals as goal
 

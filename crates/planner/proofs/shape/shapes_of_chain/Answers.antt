@@ -6,5 +6,5 @@ use Rattle.planner.proofs.shape.shapes_of_chain.Goals as goal
 
 pub returns-clause-in_range : goal.returns-clause-in_range
 returns-clause-in_range c =
-    let e : c.in_ok-shapes.shapes.items ≡ shapes_of c.args.counts.now c.args.chain.now = rw (c.in_ok-shapes.ensures, c.conditions.ensures, c.version.ensures, c.variables.ensures) refl in
+    let e : c.in_ok-shapes.shapes.items ≡ shapes_of c.args.counts.now c.args.chain.now = rw (c.in_ok-shapes.ensures, c.in_ok-prices.ensures.counts, c.conditions.ensures, c.version.ensures, c.variables.ensures) refl in
     subst (ShapesInRange (length c.args.chain.now.variables)) (sym e) (shapes_in_range c.args.counts.now c.args.chain.now)

@@ -12,3 +12,11 @@ pub returns-clause-ends : goal.returns-clause-ends
 returns-clause-ends g c = λ old told.
     absent_told (g.P.Pages.site (g.P.Pages.fixed c.args.pages.now)) (g.P.Pages.templates (g.P.Pages.fixed c.args.pages.now)) c.args.folder.now (g.F.Files.contents c.args.files.now) (g.F.Files.contents c.args.files.now) c.args.terms.now c.args.root.now old refl told
     (λ h. not_among c.is_among.result c.if-is_among.false c.is_among.ensures (subst (Contains c.args.terms.now) (sym c.in_ok-page.ensures) h))
+
+pub returns-then-is_among-clause-cause : goal.returns-then-is_among-clause-cause
+returns-then-is_among-clause-cause g c = record {
+  later = c.put_index.ensures.cause.later;
+  failed = λ e.
+      let r = c.put_index.ensures.cause.failed e in
+      (r.0, (subst (Contains c.args.terms.now) c.in_ok-page.ensures (c.is_among.ensures.0 c.if-is_among.true), r.1), r.2);
+}

@@ -1,7 +1,7 @@
 use Rattle.std.proofs.Common.{[], ◌∷◌, map, sym, ◌∙◌}
 use Rattle.std.proofs.lemmas.List.{map-append}
 use Rattle.std.proofs.lemmas.Result.{err_from_is_err_and}
-use Rattle.template_reader.specs.Gives.{single}
+use Rattle.template_reader.specs.Template.{single}
 use Rattle.template_reader.proofs.BodyLoop.{body_gives, block_past, block_by_room, list_ends, list_smaller, list_goes_on, list_done}
 use Rattle.template_reader.proofs.body.+body.Goals as goal
 

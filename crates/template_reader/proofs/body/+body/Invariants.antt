@@ -1,6 +1,6 @@
 use Rattle.std.proofs.Common.{◌≡◌, ◌+◌, ◌*◌, length, map}
 use Rattle.grammar.specs.Reading.{repeat, with_front}
-use Rattle.template_reader.specs.Gives.{single}
+use Rattle.template_reader.specs.Template.{single}
 use Rattle.template_reader.specs.Reading.{is_part, read_part, read_block_at}
 use Rattle.template_reader.proofs.body.+body.Given as goal
 

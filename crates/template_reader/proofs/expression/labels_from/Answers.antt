@@ -5,7 +5,7 @@ use Rattle.grammar.proofs.RepeatLoop.{shrinks, goes_on, done}
 use Rattle.template_reader.specs.Terminals.{is_dot}
 use Rattle.template_reader.specs.Reading.{read_dotted}
 use Rattle.template_reader.proofs.WordParts.{dotted_part, dotted_opens}
-use Rattle.template_reader.proofs.Ends.{ends}
+use Rattle.token_reader.proofs.Ends.{ends}
 use Rattle.template_reader.proofs.expression.labels_from.Goals as goal
 
 pub returns-in_err-label : goal.returns-in_err-label

@@ -7,7 +7,7 @@ use Rattle.template_items.specs.declared.item.Mark.TheVariants as marks
 use Rattle.template_reader.specs.Terminals.{is_mark}
 use Rattle.template_reader.specs.Entries.{entry_of}
 use Rattle.template_reader.proofs.FileParts.{entry_part, entry_opens}
-use Rattle.template_reader.proofs.Ends.{ends}
+use Rattle.token_reader.proofs.Ends.{ends}
 use Rattle.template_reader.proofs.file.templates_at.Goals as goal
 
 pub returns-in_err-entry : goal.returns-in_err-entry

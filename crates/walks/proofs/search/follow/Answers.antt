@@ -1,6 +1,5 @@
-use Rattle.std.proofs.lemmas.Result.{IfOk-weaker}
 use Rattle.walks.proofs.Explored.{same_pairs}
-use Rattle.walks.specs.Search.{Explores, Ahead, Leads}
+use Rattle.walks.specs.Search.{Leads}
 use Rattle.walks.proofs.search.follow.Goals as goal
 
 pub returns : goal.returns
@@ -8,10 +7,6 @@ returns g c =
     let edges = c.in_ok-steps.ensures in
     let next = c.next-reach.ensures in
     let Now = Leads (g.S.Store.graph c.args.store.now) c.args.automaton.now c.args.direction c.args.task.now in
-    IfOk-weaker c.expand.result
-    (λ _. Explores (Ahead c.args.automaton.now c.next-reach.result c.in_ok-steps.steps.items) c.args.seen.now c.expand.new.seen c.args.tasks.now.items c.expand.new.tasks.items)
-    (λ _. Explores Now c.args.seen.now c.expand.new.seen c.args.tasks.now.items c.expand.new.tasks.items)
-    (λ _ e. same_pairs _ Now
+    same_pairs _ Now
     (λ v q. (λ (l, s, h, r). (l, (edges l v).0 s, (next q).0 h, r), λ (l, s, h, r). (l, (edges l v).1 s, (next q).1 h, r)))
-    _ _ _ _ e)
-    c.expand.ensures
+    _ _ _ _ c.in_ok-expand.ensures

@@ -1,9 +1,8 @@
-use Rattle.std.proofs.Common.{◌+◌, length}
-use Rattle.walks.specs.Search.{Searches, all_pairs, spare}
+use Rattle.walks.specs.Search.{IsUnderWay, left}
 use Rattle.walks.proofs.search.search.Given as goal
 
-abbrev pub invariant-loop-task : goal.invariant-loop-task
-invariant-loop-task g l = Searches (g.S.Store.graph l.store) l.automaton l.direction l.start l.seen l.tasks.items
+abbrev pub invariant-loop-alloc : goal.invariant-loop-alloc
+invariant-loop-alloc g l = IsUnderWay (g.S.Store.graph l.store) l.automaton l.direction l.start l.exploration
 
-abbrev pub decreases-loop-task : goal.decreases-loop-task
-decreases-loop-task g l = spare (all_pairs (g.S.Store.graph l.store) l.automaton l.direction) l.seen + length l.tasks.items
+abbrev pub decreases-loop-alloc : goal.decreases-loop-alloc
+decreases-loop-alloc g l = left (g.S.Store.graph l.store) l.automaton l.direction l.exploration

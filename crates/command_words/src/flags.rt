@@ -1,0 +1,74 @@
+//! Flags: the options without a value.
+
+ghost use Rattle.std.specs.Prelude.{◌≡◌, ◌++◌, ◌+◌, ◌<◌, IfOk, IfSome, length, take, drop, option_copied, option_and_then};
+ghost use Rattle.clap.specs.Walk.{texts};
+ghost use Rattle.command_spec.specs.Ranges.{IsInRange};
+ghost use Rattle.command_spec.specs.Words as specs;
+
+use command_spec::{Command, SchemaCommand};
+use sd_value::NoMemory;
+use std::alloc::Global;
+
+/// The flag of the command of this name, if it has one.
+pub fn flag_of(name: &str) -> Option<&'static str>
+    ensures { option_copied result ≡ specs.flag_of name.now }
+{
+    match name {
+        "schema" => Some("--dot"),
+        _ => None,
+    }
+}
+
+/// Where the flag stands first before a `--`, if it stands there at all.
+pub fn flag_place(flag: &str, words: &[&str]) -> Option<usize>
+    ensures place { result ≡ specs.flag_place flag.now (texts words.now) }
+    ensures within { IfSome result (λ at. at < length words.now) }
+{
+    for (i, word) in words.iter().enumerate() {
+        if *word == "--" {
+            return None;
+        }
+        if *word == flag {
+            return Some(i);
+        }
+    }
+    None
+}
+
+/// The words but the one at this place.
+pub fn without<'a>(alloc: Global, words: &[&'a str], at: usize) -> Result<Vec<&'a str>, NoMemory>
+    requires { at < length words.now }
+    ensures { IfOk result (λ rest. texts rest.items
+        ≡ take at (texts words.now) ++ drop (at + 1) (texts words.now)) }
+{
+    let mut rest = Vec::from_slice(alloc, &words[..at])?;
+    rest.extend_from_slice(&words[at + 1..])?;
+    Ok(rest)
+}
+
+/// The command with its flag, or without it.
+fn with_flag(set: bool, command: Command) -> Option<Command>
+    requires { IsInRange command }
+    ensures exact { result ≡ specs.with_flag set command }
+    ensures ranges { IfSome result IsInRange }
+{
+    match command {
+        Command::Schema(command) => Some(Command::Schema(SchemaCommand {
+            query: command.query,
+            dot: set,
+        })),
+        other => Some(other),
+    }
+}
+
+/// What was given, with its flag or without it.
+pub fn marked(set: bool, given: Option<Command>) -> Option<Command>
+    requires { IfSome given IsInRange }
+    ensures exact { result ≡ option_and_then (specs.with_flag set) given }
+    ensures ranges { IfSome result IsInRange }
+{
+    match given {
+        Some(command) => with_flag(set, command),
+        None => None,
+    }
+}

@@ -1,5 +1,0 @@
-use Rattle.query_spec.proofs.VariableNumbers.{NotBefore}
-use Rattle.condition_tests.proofs.resolve.index_of.Given as goal
-
-abbrev pub invariant-loop-i : goal.invariant-loop-i
-invariant-loop-i l = NotBefore l.variables l.name l.i

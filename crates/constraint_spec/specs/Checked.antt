@@ -1,0 +1,43 @@
+-- What constraints ask of a query. Every query without faults has it.
+use Rattle.std.specs.Prelude.{◌≡◌, Contains, List, All}
+use Rattle.std.specs.List.{flat_map}
+use Rattle.sd_value.specs.declared.Datum.{Datum}
+use Rattle.sd_value.specs.declared.Value.TheVariants.{Data}
+use Rattle.query_spec.specs.Query.{Operand, variable, constant, Condition, SkolemTerm, Target}
+use Rattle.query_spec.specs.Query.{plain, made, LinkLabel, quoted, label_variable, Link, Body}
+use Rattle.query_spec.specs.Mentions.{names, arc_names, IsFlat}
+use Rattle.site_spec.specs.Site.{Scope}
+
+-- a variable that a condition mentions, or a constant that is no page
+abbrev pub IsBound : List Condition → Operand → Type 0
+IsBound conditions (variable x) = Contains (flat_map names conditions) x
+IsBound conditions (constant v) = (d : Datum) × (v ≡ Data d)
+
+-- all arguments of the term are bound
+abbrev pub IsBoundTerm : List Condition → SkolemTerm → Type 0
+IsBoundTerm conditions t = All (IsBound conditions) t.args
+
+-- what the target mentions is bound
+abbrev pub IsBoundTarget : List Condition → Target → Type 0
+IsBoundTarget conditions (plain operand) = IsBound conditions operand
+IsBoundTarget conditions (made t) = IsBoundTerm conditions t
+
+-- a variable for a label is between arrows in some condition
+abbrev pub IsBoundLabel : List Condition → LinkLabel → Type 0
+IsBoundLabel conditions (quoted l) = Unit {0}
+IsBoundLabel conditions (label_variable x) = Contains (flat_map arc_names conditions) x
+
+-- all that the link mentions is bound
+pub record IsBoundLink (conditions : List Condition) (k : Link) : Type 0 where
+  pub source : IsBoundTarget conditions k.source
+  pub label : IsBoundLabel conditions k.label
+  pub target : IsBoundTarget conditions k.target
+
+-- a negation holds no negation, and what links mention is bound
+pub record IsCheckedBody (b : Body) : Type 0 where
+  pub flat : All IsFlat b.conditions
+  pub links : (k : Link) → Contains b.links k → IsBoundLink b.conditions k
+
+-- this is so of all blocks
+abbrev pub IsChecked : Scope → Type 0
+IsChecked q = (b : Body) → Contains q.bodies b → IsCheckedBody b

@@ -1,0 +1,82 @@
+-- Uses of a link under a mention: each variable of the link's chain is mapped to one of the
+-- mention's, so that the mention's conditions entail the link's.
+use Rattle.std.specs.Prelude.{ℕ, List, [], ◌∷◌, All, Contains, map, if◌then◌else◌}
+use Rattle.std.specs.List.{AllZip}
+use Rattle.sd_value.specs.Names.{Name}
+use Rattle.query_spec.specs.declared.Variable.{Variable}
+use Rattle.query_spec.specs.Query.{Operand, variable, constant, PathStep, arc_variable, expression}
+use Rattle.query_spec.specs.Query.{Condition, member, path, compare, one_of, kind, negation}
+use Rattle.query_spec.specs.Query.{SkolemTerm, Target, plain, made}
+use Rattle.query_spec.specs.Mentions.{same_name, variables_of}
+use Rattle.site_spec.specs.Site.{Scope}
+use Rattle.constraint_spec.specs.Placed.{PlacedLink, links_of, IsNumbered}
+use Rattle.constraint_spec.specs.Entailed.{IsEntailed}
+
+-- ---- renaming variables
+
+-- the operand with its variable renamed
+abbrev pub rename_operand : (Name → Name) → Operand → Operand
+rename_operand f (variable x) = variable (f x)
+rename_operand f (constant v) = constant v
+
+-- the step with its variable renamed
+abbrev pub rename_step : (Name → Name) → PathStep → PathStep
+rename_step f (arc_variable x) = arc_variable (f x)
+rename_step f (expression r) = expression r
+
+-- the condition with its variables renamed
+abbrev pub rename : (Name → Name) → Condition → Condition
+rename f (member c x) = member c (f x)
+rename f (path t s u) = path (rename_operand f t) (rename_step f s) (rename_operand f u)
+rename f (compare t op u) = compare (rename_operand f t) op (rename_operand f u)
+rename f (one_of t values) = one_of (rename_operand f t) values
+rename f (kind test x) = kind test (f x)
+rename f (negation c) = negation (rename f c)
+
+-- the term with its variables renamed
+abbrev pub rename_term : (Name → Name) → SkolemTerm → SkolemTerm
+rename_term f t = record { function = t.function; args = map (rename_operand f) t.args }
+
+-- the target with its variables renamed
+abbrev pub rename_target : (Name → Name) → Target → Target
+rename_target f (plain operand) = plain (rename_operand f operand)
+rename_target f (made t) = made (rename_term f t)
+
+-- the name that a variable is mapped to. A name that is none of the variables stays
+abbrev pub name_for : List Variable → List Name → Name → Name
+name_for [] names x = x
+name_for (v ∷ variables) [] x = x
+name_for (v ∷ variables) (y ∷ names) x =
+    if same_name v.name x then y else name_for variables names x
+
+-- ---- uses
+
+-- a link's number, and a name for each variable of its chain in their order
+pub record LinkUse : Type 0 where
+  pub link : ℕ
+  pub names : List Name
+
+-- what the names make of the variables of a link's chain
+abbrev pub naming : PlacedLink → List Name → Name → Name
+naming k names = name_for (variables_of k.conditions) names
+
+-- each name is a variable of S of the same sort, and S entails each condition of the link's chain
+pub record IsUse (version : ℕ) (S : List Condition) (k : PlacedLink) (names : List Name) : Type 0
+  where
+    pub sorts : AllZip
+        (λ v y. Contains (variables_of S) (record { name = y; arc = v.arc }))
+        (variables_of k.conditions) names
+    pub entailed : All (λ c. IsEntailed version S (rename (naming k names) c)) k.conditions
+
+-- under S the use is one of this link of the query
+pub record IsUseOf (q : Scope) (S : List Condition) (u : LinkUse) (k : PlacedLink) : Type 0 where
+  pub numbered : IsNumbered (links_of q) u.link k
+  pub is_use : IsUse q.version S k u.names
+
+-- the link's source with its variables mapped
+abbrev pub source_of : PlacedLink → LinkUse → Target
+source_of k u = rename_target (naming k u.names) k.link.source
+
+-- the link's target with its variables mapped
+abbrev pub target_of : PlacedLink → LinkUse → Target
+target_of k u = rename_target (naming k u.names) k.link.target

@@ -1,0 +1,6 @@
+pub mod Parts
+pub mod Whole
+pub mod Names
+pub mod Lookup
+pub mod Faults
+pub mod Once

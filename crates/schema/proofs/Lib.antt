@@ -1,0 +1,5 @@
+pub mod Created
+pub mod RowLists
+pub mod Sorted
+pub mod Texts
+pub mod Whole

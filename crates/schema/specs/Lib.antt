@@ -1,0 +1,5 @@
+pub mod Orders
+pub mod Rows
+pub mod Text
+pub mod Picture
+pub mod Lines

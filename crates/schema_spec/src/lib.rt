@@ -1,0 +1,3 @@
+//! What the schema of a site is: its functions, and its links by number. This crate holds
+//! definitions alone.
+#![tactic(auto)]

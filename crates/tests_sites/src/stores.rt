@@ -1,4 +1,0 @@
-// Both stores over the same graphs, and the walks over them.
-mod calls;
-mod printed;
-mod walk_rows;

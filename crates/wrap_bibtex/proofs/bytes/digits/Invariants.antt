@@ -1,0 +1,10 @@
+use Rattle.std.proofs.Common.{◌≡◌, ◌≤◌, length}
+use Rattle.wrap_bibtex.specs.Bytes.{is_digit, behind}
+use Rattle.wrap_bibtex.proofs.Runs.{IsFront}
+use Rattle.wrap_bibtex.proofs.bytes.digits.Given as goal
+
+abbrev pub invariant-digits : goal.invariant-digits
+invariant-digits l = IsFront is_digit l.word.items l.rest l.bytes
+
+abbrev pub decreases-digits : goal.decreases-digits
+decreases-digits l = length l.rest

@@ -1,0 +1,10 @@
+use Rattle.std.proofs.Common.{◌≡◌, ◌≤◌, length}
+use Rattle.wrap_bibtex.specs.Bytes.{is_key_byte, behind}
+use Rattle.wrap_bibtex.proofs.Runs.{IsFront}
+use Rattle.wrap_bibtex.proofs.bytes.key_bytes.Given as goal
+
+abbrev pub invariant-key : goal.invariant-key
+invariant-key l = IsFront is_key_byte l.word.items l.rest l.bytes
+
+abbrev pub decreases-key : goal.decreases-key
+decreases-key l = length l.rest

@@ -1,0 +1,10 @@
+use Rattle.std.proofs.Common.{◌≤◌, length}
+use Rattle.wrap_bibtex.specs.Reading.{read_fields}
+use Rattle.wrap_bibtex.proofs.Loops.{IsListed}
+use Rattle.wrap_bibtex.proofs.reading.fields_at.Given as goal
+
+abbrev pub invariant-fields : goal.invariant-fields
+invariant-fields l = IsListed l.macros l.fields.items l.rest (read_fields l.macros l.bytes) × (length l.rest ≤ length l.bytes)
+
+abbrev pub decreases-fields : goal.decreases-fields
+decreases-fields l = length l.rest
