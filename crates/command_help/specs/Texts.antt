@@ -2,7 +2,7 @@
 use Rattle.std.specs.Prelude.{ℕ, List, ◌++◌, codes}
 use Rattle.std.specs.Prelude.{Option, None, Some}
 use Rattle.command_spec.specs.declared.names.CommandName.{CommandName}
-use Rattle.command_spec.specs.declared.names.CommandName.TheVariants.{Page, Build, Data, Explain, Schema, Serve}
+use Rattle.command_spec.specs.declared.names.CommandName.TheVariants.{Page, Build, Data, Explain, Schema, Check, Serve}
 use Rattle.command_spec.specs.declared.names.CommandName.TheVariants.{Replay, Trial, Help, Version}
 
 -- the usage of the program
@@ -10,16 +10,17 @@ abbrev pub program_usage : List ℕ
 program_usage =
     codes "Strudel makes a web site of data, a query and templates.\n\n"
     ++ codes "usage: strudel COMMAND\n\n"
-    ++ codes "  page QUERY TEMPLATES ADDRESS DATA..   prints one page\n"
-    ++ codes "  build QUERY TEMPLATES DIR DATA..      writes every page to its file under a folder\n"
-    ++ codes "  data DATA..                           prints the union of the data\n"
-    ++ codes "  explain QUERY DATA..                  prints the plan of each block of the query\n"
-    ++ codes "  schema QUERY                          prints the functions and the links of the site\n"
-    ++ codes "  serve QUERY TEMPLATES DATA..          serves the site over HTTP\n"
-    ++ codes "  replay QUERY TEMPLATES SCRIPT DATA..  serves the site over the events of a script\n"
-    ++ codes "  trial N                               serves a site of made data, and counts\n"
-    ++ codes "  help [COMMAND]                        prints this text, or that of one command\n"
-    ++ codes "  version                               prints the version of the program and of its kit\n\n"
+    ++ codes "  page QUERY TEMPLATES ADDRESS DATA..    prints one page\n"
+    ++ codes "  build QUERY TEMPLATES DIR DATA..       writes every page to its file under a folder\n"
+    ++ codes "  data DATA..                            prints the union of the data\n"
+    ++ codes "  explain QUERY DATA..                   prints the plan of each block of the query\n"
+    ++ codes "  schema QUERY                           prints the functions and the links of the site\n"
+    ++ codes "  check --here QUERY CONSTRAINTS DATA..  prints whether the site meets its constraints\n"
+    ++ codes "  serve QUERY TEMPLATES DATA..           serves the site over HTTP\n"
+    ++ codes "  replay QUERY TEMPLATES SCRIPT DATA..   serves the site over the events of a script\n"
+    ++ codes "  trial N                                serves a site of made data, and counts\n"
+    ++ codes "  help [COMMAND]                         prints this text, or that of one command\n"
+    ++ codes "  version                                prints the version of the program and of its kit\n\n"
     ++ codes "An option is --name=VALUE, or --name VALUE. Behind a word -- no word is an option.\n"
 
 -- that of `page`
@@ -64,6 +65,16 @@ schema_usage =
     ++ codes "Prints the functions and the links of the site.\n\n"
     ++ codes "  QUERY            the file of the query\n"
     ++ codes "  --dot            prints a picture in Graphviz's language\n"
+
+-- that of `check`
+abbrev pub check_usage : List ℕ
+check_usage =
+    codes "usage: strudel check --here QUERY CONSTRAINTS DATA..\n\n"
+    ++ codes "Prints of each constraint whether the site of these data meets it.\n\n"
+    ++ codes "  QUERY            the file of the query\n"
+    ++ codes "  CONSTRAINTS      the file of the constraints\n"
+    ++ codes "  DATA             a data file: data text, CSV or JSON\n"
+    ++ codes "  --here           says that the constraints are tested over these data\n"
 
 -- that of `serve`
 abbrev pub serve_usage : List ℕ
@@ -129,6 +140,7 @@ usage_of (Some Build) = build_usage
 usage_of (Some Data) = data_usage
 usage_of (Some Explain) = explain_usage
 usage_of (Some Schema) = schema_usage
+usage_of (Some Check) = check_usage
 usage_of (Some Serve) = serve_usage
 usage_of (Some Replay) = replay_usage
 usage_of (Some Trial) = trial_usage

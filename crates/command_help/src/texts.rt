@@ -9,16 +9,17 @@ Strudel makes a web site of data, a query and templates.\n\
 \n\
 usage: strudel COMMAND\n\
 \n\
-\x20 page QUERY TEMPLATES ADDRESS DATA..   prints one page\n\
-\x20 build QUERY TEMPLATES DIR DATA..      writes every page to its file under a folder\n\
-\x20 data DATA..                           prints the union of the data\n\
-\x20 explain QUERY DATA..                  prints the plan of each block of the query\n\
-\x20 schema QUERY                          prints the functions and the links of the site\n\
-\x20 serve QUERY TEMPLATES DATA..          serves the site over HTTP\n\
-\x20 replay QUERY TEMPLATES SCRIPT DATA..  serves the site over the events of a script\n\
-\x20 trial N                               serves a site of made data, and counts\n\
-\x20 help [COMMAND]                        prints this text, or that of one command\n\
-\x20 version                               prints the version of the program and of its kit\n\
+\x20 page QUERY TEMPLATES ADDRESS DATA..    prints one page\n\
+\x20 build QUERY TEMPLATES DIR DATA..       writes every page to its file under a folder\n\
+\x20 data DATA..                            prints the union of the data\n\
+\x20 explain QUERY DATA..                   prints the plan of each block of the query\n\
+\x20 schema QUERY                           prints the functions and the links of the site\n\
+\x20 check --here QUERY CONSTRAINTS DATA..  prints whether the site meets its constraints\n\
+\x20 serve QUERY TEMPLATES DATA..           serves the site over HTTP\n\
+\x20 replay QUERY TEMPLATES SCRIPT DATA..   serves the site over the events of a script\n\
+\x20 trial N                                serves a site of made data, and counts\n\
+\x20 help [COMMAND]                         prints this text, or that of one command\n\
+\x20 version                                prints the version of the program and of its kit\n\
 \n\
 An option is --name=VALUE, or --name VALUE. Behind a word -- no word is an option.\n";
 
@@ -64,6 +65,16 @@ Prints the functions and the links of the site.\n\
 \n\
 \x20 QUERY            the file of the query\n\
 \x20 --dot            prints a picture in Graphviz's language\n";
+
+const CHECK_USAGE: &[u8] = b"\
+usage: strudel check --here QUERY CONSTRAINTS DATA..\n\
+\n\
+Prints of each constraint whether the site of these data meets it.\n\
+\n\
+\x20 QUERY            the file of the query\n\
+\x20 CONSTRAINTS      the file of the constraints\n\
+\x20 DATA             a data file: data text, CSV or JSON\n\
+\x20 --here           says that the constraints are tested over these data\n";
 
 const SERVE_USAGE: &[u8] = b"\
 usage: strudel serve [OPTION..] QUERY TEMPLATES DATA..\n\
@@ -130,6 +141,7 @@ pub fn usage(name: Option<CommandName>) -> &'static [u8]
         CommandName::Data => DATA_USAGE,
         CommandName::Explain => EXPLAIN_USAGE,
         CommandName::Schema => SCHEMA_USAGE,
+        CommandName::Check => CHECK_USAGE,
         CommandName::Serve => SERVE_USAGE,
         CommandName::Replay => REPLAY_USAGE,
         CommandName::Trial => TRIAL_USAGE,

@@ -1,16 +1,16 @@
 -- Commands that write files or serve connections end well.
-use Rattle.std.proofs.Common.{◌≡◌, ◌⊎◌, ℕ, List, inl, inr, sym, subst, ◌∙◌}
+use Rattle.std.proofs.Common.{◌≡◌, ◌⊎◌, ℕ, List, inl, inr, subst}
 use Rattle.std.specs.Prelude.{Option, None, Some}
 use Rattle.std.specs.Option.{IsSomeAnd}
 use Rattle.edge_io.specs.Files.{FileMap}
 use Rattle.run_report.specs.declared.status.Status.{Status}
 use Rattle.run_report.specs.declared.status.Status.TheVariants as status
 use Rattle.command_spec.specs.declared.Command.{Command}
-use Rattle.command_spec.specs.declared.Command.TheVariants.{Page, Build, Data, Explain, Schema, Serve, Replay, Trial, Help, Version}
+use Rattle.command_spec.specs.declared.Command.TheVariants.{Page, Build, Data, Explain, Schema, Check, Serve, Replay, Trial, Help, Version}
 use Rattle.site_inputs.specs.Statuses.{ReadRose}
 use Rattle.edge_io.specs.Counts.{Rose}
 use Rattle.wire.specs.Told.{Told}
-use Rattle.site_inputs.specs.Outside.{Outside, PutsRose, EventsRose, host, outside}
+use Rattle.site_inputs.specs.Outside.{Outside, PutsRose, EventsRose, outside}
 use Rattle.command_build.proofs.Law.{build_ends_well}
 use Rattle.command_serve.proofs.Law.{serving_ends_well}
 use Rattle.command_replay.proofs.Law.{replay_ends_well}
@@ -35,6 +35,7 @@ module _ (contents : Option FileMap) (before after : Outside) where
   complete_end (Data command) reached ends read write wire = λ all. tt
   complete_end (Explain command) reached ends read write wire = λ all. tt
   complete_end (Schema command) reached ends read write wire = λ all. tt
+  complete_end (Check command) reached ends read write wire = λ all. tt
   complete_end (Trial command) reached ends read write wire = λ all. tt
   complete_end (Help command) reached ends read write wire = λ all. tt
   complete_end Version reached ends read write wire = λ all. tt
@@ -56,6 +57,7 @@ module _ (contents : Option FileMap) (before after : Outside) where
   short_run (Data command) reached memory = tt
   short_run (Explain command) reached memory = tt
   short_run (Schema command) reached memory = tt
+  short_run (Check command) reached memory = tt
   short_run (Trial command) reached memory = tt
   short_run (Help command) reached memory = tt
   short_run Version reached memory = tt

@@ -9,12 +9,14 @@ use Rattle.site_inputs.specs.declared.fault.Fault.TheVariants as fault
 use Rattle.run_report.specs.declared.status.Status.{Status}
 use Rattle.run_report.specs.declared.status.Status.TheVariants.{Ok, NotAllYes, Usage, Refused, ReadFault, WriteFault, WireFault, PageFault, NoMemory, NotFound, TurnsSpent}
 use Rattle.command_spec.specs.declared.Command.{Command}
-use Rattle.command_spec.specs.declared.Command.TheVariants.{Page, Build, Data, Explain, Schema, Serve, Replay, Trial, Help, Version}
+use Rattle.command_spec.specs.declared.Command.TheVariants.{Page, Build, Data, Explain, Schema, Check, Serve, Replay, Trial, Help, Version}
 use Rattle.command_spec.specs.declared.BuildCommand.{BuildCommand}
 use Rattle.command_spec.specs.declared.PageCommand.{PageCommand}
 use Rattle.command_spec.specs.declared.DataCommand.{DataCommand}
 use Rattle.command_spec.specs.declared.ExplainCommand.{ExplainCommand}
 use Rattle.command_spec.specs.declared.SchemaCommand.{SchemaCommand}
+use Rattle.command_spec.specs.declared.HereCommand.{HereCommand}
+use Rattle.constraint_report.specs.declared.report.Report.{Report}
 use Rattle.command_spec.specs.declared.ServeCommand.{ServeCommand}
 use Rattle.command_spec.specs.declared.ReplayCommand.{ReplayCommand}
 use Rattle.command_spec.specs.declared.TrialCommand.{TrialCommand}
@@ -40,11 +42,14 @@ use Rattle.command_trial.specs.Ends.{TrialEnds}
 use Rattle.command_help.specs.Texts.{usage_of, version_text}
 use Rattle.command_help.specs.Ends.{HelpEnds, VersionEnds}
 use Rattle.command_data.specs.Ends.{DataEnds}
-use Rattle.command_spec.specs.Inputs.{explain_paths}
+use Rattle.command_spec.specs.Inputs.{explain_paths, here_paths}
 use Rattle.command_explain.specs.Ends.{ExplainEnds}
 use Rattle.command_schema.specs.Ends.{SchemaEnds}
+use Rattle.command_check.specs.Ends.{HereEnds}
+use Rattle.command_check.specs.Ends as checked
 use Rattle.command_spec.specs.Inputs.{inputs_of_command, given_inputs}
-use Rattle.command_run.specs.Top.{TextEnds, Ends, RunEnds, WriteRose, WritesNoFile, UsesNoWire}
+use Rattle.command_run.specs.Top.{TextEnds, CheckAnswers, ReportEnds, Ends, RunEnds, WriteRose, WritesNoFile, UsesNoWire}
+use Rattle.command_run.proofs.Reports.{report_as, report_read_rose, memory_report_ends}
 
 -- a text command whose answers are told in another way
 pub text_as : (P Q : Result (List ℕ) Fault → Type 0) (old new : Option (List ℕ)) (status : Status) → ((a : Result (List ℕ) Fault) → P a → Q a) → TextEnds P old new status → TextEnds Q old new status
@@ -105,6 +110,12 @@ pub schema_read_rose : (command : Command) (c : SchemaCommand) (answer : Result 
     → TextEnds (λ a. a ≡ answer) old new status → ReadsHaveCause (c.query ∷ []) before now answer → ReadRose (inputs_of_command command) before now status
 schema_read_rose command c answer old new before now status is h cause =
     subst (λ (d : Command). ReadRose (inputs_of_command d) before now status) (sym is) (text_read_rose (c.query ∷ []) answer old new before now status h cause)
+
+pub check_read_rose : (command : Command) (c : HereCommand) (sources : List (List ℕ)) (answer : Result Report Fault) (old new : Option (List ℕ)) (before now : List ℕ → ℕ) (status : Status) → command ≡ Check c → sources ≡ c.sources
+    → ReportEnds (λ a. a ≡ answer) old new status → ReadsHaveCause (checked.here_paths sources c.query c.constraints) before now answer → ReadRose (inputs_of_command command) before now status
+check_read_rose command c sources answer old new before now status is same h cause =
+    subst (λ (d : Command). ReadRose (inputs_of_command d) before now status) (sym is)
+    (report_read_rose (here_paths c) answer old new before now status h (subst (λ (s : List (List ℕ)). ReadsHaveCause (checked.here_paths s c.query c.constraints) before now answer) same cause))
 
 pub trial_read_rose : (command : Command) (c : TrialCommand) (answer : Result (List ℕ) Fault) (old new : Option (List ℕ)) (before now : List ℕ → ℕ) (status : Status) → command ≡ Trial c
     → TextEnds (λ a. a ≡ answer) old new status → TrialEnds c answer → ReadRose (inputs_of_command command) before now status
@@ -186,6 +197,7 @@ no_memory_ends (Some (Page command)) before after files out wire = out
 no_memory_ends (Some (Data command)) before after files out wire = out
 no_memory_ends (Some (Explain command)) before after files out wire = out
 no_memory_ends (Some (Schema command)) before after files out wire = out
+no_memory_ends (Some (Check command)) before after files out wire = out
 no_memory_ends (Some (Trial command)) before after files out wire = out
 no_memory_ends (Some (Help command)) before after files out wire = out
 no_memory_ends (Some Version) before after files out wire = out
@@ -271,6 +283,7 @@ module _ (before after : Outside) where
   memory_run_ends (Some (Data command)) status reported ends silent fixed memory = memory_text_ends (DataEnds before.host.files command) before.host.output after.host.output status reported ends silent fixed memory
   memory_run_ends (Some (Explain command)) status reported ends silent fixed memory = memory_text_ends (ExplainEnds before.host.files command) before.host.output after.host.output status reported ends silent fixed memory
   memory_run_ends (Some (Schema command)) status reported ends silent fixed memory = memory_text_ends (SchemaEnds before.host.files command) before.host.output after.host.output status reported ends silent fixed memory
+  memory_run_ends (Some (Check command)) status reported ends silent fixed memory = memory_report_ends (CheckAnswers before.host.files command) before.host.output after.host.output status reported ends silent fixed memory
   memory_run_ends (Some (Trial command)) status reported ends silent fixed memory = memory_text_ends (TrialEnds command) before.host.output after.host.output status reported ends silent fixed memory
   memory_run_ends (Some (Help command)) status reported ends silent fixed memory = memory_text_ends (HelpEnds command) before.host.output after.host.output status reported ends silent fixed memory
   memory_run_ends (Some Version) status reported ends silent fixed memory = memory_text_ends VersionEnds before.host.output after.host.output status reported ends silent fixed memory
@@ -353,6 +366,12 @@ module _ (reads reads_now writes writes_now : List ℕ → ℕ) (output output_n
       → SchemaEnds map c answer → TextEnds (λ a. a ≡ answer) output output_now status → IsSomeAnd n (λ now. Ends command (Before map) (After now) status)
   schema_told o n map command c answer status same told is ends put = stays o n map command (Schema c) status same told is (answered (SchemaEnds map c) answer status ends put)
 
+  pub check_told : (o n : Option FileMap) (map : FileMap) (command : Command) (c : HereCommand) (sources : List (List ℕ)) (answer : Result Report Fault) (status : Status) → n ≡ o → o ≡ Some map → command ≡ Check c → sources ≡ c.sources
+      → HereEnds map sources c.query c.constraints answer → ReportEnds (λ a. a ≡ answer) output output_now status → IsSomeAnd n (λ now. Ends command (Before map) (After now) status)
+  check_told o n map command c sources answer status same told is given ends put =
+      let its : CheckAnswers map c answer = subst (λ (s : List (List ℕ)). HereEnds map s c.query c.constraints answer) given ends in
+      stays o n map command (Check c) status same told is (report_as (λ a. a ≡ answer) (CheckAnswers map c) output output_now status (λ a e. subst (CheckAnswers map c) (sym e) its) put)
+
   pub trial_told : (o n : Option FileMap) (map : FileMap) (command : Command) (c : TrialCommand) (answer : Result (List ℕ) Fault) (status : Status) → n ≡ o → o ≡ Some map → command ≡ Trial c
       → TrialEnds c answer → TextEnds (λ a. a ≡ answer) output output_now status → IsSomeAnd n (λ now. Ends command (Before map) (After now) status)
   trial_told o n map command c answer status same told is ends put = stays o n map command (Trial c) status same told is (answered (TrialEnds c) answer status ends put)
@@ -398,6 +417,9 @@ explain_write_rose command c contents before now P is p = subst (λ (d : Command
 
 pub schema_write_rose : (command : Command) (c : SchemaCommand) (contents : Option FileMap) (before now : List ℕ → ℕ) (P : Type 0) → command ≡ Schema c → P → WriteRose (Some command) contents before now P
 schema_write_rose command c contents before now P is p = subst (λ (d : Command). WriteRose (Some d) contents before now P) (sym is) p
+
+pub check_write_rose : (command : Command) (c : HereCommand) (contents : Option FileMap) (before now : List ℕ → ℕ) (P : Type 0) → command ≡ Check c → P → WriteRose (Some command) contents before now P
+check_write_rose command c contents before now P is p = subst (λ (d : Command). WriteRose (Some d) contents before now P) (sym is) p
 
 pub trial_write_rose : (command : Command) (c : TrialCommand) (contents : Option FileMap) (before now : List ℕ → ℕ) (P : Type 0) → command ≡ Trial c → P → WriteRose (Some command) contents before now P
 trial_write_rose command c contents before now P is p = subst (λ (d : Command). WriteRose (Some d) contents before now P) (sym is) p

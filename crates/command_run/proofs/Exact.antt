@@ -10,7 +10,7 @@ use Rattle.site_inputs.specs.declared.fault.Fault.TheVariants as fault
 use Rattle.run_report.specs.declared.status.Status.{Status}
 use Rattle.run_report.specs.declared.status.Status.TheVariants.{Ok, NotAllYes, Usage, Refused, ReadFault, WriteFault, WireFault, PageFault, NoMemory, NotFound, TurnsSpent}
 use Rattle.command_spec.specs.declared.Command.{Command}
-use Rattle.command_spec.specs.declared.Command.TheVariants.{Page, Build, Data, Explain, Schema, Serve, Replay, Trial, Help, Version}
+use Rattle.command_spec.specs.declared.Command.TheVariants.{Page, Build, Data, Explain, Schema, Check, Serve, Replay, Trial, Help, Version}
 use Rattle.std.specs.Option.{IsSomeAnd}
 use Rattle.site_inputs.specs.Runs.{IsDecided, Decides}
 use Rattle.site_inputs.specs.Statuses.{ReadRose}
@@ -23,8 +23,9 @@ use Rattle.command_data.specs.Ends.{DataEnds}
 use Rattle.command_explain.specs.Ends.{ExplainEnds}
 use Rattle.command_schema.specs.Ends.{SchemaEnds}
 use Rattle.command_spec.specs.Inputs.{inputs_of_command, given_inputs}
-use Rattle.command_run.specs.Top.{TextEnds, Ends, RunEnds, WriteRose, IsExact, answer_status}
-use Rattle.command_run.proofs.Decided.{answer_decides}
+use Rattle.command_run.specs.Top.{TextEnds, CheckAnswers, Ends, RunEnds, WriteRose, IsExact, answer_status}
+use Rattle.command_run.proofs.Decided.{answer_decides, report_decides}
+use Rattle.command_run.proofs.Reports.{exact_report}
 
 module _ (Answer : Result (List ℕ) Fault → Type 0) (decides : Decides Answer) (before after : Host) where
   abbrev Old : Option (List ℕ)
@@ -67,6 +68,7 @@ module _ (contents : Option FileMap) (before after : Outside) where
   exact_end (Data command) status ends read write = exact_text (DataEnds before.host.files command) (answer_decides before.host.files (Data command)) before.host after.host (inputs_of_command (Data command)) status ends read write
   exact_end (Explain command) status ends read write = exact_text (ExplainEnds before.host.files command) (answer_decides before.host.files (Explain command)) before.host after.host (inputs_of_command (Explain command)) status ends read write
   exact_end (Schema command) status ends read write = exact_text (SchemaEnds before.host.files command) (answer_decides before.host.files (Schema command)) before.host after.host (inputs_of_command (Schema command)) status ends read write
+  exact_end (Check command) status ends read write = exact_report (CheckAnswers before.host.files command) (report_decides before.host.files command) before.host after.host (inputs_of_command (Check command)) status ends read write
   exact_end (Trial command) status ends read write = exact_text (TrialEnds command) (answer_decides before.host.files (Trial command)) before.host after.host (inputs_of_command (Trial command)) status ends read write
   exact_end (Help command) status ends read write = exact_text (HelpEnds command) (answer_decides before.host.files (Help command)) before.host after.host (inputs_of_command (Help command)) status ends read write
   exact_end Version status ends read write = exact_text VersionEnds (answer_decides before.host.files Version) before.host after.host (inputs_of_command Version) status ends read write
@@ -81,10 +83,14 @@ module _ (contents : Option FileMap) (before after : Outside) where
       (subst (λ (g : Option Command). ReadRose (given_inputs g) before.host.failed_reads after.host.failed_reads status) is_given read)
       (λ e. subst (λ (g : Option Command). Wrote contents g before.host after.host) is_given (write e))
 
+  memory_exact : (command : Command) (reported : Status) → reported ≡ NoMemory → IsExact command before.host after.host reported
+  memory_exact (Check command) reported memory = λ answer its d no_read no_write. inr memory
+  memory_exact command reported memory = λ answer its d no_read no_write. inr memory
+
   reported_exact : (command : Command) (status reported : Status)
       → IsExact command before.host after.host status → (reported ≡ status) ⊎ (reported ≡ NoMemory) → IsExact command before.host after.host reported
   reported_exact command status reported exact (inl same) = rw same exact
-  reported_exact command status reported exact (inr memory) = λ answer its d no_read no_write. inr memory
+  reported_exact command status reported exact (inr memory) = memory_exact command reported memory
 
 module _ (reads reads_now writes writes_now : List ℕ → ℕ) (output output_now : Option (List ℕ)) (puts puts_now : ℕ) (wire wire_now : Told) where
   abbrev pub Before : FileMap → Outside

@@ -2,3 +2,4 @@ pub mod Ends
 pub mod Decided
 pub mod Exact
 pub mod Complete
+pub mod Reports

@@ -1,11 +1,13 @@
 -- What a whole run has done.
-use Rattle.std.specs.Prelude.{◌≡◌, ◌⊎◌, ℕ, List, Contains, Option, Result, IfOk, ⊤}
+use Rattle.std.specs.Prelude.{◌≡◌, ◌⊎◌, ℕ, List, Bool, Contains, Option, Result, IfOk, if◌then◌else◌, ⊤}
 use Rattle.std.specs.Prelude as prelude
 use Rattle.edge_io.specs.Files.{FileMap}
 use Rattle.edge_io.specs.Sink.{Gains, GainsPart}
+use Rattle.constraint_report.specs.declared.report.Report.{Report}
 use Rattle.command_spec.specs.Inputs.{inputs_of_command}
+use Rattle.command_spec.specs.declared.HereCommand.{HereCommand}
 use Rattle.command_spec.specs.declared.Command.{Command}
-use Rattle.command_spec.specs.declared.Command.TheVariants.{Page, Build, Data, Explain, Schema, Serve}
+use Rattle.command_spec.specs.declared.Command.TheVariants.{Page, Build, Data, Explain, Schema, Check, Serve}
 use Rattle.command_spec.specs.declared.Command.TheVariants.{Replay, Trial, Help, Version}
 use Rattle.site_inputs.specs.declared.fault.Fault.{Fault}
 use Rattle.site_inputs.specs.declared.fault.Fault.TheVariants as fault
@@ -17,6 +19,7 @@ use Rattle.command_build.specs.Ends.{BuildEnds, FileRose}
 use Rattle.command_data.specs.Ends.{DataEnds}
 use Rattle.command_explain.specs.Ends.{ExplainEnds}
 use Rattle.command_schema.specs.Ends.{SchemaEnds}
+use Rattle.command_check.specs.Ends.{HereEnds}
 use Rattle.command_serve.specs.Ends.{ServeEnds}
 use Rattle.command_replay.specs.Ends.{ReplayEnds}
 use Rattle.command_trial.specs.Ends.{TrialEnds}
@@ -26,7 +29,8 @@ use Rattle.run_report.specs.declared.status.Status.TheVariants.{Ok, NotAllYes, U
 use Rattle.run_report.specs.declared.status.Status.TheVariants.{WireFault, PageFault, NoMemory, NotFound, TurnsSpent}
 
 -- The answer of a command: the text that it writes, or the fault that it ends with. A build is answered by files, and a run
--- over connections by replies, so they have none here: `BuildEnds`, `ServeEnds` and `ReplayEnds` say how they end.
+-- over connections by replies, so they have none here: `BuildEnds`, `ServeEnds` and `ReplayEnds` say how they end. The
+-- answer of `check --here` is a report, which has more than a text: `CheckAnswers`.
 abbrev pub Answers : FileMap → Command → Result (List ℕ) Fault → Type 0
 Answers map (Page command) = PageEnds map command
 Answers map (Data command) = DataEnds map command
@@ -35,6 +39,7 @@ Answers map (Schema command) = SchemaEnds map command
 Answers map (Trial command) = TrialEnds command
 Answers map (Help command) = HelpEnds command
 Answers map Version = VersionEnds
+Answers map (Check command) = λ answer. ⊥
 Answers map (Build command) = λ answer. ⊥
 Answers map (Serve command) = λ answer. ⊥
 Answers map (Replay command) = λ answer. ⊥
@@ -68,6 +73,40 @@ module _ (Answer : Result (List ℕ) Fault → Type 0) (old new : Option (List �
   TextEnds (PageFault term kind) = Answer (prelude.Err (fault.Faulty term kind))
   TextEnds NotFound = Answer (prelude.Err fault.NotFound)
 
+-- The answer of `check --here`: a text and whether all constraints are met, or the fault that it ends with.
+abbrev pub CheckAnswers : FileMap → HereCommand → Result Report Fault → Type 0
+CheckAnswers map command = HereEnds map command.sources command.query command.constraints
+
+module _ (Answer : Result Report Fault → Type 0) (old new : Option (List ℕ)) where
+  -- the text of a report was put, all of whose constraints are met or not
+  pub record PutsReport (all_met : Bool) : Type 0 where
+    pub report : Report
+    pub answer : Answer (prelude.Ok report)
+    pub verdict : report.all_met ≡ all_met
+    pub gained : Gains old new report.text
+
+  -- a prefix of the text of a report was put
+  pub record PutsReportPart : Type 0 where
+    pub report : Report
+    pub answer : Answer (prelude.Ok report)
+    pub gained : GainsPart old new report.text
+
+  -- What the run of a command whose answer is a report has put, and why it has this status: its text was put, and all
+  -- constraints are met or not, or the fault that it is answered ended it.
+  abbrev pub ReportEnds : Status → Type 0
+  ReportEnds Ok = PutsReport prelude.true
+  ReportEnds NotAllYes = PutsReport prelude.false
+  ReportEnds WriteFault = PutsReportPart
+  ReportEnds NoMemory = new ≡ old
+  ReportEnds Usage = ⊥
+  ReportEnds WireFault = ⊥
+  ReportEnds TurnsSpent = ⊥
+  ReportEnds (Refused file number place) =
+      Answer (prelude.Err (fault.Refused (record { file = file; number = number; place = place })))
+  ReportEnds (ReadFault path) = Answer (prelude.Err (fault.Unread path))
+  ReportEnds (PageFault term kind) = Answer (prelude.Err (fault.Faulty term kind))
+  ReportEnds NotFound = Answer (prelude.Err fault.NotFound)
+
 -- What the run of a command has done to the outside, and why it has this status.
 abbrev pub Ends : Command → (before after : Outside) → Status → Type 0
 Ends (Page command) before after =
@@ -78,6 +117,8 @@ Ends (Explain command) before after =
     TextEnds (ExplainEnds before.host.files command) before.host.output after.host.output
 Ends (Schema command) before after =
     TextEnds (SchemaEnds before.host.files command) before.host.output after.host.output
+Ends (Check command) before after =
+    ReportEnds (CheckAnswers before.host.files command) before.host.output after.host.output
 Ends (Trial command) before after =
     TextEnds (TrialEnds command) before.host.output after.host.output
 Ends (Help command) before after =
@@ -116,11 +157,28 @@ abbrev pub answer_status : Result (List ℕ) Fault → Status
 answer_status (prelude.Ok text) = Ok
 answer_status (prelude.Err stop) = status_of stop
 
--- Where no count of the command's own files or of the output rose, the run ends with the one answer that the inputs
--- decide, its text put whole, or because memory ran out.
-abbrev pub IsExact : Command → (before after : Host) → Status → Type 0
-IsExact command before after reached =
-    (answer : Result (List ℕ) Fault) → Answers before.files command answer → IsDecided answer
-    → AllRead (inputs_of_command command) before after → ¬ PutsRose before after
-    → ((reached ≡ answer_status answer) × IfOk answer (Gains before.output after.output))
+-- the status of a report, whose text is put whole whether all constraints are met or not
+abbrev pub report_status : Result Report Fault → Status
+report_status (prelude.Ok report) = if report.all_met then Ok else NotAllYes
+report_status (prelude.Err stop) = status_of stop
+
+-- Where no count of these files or of the output rose, the run ends with the one answer that the inputs decide, its text
+-- put whole, or because memory ran out.
+abbrev pub IsExactEnd
+    : {A : Type 0} → (Answer : Result A Fault → Type 0) → (status_is : Result A Fault → Status)
+    → (text_of : A → List ℕ) → (paths : List (List ℕ)) → (before after : Host) → Status → Type 0
+IsExactEnd {A} Answer status_is text_of paths before after reached =
+    (answer : Result A Fault) → Answer answer → IsDecided answer
+    → AllRead paths before after → ¬ PutsRose before after
+    → ((reached ≡ status_is answer)
+    × IfOk answer (λ a. Gains before.output after.output (text_of a)))
     ⊎ (reached ≡ NoMemory)
+
+-- the same of a command and its own files
+abbrev pub IsExact : Command → (before after : Host) → Status → Type 0
+IsExact (Check command) before after =
+    IsExactEnd (CheckAnswers before.files command) report_status (λ r. r.text)
+    (inputs_of_command (Check command)) before after
+IsExact command before after =
+    IsExactEnd (Answers before.files command) answer_status (λ text. text)
+    (inputs_of_command command) before after

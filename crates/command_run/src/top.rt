@@ -11,10 +11,11 @@ ghost use Rattle.site_inputs.specs.Statuses.{ReadRose, IsSilent};
 ghost use Rattle.site_inputs.specs.Outside.{host, outside};
 ghost use Rattle.command_run.specs.Complete.{IsComplete};
 ghost use Rattle.command_spec.specs.Inputs.{inputs_of_command, given_inputs};
-ghost use Rattle.command_run.specs.Top.{Ends, TextEnds, RunEnds, IsExact};
+ghost use Rattle.command_run.specs.Top.{Ends, TextEnds, ReportEnds, RunEnds, IsExact};
 ghost use Rattle.command_run.specs.Top.{WriteRose, WritesNoFile, UsesNoWire};
 
 use command_build::build;
+use command_check::check_here;
 use command_data::data;
 use command_explain::explain;
 use command_help::{help, version};
@@ -25,6 +26,7 @@ use command_serve::serve;
 use command_spec::Command;
 use command_trial::trial;
 use command_words::read_command;
+use constraint_report::Report;
 use edge_io::{Files, Sink};
 use run_report::{Status, report};
 use sd_value::{NoMemory, Str};
@@ -42,6 +44,28 @@ fn put_answer<O: Sink>(answer: Result<Str, Fault>, out: &mut O) -> Status
     match answer {
         Ok(text) => match out.put(text.bytes()) {
             Ok(()) => Status::Ok,
+            Err(_) => Status::WriteFault,
+        },
+        Err(fault) => Status::from(fault),
+    }
+}
+
+// Puts the report of constraints that a command is answered, or gives the status of the fault.
+fn put_report<O: Sink>(answer: Result<Report, Fault>, out: &mut O) -> Status
+    ensures ends { ReportEnds (λ a. a ≡ answer) (O.text out.old) (O.text out.new) result }
+    ensures words { result ≡ Status.Usage → ⊥ }
+    ensures silent { IsSilent result → out.new ≡ out.old }
+    ensures write_cause { result ≡ Status.WriteFault → Rose (O.failed out.old) (O.failed out.new) }
+{
+    match answer {
+        Ok(report) => match out.put(report.text.bytes()) {
+            Ok(()) => {
+                if report.all_met {
+                    Status::Ok
+                } else {
+                    Status::NotAllYes
+                }
+            }
             Err(_) => Status::WriteFault,
         },
         Err(fault) => Status::from(fault),
@@ -97,6 +121,11 @@ fn run_command<F: Files, O: Sink, W: Wire>(
         Command::Schema(command) => {
             let answer = schema_text(alloc, files, command);
             put_answer(answer, out)
+        }
+        Command::Check(command) => {
+            let sources = command.sources.items();
+            let answer = check_here(alloc, files, sources, &command.query, &command.constraints);
+            put_report(answer, out)
         }
         Command::Trial(command) => {
             let answer = trial(alloc, command);

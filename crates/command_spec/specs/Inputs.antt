@@ -1,9 +1,10 @@
 -- The files that a command reads, in the order in which it reads them.
 use Rattle.std.specs.Prelude.{ℕ, List, [], ◌∷◌, ◌++◌, Option, None, Some}
 use Rattle.command_spec.specs.declared.ExplainCommand.{ExplainCommand}
+use Rattle.command_spec.specs.declared.HereCommand.{HereCommand}
 use Rattle.command_spec.specs.declared.ReplayCommand.{ReplayCommand}
 use Rattle.command_spec.specs.declared.Command.{Command}
-use Rattle.command_spec.specs.declared.Command.TheVariants.{Page, Build, Data, Explain, Schema, Serve}
+use Rattle.command_spec.specs.declared.Command.TheVariants.{Page, Build, Data, Explain, Schema, Check, Serve}
 use Rattle.command_spec.specs.declared.Command.TheVariants.{Replay, Trial, Help, Version}
 
 -- the inputs of a site: the data, the query and the templates
@@ -13,6 +14,10 @@ input_paths sources query templates = sources ++ (query ∷ templates ∷ [])
 -- those of `explain`: the data and the query
 abbrev pub explain_paths : ExplainCommand → List (List ℕ)
 explain_paths command = command.sources ++ (command.query ∷ [])
+
+-- those of `check --here`: the data, the query and the constraints
+abbrev pub here_paths : HereCommand → List (List ℕ)
+here_paths command = command.sources ++ (command.query ∷ command.constraints ∷ [])
 
 -- those of `replay`: the inputs of its site, and then the script
 abbrev pub replay_paths : ReplayCommand → List (List ℕ)
@@ -26,6 +31,7 @@ inputs_of_command (Build command) = input_paths command.sources command.query co
 inputs_of_command (Data command) = command.sources
 inputs_of_command (Explain command) = explain_paths command
 inputs_of_command (Schema command) = command.query ∷ []
+inputs_of_command (Check command) = here_paths command
 inputs_of_command (Serve command) = input_paths command.sources command.query command.templates
 inputs_of_command (Replay command) = replay_paths command
 inputs_of_command (Trial command) = []

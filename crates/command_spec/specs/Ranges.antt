@@ -5,7 +5,7 @@ use Rattle.command_spec.specs.declared.RunLimits.{RunLimits}
 use Rattle.command_spec.specs.declared.ServeOptions.{ServeOptions}
 use Rattle.command_spec.specs.declared.ServeWaits.{ServeWaits}
 use Rattle.command_spec.specs.declared.Command.{Command}
-use Rattle.command_spec.specs.declared.Command.TheVariants.{Page, Build, Data, Explain, Schema, Serve}
+use Rattle.command_spec.specs.declared.Command.TheVariants.{Page, Build, Data, Explain, Schema, Check, Serve}
 use Rattle.command_spec.specs.declared.Command.TheVariants.{Replay, Trial, Help, Version}
 
 -- a number from 1 to `most`
@@ -39,6 +39,7 @@ IsInRange (Build c) = Unit {0}
 IsInRange (Data c) = Unit {0}
 IsInRange (Explain c) = Unit {0}
 IsInRange (Schema c) = Unit {0}
+IsInRange (Check c) = Unit {0}
 IsInRange (Trial c) = IsFrom1To entry_limit c.entries
 IsInRange (Help c) = Unit {0}
 IsInRange Version = Unit {0}

@@ -10,7 +10,7 @@ use Rattle.command_spec.specs.declared.RunLimits.{RunLimits}
 use Rattle.command_spec.specs.declared.ServeOptions.{ServeOptions}
 use Rattle.command_spec.specs.declared.ServeWaits.{ServeWaits}
 use Rattle.command_spec.specs.declared.Command.{Command}
-use Rattle.command_spec.specs.declared.Command.TheVariants.{Page, Build, Data, Explain, Schema, Serve}
+use Rattle.command_spec.specs.declared.Command.TheVariants.{Page, Build, Data, Explain, Schema, Check, Serve}
 use Rattle.command_spec.specs.declared.Command.TheVariants.{Replay, Trial, Help, Version}
 use Rattle.command_spec.specs.Names.{name_of}
 use Rattle.command_spec.specs.Options.{Parts, Setting, is_empty, parts_of}
@@ -62,6 +62,16 @@ explain_command words = None
 abbrev pub schema_command : List (List ℕ) → Option Command
 schema_command (query ∷ []) = Some (Schema (record { query = query; dot = false }))
 schema_command words = None
+
+-- the words after `check`, its flag aside
+abbrev pub check_command : List (List ℕ) → Option Command
+check_command (query ∷ constraints ∷ source ∷ sources) =
+    Some (Check (record {
+      query = query;
+      constraints = constraints;
+      sources = source ∷ sources;
+    }))
+check_command words = None
 
 -- the words after `trial`
 abbrev pub trial_command : List (List ℕ) → Option Command
@@ -155,6 +165,7 @@ plain_command name words =
     else if bytes_eq name (codes "data") then data_command words
     else if bytes_eq name (codes "explain") then explain_command words
     else if bytes_eq name (codes "schema") then schema_command words
+    else if bytes_eq name (codes "check") then check_command words
     else if bytes_eq name (codes "trial") then trial_command words
     else if bytes_eq name (codes "help") then help_command words
     else if bytes_eq name (codes "version") then version_command words
@@ -193,7 +204,9 @@ word_command (name ∷ words) = named_command name (parts_of None words)
 -- the flag of the command of this name, if it has one
 abbrev pub flag_of : List ℕ → Option (List ℕ)
 flag_of name =
-    if bytes_eq name (codes "schema") then Some (codes "--dot") else None
+    if bytes_eq name (codes "schema") then Some (codes "--dot")
+    else if bytes_eq name (codes "check") then Some (codes "--here")
+    else None
 
 -- where the flag stands first before a `--`, if it stands there at all
 abbrev pub flag_place : List ℕ → List (List ℕ) → Option ℕ
@@ -203,9 +216,11 @@ flag_place flag (word ∷ words) =
     else if bytes_eq word flag then Some 0
     else option_map suc (flag_place flag words)
 
--- the command with its flag, or without it
+-- the command with its flag, or without it: `check` is none without its flag
 abbrev pub with_flag : Bool → Command → Option Command
 with_flag set (Schema c) = Some (Schema (record c { dot = set }))
+with_flag true (Check c) = Some (Check c)
+with_flag false (Check c) = None
 with_flag set command = Some command
 
 -- the command of this name, where the flag stands at this place among the words after the name

@@ -85,6 +85,15 @@ pub struct SchemaCommand {
     pub dot: bool,
 }
 
+/// `check --here QUERY CONSTRAINTS DATA..`: the constraints of a file are tested in the query's site over the data.
+#[derive(Debug, Drop)]
+pub struct HereCommand {
+    pub query: Str,
+    /// The file of the constraints.
+    pub constraints: Str,
+    pub sources: Paths,
+}
+
 /// The limits of a run over connections.
 #[derive(Clone, Copy, Debug, PartialEq, Eq)]
 pub struct RunLimits {
@@ -156,6 +165,7 @@ pub enum Command {
     Data(DataCommand),
     Explain(ExplainCommand),
     Schema(SchemaCommand),
+    Check(HereCommand),
     Serve(ServeCommand),
     Replay(ReplayCommand),
     Trial(TrialCommand),

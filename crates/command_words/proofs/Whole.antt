@@ -108,7 +108,7 @@ abbrev built_program : App
 built_program = record {
   top = built_top;
   subs = leaf_shape (codes "page") [] ∷ leaf_shape (codes "build") [] ∷ leaf_shape (codes "data") [] ∷ leaf_shape (codes "explain") []
-      ∷ leaf_shape (codes "schema") []
+      ∷ leaf_shape (codes "schema") [] ∷ leaf_shape (codes "check") []
       ∷ leaf_shape (codes "serve") parsed.serve_numbers ∷ leaf_shape (codes "replay") run_numbers ∷ leaf_shape (codes "trial") []
       ∷ leaf_shape (codes "help") [] ∷ leaf_shape (codes "version") [] ∷ [];
 }
@@ -169,6 +169,7 @@ pub record IsNoName (word : Text) : Type 0 where
   pub data_name : bytes_eq word (codes "data") ≡ false
   pub explain : bytes_eq word (codes "explain") ≡ false
   pub schema : bytes_eq word (codes "schema") ≡ false
+  pub check : bytes_eq word (codes "check") ≡ false
   pub serve : bytes_eq word (codes "serve") ≡ false
   pub replay : bytes_eq word (codes "replay") ≡ false
   pub trial : bytes_eq word (codes "trial") ≡ false
@@ -191,7 +192,7 @@ no_such word (is_short s) later is none =
 
 no_command_named : (word : Text) (parts : Option Parts) → IsNoName word → named_command word parts ≡ None
 no_command_named word None n = refl
-no_command_named word (Some p) n = rw (n.serve, n.replay) (when_some (words.are_none p.settings) _ (rw (n.page, n.build, n.data_name, n.explain, n.schema, n.trial, n.help, n.version) refl))
+no_command_named word (Some p) n = rw (n.serve, n.replay) (when_some (words.are_none p.settings) _ (rw (n.page, n.build, n.data_name, n.explain, n.schema, n.check, n.trial, n.help, n.version) refl))
   where
     when_some : (b : Bool) (x : Option Command) → x ≡ None → cond b x None ≡ None
     when_some true x e = e
@@ -204,6 +205,7 @@ no_name_met word n = rw (
   turned (codes "data") word ∙ n.data_name,
   turned (codes "explain") word ∙ n.explain,
   turned (codes "schema") word ∙ n.schema,
+  turned (codes "check") word ∙ n.check,
   turned (codes "serve") word ∙ n.serve,
   turned (codes "replay") word ∙ n.replay,
   turned (codes "trial") word ∙ n.trial,
@@ -234,12 +236,13 @@ by_name word later is v are =
     decide (bytes_eq word (codes "data")) (λ t. as_name goal word (codes "data") t (plain_name (codes "data") (record { no_serve_name = refl; no_replay_name = refl }) later are refl refl)) (λ data_word.
     decide (bytes_eq word (codes "explain")) (λ t. as_name goal word (codes "explain") t (plain_name (codes "explain") (record { no_serve_name = refl; no_replay_name = refl }) later are refl refl)) (λ explain.
     decide (bytes_eq word (codes "schema")) (λ t. as_name goal word (codes "schema") t (plain_name (codes "schema") (record { no_serve_name = refl; no_replay_name = refl }) later are refl refl)) (λ schema.
+    decide (bytes_eq word (codes "check")) (λ t. as_name goal word (codes "check") t (plain_name (codes "check") (record { no_serve_name = refl; no_replay_name = refl }) later are refl refl)) (λ check.
     decide (bytes_eq word (codes "serve")) (λ t. as_name goal word (codes "serve") t (named_is (codes "serve") parsed.serve_numbers refl refl later (behind_name (codes "serve") parsed.serve_numbers later are unfit_serve same_serve))) (λ serve.
     decide (bytes_eq word (codes "replay")) (λ t. as_name goal word (codes "replay") t (named_is (codes "replay") run_numbers refl refl later (behind_name (codes "replay") run_numbers later are unfit_replay same_replay))) (λ replay.
     decide (bytes_eq word (codes "trial")) (λ t. as_name goal word (codes "trial") t (plain_name (codes "trial") (record { no_serve_name = refl; no_replay_name = refl }) later are refl refl)) (λ trial.
     decide (bytes_eq word (codes "help")) (λ t. as_name goal word (codes "help") t (plain_name (codes "help") (record { no_serve_name = refl; no_replay_name = refl }) later are refl refl)) (λ help.
     decide (bytes_eq word (codes "version")) (λ t. as_name goal word (codes "version") t (plain_name (codes "version") (record { no_serve_name = refl; no_replay_name = refl }) later are refl refl)) (λ version.
-    no_name word later is v (record { page = page; build = build; data_name = data_word; explain = explain; schema = schema; serve = serve; replay = replay; trial = trial; help = help; version = version })))))))))))
+    no_name word later is v (record { page = page; build = build; data_name = data_word; explain = explain; schema = schema; check = check; serve = serve; replay = replay; trial = trial; help = help; version = version }))))))))))))
   where
     goal : Text → Type 0
     goal w = parsed.command (w ∷ later) ≡ word_command (w ∷ later)

@@ -76,7 +76,7 @@ program = record {
   top = top;
   subs =
       leaf (codes "page") [] ∷ leaf (codes "build") [] ∷ leaf (codes "data") []
-      ∷ leaf (codes "explain") [] ∷ leaf (codes "schema") []
+      ∷ leaf (codes "explain") [] ∷ leaf (codes "schema") [] ∷ leaf (codes "check") []
       ∷ leaf (codes "serve") serve_numbers
       ∷ leaf (codes "replay") run_numbers ∷ leaf (codes "trial") []
       ∷ leaf (codes "help") [] ∷ leaf (codes "version") [] ∷ [];

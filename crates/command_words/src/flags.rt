@@ -15,6 +15,7 @@ pub fn flag_of(name: &str) -> Option<&'static str>
 {
     match name {
         "schema" => Some("--dot"),
+        "check" => Some("--here"),
         _ => None,
     }
 }
@@ -46,7 +47,7 @@ pub fn without<'a>(alloc: Global, words: &[&'a str], at: usize) -> Result<Vec<&'
     Ok(rest)
 }
 
-/// The command with its flag, or without it.
+/// The command with its flag, or without it: `check` is none without its flag.
 fn with_flag(set: bool, command: Command) -> Option<Command>
     requires { IsInRange command }
     ensures exact { result ≡ specs.with_flag set command }
@@ -57,6 +58,13 @@ fn with_flag(set: bool, command: Command) -> Option<Command>
             query: command.query,
             dot: set,
         })),
+        Command::Check(command) => {
+            if set {
+                Some(Command::Check(command))
+            } else {
+                None
+            }
+        }
         other => Some(other),
     }
 }

@@ -18,9 +18,9 @@ mod program;
 use clap::error::ErrorKind;
 use clap::{ArgMatches, Error};
 use command_spec::{
-    BuildCommand, Command, CommandName, DataCommand, ExplainCommand, HelpCommand, NumberOption,
-    PageCommand, Paths, ReplayCommand, RunLimits, SchemaCommand, ServeCommand, ServeOptions,
-    ServeWaits, TrialCommand,
+    BuildCommand, Command, CommandName, DataCommand, ExplainCommand, HelpCommand, HereCommand,
+    NumberOption, PageCommand, Paths, ReplayCommand, RunLimits, SchemaCommand, ServeCommand,
+    ServeOptions, ServeWaits, TrialCommand,
 };
 use flags::{flag_of, flag_place, marked, without};
 use numbers::{number, number_of};
@@ -106,6 +106,23 @@ fn schema_command(alloc: Global, words: &[&str]) -> Result<Option<Command>, NoMe
     Ok(Some(Command::Schema(SchemaCommand {
         query: Str::new(alloc, query.as_bytes())?,
         dot: false,
+    })))
+}
+
+fn check_command(alloc: Global, words: &[&str]) -> Result<Option<Command>, NoMemory>
+    ensures exact { IfOk result (λ given. given ≡ specs.check_command (texts words.now)) }
+    ensures ranges { IfOk result (λ given. IfSome given IsInRange) }
+{
+    let [query, constraints, sources @ ..] = words else {
+        return Ok(None);
+    };
+    if sources.is_empty() {
+        return Ok(None);
+    }
+    Ok(Some(Command::Check(HereCommand {
+        query: Str::new(alloc, query.as_bytes())?,
+        constraints: Str::new(alloc, constraints.as_bytes())?,
+        sources: Paths::of(alloc, sources)?,
     })))
 }
 
@@ -238,6 +255,7 @@ fn plain_command(alloc: Global, name: &str, words: &[&str]) -> Result<Option<Com
         "data" => data_command(alloc, words),
         "explain" => explain_command(alloc, words),
         "schema" => schema_command(alloc, words),
+        "check" => check_command(alloc, words),
         "trial" => Ok(trial_command(words)),
         "help" => Ok(help_command(words)),
         "version" => Ok(version_command(words)),
@@ -411,8 +429,8 @@ fn texts_of<'a>(alloc: Global, words: &'a [Str]) -> Result<Option<Vec<&'a str>>,
 /// The first word is a command's name. Of the words behind it, those before `--` that have two bytes or more and begin
 /// with a dash are options: `--name=value`, or `--name` with the next word as its value, which is no option itself. The
 /// first `--` is dropped, and the words behind it are no options. Each option is one of the command's, occurs at most
-/// once, and has a number of 1 to 10 digits within its range. `--dot` of `schema` has no value. The other words are as
-/// many as the command wants. Every word is a text, and none is empty.
+/// once, and has a number of 1 to 10 digits within its range. `--dot` of `schema` and `--here` of `check`, which `check`
+/// wants, have no value. The other words are as many as the command wants. Every word is a text, and none is empty.
 pub fn read_command(alloc: Global, words: &[Str]) -> Result<Option<Command>, NoMemory>
     ensures exact { IfOk result (λ given. given ≡ specs.command words.now) }
     ensures ranges { IfOk result (λ given. IfSome given IsInRange) }

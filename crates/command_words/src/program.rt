@@ -73,6 +73,7 @@ pub fn program<'a>(alloc: Global) -> Result<Command<'a>, NoMemory>
         .subcommand(command_of(alloc, "data", &[])?)?
         .subcommand(command_of(alloc, "explain", &[])?)?
         .subcommand(command_of(alloc, "schema", &[])?)?
+        .subcommand(command_of(alloc, "check", &[])?)?
         .subcommand(command_of(alloc, "serve", &serve)?)?
         .subcommand(command_of(alloc, "replay", &run)?)?
         .subcommand(command_of(alloc, "trial", &[])?)?

@@ -19,7 +19,8 @@ IsBetween s = ends_at_end s ≡ false
 
 -- the machine's answers, as its tests come out
 abbrev pub in_field_by : Bool → Bool → Bool → State × Action
-in_field_by p q r = if p then (st.StartField, act.EndField) else if q || r then ((if q then st.AfterCr else st.StartRecord), act.EndRecord) else (st.InField, act.Copy)
+in_field_by p q r = if p then (st.StartField, act.EndField) else if q || r
+    then ((if q then st.AfterCr else st.StartRecord), act.EndRecord) else (st.InField, act.Copy)
 
 abbrev pub ends_between : State × Action → Type 0
 ends_between o = is_end o.1 ≡ true → IsBetween o.0
@@ -33,49 +34,71 @@ ended_by false false false e = cc
 ended_in_field : (c : ℕ) → ends_between (in_field default_config c)
 ended_in_field c = ended_by (c == 44) (c == 13) (c == 10)
 
-choose : (b : Bool) (x y : State × Action) → ends_between x → ends_between y → ends_between (if b then x else y)
+choose : (b : Bool) (x y : State × Action) → ends_between x → ends_between y
+    → ends_between (if b then x else y)
 choose true x y h k = h
 choose false x y h k = k
 
 ended_start_field : (c : ℕ) → ends_between (start_field default_config c)
-ended_start_field c = choose (c == 34) (st.InQuoted, act.Skip) (in_field default_config c) (λ e. cc) (ended_in_field c)
+ended_start_field c = choose (c == 34) (st.InQuoted, act.Skip) (in_field default_config c) (λ e. cc)
+    (ended_in_field c)
 
 ended_start_record : (c : ℕ) → ends_between (start_record default_config c)
-ended_start_record c = choose ((c == 13) || (c == 10)) (st.StartRecord, act.Skip) (start_field default_config c) (λ e. cc) (ended_start_field c)
+ended_start_record c = choose ((c == 13) || (c == 10)) (st.StartRecord, act.Skip)
+    (start_field default_config c) (λ e. cc) (ended_start_field c)
 
 -- a record ends between records
 ended : (s : State) (c : ℕ) → ends_between (step default_config s c)
 ended st.StartRecord c = ended_start_record c
 ended st.StartField c = ended_start_field c
 ended st.InField c = ended_in_field c
-ended st.InQuoted c = choose (c == 34) (st.AfterQuote, act.Skip) (st.InQuoted, act.Copy) (λ e. cc) (λ e. cc)
+ended st.InQuoted c = choose (c == 34) (st.AfterQuote, act.Skip) (st.InQuoted, act.Copy) (λ e. cc)
+    (λ e. cc)
 ended st.InEscape c = λ e. cc
-ended st.AfterQuote c = choose (c == 34) (st.InQuoted, act.Copy) (in_field default_config c) (λ e. cc) (ended_in_field c)
-ended st.InComment c = choose (c == 10) (st.StartRecord, act.Skip) (st.InComment, act.Skip) (λ e. cc) (λ e. cc)
-ended st.AfterCr c = choose (c == 10) (st.StartRecord, act.Skip) (start_record default_config c) (λ e. cc) (ended_start_record c)
+ended st.AfterQuote c = choose (c == 34) (st.InQuoted, act.Copy) (in_field default_config c)
+    (λ e. cc) (ended_in_field c)
+ended st.InComment c = choose (c == 10) (st.StartRecord, act.Skip) (st.InComment, act.Skip)
+    (λ e. cc) (λ e. cc)
+ended st.AfterCr c = choose (c == 10) (st.StartRecord, act.Skip) (start_record default_config c)
+    (λ e. cc) (ended_start_record c)
 
 -- what a record that was read leaves: it takes a byte, where there is one
 abbrev pub LeavesLess : List ℕ → Read → Type 0
 LeavesLess [] p = (IsBetween p.1) × (p.2 ≡ [])
 LeavesLess (c ∷ rest) p = (IsBetween p.1) × (length p.2 < length (c ∷ rest))
 
-leaves_less : (s : State) (fields : List (List ℕ)) (field : List ℕ) (xs : List ℕ) (p : Read) → next_record default_config s fields field xs ≡ Some p → LeavesLess xs p
+leaves_less : (s : State) (fields : List (List ℕ)) (field : List ℕ) (xs : List ℕ) (p : Read)
+    → next_record default_config s fields field xs ≡ Some p → LeavesLess xs p
 unfolding next_record
 leaves_less s fields field [] p h = by (ends_at_end s) h
   where
-    by : (b : Bool) → ◌≡◌ {A = Option Read} (if b then Some (fields ++ (field ∷ []), st.StartRecord, []) else None) (Some p) → LeavesLess [] p
-    by true e = let e1 : st.StartRecord ≡ p.1 = cc in let e2 : [] ≡ p.2 = cc in (rw (← e1) refl, sym e2)
+    by : (b : Bool) → ◌≡◌ {A = Option Read}
+        (if b then Some (fields ++ (field ∷ []), st.StartRecord, []) else None) (Some p)
+        → LeavesLess [] p
+    by true e = let e1 : st.StartRecord ≡ p.1 = cc in let e2 : [] ≡ p.2 = cc in
+        (rw (← e1) refl, sym e2)
     by false e = cc
-leaves_less s fields field (c ∷ rest) p h = by (is_end (step default_config s c).1) refl h (leaves_less (step default_config s c).0 (fields_after (step default_config s c).1 fields field) (field_after (step default_config s c).1 c field) rest p)
+leaves_less s fields field (c ∷ rest) p h = by (is_end (step default_config s c).1) refl h
+    (leaves_less (step default_config s c).0 (fields_after (step default_config s c).1 fields field)
+    (field_after (step default_config s c).1 c field) rest p)
   where
     longer : (ys : List ℕ) → LeavesLess ys p → LeavesLess (c ∷ ys) p
     longer [] h = (h.0, rw h.1 (omega arith))
     longer (y ∷ ys) h = (h.0, omega arith)
 
     by : (b : Bool) → is_end (step default_config s c).1 ≡ b
-        → ◌≡◌ {A = Option Read} (if b then Some (fields_after (step default_config s c).1 fields field, (step default_config s c).0, rest)
-        else next_record default_config (step default_config s c).0 (fields_after (step default_config s c).1 fields field) (field_after (step default_config s c).1 c field) rest) (Some p)
-        → (next_record default_config (step default_config s c).0 (fields_after (step default_config s c).1 fields field) (field_after (step default_config s c).1 c field) rest ≡ Some p → LeavesLess rest p)
+        → ◌≡◌ {A = Option Read}
+        (if b then Some (
+          fields_after (step default_config s c).1 fields field,
+          (step default_config s c).0,
+          rest,
+        )
+        else next_record default_config (step default_config s c).0
+        (fields_after (step default_config s c).1 fields field)
+        (field_after (step default_config s c).1 c field) rest) (Some p)
+        → (next_record default_config (step default_config s c).0
+        (fields_after (step default_config s c).1 fields field)
+        (field_after (step default_config s c).1 c field) rest ≡ Some p → LeavesLess rest p)
         → LeavesLess (c ∷ rest) p
     by true is e more =
         let e1 : (step default_config s c).0 ≡ p.1 = cc in let e2 : rest ≡ p.2 = cc in
@@ -83,59 +106,88 @@ leaves_less s fields field (c ∷ rest) p h = by (is_end (step default_config s 
     by false is e more = longer rest (more e)
 
 -- between records, a text with a record has a byte, and what is left is shorter
-pub next_shorter : (s : State) (xs : List ℕ) (p : Read) → IsBetween s → next_record default_config s [] [] xs ≡ Some p → IsBetween p.1 × (length p.2 < length xs)
+pub next_shorter : (s : State) (xs : List ℕ) (p : Read) → IsBetween s → next_record default_config s
+    [] [] xs ≡ Some p → IsBetween p.1 × (length p.2 < length xs)
 unfolding next_record
-next_shorter s [] p between h = let none : ◌≡◌ {A = Option Read} None (Some p) = rw between at h in cc
+next_shorter s [] p between h = let none : ◌≡◌ {A = Option Read} None (Some p) = rw between at h in
+    cc
 next_shorter s (c ∷ rest) p between h = leaves_less s [] [] (c ∷ rest) p h
 
 -- how many records are looked for makes no difference, where they are more than the bytes
-records_more : (n m : ℕ) (s : State) (xs : List ℕ) → IsBetween s → length xs < n → length xs < m → records_from default_config n s xs ≡ records_from default_config m s xs
+records_more : (n m : ℕ) (s : State) (xs : List ℕ) → IsBetween s → length xs < n → length xs < m
+    → records_from default_config n s xs ≡ records_from default_config m s xs
 unfolding records_from
 records_more zero m s xs between h k = absurd (omega (arith, h))
 records_more (suc n) zero s xs between h k = absurd (omega (arith, k))
-records_more (suc n) (suc m) s xs between h k = by (λ t ys. records_more n m t ys) (next_record default_config s [] [] xs) refl
+records_more (suc n) (suc m) s xs between h k = by (λ t ys. records_more n m t ys)
+    (next_record default_config s [] [] xs) refl
   where
-    by : ((t : State) (ys : List ℕ) → IsBetween t → length ys < n → length ys < m → records_from default_config n t ys ≡ records_from default_config m t ys)
-        → (o : Option Read) → next_record default_config s [] [] xs ≡ o → records_next (records_from default_config n) o ≡ records_next (records_from default_config m) o
+    by : ((t : State) (ys : List ℕ) → IsBetween t → length ys < n → length ys < m
+        → records_from default_config n t ys ≡ records_from default_config m t ys)
+        → (o : Option Read) → next_record default_config s [] [] xs ≡ o
+        → records_next (records_from default_config n) o ≡ records_next
+        (records_from default_config m) o
     by shorter None is = refl
     by shorter (Some p) is =
         let less = next_shorter s xs p between is in
-        ap (λ rows. p.0 ∷ rows) (shorter p.1 p.2 less.0 (omega (arith, less.1)) (omega (arith, less.1)))
+        ap (λ rows. p.0 ∷ rows)
+        (shorter p.1 p.2 less.0 (omega (arith, less.1)) (omega (arith, less.1)))
 
-one_more : (n : ℕ) (s : State) (xs : List ℕ) → records_from default_config (n + 1) s xs ≡ records_next (records_from default_config n) (next_record default_config s [] [] xs)
+one_more : (n : ℕ) (s : State) (xs : List ℕ) → records_from default_config (n + 1) s xs ≡
+    records_next (records_from default_config n) (next_record default_config s [] [] xs)
 unfolding records_from
-one_more n s xs = let e : n + 1 ≡ suc n = omega arith in ap (λ m. records_from default_config m s xs) e
+one_more n s xs = let e : n + 1 ≡ suc n = omega arith in
+    ap (λ m. records_from default_config m s xs) e
 
-pub records-none : (s : State) (xs : List ℕ) → next_record default_config s [] [] xs ≡ None → records_after s xs ≡ []
-records-none s xs h = one_more (length xs) s xs ∙ ap (records_next (records_from default_config (length xs))) h
+pub records-none : (s : State) (xs : List ℕ) → next_record default_config s [] [] xs ≡ None
+    → records_after s xs ≡ []
+records-none s xs h = one_more (length xs) s xs
+    ∙ ap (records_next (records_from default_config (length xs))) h
 
-pub records-some : (s : State) (xs : List ℕ) (p : Read) → IsBetween s → next_record default_config s [] [] xs ≡ Some p → records_after s xs ≡ p.0 ∷ records_after p.1 p.2
+pub records-some : (s : State) (xs : List ℕ) (p : Read) → IsBetween s → next_record default_config s
+    [] [] xs ≡ Some p → records_after s xs ≡ p.0 ∷ records_after p.1 p.2
 records-some s xs p between h =
     let less = next_shorter s xs p between h in
     one_more (length xs) s xs ∙ ap (records_next (records_from default_config (length xs))) h
-    ∙ ap (λ rows. p.0 ∷ rows) (records_more (length xs) (length p.2 + 1) p.1 p.2 less.0 less.1 (omega arith))
+    ∙ ap (λ rows. p.0 ∷ rows) (records_more (length xs) (length p.2 + 1) p.1 p.2 less.0 less.1
+    (omega arith))
 
 -- what one read gives: the first record of those that are left, or that none is left
 abbrev pub GivesNext : Bool → List (List ℕ) → State → List ℕ → State → List ℕ → Type 0
 GivesNext false fields s xs t ys = records_after s xs ≡ []
-GivesNext true fields s xs t ys = (records_after s xs ≡ fields ∷ records_after t ys) × IsBetween t × (length ys < length xs)
+GivesNext true fields s xs t ys = (records_after s xs ≡ fields ∷ records_after t ys) × IsBetween t
+    × (length ys < length xs)
 
-gives_next : (o : Option Read) (s t : State) (xs ys : List ℕ) (found : Bool) (fields : List (List ℕ)) → IsBetween s → next_record default_config s [] [] xs ≡ o → NextIs o found fields t ys → GivesNext found fields s xs t ys
-gives_next None s t xs ys found fields between is h = subst (λ b. GivesNext b fields s xs t ys) (sym h) (records-none s xs is)
+gives_next : (o : Option Read) (s t : State) (xs ys : List ℕ) (found : Bool)
+    (fields : List (List ℕ)) → IsBetween s → next_record default_config s [] [] xs ≡ o
+    → NextIs o found fields t ys → GivesNext found fields s xs t ys
+gives_next None s t xs ys found fields between is h = subst (λ b. GivesNext b fields s xs t ys)
+    (sym h) (records-none s xs is)
 gives_next (Some p) s t xs ys found fields between is h =
     let less = next_shorter s xs p between is in
     let all = records-some s xs p between is in
-    let yes : GivesNext true fields s xs t ys = (rw (h.1, h.2, h.3) all, rw h.2 less.0, rw h.3 less.1) in
+    let yes : GivesNext true fields s xs t ys =
+    (rw (h.1, h.2, h.3) all, rw h.2 less.0, rw h.3 less.1) in
     subst (λ b. GivesNext b fields s xs t ys) (sym h.0) yes
 
 -- the same of a reader over known bytes
-pub next-of : {R : Type 0} (rem : R → Option (List ℕ)) (a b : Reader R) (found : Bool) (fields : List (List ℕ)) (xs : List ℕ)
-    → a.config ≡ default_config → IsBetween a.state → source_of rem a ≡ Some xs → ReadRecord rem a b found fields
+pub next-of : {R : Type 0} (rem : R → Option (List ℕ)) (a b : Reader R) (found : Bool)
+    (fields : List (List ℕ)) (xs : List ℕ)
+    → a.config ≡ default_config → IsBetween a.state → source_of rem a ≡ Some xs → ReadRecord rem a b
+    found fields
     → (ys : List ℕ) × (source_of rem b ≡ Some ys) × GivesNext found fields a.state xs b.state ys
 next-of rem a b found fields xs config between source read =
-    let (ys, at, gives) = by (pending_of (rem b.rdr) b) refl (rw (config, source) at read.0) in (ys, rw read.1 at, gives)
+    let (ys, at, gives) = by (pending_of (rem b.rdr) b) refl (rw (config, source) at read.0) in
+    (ys, rw read.1 at, gives)
   where
-    by : (k : Option (List ℕ)) → pending_of (rem b.rdr) b ≡ k → ReadsNext default_config a.state (Some xs) k found fields b.state
-        → (ys : List ℕ) × (pending_of (rem b.rdr) b ≡ Some ys) × GivesNext found fields a.state xs b.state ys
+    by : (k : Option (List ℕ)) → pending_of (rem b.rdr) b ≡ k → ReadsNext default_config a.state
+        (Some xs) k found fields b.state
+        → (ys : List ℕ) × (pending_of (rem b.rdr) b ≡ Some ys) × GivesNext found fields a.state xs
+        b.state ys
     by None is h = absurd h
-    by (Some ys) is h = (ys, is, gives_next (next_record default_config a.state [] [] xs) a.state b.state xs ys found fields between refl h)
+    by (Some ys) is h = (
+      ys,
+      is,
+      gives_next (next_record default_config a.state [] [] xs) a.state
+          b.state xs ys found fields between refl h,
+    )

@@ -473,12 +473,7 @@ fn follows_from<J: Judge>(
         (condition_of condition.now) }
 {
     match condition {
-        Condition::Path {
-            from,
-            step,
-            to,
-            span: _,
-        } => match step {
+        Condition::Path { from, step, to, .. } => match step {
             PathStep::ArcVariable(_, _) => false,
             PathStep::Expression(r, _) => {
                 has_narrower(judge, version, conditions, from, r, to)
@@ -489,7 +484,7 @@ fn follows_from<J: Judge>(
             left,
             op,
             right,
-            span: _,
+            ..
         } => {
             (number_of_op(*op) == number_of_op(Op::Eq) && same_operands(left, right))
                 || (has_compare(conditions, right, turned_op(*op), left)
@@ -498,23 +493,17 @@ fn follows_from<J: Judge>(
         Condition::OneOf {
             operand,
             constants,
-            span: _,
+            ..
         } => { follows_list(judge, version, conditions, operand, constants.items()) }
         Condition::Kind {
             test,
             variable: x,
-            variable_span: _,
-            span: _,
+            ..
         } => {
             has_known_kind(judge, version, conditions, *test, x)
                 || (number_of_test(*test) == number_of_test(Test::IsText) && is_arc(conditions, x))
         }
-        Condition::Member {
-            collection: _,
-            variable: _,
-            variable_span: _,
-            span: _,
-        } => false,
+        Condition::Member { .. } => false,
         Condition::Not(_, _) => false,
     }
 }

@@ -45,7 +45,7 @@ source_refusal_name number =
     else if number == 123 then codes "TooDeep"
     else []
 
--- those of queries, templates and scripts
+-- those of queries, templates, constraints and scripts
 abbrev pub site_refusal_name : ℕ → List ℕ
 site_refusal_name number =
     if number == 51 then codes "TooManyPositions"
@@ -65,6 +65,9 @@ site_refusal_name number =
     else if number == 83 then codes "Twice"
     else if number == 84 then codes "TooDeep"
     else if number == 85 then codes "UnknownVariable"
+    else if number == 101 then codes "Expected"
+    else if number == 102 then codes "UnknownFunction"
+    else if number == 103 then codes "RootHasArguments"
     else if number == 111 then codes "Expected"
     else []
 

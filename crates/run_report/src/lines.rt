@@ -59,6 +59,9 @@ fn site_refusal_name(number: u32) -> &'static [u8]
         83 => b"Twice",
         84 => b"TooDeep",
         85 => b"UnknownVariable",
+        101 => b"Expected",
+        102 => b"UnknownFunction",
+        103 => b"RootHasArguments",
         111 => b"Expected",
         _ => b"",
     }

@@ -31,6 +31,7 @@ fn given_wire<'r, R: Net + Clock + AllocGlobal>(
 ) -> Result<TcpWire<'r, R>, NoMemory> {
     let waits = wire_waits(rt.alloc(), words)?;
     Ok(TcpWire::new(
+        rt.alloc(),
         rt,
         Waits {
             idle: waits.idle,

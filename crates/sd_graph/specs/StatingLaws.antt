@@ -17,14 +17,38 @@ Leads-append b c d (fails f ∷ front) steps h k = absurd h
 pub Ends-after : {P F : Type 0} (b c d : Building) (front steps : List (Step P F)) (e : Ending P F)
     → Leads b front c → Ends c steps d e → Ends b (front ++ steps) d e
 Ends-after b c d front steps done h k = Leads-append b c d front steps h k
-Ends-after b c d front steps (fault f) h k =
-    (front ++ k.0, k.1, ap (λ xs. front ++ xs) k.2 ∙ sym (append_assoc front k.0 (fails f ∷ k.1)), Leads-append b c d front k.0 h k.3)
-Ends-after b c d front steps (too_many_nodes p) h k =
-    (front ++ k.0, k.1, k.2, ap (λ xs. front ++ xs) k.3 ∙ sym (append_assoc front k.0 (says p k.2 ∷ k.1)), Leads-append b c d front k.0 h k.4, k.5)
-Ends-after b c d front steps (too_many_edges p) h k =
-    (front ++ k.0, k.1, k.2, ap (λ xs. front ++ xs) k.3 ∙ sym (append_assoc front k.0 (says p k.2 ∷ k.1)), Leads-append b c d front k.0 h k.4, k.5, k.6)
-Ends-after b c d front steps no_memory h k =
-    (front ++ k.0, k.1, ap (λ xs. front ++ xs) k.2 ∙ sym (append_assoc front k.0 k.1), Leads-append b c d front k.0 h k.3)
+Ends-after b c d front steps (fault f) h k = (
+  front ++ k.0,
+  k.1,
+  ap (λ xs. front ++ xs) k.2 ∙ sym (append_assoc front k.0 (fails f ∷ k.1)),
+  Leads-append b c d front k.0 h k.3,
+)
+Ends-after b c d front steps (too_many_nodes p) h k = (
+  front ++ k.0,
+  k.1,
+  k.2,
+  ap (λ xs. front ++ xs) k.3
+      ∙ sym (append_assoc front k.0 (says p k.2 ∷ k.1)),
+  Leads-append b c d front k.0 h k.4,
+  k.5,
+)
+Ends-after b c d front steps (too_many_edges p) h k = (
+  front ++ k.0,
+  k.1,
+  k.2,
+  ap (λ xs. front ++ xs) k.3
+      ∙ sym (append_assoc front k.0 (says p k.2 ∷ k.1)),
+  Leads-append b c d front k.0 h k.4,
+  k.5,
+  k.6,
+)
+Ends-after b c d front steps no_memory h k = (
+  front ++ k.0,
+  k.1,
+  ap (λ xs. front ++ xs) k.2 ∙ sym (append_assoc front k.0 k.1),
+  Leads-append
+      b c d front k.0 h k.3,
+)
 
 -- whether the steps ended before their end
 abbrev pub IsCut : {P F : Type 0} → Ending P F → Type 0
@@ -40,10 +64,23 @@ pub Ends-before : {P F : Type 0} (b c : Building) (steps more : List (Step P F))
 Ends-before b c steps more done cut k = absurd cut
 Ends-before b c steps more (fault f) cut k =
     (k.0, k.1 ++ more, ap (λ xs. xs ++ more) k.2 ∙ append_assoc k.0 (fails f ∷ k.1) more, k.3)
-Ends-before b c steps more (too_many_nodes p) cut k =
-    (k.0, k.1 ++ more, k.2, ap (λ xs. xs ++ more) k.3 ∙ append_assoc k.0 (says p k.2 ∷ k.1) more, k.4, k.5)
-Ends-before b c steps more (too_many_edges p) cut k =
-    (k.0, k.1 ++ more, k.2, ap (λ xs. xs ++ more) k.3 ∙ append_assoc k.0 (says p k.2 ∷ k.1) more, k.4, k.5, k.6)
+Ends-before b c steps more (too_many_nodes p) cut k = (
+  k.0,
+  k.1 ++ more,
+  k.2,
+  ap (λ xs. xs ++ more) k.3 ∙ append_assoc k.0 (says p k.2 ∷ k.1) more,
+  k.4,
+  k.5,
+)
+Ends-before b c steps more (too_many_edges p) cut k = (
+  k.0,
+  k.1 ++ more,
+  k.2,
+  ap (λ xs. xs ++ more) k.3 ∙ append_assoc k.0 (says p k.2 ∷ k.1) more,
+  k.4,
+  k.5,
+  k.6,
+)
 Ends-before b c steps more no_memory cut k =
     (k.0, k.1 ++ more, ap (λ xs. xs ++ more) k.2 ∙ append_assoc k.0 k.1 more, k.3)
 

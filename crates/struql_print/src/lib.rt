@@ -1,4 +1,4 @@
-//! The canonical text of queries, conditions and links.
+//! The canonical text of queries, conditions, terms and links.
 #![tactic(auto)]
 
 mod conditions;
@@ -9,4 +9,4 @@ mod terms;
 
 pub use conditions::print_condition;
 pub use query::print;
-pub use terms::print_link;
+pub use terms::{print_link, print_term};

@@ -54,6 +54,14 @@ impl Print for SkolemTerm {
     }
 }
 
+/// Appends a term's canonical text, as `F(x, 1, "a")`. After `NoMemory` what `out` holds is not
+/// said.
+pub fn print_term(term: &SkolemTerm, out: &mut Vec<u8>) -> Result<(), NoMemory>
+    ensures { IfOk result (λ _. out.new.items ≡ out.old.items ++ term_text (term_of term.now)) }
+{
+    term.print(out)
+}
+
 fn print_target(target: &Target, out: &mut Vec<u8>) -> Result<(), NoMemory>
     ensures { IfOk result (λ _. out.new.items
         ≡ out.old.items ++ target_text (target_of target.now)) }

@@ -1,1 +1,4 @@
 mod Next
+mod Pieces
+mod Release
+mod Sends

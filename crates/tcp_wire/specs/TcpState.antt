@@ -8,6 +8,8 @@ use Rattle.wire.specs.declared.WireEvent.{WireEvent}
 use Rattle.wire.specs.declared.WireEvent.TheVariants.{Opened, Bytes, Ended, Lost, Change, Done}
 use Rattle.wire.specs.declared.WireEnd.{WireEnd}
 use Rattle.wire.specs.declared.WireEnd.TheVariants.{Failed, NoMemory}
+use Rattle.tcp_wire.specs.declared.peer.Parting.{Parting}
+use Rattle.tcp_wire.specs.declared.peer.Parting.TheVariants.{Shut, Drained}
 use Rattle.tcp_wire.specs.declared.peer.Progress.{Progress}
 use Rattle.tcp_wire.specs.declared.waits.Waits.{Waits}
 use Rattle.tcp_wire.specs.Replies.{refuses}
@@ -69,6 +71,13 @@ told_of w = record {
 -- the connection in hand is let go, where it has this number
 abbrev pub let_go : ℕ → TcpState → TcpState
 let_go number w = record w { hand = if number == w.opened then None else w.hand }
+
+-- How a connection is parted from that is let go, if one is: it is drained where its last reply refused a request.
+abbrev pub parting_of : ℕ → TcpState → Option Parting
+parting_of number w =
+    if number == w.opened
+    then option_map (λ hand. if hand.progress.refused then Drained else Shut) w.hand
+    else None
 
 -- the connection after one more piece
 abbrev pub with_piece : (idle : ℕ) → Hand → Hand

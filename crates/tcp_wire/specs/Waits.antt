@@ -1,5 +1,5 @@
 -- How long a connection is waited for, in milliseconds, and how often one is tried to be taken.
-use Rattle.std.specs.Prelude.{◌/◌, ◌^◌, ℕ, zero, suc, max, min}
+use Rattle.std.specs.Prelude.{◌+◌, ◌/◌, ◌%◌, ◌^◌, ℕ, zero, suc, max, min}
 
 -- how long the next part is waited for after this many: half as long after each, nine times, and at least 1
 abbrev pub wait_at : (limit parts : ℕ) → ℕ
@@ -8,6 +8,10 @@ wait_at limit parts = max (limit / 2 ^ min parts 9) 1
 -- how long the first part is waited for at a time
 abbrev pub first_wait : (limit : ℕ) → ℕ
 first_wait limit = min (wait_at limit 0) 20
+
+-- how often the first part is waited for: until these waits are as long as the limit, and at least once
+abbrev pub first_waits : (limit : ℕ) → ℕ
+first_waits limit = max (limit / 20 + min 1 (limit % 20)) 1
 
 -- how long the read waits that gives a piece, or the end, after this many pieces
 abbrev pub piece_wait : (idle pieces : ℕ) → ℕ

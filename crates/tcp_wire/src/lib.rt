@@ -1,28 +1,29 @@
 //! A wire over the system's sockets: one connection after another.
 #![tactic(auto)]
 
-ghost use Rattle.std.specs.Prelude.{◌≡◌, ◌≤◌, ℕ, take, Some, None, Err, IfOk, IfErr, OnOk, OnErr, IsErrOf, IfSome, MatchResult, option_map};
+ghost use Rattle.std.specs.Prelude.{◌≡◌, ◌≤◌, ℕ, take, Some, None, Err, IfOk, IfErr, OnOk, OnErr, IsErrOf, IfSome, IsSome, MatchResult, option_map};
 ghost use Rattle.std.specs.declared.net.socket_addr.SocketAddr.TheVariants.{V4};
 ghost use Rattle.edge_io.specs.Counts.{Rose};
 ghost use Rattle.wire.specs.Accounts.{send_to, close_to, up};
 ghost use Rattle.wire.specs.Events.{add_event, IsNextOf, add_listen};
 ghost use Rattle.wire.specs.Told.{EventsStay, OtherAccountsStay, OtherFaultsStay};
 ghost use Rattle.tcp_wire.specs.Waits.{first_wait};
-ghost use Rattle.tcp_wire.specs.TcpState.{IsPieceOf, IsNextIn, IsSent, MissesNext, HasRead, kept, let_go, local_address, told_of};
+ghost use Rattle.tcp_wire.specs.TcpState.{IsPieceOf, IsNextIn, IsSent, MissesNext, HasRead, kept, let_go, local_address, parting_of, told_of};
 
 mod accepting;
 mod peer;
+mod waiting;
 mod waits;
 
-use accepting::{take_next, take_waiting};
 use edge_io::Failed;
-use peer::{NoBytes, Peer, refuses};
+use peer::{NoBytes, Parting, Peer, refuses};
 use sd_value::Str;
 use std::alloc::Global;
 use std::io::{Read, Write};
 use std::marker::Model;
 use std::net::{Ipv4Addr, Net, OpenListener, OpenStream, SocketAddr, SocketAddrV4};
 use std::time::Clock;
+use waiting::Waiting;
 pub use waits::Waits;
 use waits::{MOST_PARTS, first_wait, first_waits, wait_at};
 use wire::{Wire, WireEnd, WireEvent};
@@ -37,10 +38,12 @@ struct Place<L> {
     address: SocketAddr,
 }
 
-/// Connections to 127.0.0.1, one after another. A connection stays in hand until it is closed, a send to it fails or it
-/// is lost, or until the event after the end of its input is asked for; only then the next one is taken. It is lost where
-/// nothing comes for long enough (`Waits`), where too many pieces come without a reply, where it has sent nothing since its
-/// last reply and another one waits to be taken, and where memory is refused for what it sent. The wire reports nothing of
+/// Connections to 127.0.0.1, one after another. A connection is opened only once it has sent something, or its input has
+/// ended: until then it waits beside others, at most 64 in all, and holds up none; one that sends nothing for long enough
+/// (`Waits`) is let go and never opened. One that is opened stays in hand until it is closed, a send to it fails or it is
+/// lost, or until the event after the end of its input is asked for; only then the next one is opened. It is lost where
+/// nothing comes for long enough, where too many pieces come without a reply, where it has sent nothing since its last
+/// reply and another one has sent something, and where memory is refused for what it sent. The wire reports nothing of
 /// what its connections send and take, and the count of failed sends of each is at its last value, where every failure
 /// counts as a rise.
 #[derive(Drop)]
@@ -49,8 +52,8 @@ pub struct TcpWire<'r, R: Net + Clock> {
     waits: Waits,
     place: Option<Place<R::Listener>>,
     peer: Option<Peer<R::Stream>>,
-    /// A connection that was taken while another was in hand.
-    waiting: Option<R::Stream>,
+    /// The connections that have sent nothing yet.
+    waiting: Waiting<R::Stream>,
     /// The number of the last connection that was opened.
     opened: u64,
     /// How many more connections are taken.
@@ -78,7 +81,7 @@ impl<'r, R: Net + Clock> Model for TcpWire<'r, R> {
 
 impl<'r, R: Net + Clock> TcpWire<'r, R> {
     /// A wire that does not listen yet: until then it has no connection to give.
-    pub fn new(system: &'r R, waits: Waits) -> Self
+    pub fn new(alloc: Global, system: &'r R, waits: Waits) -> Self
         ensures { result ≡ record {
           hand = None;
           opened = 0;
@@ -93,7 +96,7 @@ impl<'r, R: Net + Clock> TcpWire<'r, R> {
             waits,
             place: None,
             peer: None,
-            waiting: None,
+            waiting: Waiting::new(alloc),
             opened: 0,
             left: 0,
             next_faults: 0,
@@ -102,38 +105,38 @@ impl<'r, R: Net + Clock> TcpWire<'r, R> {
     }
 
     /// The port that the wire listens at, where it listens.
-    pub fn port(&self) -> Option<u16> {
+    pub fn port(&self) -> Option<u16>
+        ensures { IsSome result → IsSome self.now.address }
+    {
         match self.place.as_ref()?.listener.local_addr() {
             Ok(address) => Some(address.port()),
             Err(_) => None,
         }
     }
 
-    // Whether another connection may be taken and waits for that. It is kept until its turn comes.
+    // Whether another connection has sent something and may be opened.
     fn other_waits(&mut self) -> bool
         ensures { self.new ≡ self.old }
     {
-        if self.left > 0
-            && self.waiting.is_none()
-            && let Some(place) = &self.place
-        {
-            self.waiting = take_waiting(&place.listener);
+        if self.left == 0 {
+            return false;
         }
-        self.waiting.is_some()
+        match &self.place {
+            Some(place) => {
+                let found = self.waiting.find_spoken(&place.listener, self.waits.idle);
+                found.is_some()
+            }
+            None => false,
+        }
     }
 
     // The stream of the next connection.
     fn take_stream(&mut self) -> Option<R::Stream>
         ensures { self.new ≡ self.old }
     {
-        if let Some(stream) = self.waiting.take() {
-            return Some(stream);
-        }
         let place = self.place.as_ref()?;
-        match take_next(&place.listener, self.system) {
-            Ok(stream) => Some(stream),
-            Err(_) => None,
-        }
+        self.waiting
+            .next(&place.listener, self.system, self.waits.idle)
     }
 
     // The next connection, or `Done` where no more are taken.
@@ -157,8 +160,8 @@ impl<'r, R: Net + Clock> TcpWire<'r, R> {
         Err(WireEnd::Failed)
     }
 
-    // Reads the first bytes of a connection since its opening or its last reply. Where it had a reply, another one that
-    // waits takes its place behind each wait that gave nothing.
+    // Reads the first bytes of a connection since its opening or its last reply. Behind each wait that gave nothing another
+    // one that has sent something takes its place.
     fn read_first(&mut self, peer: &mut Peer<R::Stream>) -> Result<usize, NoBytes>
         ensures bound { IfOk result (λ count. count ≤ 16384) }
         ensures wait { OnOk result (peer.new.read_wait ≡ first_wait self.old.waits.idle) }
@@ -171,7 +174,8 @@ impl<'r, R: Net + Clock> TcpWire<'r, R> {
             if read != Err(NoBytes::Expired) {
                 return read;
             }
-            if peer.progress.replied && self.other_waits() {
+            self.waiting.pass(wait);
+            if self.other_waits() {
                 break;
             }
         }
@@ -286,14 +290,15 @@ impl<'r, R: Net + Clock> TcpWire<'r, R> {
     }
 
     // Lets the connection in hand go, where it has this number.
-    fn let_go(&mut self, connection: u64)
-        ensures { self.new ≡ let_go connection self.old }
+    fn let_go(&mut self, connection: u64) -> Option<Parting>
+        ensures parted { result ≡ parting_of connection self.old }
+        ensures gone { self.new ≡ let_go connection self.old }
     {
-        if connection == self.opened
-            && let Some(peer) = self.peer.take()
-        {
-            peer.part(&mut self.piece);
+        if connection != self.opened {
+            return None;
         }
+        let peer = self.peer.take()?;
+        Some(peer.part(&mut self.piece))
     }
 }
 

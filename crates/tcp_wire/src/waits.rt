@@ -1,6 +1,6 @@
 // How long a connection is waited for.
 ghost use Rattle.std.specs.Prelude.{◌≡◌};
-ghost use Rattle.tcp_wire.specs.Waits.{wait_at, first_wait};
+ghost use Rattle.tcp_wire.specs.Waits.{wait_at, first_wait, first_waits};
 
 /// How long the wire waits for a connection, in milliseconds.
 #[derive(Clone, Copy, Debug, PartialEq, Eq)]
@@ -35,6 +35,8 @@ pub(crate) fn first_wait(limit: u32) -> u32
 }
 
 /// How often the first part is waited for.
-pub(crate) fn first_waits(limit: u32) -> u32 {
+pub(crate) fn first_waits(limit: u32) -> u32
+    ensures { result ≡ first_waits limit }
+{
     limit.div_ceil(STEP).max(1)
 }

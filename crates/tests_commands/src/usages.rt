@@ -54,6 +54,13 @@ const ROWS: &[UsageRow] = &[
         options: &[],
     },
     UsageRow {
+        name: CommandName::Check,
+        words: &["check", "--here", "q", "c", "d"],
+        fewest: 5,
+        operands: "QUERY CONSTRAINTS DATA..",
+        options: &[],
+    },
+    UsageRow {
         name: CommandName::Serve,
         words: &["serve", "q", "t", "d"],
         fewest: 4,
@@ -116,8 +123,14 @@ const OPTIONS: &[NumberOption] = &[
 fn flag_of(name: CommandName) -> Option<&'static str> {
     match name {
         CommandName::Schema => Some("--dot"),
+        CommandName::Check => Some("--here"),
         _ => None,
     }
+}
+
+// Whether the command is none without its flag, which then stands in the row's words.
+fn wants_flag(name: CommandName) -> bool {
+    name == CommandName::Check
 }
 
 fn text_of(name: Option<CommandName>) -> Result<&'static str, Fail> {
@@ -176,7 +189,8 @@ fn check_flag(alloc: Global, row: &UsageRow) -> Result<(), Fail> {
         return Ok(());
     };
     let word = Str::new(alloc, flag.as_bytes())?;
-    check(gives_command(alloc, row.words, Some(word))?, "the flag")?;
+    let taken = gives_command(alloc, row.words, Some(word))?;
+    check(taken != wants_flag(row.name), "the flag")?;
     let twice = [name_of(row), flag, "q", flag];
     check(!gives_command(alloc, &twice, None)?, "the flag twice")
 }
@@ -280,12 +294,11 @@ fn push_words(out: &mut Vec<u8>, row: &UsageRow, options: &str) -> Result<(), No
 }
 
 fn check_first_line(alloc: Global, row: &UsageRow, text: &str) -> Result<(), Fail> {
-    let options = if flag_of(row.name).is_some() {
-        " [--dot]"
-    } else if row.options.is_empty() {
-        ""
-    } else {
-        " [OPTION..]"
+    let options = match row.name {
+        CommandName::Schema => " [--dot]",
+        CommandName::Check => " --here",
+        _ if row.options.is_empty() => "",
+        _ => " [OPTION..]",
     };
     let mut wanted = Vec::new(alloc);
     push_parts(&mut wanted, &["usage: strudel "])?;
@@ -332,7 +345,8 @@ fn commands_in(alloc: Global, text: &str) -> Result<Vec<u8>, NoMemory> {
 fn commands_of(alloc: Global, rows: &[UsageRow]) -> Result<Vec<u8>, NoMemory> {
     let mut out = Vec::new(alloc);
     for row in rows {
-        push_words(&mut out, row, "")?;
+        let flag = if wants_flag(row.name) { " --here" } else { "" };
+        push_words(&mut out, row, flag)?;
         out.push(b'\n')?;
     }
     Ok(out)

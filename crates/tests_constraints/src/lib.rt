@@ -1,9 +1,16 @@
-//! Inclusions of path expressions and texts of constraints, each beside an answer worked by hand.
+//! Inclusions of path expressions, texts of constraints and verdicts, each beside an answer worked by
+//! hand.
 #![tactic(auto)]
 
 #[cfg(test)]
 mod checks;
 #[cfg(test)]
+mod group;
+#[cfg(test)]
 mod included;
 #[cfg(test)]
+mod lines;
+#[cfg(test)]
 mod texts;
+#[cfg(test)]
+mod verdicts;

@@ -1,6 +1,7 @@
 // Files of the system, each read as std wrote it, and each written as std reads it.
 use crate::checks::{check, check_bytes};
 use crate::folder::Folder;
+use crate::full::FullDisk;
 use edge_io::{Failed, Files, ReadEnd, RealFiles};
 use sd_value::{NoMemory, Str};
 use std::alloc::Global;
@@ -153,6 +154,25 @@ fn no_file_is_written_at_a_folder_or_under_a_file(rt: HostRuntime) -> Result<(),
     folder.remove(&rt)
 }
 
+fn is_among(name: &str, names: &[&str]) -> bool {
+    for other in names {
+        if *other == name {
+            return true;
+        }
+    }
+    false
+}
+
+// Whether the folder has files of these names alone.
+fn check_names(rt: &HostRuntime, folder: &Folder, wanted: &[&str]) -> Result<(), Fail> {
+    let path = folder.path(rt, ".")?;
+    for entry in fs::read_dir(rt, path.as_str())? {
+        let entry = entry?;
+        check(is_among(&entry.file_name(), wanted), "another file")?;
+    }
+    Ok(())
+}
+
 // The old file stays until the new one takes its place, and nothing else is left, also where that fails.
 #[test]
 fn no_other_file_is_left(rt: HostRuntime) -> Result<(), Fail> {
@@ -161,6 +181,7 @@ fn no_other_file_is_left(rt: HostRuntime) -> Result<(), Fail> {
     check_written(&rt, &folder, "file", b"over an old one")?;
     check_written(&rt, &folder, "folder/file", b"a file")?;
     check_unwritten(&rt, &folder, "folder")?;
+    check_names(&rt, &folder, &["file", "folder"])?;
     let path = folder.path(&rt, "folder/file")?;
     check_bytes(
         &fs::read(&rt, path.as_str())?,
@@ -178,6 +199,7 @@ fn a_file_that_was_left_is_taken_over(rt: HostRuntime) -> Result<(), Fail> {
     let path = format!(in rt.alloc(); "{}/.strudel-{number}", folder.path(&rt, ".")?)?;
     fs::write(&rt, path.as_str(), "a part that is longer than the file")?;
     check_written(&rt, &folder, "file", b"a file")?;
+    check_names(&rt, &folder, &["file"])?;
     folder.remove(&rt)
 }
 
@@ -199,5 +221,33 @@ fn a_link_is_replaced_and_not_followed(rt: HostRuntime) -> Result<(), Fail> {
         fs::symlink_metadata(&rt, link.as_str())?.is_file(),
         "the link is still there",
     )?;
+    folder.remove(&rt)
+}
+
+// A disk takes four bytes of the new file.
+#[test]
+fn an_old_file_stays_where_a_write_fails(rt: HostRuntime) -> Result<(), Fail> {
+    let alloc = rt.alloc();
+    let folder = Folder::fresh(&rt, "stays")?;
+    check_written(&rt, &folder, "file", b"an old file")?;
+    let path = folder.path(&rt, "file")?;
+    let named = Str::new(alloc, path.as_bytes())?;
+    let full = FullDisk {
+        system: &rt,
+        room: 4,
+    };
+    let mut files = RealFiles::new(&full, process::id(rt.process()));
+    check(
+        files.write(&named, b"a new file") == Err(Failed),
+        "it is written",
+    )?;
+    check(files.write_faults(&named) == 1, "no fault of writing")?;
+    check_bytes(&fs::read(&rt, path.as_str())?, b"an old file", "the file")?;
+    check_names(&rt, &folder, &["file"])?;
+    check(
+        files.write(&named, b"four") == Ok(()),
+        "a short file is not written",
+    )?;
+    check_bytes(&fs::read(&rt, path.as_str())?, b"four", "the short file")?;
     folder.remove(&rt)
 }

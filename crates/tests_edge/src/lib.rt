@@ -7,8 +7,14 @@ mod checks;
 #[cfg(test)]
 mod files;
 #[cfg(test)]
+mod flaky;
+#[cfg(test)]
 mod folder;
 #[cfg(test)]
+mod full;
+#[cfg(test)]
 mod served;
+#[cfg(test)]
+mod sockets;
 #[cfg(test)]
 mod visited;

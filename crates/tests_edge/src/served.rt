@@ -33,8 +33,8 @@ const WAITS: Waits = Waits {
 };
 
 // A port at which nothing listens.
-fn free_port<R: Net + Clock>(net: &R) -> Result<u16, Fail> {
-    let mut wire = TcpWire::new(net, WAITS);
+fn free_port<R: Net + Clock>(alloc: Global, net: &R) -> Result<u16, Fail> {
+    let mut wire = TcpWire::new(alloc, net, WAITS);
     check(wire.listen(0, 1).is_ok(), "no socket")?;
     Ok(wire.port().ok_or("no port")?)
 }
@@ -91,8 +91,8 @@ fn check_serve<W: Wire>(alloc: Global, port: u16, wire: &mut W) -> Result<(), Fa
 #[test]
 fn the_worked_page_is_served_at_the_port_that_was_asked_for(rt: HostRuntime) -> Result<(), Fail> {
     let alloc = rt.alloc();
-    let port = free_port(&rt)?;
-    let mut wire = Visited::new(TcpWire::new(&rt, WAITS), &rt, REQUEST);
+    let port = free_port(alloc, &rt)?;
+    let mut wire = Visited::new(TcpWire::new(alloc, &rt, WAITS), &rt, REQUEST);
     check_serve(alloc, port, &mut wire)?;
     check(wire.is_refused_elsewhere, "it listens at another address")?;
     let mut client = wire.client.take().ok_or("no client")?;

@@ -46,6 +46,7 @@ const COMMANDS: &[&[&str]] = &[
     &["data", "d"],
     &["explain", "q", "d"],
     &["schema", "q"],
+    &["check", "--here", "q", "c", "d"],
 ];
 
 fn check_refused<R: AllocGlobal + Abort>(rt: &R, words: &[&str]) -> Result<(), Fail> {

@@ -1,10 +1,12 @@
-//! Pages of small sites of each kind, from their own demand and from the whole site, and queries that are refused: each
-//! beside an answer worked by hand.
+//! Pages of small sites of each kind, from their own demand and from the whole site, constraints in small sites, and queries
+//! that are refused: each beside an answer worked by hand.
 #![tactic(auto)]
 
 #[cfg(test)]
 mod inputs;
 #[cfg(test)]
 mod refused;
+#[cfg(test)]
+mod reports;
 #[cfg(test)]
 mod sites;

@@ -2,9 +2,9 @@
 use Rattle.std.proofs.Common.{◌≡◌, ℕ, List, [], ◌∷◌, ◌++◌, refl, sym, ap, ◌∙◌, append_assoc}
 use Rattle.std.proofs.lemmas.List.{append-nil}
 use Rattle.grammar.specs.Reading.{Outcome, Read, Stuck, Past, with_front}
-use Rattle.wrap_bibtex.specs.declared.item.Nesting.{Nesting}
-use Rattle.wrap_bibtex.specs.declared.item.Nesting.TheVariants.{Closes, Unpaired, TooDeep, Goes}
-use Rattle.wrap_bibtex.specs.Reading.{with_byte, nesting, nested, enclosed}
+use Rattle.bibtex_spec.specs.declared.Nesting.{Nesting}
+use Rattle.bibtex_spec.specs.declared.Nesting.TheVariants.{Closes, Unpaired, TooDeep, Goes}
+use Rattle.bibtex_spec.specs.Reading.{with_byte, nesting, nested, enclosed}
 
 with_more : (text : List ℕ) (b : ℕ) (o : Outcome ℕ (List ℕ)) → with_front (text ++ b ∷ []) o ≡ with_front text (with_byte b o)
 with_more text b (Read value rest) = ap (λ t. Read t rest) (append_assoc text (b ∷ []) value)

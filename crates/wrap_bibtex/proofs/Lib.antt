@@ -3,3 +3,5 @@ pub mod Tidied
 pub mod Enclosed
 pub mod Loops
 pub mod Steps
+mod Spelled
+mod SpelledText

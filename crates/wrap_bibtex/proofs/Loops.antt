@@ -1,15 +1,15 @@
 -- Loops that read phrases one after the other.
-use Rattle.std.proofs.Common.{◌≡◌, ◌<◌, ◌≤◌, ℕ, zero, suc, Bool, true, false, List, [], ◌∷◌, ◌++◌, length, refl, sym, ap, subst, ◌∙◌, append_assoc, arith}
+use Rattle.std.proofs.Common.{◌≡◌, ◌<◌, ◌≤◌, ℕ, zero, suc, Bool, true, false, List, [], ◌∷◌, ◌++◌, length, refl, sym, ap, ◌∙◌, append_assoc, arith}
 use Rattle.std.specs.Prelude.{nat_eq}
 use Rattle.std.proofs.lemmas.List.{append-nil}
 use Rattle.grammar.specs.Reading.{Outcome, Read, Stuck, Past, and_then, starts, repeat, repeat_within, with_front}
 use Rattle.wrap_bibtex.specs.declared.halt.Halt.{Halt}
 use Rattle.wrap_bibtex.specs.declared.halt.Halt.TheVariants.{Expected, Limit, NoMemory}
-use Rattle.wrap_bibtex.specs.declared.item.Field.{Field}
-use Rattle.wrap_bibtex.specs.Bytes.{is_letter}
-use Rattle.wrap_bibtex.specs.Macros.{MacroTexts}
+use Rattle.bibtex_spec.specs.declared.Field.{Field}
+use Rattle.bibtex_spec.specs.Bytes.{is_letter}
+use Rattle.bibtex_spec.specs.Macros.{MacroTexts}
 use Rattle.wrap_bibtex.specs.Gives.{Fails}
-use Rattle.wrap_bibtex.specs.Reading.{read_mark, read_field, listed, read_fields}
+use Rattle.bibtex_spec.specs.Reading.{read_mark, read_field, listed, read_fields}
 
 with_more : {A : Type 0} (front : List A) (v : A) (o : Outcome ℕ (List A)) → with_front front (and_then o (λ values last. Read (v ∷ values) last)) ≡ with_front (front ++ v ∷ []) o
 with_more front v (Read values rest) = ap (λ vs. Read vs rest) (sym (append_assoc front (v ∷ []) values))

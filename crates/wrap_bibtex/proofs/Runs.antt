@@ -1,8 +1,8 @@
 -- Loops that read the longest run of a class of bytes.
 use Rattle.std.proofs.Common.{◌≡◌, ◌≤◌, ℕ, Bool, true, false, List, [], ◌∷◌, ◌++◌, length, refl, sym, ap, ◌∙◌, append_assoc, arith}
-use Rattle.std.specs.Prelude.{map, if◌then◌else◌}
+use Rattle.std.specs.Prelude.{map}
 use Rattle.std.proofs.lemmas.List.{append-nil}
-use Rattle.wrap_bibtex.specs.Bytes.{lower, run, behind}
+use Rattle.bibtex_spec.specs.Bytes.{lower, run, behind}
 
 -- `word` has been read of the run, and `rest` is still to be read
 pub record IsFront (belongs : ℕ → Bool) (word rest bytes : List ℕ) : Type 0 where

@@ -1,20 +1,20 @@
 -- What the answers of this crate share.
-use Rattle.std.specs.Prelude.{◌≡◌, ◌⊎◌, ◌≤◌, ◌<◌, ◌-◌, ◌==◌, ◌++◌, ℕ, zero, suc, ◌∷◌, [], List, length, Bool, true, false, nat_eq, if◌then◌else◌, Result, Err, ⊤}
+use Rattle.std.specs.Prelude.{◌≡◌, ◌≤◌, ◌<◌, ◌-◌, ◌==◌, ◌++◌, ℕ, zero, suc, ◌∷◌, [], List, length, Bool, true, false, nat_eq, if◌then◌else◌, Result, Err, ⊤}
 use Rattle.std.proofs.Common.{refl, sym, ◌∙◌, ap, subst, inl, inr, arith}
 use Rattle.std.proofs.lemmas.Bool.{eqb-true}
 use Rattle.grammar.specs.Reading.{Outcome, Read, Stuck, Past}
 use Rattle.graph_spec.specs.DataGraph.{Name}
 use Rattle.sd_graph.specs.Statement.{Statement, Building, Adds}
-use Rattle.sd_graph.specs.Stating.{says, fails, fault, done, Ends, Leads}
+use Rattle.sd_graph.specs.Stating.{says, fails, done, Ends, Leads}
 use Rattle.sd_graph.specs.StatingLaws.{ending_at, Ends-one, IsCut, Continues, Continues-step, Continues-stop, Continues-end}
 use Rattle.sd_graph.specs.declared.GraphRefusal.{GraphRefusal}
-use Rattle.wrap_bibtex.specs.declared.item.Item.{Item}
+use Rattle.bibtex_spec.specs.declared.Item.{Item}
 use Rattle.wrap_bibtex.specs.declared.refusal.BibRefusal.{BibRefusal}
 use Rattle.wrap_bibtex.specs.declared.refusal.BibRefusal.TheVariants.{Expected, UnknownMacro, TooDeep, TooManyEdges, TooManyNodes, NoMemory}
-use Rattle.wrap_bibtex.specs.Bytes.{is_junk, behind}
-use Rattle.wrap_bibtex.specs.Macros.{MacroTexts, months}
-use Rattle.wrap_bibtex.specs.Reading.{read_item}
-use Rattle.wrap_bibtex.specs.Text.{BibStep, bib_ending, limit_fault, IsFaultOf, IsItemFault, item_steps, items_steps, macros_behind, read_steps, marked_steps, steps_within}
+use Rattle.bibtex_spec.specs.Bytes.{is_junk, behind}
+use Rattle.bibtex_spec.specs.Macros.{MacroTexts}
+use Rattle.bibtex_spec.specs.Reading.{read_item}
+use Rattle.wrap_bibtex.specs.Text.{BibStep, bib_ending, limit_fault, IsFaultOf, IsItemFault, item_steps, macros_behind, read_steps, marked_steps, steps_within}
 
 pub stated : (at : ℕ) (s : Statement) (b c : Building) (r : Result ⊤ GraphRefusal) (x : Result ⊤ BibRefusal) → bib_ending x ≡ ending_at at r → Adds s b c r → Ends b (says at s ∷ []) c (bib_ending x)
 stated at s b c r x is adds = subst (λ e. Ends b (says at s ∷ []) c e) (sym is) (Ends-one BibRefusal at s b c r adds)

@@ -1,12 +1,10 @@
 -- Loops over the bytes of a value.
-use Rattle.std.proofs.Common.{◌≡◌, ◌≤◌, ◌<◌, ◌+◌, ℕ, suc, zero, Bool, true, false, List, [], ◌∷◌, ◌++◌, length, get_or, take, drop, refl, sym, ap, subst, ◌∙◌, append_assoc, arith}
+use Rattle.std.proofs.Common.{◌≡◌, ◌≤◌, ◌<◌, ◌+◌, ℕ, Bool, true, false, List, [], ◌∷◌, ◌++◌, length, get_or, take, drop, refl, sym, ap, subst, ◌∙◌, append_assoc, arith}
 use Rattle.std.specs.Prelude.{◌-◌, map, if◌then◌else◌, nat_eq, ◌&&◌}
-use Rattle.std.specs.List.{flat_map}
 use Rattle.std.proofs.lemmas.Bool.{eqb-true}
 use Rattle.std.proofs.lemmas.List.{append-nil}
 use Rattle.std.proofs.lemmas.Grind.{flat_map-append, take_at_read}
-use Rattle.wrap_bibtex.specs.Bytes.{is_blank}
-use Rattle.wrap_bibtex.specs.Values.{tidy, tidy_from, joined, begins_and, depth_behind, grow, parts_from, parts}
+use Rattle.bibtex_spec.specs.Values.{tidy, tidy_from, joined, begins_and, depth_behind, grow, parts_from, parts}
 
 pub tidy_more : (old new rest later total : List ℕ) (owed now : Bool) (b : ℕ) → rest ≡ b ∷ later
     → ((xs : List ℕ) → new ++ tidy_from now xs ≡ old ++ tidy_from owed (b ∷ xs))

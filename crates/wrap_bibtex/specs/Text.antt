@@ -6,16 +6,16 @@ use Rattle.sd_graph.specs.Statement.{a_node, a_member, an_edge}
 use Rattle.sd_graph.specs.Stating.{Step, says, fails, Ending, done, fault, too_many_nodes, too_many_edges, no_memory}
 use Rattle.source_steps.specs.Names.{without_mark}
 use Rattle.csv_source.specs.Fields.{value_of}
-use Rattle.wrap_bibtex.specs.declared.item.Field.{Field}
-use Rattle.wrap_bibtex.specs.declared.item.Entry.{Entry}
-use Rattle.wrap_bibtex.specs.declared.item.Item.{Item}
-use Rattle.wrap_bibtex.specs.declared.item.Item.TheVariants.{Passes, Defines, Enters}
+use Rattle.bibtex_spec.specs.declared.Field.{Field}
+use Rattle.bibtex_spec.specs.declared.Entry.{Entry}
+use Rattle.bibtex_spec.specs.declared.Item.{Item}
+use Rattle.bibtex_spec.specs.declared.Item.TheVariants.{Passes, Defines, Enters}
 use Rattle.wrap_bibtex.specs.declared.refusal.BibRefusal.{BibRefusal}
 use Rattle.wrap_bibtex.specs.declared.refusal.BibRefusal.TheVariants.{Expected, UnknownMacro, TooDeep, TooManyEdges, TooManyNodes, NoMemory}
-use Rattle.wrap_bibtex.specs.Bytes.{is_junk, behind}
-use Rattle.wrap_bibtex.specs.Values.{texts_of}
-use Rattle.wrap_bibtex.specs.Macros.{MacroTexts, with_macro, months}
-use Rattle.wrap_bibtex.specs.Reading.{read_item}
+use Rattle.bibtex_spec.specs.Bytes.{is_junk, behind}
+use Rattle.bibtex_spec.specs.Values.{texts_of}
+use Rattle.bibtex_spec.specs.Macros.{MacroTexts, with_macro, months}
+use Rattle.bibtex_spec.specs.Reading.{read_item}
 
 abbrev pub BibStep : Type 0
 BibStep = Step ℕ BibRefusal

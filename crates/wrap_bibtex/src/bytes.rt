@@ -1,7 +1,7 @@
 // Classes of bytes, and the longest runs of them.
 ghost use Rattle.std.specs.Prelude.{◌≡◌, ◌≤◌, IfOk, length, map};
-ghost use Rattle.wrap_bibtex.specs.Bytes as specs;
-ghost use Rattle.wrap_bibtex.specs.Bytes.{run, behind};
+ghost use Rattle.bibtex_spec.specs.Bytes as specs;
+ghost use Rattle.bibtex_spec.specs.Bytes.{run, behind};
 
 use sd_value::NoMemory;
 use std::alloc::Global;

@@ -3,15 +3,15 @@ ghost use Rattle.std.specs.Prelude.{◌≡◌, ◌-◌, ◌<◌, IfOk, IfErr, On
 ghost use Rattle.grammar.specs.Reading.{Read};
 ghost use Rattle.sd_graph.specs.Stating.{Ends};
 ghost use Rattle.wrap_bibtex.specs.Text.{bib_ending, item_steps, items_steps, macros_behind, limit_fault, IsItemFault};
-ghost use Rattle.wrap_bibtex.specs.Reading.{read_item};
+ghost use Rattle.bibtex_spec.specs.Reading.{read_item};
 
 use crate::bytes::behind_junk;
 use crate::halt::Halt;
-use crate::item::Item;
 use crate::macros::{Macros, months};
 use crate::reading::item_at;
 use crate::refusal::BibRefusal;
 use crate::statements::add_entry;
+use bibtex_spec::Item;
 use sd_graph::GraphBuilder;
 use sd_value::Str;
 use std::alloc::Global;

@@ -4,10 +4,10 @@
 ghost use Rattle.std.specs.Prelude.{List, ℕ};
 ghost use Rattle.sd_graph.specs.Statement.{Building};
 ghost use Rattle.wrap_bibtex.specs.Reads.{Reads, HasOneAnswer};
+ghost use Rattle.wrap_bibtex.specs.Spelled.{AnswersAsSpelled};
 
 mod bytes;
 mod halt;
-mod item;
 mod items;
 mod macros;
 mod reading;
@@ -26,13 +26,15 @@ use std::alloc::Global;
 /// type, with an edge for each field that isn't empty and one for each author and editor. After a
 /// refusal the graph has what the entries before its place state. Places count from behind a byte
 /// order mark, which is dropped.
+#[tactic(auto, using(crate::proofs::SpelledText::tells))]
 pub fn read_bibtex(
     alloc: Global,
     stem: &Str,
     bytes: &[u8],
     graph: &mut GraphBuilder,
 ) -> Result<(), BibRefusal>
-    ensures { Reads stem.now bytes.now graph.old graph.new result }
+    ensures reads { Reads stem.now bytes.now graph.old graph.new result }
+    ensures spelled { AnswersAsSpelled stem.now bytes.now graph.old graph.new result }
 {
     add_items(alloc, graph, stem, without_mark(bytes))
 }

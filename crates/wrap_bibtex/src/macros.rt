@@ -1,6 +1,6 @@
 // Macros by their names.
 ghost use Rattle.std.specs.Prelude.{◌≡◌, IfOk, OnOk, option_map, List, ℕ};
-ghost use Rattle.wrap_bibtex.specs.Macros.{MacroTexts, text_of, with_macro, months as month_macros};
+ghost use Rattle.bibtex_spec.specs.Macros.{MacroTexts, text_of, with_macro, months as month_macros};
 
 use sd_value::{NoMemory, Str};
 use std::alloc::Global;

@@ -1,17 +1,17 @@
 // The reader of single items.
 ghost use Rattle.std.specs.Prelude.{◌≡◌, ◌<◌, ◌≤◌, ◌∷◌, [], IfOk, length, nat_eq};
 ghost use Rattle.grammar.specs.Reading.{repeat, with_front, starts};
-ghost use Rattle.wrap_bibtex.specs.Bytes as specs;
+ghost use Rattle.bibtex_spec.specs.Bytes as specs;
 ghost use Rattle.wrap_bibtex.specs.Gives.{Gives};
-ghost use Rattle.wrap_bibtex.specs.Reading.{read_mark, read_open, read_class, read_name, read_key, read_digits, nesting as nesting_by, opened, read_enclosed, read_macro, read_piece, read_further, read_value, read_field, read_fields, read_entry, read_definition, read_preamble, read_rest, read_item};
+ghost use Rattle.bibtex_spec.specs.Reading.{read_mark, read_open, read_class, read_name, read_key, read_digits, nesting as nesting_by, opened, read_enclosed, read_macro, read_piece, read_further, read_value, read_field, read_fields, read_entry, read_definition, read_preamble, read_rest, read_item};
 
 use crate::bytes::{
     behind_blanks, digits, is_digit, is_key_byte, is_letter, key_bytes, letters, name_bytes,
 };
 use crate::halt::Halt;
-use crate::item::{Entry, Field, Fields, Item, Nesting};
 use crate::macros::Macros;
 use crate::values::{joined, tidy};
+use bibtex_spec::{Entry, Field, Fields, Item, Nesting};
 use sd_value::Str;
 use std::alloc::Global;
 
@@ -53,7 +53,7 @@ fn has_key(bytes: &[u8]) -> bool
 }
 
 /// This byte, and the blanks behind it.
-#[tactic(auto, unfolding(crate::specs::Reading::read_mark))]
+#[tactic(auto, unfolding(bibtex_spec::specs::Reading::read_mark))]
 fn mark_at(bytes: &[u8], mark: u8) -> Result<&[u8], Halt>
     ensures is { Gives (λ _. mark) (λ x. x.now) result (read_mark mark bytes.now) }
     ensures shorter { IfOk result (λ x. length x.now < length bytes.now) }
@@ -65,7 +65,7 @@ fn mark_at(bytes: &[u8], mark: u8) -> Result<&[u8], Halt>
 }
 
 /// An opening byte, and the one that closes.
-#[tactic(auto, unfolding(crate::specs::Reading::read_open))]
+#[tactic(auto, unfolding(bibtex_spec::specs::Reading::read_open))]
 fn open_at(bytes: &[u8]) -> Result<(u8, &[u8]), Halt>
     ensures is { Gives (λ x. x.0) (λ x. x.1.now) result (read_open bytes.now) }
     ensures shorter { IfOk result (λ x. length x.1.now < length bytes.now) }
@@ -78,7 +78,7 @@ fn open_at(bytes: &[u8]) -> Result<(u8, &[u8]), Halt>
 }
 
 /// A word behind `@`, in lower case.
-#[tactic(auto, unfolding(crate::specs::Reading::read_class))]
+#[tactic(auto, unfolding(bibtex_spec::specs::Reading::read_class))]
 fn class_at(alloc: Global, bytes: &[u8]) -> Result<(Str, &[u8]), Halt>
     ensures is { Gives (λ x. x.0) (λ x. x.1.now) result (read_class bytes.now) }
     ensures shorter { IfOk result (λ x. length x.1.now ≤ length bytes.now) }
@@ -92,7 +92,7 @@ fn class_at(alloc: Global, bytes: &[u8]) -> Result<(Str, &[u8]), Halt>
 }
 
 /// A name, in lower case.
-#[tactic(auto, unfolding(crate::specs::Reading::read_name))]
+#[tactic(auto, unfolding(bibtex_spec::specs::Reading::read_name))]
 fn name_at(alloc: Global, bytes: &[u8]) -> Result<(Str, &[u8]), Halt>
     ensures is { Gives (λ x. x.0) (λ x. x.1.now) result (read_name bytes.now) }
     ensures shorter { IfOk result (λ x. length x.1.now ≤ length bytes.now) }
@@ -106,7 +106,7 @@ fn name_at(alloc: Global, bytes: &[u8]) -> Result<(Str, &[u8]), Halt>
 }
 
 /// A key.
-#[tactic(auto, unfolding(crate::specs::Reading::read_key))]
+#[tactic(auto, unfolding(bibtex_spec::specs::Reading::read_key))]
 fn key_at(alloc: Global, bytes: &[u8]) -> Result<(Str, &[u8]), Halt>
     ensures is { Gives (λ x. x.0) (λ x. x.1.now) result (read_key bytes.now) }
     ensures shorter { IfOk result (λ x. length x.1.now ≤ length bytes.now) }
@@ -119,7 +119,7 @@ fn key_at(alloc: Global, bytes: &[u8]) -> Result<(Str, &[u8]), Halt>
     Ok((key, behind_blanks(rest)))
 }
 
-#[tactic(auto, unfolding(crate::specs::Reading::read_digits))]
+#[tactic(auto, unfolding(bibtex_spec::specs::Reading::read_digits))]
 fn digits_at(alloc: Global, bytes: &[u8]) -> Result<(Str, &[u8]), Halt>
     ensures is { Gives (λ x. x.0) (λ x. x.1.now) result (read_digits bytes.now) }
     ensures shorter { IfOk result (λ x. length x.1.now ≤ length bytes.now) }
@@ -177,7 +177,7 @@ fn opened_at(alloc: Global, bytes: &[u8], close: u8) -> Result<(Vec<u8>, &[u8]),
     Err(Halt::Expected(rest))
 }
 
-#[tactic(auto, unfolding(crate::specs::Reading::read_enclosed))]
+#[tactic(auto, unfolding(bibtex_spec::specs::Reading::read_enclosed))]
 fn enclosed_at(alloc: Global, bytes: &[u8], close: u8) -> Result<(Str, &[u8]), Halt>
     ensures is { Gives (λ x. x.0) (λ x. x.1.now) result (read_enclosed close bytes.now) }
     ensures shorter { IfOk result (λ x. length x.1.now ≤ length bytes.now) }
@@ -188,7 +188,7 @@ fn enclosed_at(alloc: Global, bytes: &[u8], close: u8) -> Result<(Str, &[u8]), H
 }
 
 /// A macro, and its text.
-#[tactic(auto, unfolding(crate::specs::Reading::read_macro))]
+#[tactic(auto, unfolding(bibtex_spec::specs::Reading::read_macro))]
 fn macro_at<'a>(
     alloc: Global,
     macros: &Macros,
@@ -204,7 +204,7 @@ fn macro_at<'a>(
     }
 }
 
-#[tactic(auto, unfolding(crate::specs::Reading::read_piece))]
+#[tactic(auto, unfolding(bibtex_spec::specs::Reading::read_piece))]
 fn piece_at<'a>(
     alloc: Global,
     macros: &Macros,
@@ -224,7 +224,7 @@ fn piece_at<'a>(
     }
 }
 
-#[tactic(auto, unfolding(crate::specs::Reading::read_further))]
+#[tactic(auto, unfolding(bibtex_spec::specs::Reading::read_further))]
 fn further_piece_at<'a>(
     alloc: Global,
     macros: &Macros,
@@ -260,7 +260,7 @@ fn further_pieces_at<'a>(
 }
 
 /// The texts of a value's pieces, joined. Blanks stay, since a macro's text is a part of others.
-#[tactic(auto, unfolding(crate::specs::Reading::read_value))]
+#[tactic(auto, unfolding(bibtex_spec::specs::Reading::read_value))]
 fn value_at<'a>(
     alloc: Global,
     macros: &Macros,
@@ -276,7 +276,7 @@ fn value_at<'a>(
     Ok((text, rest))
 }
 
-#[tactic(auto, unfolding(crate::specs::Reading::read_field))]
+#[tactic(auto, unfolding(bibtex_spec::specs::Reading::read_field))]
 fn field_at<'a>(
     alloc: Global,
     macros: &Macros,
@@ -293,7 +293,7 @@ fn field_at<'a>(
 }
 
 /// Fields, each behind a comma, and perhaps one comma more.
-#[tactic(auto, unfolding(crate::specs::Reading::read_fields))]
+#[tactic(auto, unfolding(bibtex_spec::specs::Reading::read_fields))]
 fn fields_at<'a>(
     alloc: Global,
     macros: &Macros,
@@ -316,7 +316,7 @@ fn fields_at<'a>(
     Ok((fields, rest))
 }
 
-#[tactic(auto, unfolding(crate::specs::Reading::read_entry))]
+#[tactic(auto, unfolding(bibtex_spec::specs::Reading::read_entry))]
 fn entry_at<'a>(
     alloc: Global,
     macros: &Macros,
@@ -341,7 +341,7 @@ fn entry_at<'a>(
     Ok((Item::Enters(entry), rest))
 }
 
-#[tactic(auto, unfolding(crate::specs::Reading::read_definition))]
+#[tactic(auto, unfolding(bibtex_spec::specs::Reading::read_definition))]
 fn definition_at<'a>(
     alloc: Global,
     macros: &Macros,
@@ -358,7 +358,7 @@ fn definition_at<'a>(
     Ok((Item::Defines(name, text), rest))
 }
 
-#[tactic(auto, unfolding(crate::specs::Reading::read_preamble))]
+#[tactic(auto, unfolding(bibtex_spec::specs::Reading::read_preamble))]
 fn preamble_at<'a>(
     alloc: Global,
     macros: &Macros,
@@ -395,7 +395,7 @@ fn rest_at<'a>(
 }
 
 /// The item that begins with the `@` here.
-#[tactic(auto, unfolding(crate::specs::Reading::read_item))]
+#[tactic(auto, unfolding(bibtex_spec::specs::Reading::read_item))]
 pub(crate) fn item_at<'a>(
     alloc: Global,
     macros: &Macros,

@@ -5,9 +5,9 @@ ghost use Rattle.sd_graph.specs.Stating.{says, Ends};
 ghost use Rattle.sd_graph.specs.StatingLaws.{ending_at};
 ghost use Rattle.wrap_bibtex.specs.Text.{bib_ending, text_step, texts_steps, field_steps, fields_steps, entry_steps};
 
-use crate::item::{Entry, Field};
 use crate::refusal::BibRefusal;
 use crate::values::texts_of;
+use bibtex_spec::{Entry, Field};
 use csv_source::value_of;
 use sd_graph::{GraphBuilder, GraphRefusal};
 use sd_value::{Str, Value};

@@ -1,9 +1,9 @@
 // The text of a value, and the texts that a field gives.
 ghost use Rattle.std.specs.Prelude.{◌≡◌, ◌<◌, ◌-◌, ◌^◌, ◌++◌, ◌∷◌, ◌&&◌, nat_eq, ◌≤◌, IsTrue, length, IfOk, OnOk, List, ℕ, map};
-ghost use Rattle.wrap_bibtex.specs.Values as specs;
+ghost use Rattle.bibtex_spec.specs.Values as specs;
 
 use crate::bytes::{behind_blanks, is_blank};
-use crate::item::Field;
+use bibtex_spec::Field;
 use sd_value::{NoMemory, Str};
 use std::alloc::Global;
 

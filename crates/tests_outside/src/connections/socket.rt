@@ -25,7 +25,7 @@ const WAITS: Waits = Waits {
 #[test]
 fn a_request_over_a_socket_has_its_reply(rt: HostRuntime) -> Result<(), Fail> {
     let alloc = rt.alloc();
-    let mut wire = TcpWire::new(&rt, WAITS);
+    let mut wire = TcpWire::new(alloc, &rt, WAITS);
     check(wire.listen(0, 1).is_ok(), "no socket")?;
     let port = wire.port().ok_or("no port")?;
     let address = SocketAddr::from(SocketAddrV4::new(Ipv4Addr::LOCALHOST, port));

@@ -91,6 +91,22 @@ const COMMANDS: &[CommandRow] = &[
         command: "help schema",
     },
     CommandRow {
+        words: &["check", "--here", "q", "c", "d"],
+        command: "check q c d",
+    },
+    CommandRow {
+        words: &["check", "q", "c", "d", "e", "--here"],
+        command: "check q c d e",
+    },
+    CommandRow {
+        words: &["check", "--here", "q", "c", "--", "--here"],
+        command: "check q c --here",
+    },
+    CommandRow {
+        words: &["help", "check"],
+        command: "help check",
+    },
+    CommandRow {
         words: &["trial", "1"],
         command: "trial 1",
     },
@@ -261,6 +277,15 @@ const NO_COMMANDS: &[&[&str]] = &[
     &["schema", "--dot", "--dot", "q"],
     &["schema", "--dot", "q", "--", "--dot"],
     &["--dot", "schema", "q"],
+    &["check", "q", "c", "d"],
+    &["check", "q", "c"],
+    &["check", "--here", "q", "c"],
+    &["check", "--here"],
+    &["check", "--dot", "q", "c", "d"],
+    &["check", "--here=1", "q", "c", "d"],
+    &["check", "--here", "--here", "q", "c", "d"],
+    &["check", "q", "c", "d", "--", "--here"],
+    &["--here", "check", "q", "c", "d"],
     &["serve", "-p", "q", "t", "d"],
     &["serve", "--help", "q", "t", "d"],
     &["serve", "--Port=1", "q", "t", "d"],

@@ -51,6 +51,7 @@ fn name_text(name: CommandName) -> &'static [u8] {
         CommandName::Data => b"help data",
         CommandName::Explain => b"help explain",
         CommandName::Schema => b"help schema",
+        CommandName::Check => b"help check",
         CommandName::Serve => b"help serve",
         CommandName::Replay => b"help replay",
         CommandName::Trial => b"help trial",
@@ -82,6 +83,10 @@ pub fn command_text(alloc: Global, command: &Command) -> Result<Vec<u8>, NoMemor
         Command::Schema(c) => {
             let numbers: &[u64] = if c.dot { &[1] } else { &[] };
             named(alloc, b"schema", &[&c.query], &[], numbers)
+        }
+        Command::Check(c) => {
+            let paths = [&c.query, &c.constraints];
+            named(alloc, b"check", &paths, c.sources.items(), &[])
         }
         Command::Serve(c) => {
             let paths = [&c.query, &c.templates];

@@ -16,8 +16,9 @@ returns c =
     let s3 = next_command _ _ _ _ (codes "data") [] c.in_ok-subcommand-3.ensures c.in_ok-command_of-3.ensures s2 in
     let s4 = next_command _ _ _ _ (codes "explain") [] c.in_ok-subcommand-4.ensures c.in_ok-command_of-4.ensures s3 in
     let s5 = next_command _ _ _ _ (codes "schema") [] c.in_ok-subcommand-5.ensures c.in_ok-command_of-5.ensures s4 in
-    let s6 = next_command _ _ _ _ (codes "serve") serve_numbers c.in_ok-subcommand-6.ensures c.in_ok-command_of-6.ensures s5 in
-    let s7 = next_command _ _ _ _ (codes "replay") run_numbers c.in_ok-subcommand-7.ensures c.in_ok-command_of-7.ensures s6 in
-    let s8 = next_command _ _ _ _ (codes "trial") [] c.in_ok-subcommand-8.ensures c.in_ok-command_of-8.ensures s7 in
-    let s9 = next_command _ _ _ _ (codes "help") [] c.in_ok-subcommand-9.ensures c.in_ok-command_of-9.ensures s8 in
-    next_command _ _ _ _ (codes "version") [] c.in_ok-program.ensures c.in_ok-command_of-10.ensures s9
+    let s6 = next_command _ _ _ _ (codes "check") [] c.in_ok-subcommand-6.ensures c.in_ok-command_of-6.ensures s5 in
+    let s7 = next_command _ _ _ _ (codes "serve") serve_numbers c.in_ok-subcommand-7.ensures c.in_ok-command_of-7.ensures s6 in
+    let s8 = next_command _ _ _ _ (codes "replay") run_numbers c.in_ok-subcommand-8.ensures c.in_ok-command_of-8.ensures s7 in
+    let s9 = next_command _ _ _ _ (codes "trial") [] c.in_ok-subcommand-9.ensures c.in_ok-command_of-9.ensures s8 in
+    let s10 = next_command _ _ _ _ (codes "help") [] c.in_ok-subcommand-10.ensures c.in_ok-command_of-10.ensures s9 in
+    next_command _ _ _ _ (codes "version") [] c.in_ok-program.ensures c.in_ok-command_of-11.ensures s10

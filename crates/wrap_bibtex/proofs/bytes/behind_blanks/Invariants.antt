@@ -1,5 +1,5 @@
 use Rattle.std.proofs.Common.{◌≡◌, ◌≤◌, length}
-use Rattle.wrap_bibtex.specs.Bytes.{is_blank, behind}
+use Rattle.bibtex_spec.specs.Bytes.{is_blank, behind}
 use Rattle.wrap_bibtex.proofs.bytes.behind_blanks.Given as goal
 
 abbrev pub invariant-blanks : goal.invariant-blanks

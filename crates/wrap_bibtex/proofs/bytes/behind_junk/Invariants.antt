@@ -1,5 +1,5 @@
 use Rattle.std.proofs.Common.{◌≡◌, ◌≤◌, length}
-use Rattle.wrap_bibtex.specs.Bytes.{is_junk, behind}
+use Rattle.bibtex_spec.specs.Bytes.{is_junk, behind}
 use Rattle.wrap_bibtex.proofs.bytes.behind_junk.Given as goal
 
 abbrev pub invariant-junk : goal.invariant-junk

@@ -1,5 +1,5 @@
-use Rattle.std.proofs.Common.{◌≡◌, ◌≤◌, length}
-use Rattle.wrap_bibtex.specs.Bytes.{is_digit, behind}
+use Rattle.std.proofs.Common.{length}
+use Rattle.bibtex_spec.specs.Bytes.{is_digit}
 use Rattle.wrap_bibtex.proofs.Runs.{IsFront}
 use Rattle.wrap_bibtex.proofs.bytes.digits.Given as goal
 

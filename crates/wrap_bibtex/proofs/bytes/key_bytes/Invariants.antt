@@ -1,5 +1,5 @@
-use Rattle.std.proofs.Common.{◌≡◌, ◌≤◌, length}
-use Rattle.wrap_bibtex.specs.Bytes.{is_key_byte, behind}
+use Rattle.std.proofs.Common.{length}
+use Rattle.bibtex_spec.specs.Bytes.{is_key_byte}
 use Rattle.wrap_bibtex.proofs.Runs.{IsFront}
 use Rattle.wrap_bibtex.proofs.bytes.key_bytes.Given as goal
 

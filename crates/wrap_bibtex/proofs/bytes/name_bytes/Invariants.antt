@@ -1,5 +1,5 @@
-use Rattle.std.proofs.Common.{◌≡◌, ◌≤◌, length}
-use Rattle.wrap_bibtex.specs.Bytes.{is_name_byte, behind}
+use Rattle.std.proofs.Common.{length}
+use Rattle.bibtex_spec.specs.Bytes.{is_name_byte}
 use Rattle.wrap_bibtex.proofs.Runs.{IsLowerFront}
 use Rattle.wrap_bibtex.proofs.bytes.name_bytes.Given as goal
 

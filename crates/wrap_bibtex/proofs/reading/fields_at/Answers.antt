@@ -1,7 +1,7 @@
 use Rattle.std.proofs.Common.{◌≡◌, true, sym, ◌∙◌, arith}
 use Rattle.std.specs.Prelude.{nat_eq}
 use Rattle.grammar.specs.Reading.{starts}
-use Rattle.wrap_bibtex.specs.Reading.{read_fields}
+use Rattle.bibtex_spec.specs.Reading.{read_fields}
 use Rattle.wrap_bibtex.proofs.Loops.{field_listed}
 use Rattle.wrap_bibtex.proofs.reading.fields_at.Goals as goal
 

@@ -1,5 +1,5 @@
 use Rattle.std.proofs.Common.{◌≤◌, length}
-use Rattle.wrap_bibtex.specs.Reading.{read_fields}
+use Rattle.bibtex_spec.specs.Reading.{read_fields}
 use Rattle.wrap_bibtex.proofs.Loops.{IsListed}
 use Rattle.wrap_bibtex.proofs.reading.fields_at.Given as goal
 

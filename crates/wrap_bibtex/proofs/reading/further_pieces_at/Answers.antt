@@ -1,7 +1,7 @@
 use Rattle.std.proofs.Common.{◌≡◌, true, [], ◌∷◌, sym, ◌∙◌, arith}
 use Rattle.std.specs.Prelude.{nat_eq}
 use Rattle.grammar.specs.Reading.{starts, repeat, with_front}
-use Rattle.wrap_bibtex.specs.Reading.{read_further}
+use Rattle.bibtex_spec.specs.Reading.{read_further}
 use Rattle.wrap_bibtex.proofs.Loops.{starts_so, goes_on}
 use Rattle.wrap_bibtex.proofs.reading.further_pieces_at.Goals as goal
 

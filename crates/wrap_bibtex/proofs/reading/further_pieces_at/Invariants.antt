@@ -1,7 +1,7 @@
 use Rattle.std.proofs.Common.{◌≤◌, [], ◌∷◌, length}
 use Rattle.std.specs.Prelude.{nat_eq}
 use Rattle.grammar.specs.Reading.{repeat, with_front}
-use Rattle.wrap_bibtex.specs.Reading.{read_further}
+use Rattle.bibtex_spec.specs.Reading.{read_further}
 use Rattle.wrap_bibtex.proofs.Loops.{IsRepeated}
 use Rattle.wrap_bibtex.proofs.reading.further_pieces_at.Given as goal
 

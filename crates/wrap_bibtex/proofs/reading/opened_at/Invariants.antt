@@ -1,6 +1,6 @@
 use Rattle.std.proofs.Common.{◌≡◌, ◌≤◌, length}
 use Rattle.grammar.specs.Reading.{with_front}
-use Rattle.wrap_bibtex.specs.Reading.{opened, enclosed}
+use Rattle.bibtex_spec.specs.Reading.{opened, enclosed}
 use Rattle.wrap_bibtex.proofs.reading.opened_at.Given as goal
 
 abbrev pub invariant-bytes : goal.invariant-bytes

@@ -1,5 +1,5 @@
 use Rattle.std.proofs.Common.{◌≡◌, take}
-use Rattle.wrap_bibtex.specs.Values.{joined}
+use Rattle.bibtex_spec.specs.Values.{joined}
 use Rattle.wrap_bibtex.proofs.values.joined.Given as goal
 
 abbrev pub invariant-loop-text : goal.invariant-loop-text

@@ -1,5 +1,5 @@
 use Rattle.std.proofs.Common.{◌≡◌, ◌++◌, length}
-use Rattle.wrap_bibtex.specs.Values.{tidy, tidy_from}
+use Rattle.bibtex_spec.specs.Values.{tidy, tidy_from}
 use Rattle.wrap_bibtex.proofs.values.tidy.Given as goal
 
 abbrev pub invariant-bytes : goal.invariant-bytes

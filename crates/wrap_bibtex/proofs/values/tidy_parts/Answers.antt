@@ -1,6 +1,6 @@
 use Rattle.std.proofs.Common.{◌≡◌, true, false, sym, ◌∙◌}
 use Rattle.std.specs.Prelude.{nat_eq, ◌&&◌}
-use Rattle.wrap_bibtex.specs.Values.{begins_and}
+use Rattle.bibtex_spec.specs.Values.{begins_and}
 use Rattle.wrap_bibtex.proofs.Tidied.{split_at_and, split_goes_on, split_ends, both, no_depth, none_left}
 use Rattle.wrap_bibtex.proofs.values.tidy_parts.Goals as goal
 

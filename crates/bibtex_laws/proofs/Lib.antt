@@ -1,0 +1,13 @@
+pub mod Words
+pub mod Braces
+pub mod Enclosed
+pub mod Marks
+pub mod Macros
+pub mod Pieces
+pub mod Values
+pub mod Fields
+pub mod Known
+pub mod Entries
+pub mod Items
+pub mod Same
+pub mod Whole

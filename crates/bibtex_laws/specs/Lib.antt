@@ -1,0 +1,4 @@
+pub mod Braces
+pub mod Grammar
+pub mod Limits
+pub mod Faults

@@ -1,0 +1,4 @@
+pub mod Bytes
+pub mod Values
+pub mod Macros
+pub mod Reading

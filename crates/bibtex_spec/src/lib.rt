@@ -1,0 +1,75 @@
+//! How BibTeX is read: its bytes, values and macros, and what an item spells. This crate holds definitions, and the types
+//! of items.
+#![tactic(auto)]
+
+ghost use Rattle.std.specs.Prelude.{◌≡◌, List};
+ghost use Rattle.bibtex_spec.specs.declared.Field.{Field};
+
+use sd_value::Str;
+use std::marker::Model;
+
+/// A field's name, in lower case, and the text of its value.
+#[derive(Drop)]
+pub struct Field {
+    pub name: Str,
+    pub text: Str,
+}
+
+/// The fields of an entry.
+#[derive(Drop)]
+pub struct Fields {
+    items: Vec<Field>,
+}
+
+impl Model for Fields {
+    ghost Value = { List Field };
+
+    ghost view = { λ w. w.items.items };
+}
+
+impl Fields {
+    /// Fields in this order.
+    pub fn new(items: Vec<Field>) -> Fields
+        ensures { result ≡ items.items }
+    {
+        Fields { items }
+    }
+
+    /// The fields, in order.
+    pub fn items(&self) -> &[Field]
+        ensures { result.now ≡ self.now }
+    {
+        self.items.as_slice()
+    }
+}
+
+/// An entry. Its type is in lower case, and `left` bytes of the text are left from its key on.
+#[derive(Drop)]
+pub struct Entry {
+    pub class: Str,
+    pub key: Str,
+    pub left: u64,
+    pub fields: Fields,
+}
+
+/// What begins with an `@`.
+#[derive(Drop)]
+pub enum Item {
+    /// A comment or a preamble.
+    Passes,
+    /// A macro's name, in lower case, and its text.
+    Defines(Str, Str),
+    Enters(Entry),
+}
+
+/// What a byte does to a text that ends at a closing byte.
+#[derive(Clone, Copy)]
+pub enum Nesting {
+    Closes,
+    /// This brace closes nothing.
+    Unpaired,
+    /// This brace is within 64 that are open.
+    TooDeep,
+    /// The text goes on, with so many open.
+    Goes(u64),
+}

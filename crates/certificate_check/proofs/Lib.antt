@@ -1,0 +1,4 @@
+pub mod Steps
+pub mod UseSteps
+pub mod Chains
+pub mod Decided

@@ -1,0 +1,38 @@
+//! Whether a certificate is one.
+#![tactic(auto)]
+
+ghost use Rattle.std.specs.Prelude.{IfOk};
+ghost use Rattle.std.specs.Bool.{Decides};
+ghost use Rattle.site_spec.specs.Site.{scope_of as scope_of_query};
+ghost use Rattle.constraint_spec.specs.Certificate.{IsCertificate};
+
+mod links;
+mod names;
+mod testing;
+mod uses;
+
+use certificates::Certificate;
+use constraint_spec::Constraint;
+use inclusion_table::Inclusions;
+use query_scoping::scopes;
+use sd_value::NoMemory;
+use std::alloc::Global;
+use struql_check::Checked;
+pub use testing::passes_tests;
+
+/// Whether the certificate shows that the query's site meets the constraint over every data graph:
+/// true exactly for certificates of the constraint.
+pub fn recheck(
+    alloc: Global,
+    query: &Checked,
+    constraint: &Constraint,
+    certificate: &Certificate,
+) -> Result<bool, NoMemory>
+    ensures { IfOk result (λ b. Decides b
+        (IsCertificate (scope_of_query query.now) constraint.now certificate.now)) }
+{
+    let blocks = scopes(alloc, query)?;
+    let table = Inclusions::of(alloc, &blocks)?;
+    let passes = passes_tests(alloc, &table, &blocks, constraint, certificate)?;
+    Ok(passes)
+}

@@ -1,0 +1,20 @@
+use Rattle.std.proofs.Common.{◌≡◌, ◌∷◌, drop, length}
+use Rattle.std.specs.Prelude.{map}
+use Rattle.std.specs.List.{flat_map}
+use Rattle.struql_ast.specs.Reading.{operand_of, term_of}
+use Rattle.query_blocks.specs.Blocks.{scope_of}
+use Rattle.constraint_search.specs.Options.{fold_over}
+use Rattle.constraint_search.specs.Search.{choices, add_source}
+use Rattle.certificate_search.specs.Links.{numbered_of}
+use Rattle.certificate_search.specs.Reaching.{reached_of, with_args}
+use Rattle.certificate_search.proofs.sources.+add_choices.Given as goal
+
+abbrev pub invariant-loop-choice : goal.invariant-loop-choice
+invariant-loop-choice g l =
+    let added = add_source (g.J.Judge.tests l.query.judge.now) (scope_of l.query.blocks.now) l.given.conditions (reached_of l.from) (numbered_of l.link) in
+    let cs = choices l.given.variables (map operand_of l.rest) in
+    fold_over added (map reached_of l.seen.items) (with_args (term_of l.source) (flat_map (λ a. map (λ bs. a ∷ bs) cs) (map operand_of (drop l.choice-index l.choice-items))))
+    ≡ fold_over added (map reached_of l.initial.seen.items) (with_args (term_of l.source) (flat_map (λ a. map (λ bs. a ∷ bs) cs) (map operand_of l.choice-items)))
+
+abbrev pub decreases-add_choices : goal.decreases-add_choices
+decreases-add_choices g l = length l.left.now

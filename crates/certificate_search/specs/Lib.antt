@@ -1,0 +1,3 @@
+pub mod Links
+pub mod Reaching
+pub mod Uses

@@ -1,0 +1,48 @@
+// Equal terms.
+
+ghost use Rattle.std.specs.Prelude.{◌≡◌, [], map};
+ghost use Rattle.struql_ast.specs.Reading.{operand_of, term_of};
+ghost use Rattle.constraint_recheck.specs.Same.{same_list, same_operand, same_term};
+ghost use Rattle.constraint_search.specs.Search.{root_term};
+
+use entailment::same_operands;
+use sd_value::Str;
+use struql_ast::{Operand, SkolemTerm};
+
+fn same_args(args: &[Operand], others: &[Operand]) -> bool
+    ensures { result
+        ≡ same_list same_operand (map operand_of args.now) (map operand_of others.now) }
+{
+    if args.len() != others.len() {
+        return false;
+    }
+    for (place, arg) in args.iter().enumerate() {
+        if !same_operands(arg, &others[place]) {
+            return false;
+        }
+    }
+    true
+}
+
+/// Whether two terms are the same, their places aside.
+pub fn same_terms(one: &SkolemTerm, other: &SkolemTerm) -> bool
+    ensures { result ≡ same_term (term_of one.now) (term_of other.now) }
+{
+    one.function == other.function && same_args(&one.args, &other.args)
+}
+
+fn are_none(args: &[Operand]) -> bool
+    ensures { result ≡ same_list same_operand (map operand_of args.now) [] }
+{
+    match args {
+        [] => true,
+        [_, ..] => false,
+    }
+}
+
+/// Whether the term is the function's without arguments.
+pub fn is_root(term: &SkolemTerm, function: &Str) -> bool
+    ensures { result ≡ same_term (term_of term.now) (root_term function.now) }
+{
+    term.function == *function && are_none(&term.args)
+}

@@ -1,0 +1,4 @@
+pub mod TermLists
+pub mod VariableLists
+pub mod LineLists
+pub mod NamedMentions

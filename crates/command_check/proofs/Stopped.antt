@@ -1,0 +1,45 @@
+-- A part behind others, and the causes of faults.
+use Rattle.std.proofs.Common.{◌≡◌, ℕ, List, inl, inr}
+use Rattle.std.specs.Prelude.{Result, Ok, Err}
+use Rattle.edge_io.specs.Files.{FileMap}
+use Rattle.edge_io.specs.Counts.{NoneFell}
+use Rattle.graph_spec.specs.DataGraph.{DataGraph}
+use Rattle.query_spec.specs.Query as plain
+use Rattle.constraint_spec.specs.declared.Constraint.{Constraint}
+use Rattle.constraint_report.specs.declared.report.Report.{Report}
+use Rattle.site_inputs.specs.declared.fault.Fault.{Fault}
+use Rattle.site_inputs.specs.declared.fault.Fault.TheVariants.{Refused, Unread, Faulty, NotFound, NoMemory}
+use Rattle.site_inputs.specs.Runs.{Then, ReadsHaveCause}
+use Rattle.site_inputs.specs.Sources.{GraphEnds, empty_building}
+use Rattle.site_inputs.specs.Sites.{QueryEnds}
+use Rattle.command_check.specs.ConstraintFile.{ConstraintsEnd}
+use Rattle.command_check.specs.Ends.{ReportTaken, HereEnds}
+
+pub then_next : {A B : Type 0} (First : Result A Fault → Type 0) (Next : A → Result B Fault → Type 0) (a : A) (result : Result B Fault) → First (Ok a) → Next a result → Then First Next result
+then_next First Next a (Ok b) first next = record { value = a; first = first; next = next }
+then_next First Next a (Err fault) first next = inr record { value = a; first = first; next = next }
+
+-- all inputs were accepted
+pub all_taken : (map : FileMap) (sources : List (List ℕ)) (query_path constraints_path : List ℕ) (graph : DataGraph) (query : plain.Query) (constraints : List Constraint) (result : Result Report Fault)
+    → GraphEnds map empty_building sources (Ok graph) → QueryEnds map query_path (Ok query) → ConstraintsEnd query map constraints_path (Ok constraints) → ReportTaken graph query constraints result
+    → HereEnds map sources query_path constraints_path result
+all_taken map sources query_path constraints_path graph query constraints result g q c r =
+    then_next (GraphEnds map empty_building sources) (λ graph. Then (QueryEnds map query_path) (λ query. Then (ConstraintsEnd query map constraints_path) (ReportTaken graph query))) graph result g
+    (then_next (QueryEnds map query_path) (λ query. Then (ConstraintsEnd query map constraints_path) (ReportTaken graph query)) query result q
+    (then_next (ConstraintsEnd query map constraints_path) (ReportTaken graph query) constraints result c r))
+
+-- a fault of the constraints, after data and a query
+pub constraints_fault : (map : FileMap) (sources : List (List ℕ)) (query_path constraints_path : List ℕ) (graph : DataGraph) (query : plain.Query) (fault : Fault)
+    → GraphEnds map empty_building sources (Ok graph) → QueryEnds map query_path (Ok query) → ConstraintsEnd query map constraints_path (Err fault)
+    → HereEnds map sources query_path constraints_path (Err fault)
+constraints_fault map sources query_path constraints_path graph query fault g q refused =
+    inr (record { value = graph; first = g; next = inr (record { value = query; first = q; next = inl refused }) })
+
+-- testing constraints reads no file
+pub report_cause : (graph : DataGraph) (query : plain.Query) (constraints : List Constraint) (paths : List (List ℕ)) (before now : List ℕ → ℕ) (result : Result Report Fault) → NoneFell before now → ReportTaken graph query constraints result → ReadsHaveCause paths before now result
+report_cause graph query constraints paths before now (Ok r) later taken = record { later = later; failed = tt }
+report_cause graph query constraints paths before now (Err NoMemory) later taken = record { later = later; failed = tt }
+report_cause graph query constraints paths before now (Err (Refused refusal)) later taken = absurd taken
+report_cause graph query constraints paths before now (Err (Unread path)) later taken = absurd taken
+report_cause graph query constraints paths before now (Err (Faulty term kind)) later taken = absurd taken
+report_cause graph query constraints paths before now (Err NotFound) later taken = absurd taken

@@ -1,0 +1,36 @@
+-- The command `check --here`: whether the query's site over the data meets each of the constraints of a file.
+use Rattle.std.specs.Prelude.{ℕ, List, [], ◌∷◌, ◌++◌, Result, Ok, Err, ⊤}
+use Rattle.edge_io.specs.Files.{FileMap}
+use Rattle.graph_spec.specs.DataGraph.{DataGraph}
+use Rattle.query_spec.specs.Query as plain
+use Rattle.site_spec.specs.Site.{scope_of}
+use Rattle.constraint_spec.specs.declared.Constraint.{Constraint}
+use Rattle.constraint_spec.specs.Meets.{Meets}
+use Rattle.constraint_report.specs.declared.report.Report.{Report}
+use Rattle.constraint_report.specs.Report.{IsReport}
+use Rattle.site_inputs.specs.declared.fault.Fault.{Fault}
+use Rattle.site_inputs.specs.declared.fault.Fault.TheVariants.{NoMemory}
+use Rattle.site_inputs.specs.Runs.{Then}
+use Rattle.site_inputs.specs.Sources.{GraphEnds, empty_building}
+use Rattle.site_inputs.specs.Sites.{QueryEnds}
+use Rattle.command_check.specs.ConstraintFile.{ConstraintsEnd}
+
+-- the files that are read, in this order: the data, the query and the constraints
+abbrev pub here_paths : (sources : List (List ℕ)) (query constraints : List ℕ) → List (List ℕ)
+here_paths sources query constraints = sources ++ (query ∷ constraints ∷ [])
+
+-- How testing constraints in a query's site over a graph ends: with their report.
+abbrev pub ReportTaken
+    : DataGraph → plain.Query → List Constraint → Result Report Fault → Type 0
+ReportTaken graph query constraints (Ok r) =
+    IsReport (Meets graph (scope_of query)) constraints r.text r.all_met
+ReportTaken graph query constraints (Err NoMemory) = ⊤
+ReportTaken graph query constraints (Err fault) = ⊥
+
+-- How the command ends: with the report of the file's constraints over the graph that all data files state.
+abbrev pub HereEnds : FileMap → (sources : List (List ℕ)) (query constraints : List ℕ)
+    → Result Report Fault → Type 0
+HereEnds map sources query_path constraints_path =
+    Then (GraphEnds map empty_building sources)
+    (λ graph. Then (QueryEnds map query_path)
+    (λ query. Then (ConstraintsEnd query map constraints_path) (ReportTaken graph query)))

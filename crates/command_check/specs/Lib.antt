@@ -1,0 +1,2 @@
+pub mod ConstraintFile
+pub mod Ends

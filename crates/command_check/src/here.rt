@@ -1,0 +1,57 @@
+// The report of constraints in a query's site over data.
+ghost use Rattle.std.specs.Prelude.{◌≡◌};
+ghost use Rattle.std.specs.Option.{ForSome};
+ghost use Rattle.site_inputs.specs.Runs.{ReadsHaveCause};
+ghost use Rattle.command_check.specs.Ends.{ReportTaken, HereEnds, here_paths};
+
+use crate::constraint_file::load_constraints;
+use bindings::StoreAsker;
+use constraint_report::{Report, report_of};
+use constraint_spec::Constraint;
+use edge_io::Files;
+use index_store::IndexStore;
+use query_scoping::scopes;
+use sd_graph::Graph;
+use sd_value::Str;
+use site_inputs::{Fault, load_graph, load_query};
+use std::alloc::Global;
+use struql_check::Checked;
+
+fn report_over(
+    alloc: Global,
+    graph: Graph,
+    query: &Checked,
+    constraints: &[Constraint],
+) -> Result<Report, Fault>
+    ensures { ReportTaken graph query.now constraints.now result }
+{
+    let scopes = scopes(alloc, query)?;
+    let store = IndexStore::of(alloc, graph)?;
+    let asker = StoreAsker::of(store);
+    let report = report_of(alloc, asker, &scopes, constraints)?;
+    Ok(report)
+}
+
+/// Whether the query's site over the data meets each of the constraints of a file: a line for each, and whether all are
+/// met.
+/// # Errors
+/// The first of the data files, the query and the constraints that is refused or unread, or out of memory.
+pub fn check_here<F: Files>(
+    alloc: Global,
+    files: &mut F,
+    sources: &[Str],
+    query: &Str,
+    constraints: &Str,
+) -> Result<Report, Fault>
+    ensures ends { ForSome (F.contents files.old) (λ map.
+        HereEnds map sources.now query.now constraints.now result) }
+    ensures same { F.contents files.new ≡ F.contents files.old }
+    ensures cause { ReadsHaveCause (here_paths sources.now query.now constraints.now)
+        (F.failed_reads files.old) (F.failed_reads files.new) result }
+    ensures writes { F.failed_writes files.new ≡ F.failed_writes files.old }
+{
+    let graph = load_graph(alloc, files, sources)?;
+    let query = load_query(alloc, files, query)?;
+    let constraints = load_constraints(alloc, files, &query, constraints)?;
+    report_over(alloc, graph, &query, constraints.as_slice())
+}

@@ -1,0 +1,4 @@
+pub mod Shown
+pub mod Verdicts
+pub mod Found
+pub mod Zipped

@@ -1,0 +1,7 @@
+//! Which of some integrity constraints a query's site meets, and the lines that say so.
+#![tactic(auto)]
+
+mod lines;
+mod report;
+
+pub use report::{Report, report_of};

@@ -1,0 +1,3 @@
+pub mod Deeper
+pub mod Extending
+pub mod Steps

@@ -1,0 +1,4 @@
+pub mod Lists
+pub mod Carried
+pub mod Named
+pub mod Tested

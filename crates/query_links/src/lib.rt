@@ -1,0 +1,12 @@
+//! What constraints ask of a query's text: where terms of a function are written, and which links of
+//! a function may carry a label.
+#![tactic(auto)]
+
+mod carriers;
+mod determined;
+mod labels;
+mod written;
+
+pub use carriers::{each_may, is_single};
+pub use labels::{AskedLabel, is_of};
+pub use written::{Mention, mentions};

@@ -1,0 +1,5 @@
+pub mod Alike
+pub mod Adding
+pub mod EachPage
+pub mod Reaching
+pub mod Whole

@@ -1,0 +1,471 @@
+// Constraints of small queries, each with the verdict that was worked out by hand.
+use crate::checks::check;
+use certificates::Verdict;
+use constraint_prover::prove;
+use constraints::parse_constraints;
+use query_reader::read_query;
+use std::alloc::Global;
+use std::test::Fail;
+
+/// A constraint, and whether it has a certificate.
+pub struct VerdictRow {
+    pub query: &'static str,
+    pub constraint: &'static str,
+    pub yes: bool,
+    pub reason: &'static str,
+}
+
+// Whether each constraint of the text has a certificate.
+fn are_shown(alloc: Global, query: &str, constraints: &str) -> Result<bool, Fail> {
+    let checked = read_query(alloc, query.as_bytes(), 65_536)?;
+    for constraint in &parse_constraints(alloc, constraints.as_bytes(), 65_536, &checked)? {
+        let verdict = prove(alloc, &checked, constraint)?;
+        match &verdict {
+            Verdict::Yes(_) => {}
+            Verdict::Unknown => return Ok(false),
+        }
+    }
+    Ok(true)
+}
+
+/// Fails at the first row that is answered otherwise.
+pub fn check_rows(alloc: Global, rows: &[VerdictRow]) -> Result<(), Fail> {
+    for row in rows {
+        check(
+            are_shown(alloc, row.query, row.constraint)? == row.yes,
+            row.reason,
+        )?;
+    }
+    Ok(())
+}
+
+const PAPERS: &str = "INPUT Bib CREATE RootPage() \
+    WHERE Publications(x), x -> l -> v CREATE PaperPage(x) \
+    LINK PaperPage(x) -> l -> v, RootPage() -> \"Paper\" -> PaperPage(x) \
+    { WHERE l = \"year\" CREATE YearPage(v) \
+    LINK YearPage(v) -> \"Year\" -> v, YearPage(v) -> \"Paper\" -> PaperPage(x), \
+    RootPage() -> \"Year\" -> YearPage(v) } OUTPUT Home";
+
+const CONSTRAINTS_OF_THE_PAPERS: &[VerdictRow] = &[
+    VerdictRow {
+        query: PAPERS,
+        constraint: "ONLY YearPage LINKS \"Paper\" TO PaperPage",
+        yes: true,
+        reason: "Link 4 alone carries Paper from a year's page, and ends at a paper's.",
+    },
+    VerdictRow {
+        query: PAPERS,
+        constraint: "ONE YearPage LINKS \"Year\"",
+        yes: true,
+        reason: "Link 3 alone carries Year, and v is among its source's variables.",
+    },
+    VerdictRow {
+        query: PAPERS,
+        constraint: "NONE PaperPage LINKS \"x\"",
+        yes: false,
+        reason: "Link 1 may carry any label.",
+    },
+    VerdictRow {
+        query: PAPERS,
+        constraint: "REACHABLE PaperPage FROM RootPage",
+        yes: true,
+        reason: "Link 2 is in the block of each mention, or in the block round it.",
+    },
+    VerdictRow {
+        query: PAPERS,
+        constraint: "REACHABLE YearPage FROM RootPage",
+        yes: true,
+        reason: "Link 5 leads to each year's page.",
+    },
+    VerdictRow {
+        query: PAPERS,
+        constraint: "REACHABLE RootPage FROM RootPage",
+        yes: true,
+        reason: "A page that is the root itself needs no link.",
+    },
+    VerdictRow {
+        query: PAPERS,
+        constraint: "EACH YearPage LINKS \"Paper\" TO PaperPage",
+        yes: true,
+        reason: "Link 4 shows it of each mention of a year's page.",
+    },
+    VerdictRow {
+        query: PAPERS,
+        constraint: "EACH RootPage LINKS \"Paper\" TO PaperPage",
+        yes: false,
+        reason: "The home page is created without any row, so it may have no paper.",
+    },
+    VerdictRow {
+        query: PAPERS,
+        constraint: "EACH PaperPage LINKS \"isbn\" TO YearPage",
+        yes: false,
+        reason: "A paper's label is a variable: no link is quoted.",
+    },
+    VerdictRow {
+        query: PAPERS,
+        constraint: "ONE YearPage LINKS \"Paper\"",
+        yes: false,
+        reason: "The target's x is no variable of a year's page.",
+    },
+    VerdictRow {
+        query: PAPERS,
+        constraint: "NONE RootPage LINKS \"title\"",
+        yes: true,
+        reason: "Links 2 and 5 carry Paper and Year, and nothing else.",
+    },
+    VerdictRow {
+        query: PAPERS,
+        constraint: "NONE RootPage LINKS \"Paper\"",
+        yes: false,
+        reason: "Links 2 and 5 carry Paper and Year, and nothing else.",
+    },
+    VerdictRow {
+        query: PAPERS,
+        constraint: "ONLY PaperPage LINKS \"Year\" TO YearPage",
+        yes: false,
+        reason: "Link 1 may carry Year, and ends at a value.",
+    },
+];
+
+// The five links: 1 PaperPage(x) -> l -> v, 2 RootPage() -> "Paper" -> PaperPage(x), and where
+// l = "year" 3 YearPage(v) -> "Year" -> v, 4 YearPage(v) -> "Paper" -> PaperPage(x),
+// 5 RootPage() -> "Year" -> YearPage(v).
+#[test]
+fn constraints_of_the_papers(rt: HostRuntime) -> Result<(), Fail> {
+    check_rows(rt.alloc(), CONSTRAINTS_OF_THE_PAPERS)
+}
+
+const TITLED: &str = "INPUT Bib CREATE RootPage() \
+    WHERE Publications(x), x -> l -> v CREATE PaperPage(x) LINK PaperPage(x) -> l -> v \
+    { WHERE l = \"title\" LINK RootPage() -> \"Paper\" -> PaperPage(x) } OUTPUT Home";
+
+const A_HOME_PAGE_OF_TITLED_PAPERS: &[VerdictRow] = &[VerdictRow {
+    query: TITLED,
+    constraint: "REACHABLE PaperPage FROM RootPage",
+    yes: false,
+    reason: "A paper without a title has a page, and no link to it.",
+}];
+
+#[test]
+fn a_home_page_of_titled_papers(rt: HostRuntime) -> Result<(), Fail> {
+    check_rows(rt.alloc(), A_HOME_PAGE_OF_TITLED_PAPERS)
+}
+
+const LISTED: &str =
+    "INPUT D WHERE C(x), x -> a -> y, a in {5} CREATE F(x) LINK F(x) -> a -> y OUTPUT S";
+
+const LISTED_2: &str =
+    "STRUQL 2 INPUT D WHERE C(x), x -> a -> y, a in {5} CREATE F(x) LINK F(x) -> a -> y OUTPUT S";
+
+const TWINS_OF_LABELS: &[VerdictRow] = &[
+    VerdictRow {
+        query: LISTED,
+        constraint: "NONE F LINKS \"5\"",
+        yes: true,
+        reason: "The Int 5 is no label under version 1, and the twin of one under version 2.",
+    },
+    VerdictRow {
+        query: LISTED_2,
+        constraint: "NONE F LINKS \"5\"",
+        yes: false,
+        reason: "The Int 5 is no label under version 1, and the twin of one under version 2.",
+    },
+    VerdictRow {
+        query: LISTED_2,
+        constraint: "NONE F LINKS \"6\"",
+        yes: true,
+        reason: "The Int 5 is no label under version 1, and the twin of one under version 2.",
+    },
+];
+
+#[test]
+fn twins_of_labels(rt: HostRuntime) -> Result<(), Fail> {
+    check_rows(rt.alloc(), TWINS_OF_LABELS)
+}
+
+const WIDER: &str =
+    "INPUT D { WHERE C(x), x -> \"a\".\"b\" -> y, y < 5, not(x -> \"c\"|\"d\" -> y) CREATE F(x) } \
+    { WHERE C(u), u -> * -> w, w <= 5, not(u -> \"c\" -> w) CREATE G(u) LINK F(u) -> \"l\" -> G(u) } OUTPUT S";
+
+const CONDITIONS_THAT_FOLLOW: &[VerdictRow] = &[VerdictRow {
+    query: WIDER,
+    constraint: "EACH F LINKS \"l\" TO G",
+    yes: true,
+    reason: "With u = x and w = y: each word of \"a\".\"b\" is one of any labels; below 5 is at most 5; and where no c or d leads to y, no c does.",
+}];
+
+#[test]
+fn conditions_that_follow(rt: HostRuntime) -> Result<(), Fail> {
+    check_rows(rt.alloc(), CONDITIONS_THAT_FOLLOW)
+}
+
+const TURNED: &str = "INPUT D { WHERE C(x), x -> \"a\" -> y, not(x -> \"c\" -> y) CREATE F(x) } \
+    { WHERE C(u), u -> \"a\" -> w, not(u -> \"c\"|\"d\" -> w) CREATE G(u) LINK F(u) -> \"l\" -> G(u) } OUTPUT S";
+
+const NEGATIONS_TURN_ROUND: &[VerdictRow] = &[VerdictRow {
+    query: TURNED,
+    constraint: "EACH F LINKS \"l\" TO G",
+    yes: false,
+    reason: "That no c leads there doesn't say that no d does.",
+}];
+
+#[test]
+fn negations_turn_round(rt: HostRuntime) -> Result<(), Fail> {
+    check_rows(rt.alloc(), NEGATIONS_TURN_ROUND)
+}
+
+const SORTS: &str = "INPUT D { WHERE x -> a -> y CREATE F(a) } \
+    { WHERE u = u CREATE G(u) LINK F(u) -> \"l\" -> G(u) } OUTPUT S";
+
+const AN_ARC_VARIABLE_IS_NO_NODE: &[VerdictRow] = &[VerdictRow {
+    query: SORTS,
+    constraint: "EACH F LINKS \"l\" TO G",
+    yes: false,
+    reason: "The label a needn't be a value of the graph, so u can't be it.",
+}];
+
+#[test]
+fn an_arc_variable_is_no_node(rt: HostRuntime) -> Result<(), Fail> {
+    check_rows(rt.alloc(), AN_ARC_VARIABLE_IS_NO_NODE)
+}
+
+const CATALOGUE: &str = "INPUT Catalogue { CREATE Home() } \
+    { WHERE catalogue(x), x -> l -> v CREATE Item(x) \
+    LINK Item(x) -> l -> v, Home() -> \"Item\" -> Item(x) \
+    { WHERE l = \"shelf\" CREATE Shelf(v) \
+    LINK Shelf(v) -> \"Name\" -> v, Shelf(v) -> \"Item\" -> Item(x), Item(x) -> \"Shelf\" -> Shelf(v), \
+    Home() -> \"Shelf\" -> Shelf(v) } } OUTPUT Shop";
+
+const CONSTRAINTS_OF_THE_CATALOGUE: &[VerdictRow] = &[
+    VerdictRow {
+        query: CATALOGUE,
+        constraint: "REACHABLE Item FROM Home",
+        yes: true,
+        reason: "By link 2, and by link 6.",
+    },
+    VerdictRow {
+        query: CATALOGUE,
+        constraint: "REACHABLE Shelf FROM Home",
+        yes: true,
+        reason: "By link 2, and by link 6.",
+    },
+    VerdictRow {
+        query: CATALOGUE,
+        constraint: "EACH Shelf LINKS \"Item\" TO Item",
+        yes: true,
+        reason: "Link 4 is in the block of each mention of a shelf.",
+    },
+    VerdictRow {
+        query: CATALOGUE,
+        constraint: "EACH Item LINKS \"Shelf\" TO Shelf",
+        yes: false,
+        reason: "An item without a shelf is mentioned in the outer block.",
+    },
+    VerdictRow {
+        query: CATALOGUE,
+        constraint: "EACH Home LINKS \"Item\" TO Item",
+        yes: false,
+        reason: "The home page is created without a row.",
+    },
+    VerdictRow {
+        query: CATALOGUE,
+        constraint: "ONE Shelf LINKS \"Name\"",
+        yes: true,
+        reason: "Link 3 alone carries Name, and its target is its source's argument.",
+    },
+    VerdictRow {
+        query: CATALOGUE,
+        constraint: "ONE Shelf LINKS \"Item\"",
+        yes: false,
+        reason: "A shelf may have many items.",
+    },
+    VerdictRow {
+        query: CATALOGUE,
+        constraint: "ONE Item LINKS \"Shelf\"",
+        yes: false,
+        reason: "Links 1 and 5 may carry Shelf.",
+    },
+    VerdictRow {
+        query: CATALOGUE,
+        constraint: "ONLY Shelf LINKS \"Item\" TO Item",
+        yes: true,
+        reason: "Links 4 and 6 alone; but link 1 carries an item's own labels to values.",
+    },
+    VerdictRow {
+        query: CATALOGUE,
+        constraint: "ONLY Home LINKS \"Shelf\" TO Shelf",
+        yes: true,
+        reason: "Links 4 and 6 alone; but link 1 carries an item's own labels to values.",
+    },
+    VerdictRow {
+        query: CATALOGUE,
+        constraint: "ONLY Item LINKS \"Shelf\" TO Shelf",
+        yes: false,
+        reason: "Links 4 and 6 alone; but link 1 carries an item's own labels to values.",
+    },
+    VerdictRow {
+        query: CATALOGUE,
+        constraint: "NONE Shelf LINKS \"title\"",
+        yes: true,
+        reason: "All labels of a shelf and of the home page are quoted.",
+    },
+    VerdictRow {
+        query: CATALOGUE,
+        constraint: "NONE Home LINKS \"title\"",
+        yes: true,
+        reason: "All labels of a shelf and of the home page are quoted.",
+    },
+    VerdictRow {
+        query: CATALOGUE,
+        constraint: "NONE Item LINKS \"title\"",
+        yes: false,
+        reason: "All labels of a shelf and of the home page are quoted.",
+    },
+];
+
+// 1 Item(x) -> l -> v, 2 Home() -> "Item" -> Item(x), and where l = "shelf" 3 Shelf(v) -> "Name" -> v,
+// 4 Shelf(v) -> "Item" -> Item(x), 5 Item(x) -> "Shelf" -> Shelf(v), 6 Home() -> "Shelf" -> Shelf(v).
+#[test]
+fn constraints_of_the_catalogue(rt: HostRuntime) -> Result<(), Fail> {
+    check_rows(rt.alloc(), CONSTRAINTS_OF_THE_CATALOGUE)
+}
+
+const PROJECTS: &str = "INPUT Projects { CREATE Home() } \
+    { WHERE projects(x), x -> l -> v CREATE Project(x) \
+    LINK Project(x) -> l -> v, Home() -> \"Project\" -> Project(x) } \
+    { WHERE projects(x), x -> \"authors\" -> a, a -> \"name\" -> n CREATE Person(n) \
+    LINK Person(n) -> \"Name\" -> n, Person(n) -> \"Project\" -> Project(x), \
+    Project(x) -> \"Person\" -> Person(n) \
+    { WHERE a -> \"group\".\"name\" -> g LINK Person(n) -> \"Group\" -> g } } OUTPUT Site";
+
+const CONSTRAINTS_OF_THE_PROJECTS: &[VerdictRow] = &[
+    VerdictRow {
+        query: PROJECTS,
+        constraint: "REACHABLE Project FROM Home",
+        yes: false,
+        reason: "The third block mentions a project without an arc variable, which link 2 asks for.",
+    },
+    VerdictRow {
+        query: PROJECTS,
+        constraint: "REACHABLE Person FROM Home",
+        yes: false,
+        reason: "The third block mentions a project without an arc variable, which link 2 asks for.",
+    },
+    VerdictRow {
+        query: PROJECTS,
+        constraint: "EACH Person LINKS \"Project\" TO Project",
+        yes: true,
+        reason: "Link 4, in the block of each mention of a person or round it.",
+    },
+    VerdictRow {
+        query: PROJECTS,
+        constraint: "EACH Project LINKS \"Person\" TO Person",
+        yes: false,
+        reason: "A project without authors is mentioned in the second block.",
+    },
+    VerdictRow {
+        query: PROJECTS,
+        constraint: "ONLY Person LINKS \"Group\" TO Project",
+        yes: false,
+        reason: "A person's group is no page, and not each has one.",
+    },
+    VerdictRow {
+        query: PROJECTS,
+        constraint: "EACH Person LINKS \"Group\" TO Project",
+        yes: false,
+        reason: "A person's group is no page, and not each has one.",
+    },
+    VerdictRow {
+        query: PROJECTS,
+        constraint: "ONE Person LINKS \"Name\"",
+        yes: true,
+        reason: "Link 3 alone carries Name, and n is its source's argument.",
+    },
+    VerdictRow {
+        query: PROJECTS,
+        constraint: "ONE Person LINKS \"Project\"",
+        yes: false,
+        reason: "The target's x is no variable of a person's page.",
+    },
+    VerdictRow {
+        query: PROJECTS,
+        constraint: "NONE Person LINKS \"email\"",
+        yes: true,
+        reason: "A person's labels are quoted, and a project's are not.",
+    },
+    VerdictRow {
+        query: PROJECTS,
+        constraint: "NONE Project LINKS \"email\"",
+        yes: false,
+        reason: "A person's labels are quoted, and a project's are not.",
+    },
+    VerdictRow {
+        query: PROJECTS,
+        constraint: "NONE Home LINKS \"Person\"",
+        yes: true,
+        reason: "A person's labels are quoted, and a project's are not.",
+    },
+    VerdictRow {
+        query: PROJECTS,
+        constraint: "ONLY Person LINKS \"Project\" TO Project",
+        yes: true,
+        reason: "A person's labels are quoted, and a project's are not.",
+    },
+    VerdictRow {
+        query: PROJECTS,
+        constraint: "ONLY Project LINKS \"Person\" TO Person",
+        yes: false,
+        reason: "A person's labels are quoted, and a project's are not.",
+    },
+    VerdictRow {
+        query: PROJECTS,
+        constraint: "ONLY Home LINKS \"Project\" TO Project",
+        yes: true,
+        reason: "A person's labels are quoted, and a project's are not.",
+    },
+];
+
+// 1 Project(x) -> l -> v, 2 Home() -> "Project" -> Project(x); 3 Person(n) -> "Name" -> n,
+// 4 Person(n) -> "Project" -> Project(x), 5 Project(x) -> "Person" -> Person(n);
+// 6 Person(n) -> "Group" -> g.
+#[test]
+fn constraints_of_the_projects(rt: HostRuntime) -> Result<(), Fail> {
+    check_rows(rt.alloc(), CONSTRAINTS_OF_THE_PROJECTS)
+}
+
+const STEPS: &str = "INPUT D { CREATE Top() } \
+    { WHERE C(x), x -> \"a\" -> y CREATE Middle(x), Low(x, y) \
+    LINK Top() -> \"m\" -> Middle(x), Middle(x) -> \"l\" -> Low(x, y), Low(x, y) -> \"n\" -> Low(y, x) } \
+    OUTPUT S";
+
+const SEVERAL_LINKS_LEAD_TO_A_PAGE: &[VerdictRow] = &[
+    VerdictRow {
+        query: STEPS,
+        constraint: "REACHABLE Middle FROM Top",
+        yes: true,
+        reason: "Two links to Low(x, y), and a third to Low(y, x), which the last link mentions.",
+    },
+    VerdictRow {
+        query: STEPS,
+        constraint: "REACHABLE Low FROM Top",
+        yes: true,
+        reason: "Two links to Low(x, y), and a third to Low(y, x), which the last link mentions.",
+    },
+    VerdictRow {
+        query: STEPS,
+        constraint: "EACH Low LINKS \"n\" TO Low",
+        yes: false,
+        reason: "Each term has this label, but for Low(y, x): that x leads to y says nothing of the way back.",
+    },
+    VerdictRow {
+        query: STEPS,
+        constraint: "ONE Middle LINKS \"l\"",
+        yes: false,
+        reason: "The target's y is no variable of its source.",
+    },
+];
+
+#[test]
+fn several_links_lead_to_a_page(rt: HostRuntime) -> Result<(), Fail> {
+    check_rows(rt.alloc(), SEVERAL_LINKS_LEAD_TO_A_PAGE)
+}

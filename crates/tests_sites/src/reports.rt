@@ -1,0 +1,108 @@
+// Constraints of all kinds in small sites, beside reports worked by hand.
+use crate::inputs::{BIBLIOGRAPHY, asker_of, check_text, quoted};
+use constraint_report::report_of;
+use constraints::parse_constraints;
+use query_reader::read_query;
+use query_scoping::scopes;
+use std::process::Abort;
+use std::test::Fail;
+
+// The most bytes of a text here.
+const LIMIT: u64 = 4096;
+
+/// Two publications, each with a page, one for each year, and the root page.
+const PUBLICATIONS: &str =
+    "INPUT Bib { CREATE RootPage() } { WHERE Publications(x), x -> l -> v CREATE PaperPage(x) LINK PaperPage(x) -> l -> v, RootPage() -> 'Paper' -> PaperPage(x) { WHERE l = 'year' CREATE YearPage(v) LINK YearPage(v) -> 'Year' -> v, YearPage(v) -> 'Paper' -> PaperPage(x), RootPage() -> 'Year' -> YearPage(v) } } OUTPUT Home";
+
+struct ReportRow {
+    data: &'static str,
+    query: &'static str,
+    constraints: &'static str,
+    lines: &'static str,
+    all_met: bool,
+}
+
+const REPORTS: &[ReportRow] = &[
+    ReportRow {
+        data: BIBLIOGRAPHY,
+        query: PUBLICATIONS,
+        constraints: "REACHABLE PaperPage FROM RootPage NONE YearPage LINKS 'Paper'",
+        lines: "1 met\n2 broken\n",
+        all_met: false,
+    },
+    ReportRow {
+        data: BIBLIOGRAPHY,
+        query: PUBLICATIONS,
+        constraints: "ONE YearPage LINKS 'Year' EACH PaperPage LINKS 'isbn' TO YearPage",
+        lines: "1 met\n2 broken\n",
+        all_met: false,
+    },
+    // One publication has two authors, and no title is a page.
+    ReportRow {
+        data: BIBLIOGRAPHY,
+        query: PUBLICATIONS,
+        constraints: "ONLY RootPage LINKS 'Paper' TO PaperPage ONLY PaperPage LINKS 'title' TO YearPage ONE PaperPage LINKS 'author' ONE PaperPage LINKS 'title'",
+        lines: "1 met\n2 broken\n3 broken\n4 met\n",
+        all_met: false,
+    },
+    // A link to a page of another function is none to a page of this one.
+    ReportRow {
+        data: BIBLIOGRAPHY,
+        query: PUBLICATIONS,
+        constraints: "EACH RootPage LINKS 'Paper' TO YearPage EACH YearPage LINKS 'Paper' TO PaperPage",
+        lines: "1 broken\n2 met\n",
+        all_met: false,
+    },
+    ReportRow {
+        data: BIBLIOGRAPHY,
+        query: PUBLICATIONS,
+        constraints: "",
+        lines: "",
+        all_met: true,
+    },
+    // Without publications no page but the root page is left, and it is reached without a link.
+    ReportRow {
+        data: "",
+        query: PUBLICATIONS,
+        constraints: "REACHABLE PaperPage FROM RootPage REACHABLE RootPage FROM RootPage ONE RootPage LINKS 'Paper'",
+        lines: "1 met\n2 met\n3 broken\n",
+        all_met: false,
+    },
+    // The second page is reached through the first one.
+    ReportRow {
+        data: "object o in C { }",
+        query: "INPUT D { CREATE R() } { WHERE C(x) CREATE A(x), B(x) LINK R() -> 'a' -> A(x), A(x) -> 'b' -> B(x), B(x) -> 'r' -> R() } OUTPUT S",
+        constraints: "REACHABLE B FROM R REACHABLE A FROM R",
+        lines: "1 met\n2 met\n",
+        all_met: true,
+    },
+    // The root page is not in the site.
+    ReportRow {
+        data: "object o in C { }",
+        query: "INPUT D { WHERE C(x) CREATE F(x) } { WHERE E(x) CREATE R() LINK R() -> 'f' -> F(x) } OUTPUT S",
+        constraints: "REACHABLE F FROM R REACHABLE R FROM R",
+        lines: "1 broken\n2 met\n",
+        all_met: false,
+    },
+];
+
+fn check_report<R: AllocGlobal + Abort>(rt: &R, row: &ReportRow) -> Result<(), Fail> {
+    let text = quoted(rt.alloc(), row.query)?;
+    let query = read_query(rt.alloc(), text.as_slice(), LIMIT)?;
+    let text = quoted(rt.alloc(), row.constraints)?;
+    let constraints = parse_constraints(rt.alloc(), text.as_slice(), LIMIT, &query)?;
+    let asker = asker_of(rt.alloc(), row.data)?;
+    let scopes = scopes(rt.alloc(), &query)?;
+    let report = report_of(rt.alloc(), asker, &scopes, constraints.as_slice())?;
+    check_text(rt, report.text.bytes(), row.lines)?;
+    assert_eq!(rt; report.all_met, row.all_met, "{}", row.constraints);
+    Ok(())
+}
+
+#[test]
+fn sites_meet_constraints_or_break_them(rt: HostRuntime) -> Result<(), Fail> {
+    for row in REPORTS {
+        check_report(&rt, row)?;
+    }
+    Ok(())
+}
