@@ -70,7 +70,7 @@ def bench_proofs(folder):
     if not knows("check"):
         return [("this program has no command `check`", None, None, "not measured")]
     rows, whole, lines = [], 0, 0
-    for path in sorted(glob.glob(f"{TOP}/examples/*/*.constraints") + glob.glob(f"{TOP}/examples/*/c.txt")):
+    for path in sorted(glob.glob(f"{TOP}/examples/*/site.constraints")):
         site = os.path.dirname(path)
         seconds, memory = checked("q.struql", path, site)
         with open(path) as file:

@@ -69,12 +69,12 @@ JOURNAL_PAGES = """<TEMPLATE Home><SFMT @year LINK=title DELIM=", "><SFMT @issue
 GROUPS = """INPUT D
 { WHERE Entries(x), x -> "name" -> n, x -> "type" -> t
   CREATE Entry(x), Type(t)
-  LINK Entry(x) -> "name" -> n, Type(t) -> "title" -> t, Type(t) -> "entry" -> Entry(x) }
+  LINK Entry(x) -> "name" -> n, Entry(x) -> "type" -> Type(t), Type(t) -> "title" -> t, Type(t) -> "entry" -> Entry(x) }
 OUTPUT Site
 """
 
 GROUPS_PAGES = """<TEMPLATE Type><h1><SFMT @title></h1><SFMT @entry LINK=name DELIM=", "></TEMPLATE>
-<TEMPLATE Entry><h1><SFMT @name></h1></TEMPLATE>
+<TEMPLATE Entry><h1><SFMT @name></h1><SFMT @type LINK=title></TEMPLATE>
 """
 
 
@@ -153,6 +153,8 @@ def bench_sites(folder):
     site(folder, GROUPS, GROUPS_PAGES, shapes.groups(20, 1_000))
     each = clicks(folder, [f"/Type/tType~20{n:03}.html" for n in range(20)])
     rows.append(("a click of a page that shows 1,000 links, of 20,000 entries", each, None, told(each, "5 ms")))
+    each = clicks(folder, [f"/Entry/ne{draw.randrange(20_000)}.html" for _ in range(50)])
+    rows.append(("a click of a page that shows the name of a page of 1,000 rows", each, None, told(each)))
     site(folder, PAPERS, PAPERS_PAGES, shapes.papers(20_000))
     seconds, memory = built(folder)
     rows.append(("build, 20,000 papers", seconds, memory, "memory at most what it was"))

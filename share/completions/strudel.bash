@@ -6,7 +6,7 @@ _strudel() {
   # bash splits words at `=`; a number follows an option.
   [ "$word" != = ] && [ "$before" != = ] || return
   if [ "$COMP_CWORD" -eq 1 ] || { [ "$COMP_CWORD" -eq 2 ] && [ "$before" = help ]; }; then
-    mapfile -t COMPREPLY < <(compgen -W "$("$strudel" help 2>/dev/null | awk '/^  [a-z]+ / { print $1 }')" -- "$word")
+    mapfile -t COMPREPLY < <(compgen -W "$("$strudel" help 2>/dev/null | awk '/^  [a-z]+ / && !had[$1]++ { print $1 }')" -- "$word")
     return
   fi
   usage=$("$strudel" help "${COMP_WORDS[1]}" 2>/dev/null)

@@ -25,6 +25,7 @@ explain() {
     *": cyclic embedding at "*) echo "A page can't have itself within itself: an EMBED leads back to the value that is named. Show a LINK there instead." ;;
     *": too long") echo "A page has at most 16777216 bytes: spread its values over several pages." ;;
     *": name too long") echo "A name between the slashes of a page's path has at most 255 bytes: give the page a shorter argument." ;;
+    *"version \`GLIBC_"*"' not found"*) echo "The program needs glibc 2.34 or later as the system's C library; \`ldd --version\` says which one is here." ;;
     "strudel: out of memory") echo "The system refused memory: see \`ulimit -v\`, or the unit's LimitAS." ;;
     "strudel: turns spent") echo "The run has taken as many events as --turns allows, and more may come." ;;
   esac
@@ -87,7 +88,7 @@ explain_json() {
 
 # The commands of the program and of this launcher, one a line.
 commands() {
-  "$program" help | awk '/^  [a-z]+ / { print $1 }'
+  "$program" help | awk '/^  [a-z]+ / && !had[$1]++ { print $1 }'
   echo new
 }
 
@@ -116,9 +117,13 @@ explain_words() {
 
 # What is wrong with the words of a command, by its usage.
 explain_operands() {
-  local usage=$1 word name wanted open=1 many count=0 first
+  local usage=$1 word name wanted open=1 many count=0 first second flag
   shift
   first=${usage%%$'\n'*}
+  # A second form of the command, in the line below, has a flag that the first has not.
+  second=$(sed -n -E '2s/^ +(strudel .*)/usage: \1/p' <<<"$usage")
+  flag=$(grep -o -e '--[a-z]*' <<<"$second")
+  if [ -n "$second" ] && [[ " $* " = *" $flag "* ]]; then first=$second second=; fi
   read -r -a wanted <<<"$(sed -e 's/^usage: strudel [a-z]*//' -e 's/\[[^]]*\]//g' -e 's/ --[a-z]*//g' <<<"$first")"
   [[ ${wanted[*]-} = *..* ]] && many=1 || many=
   while [ $# -gt 0 ]; do
@@ -147,7 +152,7 @@ explain_operands() {
   if [ "$count" -lt "${#wanted[@]}" ]; then
     echo "Missing: ${wanted[*]:count}"
   elif [ "$count" -gt "${#wanted[@]}" ] && [ -z "$many" ]; then
-    echo "There are $count words where ${#wanted[@]} may be."
+    echo "There are $count words where ${#wanted[@]} may be${second:+, or $flag is missing}."
   fi
 }
 

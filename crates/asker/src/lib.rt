@@ -8,6 +8,7 @@ ghost use Rattle.graph_spec.specs.DataGraph.{DataGraph, IsWellFormed, HasEdge};
 ghost use Rattle.query_spec.specs.Mentions.{IsWellMade};
 ghost use Rattle.query_spec.specs.Rows.{row_cmp, IsAnswer, SomeAnswer};
 ghost use Rattle.asker.specs.Counted.{IsCounted};
+ghost use Rattle.asker.specs.Wanted.{ListsSome};
 
 use query_spec::{Bound, Row};
 use sd_value::{NoMemory, Str, Value};
@@ -29,6 +30,26 @@ pub trait Asker {
         ensures rows { IfOk result
             (λ rows. ListsExactly row_cmp
             (IsAnswer (graph self.old) chain.now bound.now) rows.items) }
+        ensures counted { MatchResult result
+            (λ rows. IsCounted (count self.old) (length rows.items) (count self.new))
+            (λ _. count self.new ≡ count self.old) };
+
+    /// Some of the rows that `ask` lists: for each of them at least one that has the same values of the variables that are
+    /// wanted, those whose flag is set. Each row is counted.
+    fn ask_some(
+        &mut self,
+        alloc: Global,
+        chain: &Chain,
+        bound: &Bound,
+        wanted: &[bool],
+    ) -> Result<Vec<Row>, NoMemory>
+        requires well_made { IsWellMade chain.now }
+        requires one_each { length bound.now ≡ length chain.now.variables }
+        requires one_flag_each { length wanted.now ≡ length chain.now.variables }
+        ensures graph { graph self.new ≡ graph self.old }
+        ensures rows { IfOk result
+            (λ rows. ListsSome wanted.now (IsAnswer (graph self.old) chain.now bound.now)
+            rows.items) }
         ensures counted { MatchResult result
             (λ rows. IsCounted (count self.old) (length rows.items) (count self.new))
             (λ _. count self.new ≡ count self.old) };

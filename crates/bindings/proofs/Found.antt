@@ -63,7 +63,7 @@ module _ (G : DataGraph) (version : ℕ) (arcs : List Bool) (goals : List Goal) 
     ];
   }
 
-  agrees_less : (t : List Value) (s : List (Option Value)) (k : ℕ) (v : Value) → slice_get s k ≡ Some None → Agrees t (slice_set s k (Some v)) → Agrees t s
+  pub agrees_less : (t : List Value) (s : List (Option Value)) (k : ℕ) (v : Value) → slice_get s k ≡ Some None → Agrees t (slice_set s k (Some v)) → Agrees t s
   agrees_less t s k v free a = record {
     as_long = a.as_long ∙ length-set s k (Some v);
     same = λ j w e. elim (slice_get-set_cases s k j (Some v)) [
@@ -127,14 +127,14 @@ module _ (G : DataGraph) (version : ℕ) (arcs : List Bool) (goals : List Goal) 
   pub only_complete : (at : ℕ) (s : List (Option Value)) → IsComplete goals at s → (t : List Value) → Fits G version arcs goals at s t → known_part s ≡ t
   only_complete at s c t f = agrees-known_part t s c.no_variable f.agrees
 
-nil_of : {X : Type 0} (xs : List X) → length xs ≡ 0 → xs ≡ []
+pub nil_of : {X : Type 0} (xs : List X) → length xs ≡ 0 → xs ≡ []
 nil_of [] e = refl
 nil_of (x ∷ xs) e = absurd (omega arith)
 
-none_in : {X : Type 0} (x : X) → Contains [] x → ⊥
+pub none_in : {X : Type 0} (x : X) → Contains [] x → ⊥
 none_in x c = omega (arith, c.1)
 
-append-nil : {X : Type 0} (xs : List X) → xs ++ [] ≡ xs
+pub append-nil : {X : Type 0} (xs : List X) → xs ++ [] ≡ xs
 append-nil [] = refl
 append-nil (x ∷ xs) = ap (λ ys. x ∷ ys) (append-nil xs)
 

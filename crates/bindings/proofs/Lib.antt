@@ -1,8 +1,7 @@
 pub mod Known
 pub mod Found
-pub mod Parts
-pub mod Offers
 pub mod Steps
 pub mod Rows
 pub mod Made
-pub mod Kept
+pub mod Told
+pub mod Tries

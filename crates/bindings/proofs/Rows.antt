@@ -12,6 +12,7 @@ use Rattle.query_spec.specs.Holds.{Holds}
 use Rattle.sd_value.specs.Ascending.{ListsExactly}
 use Rattle.query_spec.specs.Rows as rows
 use Rattle.query_spec.specs.Rows.{arcs_of, value_in, IsRow, IsInDomain, row_cmp, IsAnswer, SomeAnswer}
+use Rattle.asker.specs.Wanted.{ListsSome}
 use Rattle.condition_tests.specs.declared.literal.Goal.{Goal}
 use Rattle.condition_tests.specs.Known.{Agrees, InDomains, KnownInDomains, IsCandidate, is_arc}
 use Rattle.bindings.specs.Fits.{Fits, SomeFits}
@@ -106,6 +107,13 @@ module _ (G : DataGraph) (c : Chain) (goals : List Goal) (resolved : AreGoalsOf 
     ascending = h.ascending;
     sound = λ t m. answer_from_fits s t (sym l) (h.sound t m);
     complete = λ t a. h.complete t (fits_from_answer s t a);
+  }
+
+  pub some_listed : (wanted : List Bool) (s : List (Option Value)) (xs : List (List Value)) → length c.variables ≡ length s → ListsSome wanted (Fits G c.version (arcs_of c.variables) goals 0 s) xs → ListsSome wanted (IsAnswer G c s) xs
+  some_listed wanted s xs l h = record {
+    ascending = h.ascending;
+    sound = λ t m. answer_from_fits s t (sym l) (h.sound t m);
+    each = λ t a. h.each t (fits_from_answer s t a);
   }
 
   pub some_answer : (s : List (Option Value)) (b : Bool) → length c.variables ≡ length s → (IsTrue b ↔ SomeFits G c.version (arcs_of c.variables) goals 0 s) → (IsTrue b ↔ SomeAnswer G c s)

@@ -8,7 +8,8 @@ use Rattle.condition_tests.specs.declared.literal.Goal.{Goal}
 use Rattle.condition_tests.specs.declared.literal.Goal.TheVariants.{Holds}
 use Rattle.condition_tests.specs.Known.{Agrees, IsCandidate, is_arc}
 use Rattle.condition_tests.specs.Meaning.{Signed, AtomHolds, LiteralHolds, GoalHolds}
-use Rattle.bindings.specs.Fits.{Fits, IsTold, HasFree, IsStopped, IsPassed, IsOffer, IsOpening, IsAny, IsChoice, IsComplete}
+use Rattle.candidate_values.specs.Offers.{IsOffer, IsAny}
+use Rattle.bindings.specs.Fits.{Fits, IsTold, HasFree, IsStopped, IsPassed, IsOpening, IsChoice, IsComplete}
 
 -- the goals between the two numbers hold of each row that agrees
 pub record IsReached (G : DataGraph) (version : ℕ) (arcs : List Bool) (goals : List Goal) (at next : ℕ) (s : List (Option Value)) : Type 0 where

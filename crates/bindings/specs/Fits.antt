@@ -1,10 +1,9 @@
 -- The rows that a search is to find.
-use Rattle.std.specs.Prelude.{◌≡◌, ◌≤◌, ◌⊎◌, ℕ, List, length, Option, None, Some, Bool, false, slice_get, Contains, IsTrue, ◌↔◌}
+use Rattle.std.specs.Prelude.{◌≡◌, ◌≤◌, ◌⊎◌, ℕ, List, length, Option, None, Some, Bool, slice_get, Contains, IsTrue, ◌↔◌}
 use Rattle.sd_value.specs.declared.Value.{Value}
 use Rattle.graph_spec.specs.DataGraph.{DataGraph}
 use Rattle.condition_tests.specs.Known.{Agrees, InDomains, IsCandidate, is_arc}
-use Rattle.condition_tests.specs.Meaning.{GoalHolds, AtomHolds}
-use Rattle.condition_tests.specs.declared.literal.Atom.{Atom}
+use Rattle.condition_tests.specs.Meaning.{GoalHolds}
 use Rattle.condition_tests.specs.declared.literal.Goal.{Goal}
 
 -- the row agrees with what is known, each value is in its variable's domain, and the goals from `at` on hold
@@ -26,48 +25,8 @@ pub record Adds {X : Type 0} (P : X → Type 0) (xs ys : List X) : Type 0 where
   pub added : (x : X) → P x → Contains ys x
   pub nothing_else : (x : X) → Contains ys x → Contains xs x ⊎ P x
 
--- the list has exactly the things with P
-pub record IsListOf {X : Type 0} (P : X → Type 0) (xs : List X) : Type 0 where
-  pub sound : (x : X) → Contains xs x → P x
-  pub complete : (x : X) → P x → Contains xs x
-
--- the list has all things with P, and no other where it is exact
-pub record Lists {X : Type 0} (P : X → Type 0) (xs : List X) (exact : Bool) : Type 0 where
-  pub complete : (x : X) → P x → Contains xs x
-  pub sound : IsTrue exact → (x : X) → Contains xs x → P x
-
--- ys has exactly those of xs with P
-pub record IsPartOf {X : Type 0} (P : X → Type 0) (xs ys : List X) : Type 0 where
-  pub of_all : (x : X) → Contains ys x → Contains xs x
-  pub sound : (x : X) → Contains ys x → P x
-  pub complete : (x : X) → Contains xs x → P x → Contains ys x
-
--- those of the listed values that the variable may take
-pub record IsSettled (G : DataGraph) (arcs : List Bool) (slot : ℕ) (all : List Value)
-    (exact : Bool) (slot2 : ℕ) (values : List Value) (settled : Bool) : Type 0 where
-  pub same_slot : slot2 ≡ slot
-  pub same_exact : settled ≡ exact
-  pub part : IsPartOf (IsCandidate G (is_arc arcs slot)) all values
-
--- all values that the variable may take
-pub record IsAny (G : DataGraph) (arcs : List Bool) (slot slot2 : ℕ) (values : List Value)
-    (settled : Bool) : Type 0 where
-  pub same_slot : slot2 ≡ slot
-  pub not_settled : settled ≡ false
-  pub all : IsListOf (IsCandidate G (is_arc arcs slot)) values
-
--- a free variable of an atom, with values of which each row that agrees and meets the atom has one; settled where each row
--- that agrees and has one of them meets the atom
-pub record IsOffer (G : DataGraph) (version : ℕ) (arcs : List Bool) (atom : Atom)
-    (s : List (Option Value)) (slot : ℕ) (values : List Value) (settled : Bool) : Type 0 where
-  pub free : slice_get s slot ≡ Some None
-  pub within : (v : Value) → Contains values v → IsCandidate G (is_arc arcs slot) v
-  pub complete : (t : List Value) (v : Value) → Agrees t s → InDomains G arcs t
-      → AtomHolds G version atom t → slice_get t slot ≡ Some v → Contains values v
-  pub exact : IsTrue settled → (t : List Value) (v : Value) → Contains values v
-      → slice_get t slot ≡ Some v → Agrees t s → AtomHolds G version atom t
-
--- the same for any condition P on rows
+-- a free variable, with values of which each row that agrees and has P has one; settled where each row that agrees and has
+-- one of them has P
 pub record IsOpening (G : DataGraph) (arcs : List Bool) (P : List Value → Type 0)
     (s : List (Option Value)) (slot : ℕ) (values : List Value) (settled : Bool) : Type 0 where
   pub free : slice_get s slot ≡ Some None

@@ -1,4 +1,5 @@
 pub mod Asked
 pub mod Fits
 pub mod Followed
-pub mod Kept
+pub mod Told
+pub mod Tries

@@ -1,15 +1,12 @@
 //! The rows of a chain of conditions, over any store.
 #![tactic(auto)]
 
-mod domain;
-mod fewest;
 mod follow;
-mod offer;
-mod reaches;
 mod row;
 mod search;
+mod some_rows;
 mod store_asker;
-mod walk_offer;
+mod witness;
 
 pub use search::{chain_answers, chain_finds};
 pub use store_asker::StoreAsker;

@@ -5,30 +5,21 @@ ghost use Rattle.query_spec.specs.Rows.{arcs_of, row_cmp, IsAnswer, SomeAnswer};
 ghost use Rattle.condition_tests.specs.Resolved.{AreGoalsOf};
 ghost use Rattle.condition_tests.specs.Meaning.{LiteralHolds};
 ghost use Rattle.condition_tests.specs.Places.{AtomInRange, Decides, GoalInRange, GoalsInRange, IsGround};
-ghost use Rattle.condition_tests.specs.Known.{KnownInDomains};
-ghost use Rattle.bindings.specs.Fits.{Fits, SomeFits, Adds, HasFree, IsTold, IsStopped, IsPassed, IsOffer, IsOpening, IsChoice, IsComplete};
-ghost use Rattle.bindings.specs.Kept.{IsKept, IsFrom};
+ghost use Rattle.condition_tests.specs.Known.{KnownInDomains, known_part};
+ghost use Rattle.candidate_values.specs.Offers.{IsOffer};
+ghost use Rattle.bindings.specs.Fits.{Fits, SomeFits, Adds, HasFree, IsTold, IsStopped, IsPassed, IsOpening, IsChoice, IsComplete};
+ghost use Rattle.candidate_values.specs.Kept.{IsKept, IsFrom};
 
-use crate::domain::in_domain;
-use crate::fewest::fewest;
-use crate::offer::{Offer, any, offer_values};
-use crate::reaches::Reaches;
 use crate::row::row_of;
-use crate::walk_offer::{offer_walk, walk_of};
+use crate::witness::witness;
+use candidate_values::{Offer, Reaches, Search, any, in_domain, offer_values, offer_walk, walk_of};
 use condition_tests::{Goal, Literal, free_slot, known, test_atom, value_of};
+use goal_choice::fewest;
 use query_spec::Row;
 use sd_value::{NoMemory, Value, sort_and_dedup};
 use std::alloc::Global;
 use store::Store;
 use struql_ast::Chain;
-
-#[derive(Drop)]
-pub(crate) struct Search<'a, S> {
-    pub(crate) store: &'a S,
-    pub(crate) version: u8,
-    pub(crate) arcs: &'a [bool],
-    pub(crate) goals: &'a [Goal],
-}
 
 // The values that a variable may take next, and the first goal that is open then.
 #[derive(Drop)]
@@ -99,7 +90,7 @@ fn tested<S: Store>(
 }
 
 // The first goal from `at` on that has a variable with no value yet, or none where a goal before it fails.
-fn passed<S: Store>(
+pub(crate) fn passed<S: Store>(
     alloc: Global,
     search: &Search<S>,
     kept: &mut Reaches,
@@ -286,6 +277,36 @@ fn choose_early<S: Store>(
     }))
 }
 
+// Values for a variable of that goal, one from `at` on.
+pub(crate) fn choose_goal<S: Store>(
+    alloc: Global,
+    search: &Search<S>,
+    kept: &mut Reaches,
+    at: usize,
+    goal: usize,
+    current: &[Option<Value>],
+) -> Result<Option<Choice>, NoMemory>
+    requires as_long { length search.now.arcs.now ≡ length current.now }
+    requires in_range { GoalsInRange (length current.now) search.now.goals.now }
+    requires from { IsFrom search.now.goals.now at goal }
+    requires kept { IsKept (S.graph search.now.store.now) search.now.goals.now kept.old }
+    ensures kept { IfOk result
+        (λ _. IsKept (S.graph search.now.store.now) search.now.goals.now kept.new) }
+    ensures choice { IfOk result
+        (λ r. IfSome r
+        (λ c. IsChoice
+        (S.graph search.now.store.now) search.now.version search.now.arcs.now search.now.goals.now
+        at current.now c.slot c.values.items c.next)) }
+{
+    if goal == at {
+        let choice = choose_planned(alloc, search, kept, at, current)?;
+        Ok(choice)
+    } else {
+        let choice = choose_early(alloc, search, kept, at, goal, current)?;
+        Ok(choice)
+    }
+}
+
 // Values for a variable of the goal, or of a later one that offers fewer.
 fn choose_for<S: Store>(
     alloc: Global,
@@ -307,13 +328,8 @@ fn choose_for<S: Store>(
         at current.now c.slot c.values.items c.next)) }
 {
     let goal = fewest(alloc, search, kept, at, current)?;
-    if goal == at {
-        let choice = choose_planned(alloc, search, kept, at, current)?;
-        Ok(choice)
-    } else {
-        let choice = choose_early(alloc, search, kept, at, goal, current)?;
-        Ok(choice)
-    }
+    let choice = choose_goal(alloc, search, kept, at, goal, current)?;
+    Ok(choice)
 }
 
 fn choose_any<S: Store>(
@@ -341,7 +357,7 @@ fn choose_any<S: Store>(
     }))
 }
 
-fn choose<S: Store>(
+pub(crate) fn choose<S: Store>(
     alloc: Global,
     search: &Search<S>,
     kept: &mut Reaches,
@@ -370,14 +386,14 @@ fn choose<S: Store>(
     Ok(choice)
 }
 
-fn put(current: &mut [Option<Value>], slot: usize, value: Value)
+pub(crate) fn put(current: &mut [Option<Value>], slot: usize, value: Value)
     requires { slot < length current.old }
     ensures { current.new ≡ slice_set current.old slot (Some value) }
 {
     current[slot] = Some(value);
 }
 
-fn clear(current: &mut [Option<Value>], slot: usize)
+pub(crate) fn clear(current: &mut [Option<Value>], slot: usize)
     requires { slot < length current.old }
     ensures { current.new ≡ slice_set current.old slot None }
 {
@@ -424,7 +440,7 @@ pub(crate) fn rows<S: Store>(
     Ok(())
 }
 
-// Whether some row agrees with what is known and meets the goals from `at` on.
+// Whether some row agrees with what is known and meets the goals from `at` on. If so, what is known is such a row then.
 pub(crate) fn finds<S: Store>(
     alloc: Global,
     search: &Search<S>,
@@ -443,6 +459,10 @@ pub(crate) fn finds<S: Store>(
         (λ b. IsTrue b
         ↔ SomeFits (S.graph search.now.store.now) search.now.version search.now.arcs.now
         search.now.goals.now at current.old) }
+    ensures row { IfOk result
+        (λ b. IsTrue b
+        → Fits (S.graph search.now.store.now) search.now.version search.now.arcs.now
+        search.now.goals.now at current.old (known_part current.new)) }
 {
     let Some(at) = passed(alloc, search, kept, at, current)? else {
         return Ok(false);
@@ -566,8 +586,7 @@ pub fn chain_finds<S: Store>(
     requires resolved { AreGoalsOf chain.now goals.now }
     ensures { IfOk result (λ b. IsTrue b ↔ SomeAnswer (S.graph store.now) chain.now bound.items) }
 {
-    let mut current = bound;
-    if !are_in_domains(store, arcs, current.as_slice()) {
+    if !are_in_domains(store, arcs, bound.as_slice()) {
         return Ok(false);
     }
     let search = Search {
@@ -577,6 +596,6 @@ pub fn chain_finds<S: Store>(
         goals,
     };
     let mut kept = Reaches::new(alloc);
-    let found = finds(alloc, &search, &mut kept, 0, current.as_mut_slice())?;
-    Ok(found)
+    let found = witness(alloc, &search, &mut kept, 0, bound.as_slice())?;
+    Ok(found.is_some())
 }

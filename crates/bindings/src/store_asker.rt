@@ -3,9 +3,11 @@ ghost use Rattle.std.specs.Prelude.{◌≡◌, ◌↔◌, length, IfOk, IsTrue};
 ghost use Rattle.sd_value.specs.Ascending.{ListsExactly};
 ghost use Rattle.query_spec.specs.Mentions.{IsWellMade};
 ghost use Rattle.query_spec.specs.Rows.{row_cmp, IsAnswer, SomeAnswer};
+ghost use Rattle.asker.specs.Wanted.{ListsSome};
 
 use crate::follow::goals_of;
 use crate::search::{chain_answers, chain_finds};
+use crate::some_rows::chain_some;
 use asker::Asker;
 use query_spec::{Bound, Row, arcs_of_variables};
 use sd_value::{NoMemory, Str, Value};
@@ -59,6 +61,35 @@ fn rows_of<S: Store>(
     Ok(rows)
 }
 
+fn some_rows_of<S: Store>(
+    alloc: Global,
+    store: &S,
+    chain: &Chain,
+    bound: &Bound,
+    wanted: &[bool],
+) -> Result<Vec<Row>, NoMemory>
+    requires well_made { IsWellMade chain.now }
+    requires one_each { length bound.now ≡ length chain.now.variables }
+    requires one_flag_each { length wanted.now ≡ length chain.now.variables }
+    ensures { IfOk result
+        (λ rows. ListsSome wanted.now (IsAnswer (S.graph store.now) chain.now bound.now)
+        rows.items) }
+{
+    let goals = goals_of(alloc, store, chain, bound)?;
+    let arcs = arcs_of_variables(alloc, chain.variables())?;
+    let values = bound.to_values(alloc)?;
+    let rows = chain_some(
+        alloc,
+        store,
+        chain,
+        arcs.as_slice(),
+        goals.as_slice(),
+        values,
+        wanted,
+    )?;
+    Ok(rows)
+}
+
 fn some_row<S: Store>(
     alloc: Global,
     store: &S,
@@ -92,6 +123,18 @@ impl<S: Store> Asker for StoreAsker<S> {
 
     fn ask(&mut self, alloc: Global, chain: &Chain, bound: &Bound) -> Result<Vec<Row>, NoMemory> {
         let rows = rows_of(alloc, &self.store, chain, bound)?;
+        self.given = self.given.saturating_add(rows.len() as u128);
+        Ok(rows)
+    }
+
+    fn ask_some(
+        &mut self,
+        alloc: Global,
+        chain: &Chain,
+        bound: &Bound,
+        wanted: &[bool],
+    ) -> Result<Vec<Row>, NoMemory> {
+        let rows = some_rows_of(alloc, &self.store, chain, bound, wanted)?;
         self.given = self.given.saturating_add(rows.len() as u128);
         Ok(rows)
     }

@@ -1,22 +1,22 @@
 // Whether names make a use of a link.
 
-ghost use Rattle.std.specs.Prelude.{◌≡◌, [], IfOk, map};
+ghost use Rattle.std.specs.Prelude.{◌≡◌, IfOk, map};
 ghost use Rattle.std.specs.List.{list_all};
 ghost use Rattle.query_spec.specs.Query.{made as a_term};
-ghost use Rattle.struql_ast.specs.Reading.{operand_of, condition_of, term_of, target_of};
+ghost use Rattle.struql_ast.specs.Reading.{condition_of, term_of, target_of};
 ghost use Rattle.constraint_spec.specs.Use.{rename, rename_target, name_for};
-ghost use Rattle.constraint_recheck.specs.Same.{same_list, same_operand, same_term, same_target};
+ghost use Rattle.constraint_recheck.specs.Same.{same_target};
 ghost use Rattle.constraint_recheck.specs.Entails.{entails};
 ghost use Rattle.constraint_recheck.specs.Recheck.{zip_all, same_sort, is_use as makes_use};
 ghost use Rattle.certificate_check.specs.Links.{placed_link, HasOwnVariables, is_sorted};
 
 use crate::links::QueryLink;
-use entailment::{Judge, is_entailed, same_operands};
+use entailment::{Judge, is_entailed, same_terms};
 use link_uses::{renamed, renamed_term};
 use query_spec::Variable;
 use sd_value::{NoMemory, Str};
 use std::alloc::Global;
-use struql_ast::{Chain, Condition, Operand, SkolemTerm, Target};
+use struql_ast::{Chain, Condition, SkolemTerm, Target};
 
 fn have_one_sort(one: bool, other: bool) -> bool
     ensures { result ≡ same_sort one other }
@@ -110,44 +110,6 @@ pub fn is_use<J: Judge>(
         link.chain.conditions(),
     )?;
     Ok(entailed)
-}
-
-fn same_args(args: &[Operand], others: &[Operand]) -> bool
-    ensures { result
-        ≡ same_list same_operand (map operand_of args.now) (map operand_of others.now) }
-{
-    if args.len() != others.len() {
-        return false;
-    }
-    for (place, arg) in args.iter().enumerate() {
-        if !same_operands(arg, &others[place]) {
-            return false;
-        }
-    }
-    true
-}
-
-/// Whether two terms are the same, their places aside.
-pub fn same_terms(one: &SkolemTerm, other: &SkolemTerm) -> bool
-    ensures { result ≡ same_term (term_of one.now) (term_of other.now) }
-{
-    one.function == other.function && same_args(&one.args, &other.args)
-}
-
-fn are_none(args: &[Operand]) -> bool
-    ensures { result ≡ same_list same_operand (map operand_of args.now) [] }
-{
-    match args {
-        [] => true,
-        [_, ..] => false,
-    }
-}
-
-/// Whether the term is the function's without arguments.
-pub fn is_root(term: &SkolemTerm, function: &Str) -> bool
-    ensures { result ≡ same_term (term_of term.now) (record { function = function.now; args = [] }) }
-{
-    term.function == *function && are_none(&term.args)
 }
 
 /// Whether the names make the target the term.

@@ -12,11 +12,12 @@ ghost use Rattle.certificate_check.specs.Links.{placed_link, HasOwnVariables, Ar
 ghost use Rattle.certificate_check.specs.Back.{made_term, back_on, back_from};
 
 use crate::links::{QueryLink, link_at};
-use crate::names::{is_renamed, is_root, is_use};
+use crate::names::{is_renamed, is_use};
 use certificates::LinkUse;
-use entailment::Judge;
-use link_uses::{copied_term, renamed_term};
+use entailment::{Judge, is_root};
+use link_uses::renamed_term;
 use query_blocks::QueryBlocks;
+use query_copies::copied_term;
 use query_spec::Variable;
 use sd_value::{NoMemory, Str};
 use std::alloc::Global;
@@ -138,15 +139,15 @@ pub fn is_shown_by<J: Judge>(
     term: &SkolemTerm,
     label: &Str,
     target: Option<&Str>,
-    using: &LinkUse,
+    step: &LinkUse,
 ) -> Result<bool, NoMemory>
     requires given { HasOwnVariables given.now }
     requires links { AreLinks (scope_of tested.now.query.now) tested.now.links.now }
     ensures { IfOk result (λ b. b ≡ is_use_from (J.tests tested.now.judge.now)
-        (scope_of tested.now.query.now) label.now (mention_of given.now term.now) using.now
+        (scope_of tested.now.query.now) label.now (mention_of given.now term.now) step.now
         (ends_at (option_copied target.entry))) }
 {
-    let Some(link) = link_at(tested.links, using.link()) else {
+    let Some(link) = link_at(tested.links, step.link()) else {
         return Ok(false);
     };
     let shown = shows_on(
@@ -158,7 +159,7 @@ pub fn is_shown_by<J: Judge>(
         label,
         target,
         link,
-        using.names(),
+        step.names(),
     )?;
     Ok(shown)
 }
@@ -196,21 +197,21 @@ fn back_over<J: Judge>(
     version: u8,
     given: &Chain,
     term: &SkolemTerm,
-    using: &LinkUse,
+    step: &LinkUse,
     link: &QueryLink,
 ) -> Result<Option<SkolemTerm>, NoMemory>
     requires given { HasOwnVariables given.now }
     requires link { HasOwnVariables link.now.chain.now }
     ensures { IfOk result (λ r. option_map term_of r ≡ back_on (J.tests judge.now) version
-        given.now.conditions using.now (term_of term.now) (placed_link link.now)) }
+        given.now.conditions step.now (term_of term.now) (placed_link link.now)) }
 {
-    if !is_use(alloc, judge, version, given, link, using.names())? {
+    if !is_use(alloc, judge, version, given, link, step.names())? {
         return Ok(None);
     }
-    if !ends_at_term(alloc, link, using.names(), term)? {
+    if !ends_at_term(alloc, link, step.names(), term)? {
         return Ok(None);
     }
-    let source = source_of(alloc, link, using.names())?;
+    let source = source_of(alloc, link, step.names())?;
     Ok(source)
 }
 
@@ -220,14 +221,14 @@ fn step_back<J: Judge>(
     tested: &TestedQuery<J>,
     given: &Chain,
     term: &SkolemTerm,
-    using: &LinkUse,
+    step: &LinkUse,
 ) -> Result<Option<SkolemTerm>, NoMemory>
     requires given { HasOwnVariables given.now }
     requires links { AreLinks (scope_of tested.now.query.now) tested.now.links.now }
     ensures { IfOk result (λ r. option_map term_of r ≡ back_from (J.tests tested.now.judge.now)
-        (scope_of tested.now.query.now) given.now.conditions using.now (term_of term.now)) }
+        (scope_of tested.now.query.now) given.now.conditions step.now (term_of term.now)) }
 {
-    let Some(link) = link_at(tested.links, using.link()) else {
+    let Some(link) = link_at(tested.links, step.link()) else {
         return Ok(None);
     };
     let source = back_over(
@@ -236,7 +237,7 @@ fn step_back<J: Judge>(
         tested.query.version,
         given,
         term,
-        using,
+        step,
         link,
     )?;
     Ok(source)
@@ -258,8 +259,8 @@ pub fn leads_back<J: Judge>(
         uses.now) }
 {
     let mut at = copied_term(alloc, term)?;
-    for using in uses {
-        match step_back(alloc, tested, given, &at, using)? {
+    for step in uses {
+        match step_back(alloc, tested, given, &at, step)? {
             None => return Ok(false),
             Some(source) => at = source,
         }

@@ -37,27 +37,3 @@ fold_end h y g xs i le = ap (λ zs. fold_over h y (map g zs)) (drop_all i xs le)
 pub fold_joined : {A Y : Type 0} (h : Y → A → Y) (y : Y) (xs zs : List A) → fold_over h y (xs ++ zs) ≡ fold_over h (fold_over h y xs) zs
 fold_joined h y [] zs = refl
 fold_joined h y (x ∷ xs) zs = fold_joined h (h y x) xs zs
-
--- ---- two lists side by side
-
-pub pairs_false : {X Y A B : Type 0} (f : A → B → Bool) (g : X → A) (h : Y → B) (xs : List X) (ys : List Y) (i : ℕ) (x : X) (y : Y)
-    → i < length xs → i < length ys → x ≡ get_or xs i x → y ≡ get_or ys i y → f (g x) (h y) ≡ false → pointwise f (map g (drop i xs)) (map h (drop i ys)) ≡ false
-pairs_false f g h xs ys i x y lt lu at au e =
-    ap (λ zs. pointwise f (map g zs) (map h (drop i ys))) (dropped xs i x lt at)
-    ∙ ap (λ zs. pointwise f (map g (x ∷ drop (i + 1) xs)) (map h zs)) (dropped ys i y lu au)
-    ∙ ap (λ b. b && pointwise f (map g (drop (i + 1) xs)) (map h (drop (i + 1) ys))) e
-
-pub pairs_true : {X Y A B : Type 0} (f : A → B → Bool) (g : X → A) (h : Y → B) (xs : List X) (ys : List Y) (i : ℕ) (x : X) (y : Y)
-    → i < length xs → i < length ys → x ≡ get_or xs i x → y ≡ get_or ys i y → f (g x) (h y) ≡ true
-    → pointwise f (map g (drop i xs)) (map h (drop i ys)) ≡ pointwise f (map g (drop (i + 1) xs)) (map h (drop (i + 1) ys))
-pairs_true f g h xs ys i x y lt lu at au e =
-    ap (λ zs. pointwise f (map g zs) (map h (drop i ys))) (dropped xs i x lt at)
-    ∙ ap (λ zs. pointwise f (map g (x ∷ drop (i + 1) xs)) (map h zs)) (dropped ys i y lu au)
-    ∙ ap (λ b. b && pointwise f (map g (drop (i + 1) xs)) (map h (drop (i + 1) ys))) e
-
-pub pairs_uneven : {X Y A B : Type 0} (f : A → B → Bool) (g : X → A) (h : Y → B) (xs : List X) (ys : List Y)
-    → (length xs ≡ length ys → ⊥) → pointwise f (map g xs) (map h ys) ≡ false
-pairs_uneven f g h [] [] ne = absurd (ne refl)
-pairs_uneven f g h [] (y ∷ ys) ne = refl
-pairs_uneven f g h (x ∷ xs) [] ne = refl
-pairs_uneven f g h (x ∷ xs) (y ∷ ys) ne = and_false (f (g x) (h y)) (pointwise f (map g xs) (map h ys)) (pairs_uneven f g h xs ys (λ e. ne (ap suc e)))

@@ -13,12 +13,11 @@ ghost use Rattle.constraint_search.specs.Search.{find_back as found_back, root_t
 ghost use Rattle.certificate_search.specs.Links.{AreLinks};
 ghost use Rattle.certificate_search.specs.Reaching.{reached_of};
 
-use crate::same::is_root;
 use crate::sources::{ReachedTerm, add_sources, copied_uses};
 use crate::uses::SearchedQuery;
 use certificates::LinkUse;
-use entailment::Judge;
-use link_uses::copied_term;
+use entailment::{Judge, is_root};
+use query_copies::copied_term;
 use sd_value::{NoMemory, Str};
 use std::alloc::Global;
 use struql_ast::{Chain, SkolemTerm};

@@ -3,13 +3,11 @@
 
 mod back;
 mod links;
-mod same;
 mod shown;
 mod sources;
 mod uses;
 
 pub use back::find_back;
 pub use links::{NumberedLink, numbered_links};
-pub use same::{is_root, same_terms};
 pub use shown::{show_link, show_reached};
 pub use uses::{SearchedQuery, find_use};

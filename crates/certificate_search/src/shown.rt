@@ -9,10 +9,9 @@ ghost use Rattle.certificate_search.specs.Links.{AreLinks};
 ghost use Rattle.certificate_search.specs.Uses.{ends_at};
 
 use crate::back::find_back;
-use crate::same::is_root;
 use crate::uses::{SearchedQuery, find_use};
 use certificates::MentionProof;
-use entailment::Judge;
+use entailment::{Judge, is_root};
 use sd_value::{NoMemory, Str};
 use std::alloc::Global;
 use struql_ast::{Chain, SkolemTerm};

@@ -15,11 +15,10 @@ ghost use Rattle.certificate_search.specs.Links.{numbered_of, IsPrepared};
 ghost use Rattle.certificate_search.specs.Reaching.{reached_of, with_args};
 
 use crate::links::NumberedLink;
-use crate::same::same_terms;
-use crate::uses::{SearchedQuery, is_of, names_of_use};
+use crate::uses::{SearchedQuery, names_of_use};
 use certificates::LinkUse;
-use entailment::Judge;
-use link_uses::{copied_operand, copied_term};
+use entailment::{Judge, is_of, same_terms};
+use query_copies::{copied_operand, copied_term};
 use sd_lex::Span;
 use sd_value::{NoMemory, Str, Value};
 use std::alloc::Global;

@@ -2,21 +2,21 @@
 
 ghost use Rattle.std.specs.Prelude.{◌≡◌, IfOk, option_copied, option_map};
 ghost use Rattle.query_spec.specs.Mentions.{chain_of};
-ghost use Rattle.struql_ast.specs.Reading.{condition_of, label_of, term_of, target_of};
+ghost use Rattle.struql_ast.specs.Reading.{label_of, term_of};
 ghost use Rattle.query_blocks.specs.Blocks.{scope_of};
-ghost use Rattle.constraint_recheck.specs.Recheck.{is_of as ends_in, is_quoted as has_label};
+ghost use Rattle.constraint_recheck.specs.Recheck.{is_quoted as has_label};
 ghost use Rattle.constraint_search.specs.Search.{find_names as names_found, find_use as found};
 ghost use Rattle.certificate_search.specs.Links.{numbered_of, IsPrepared, AreLinks};
 ghost use Rattle.certificate_search.specs.Uses.{ends_at, use_by};
 
 use crate::links::NumberedLink;
 use certificates::LinkUse;
-use entailment::Judge;
+use entailment::{Judge, is_of};
 use link_uses::{Search, find_names};
 use query_blocks::QueryBlocks;
 use sd_value::{NoMemory, Str};
 use std::alloc::Global;
-use struql_ast::{Chain, LinkLabel, SkolemTerm, Target};
+use struql_ast::{Chain, LinkLabel, SkolemTerm};
 
 /// A query, and what was found out of it before a search.
 #[derive(Drop)]
@@ -66,16 +66,6 @@ fn is_quoted(label: &LinkLabel, text: &Str) -> bool
     match label {
         LinkLabel::Quoted(quoted) => quoted == text,
         LinkLabel::Variable(_, _) => false,
-    }
-}
-
-/// Whether the target is a term of the function.
-pub fn is_of(target: &Target, function: &Str) -> bool
-    ensures { result ≡ ends_in function.now (target_of target.now) }
-{
-    match target {
-        Target::Plain(_) => false,
-        Target::Made(term) => term.function == *function,
     }
 }
 

@@ -1,3 +1,4 @@
 pub mod Stopped
 pub mod Once
 pub mod Law
+pub mod Answers

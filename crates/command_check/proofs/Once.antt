@@ -24,7 +24,7 @@ use Rattle.command_check.specs.ConstraintFile.{constraints_told, ConstraintsTake
 
 -- ---- the report
 
-same_test : (a b : Bool) (P : Type 0) → IsTrue a ↔ P → IsTrue b ↔ P → a ≡ b
+pub same_test : (a b : Bool) (P : Type 0) → IsTrue a ↔ P → IsTrue b ↔ P → a ≡ b
 same_test true true P h k = refl
 same_test true false P h k = sym (k.1 (h.0 refl))
 same_test false true P h k = h.1 (k.0 refl)

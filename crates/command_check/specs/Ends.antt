@@ -1,5 +1,5 @@
 -- The command `check --here`: whether the query's site over the data meets each of the constraints of a file.
-use Rattle.std.specs.Prelude.{ℕ, List, [], ◌∷◌, ◌++◌, Result, Ok, Err, ⊤}
+use Rattle.std.specs.Prelude.{ℕ, List, Result, Ok, Err, ⊤}
 use Rattle.edge_io.specs.Files.{FileMap}
 use Rattle.graph_spec.specs.DataGraph.{DataGraph}
 use Rattle.query_spec.specs.Query as plain
@@ -14,10 +14,6 @@ use Rattle.site_inputs.specs.Runs.{Then}
 use Rattle.site_inputs.specs.Sources.{GraphEnds, empty_building}
 use Rattle.site_inputs.specs.Sites.{QueryEnds}
 use Rattle.command_check.specs.ConstraintFile.{ConstraintsEnd}
-
--- the files that are read, in this order: the data, the query and the constraints
-abbrev pub here_paths : (sources : List (List ℕ)) (query constraints : List ℕ) → List (List ℕ)
-here_paths sources query constraints = sources ++ (query ∷ constraints ∷ [])
 
 -- How testing constraints in a query's site over a graph ends: with their report.
 abbrev pub ReportTaken

@@ -1,2 +1,4 @@
+pub mod CheckEnds
 pub mod ConstraintFile
 pub mod Ends
+pub mod Law

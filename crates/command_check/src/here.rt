@@ -1,8 +1,9 @@
 // The report of constraints in a query's site over data.
 ghost use Rattle.std.specs.Prelude.{◌≡◌};
 ghost use Rattle.std.specs.Option.{ForSome};
+ghost use Rattle.command_spec.specs.Inputs.{here_paths};
 ghost use Rattle.site_inputs.specs.Runs.{ReadsHaveCause};
-ghost use Rattle.command_check.specs.Ends.{ReportTaken, HereEnds, here_paths};
+ghost use Rattle.command_check.specs.Ends.{ReportTaken, HereEnds};
 
 use crate::constraint_file::load_constraints;
 use bindings::StoreAsker;

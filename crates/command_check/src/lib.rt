@@ -1,10 +1,13 @@
-//! The command `check --here`: the constraints of a file, tested in a query's site over data.
+//! The command `check`: the constraints of a file over every data graph, or with `--here` in a query's
+//! site over data.
 #![tactic(auto)]
 
+mod all;
 mod constraint_file;
 mod here;
 mod laws;
 
+pub use all::check_all;
 pub use constraint_file::load_constraints;
 pub use here::check_here;
-pub use laws::reports_are_decided;
+pub use laws::{answers_are_decided, reports_are_decided};

@@ -15,6 +15,7 @@ program_usage =
     ++ codes "  data DATA..                            prints the union of the data\n"
     ++ codes "  explain QUERY DATA..                   prints the plan of each block of the query\n"
     ++ codes "  schema QUERY                           prints the functions and the links of the site\n"
+    ++ codes "  check QUERY CONSTRAINTS                prints which constraints are proved for all data\n"
     ++ codes "  check --here QUERY CONSTRAINTS DATA..  prints whether the site meets its constraints\n"
     ++ codes "  serve QUERY TEMPLATES DATA..           serves the site over HTTP\n"
     ++ codes "  replay QUERY TEMPLATES SCRIPT DATA..   serves the site over the events of a script\n"
@@ -31,7 +32,7 @@ page_usage =
     ++ codes "  QUERY            the file of the query\n"
     ++ codes "  TEMPLATES        the file of the templates\n"
     ++ codes "  ADDRESS          the address of the page, from its first slash on\n"
-    ++ codes "  DATA             a data file: data text, CSV or JSON\n"
+    ++ codes "  DATA             a data file: data text, CSV, JSON or BibTeX\n"
 
 -- that of `build`
 abbrev pub build_usage : List ℕ
@@ -41,14 +42,14 @@ build_usage =
     ++ codes "  QUERY            the file of the query\n"
     ++ codes "  TEMPLATES        the file of the templates\n"
     ++ codes "  DIR              the folder of the files\n"
-    ++ codes "  DATA             a data file: data text, CSV or JSON\n"
+    ++ codes "  DATA             a data file: data text, CSV, JSON or BibTeX\n"
 
 -- that of `data`
 abbrev pub data_usage : List ℕ
 data_usage =
     codes "usage: strudel data DATA..\n\n"
     ++ codes "Prints the union of the data as one data text.\n\n"
-    ++ codes "  DATA             a data file: data text, CSV or JSON\n"
+    ++ codes "  DATA             a data file: data text, CSV, JSON or BibTeX\n"
 
 -- that of `explain`
 abbrev pub explain_usage : List ℕ
@@ -56,7 +57,7 @@ explain_usage =
     codes "usage: strudel explain QUERY DATA..\n\n"
     ++ codes "Prints the plan of each block of the query over the data.\n\n"
     ++ codes "  QUERY            the file of the query\n"
-    ++ codes "  DATA             a data file: data text, CSV or JSON\n"
+    ++ codes "  DATA             a data file: data text, CSV, JSON or BibTeX\n"
 
 -- that of `schema`
 abbrev pub schema_usage : List ℕ
@@ -69,11 +70,13 @@ schema_usage =
 -- that of `check`
 abbrev pub check_usage : List ℕ
 check_usage =
-    codes "usage: strudel check --here QUERY CONSTRAINTS DATA..\n\n"
-    ++ codes "Prints of each constraint whether the site of these data meets it.\n\n"
+    codes "usage: strudel check QUERY CONSTRAINTS\n"
+    ++ codes "       strudel check --here QUERY CONSTRAINTS DATA..\n\n"
+    ++ codes "Prints of each constraint whether it is proved for all data, and its certificate.\n"
+    ++ codes "With --here: whether the site of these data meets it.\n\n"
     ++ codes "  QUERY            the file of the query\n"
     ++ codes "  CONSTRAINTS      the file of the constraints\n"
-    ++ codes "  DATA             a data file: data text, CSV or JSON\n"
+    ++ codes "  DATA             a data file: data text, CSV, JSON or BibTeX\n"
     ++ codes "  --here           says that the constraints are tested over these data\n"
 
 -- that of `serve`
@@ -83,7 +86,7 @@ serve_usage =
     ++ codes "Serves the pages of the site on 127.0.0.1 over HTTP.\n\n"
     ++ codes "  QUERY            the file of the query\n"
     ++ codes "  TEMPLATES        the file of the templates\n"
-    ++ codes "  DATA             a data file: data text, CSV or JSON\n"
+    ++ codes "  DATA             a data file: data text, CSV, JSON or BibTeX\n"
     ++ codes "  --port N         the port, 1 to 65535 (8080)\n"
     ++ codes "  --connections N  connections that are taken, 1 to 4294967296 (4294967296)\n"
     ++ codes "  --requests N     replies of one connection, 1 to 4294967296 (1)\n"
@@ -92,6 +95,8 @@ serve_usage =
     ++ codes "  --idle MS        milliseconds that a silent client has, 1 to 4294967295 (5000)\n"
     ++ codes "  --stall MS       milliseconds that a reply waits for its client, 1 to 4294967295 "
     ++ codes "(10000)\n"
+    ++ codes "  --watch PATH     a file of data text that replaces the data when it has changed\n"
+    ++ codes "  --every N        connections after which it is read, 1 to 4294967296 (1)\n"
 
 -- that of `replay`
 abbrev pub replay_usage : List ℕ
@@ -101,7 +106,7 @@ replay_usage =
     ++ codes "  QUERY            the file of the query\n"
     ++ codes "  TEMPLATES        the file of the templates\n"
     ++ codes "  SCRIPT           the file of the events\n"
-    ++ codes "  DATA             a data file: data text, CSV or JSON\n"
+    ++ codes "  DATA             a data file: data text, CSV, JSON or BibTeX\n"
     ++ codes "  --requests N     replies of one connection, 1 to 4294967296 (1)\n"
     ++ codes "  --turns N        events that are taken, 1 to 4294967296 (4294967296)\n"
     ++ codes "  --cache N        pages that are kept, 1 to 4096 (256)\n"

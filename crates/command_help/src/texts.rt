@@ -14,6 +14,7 @@ usage: strudel COMMAND\n\
 \x20 data DATA..                            prints the union of the data\n\
 \x20 explain QUERY DATA..                   prints the plan of each block of the query\n\
 \x20 schema QUERY                           prints the functions and the links of the site\n\
+\x20 check QUERY CONSTRAINTS                prints which constraints are proved for all data\n\
 \x20 check --here QUERY CONSTRAINTS DATA..  prints whether the site meets its constraints\n\
 \x20 serve QUERY TEMPLATES DATA..           serves the site over HTTP\n\
 \x20 replay QUERY TEMPLATES SCRIPT DATA..   serves the site over the events of a script\n\
@@ -31,7 +32,7 @@ Prints the page of the site that has this address.\n\
 \x20 QUERY            the file of the query\n\
 \x20 TEMPLATES        the file of the templates\n\
 \x20 ADDRESS          the address of the page, from its first slash on\n\
-\x20 DATA             a data file: data text, CSV or JSON\n";
+\x20 DATA             a data file: data text, CSV, JSON or BibTeX\n";
 
 const BUILD_USAGE: &[u8] = b"\
 usage: strudel build QUERY TEMPLATES DIR DATA..\n\
@@ -41,14 +42,14 @@ Writes every page of the site to its file, and prints how many there are.\n\
 \x20 QUERY            the file of the query\n\
 \x20 TEMPLATES        the file of the templates\n\
 \x20 DIR              the folder of the files\n\
-\x20 DATA             a data file: data text, CSV or JSON\n";
+\x20 DATA             a data file: data text, CSV, JSON or BibTeX\n";
 
 const DATA_USAGE: &[u8] = b"\
 usage: strudel data DATA..\n\
 \n\
 Prints the union of the data as one data text.\n\
 \n\
-\x20 DATA             a data file: data text, CSV or JSON\n";
+\x20 DATA             a data file: data text, CSV, JSON or BibTeX\n";
 
 const EXPLAIN_USAGE: &[u8] = b"\
 usage: strudel explain QUERY DATA..\n\
@@ -56,7 +57,7 @@ usage: strudel explain QUERY DATA..\n\
 Prints the plan of each block of the query over the data.\n\
 \n\
 \x20 QUERY            the file of the query\n\
-\x20 DATA             a data file: data text, CSV or JSON\n";
+\x20 DATA             a data file: data text, CSV, JSON or BibTeX\n";
 
 const SCHEMA_USAGE: &[u8] = b"\
 usage: strudel schema [--dot] QUERY\n\
@@ -67,13 +68,15 @@ Prints the functions and the links of the site.\n\
 \x20 --dot            prints a picture in Graphviz's language\n";
 
 const CHECK_USAGE: &[u8] = b"\
-usage: strudel check --here QUERY CONSTRAINTS DATA..\n\
+usage: strudel check QUERY CONSTRAINTS\n\
+\x20      strudel check --here QUERY CONSTRAINTS DATA..\n\
 \n\
-Prints of each constraint whether the site of these data meets it.\n\
+Prints of each constraint whether it is proved for all data, and its certificate.\n\
+With --here: whether the site of these data meets it.\n\
 \n\
 \x20 QUERY            the file of the query\n\
 \x20 CONSTRAINTS      the file of the constraints\n\
-\x20 DATA             a data file: data text, CSV or JSON\n\
+\x20 DATA             a data file: data text, CSV, JSON or BibTeX\n\
 \x20 --here           says that the constraints are tested over these data\n";
 
 const SERVE_USAGE: &[u8] = b"\
@@ -83,14 +86,16 @@ Serves the pages of the site on 127.0.0.1 over HTTP.\n\
 \n\
 \x20 QUERY            the file of the query\n\
 \x20 TEMPLATES        the file of the templates\n\
-\x20 DATA             a data file: data text, CSV or JSON\n\
+\x20 DATA             a data file: data text, CSV, JSON or BibTeX\n\
 \x20 --port N         the port, 1 to 65535 (8080)\n\
 \x20 --connections N  connections that are taken, 1 to 4294967296 (4294967296)\n\
 \x20 --requests N     replies of one connection, 1 to 4294967296 (1)\n\
 \x20 --turns N        events that are taken, 1 to 4294967296 (4294967296)\n\
 \x20 --cache N        pages that are kept, 1 to 4096 (256)\n\
 \x20 --idle MS        milliseconds that a silent client has, 1 to 4294967295 (5000)\n\
-\x20 --stall MS       milliseconds that a reply waits for its client, 1 to 4294967295 (10000)\n";
+\x20 --stall MS       milliseconds that a reply waits for its client, 1 to 4294967295 (10000)\n\
+\x20 --watch PATH     a file of data text that replaces the data when it has changed\n\
+\x20 --every N        connections after which it is read, 1 to 4294967296 (1)\n";
 
 const REPLAY_USAGE: &[u8] = b"\
 usage: strudel replay [OPTION..] QUERY TEMPLATES SCRIPT DATA..\n\
@@ -100,7 +105,7 @@ Serves the pages of the site to the connections of a script, and prints the repl
 \x20 QUERY            the file of the query\n\
 \x20 TEMPLATES        the file of the templates\n\
 \x20 SCRIPT           the file of the events\n\
-\x20 DATA             a data file: data text, CSV or JSON\n\
+\x20 DATA             a data file: data text, CSV, JSON or BibTeX\n\
 \x20 --requests N     replies of one connection, 1 to 4294967296 (1)\n\
 \x20 --turns N        events that are taken, 1 to 4294967296 (4294967296)\n\
 \x20 --cache N        pages that are kept, 1 to 4096 (256)\n";

@@ -29,7 +29,7 @@ use Rattle.command_replay.specs.Ends.{run_end, IsReplayed, RunEnds, IsRun, IsUnr
 use Rattle.site_inputs.specs.Outside.{Host, PutsRose, AllRead, HasStatus}
 use Rattle.command_replay.specs.Law.{ReplayIsDecided, ReplayEndsWell}
 use Rattle.site_inputs.proofs.Endings.{ok_same, not_both, by_reason, not_refused}
-use Rattle.serve_run.proofs.TurnsLeft.{turns_left}
+use Rattle.site_serving.proofs.TurnsLeft.{turns_left}
 
 -- ---- a script's bytes decide how it ends
 

@@ -1,6 +1,7 @@
 -- A site that was served over the events of a script.
-use Rattle.std.proofs.Common.{◌≡◌, ℕ, List, [], ◌∷◌, take, drop, refl, ap, subst, ◌∙◌}
+use Rattle.std.proofs.Common.{◌≡◌, ℕ, Bool, List, [], ◌∷◌, take, drop, refl, ap, subst, ◌∙◌}
 use Rattle.std.proofs.lemmas.List.Elements.{All-weaker, Contains-append_right}
+use Rattle.std.specs.List.{list_any}
 use Rattle.std.specs.Prelude.{All, Contains, Option, Some, None, IfSome, IsSome}
 use Rattle.wire.specs.declared.WireEvent.{WireEvent}
 use Rattle.wire.specs.declared.WireEvent.TheVariants.{Opened, Bytes, Ended, Lost, Change, Done}
@@ -12,10 +13,10 @@ use Rattle.command_spec.specs.declared.ReplayCommand.{ReplayCommand}
 use Rattle.serving_spec.specs.declared.Served.{Served}
 use Rattle.serving_spec.specs.Openings.{opened_in}
 use Rattle.serve_run.specs.Texts.{replay_text}
-use Rattle.serve_run.specs.Served.{ServesSite}
+use Rattle.site_serving.specs.Served.{ServesSite}
 use Rattle.command_spec.specs.Inputs.{input_paths, replay_paths}
 use Rattle.command_replay.specs.Scripts.{Scripted}
-use Rattle.command_replay.specs.Ends.{nothing_sent, ReportsOpened, IsFresh, run_end, IsReplayed}
+use Rattle.command_replay.specs.Ends.{nothing_sent, ReportsOpened, IsFresh, is_change, run_end, IsReplayed}
 
 pub of_script : (command : ReplayCommand) (path : List ℕ) → Contains (command.script ∷ []) path → Contains (replay_paths command) path
 of_script command path h = Contains-append_right (input_paths command.sources command.query command.templates) (command.script ∷ []) path h
@@ -51,12 +52,12 @@ module _ (events : List WireEvent) (w : WireInMemory) (its : w.events ≡ events
     none_failed = λ number. new_faults (entry_of w number) (new number);
   }
 
-module _ (s : Scripted) (limits : RunLimits) (w after : WireInMemory) (served : Served) (ended : HubEnd) (text opened : List ℕ) where
+module _ (s : Scripted) (limits : RunLimits) (w after : WireInMemory) (served : Served) (ended : HubEnd) (text opened : List ℕ) (with_changes : Bool) where
   pub is_replayed : IsFresh s.events (told_of w)
       → ServesSite s.site limits (told_of w) (told_of after) served
       → ended ≡ run_end served.end → opened ≡ opened_in (take limits.turns s.events) → All (λ number. faults_in after number ≡ 0) opened
-      → text ≡ replay_text (accounts_of after) opened served.tally → IsReplayed s limits ended text
-  is_replayed fresh serves its_end is_opened whole is = record {
+      → with_changes ≡ list_any is_change s.events → text ≡ replay_text (accounts_of after) opened with_changes served.tally → IsReplayed s limits ended text
+  is_replayed fresh serves its_end is_opened whole with_is is = record {
     before = told_of w;
     after = told_of after;
     served = served;
@@ -64,5 +65,6 @@ module _ (s : Scripted) (limits : RunLimits) (w after : WireInMemory) (served : 
     fresh = fresh;
     serves = serves;
     none_failed = subst (All (λ number. faults_in after number ≡ 0)) is_opened whole;
-    is = is ∙ ap (λ (numbers : List ℕ). replay_text (accounts_of after) numbers served.tally) is_opened;
+    is = is ∙ ap (λ (numbers : List ℕ). replay_text (accounts_of after) numbers with_changes served.tally) is_opened
+        ∙ ap (λ (told : Bool). replay_text (accounts_of after) (opened_in (take limits.turns s.events)) told served.tally) with_is;
   }

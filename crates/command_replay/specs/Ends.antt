@@ -1,6 +1,7 @@
 -- The command `replay`: the pages of a site over the events of a script.
-use Rattle.std.specs.Prelude.{◌≡◌, ◌⊎◌, ℕ, List, [], take, All, IfSome, IsSome, ⊤}
+use Rattle.std.specs.Prelude.{◌≡◌, ◌⊎◌, ℕ, Bool, true, false, List, [], take, All, IfSome, IsSome, ⊤}
 use Rattle.std.specs.Prelude.{Option, Some, Ok, Err}
+use Rattle.std.specs.List.{list_any}
 use Rattle.edge_io.specs.Sink.{Gains, GainsPart}
 use Rattle.wire.specs.Accounts.{Account}
 use Rattle.wire.specs.Told.{Told}
@@ -18,7 +19,7 @@ use Rattle.site_inputs.specs.Outside.{Host, PutsRose}
 use Rattle.serving_spec.specs.declared.Served.{Served}
 use Rattle.serving_spec.specs.Openings.{opened_in}
 use Rattle.serve_run.specs.Texts.{replay_text}
-use Rattle.serve_run.specs.Served.{ServesSite}
+use Rattle.site_serving.specs.Served.{ServesSite}
 use Rattle.serve_run.specs.Puts.{IsPut}
 use Rattle.command_replay.specs.Scripts.{Scripted, ScriptedEnd}
 
@@ -48,8 +49,17 @@ abbrev pub run_end : HubEnd → HubEnd
 run_end end.WireFailed = end.NoMemory
 run_end ended = ended
 
+-- the event is a text that is to change the data
+abbrev pub is_change : WireEvent → Bool
+is_change (Opened number) = false
+is_change (Bytes number piece) = false
+is_change (Ended number) = false
+is_change (Lost number) = false
+is_change (Change text) = true
+is_change Done = false
+
 -- The site was served over a wire in memory of the script's events, and the text reports what each connection that was
--- opened has taken, ascending, and then the counts. No send to them failed.
+-- opened has taken, ascending, and then the counts, those of texts only where the script has one. No send to them failed.
 pub record IsReplayed (s : Scripted) (limits : RunLimits) (ended : HubEnd)
     (text : List ℕ) : Type 0 where
   pub before : Told
@@ -59,7 +69,8 @@ pub record IsReplayed (s : Scripted) (limits : RunLimits) (ended : HubEnd)
   pub fresh : IsFresh s.events before
   pub serves : ServesSite s.site limits before after served
   pub none_failed : All (λ number. after.faults number ≡ 0) (opened_in (take limits.turns s.events))
-  pub is : text ≡ replay_text after.account (opened_in (take limits.turns s.events)) served.tally
+  pub is : text ≡ replay_text after.account (opened_in (take limits.turns s.events))
+      (list_any is_change s.events) served.tally
 
 -- What a run over a script has put, and why it has this status. A fault of the output doesn't change the status of a run
 -- that was cut off. Where memory ran out nothing was put.

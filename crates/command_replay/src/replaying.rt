@@ -1,5 +1,6 @@
 // The command `replay`.
 ghost use Rattle.std.specs.Prelude.{◌≡◌, IfOk, take, length};
+ghost use Rattle.std.specs.List.{list_any};
 ghost use Rattle.std.specs.Option.{ForSome};
 ghost use Rattle.edge_io.specs.Counts.{Rose};
 ghost use Rattle.command_spec.specs.Ranges.{AreLimits};
@@ -8,7 +9,7 @@ ghost use Rattle.site_inputs.specs.Statuses.{ReadRose, IsSilent};
 ghost use Rattle.site_inputs.specs.Outside.{host};
 ghost use Rattle.command_spec.specs.Inputs.{replay_paths};
 ghost use Rattle.command_replay.specs.Scripts.{scripted_of, scripted_result, ScriptedEnd};
-ghost use Rattle.command_replay.specs.Ends.{run_end, IsReplayed, ReplayEnds};
+ghost use Rattle.command_replay.specs.Ends.{is_change, run_end, IsReplayed, ReplayEnds};
 
 use crate::script::load_script;
 use command_spec::{ReplayCommand, RunLimits};
@@ -17,8 +18,9 @@ use hub::HubEnd;
 use mem_wire::MemWire;
 use run_report::Status;
 use sd_value::NoMemory;
-use serve_run::{opened_in, put_end, replay_text, serve_site};
+use serve_run::{opened_in, put_end, replay_text};
 use site_inputs::{Fault, SiteInputs, load_inputs};
+use site_serving::serve_site;
 use std::alloc::Global;
 use wire::WireEvent;
 
@@ -80,15 +82,33 @@ fn run_end(end: HubEnd) -> HubEnd
     }
 }
 
+// Whether the event is a text that is to change the data.
+fn is_change(event: &WireEvent) -> bool
+    ensures { result ≡ is_change event.now }
+{
+    match event {
+        WireEvent::Change(_) => true,
+        _ => false,
+    }
+}
+
+// Whether one of the events is such a text.
+fn have_change(events: &[WireEvent]) -> bool
+    ensures { result ≡ list_any is_change events.now }
+{
+    events.iter().any(|event| is_change(event))
+}
+
 // Serves the site over a wire in memory of the script's events.
 fn play(alloc: Global, script: Script, limits: &RunLimits) -> Result<Finished, NoMemory>
     requires { AreLimits limits.now }
     ensures { IfOk result (λ r. IsReplayed (scripted_of script) limits.now r.end r.text.items) }
 {
     let opened = opened_in(alloc, first_events(&script.events, limits.turns))?;
+    let with_changes = have_change(&script.events);
     let mut wire = MemWire::new(alloc, script.events, Vec::new(alloc), Vec::new(alloc))?;
     let served = serve_site(alloc, script.site, limits, &mut wire);
-    let text = replay_text(alloc, &wire, &opened, &served.tally)?;
+    let text = replay_text(alloc, &wire, &opened, with_changes, &served.tally)?;
     Ok(Finished {
         end: run_end(served.end),
         text,

@@ -6,7 +6,7 @@ use Rattle.edge_io.specs.Files.{FileMap}
 use Rattle.run_report.specs.declared.status.Status.{Status}
 use Rattle.run_report.specs.declared.status.Status.TheVariants as status
 use Rattle.command_spec.specs.declared.Command.{Command}
-use Rattle.command_spec.specs.declared.Command.TheVariants.{Page, Build, Data, Explain, Schema, Check, Serve, Replay, Trial, Help, Version}
+use Rattle.command_spec.specs.declared.Command.TheVariants.{Page, Build, Data, Explain, Schema, Check, CheckAll, Serve, Replay, Trial, Help, Version}
 use Rattle.site_inputs.specs.Statuses.{ReadRose}
 use Rattle.edge_io.specs.Counts.{Rose}
 use Rattle.wire.specs.Told.{Told}
@@ -36,6 +36,7 @@ module _ (contents : Option FileMap) (before after : Outside) where
   complete_end (Explain command) reached ends read write wire = λ all. tt
   complete_end (Schema command) reached ends read write wire = λ all. tt
   complete_end (Check command) reached ends read write wire = λ all. tt
+  complete_end (CheckAll command) reached ends read write wire = λ all. tt
   complete_end (Trial command) reached ends read write wire = λ all. tt
   complete_end (Help command) reached ends read write wire = λ all. tt
   complete_end Version reached ends read write wire = λ all. tt
@@ -58,6 +59,7 @@ module _ (contents : Option FileMap) (before after : Outside) where
   short_run (Explain command) reached memory = tt
   short_run (Schema command) reached memory = tt
   short_run (Check command) reached memory = tt
+  short_run (CheckAll command) reached memory = tt
   short_run (Trial command) reached memory = tt
   short_run (Help command) reached memory = tt
   short_run Version reached memory = tt

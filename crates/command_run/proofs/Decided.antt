@@ -2,7 +2,7 @@
 use Rattle.edge_io.specs.Files.{FileMap}
 use Rattle.command_spec.specs.declared.Command.{Command}
 use Rattle.command_spec.specs.declared.HereCommand.{HereCommand}
-use Rattle.command_spec.specs.declared.Command.TheVariants.{Page, Build, Data, Explain, Schema, Check, Serve, Replay, Trial, Help, Version}
+use Rattle.command_spec.specs.declared.Command.TheVariants.{Page, Build, Data, Explain, Schema, Check, CheckAll, Serve, Replay, Trial, Help, Version}
 use Rattle.site_inputs.specs.Runs.{Decides}
 use Rattle.command_page.proofs.Law.{page_decides}
 use Rattle.command_data.proofs.Law.{data_decides}
@@ -22,6 +22,7 @@ answer_decides map (Trial command) = trial_decides command
 answer_decides map (Help command) = help_decides command
 answer_decides map Version = version_decides
 answer_decides map (Check command) = record { once = λ one other a b d e. absurd a }
+answer_decides map (CheckAll command) = record { once = λ one other a b d e. absurd a }
 answer_decides map (Build command) = record { once = λ one other a b d e. absurd a }
 answer_decides map (Serve command) = record { once = λ one other a b d e. absurd a }
 answer_decides map (Replay command) = record { once = λ one other a b d e. absurd a }

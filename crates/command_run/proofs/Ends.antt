@@ -9,13 +9,14 @@ use Rattle.site_inputs.specs.declared.fault.Fault.TheVariants as fault
 use Rattle.run_report.specs.declared.status.Status.{Status}
 use Rattle.run_report.specs.declared.status.Status.TheVariants.{Ok, NotAllYes, Usage, Refused, ReadFault, WriteFault, WireFault, PageFault, NoMemory, NotFound, TurnsSpent}
 use Rattle.command_spec.specs.declared.Command.{Command}
-use Rattle.command_spec.specs.declared.Command.TheVariants.{Page, Build, Data, Explain, Schema, Check, Serve, Replay, Trial, Help, Version}
+use Rattle.command_spec.specs.declared.Command.TheVariants.{Page, Build, Data, Explain, Schema, Check, CheckAll, Serve, Replay, Trial, Help, Version}
 use Rattle.command_spec.specs.declared.BuildCommand.{BuildCommand}
 use Rattle.command_spec.specs.declared.PageCommand.{PageCommand}
 use Rattle.command_spec.specs.declared.DataCommand.{DataCommand}
 use Rattle.command_spec.specs.declared.ExplainCommand.{ExplainCommand}
 use Rattle.command_spec.specs.declared.SchemaCommand.{SchemaCommand}
 use Rattle.command_spec.specs.declared.HereCommand.{HereCommand}
+use Rattle.command_spec.specs.declared.CheckAllCommand.{CheckAllCommand}
 use Rattle.constraint_report.specs.declared.report.Report.{Report}
 use Rattle.command_spec.specs.declared.ServeCommand.{ServeCommand}
 use Rattle.command_spec.specs.declared.ReplayCommand.{ReplayCommand}
@@ -42,11 +43,11 @@ use Rattle.command_trial.specs.Ends.{TrialEnds}
 use Rattle.command_help.specs.Texts.{usage_of, version_text}
 use Rattle.command_help.specs.Ends.{HelpEnds, VersionEnds}
 use Rattle.command_data.specs.Ends.{DataEnds}
-use Rattle.command_spec.specs.Inputs.{explain_paths, here_paths}
+use Rattle.command_spec.specs.Inputs.{explain_paths, here_paths, check_paths}
 use Rattle.command_explain.specs.Ends.{ExplainEnds}
 use Rattle.command_schema.specs.Ends.{SchemaEnds}
 use Rattle.command_check.specs.Ends.{HereEnds}
-use Rattle.command_check.specs.Ends as checked
+use Rattle.command_check.specs.CheckEnds.{CheckEnds}
 use Rattle.command_spec.specs.Inputs.{inputs_of_command, given_inputs}
 use Rattle.command_run.specs.Top.{TextEnds, CheckAnswers, ReportEnds, Ends, RunEnds, WriteRose, WritesNoFile, UsesNoWire}
 use Rattle.command_run.proofs.Reports.{report_as, report_read_rose, memory_report_ends}
@@ -112,10 +113,15 @@ schema_read_rose command c answer old new before now status is h cause =
     subst (λ (d : Command). ReadRose (inputs_of_command d) before now status) (sym is) (text_read_rose (c.query ∷ []) answer old new before now status h cause)
 
 pub check_read_rose : (command : Command) (c : HereCommand) (sources : List (List ℕ)) (answer : Result Report Fault) (old new : Option (List ℕ)) (before now : List ℕ → ℕ) (status : Status) → command ≡ Check c → sources ≡ c.sources
-    → ReportEnds (λ a. a ≡ answer) old new status → ReadsHaveCause (checked.here_paths sources c.query c.constraints) before now answer → ReadRose (inputs_of_command command) before now status
+    → ReportEnds (λ a. a ≡ answer) old new status → ReadsHaveCause (here_paths sources c.query c.constraints) before now answer → ReadRose (inputs_of_command command) before now status
 check_read_rose command c sources answer old new before now status is same h cause =
     subst (λ (d : Command). ReadRose (inputs_of_command d) before now status) (sym is)
-    (report_read_rose (here_paths c) answer old new before now status h (subst (λ (s : List (List ℕ)). ReadsHaveCause (checked.here_paths s c.query c.constraints) before now answer) same cause))
+    (report_read_rose (here_paths c.sources c.query c.constraints) answer old new before now status h (subst (λ (s : List (List ℕ)). ReadsHaveCause (here_paths s c.query c.constraints) before now answer) same cause))
+
+pub check_all_read_rose : (command : Command) (c : CheckAllCommand) (answer : Result Report Fault) (old new : Option (List ℕ)) (before now : List ℕ → ℕ) (status : Status) → command ≡ CheckAll c
+    → ReportEnds (λ a. a ≡ answer) old new status → ReadsHaveCause (check_paths c.query c.constraints) before now answer → ReadRose (inputs_of_command command) before now status
+check_all_read_rose command c answer old new before now status is h cause =
+    subst (λ (d : Command). ReadRose (inputs_of_command d) before now status) (sym is) (report_read_rose (check_paths c.query c.constraints) answer old new before now status h cause)
 
 pub trial_read_rose : (command : Command) (c : TrialCommand) (answer : Result (List ℕ) Fault) (old new : Option (List ℕ)) (before now : List ℕ → ℕ) (status : Status) → command ≡ Trial c
     → TextEnds (λ a. a ≡ answer) old new status → TrialEnds c answer → ReadRose (inputs_of_command command) before now status
@@ -198,6 +204,7 @@ no_memory_ends (Some (Data command)) before after files out wire = out
 no_memory_ends (Some (Explain command)) before after files out wire = out
 no_memory_ends (Some (Schema command)) before after files out wire = out
 no_memory_ends (Some (Check command)) before after files out wire = out
+no_memory_ends (Some (CheckAll command)) before after files out wire = out
 no_memory_ends (Some (Trial command)) before after files out wire = out
 no_memory_ends (Some (Help command)) before after files out wire = out
 no_memory_ends (Some Version) before after files out wire = out
@@ -259,7 +266,7 @@ module _ (command : ReplayCommand) (before after : Host) (reported : Status) whe
 module _ (command : ServeCommand) (before after : Outside) (reported : Status) where
   -- only an input ends a run so
   unread_serve : (status : Status) → IsSilent status → ServeEnds command before after status → ServeEnds command before after NoMemory
-  unread_serve status quiet (inl over) = absurd (never_silent over.inputs command.options before after status over.ends quiet)
+  unread_serve status quiet (inl over) = absurd (never_silent over.inputs command.watch command.options before after status over.ends quiet)
   unread_serve status quiet (inr unread) = serve_no_memory command before after unread.wire unread.out
 
   memory_serve_ends : (status : Status) → ServeEnds command before after status → (IsFixed status → reported ≡ status) → reported ≡ NoMemory → ServeEnds command before after NoMemory
@@ -284,6 +291,7 @@ module _ (before after : Outside) where
   memory_run_ends (Some (Explain command)) status reported ends silent fixed memory = memory_text_ends (ExplainEnds before.host.files command) before.host.output after.host.output status reported ends silent fixed memory
   memory_run_ends (Some (Schema command)) status reported ends silent fixed memory = memory_text_ends (SchemaEnds before.host.files command) before.host.output after.host.output status reported ends silent fixed memory
   memory_run_ends (Some (Check command)) status reported ends silent fixed memory = memory_report_ends (CheckAnswers before.host.files command) before.host.output after.host.output status reported ends silent fixed memory
+  memory_run_ends (Some (CheckAll command)) status reported ends silent fixed memory = memory_report_ends (CheckEnds before.host.files command.query command.constraints) before.host.output after.host.output status reported ends silent fixed memory
   memory_run_ends (Some (Trial command)) status reported ends silent fixed memory = memory_text_ends (TrialEnds command) before.host.output after.host.output status reported ends silent fixed memory
   memory_run_ends (Some (Help command)) status reported ends silent fixed memory = memory_text_ends (HelpEnds command) before.host.output after.host.output status reported ends silent fixed memory
   memory_run_ends (Some Version) status reported ends silent fixed memory = memory_text_ends VersionEnds before.host.output after.host.output status reported ends silent fixed memory
@@ -372,6 +380,12 @@ module _ (reads reads_now writes writes_now : List ℕ → ℕ) (output output_n
       let its : CheckAnswers map c answer = subst (λ (s : List (List ℕ)). HereEnds map s c.query c.constraints answer) given ends in
       stays o n map command (Check c) status same told is (report_as (λ a. a ≡ answer) (CheckAnswers map c) output output_now status (λ a e. subst (CheckAnswers map c) (sym e) its) put)
 
+  pub check_all_told : (o n : Option FileMap) (map : FileMap) (command : Command) (c : CheckAllCommand) (answer : Result Report Fault) (status : Status) → n ≡ o → o ≡ Some map → command ≡ CheckAll c
+      → CheckEnds map c.query c.constraints answer → ReportEnds (λ a. a ≡ answer) output output_now status → IsSomeAnd n (λ now. Ends command (Before map) (After now) status)
+  check_all_told o n map command c answer status same told is ends put =
+      stays o n map command (CheckAll c) status same told is
+      (report_as (λ a. a ≡ answer) (CheckEnds map c.query c.constraints) output output_now status (λ a e. subst (CheckEnds map c.query c.constraints) (sym e) ends) put)
+
   pub trial_told : (o n : Option FileMap) (map : FileMap) (command : Command) (c : TrialCommand) (answer : Result (List ℕ) Fault) (status : Status) → n ≡ o → o ≡ Some map → command ≡ Trial c
       → TrialEnds c answer → TextEnds (λ a. a ≡ answer) output output_now status → IsSomeAnd n (λ now. Ends command (Before map) (After now) status)
   trial_told o n map command c answer status same told is ends put = stays o n map command (Trial c) status same told is (answered (TrialEnds c) answer status ends put)
@@ -420,6 +434,9 @@ schema_write_rose command c contents before now P is p = subst (λ (d : Command)
 
 pub check_write_rose : (command : Command) (c : HereCommand) (contents : Option FileMap) (before now : List ℕ → ℕ) (P : Type 0) → command ≡ Check c → P → WriteRose (Some command) contents before now P
 check_write_rose command c contents before now P is p = subst (λ (d : Command). WriteRose (Some d) contents before now P) (sym is) p
+
+pub check_all_write_rose : (command : Command) (c : CheckAllCommand) (contents : Option FileMap) (before now : List ℕ → ℕ) (P : Type 0) → command ≡ CheckAll c → P → WriteRose (Some command) contents before now P
+check_all_write_rose command c contents before now P is p = subst (λ (d : Command). WriteRose (Some d) contents before now P) (sym is) p
 
 pub trial_write_rose : (command : Command) (c : TrialCommand) (contents : Option FileMap) (before now : List ℕ → ℕ) (P : Type 0) → command ≡ Trial c → P → WriteRose (Some command) contents before now P
 trial_write_rose command c contents before now P is p = subst (λ (d : Command). WriteRose (Some d) contents before now P) (sym is) p

@@ -3,3 +3,4 @@ pub mod Decided
 pub mod Exact
 pub mod Complete
 pub mod Reports
+pub mod Checked

@@ -3,8 +3,8 @@ use Rattle.std.specs.Prelude.{⊤}
 use Rattle.run_report.specs.declared.status.Status.{Status}
 use Rattle.command_spec.specs.Inputs.{inputs_of_command}
 use Rattle.command_spec.specs.declared.Command.{Command}
-use Rattle.command_spec.specs.declared.Command.TheVariants.{Page, Build, Data, Explain, Schema, Check, Serve}
-use Rattle.command_spec.specs.declared.Command.TheVariants.{Replay, Trial, Help, Version}
+use Rattle.command_spec.specs.declared.Command.TheVariants.{Page, Build, Data, Explain, Schema, Check, CheckAll}
+use Rattle.command_spec.specs.declared.Command.TheVariants.{Serve, Replay, Trial, Help, Version}
 use Rattle.site_inputs.specs.Outside.{Outside, AllRead}
 use Rattle.command_build.specs.Law.{BuildIsDecided}
 use Rattle.command_serve.specs.Law.{ServingIsDecided}
@@ -23,6 +23,7 @@ IsDecidedRun (Data command) before after reached = ⊤
 IsDecidedRun (Explain command) before after reached = ⊤
 IsDecidedRun (Schema command) before after reached = ⊤
 IsDecidedRun (Check command) before after reached = ⊤
+IsDecidedRun (CheckAll command) before after reached = ⊤
 IsDecidedRun (Trial command) before after reached = ⊤
 IsDecidedRun (Help command) before after reached = ⊤
 IsDecidedRun Version before after reached = ⊤

@@ -7,8 +7,8 @@ use Rattle.constraint_report.specs.declared.report.Report.{Report}
 use Rattle.command_spec.specs.Inputs.{inputs_of_command}
 use Rattle.command_spec.specs.declared.HereCommand.{HereCommand}
 use Rattle.command_spec.specs.declared.Command.{Command}
-use Rattle.command_spec.specs.declared.Command.TheVariants.{Page, Build, Data, Explain, Schema, Check, Serve}
-use Rattle.command_spec.specs.declared.Command.TheVariants.{Replay, Trial, Help, Version}
+use Rattle.command_spec.specs.declared.Command.TheVariants.{Page, Build, Data, Explain, Schema, Check, CheckAll}
+use Rattle.command_spec.specs.declared.Command.TheVariants.{Serve, Replay, Trial, Help, Version}
 use Rattle.site_inputs.specs.declared.fault.Fault.{Fault}
 use Rattle.site_inputs.specs.declared.fault.Fault.TheVariants as fault
 use Rattle.site_inputs.specs.Outside.{Host, Outside, PutsRose, AllRead}
@@ -20,6 +20,8 @@ use Rattle.command_data.specs.Ends.{DataEnds}
 use Rattle.command_explain.specs.Ends.{ExplainEnds}
 use Rattle.command_schema.specs.Ends.{SchemaEnds}
 use Rattle.command_check.specs.Ends.{HereEnds}
+use Rattle.command_check.specs.CheckEnds.{CheckEnds}
+use Rattle.command_check.specs.Law.{CheckIsDecided, YesHolds}
 use Rattle.command_serve.specs.Ends.{ServeEnds}
 use Rattle.command_replay.specs.Ends.{ReplayEnds}
 use Rattle.command_trial.specs.Ends.{TrialEnds}
@@ -30,7 +32,8 @@ use Rattle.run_report.specs.declared.status.Status.TheVariants.{WireFault, PageF
 
 -- The answer of a command: the text that it writes, or the fault that it ends with. A build is answered by files, and a run
 -- over connections by replies, so they have none here: `BuildEnds`, `ServeEnds` and `ReplayEnds` say how they end. The
--- answer of `check --here` is a report, which has more than a text: `CheckAnswers`.
+-- answer of `check` is a report, which has more than a text: `CheckAnswers` over data, and `CheckEnds` over every data
+-- graph.
 abbrev pub Answers : FileMap → Command → Result (List ℕ) Fault → Type 0
 Answers map (Page command) = PageEnds map command
 Answers map (Data command) = DataEnds map command
@@ -40,6 +43,7 @@ Answers map (Trial command) = TrialEnds command
 Answers map (Help command) = HelpEnds command
 Answers map Version = VersionEnds
 Answers map (Check command) = λ answer. ⊥
+Answers map (CheckAll command) = λ answer. ⊥
 Answers map (Build command) = λ answer. ⊥
 Answers map (Serve command) = λ answer. ⊥
 Answers map (Replay command) = λ answer. ⊥
@@ -92,7 +96,8 @@ module _ (Answer : Result Report Fault → Type 0) (old new : Option (List ℕ))
     pub gained : GainsPart old new report.text
 
   -- What the run of a command whose answer is a report has put, and why it has this status: its text was put, and all
-  -- constraints are met or not, or the fault that it is answered ended it.
+  -- constraints are met or not (over every data graph: known to be met or not), or the fault that it is answered ended
+  -- it.
   abbrev pub ReportEnds : Status → Type 0
   ReportEnds Ok = PutsReport prelude.true
   ReportEnds NotAllYes = PutsReport prelude.false
@@ -119,6 +124,9 @@ Ends (Schema command) before after =
     TextEnds (SchemaEnds before.host.files command) before.host.output after.host.output
 Ends (Check command) before after =
     ReportEnds (CheckAnswers before.host.files command) before.host.output after.host.output
+Ends (CheckAll command) before after =
+    ReportEnds (CheckEnds before.host.files command.query command.constraints)
+    before.host.output after.host.output
 Ends (Trial command) before after =
     TextEnds (TrialEnds command) before.host.output after.host.output
 Ends (Help command) before after =
@@ -174,11 +182,27 @@ IsExactEnd {A} Answer status_is text_of paths before after reached =
     × IfOk answer (λ a. Gains before.output after.output (text_of a)))
     ⊎ (reached ≡ NoMemory)
 
--- the same of a command and its own files
+-- The same of a command and its own files. Of `check` over every data graph the inputs decide the status, and that a
+-- certificate is shown where there is one: which of several isn't said.
 abbrev pub IsExact : Command → (before after : Host) → Status → Type 0
 IsExact (Check command) before after =
     IsExactEnd (CheckAnswers before.files command) report_status (λ r. r.text)
     (inputs_of_command (Check command)) before after
+IsExact (CheckAll command) before after = λ reached.
+    AllRead (inputs_of_command (CheckAll command)) before after → ¬ PutsRose before after
+    → CheckIsDecided before.files command.query command.constraints reached
 IsExact command before after =
     IsExactEnd (Answers before.files command) answer_status (λ text. text)
     (inputs_of_command command) before after
+
+-- a status at which a command has told of all constraints
+abbrev pub HasTold : Status → Type 0
+HasTold Ok = ⊤
+HasTold NotAllYes = ⊤
+HasTold reached = ⊥
+
+-- Each constraint that `check` has answered yes is met in the query's site over every data graph.
+abbrev pub AnswersHold : Command → FileMap → (old new : Option (List ℕ)) → Status → Type 0
+AnswersHold (CheckAll command) map old new reached =
+    HasTold reached → YesHolds map command.query command.constraints old new reached
+AnswersHold command map old new reached = ⊤

@@ -11,11 +11,11 @@ ghost use Rattle.site_inputs.specs.Statuses.{ReadRose, IsSilent};
 ghost use Rattle.site_inputs.specs.Outside.{host, outside};
 ghost use Rattle.command_run.specs.Complete.{IsComplete};
 ghost use Rattle.command_spec.specs.Inputs.{inputs_of_command, given_inputs};
-ghost use Rattle.command_run.specs.Top.{Ends, TextEnds, ReportEnds, RunEnds, IsExact};
+ghost use Rattle.command_run.specs.Top.{Ends, TextEnds, ReportEnds, RunEnds, IsExact, AnswersHold};
 ghost use Rattle.command_run.specs.Top.{WriteRose, WritesNoFile, UsesNoWire};
 
 use command_build::build;
-use command_check::check_here;
+use command_check::{check_all, check_here};
 use command_data::data;
 use command_explain::explain;
 use command_help::{help, version};
@@ -127,6 +127,10 @@ fn run_command<F: Files, O: Sink, W: Wire>(
             let answer = check_here(alloc, files, sources, &command.query, &command.constraints);
             put_report(answer, out)
         }
+        Command::CheckAll(command) => {
+            let answer = check_all(alloc, files, &command.query, &command.constraints);
+            put_report(answer, out)
+        }
         Command::Trial(command) => {
             let answer = trial(alloc, command);
             put_answer(answer, out)
@@ -222,6 +226,10 @@ pub fn strudel<F: Files, O: Sink, E: Sink, W: Wire>(
         (host now (F.failed_reads files.new) (F.failed_writes files.new)
         (O.text out.new) (O.failed out.new))
         result))) }
+
+    // A constraint that `check` answers yes is met in the query's site over every data graph.
+    ensures holds { ForSome (F.contents files.old) (λ map. ForSome (command words.now) (λ command.
+        AnswersHold command map (O.text out.old) (O.text out.new) result)) }
 
     // A build and a run over connections end well where their inputs are accepted and nothing outside fails, unless memory
     // runs out, and a refused input ends them.

@@ -5,7 +5,7 @@ use Rattle.serving_spec.specs.declared.HubEnd.TheVariants as end
 use Rattle.run_report.specs.declared.status.Status.{Status}
 use Rattle.run_report.specs.declared.status.Status.TheVariants as status
 use Rattle.command_spec.specs.declared.ServeCommand.{ServeCommand}
-use Rattle.serve_run.proofs.TurnsLeft.{turns_left}
+use Rattle.site_serving.proofs.TurnsLeft.{turns_left}
 use Rattle.site_inputs.specs.declared.fault.Fault.{Fault}
 use Rattle.site_inputs.specs.Runs.{IsDecidedFault, Decides}
 use Rattle.command_spec.specs.Inputs.{input_paths}
@@ -16,6 +16,7 @@ use Rattle.command_serve.specs.Ends.{OverEnds, ServeEnds}
 use Rattle.site_inputs.specs.Outside.{Outside, PutsRose, EventsRose, AllRead, HasStatus}
 use Rattle.command_serve.specs.Law.{HasTurns, ServingIsDecided, ServingEndsWell}
 use Rattle.site_inputs.proofs.Endings.{not_both, by_reason, not_refused}
+use Rattle.command_serve.proofs.Told.{watched_left}
 
 module _ (command : ServeCommand) (before after : Outside) where
   abbrev Ended : Result Inputs Fault → Type 0
@@ -27,7 +28,7 @@ module _ (command : ServeCommand) (before after : Outside) where
   decides : Decides Ended
   decides = inputs_decide before.host.files command.sources command.query command.templates
 
-  over : (s : Inputs) (reached : Status) → OverEnds s command.options before after reached → (reached ≡ status.WriteFault → PutsRose before.host after.host) → (reached ≡ status.WireFault → EventsRose before.wire after.wire)
+  over : (s : Inputs) (reached : Status) → OverEnds s command.watch command.options before after reached → (reached ≡ status.WriteFault → PutsRose before.host after.host) → (reached ≡ status.WireFault → EventsRose before.wire after.wire)
       → HasTurns before.wire command.options.limits.turns → ¬ PutsRose before.host after.host → ¬ EventsRose before.wire after.wire → HasStatus status.Ok reached
   over s status.Ok ends write wire turns no_put no_event = inl refl
   over s status.NoMemory ends write wire turns no_put no_event = inr refl
@@ -35,7 +36,7 @@ module _ (command : ServeCommand) (before after : Outside) where
   over s status.WireFault ends write wire turns no_put no_event = absurd (no_event (wire refl))
   over s status.TurnsSpent ends write wire turns no_put no_event =
       let served = ends.1 in
-      absurd (turns_left s command.options.limits served.between after.wire (record { end = end.TurnsSpent; tally = ends.0 }) turns.0 (served.listening.left ∙ turns.1) turns.2 served.serves refl)
+      absurd (turns_left s command.options.limits served.between after.wire (record { end = end.TurnsSpent; tally = ends.0 }) turns.0 (served.ready.listening.left ∙ watched_left command.watch before.wire served.ready.between served.ready.watching ∙ turns.1) turns.2 served.serves refl)
   over s (status.Refused file number place) ends write wire turns no_put no_event = absurd ends
   over s (status.ReadFault path) ends write wire turns no_put no_event = absurd ends
   over s status.Usage ends write wire turns no_put no_event = absurd ends

@@ -1,7 +1,7 @@
 //! The command `serve`: the pages of a site over the connections that a wire gives.
 #![tactic(auto)]
 
-ghost use Rattle.std.specs.Prelude.{◌≡◌, ◌⊎◌, ℕ, List, IfOk};
+ghost use Rattle.std.specs.Prelude.{◌≡◌, ◌⊎◌, ℕ, List, IfOk, OnOk, IsErrOf};
 ghost use Rattle.std.specs.Option.{ForSome};
 ghost use Rattle.edge_io.specs.Counts.{Rose};
 ghost use Rattle.edge_io.specs.Files.{FileMap};
@@ -10,23 +10,29 @@ ghost use Rattle.command_spec.specs.Inputs.{input_paths};
 ghost use Rattle.site_inputs.specs.Statuses.{ReadRose, IsSilent};
 ghost use Rattle.site_inputs.specs.Outside.{host, outside};
 ghost use Rattle.site_inputs.specs.Values.{inputs_of};
-ghost use Rattle.command_serve.specs.Ends.{serving_text, CountsPut, ListeningEnds, TellingEnds};
+ghost use Rattle.serve_run.specs.Texts.{tally_text};
+ghost use Rattle.command_serve.specs.Ends.{serving_text, no_tally, IsLetWatch, CountsPut};
+ghost use Rattle.command_serve.specs.Ends.{ListeningEnds, TellingEnds, WatchedEnds};
 ghost use Rattle.command_serve.specs.Ends.{OverEnds, ServeEnds};
 
 mod laws;
 
-use command_spec::{ServeCommand, ServeOptions};
+use command_spec::{ServeCommand, ServeOptions, WatchOptions};
 use edge_io::{Files, Sink};
 pub use laws::serving_ends_well;
 use run_report::Status;
 use sd_value::{NoMemory, Str};
-use serve_run::{Served, put_anyway, put_end, serve_site, tally_text};
+use serve_run::{Served, put_anyway, put_end, tally_text};
 use site_inputs::{SiteInputs, load_inputs};
+use site_serving::serve_site;
 use std::alloc::Global;
-use wire::Wire;
+use wire::{Wire, WireEnd};
 
 // The counts of a run without connections.
 const NO_COUNTS: &[u8] = b"connections 0\nreplies 0\nhits 0\n";
+
+// The same where a file is watched.
+const NO_COUNTS_WATCHED: &[u8] = b"connections 0\nreplies 0\nhits 0\nchanges 0\nrefused 0\n";
 
 // The line that reports the port.
 fn serving_line(alloc: Global, port: u16) -> Result<Str, NoMemory>
@@ -39,13 +45,24 @@ fn serving_line(alloc: Global, port: u16) -> Result<Str, NoMemory>
     Ok(Str::of(alloc, text)?)
 }
 
+// The counts of a run without connections, as they are put.
+fn no_counts(watches: bool) -> &'static [u8]
+    ensures { result.now ≡ tally_text watches no_tally }
+{
+    if watches {
+        NO_COUNTS_WATCHED
+    } else {
+        NO_COUNTS
+    }
+}
+
 // Puts what a run has counted, and gives its status.
-fn put_counts<O: Sink>(alloc: Global, served: &Served, out: &mut O) -> Status
-    ensures ends { CountsPut served.now.end served.now.tally (O.text out.old) (O.text out.new)
+fn put_counts<O: Sink>(alloc: Global, watches: bool, served: &Served, out: &mut O) -> Status
+    ensures ends { CountsPut served.now.end watches served.now.tally (O.text out.old) (O.text out.new)
         (Rose (O.failed out.old) (O.failed out.new)) result }
     ensures cause { result ≡ Status.WriteFault → Rose (O.failed out.old) (O.failed out.new) }
 {
-    match tally_text(alloc, &served.tally) {
+    match tally_text(alloc, watches, &served.tally) {
         Ok(text) => put_end(served.end, &text, out),
         Err(NoMemory) => Status::NoMemory,
     }
@@ -55,27 +72,30 @@ fn put_counts<O: Sink>(alloc: Global, served: &Served, out: &mut O) -> Status
 fn serve_listening<O: Sink, W: Wire>(
     alloc: Global,
     inputs: SiteInputs,
+    watches: bool,
     options: &ServeOptions,
     out: &mut O,
     wire: &mut W,
 ) -> Status
     requires { AreServeOptions options.now }
-    ensures ends { ListeningEnds (inputs_of inputs) options.now.limits
+    ensures ends { ListeningEnds (inputs_of inputs) watches options.now.limits
         (W.told wire.old) (W.told wire.new) (O.text out.old) (O.text out.new)
         (Rose (O.failed out.old) (O.failed out.new)) result }
     ensures listens { (W.told wire.new).listens ≡ (W.told wire.old).listens }
+    ensures watches { (W.told wire.new).watches ≡ (W.told wire.old).watches }
     ensures put_cause { result ≡ Status.WriteFault → Rose (O.failed out.old) (O.failed out.new) }
     ensures wire_cause { result ≡ Status.WireFault
         → Rose (W.told wire.old).next_faults (W.told wire.new).next_faults }
 {
     let served = serve_site(alloc, inputs, &options.limits, wire);
-    put_counts(alloc, &served, out)
+    put_counts(alloc, watches, &served, out)
 }
 
 // Reports the port, and serves over a wire that listens.
 fn serve_told<O: Sink, W: Wire>(
     alloc: Global,
     inputs: SiteInputs,
+    watches: bool,
     options: &ServeOptions,
     line: &Str,
     out: &mut O,
@@ -83,23 +103,70 @@ fn serve_told<O: Sink, W: Wire>(
 ) -> Status
     requires options { AreServeOptions options.now }
     requires line { line.now ≡ serving_text options.now.port }
-    ensures ends { TellingEnds (inputs_of inputs) options.now (W.told wire.old) (W.told wire.new)
+    ensures ends { TellingEnds (inputs_of inputs) watches options.now (W.told wire.old) (W.told wire.new)
         (O.text out.old) (O.text out.new) (Rose (O.failed out.old) (O.failed out.new)) result }
     ensures listens { (W.told wire.new).listens ≡ (W.told wire.old).listens }
+    ensures watches { (W.told wire.new).watches ≡ (W.told wire.old).watches }
     ensures put_cause { result ≡ Status.WriteFault → Rose (O.failed out.old) (O.failed out.new) }
     ensures wire_cause { result ≡ Status.WireFault
         → Rose (W.told wire.old).next_faults (W.told wire.new).next_faults }
 {
     match out.put(line.bytes()) {
-        Ok(()) => serve_listening(alloc, inputs, options, out, wire),
+        Ok(()) => serve_listening(alloc, inputs, watches, options, out, wire),
         Err(_) => Status::WriteFault,
     }
 }
 
+// Lets the wire watch the file, if one is to be watched.
+fn watch_if<W: Wire>(
+    alloc: Global,
+    watch: &Option<WatchOptions>,
+    wire: &mut W,
+) -> Result<(), WireEnd>
+    ensures watches { IsLetWatch watch.now (W.told wire.old) (W.told wire.new) result }
+    ensures failed { IsErrOf result WireEnd.Failed
+        → Rose (W.told wire.old).next_faults (W.told wire.new).next_faults }
+    ensures fine { OnOk result ((W.told wire.new).next_faults ≡ (W.told wire.old).next_faults) }
+{
+    match watch {
+        Some(watch) => wire.watch(alloc, &watch.path, watch.every),
+        None => Ok(()),
+    }
+}
+
 // Lets the wire listen, and serves.
+fn serve_watching<O: Sink, W: Wire>(
+    alloc: Global,
+    inputs: SiteInputs,
+    watches: bool,
+    options: &ServeOptions,
+    line: &Str,
+    out: &mut O,
+    wire: &mut W,
+) -> Status
+    requires options { AreServeOptions options.now }
+    requires line { line.now ≡ serving_text options.now.port }
+    ensures ends { WatchedEnds (inputs_of inputs) watches options.now (W.told wire.old)
+        (W.told wire.new) (O.text out.old) (O.text out.new)
+        (Rose (O.failed out.old) (O.failed out.new)) result }
+    ensures put_cause { result ≡ Status.WriteFault → Rose (O.failed out.old) (O.failed out.new) }
+    ensures wire_cause { result ≡ Status.WireFault
+        → Rose (W.told wire.old).next_faults (W.told wire.new).next_faults }
+{
+    match wire.listen(options.port, options.connections) {
+        Ok(()) => serve_told(alloc, inputs, watches, options, line, out, wire),
+        Err(_) => {
+            put_anyway(no_counts(watches), out);
+            Status::WireFault
+        }
+    }
+}
+
+// Lets the wire watch and listen, and serves.
 fn serve_over<O: Sink, W: Wire>(
     alloc: Global,
     inputs: SiteInputs,
+    watch: &Option<WatchOptions>,
     options: &ServeOptions,
     out: &mut O,
     wire: &mut W,
@@ -107,7 +174,7 @@ fn serve_over<O: Sink, W: Wire>(
     requires { AreServeOptions options.now }
     // Whatever the files are.
     ensures ends { (files now : FileMap) (reads reads_now writes writes_now : List ℕ → ℕ)
-        → OverEnds (inputs_of inputs) options.now
+        → OverEnds (inputs_of inputs) watch.now options.now
         (outside files reads writes (O.text out.old) (O.failed out.old) (W.told wire.old))
         (outside now reads_now writes_now (O.text out.new) (O.failed out.new) (W.told wire.new))
         result }
@@ -119,16 +186,17 @@ fn serve_over<O: Sink, W: Wire>(
         Ok(line) => line,
         Err(NoMemory) => return Status::NoMemory,
     };
-    match wire.listen(options.port, options.connections) {
-        Ok(()) => serve_told(alloc, inputs, options, &line, out, wire),
-        Err(_) => {
-            put_anyway(NO_COUNTS, out);
+    match watch_if(alloc, watch, wire) {
+        Ok(()) => serve_watching(alloc, inputs, watch.is_some(), options, &line, out, wire),
+        Err(WireEnd::Failed) => {
+            put_anyway(no_counts(watch.is_some()), out);
             Status::WireFault
         }
+        Err(WireEnd::NoMemory) => Status::NoMemory,
     }
 }
 
-/// Listens at the command's port for its connections, reports the port on `out`, serves the site of the query over the data
+/// Watches the command's file, if one is to be watched. Listens at the command's port for its connections, reports the port on `out`, serves the site of the query over the data
 /// until no more events come, and puts the counts of the run.
 pub fn serve<F: Files, O: Sink, W: Wire>(
     alloc: Global,
@@ -163,7 +231,7 @@ pub fn serve<F: Files, O: Sink, W: Wire>(
         &command.query,
         &command.templates,
     ) {
-        Ok(inputs) => serve_over(alloc, inputs, &command.options, out, wire),
+        Ok(inputs) => serve_over(alloc, inputs, &command.watch, &command.options, out, wire),
         Err(fault) => Status::from(fault),
     }
 }

@@ -1,11 +1,10 @@
 -- The files that a command reads, in the order in which it reads them.
 use Rattle.std.specs.Prelude.{ℕ, List, [], ◌∷◌, ◌++◌, Option, None, Some}
 use Rattle.command_spec.specs.declared.ExplainCommand.{ExplainCommand}
-use Rattle.command_spec.specs.declared.HereCommand.{HereCommand}
 use Rattle.command_spec.specs.declared.ReplayCommand.{ReplayCommand}
 use Rattle.command_spec.specs.declared.Command.{Command}
-use Rattle.command_spec.specs.declared.Command.TheVariants.{Page, Build, Data, Explain, Schema, Check, Serve}
-use Rattle.command_spec.specs.declared.Command.TheVariants.{Replay, Trial, Help, Version}
+use Rattle.command_spec.specs.declared.Command.TheVariants.{Page, Build, Data, Explain, Schema, Check, CheckAll}
+use Rattle.command_spec.specs.declared.Command.TheVariants.{Serve, Replay, Trial, Help, Version}
 
 -- the inputs of a site: the data, the query and the templates
 abbrev pub input_paths : (sources : List (List ℕ)) (query templates : List ℕ) → List (List ℕ)
@@ -16,8 +15,12 @@ abbrev pub explain_paths : ExplainCommand → List (List ℕ)
 explain_paths command = command.sources ++ (command.query ∷ [])
 
 -- those of `check --here`: the data, the query and the constraints
-abbrev pub here_paths : HereCommand → List (List ℕ)
-here_paths command = command.sources ++ (command.query ∷ command.constraints ∷ [])
+abbrev pub here_paths : (sources : List (List ℕ)) (query constraints : List ℕ) → List (List ℕ)
+here_paths sources query constraints = sources ++ (query ∷ constraints ∷ [])
+
+-- those of `check` over every data graph: the query and the constraints
+abbrev pub check_paths : (query constraints : List ℕ) → List (List ℕ)
+check_paths query constraints = query ∷ constraints ∷ []
 
 -- those of `replay`: the inputs of its site, and then the script
 abbrev pub replay_paths : ReplayCommand → List (List ℕ)
@@ -31,7 +34,8 @@ inputs_of_command (Build command) = input_paths command.sources command.query co
 inputs_of_command (Data command) = command.sources
 inputs_of_command (Explain command) = explain_paths command
 inputs_of_command (Schema command) = command.query ∷ []
-inputs_of_command (Check command) = here_paths command
+inputs_of_command (Check command) = here_paths command.sources command.query command.constraints
+inputs_of_command (CheckAll command) = check_paths command.query command.constraints
 inputs_of_command (Serve command) = input_paths command.sources command.query command.templates
 inputs_of_command (Replay command) = replay_paths command
 inputs_of_command (Trial command) = []

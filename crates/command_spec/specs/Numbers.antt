@@ -9,7 +9,7 @@ use Rattle.command_spec.specs.Limits.{count_limit, port_limit, cache_limit, wait
 use Rattle.command_spec.specs.Options.{Setting}
 use Rattle.command_spec.specs.declared.numbers.NumberOption.{NumberOption}
 use Rattle.command_spec.specs.declared.numbers.NumberOption.TheVariants.{Port, Connections, Requests, Turns, Cache}
-use Rattle.command_spec.specs.declared.numbers.NumberOption.TheVariants.{Idle, Stall}
+use Rattle.command_spec.specs.declared.numbers.NumberOption.TheVariants.{Idle, Stall, Watch, Every}
 
 -- the option's name
 abbrev pub option_name : NumberOption → List ℕ
@@ -20,12 +20,14 @@ option_name Turns = codes "turns"
 option_name Cache = codes "cache"
 option_name Idle = codes "idle"
 option_name Stall = codes "stall"
+option_name Watch = codes "watch"
+option_name Every = codes "every"
 
 -- how the option is written
 abbrev pub option_word : NumberOption → List ℕ
 option_word option = codes "--" ++ option_name option
 
--- the greatest number of the option, from 1 on
+-- the greatest number of the option, from 1 on, or 0 where its value is no number
 abbrev pub greatest : NumberOption → ℕ
 greatest Port = port_limit
 greatest Connections = count_limit
@@ -34,6 +36,8 @@ greatest Turns = count_limit
 greatest Cache = cache_limit
 greatest Idle = wait_limit
 greatest Stall = wait_limit
+greatest Watch = 0
+greatest Every = count_limit
 
 -- what an option is where it isn't given
 abbrev pub default_of : NumberOption → ℕ
@@ -44,6 +48,8 @@ default_of Turns = count_limit
 default_of Cache = 256
 default_of Idle = 5000
 default_of Stall = 10000
+default_of Watch = 0
+default_of Every = 1
 
 -- at most 10 digits
 abbrev pub is_numeral : List ℕ → Bool

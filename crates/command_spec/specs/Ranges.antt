@@ -1,12 +1,13 @@
 -- The ranges in which the numbers of a command lie.
-use Rattle.std.specs.Prelude.{ℕ, ◌≤◌}
+use Rattle.std.specs.Prelude.{ℕ, ◌≤◌, IfSome}
 use Rattle.command_spec.specs.Limits.{entry_limit, count_limit, port_limit, cache_limit, wait_limit}
 use Rattle.command_spec.specs.declared.RunLimits.{RunLimits}
 use Rattle.command_spec.specs.declared.ServeOptions.{ServeOptions}
 use Rattle.command_spec.specs.declared.ServeWaits.{ServeWaits}
+use Rattle.command_spec.specs.declared.WatchOptions.{WatchOptions}
 use Rattle.command_spec.specs.declared.Command.{Command}
-use Rattle.command_spec.specs.declared.Command.TheVariants.{Page, Build, Data, Explain, Schema, Check, Serve}
-use Rattle.command_spec.specs.declared.Command.TheVariants.{Replay, Trial, Help, Version}
+use Rattle.command_spec.specs.declared.Command.TheVariants.{Page, Build, Data, Explain, Schema, Check, CheckAll}
+use Rattle.command_spec.specs.declared.Command.TheVariants.{Serve, Replay, Trial, Help, Version}
 
 -- a number from 1 to `most`
 abbrev pub IsFrom1To : ℕ → ℕ → Type 0
@@ -30,9 +31,13 @@ pub record AreServeOptions (options : ServeOptions) : Type 0 where
   pub limits : AreLimits options.limits
   pub waits : AreWaits options.waits
 
+-- the number of a watched file is in its range
+abbrev pub IsWatchInRange : WatchOptions → Type 0
+IsWatchInRange watch = IsFrom1To count_limit watch.every
+
 -- the numbers of the command are in their ranges
 abbrev pub IsInRange : Command → Type 0
-IsInRange (Serve c) = AreServeOptions c.options
+IsInRange (Serve c) = AreServeOptions c.options × IfSome c.watch IsWatchInRange
 IsInRange (Replay c) = AreLimits c.limits
 IsInRange (Page c) = Unit {0}
 IsInRange (Build c) = Unit {0}
@@ -40,6 +45,7 @@ IsInRange (Data c) = Unit {0}
 IsInRange (Explain c) = Unit {0}
 IsInRange (Schema c) = Unit {0}
 IsInRange (Check c) = Unit {0}
+IsInRange (CheckAll c) = Unit {0}
 IsInRange (Trial c) = IsFrom1To entry_limit c.entries
 IsInRange (Help c) = Unit {0}
 IsInRange Version = Unit {0}

@@ -5,16 +5,17 @@ use Rattle.std.specs.List.{list_all}
 use Rattle.std.specs.Str.{bytes_eq, is_utf8}
 use Rattle.command_spec.specs.Limits.{entry_limit}
 use Rattle.command_spec.specs.declared.numbers.NumberOption.TheVariants.{Port, Connections, Requests}
-use Rattle.command_spec.specs.declared.numbers.NumberOption.TheVariants.{Turns, Cache, Idle, Stall}
+use Rattle.command_spec.specs.declared.numbers.NumberOption.TheVariants.{Turns, Cache, Idle, Stall, Watch, Every}
 use Rattle.command_spec.specs.declared.RunLimits.{RunLimits}
 use Rattle.command_spec.specs.declared.ServeOptions.{ServeOptions}
 use Rattle.command_spec.specs.declared.ServeWaits.{ServeWaits}
+use Rattle.command_spec.specs.declared.WatchOptions.{WatchOptions}
 use Rattle.command_spec.specs.declared.Command.{Command}
-use Rattle.command_spec.specs.declared.Command.TheVariants.{Page, Build, Data, Explain, Schema, Check, Serve}
-use Rattle.command_spec.specs.declared.Command.TheVariants.{Replay, Trial, Help, Version}
+use Rattle.command_spec.specs.declared.Command.TheVariants.{Page, Build, Data, Explain, Schema, Check, CheckAll}
+use Rattle.command_spec.specs.declared.Command.TheVariants.{Serve, Replay, Trial, Help, Version}
 use Rattle.command_spec.specs.Names.{name_of}
 use Rattle.command_spec.specs.Options.{Parts, Setting, is_empty, parts_of}
-use Rattle.command_spec.specs.Numbers.{number, number_of, are_among}
+use Rattle.command_spec.specs.Numbers.{number, number_of, one_number, values_of, are_among}
 
 -- the first answer, and then the second of it
 infixl 10 ◌>>=◌
@@ -63,8 +64,11 @@ abbrev pub schema_command : List (List ℕ) → Option Command
 schema_command (query ∷ []) = Some (Schema (record { query = query; dot = false }))
 schema_command words = None
 
--- the words after `check`, its flag aside
+-- the words after `check`, its flag aside: with data it is the command over these data, and without
+-- the one over every data graph
 abbrev pub check_command : List (List ℕ) → Option Command
+check_command (query ∷ constraints ∷ []) =
+    Some (CheckAll (record { query = query; constraints = constraints }))
 check_command (query ∷ constraints ∷ source ∷ sources) =
     Some (Check (record {
       query = query;
@@ -125,9 +129,22 @@ are_none (setting ∷ settings) = false
 -- the options of `serve`
 abbrev pub serve_options : List Setting → Option ServeOptions
 serve_options settings =
-    if are_among (Port ∷ Connections ∷ Requests ∷ Turns ∷ Cache ∷ Idle ∷ Stall ∷ []) settings
+    if are_among
+    (Port ∷ Connections ∷ Requests ∷ Turns ∷ Cache ∷ Idle ∷ Stall ∷ Watch ∷ Every ∷ []) settings
     then serve_numbers settings
     else None
+
+-- the file that is watched, if one is, by the values of `--watch` and of `--every`, which doesn't stand alone
+abbrev pub watch_by : List (List ℕ) → List (List ℕ) → Option (Option WatchOptions)
+watch_by [] [] = Some None
+watch_by [] (value ∷ values) = None
+watch_by (path ∷ []) values =
+    option_map (λ every. Some (record { path = path; every = every })) (one_number Every values)
+watch_by (path ∷ other ∷ paths) values = None
+
+-- the file that `serve` watches
+abbrev pub serve_watch : List Setting → Option (Option WatchOptions)
+serve_watch settings = watch_by (values_of Watch settings) (values_of Every settings)
 
 -- the options of `replay`
 abbrev pub replay_options : List Setting → Option RunLimits
@@ -135,15 +152,16 @@ replay_options settings =
     if are_among (Requests ∷ Turns ∷ Cache ∷ []) settings then run_limits settings else None
 
 -- the words after `serve`
-abbrev pub serve_command : ServeOptions → List (List ℕ) → Option Command
-serve_command options (query ∷ templates ∷ source ∷ sources) =
+abbrev pub serve_command : ServeOptions → Option WatchOptions → List (List ℕ) → Option Command
+serve_command options watch (query ∷ templates ∷ source ∷ sources) =
     Some (Serve (record {
       query = query;
       templates = templates;
       sources = source ∷ sources;
       options = options;
+      watch = watch;
     }))
-serve_command options words = None
+serve_command options watch words = None
 
 -- the words after `replay`
 abbrev pub replay_command : RunLimits → List (List ℕ) → Option Command
@@ -173,8 +191,10 @@ plain_command name words =
 
 -- the parts behind `serve`
 abbrev pub serve_parts : Parts → Option Command
-serve_parts parts =
-    option_and_then (λ options. serve_command options parts.words) (serve_options parts.settings)
+serve_parts parts = do
+  options ← serve_options parts.settings
+  watch ← serve_watch parts.settings
+  serve_command options watch parts.words
 
 -- the parts behind `replay`
 abbrev pub replay_parts : Parts → Option Command
@@ -216,11 +236,13 @@ flag_place flag (word ∷ words) =
     else if bytes_eq word flag then Some 0
     else option_map suc (flag_place flag words)
 
--- the command with its flag, or without it: `check` is none without its flag
+-- the command with its flag, or without it: `check` has its flag exactly where it has data
 abbrev pub with_flag : Bool → Command → Option Command
 with_flag set (Schema c) = Some (Schema (record c { dot = set }))
 with_flag true (Check c) = Some (Check c)
 with_flag false (Check c) = None
+with_flag true (CheckAll c) = None
+with_flag false (CheckAll c) = Some (CheckAll c)
 with_flag set command = Some command
 
 -- the command of this name, where the flag stands at this place among the words after the name

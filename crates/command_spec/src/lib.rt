@@ -94,6 +94,14 @@ pub struct HereCommand {
     pub sources: Paths,
 }
 
+/// `check QUERY CONSTRAINTS`: the constraints of a file are proved of the query's site over every data graph.
+#[derive(Debug, Drop)]
+pub struct CheckAllCommand {
+    pub query: Str,
+    /// The file of the constraints.
+    pub constraints: Str,
+}
+
 /// The limits of a run over connections.
 #[derive(Clone, Copy, Debug, PartialEq, Eq)]
 pub struct RunLimits {
@@ -125,6 +133,14 @@ pub struct ServeOptions {
     pub waits: ServeWaits,
 }
 
+/// `--watch` and `--every` of `serve`: a file whose text is to become the data.
+#[derive(Debug, Drop)]
+pub struct WatchOptions {
+    pub path: Str,
+    /// After how many connections that ended it is read, 1 to 4,294,967,296.
+    pub every: u64,
+}
+
 /// `serve QUERY TEMPLATES DATA..`: pages are served over HTTP.
 #[derive(Debug, Drop)]
 pub struct ServeCommand {
@@ -132,6 +148,8 @@ pub struct ServeCommand {
     pub templates: Str,
     pub sources: Paths,
     pub options: ServeOptions,
+    /// The file that is watched, if one is.
+    pub watch: Option<WatchOptions>,
 }
 
 /// `replay QUERY TEMPLATES SCRIPT DATA..`: the same over the events of a script.
@@ -166,6 +184,7 @@ pub enum Command {
     Explain(ExplainCommand),
     Schema(SchemaCommand),
     Check(HereCommand),
+    CheckAll(CheckAllCommand),
     Serve(ServeCommand),
     Replay(ReplayCommand),
     Trial(TrialCommand),

@@ -12,12 +12,13 @@ use Rattle.page_spec.specs.Site.{Site}
 use Rattle.tmpl.specs.Body.{TemplateFile}
 use Rattle.wire.specs.declared.WireEvent.{WireEvent}
 use Rattle.wire.specs.declared.WireEvent.TheVariants.{Opened, Bytes, Ended, Done}
+use Rattle.serving_spec.specs.Changes.{Changes}
 use Rattle.serving_spec.specs.Looks.{Kept, LooksIn}
 use Rattle.hub.specs.Course.{Scene, Rules, Passes, PassesAll}
 use Rattle.serving_spec.specs.Made.{Made, nothing, AllLooked}
 use Rattle.hub.specs.Turns.{At, Opens, TakesPiece, Finishes}
 use Rattle.serving_spec.specs.Openings.{counts}
-use Rattle.serve_run.specs.Steps.{still_rules}
+use Rattle.serve_run.specs.Steps.{run_rules}
 use Rattle.serve_run.specs.Texts.{bytes_taken}
 use Rattle.command_trial.specs.Askable.{IsAskable}
 use Rattle.trial_spec.specs.Events.{events_from}
@@ -26,9 +27,9 @@ use Rattle.command_trial.specs.Replies.{reply_to}
 use Rattle.trial_spec.specs.Requests.{request}
 use Rattle.command_trial.proofs.Connections.{unopened, opened, Fine, IsTroubled, opening, Replied, piece, passed_over, finished}
 
-module _ {D : Type 0} (root : Option (List ℕ)) (site : D → Site) (templates : D → TemplateFile) (still : D) where
+module _ {D : Type 0} (root : Option (List ℕ)) (site : D → Site) (templates : D → TemplateFile) (texts : Changes D) (still : D) where
   abbrev rules : Rules D Kept
-  rules = still_rules root site templates
+  rules = run_rules root site templates texts
 
   abbrev Looks : Kept → Term → Kept → Type 0
   Looks = LooksIn (IsOutcome (site still) (templates still))

@@ -11,6 +11,7 @@ use Rattle.page_spec.specs.declared.Outcome.TheVariants.{Missing}
 use Rattle.wire.specs.Events.{is_done, IsDrawn}
 use Rattle.wire.specs.declared.WireEvent.{WireEvent}
 use Rattle.wire.specs.declared.WireEvent.TheVariants.{Opened, Bytes, Ended, Change, Done}
+use Rattle.serving_spec.specs.Changes.{Changes}
 use Rattle.serving_spec.specs.Looks.{Kept}
 use Rattle.mem_wire.specs.Sent.{Sent}
 use Rattle.mem_wire.specs.WireInMemory.{WireInMemory, entry_of, account_of, faults_of, accounts_of, faults_in, given_of, told_of, HasEntry, IsNew}
@@ -22,7 +23,7 @@ use Rattle.serving_spec.specs.declared.Tally.{Tally}
 use Rattle.serving_spec.specs.declared.HubEnd.{HubEnd}
 use Rattle.serving_spec.specs.declared.HubEnd.TheVariants as end
 use Rattle.wire.specs.Told.{Told}
-use Rattle.serve_run.specs.Steps.{at, still_rules, TalliedInSteps, ServesInSteps}
+use Rattle.serve_run.specs.Steps.{at, run_rules, TalliedInSteps, ServesInSteps}
 use Rattle.serve_run.specs.Texts.{bytes_taken}
 use Rattle.serving_spec.specs.declared.Served.{Served}
 use Rattle.trial_spec.specs.declared.Counts.{Counts}
@@ -59,9 +60,9 @@ drawn_all (first ∷ events) (e ∷ front) after (between, (is, left), rest) non
     λ i. is i ∷ more i
 
 -- the course of a run without a change
-no_change : {D C : Type 0} (rules : Rules D C) (ours events : List WireEvent) (first last : Scene D C) → events ≡ ours ++ Done ∷ [] → IsCourse rules 1 first events last → PassesAll rules 1 first (ours ++ Done ∷ []) last
-no_change rules ours events first last is (inl passes) = subst (λ es. PassesAll rules 1 first es last) is passes
-no_change rules ours events first last is (inr (front, text, between, changed, passes, stay)) =
+no_change : {D C : Type 0} (rules : Rules D C) (ended : HubEnd) (ours events : List WireEvent) (first last : Scene D C) → events ≡ ours ++ Done ∷ [] → IsCourse rules 1 ended first events last → PassesAll rules 1 first (ours ++ Done ∷ []) last
+no_change rules ended ours events first last is (inl passes) = subst (λ es. PassesAll rules 1 first es last) is passes
+no_change rules ended ours events first last is (inr (short, front, text, between, changed, passes, stay)) =
     absurd (let wrong : Done ≡ Change text = (same_from_push ours front Done (Change text) (sym is ∙ changed)).1 in cc)
 
 pick : {P : Type 0} (number other : ℕ) → (number ≡ other) ⊎ (number < other) → (number ≡ other → P) → (number < other → P) → P
@@ -90,9 +91,9 @@ new_at (Some e) some new = ap (λ (s : Sent). record { line = None; account = So
 abbrev wire_of : WireInMemory → Told
 wire_of w = told_of w
 
-module _ {D : Type 0} (root : Option (List ℕ)) (site : D → Site) (templates : D → TemplateFile) (still : D) (turns : ℕ) (targets : List (List ℕ)) (w after : WireInMemory) (served : Served) (counts_is : Counts) where
+module _ {D : Type 0} (root : Option (List ℕ)) (site : D → Site) (templates : D → TemplateFile) (texts : Changes D) (still : D) (turns : ℕ) (targets : List (List ℕ)) (w after : WireInMemory) (served : Served) (counts_is : Counts) where
   abbrev Tally_of : List WireEvent → Type 0
-  Tally_of events = TalliedInSteps root site templates still 1 256 (wire_of w) (wire_of after) events served.tally
+  Tally_of events = TalliedInSteps root site templates texts still 1 256 (wire_of w) (wire_of after) served.end events served.tally
 
   fine_at : (events : List WireEvent) (tally : Tally_of events) (i : ℕ) → IsFine after (i + 1) → Fine (tally.last.ats (1 + i))
   fine_at events tally i (faults, whole) =
@@ -108,7 +109,7 @@ module _ {D : Type 0} (root : Option (List ℕ)) (site : D → Site) (templates 
 
   pub are_counted : All IsAskable targets → w.events ≡ events_from 1 targets → w.count ≡ 0
       → ((number : ℕ) → IfSome (entry_of w number) IsNew) → All (HasEntry (entry_of w)) (events_from 1 targets)
-      → ServesInSteps root site templates still 1 turns 256 (wire_of w) (wire_of after) served
+      → ServesInSteps root site templates texts still 1 turns 256 (wire_of w) (wire_of after) served
       → served.end ≡ end.Done
       → ((i : ℕ) → i < length targets → IsFine after (i + 1))
       → ((outcomes : List Outcome) → length outcomes ≡ length targets → AreReplied after outcomes → counts_is ≡ counts_of outcomes)
@@ -120,8 +121,8 @@ module _ {D : Type 0} (root : Option (List ℕ)) (site : D → Site) (templates 
       let drew : IsDrawn (Some (events_from 1 targets)) (ends.0 ++ Done ∷ []) ((told_of after).left) =
       subst (λ es. IsDrawn (Some (events_from 1 targets)) es ((told_of after).left)) ends.1 (subst (λ o. IsDrawn o serves.events ((told_of after).left)) left serves.left) in
       let all : serves.events ≡ events_from 1 targets ++ Done ∷ [] = ends.1 ∙ ap (λ es. es ++ Done ∷ []) (drawn_all (events_from 1 targets) ends.0 ((told_of after).left) drew ends.3 (none_done 1 targets)) in
-      let passes = no_change (still_rules root site templates) (events_from 1 targets) serves.events tally.first tally.last all tally.course in
-      let asked = all_asked root site templates still targets 1 tally.first tally.last askable passes tally.data_are
+      let passes = no_change (run_rules root site templates texts) served.end (events_from 1 targets) serves.events tally.first tally.last all tally.course in
+      let asked = all_asked root site templates texts still targets 1 tally.first tally.last askable passes tally.data_are
       (λ other least most. tally.begins other ∙ new_at (entry_of w other) (entries w targets 1 opened other least most) (new other))
       (λ other least. ap (λ g. counts g other) tally.none_open) in
       let ended = asked.asked (λ i low. fine_at serves.events tally i (fine i low)) in

@@ -16,8 +16,8 @@ use command_spec::{RunLimits, TrialCommand};
 use hub::HubEnd;
 use mem_wire::MemWire;
 use sd_value::{NoMemory, Str};
-use serve_run::serve_site;
 use site_inputs::{Fault, SiteInputs};
+use site_serving::serve_site;
 use std::alloc::Global;
 use trial_spec::Counts;
 

@@ -6,7 +6,7 @@ use Rattle.std.proofs.lemmas.Slice.Eq.{bytes_eq-Decides}
 use Rattle.clap.specs.Walk.{Rule, Text, arg_by_id, arg_by_long, arg_by_short, has_short}
 use Rattle.clap.specs.declared.builder.value_parser.ValueParser.TheVariants.{String}
 use Rattle.command_spec.specs.declared.numbers.NumberOption.{NumberOption}
-use Rattle.command_spec.specs.declared.numbers.NumberOption.TheVariants.{Port, Connections, Requests, Turns, Cache, Idle, Stall}
+use Rattle.command_spec.specs.declared.numbers.NumberOption.TheVariants.{Port, Connections, Requests, Turns, Cache, Idle, Stall, Watch, Every}
 use Rattle.command_spec.specs.Numbers.{option_name, option_word, is_among}
 use Rattle.command_words.specs.Parsed.{option_rule, words_rule}
 
@@ -58,6 +58,8 @@ dashed Turns = refl
 dashed Cache = refl
 dashed Idle = refl
 dashed Stall = refl
+dashed Watch = refl
+dashed Every = refl
 
 pub own_name : (option : NumberOption) → bytes_eq (codes "words") (option_name option) ≡ false
 own_name Port = refl
@@ -67,6 +69,8 @@ own_name Turns = refl
 own_name Cache = refl
 own_name Idle = refl
 own_name Stall = refl
+own_name Watch = refl
+own_name Every = refl
 
 -- the option of a name
 which : Text → Option NumberOption
@@ -78,6 +82,8 @@ which name =
     else if bytes_eq name (codes "cache") then Some Cache
     else if bytes_eq name (codes "idle") then Some Idle
     else if bytes_eq name (codes "stall") then Some Stall
+    else if bytes_eq name (codes "watch") then Some Watch
+    else if bytes_eq name (codes "every") then Some Every
     else None
 
 which_own : (option : NumberOption) → which (option_name option) ≡ Some option
@@ -89,6 +95,8 @@ which_own Turns = refl
 which_own Cache = refl
 which_own Idle = refl
 which_own Stall = refl
+which_own Watch = refl
+which_own Every = refl
 
 -- options of one name are one
 pub one_option : (a b : NumberOption) → option_name a ≡ option_name b → a ≡ b

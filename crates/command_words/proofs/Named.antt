@@ -1,13 +1,15 @@
 -- The command of what was found behind a name, and of what the definition makes of the same words.
-use Rattle.std.proofs.Common.{◌≡◌, ◌∙◌, ℕ, Bool, true, false, cond, refl, sym, ap, inl, inr, List, [], ◌∷◌, Option, None, Some, true≢false}
+use Rattle.std.proofs.Common.{◌≡◌, ◌∙◌, ℕ, Bool, true, false, cond, refl, sym, ap, ap₂, inl, inr, List, [], ◌∷◌, Option, None, Some, true≢false}
 use Rattle.std.specs.Prelude.{◌⊎◌, codes, option_and_then}
 use Rattle.std.specs.Str.{bytes_eq}
 use Rattle.clap.specs.Walk.{Row, Text}
 use Rattle.command_spec.specs.declared.numbers.NumberOption.{NumberOption}
-use Rattle.command_spec.specs.declared.numbers.NumberOption.TheVariants.{Port, Connections, Requests, Turns, Cache, Idle, Stall}
+use Rattle.command_spec.specs.declared.numbers.NumberOption.TheVariants.{Port, Connections, Requests, Turns, Cache, Idle, Stall, Watch, Every}
 use Rattle.command_spec.specs.declared.RunLimits.{RunLimits}
 use Rattle.command_spec.specs.declared.ServeOptions.{ServeOptions}
 use Rattle.command_spec.specs.declared.ServeWaits.{ServeWaits}
+use Rattle.command_spec.specs.declared.WatchOptions.{WatchOptions}
+use Rattle.command_spec.specs.declared.Command.{Command}
 use Rattle.command_spec.specs.Numbers.{are_among, number_of, one_number, values_of}
 use Rattle.command_spec.specs.Options.{Parts, Setting}
 use Rattle.command_words.specs.Parsed as parsed
@@ -46,6 +48,15 @@ module _ (rows : List Row) (settings : List Setting) (slots : (o : NumberOption)
   pub same_waits : parsed.serve_waits rows ≡ words.serve_waits settings
   same_waits = rw (same Idle, same Stall) refl
 
+  pub same_watch : parsed.serve_watch rows ≡ words.serve_watch settings
+  same_watch = by (slots Watch) (slots Every)
+    where
+      by : Slot Watch rows settings → Slot Every rows settings → parsed.serve_watch rows ≡ words.serve_watch settings
+      by (unset empty no_row first) (unset none no_other absent) = ap₂ parsed.watch_in first absent ∙ sym (ap₂ words.watch_by empty none)
+      by (unset empty no_row first) (set every one some found) = ap₂ parsed.watch_in first found ∙ sym (ap₂ words.watch_by empty one)
+      by (set path one some first) (unset none no_other absent) = ap₂ parsed.watch_in first absent ∙ sym (ap₂ words.watch_by one none)
+      by (set path one some first) (set every other more found) = ap₂ parsed.watch_in first found ∙ sym (ap₂ words.watch_by one other)
+
   pub same_options : parsed.serve_options rows ≡ words.serve_numbers settings
   same_options = rw (same Port, same Connections, same_limits, same_waits) refl
 
@@ -75,31 +86,52 @@ no_run Turns settings i e = no_limits _ _ _ (inr (inl e))
 no_run Cache settings i e = no_limits _ _ _ (inr (inr e))
 no_run Idle settings i e = absurd (true≢false (sym i))
 no_run Stall settings i e = absurd (true≢false (sym i))
+no_run Watch settings i e = absurd (true≢false (sym i))
+no_run Every settings i e = absurd (true≢false (sym i))
 
 -- the options of `serve` where one of them has no number
 no_serve_by : (settings : List Setting) → (number_of Port settings ≡ None) ⊎ ((number_of Connections settings ≡ None) ⊎ ((words.run_limits settings ≡ None) ⊎ (words.serve_waits settings ≡ None))) → words.serve_numbers settings ≡ None
 no_serve_by settings none = no_options (number_of Port settings) (number_of Connections settings) (words.run_limits settings) (words.serve_waits settings) none
 
-no_serve : (o : NumberOption) (settings : List Setting) → number_of o settings ≡ None → words.serve_numbers settings ≡ None
-no_serve Port settings e = no_serve_by settings (inl e)
-no_serve Connections settings e = no_serve_by settings (inr (inl e))
-no_serve Requests settings e = no_serve_by settings (inr (inr (inl (no_run Requests settings refl e))))
-no_serve Turns settings e = no_serve_by settings (inr (inr (inl (no_run Turns settings refl e))))
-no_serve Cache settings e = no_serve_by settings (inr (inr (inl (no_run Cache settings refl e))))
-no_serve Idle settings e = no_serve_by settings (inr (inr (inr (no_waits _ _ (inl e)))))
-no_serve Stall settings e = no_serve_by settings (inr (inr (inr (no_waits _ _ (inr e)))))
-
 when : {A : Type 0} (b : Bool) (x : Option A) → x ≡ None → cond b x None ≡ None
 when true x e = e
 when false x e = refl
+
+-- no file is watched where an option that says which stands twice
+no_path : (paths values : List Text) (a b : Text) (rest : List Text) → paths ≡ a ∷ b ∷ rest → words.watch_by paths values ≡ None
+no_path paths values a b rest e = ap (λ ps. words.watch_by ps values) e
+
+no_every : (paths : List Text) (a b : Text) (rest : List Text) → words.watch_by paths (a ∷ b ∷ rest) ≡ None
+no_every [] a b rest = refl
+no_every (path ∷ []) a b rest = refl
+no_every (path ∷ other ∷ paths) a b rest = refl
+
+abbrev serving : Parts → Option ServeOptions → Option (Option WatchOptions) → Option Command
+serving p options watch = option_and_then (λ o. option_and_then (λ w. serve_command o w p.words) watch) options
+
+no_options_given : (p : Parts) → words.serve_numbers p.settings ≡ None → words.serve_parts p ≡ None
+no_options_given p none = ap (λ o. serving p o (words.serve_watch p.settings)) (when (are_among parsed.serve_numbers p.settings) _ none)
+
+no_watch_given : (p : Parts) → words.serve_watch p.settings ≡ None → words.serve_parts p ≡ None
+no_watch_given p none = none_later (words.serve_options p.settings) _ (λ o. ap (option_and_then (λ w. serve_command o w p.words)) none)
+
+no_serve : (o : NumberOption) (p : Parts) (a b : Text) (rest : List Text) → values_of o p.settings ≡ a ∷ b ∷ rest → words.serve_parts p ≡ None
+no_serve Port p a b rest e = no_options_given p (no_serve_by p.settings (inl (no_number Port p.settings a b rest e)))
+no_serve Connections p a b rest e = no_options_given p (no_serve_by p.settings (inr (inl (no_number Connections p.settings a b rest e))))
+no_serve Requests p a b rest e = no_options_given p (no_serve_by p.settings (inr (inr (inl (no_run Requests p.settings refl (no_number Requests p.settings a b rest e))))))
+no_serve Turns p a b rest e = no_options_given p (no_serve_by p.settings (inr (inr (inl (no_run Turns p.settings refl (no_number Turns p.settings a b rest e))))))
+no_serve Cache p a b rest e = no_options_given p (no_serve_by p.settings (inr (inr (inl (no_run Cache p.settings refl (no_number Cache p.settings a b rest e))))))
+no_serve Idle p a b rest e = no_options_given p (no_serve_by p.settings (inr (inr (inr (no_waits _ _ (inl (no_number Idle p.settings a b rest e)))))))
+no_serve Stall p a b rest e = no_options_given p (no_serve_by p.settings (inr (inr (inr (no_waits _ _ (inr (no_number Stall p.settings a b rest e)))))))
+no_serve Watch p a b rest e = no_watch_given p (no_path _ _ a b rest e)
+no_serve Every p a b rest e = no_watch_given p (ap (words.watch_by (values_of Watch p.settings)) e ∙ no_every (values_of Watch p.settings) a b rest)
 
 -- ---- no command of what is unfit
 
 pub unfit_serve : (parts : Option Parts) → IsUnfit parsed.serve_numbers parts → named_command (codes "serve") parts ≡ None
 unfit_serve None u = refl
 unfit_serve (Some p) (unknown f) = rw f refl
-unfit_serve (Some p) (twice o i a b rest e) =
-    ap (option_and_then (λ options. serve_command options p.words)) (when (are_among parsed.serve_numbers p.settings) _ (no_serve o p.settings (no_number o p.settings a b rest e)))
+unfit_serve (Some p) (twice o i a b rest e) = no_serve o p a b rest e
 
 pub unfit_replay : (parts : Option Parts) → IsUnfit run_numbers parts → named_command (codes "replay") parts ≡ None
 unfit_replay None u = refl
@@ -133,7 +165,7 @@ by_words name rows p are same = ap (command_with_words name rows) are ∙ same
 
 pub same_serve : (rows : List Row) (p : Parts) → Agrees parsed.serve_numbers rows p.settings p.words → command_in_rows (codes "serve") rows ≡ named_command (codes "serve") (Some p)
 same_serve rows p a = by_words (codes "serve") rows p a.words_are
-    (rw (a.known) (ap (option_and_then (λ options. serve_command options p.words)) (same_options rows p.settings a.options_are)))
+    (rw (a.known) (ap₂ (serving p) (same_options rows p.settings a.options_are) (same_watch rows p.settings a.options_are)))
 
 pub same_replay : (rows : List Row) (p : Parts) → Agrees run_numbers rows p.settings p.words → command_in_rows (codes "replay") rows ≡ named_command (codes "replay") (Some p)
 same_replay rows p a = by_words (codes "replay") rows p a.words_are

@@ -12,7 +12,7 @@ use Rattle.std.specs.Char.{encode_utf8}
 use Rattle.clap.specs.Walk.{Text}
 use Rattle.clap.specs.Lexer.{has_byte, long_of, name_and_value, short_of}
 use Rattle.command_spec.specs.declared.numbers.NumberOption.{NumberOption}
-use Rattle.command_spec.specs.declared.numbers.NumberOption.TheVariants.{Port, Connections, Requests, Turns, Cache, Idle, Stall}
+use Rattle.command_spec.specs.declared.numbers.NumberOption.TheVariants.{Port, Connections, Requests, Turns, Cache, Idle, Stall, Watch, Every}
 use Rattle.command_spec.specs.Numbers.{option_word, is_among}
 use Rattle.command_spec.specs.Options.{Setting, Role, Complete, Open, Misplaced, is_equals, is_option, joined, option_role, word_role}
 use Rattle.command_words.proofs.Lookups.{two}
@@ -132,6 +132,8 @@ one_dash first rest d Turns = rw d refl
 one_dash first rest d Cache = rw d refl
 one_dash first rest d Idle = rw d refl
 one_dash first rest d Stall = rw d refl
+one_dash first rest d Watch = rw d refl
+one_dash first rest d Every = rw d refl
 
 dash_alone : (o : NumberOption) → bytes_eq (45 ∷ []) (option_word o) ≡ false
 dash_alone Port = refl
@@ -141,6 +143,8 @@ dash_alone Turns = refl
 dash_alone Cache = refl
 dash_alone Idle = refl
 dash_alone Stall = refl
+dash_alone Watch = refl
+dash_alone Every = refl
 
 dash_before : (first : ℕ) (rest : Text) → nat_eq first 45 ≡ false → (n : ℕ) → IsNoOption (take n (first ∷ rest)) → IsNoOption (45 ∷ take n (first ∷ rest))
 dash_before first rest d zero h = no_option (45 ∷ []) dash_alone

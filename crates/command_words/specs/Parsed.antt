@@ -1,5 +1,5 @@
 -- What `clap` makes of the words, and the command that this gives.
-use Rattle.std.specs.Prelude.{◌≡◌, ℕ, List, [], ◌∷◌, map, true, false}
+use Rattle.std.specs.Prelude.{◌≡◌, ℕ, List, [], ◌∷◌, map, true, false, option_map}
 use Rattle.std.specs.Prelude.{Option, None, Some, option_and_then, unwrap_or, if◌then◌else◌, codes}
 use Rattle.std.specs.List.{list_all}
 use Rattle.std.specs.Str.{bytes_eq}
@@ -15,10 +15,11 @@ use Rattle.clap.specs.declared.parser.matches.ArgMatches.{ArgMatches}
 use Rattle.std.specs.Borrow.{Bor}
 use Rattle.command_spec.specs.declared.numbers.NumberOption.{NumberOption}
 use Rattle.command_spec.specs.declared.numbers.NumberOption.TheVariants.{Port, Connections}
-use Rattle.command_spec.specs.declared.numbers.NumberOption.TheVariants.{Requests, Turns, Cache, Idle, Stall}
+use Rattle.command_spec.specs.declared.numbers.NumberOption.TheVariants.{Requests, Turns, Cache, Idle, Stall, Watch, Every}
 use Rattle.command_spec.specs.declared.RunLimits.{RunLimits}
 use Rattle.command_spec.specs.declared.ServeOptions.{ServeOptions}
 use Rattle.command_spec.specs.declared.ServeWaits.{ServeWaits}
+use Rattle.command_spec.specs.declared.WatchOptions.{WatchOptions}
 use Rattle.command_spec.specs.declared.Command.{Command}
 use Rattle.command_spec.specs.Numbers.{option_name, default_of, greatest, number}
 use Rattle.command_spec.specs.Words.{is_word, serve_command, replay_command, plain_command}
@@ -53,7 +54,8 @@ IsLeaf name options c =
 
 -- the options of `serve`
 abbrev pub serve_numbers : List NumberOption
-serve_numbers = Port ∷ Connections ∷ Requests ∷ Turns ∷ Cache ∷ Idle ∷ Stall ∷ []
+serve_numbers =
+    Port ∷ Connections ∷ Requests ∷ Turns ∷ Cache ∷ Idle ∷ Stall ∷ Watch ∷ Every ∷ []
 
 -- the options of `replay`
 abbrev pub run_numbers : List NumberOption
@@ -117,10 +119,28 @@ serve_options rows = do
   waits ← serve_waits rows
   Some (record { port = port; connections = connections; limits = limits; waits = waits })
 
+-- the file that is watched, if one is, by what was found of `--watch` and of `--every`
+abbrev pub watch_in : Option Text → Option Text → Option (Option WatchOptions)
+watch_in None None = Some None
+watch_in None (Some text) = None
+watch_in (Some path) text =
+    option_map (λ every. Some (record { path = path; every = every }))
+    (number_or_default Every text)
+
+-- the text of an option among what was found
+abbrev pub text_in : NumberOption → List Row → Option Text
+text_in option rows = first_of (option_name option) rows
+
+-- the file that `serve` watches
+abbrev pub serve_watch : List Row → Option (Option WatchOptions)
+serve_watch rows = watch_in (text_in Watch rows) (text_in Every rows)
+
 -- `serve` with these words
 abbrev pub serve_with_words : List Row → List Text → Option Command
-serve_with_words rows words =
-    option_and_then (λ options. serve_command options words) (serve_options rows)
+serve_with_words rows words = do
+  options ← serve_options rows
+  watch ← serve_watch rows
+  serve_command options watch words
 
 -- `replay` with these words
 abbrev pub replay_with_words : List Row → List Text → Option Command

@@ -47,7 +47,7 @@ pub fn without<'a>(alloc: Global, words: &[&'a str], at: usize) -> Result<Vec<&'
     Ok(rest)
 }
 
-/// The command with its flag, or without it: `check` is none without its flag.
+/// The command with its flag, or without it: `check` has its flag exactly where it has data.
 fn with_flag(set: bool, command: Command) -> Option<Command>
     requires { IsInRange command }
     ensures exact { result ≡ specs.with_flag set command }
@@ -63,6 +63,13 @@ fn with_flag(set: bool, command: Command) -> Option<Command>
                 Some(Command::Check(command))
             } else {
                 None
+            }
+        }
+        Command::CheckAll(command) => {
+            if set {
+                None
+            } else {
+                Some(Command::CheckAll(command))
             }
         }
         other => Some(other),

@@ -2,14 +2,15 @@
 #![tactic(auto)]
 
 ghost use Rattle.std.specs.Prelude.{◌≡◌, Some, IfOk, IfSome};
-ghost use Rattle.std.specs.Prelude.{◌≢◌, map, MatchOption, true, false};
+ghost use Rattle.std.specs.Prelude.{◌≢◌, map, MatchOption, true, false, option_map};
 ghost use Rattle.std.specs.List.{list_all};
 ghost use Rattle.clap.specs.Words.{found_of, kind_of, rows_of};
 ghost use Rattle.clap.specs.Walk.{texts};
 ghost use Rattle.command_words.specs.Parsed as parsed;
 ghost use Rattle.command_spec.specs.Options.{is_empty};
 ghost use Rattle.command_spec.specs.Words as specs;
-ghost use Rattle.command_spec.specs.Ranges.{IsInRange, AreLimits, AreWaits, AreServeOptions};
+ghost use Rattle.command_spec.specs.Ranges.{IsFrom1To, IsInRange, IsWatchInRange, AreLimits, AreWaits, AreServeOptions};
+ghost use Rattle.command_spec.specs.Numbers.{greatest};
 
 mod flags;
 mod numbers;
@@ -18,12 +19,12 @@ mod program;
 use clap::error::ErrorKind;
 use clap::{ArgMatches, Error};
 use command_spec::{
-    BuildCommand, Command, CommandName, DataCommand, ExplainCommand, HelpCommand, HereCommand,
-    NumberOption, PageCommand, Paths, ReplayCommand, RunLimits, SchemaCommand, ServeCommand,
-    ServeOptions, ServeWaits, TrialCommand,
+    BuildCommand, CheckAllCommand, Command, CommandName, DataCommand, ExplainCommand, HelpCommand,
+    HereCommand, NumberOption, PageCommand, Paths, ReplayCommand, RunLimits, SchemaCommand,
+    ServeCommand, ServeOptions, ServeWaits, TrialCommand, WatchOptions,
 };
 use flags::{flag_of, flag_place, marked, without};
-use numbers::{number, number_of};
+use numbers::{number, number_of, text_in};
 use program::{WORDS, program};
 use sd_value::{NoMemory, Str};
 use std::alloc::Global;
@@ -117,7 +118,10 @@ fn check_command(alloc: Global, words: &[&str]) -> Result<Option<Command>, NoMem
         return Ok(None);
     };
     if sources.is_empty() {
-        return Ok(None);
+        return Ok(Some(Command::CheckAll(CheckAllCommand {
+            query: Str::new(alloc, query.as_bytes())?,
+            constraints: Str::new(alloc, constraints.as_bytes())?,
+        })));
     }
     Ok(Some(Command::Check(HereCommand {
         query: Str::new(alloc, query.as_bytes())?,
@@ -197,13 +201,53 @@ fn serve_options(matches: &ArgMatches<'_>) -> Option<ServeOptions>
     })
 }
 
+/// The watched file at this path, where `--every` has a number or isn't given.
+fn watched(
+    alloc: Global,
+    path: &str,
+    every: Option<u64>,
+) -> Result<Option<Option<WatchOptions>>, NoMemory>
+    requires { IfSome every (IsFrom1To (greatest NumberOption.Every)) }
+    ensures exact { IfOk result (λ watch. watch
+        ≡ option_map (λ every. Some (record { path = path.now; every = every })) every) }
+    ensures ranges { IfOk result (λ watch. IfSome watch (λ w. IfSome w IsWatchInRange)) }
+{
+    match every {
+        Some(every) => Ok(Some(Some(WatchOptions {
+            path: Str::new(alloc, path.as_bytes())?,
+            every,
+        }))),
+        None => Ok(None),
+    }
+}
+
+fn serve_watch(
+    alloc: Global,
+    matches: &ArgMatches<'_>,
+) -> Result<Option<Option<WatchOptions>>, NoMemory>
+    ensures exact { IfOk result (λ watch. watch
+        ≡ parsed.serve_watch (rows_of (found_of matches.now))) }
+    ensures ranges { IfOk result (λ watch. IfSome watch (λ w. IfSome w IsWatchInRange)) }
+{
+    match text_in(NumberOption::Watch, matches) {
+        Some(path) => watched(alloc, path, number_of(NumberOption::Every, matches)),
+        None => match text_in(NumberOption::Every, matches) {
+            Some(_) => Ok(None),
+            None => Ok(Some(None)),
+        },
+    }
+}
+
 fn serve_command(
     alloc: Global,
     options: ServeOptions,
+    watch: Option<WatchOptions>,
     words: &[&str],
 ) -> Result<Option<Command>, NoMemory>
-    requires { AreServeOptions options }
-    ensures exact { IfOk result (λ given. given ≡ specs.serve_command options (texts words.now)) }
+    requires options { AreServeOptions options }
+    requires watch { IfSome watch IsWatchInRange }
+    ensures exact { IfOk result (λ given. given
+        ≡ specs.serve_command options watch (texts words.now)) }
     ensures ranges { IfOk result (λ given. IfSome given IsInRange) }
 {
     let [query, templates, sources @ ..] = words else {
@@ -217,6 +261,7 @@ fn serve_command(
         templates: Str::new(alloc, templates.as_bytes())?,
         sources: Paths::of(alloc, sources)?,
         options,
+        watch,
     })))
 }
 
@@ -273,8 +318,11 @@ fn serve_with_words(
         ≡ parsed.serve_with_words (rows_of (found_of matches.now)) (texts words.now)) }
     ensures ranges { IfOk result (λ given. IfSome given IsInRange) }
 {
-    match serve_options(matches) {
-        Some(options) => serve_command(alloc, options, words),
+    let Some(options) = serve_options(matches) else {
+        return Ok(None);
+    };
+    match serve_watch(alloc, matches)? {
+        Some(watch) => serve_command(alloc, options, watch, words),
         None => Ok(None),
     }
 }
@@ -429,8 +477,9 @@ fn texts_of<'a>(alloc: Global, words: &'a [Str]) -> Result<Option<Vec<&'a str>>,
 /// The first word is a command's name. Of the words behind it, those before `--` that have two bytes or more and begin
 /// with a dash are options: `--name=value`, or `--name` with the next word as its value, which is no option itself. The
 /// first `--` is dropped, and the words behind it are no options. Each option is one of the command's, occurs at most
-/// once, and has a number of 1 to 10 digits within its range. `--dot` of `schema` and `--here` of `check`, which `check`
-/// wants, have no value. The other words are as many as the command wants. Every word is a text, and none is empty.
+/// once, and has a number of 1 to 10 digits within its range, but for `--watch`, whose value is a path, and without which
+/// `--every` doesn't stand. `--dot` of `schema` and `--here` of `check`, which `check` wants exactly where it has data, have
+/// no value. The other words are as many as the command wants. Every word is a text, and none is empty.
 pub fn read_command(alloc: Global, words: &[Str]) -> Result<Option<Command>, NoMemory>
     ensures exact { IfOk result (λ given. given ≡ specs.command words.now) }
     ensures ranges { IfOk result (λ given. IfSome given IsInRange) }

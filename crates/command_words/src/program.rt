@@ -61,6 +61,8 @@ pub fn program<'a>(alloc: Global) -> Result<Command<'a>, NoMemory>
         NumberOption::Cache,
         NumberOption::Idle,
         NumberOption::Stall,
+        NumberOption::Watch,
+        NumberOption::Every,
     ];
     let program = Command::new(alloc, "strudel")
         .no_binary_name(true)

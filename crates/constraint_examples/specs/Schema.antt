@@ -1,7 +1,7 @@
 -- The schema of the papers' site.
-use Rattle.std.specs.Prelude.{List, [], ◌∷◌, Some, None}
+use Rattle.std.specs.Prelude.{List, [], ◌∷◌, codes}
 use Rattle.query_spec.specs.Query.{plain, made, quoted, label_variable, variable}
-use Rattle.constraint_spec.specs.Schema.{SchemaEdge}
+use Rattle.schema_spec.specs.Schema.{SchemaEdge}
 use Rattle.definition_examples.specs.BibliographySite as site
 use Rattle.constraint_examples.specs.Papers as papers
 
@@ -17,57 +17,57 @@ abbrev pub edges : List SchemaEdge
 edges =
     record {
       number = 1;
-      path = 2 ∷ [];
+      path = codes "2";
+      conditions = site.papers.conditions;
       link = record {
         source = made site.paper_page;
         label =
             label_variable site.l;
         target = plain (variable site.v);
       };
-      target = None;
     }
     ∷ record {
       number = 2;
-      path = 2 ∷ [];
+      path = codes "2";
+      conditions = site.papers.conditions;
       link = record {
         source = made site.root_page;
         label =
             quoted papers.paper_label;
         target = made site.paper_page;
       };
-      target = Some papers.paper;
     }
     ∷ record {
       number = 3;
-      path = 2 ∷ 1 ∷ [];
+      path = codes "2.1";
+      conditions = site.in_scope;
       link = record {
         source = made site.year_page;
         label =
             quoted papers.year_label;
         target = plain (variable site.v);
       };
-      target = None;
     }
     ∷ record {
       number = 4;
-      path = 2 ∷ 1 ∷ [];
+      path = codes "2.1";
+      conditions = site.in_scope;
       link = record {
         source = made site.year_page;
         label =
             quoted papers.paper_label;
         target = made site.paper_page;
       };
-      target = Some papers.paper;
     }
     ∷ record {
       number = 5;
-      path = 2 ∷ 1 ∷ [];
+      path = codes "2.1";
+      conditions = site.in_scope;
       link = record {
         source = made site.root_page;
         label =
             quoted papers.year_label;
         target = made site.year_page;
       };
-      target = Some papers.year;
     }
     ∷ []

@@ -9,7 +9,7 @@ ghost use Rattle.definition_examples.specs.BibliographySite as site;
 ghost use Rattle.constraint_examples.specs.Papers as papers;
 ghost use Rattle.constraint_examples.specs.Labels as labels;
 ghost use Rattle.constraint_examples.specs.Schema as schema;
-ghost use Rattle.constraint_spec.specs.Schema.{schema_edges};
+ghost use Rattle.schema_spec.specs.Schema.{schema_edges};
 
 /// The papers' site: a year's page links by `Paper` to papers' pages alone, and by `Year` exactly
 /// once; each paper's page is reached from the home page, by link 2. A paper's page may have any
@@ -41,7 +41,7 @@ pub fn twin_labels()
         (Never labels.f (codes "5")) x → ⊥ }
 {}
 
-/// The papers' links by number, with the paths of their blocks and the functions at which they end.
+/// The papers' links by number, with the paths and the conditions of their blocks.
 pub fn papers_schema()
     ensures { schema_edges site.query ≡ schema.edges }
 {}

@@ -16,7 +16,7 @@ ghost use Rattle.site_spec.specs.Site.{Scope, scope_of, InSite, Linked};
 ghost use Rattle.constraint_spec.specs.declared.Constraint.{Constraint};
 ghost use Rattle.constraint_spec.specs.Meets.{Meets};
 ghost use Rattle.constraint_spec.specs.Placed.{PlacedLink, IsNumbered, links_of};
-ghost use Rattle.constraint_spec.specs.Schema.{SchemaEdge, schema_edges};
+ghost use Rattle.schema_spec.specs.Schema.{SchemaEdge, schema_edges};
 ghost use Rattle.constraint_spec.specs.Entailed.{IsEntailed};
 ghost use Rattle.constraint_spec.specs.Use.{IsUse};
 ghost use Rattle.constraint_spec.specs.Certificate.{Certificate, IsCertificate};
@@ -60,7 +60,8 @@ pub fn certificates_hold()
 /// A link's number in the schema is its number in certificates.
 pub fn schema_numbers_are_links()
     ensures { (q : Query) (e : SchemaEdge) → Contains (schema_edges q) e
-        → (k : PlacedLink) × IsNumbered (links_of (scope_of q)) e.number k × (k.link ≡ e.link) }
+        → IsNumbered (links_of (scope_of q)) e.number
+        (record { conditions = e.conditions; link = e.link }) }
 {}
 
 /// The pages that a link joins are in the site, so whoever asks a constraint of one site may go by

@@ -1,5 +1,5 @@
 -- Pairs of two lists, one after another.
-use Rattle.std.proofs.Common.{◌≡◌, ℕ, ◌+◌, ◌<◌, List, [], ◌∷◌, ◌++◌, sym, ap, subst, ◌∙◌, length, get_or, take}
+use Rattle.std.proofs.Common.{arith, ◌≡◌, ℕ, ◌+◌, ◌<◌, List, [], ◌∷◌, ◌++◌, sym, ap, subst, ◌∙◌, length, get_or, take}
 use Rattle.std.specs.List.{AllZip}
 use Rattle.std.proofs.lemmas.List.{take_more}
 
@@ -16,6 +16,16 @@ module _ {A B : Type 0} (R : A → B → Type 0) where
       let front : take (i + 1) xs ≡ take i xs ++ x ∷ [] = take_more xs i x l ∙ ap (λ (z : A). take i xs ++ z ∷ []) (sym is) in
       subst (λ (zs : List A). AllZip R zs new) (sym front)
       (subst (λ (ws : List B). AllZip R (take i xs ++ x ∷ []) ws) (sym longer) (zip_push (take i xs) ys x y h r))
+
+  -- the only pair
+  pub zip_only : (x : A) (ys : List B) (y : B) → AllZip R (x ∷ []) ys → y ≡ get_or ys 0 y → R x y
+  zip_only x [] y h is = absurd h
+  zip_only x (b ∷ []) y h is = subst (R x) (sym is) h.0
+  zip_only x (b ∷ c ∷ ys) y h is = absurd h.1
+
+  pub zip_one : (x : A) (ys : List B) → AllZip R (x ∷ []) ys → 0 < length ys
+  zip_one x [] h = absurd h
+  zip_one x (b ∷ ys) h = omega arith
 
   pub zip_as : (S : A → B → Type 0) → ((x : A) (y : B) → R x y → S x y) → (xs : List A) (ys : List B) → AllZip R xs ys → AllZip S xs ys
   zip_as S f [] [] h = tt

@@ -20,26 +20,8 @@ use query_scoping::scopes;
 use sd_value::NoMemory;
 use search::find_certificate;
 use std::alloc::Global;
+use std::slice;
 use struql_check::Checked;
-
-/// A certificate of the constraint, and unknown exactly where there is none. What has a certificate
-/// is met by the query's site over every data graph.
-pub fn prove(alloc: Global, query: &Checked, constraint: &Constraint) -> Result<Verdict, NoMemory>
-    ensures exact { IfOk result (IsVerdict (scope_of query.now) constraint.now) }
-    ensures holds { IfOk result (HoldsOverAll (scope_of query.now) constraint.now) }
-{
-    certificates_of_checked_queries_hold();
-    let _written = query.query();
-    let blocks = scopes(alloc, query)?;
-    let judge = Inclusions::of(alloc, &blocks)?;
-    let links = numbered_links(alloc, &blocks)?;
-    let searched = SearchedQuery {
-        judge: &judge,
-        blocks: &blocks,
-        links: &links,
-    };
-    find_certificate(alloc, &searched, constraint)
-}
 
 // The verdicts on the constraints over one table.
 fn find_all(
@@ -60,8 +42,9 @@ fn find_all(
     Ok(verdicts)
 }
 
-/// For each of the constraints, in order, what `prove` finds. What is asked of the query alone, above
-/// all which of its expressions is included in which, is found out once.
+/// For each of the constraints, in order, a certificate, and unknown exactly where there is none. What is asked of the
+/// query alone, above all which of its expressions is included in which, is found out once. What has a certificate is
+/// met by the query's site over every data graph.
 pub fn prove_all(
     alloc: Global,
     query: &Checked,
@@ -83,4 +66,14 @@ pub fn prove_all(
         links: &links,
     };
     find_all(alloc, &searched, constraints)
+}
+
+/// A certificate of the constraint, and unknown exactly where there is none. What has a certificate
+/// is met by the query's site over every data graph.
+pub fn prove(alloc: Global, query: &Checked, constraint: &Constraint) -> Result<Verdict, NoMemory>
+    ensures exact { IfOk result (IsVerdict (scope_of query.now) constraint.now) }
+    ensures holds { IfOk result (HoldsOverAll (scope_of query.now) constraint.now) }
+{
+    let mut verdicts = prove_all(alloc, query, slice::from_ref(constraint))?;
+    Ok(verdicts.remove(0))
 }

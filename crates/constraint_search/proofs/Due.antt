@@ -1,4 +1,4 @@
--- Where nothing is against the names bs they come, a use has these ends, and the reverse.
+-- Where nothing is against the names as they come, a use has these ends, and the reverse.
 use Rattle.std.proofs.Common.{◌≡◌, ◌⊎◌, ℕ, zero, suc, ◌≤◌, List, [], ◌∷◌, length, map, take, refl, ap, sym, ◌∙◌, subst, inl, inr, arith}
 use Rattle.std.specs.Prelude.{Bool, true, false, not, ◌&&◌, ◌||◌, ◌==◌, Contains, All, Option, Some, None}
 use Rattle.std.specs.Bool.{Decides}

@@ -1,5 +1,5 @@
 -- The search for a certificate: variables are mapped one after another, and what a variable decides
--- is tested bs soon bs it is mapped. For REACHABLE it goes back from the mention's term, level by
+-- is tested as soon as it is mapped. For REACHABLE it goes back from the mention's term, level by
 -- level, and keeps each term once.
 use Rattle.std.specs.Prelude.{ℕ, zero, suc, Bool, true, false, not, ◌&&◌, ◌||◌, ◌==◌, List, [], ◌∷◌}
 use Rattle.std.specs.Prelude.{◌++◌, length, map, drop, if◌then◌else◌, Option, Some, None, option_map}
@@ -176,7 +176,7 @@ module _ (tests : Tests) (q : Scope) where
       else None)
       (numbered_from 1 (links_of q))
 
-  -- that use, bs a list
+  -- that use, as a list
   abbrev pub find_shown : Label → (PlacedLink → Bool) → Mention → Option (List LinkUse)
   find_shown l good m = option_map (λ u. u ∷ []) (find_use l good m)
 

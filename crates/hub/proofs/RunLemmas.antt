@@ -18,6 +18,7 @@ use Rattle.serving_spec.specs.Inputs.{Moment, Unopened, Coming, after_event, mom
 use Rattle.hub.specs.Moments.{Stands}
 use Rattle.hub.specs.Turns.{At, at_in, Turned, state_after}
 use Rattle.serving_spec.specs.Openings.{counts, greatest_after, opened_after}
+use Rattle.serving_spec.specs.declared.HubEnd.TheVariants.{NoMemory}
 use Rattle.hub.proofs.TurnLemmas.{stands_turn}
 
 -- where a connection stands after these events, with the current and the greatest number as they are then
@@ -157,6 +158,8 @@ passes_done rules limit start now events e is before =
       greatest = refl;
       opened = refl;
       replies = refl;
+      changes = refl;
+      refused = refl;
       cache = refl;
     })
 
@@ -165,11 +168,13 @@ pub counts_stay : {D C : Type 0} (rules : Rules D C) (limit : ℕ) (start betwee
     → e ≡ Change text → PassesAll rules limit start events between
     → Turned (rules.Page between.current) rules.Names limit between.greatest e made between.ats after.ats
     → after.opened ≡ opened_after e between.greatest between.opened → after.replies ≡ up_by made.replies between.replies
-    → rules.found after.cache ≡ rules.found between.cache → IsCourse rules limit start (events ++ e ∷ []) after
-counts_stay rules limit start between after events e text made is before turned opened replies found =
+    → rules.found after.cache ≡ rules.found between.cache → after.changes ≡ between.changes → after.refused ≡ between.refused
+    → IsCourse rules limit NoMemory start (events ++ e ∷ []) after
+counts_stay rules limit start between after events e text made is before turned opened replies found changes refused =
     let Of : WireEvent → Type 0 = λ x. Turned (rules.Page between.current) rules.Names limit between.greatest x made between.ats after.ats in
     let here : Of (Change text) = subst Of is turned in
     inr (
+      refl,
       events,
       text,
       between,
@@ -179,6 +184,8 @@ counts_stay rules limit start between after events e text made is before turned 
         ats = here.0;
         opened = opened ∙ ap (λ (x : WireEvent). opened_after x between.greatest between.opened) is;
         replies = replies ∙ ap (λ (m : Made). up_by m.replies between.replies) here.1;
+        changes = changes;
+        refused = refused;
         found = found;
       },
     )

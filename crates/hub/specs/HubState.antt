@@ -26,6 +26,9 @@ pub record HubState (P : Type 0) : Type 0 where
   pub opened : ℕ
   -- how many replies were made
   pub replies : ℕ
+  -- how many texts came to change the data, and how many of them were refused
+  pub changes : ℕ
+  pub refused : ℕ
 
 -- the open connection of a number
 abbrev pub line_of : {P : Type 0} → HubState P → ℕ → Option Line
@@ -41,5 +44,7 @@ scene state cache hub accounts faults = record {
   greatest = hub.greatest;
   opened = hub.opened;
   replies = hub.replies;
+  changes = hub.changes;
+  refused = hub.refused;
   cache = cache hub.pages;
 }

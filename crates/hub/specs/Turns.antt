@@ -12,8 +12,9 @@ use Rattle.wire.specs.Accounts.{Account, send_to}
 use Rattle.wire.specs.declared.WireEvent.{WireEvent}
 use Rattle.wire.specs.declared.WireEvent.TheVariants.{Opened, Bytes, Ended, Lost as LostEvent, Change, Done}
 use Rattle.serving_spec.specs.Delivered.{IsDelivered, closing}
+pub use Rattle.serving_spec.specs.Changes.{state_after, Keeps}
 use Rattle.hub.specs.Line.{Line}
-use Rattle.serving_spec.specs.Made.{Made, nothing, replies_in, AllLooked}
+use Rattle.serving_spec.specs.Made.{Made, nothing, replies_in}
 use Rattle.hub.specs.Makes.{LooksFor, Makes}
 use Rattle.serving_spec.specs.Openings.{counts}
 use Rattle.hub.specs.Pieces.{Steps, Answered, AtEnd}
@@ -174,22 +175,3 @@ Turned page Names limit greatest (Change text) made before after =
     ((number : ℕ) → after number ≡ before number) × (made ≡ nothing)
 Turned page Names limit greatest Done made before after =
     ((number : ℕ) → after number ≡ before number) × (made ≡ nothing)
-
--- the state of the pages, after the event
-abbrev pub state_after : {D : Type 0} → (D → List ℕ → D) → WireEvent → D → D
-state_after changed (Opened number) current = current
-state_after changed (Bytes number piece) current = current
-state_after changed (Ended number) current = current
-state_after changed (LostEvent number) current = current
-state_after changed (Change text) current = changed current text
-state_after changed Done current = current
-
--- what is kept of the pages, after the event: a text renews it, and every look-up is one step of it
-abbrev pub Keeps : {C : Type 0} → (C → Term → C → Type 0) → (List ℕ → C → C → Type 0) → WireEvent
-    → Made → C → C → Type 0
-Keeps Looks Renews (Opened number) made before after = AllLooked Looks before made.terms after
-Keeps Looks Renews (Bytes number piece) made before after = AllLooked Looks before made.terms after
-Keeps Looks Renews (Ended number) made before after = AllLooked Looks before made.terms after
-Keeps Looks Renews (LostEvent number) made before after = AllLooked Looks before made.terms after
-Keeps Looks Renews (Change text) made before after = Renews text before after
-Keeps Looks Renews Done made before after = AllLooked Looks before made.terms after

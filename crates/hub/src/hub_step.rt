@@ -1,24 +1,25 @@
 // The hub: one event is one step.
-ghost use Rattle.std.specs.Prelude.{◌≡◌, ◌≢◌, ◌<◌, ◌⊎◌, ℕ, List, true, false, Some, None};
+ghost use Rattle.std.specs.Prelude.{◌≡◌, ◌≢◌, ◌<◌, ◌⊎◌, ℕ, List, length, true, false, Some, None, if◌then◌else◌};
 ghost use Rattle.std.specs.Ordering.{nat_cmp};
 ghost use Rattle.std.specs.BTreeMap.{get};
 ghost use Rattle.page_spec.specs.Address.{TermOf};
-ghost use Rattle.wire.specs.Accounts.{up_by};
+ghost use Rattle.wire.specs.Accounts.{up, up_by};
 ghost use Rattle.wire.specs.Told.{EventsStay};
 ghost use Rattle.wire.specs.declared.WireEvent.{WireEvent};
 ghost use Rattle.hub.specs.HubState.{HubState, line_of};
 ghost use Rattle.serving_spec.specs.Made.{Made, nothing};
 ghost use Rattle.serving_spec.specs.Shown.{shown_in};
-ghost use Rattle.hub.specs.Turns.{ats, Turned, state_after, Keeps};
+ghost use Rattle.serving_spec.specs.Changes.{state_after, text_of, refused_of, Keeps};
+ghost use Rattle.hub.specs.Turns.{ats, Turned};
 ghost use Rattle.serving_spec.specs.Openings.{counts, greatest_after, opened_after};
 
 use crate::table::{Connections, finish, forget, open, take_piece};
-use sd_value::Str;
+use sd_value::{NoMemory, Str};
 use serving_spec::Tally;
 use std::alloc::Global;
 use std::collections::BTreeMap;
 use std::marker::Model;
-use versions::Versions;
+use versions::{Changed, Versions};
 use wire::{Wire, WireEvent};
 
 /// What a hub holds.
@@ -37,6 +38,9 @@ struct Desk<P> {
     /// How many connections were opened, and how many replies made.
     opened: u64,
     replies: u64,
+    /// How many texts came to change the data, and how many of them were refused.
+    changes: u64,
+    refused: u64,
 }
 
 /// The connections of a run, and the pages that they are shown.
@@ -60,6 +64,8 @@ impl<P> Model for Hub<P> {
       spent = h.desk.spent;
       opened = h.desk.opened;
       replies = h.desk.replies;
+      changes = h.desk.changes;
+      refused = h.desk.refused;
     } };
 
     ghost invariant = { λ h. 0 < h.desk.requests };
@@ -76,6 +82,7 @@ impl<P: Versions> Hub<P> {
         ensures root { result.root ≡ root }
         ensures spent { result.spent ≡ false }
         ensures counts { (result.opened ≡ 0) × (result.replies ≡ 0) }
+        ensures texts { (result.changes ≡ 0) × (result.refused ≡ 0) }
     {
         let desk = Desk {
             pages,
@@ -86,6 +93,8 @@ impl<P: Versions> Hub<P> {
             spent: false,
             opened: 0,
             replies: 0,
+            changes: 0,
+            refused: 0,
         };
         Hub { desk }
     }
@@ -115,9 +124,15 @@ impl<P: Versions> Hub<P> {
             (P.cache self.old.pages) (P.cache self.new.pages)) }
         ensures opened { self.old.spent ≡ false
             → self.new.opened ≡ opened_after event.now self.old.greatest self.old.opened }
+        ensures changes { self.old.spent ≡ false → self.new.spent ≡ false
+            → self.new.changes ≡ up_by (length (text_of event.now)) self.old.changes }
+        ensures refused { self.old.spent ≡ false → self.new.spent ≡ false → self.new.refused
+            ≡ up_by (length (refused_of (P.accepts (P.state self.old.pages)) event.now))
+            self.old.refused }
         ensures spends { self.old.spent ≡ false → self.new.spent ≡ true
             → ((text : List ℕ) × (event.now ≡ WireEvent.Change text))
-            × (P.found (P.cache self.new.pages) ≡ P.found (P.cache self.old.pages)) }
+            × (P.found (P.cache self.new.pages) ≡ P.found (P.cache self.old.pages))
+            × (self.new.changes ≡ self.old.changes) × (self.new.refused ≡ self.old.refused) }
         ensures stays { EventsStay (W.told wire.old) (W.told wire.new) }
     {
         if !self.desk.spent {
@@ -138,12 +153,16 @@ impl<P: Versions> Hub<P> {
           connections = self.now.opened;
           replies = self.now.replies;
           hits = P.found (P.cache self.now.pages);
+          changes = self.now.changes;
+          refused = self.now.refused;
         } }
     {
         Tally {
             connections: self.desk.opened,
             replies: self.desk.replies,
             hits: self.desk.pages.hits(),
+            changes: self.desk.changes,
+            refused: self.desk.refused,
         }
     }
 
@@ -184,9 +203,15 @@ impl<P: Versions> Desk<P> {
             (P.cache self.old.pages) (P.cache self.new.pages)) }
         ensures opened { self.new.opened
             ≡ opened_after event.now self.old.greatest self.old.opened }
+        ensures changes { self.new.spent ≡ false
+            → self.new.changes ≡ up_by (length (text_of event.now)) self.old.changes }
+        ensures refused { self.new.spent ≡ false → self.new.refused
+            ≡ up_by (length (refused_of (P.accepts (P.state self.old.pages)) event.now))
+            self.old.refused }
         ensures spends { self.new.spent ≡ true
             → ((text : List ℕ) × (event.now ≡ WireEvent.Change text))
-            × (P.found (P.cache self.new.pages) ≡ P.found (P.cache self.old.pages)) }
+            × (P.found (P.cache self.new.pages) ≡ P.found (P.cache self.old.pages))
+            × (self.new.changes ≡ self.old.changes) × (self.new.refused ≡ self.old.refused) }
         ensures stays { EventsStay (W.told wire.old) (W.told wire.new) }
     {
         match event {
@@ -211,12 +236,41 @@ impl<P: Versions> Desk<P> {
                 wire,
             ),
             WireEvent::Lost(number) => forget(&mut self.connections, *number),
-            WireEvent::Change(text) => {
-                if self.pages.change(alloc, text, &[]).is_err() {
-                    self.spent = true;
-                }
-            }
+            WireEvent::Change(text) => self.renew(alloc, text),
             WireEvent::Done => {}
+        }
+    }
+
+    /// Takes a text, and counts it. Out of memory for it the hub is spent.
+    fn renew(&mut self, alloc: Global, text: &Str)
+        requires own { P.Own self.old.pages }
+        requires alive { self.old.spent ≡ false }
+        ensures own { P.Own self.new.pages }
+        ensures requests { self.new.requests ≡ self.old.requests }
+        ensures root { self.new.root ≡ self.old.root }
+        ensures connections { self.new.connections ≡ self.old.connections }
+        ensures greatest { self.new.greatest ≡ self.old.greatest }
+        ensures counts { (self.new.opened ≡ self.old.opened)
+            × (self.new.replies ≡ self.old.replies) }
+        ensures state { self.new.spent ≡ false
+            → P.state self.new.pages ≡ P.changed (P.state self.old.pages) text.now }
+        ensures renews { self.new.spent ≡ false → P.renews (P.state self.old.pages) text.now
+            (P.cache self.old.pages) (P.cache self.new.pages) }
+        ensures found { P.found (P.cache self.new.pages) ≡ P.found (P.cache self.old.pages) }
+        ensures changes { self.new.spent ≡ false → self.new.changes ≡ up self.old.changes }
+        ensures refused { self.new.spent ≡ false → self.new.refused
+            ≡ (if P.accepts (P.state self.old.pages) text.now then self.old.refused
+            else up self.old.refused) }
+        ensures spent { self.new.spent ≡ true → (self.new.changes ≡ self.old.changes)
+            × (self.new.refused ≡ self.old.refused) }
+    {
+        match self.pages.change(alloc, text, &[]) {
+            Ok(Changed::Taken(_)) => self.changes = self.changes.saturating_add(1),
+            Ok(Changed::Refused) => {
+                self.changes = self.changes.saturating_add(1);
+                self.refused = self.refused.saturating_add(1);
+            }
+            Err(NoMemory) => self.spent = true,
         }
     }
 
@@ -230,6 +284,8 @@ impl<P: Versions> Desk<P> {
         ensures greatest { self.new.greatest
             ≡ greatest_after (WireEvent.Opened number) self.old.greatest }
         ensures replies { self.new.replies ≡ self.old.replies }
+        ensures texts { (self.new.changes ≡ self.old.changes)
+            × (self.new.refused ≡ self.old.refused) }
         ensures opened { self.new.opened
             ≡ opened_after (WireEvent.Opened number) self.old.greatest self.old.opened }
         ensures turned { Turned (shown_in self.old.root P.site P.templates

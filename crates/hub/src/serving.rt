@@ -19,7 +19,7 @@ use std::alloc::Global;
 use versions::Versions;
 use wire::{Wire, WireEnd, WireEvent};
 
-/// Takes events until there are no more, at most `turns`. It never calls `listen`, and it asks for no event after `Done`.
+/// Takes events until there are no more, at most `turns`. It never calls `listen` and `watch`, and it asks for no event after `Done`.
 pub fn serve<P: Versions, W: Wire>(
     alloc: Global,
     hub: &mut Hub<P>,
@@ -35,8 +35,8 @@ pub fn serve<P: Versions, W: Wire>(
         × ((W.told wire.new).given ≡ fold add_event (W.told wire.old).given events)
         × IsDrawn (W.told wire.old).left events (W.told wire.new).left
         × EndsRun turns events result
-        × IsCourse (rules_under hub.old.root P.site P.templates P.changed P.looks P.renews P.found)
-        hub.old.limit
+        × IsCourse (rules_under hub.old.root P.site P.templates P.changed P.accepts P.looks P.renews
+        P.found) hub.old.limit result
         (scene P.state P.cache hub.old (W.told wire.old).account (W.told wire.old).faults) events
         (scene P.state P.cache hub.new (W.told wire.new).account (W.told wire.new).faults)
         × ((number : ℕ) → line_of hub.old number ≡ None
@@ -54,6 +54,7 @@ pub fn serve<P: Versions, W: Wire>(
     ensures fine { (result ≡ HubEnd.Done) ⊎ (result ≡ HubEnd.TurnsSpent)
         → (W.told wire.new).next_faults ≡ (W.told wire.old).next_faults }
     ensures listens { (W.told wire.new).listens ≡ (W.told wire.old).listens }
+    ensures watches { (W.told wire.new).watches ≡ (W.told wire.old).watches }
     ensures stays { (hub.new.limit ≡ hub.old.limit) × (hub.new.root ≡ hub.old.root) }
 {
     for _ in 0..turns {

@@ -11,9 +11,9 @@ ghost use Rattle.constraint_recheck.specs.Same.{same_regex};
 ghost use Rattle.constraint_recheck.specs.Entails.{IsKnown};
 ghost use Rattle.inclusion_table.specs.Known.{Keeps, AreKnownBlocks};
 
-use crate::copies::copied;
 use entailment::same_rpe;
 use query_blocks::QueryBlock;
+use query_copies::copied_rpe;
 use rpe::Rpe;
 use sd_value::NoMemory;
 use std::alloc::Global;
@@ -32,7 +32,7 @@ fn add(alloc: Global, all: &mut Vec<Rpe>, expression: &Rpe) -> Result<(), NoMemo
         (regex_of expression.now)) }
 {
     if !is_among(all, expression) {
-        all.push(copied(alloc, expression)?)?;
+        all.push(copied_rpe(alloc, expression)?)?;
     }
     Ok(())
 }

@@ -2,7 +2,6 @@
 //! in which is found out once, so that no later test takes memory.
 #![tactic(auto)]
 
-mod copies;
 mod expressions;
 mod table;
 mod twins;

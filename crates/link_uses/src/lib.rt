@@ -2,14 +2,12 @@
 //! one of these conditions' variables, so that they entail the link's.
 #![tactic(auto)]
 
-mod copies;
 mod depths;
 mod due;
 mod extend;
 mod renaming;
 mod search;
 
-pub use copies::{copied_operand, copied_rpe, copied_term};
 pub use depths::Depths;
 pub use extend::find_names;
 pub use renaming::{name_for, renamed, renamed_term};

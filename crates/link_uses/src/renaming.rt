@@ -6,7 +6,7 @@ ghost use Rattle.struql_ast.specs.Reading.{operand_of, step_of, condition_of, te
 ghost use Rattle.constraint_spec.specs.Use.{rename_operand, rename_step, rename, rename_term};
 ghost use Rattle.constraint_spec.specs.Use.{name_for as mapped_name};
 
-use crate::copies::{copied_rpe, copied_values};
+use query_copies::{copied_rpe, copied_values};
 use query_spec::{Op, Test, Variable};
 use sd_lex::Span;
 use sd_value::{NoMemory, Str};

@@ -18,17 +18,21 @@ pub record WireInMemory : Type 0 where
   pub events : List WireEvent
   -- how many of them were given; Done is counted once
   pub count : ℕ
-  -- the numbers of the calls of `listen` and `next` that fail, counted together from 1
+  -- the numbers of the calls of `listen`, `watch` and `next` that fail, counted together from 1
   pub failing : List ℕ
   -- the sends that fail
   pub sends : List FailingSend
-  -- how often `listen` and `next` were called, and how many of these calls failed
+  -- how often `listen`, `watch` and `next` were called, and how many of these calls failed
   pub calls : ℕ
   pub next_faults : ℕ
   -- how often `listen` was called, and the arguments of its last call
   pub listens : ℕ
   pub port : ℕ
   pub connections : ℕ
+  -- how often `watch` was called, and the arguments of its last call
+  pub watches : ℕ
+  pub path : List ℕ
+  pub every : ℕ
   -- what each connection that the events open was sent
   pub entries : List (ℕ × Sent)
   -- memory was refused in a send
@@ -93,10 +97,11 @@ told_of w = record {
   given = given_of w.events w.count;
   left = Some (drop w.count w.events);
   listens = Some (record { calls = w.listens; port = w.port; connections = w.connections });
+  watches = Some (record { calls = w.watches; path = w.path; every = w.every });
   next_faults = w.next_faults;
 }
 
--- the next call of `listen` or `next` fails
+-- the next call of `listen`, `watch` or `next` fails
 abbrev pub fails_next : WireInMemory → Bool
 fails_next w = is_named w.failing (up w.calls)
 

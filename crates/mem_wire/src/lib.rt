@@ -6,7 +6,7 @@ ghost use Rattle.std.specs.Ordering.{nat_cmp};
 ghost use Rattle.std.specs.BTreeMap.{get};
 ghost use Rattle.edge_io.specs.Counts.{Rose};
 ghost use Rattle.wire.specs.Accounts.{up, send_to};
-ghost use Rattle.wire.specs.Events.{add_event, add_listen, IsNextOf};
+ghost use Rattle.wire.specs.Events.{add_event, add_listen, IsWatched, IsNextOf};
 ghost use Rattle.wire.specs.Told.{EventsStay, OtherAccountsStay, OtherFaultsStay};
 ghost use Rattle.mem_wire.specs.WireInMemory.{is_named, cut_of, told_of, faults_in, fails_next, next_cut, taken_of, is_closed, entry_of, HasEntry, IsNew};
 
@@ -36,12 +36,15 @@ pub struct MemWire {
     count: usize,
     failing: Vec<u64>,
     sends: Vec<FailingSend>,
-    /// How often `listen` and `next` were called.
+    /// How often `listen`, `watch` and `next` were called.
     calls: u64,
     next_faults: u64,
     listens: u64,
     port: u16,
     connections: u64,
+    watches: u64,
+    path: Str,
+    every: u64,
     entries: BTreeMap<u64, Entry>,
     short: bool,
 }
@@ -59,6 +62,9 @@ impl Drop for MemWire {
             listens: _listens,
             port: _port,
             connections: _connections,
+            watches: _watches,
+            path: _path,
+            every: _every,
             entries: _entries,
             short: _short,
         } = self;
@@ -80,14 +86,17 @@ impl Model for MemWire {
       listens = w.listens;
       port = w.port;
       connections = w.connections;
+      watches = w.watches;
+      path = w.path;
+      every = w.every;
       entries = w.entries.entries;
       is_short = w.short;
     } };
 }
 
 impl MemWire {
-    /// A wire that gives these events and then Done. `failing` has the numbers of the calls of `listen` and `next`
-    /// that fail, counted together from 1.
+    /// A wire that gives these events and then Done. `failing` has the numbers of the calls of `listen`, `watch` and
+    /// `next` that fail, counted together from 1.
     pub fn new(
         alloc: Global,
         events: Vec<WireEvent>,
@@ -104,6 +113,9 @@ impl MemWire {
           listens = 0;
           port = 0;
           connections = 0;
+          watches = 0;
+          path = [];
+          every = 0;
           entries = w.entries;
           is_short = false;
         }) }
@@ -111,6 +123,7 @@ impl MemWire {
         ensures opened { IfOk result (λ w. All (HasEntry (entry_of w)) events.items) }
     {
         let entries = entries_of(alloc, &events)?;
+        let path = Str::new(alloc, &[])?;
         Ok(MemWire {
             events,
             count: 0,
@@ -121,12 +134,15 @@ impl MemWire {
             listens: 0,
             port: 0,
             connections: 0,
+            watches: 0,
+            path,
+            every: 0,
             entries,
             short: false,
         })
     }
 
-    /// Counts a call of `listen` or `next`, and says whether it fails.
+    /// Counts a call of `listen`, `watch` or `next`, and says whether it fails.
     fn call(&mut self) -> bool
         ensures fails { result ≡ is_named self.old.failing (up self.old.calls) }
         ensures after { self.new ≡ record self.old {
@@ -170,6 +186,21 @@ impl MemWire {
             Some(entry) => entry.faults(),
             None => 0,
         }
+    }
+
+    /// How often `watch` was called.
+    pub fn watches(&self) -> u64
+        ensures { result ≡ self.now.watches }
+    {
+        self.watches
+    }
+
+    /// The path of the last call of `watch`, empty where there was none, and after how many connections its file was to be
+    /// read.
+    pub fn watched(&self) -> (&[u8], u64)
+        ensures { (result.0.now ≡ self.now.path) × (result.1 ≡ self.now.every) }
+    {
+        (self.path.bytes(), self.every)
     }
 
     /// Whether memory was refused in a send.
@@ -258,13 +289,44 @@ impl Wire for MemWire {
         ensures stays { ((told_of self.new).account ≡ (told_of self.old).account)
             × ((told_of self.new).faults ≡ (told_of self.old).faults)
             × ((told_of self.new).given ≡ (told_of self.old).given)
-            × ((told_of self.new).left ≡ (told_of self.old).left) }
+            × ((told_of self.new).left ≡ (told_of self.old).left)
+            × ((told_of self.new).watches ≡ (told_of self.old).watches) }
         ensures fails { is_err result ≡ fails_next self.old }
     {
         self.listens = self.listens.saturating_add(1);
         self.port = port;
         self.connections = connections;
         if self.call() { Err(Failed) } else { Ok(()) }
+    }
+
+    /// Reads no file, and fails exactly where `failing` names the call, unless memory for the path runs out.
+    fn watch(&mut self, alloc: Global, path: &Str, every: u64) -> Result<(), WireEnd>
+        ensures watches { IsWatched path.now every (told_of self.old).watches
+            (told_of self.new).watches result }
+        ensures fine { OnOk result ((told_of self.new).next_faults
+            ≡ (told_of self.old).next_faults) }
+        ensures failed { IsErrOf result WireEnd.Failed
+            → Rose (told_of self.old).next_faults (told_of self.new).next_faults }
+        ensures short { IsErrOf result WireEnd.NoMemory → told_of self.new ≡ told_of self.old }
+        ensures stays { ((told_of self.new).account ≡ (told_of self.old).account)
+            × ((told_of self.new).faults ≡ (told_of self.old).faults)
+            × ((told_of self.new).given ≡ (told_of self.old).given)
+            × ((told_of self.new).left ≡ (told_of self.old).left)
+            × ((told_of self.new).listens ≡ (told_of self.old).listens) }
+        ensures fails { result ≡ Err WireEnd.Failed → fails_next self.old ≡ true }
+        ensures fine_call { OnOk result (fails_next self.old ≡ false) }
+    {
+        let Ok(path) = path.copy(alloc) else {
+            return Err(WireEnd::NoMemory);
+        };
+        self.watches = self.watches.saturating_add(1);
+        self.path = path;
+        self.every = every;
+        if self.call() {
+            Err(WireEnd::Failed)
+        } else {
+            Ok(())
+        }
     }
 
     /// `Failed` exactly where `failing` names the call, which then takes no event.
@@ -281,7 +343,8 @@ impl Wire for MemWire {
             → Rose (told_of self.old).next_faults (told_of self.new).next_faults }
         ensures stays { ((told_of self.new).account ≡ (told_of self.old).account)
             × ((told_of self.new).faults ≡ (told_of self.old).faults)
-            × ((told_of self.new).listens ≡ (told_of self.old).listens) }
+            × ((told_of self.new).listens ≡ (told_of self.old).listens)
+            × ((told_of self.new).watches ≡ (told_of self.old).watches) }
         ensures fails { fails_next self.old ≡ true → result ≡ Err WireEnd.Failed }
         ensures named { result ≡ Err WireEnd.Failed → fails_next self.old ≡ true }
     {

@@ -11,8 +11,8 @@ ghost use Rattle.query_links.specs.Links.{placed, plain_links, carried, one_pass
 ghost use Rattle.query_links.specs.Links.{is_end as ends, ends_at};
 
 use crate::determined::is_determined;
-use crate::labels::{AskedLabel, is_of, may_carry};
-use entailment::Judge;
+use crate::labels::{AskedLabel, may_carry};
+use entailment::{Judge, is_of};
 use query_blocks::{QueryBlock, QueryBlocks};
 use sd_value::{NoMemory, Str};
 use std::alloc::Global;

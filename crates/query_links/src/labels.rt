@@ -5,21 +5,21 @@ ghost use Rattle.std.specs.List.{list_all};
 ghost use Rattle.graph_spec.specs.DataGraph.{text};
 ghost use Rattle.query_spec.specs.declared.Op.TheVariants.{Eq as EqOp, Ne as NeOp};
 ghost use Rattle.query_spec.specs.Query.{variable, constant};
-ghost use Rattle.struql_ast.specs.Reading.{operand_of, condition_of, target_of, label_of};
+ghost use Rattle.struql_ast.specs.Reading.{operand_of, condition_of, label_of};
 ghost use Rattle.constraint_recheck.specs.Same.{same_op, same_operand};
 ghost use Rattle.constraint_recheck.specs.Entails.{equal, among, on_constant, fixes};
-ghost use Rattle.constraint_recheck.specs.Recheck.{is_of as of_function, is_other_text as other_text};
+ghost use Rattle.constraint_recheck.specs.Recheck.{is_other_text as other_text};
 ghost use Rattle.constraint_recheck.specs.Recheck.{is_not_label, is_other_list as other_list};
 ghost use Rattle.constraint_recheck.specs.Recheck.{forbids as kept_away, may_be as allowed};
 ghost use Rattle.constraint_recheck.specs.Recheck.{may_carry as carries};
 ghost use Rattle.query_links.specs.Links.{placed};
 
-use entailment::Judge;
+use entailment::{Judge, is_of};
 use query_spec::Op;
 use sd_value::{Datum, NoMemory, Str, Value};
 use std::alloc::Global;
 use std::marker::Model;
-use struql_ast::{Chain, Condition, Link, LinkLabel, Operand, Target};
+use struql_ast::{Chain, Condition, Link, LinkLabel, Operand};
 
 /// A label that is asked for, as a name and as the value that an arc variable has for it.
 #[derive(Drop)]
@@ -61,16 +61,6 @@ impl AskedLabel {
         ensures { result.now ≡ text self.now }
     {
         &self.value
-    }
-}
-
-/// Whether the target is a term of the function.
-pub fn is_of(target: &Target, function: &Str) -> bool
-    ensures { result ≡ of_function function.now (target_of target.now) }
-{
-    match target {
-        Target::Plain(_) => false,
-        Target::Made(term) => term.function == *function,
     }
 }
 

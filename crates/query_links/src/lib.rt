@@ -8,5 +8,5 @@ mod labels;
 mod written;
 
 pub use carriers::{each_may, is_single};
-pub use labels::{AskedLabel, is_of};
+pub use labels::{AskedLabel, may_carry};
 pub use written::{Mention, mentions};

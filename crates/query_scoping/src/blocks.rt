@@ -7,9 +7,9 @@ ghost use Rattle.struql_ast.specs.Reading.{condition_of, blocks_of};
 ghost use Rattle.query_blocks.specs.Blocks.{body_of};
 ghost use Rattle.query_scoping.specs.Blocks.{own_body, HaveChains};
 
-use crate::copies::{collects, links, push_conditions, terms};
 use crate::variables::variables_of;
 use query_blocks::QueryBlock;
+use query_copies::{copied_collects, copied_links, copied_terms, push_conditions};
 use sd_value::NoMemory;
 use std::alloc::Global;
 use struql_ast::{Block, Chain, Condition};
@@ -41,9 +41,9 @@ fn block_under(
     let variables = variables_of(alloc, conditions)?;
     let mut copies = Vec::new(alloc);
     push_conditions(alloc, &mut copies, conditions)?;
-    let creates = terms(alloc, &block.creates)?;
-    let links = links(alloc, &block.links)?;
-    let collects = collects(alloc, &block.collects)?;
+    let creates = copied_terms(alloc, &block.creates)?;
+    let links = copied_links(alloc, &block.links)?;
+    let collects = copied_collects(alloc, &block.collects)?;
     Ok(QueryBlock {
         chain: Chain::new(version, variables, copies),
         creates,

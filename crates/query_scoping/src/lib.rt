@@ -19,7 +19,6 @@ use std::alloc::Global;
 use struql_check::Checked;
 
 mod blocks;
-mod copies;
 mod variables;
 
 /// In a query without faults each block is safe with the conditions of all blocks round it.

@@ -37,13 +37,13 @@ Reads limit bytes (Err (IntOutOfRange at)) =
 Reads limit bytes (Err (Expected at)) = IsFaultAt limit bytes at
 Reads limit bytes (Err NoMemory) = Unit {0}
 
--- an event of a connection, whose number is from 1 on, and no empty piece
+-- a text, or an event of a connection, whose number is from 1 on, and no empty piece
 abbrev pub IsScripted : WireEvent → Type 0
 IsScripted (Opened number) = 1 ≤ number
 IsScripted (Bytes number bytes) = (1 ≤ number) × (bytes ≢ [])
 IsScripted (Ended number) = 1 ≤ number
 IsScripted (Lost number) = 1 ≤ number
-IsScripted (Change text) = ⊥
+IsScripted (Change text) = ⊤
 IsScripted Done = ⊥
 
 -- an answer as a list of events

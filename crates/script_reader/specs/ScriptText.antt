@@ -1,8 +1,8 @@
 -- The grammar of scripts: which tokens spell which events.
 --
---   script := { "open" Int | "bytes" Int Quoted | "end" Int | "lost" Int }
+--   script := { "open" Int | "bytes" Int Quoted | "end" Int | "lost" Int | "change" Quoted }
 --
--- Each number is a connection's, from 1 on.
+-- Each number is a connection's, from 1 on. The text of a change may become the data of the run.
 use Rattle.std.specs.Prelude.{Bool, true, false, List, [], ◌∷◌, filter, codes}
 use Rattle.sd_lex.specs.declared.token.Token.{Token}
 use Rattle.grammar.specs.Grammar.{nothing, ◌>>=◌, ◌>>◌, either, many}
@@ -36,13 +36,19 @@ loss = do
   number ← connection
   nothing (Lost number)
 
+abbrev pub change : List Token → WireEvent → Type 0
+change = do
+  word (codes "change")
+  text ← quoted
+  nothing (Change text.text)
+
 abbrev pub phrase : List Token → WireEvent → Type 0
-phrase = either opening (either piece (either ending loss))
+phrase = either opening (either piece (either ending (either loss change)))
 
 abbrev pub script : List Token → List WireEvent → Type 0
 script = many phrase
 
--- An empty piece is no event.
+-- An empty piece is no event, but a change to an empty text is one.
 abbrev pub is_event : WireEvent → Bool
 is_event (Opened number) = true
 is_event (Bytes number []) = false

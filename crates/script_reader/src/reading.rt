@@ -5,7 +5,7 @@ ghost use Rattle.grammar.specs.Reading.{repeat, starts};
 ghost use Rattle.token_reader.specs.Gives.{Gives};
 ghost use Rattle.wire.specs.declared.WireEvent.{WireEvent as AnyEvent};
 ghost use Rattle.script_reader.specs.Terminals.{read_connection};
-ghost use Rattle.script_reader.specs.Reading.{read_opening, read_piece, read_ending, read_loss, read_phrase, begins_phrase, read_phrases};
+ghost use Rattle.script_reader.specs.Reading.{read_opening, read_piece, read_ending, read_loss, read_change, read_phrase, begins_phrase, read_phrases};
 ghost use Rattle.script_reader.specs.Spelled.{Spells};
 
 use crate::refusal::Refusal;
@@ -65,6 +65,15 @@ fn loss_at(tokens: &[Token]) -> Result<(WireEvent, &[Token]), Halt<Token>>
     Ok((WireEvent::Lost(number), rest))
 }
 
+#[tactic(auto, unfolding(crate::specs::Reading::read_change))]
+fn change_at(alloc: Global, tokens: &[Token]) -> Result<(WireEvent, &[Token]), Halt<Token>>
+    ensures { Gives (λ x. x.0) (λ x. x.1.now) result (read_change tokens.now) }
+{
+    let (_, rest) = word_at(tokens, b"change")?;
+    let (text, rest) = quoted_at(alloc, rest)?;
+    Ok((WireEvent::Change(text.text), rest))
+}
+
 #[tactic(auto, unfolding(crate::specs::Reading::read_phrase))]
 fn phrase_at(alloc: Global, tokens: &[Token]) -> Result<(WireEvent, &[Token]), Halt<Token>>
     ensures { Gives (λ x. x.0) (λ x. x.1.now) result (read_phrase tokens.now) }
@@ -75,8 +84,10 @@ fn phrase_at(alloc: Global, tokens: &[Token]) -> Result<(WireEvent, &[Token]), H
         piece_at(alloc, tokens)
     } else if has_word(tokens, b"end") {
         ending_at(tokens)
-    } else {
+    } else if has_word(tokens, b"lost") {
         loss_at(tokens)
+    } else {
+        change_at(alloc, tokens)
     }
 }
 
@@ -88,6 +99,7 @@ fn has_phrase(tokens: &[Token]) -> bool
         || has_word(tokens, b"bytes")
         || has_word(tokens, b"end")
         || has_word(tokens, b"lost")
+        || has_word(tokens, b"change")
 }
 
 fn phrases_at(alloc: Global, tokens: &[Token]) -> Result<(Vec<WireEvent>, &[Token]), Halt<Token>>

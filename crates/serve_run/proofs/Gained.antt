@@ -5,6 +5,12 @@ use Rattle.std.proofs.Math.Seq.{take-append-add, take-append_seam}
 use Rattle.edge_io.specs.Sink.{Gains, GainsPart}
 use Rattle.serve_run.specs.Puts.{IsPut}
 
+-- four pieces, one behind another
+pub four_pieces : (t a b c d : List ℕ) (t1 t2 t3 t4 : List ℕ) → t1 ≡ t ++ a → t2 ≡ t1 ++ b → t3 ≡ t2 ++ c → t4 ≡ t3 ++ d → t4 ≡ t ++ (a ++ (b ++ (c ++ d)))
+four_pieces t a b c d t1 t2 t3 t4 e1 e2 e3 e4 =
+    e4 ∙ ap (λ x. x ++ d) (e3 ∙ ap (λ x. x ++ c) (e2 ∙ ap (λ x. x ++ b) e1))
+    ∙ append_assoc ((t ++ a) ++ b) c d ∙ append_assoc (t ++ a) b (c ++ d) ∙ append_assoc t a (b ++ (c ++ d))
+
 module _ (a b c : Option (List ℕ)) (x y : List ℕ) where
   pub gains_then : Gains a b x → Gains b c y → Gains a c (x ++ y)
   gains_then whole more = λ before is. more (before ++ x) (whole before is) ∙ ap Some (append_assoc before x y)

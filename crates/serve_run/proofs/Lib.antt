@@ -1,5 +1,4 @@
 pub mod ServingLemmas
 pub mod PutLemmas
 pub mod Gained
-pub mod TurnsLeft
 pub mod CountLemmas

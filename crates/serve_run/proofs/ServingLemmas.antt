@@ -13,6 +13,7 @@ use Rattle.wire.specs.Events.{add_event, is_done, IsDrawn}
 use Rattle.wire.specs.Told.{Told}
 use Rattle.wire.specs.declared.WireEvent.{WireEvent}
 use Rattle.wire.specs.declared.WireEvent.TheVariants.{Opened, Bytes, Ended, Lost, Change, Done}
+use Rattle.serving_spec.specs.Changes.{Changes, data_at, texts_in, refused_in, AllKept}
 use Rattle.serving_spec.specs.Looks.{Kept}
 use Rattle.hub.specs.Course.{Scene, Rules, PassesAll, IsCourse}
 use Rattle.hub.specs.HubState.{scene, HubState, line_of}
@@ -28,12 +29,9 @@ use Rattle.serving_spec.specs.declared.HubEnd.{HubEnd}
 use Rattle.serving_spec.specs.declared.HubEnd.TheVariants.{Done as Finished, WireFailed, TurnsSpent, NoMemory}
 use Rattle.serving_spec.specs.Sent.{seen, IsServed}
 use Rattle.serving_spec.specs.Counted.{no_counts, IsCounted, counts_from}
-use Rattle.serving_spec.specs.Made.{AllLooked}
-use Rattle.serving_spec.specs.Looks.{LooksIn}
-use Rattle.page_spec.specs.Page.{IsOutcome}
 use Rattle.serving_spec.specs.Serving.{none_kept, placed_input, Tallied, Serves}
-use Rattle.serve_run.specs.Steps.{at, still_rules, TalliedInSteps, ServesInSteps}
-use Rattle.serve_run.proofs.CountLemmas.{served_of, counted_of, plain_served, whole, steps_of}
+use Rattle.serve_run.specs.Steps.{at, run_rules, TalliedInSteps, ServesInSteps}
+use Rattle.serve_run.proofs.CountLemmas.{served_of, counted_of, plain_served, After, steps_of, Whole, whole}
 
 -- one event more opens one connection more, or none
 opened_step : (e : WireEvent) (greatest : Option ℕ) (n : ℕ) (others : List ℕ) → up_by (length others) (opened_after e greatest n) ≡ up_by (length (opens greatest e ++ others)) n
@@ -57,43 +55,30 @@ opened_count rules limit before (e ∷ events) after (between, passes, rest) =
     ∙ ap (up_by (length (opened_from (greatest_after e before.greatest) events))) passes.opened
     ∙ opened_step e before.greatest before.opened (opened_from (greatest_after e before.greatest) events)
 
--- a change opens nothing
-opened_change : (greatest : Option ℕ) (front : List WireEvent) (text : List ℕ) → opened_from greatest (front ++ Change text ∷ []) ≡ opened_from greatest front
-opened_change greatest [] text = refl
-opened_change greatest (e ∷ front) text = ap (λ l. opens greatest e ++ l) (opened_change (greatest_after e greatest) front text)
-
-course_opened : {D C : Type 0} (rules : Rules D C) (limit : ℕ) (before : Scene D C) (events : List WireEvent) (after : Scene D C) → IsCourse rules limit before events after
-    → after.opened ≡ up_by (length (opened_from before.greatest events)) before.opened
-course_opened rules limit before events after (inl passes) = opened_count rules limit before events after passes
-course_opened rules limit before events after (inr (front, text, between, is, passes, stay)) =
-    stay.opened ∙ opened_count rules limit before front between passes
-    ∙ ap (λ (l : List ℕ). up_by (length l) before.opened) (sym (opened_change before.greatest front text))
-    ∙ ap (λ es. up_by (length (opened_from before.greatest es)) before.opened) (sym is)
-
 -- A run of a hub that is new.
-module _ {P D : Type 0} (old new : HubState P) (root : Option (List ℕ)) (site : D → Site) (templates : D → TemplateFile) (still : D) (requests turns capacity : ℕ) (state : P → D) (cache : P → Kept)
+module _ {P D : Type 0} (old new : HubState P) (root : Option (List ℕ)) (site : D → Site) (templates : D → TemplateFile) (texts : Changes D) (start : D) (requests turns capacity : ℕ) (state : P → D) (cache : P → Kept)
     (before after : Told) (end : HubEnd) (tally : Tally) (events : List WireEvent) (some : 0 < requests)
     (given : after.given ≡ fold add_event before.given events) (left : IsDrawn before.left events after.left) (ends : EndsRun turns events end)
-    (course : IsCourse (still_rules old.root site templates) old.limit (scene state cache old before.account before.faults) events (scene state cache new after.account after.faults))
+    (course : IsCourse (run_rules old.root site templates texts) old.limit end (scene state cache old before.account before.faults) events (scene state cache new after.account after.faults))
     (stands : (number : ℕ) → line_of old number ≡ None
     → Stands (shown_in old.root site templates) (TermOf old.root) old.limit number
-    (moment_after (λ current text. current) number (record { current = state old.pages; greatest = old.greatest; input = Unopened }) events)
+    (moment_after texts.changed number (record { current = state old.pages; greatest = old.greatest; input = Unopened }) events)
     (at_in (line_of old) before.account before.faults number) (at_in (line_of new) after.account after.faults number))
-    (none : (number : ℕ) → line_of old number ≡ None) (root_is : old.root ≡ root) (limit_is : old.limit ≡ requests) (state_is : state old.pages ≡ still)
-    (greatest_is : old.greatest ≡ None) (opened_is : old.opened ≡ 0) (replies_is : old.replies ≡ 0)
+    (none : (number : ℕ) → line_of old number ≡ None) (root_is : old.root ≡ root) (limit_is : old.limit ≡ requests) (state_is : state old.pages ≡ start)
+    (greatest_is : old.greatest ≡ None) (opened_is : old.opened ≡ 0) (replies_is : old.replies ≡ 0) (changes_is : old.changes ≡ 0) (refused_is : old.refused ≡ 0)
     (cache_is : cache old.pages ≡ record { capacity = capacity; terms = []; hits = 0 })
-    (tally_is : tally ≡ record { connections = new.opened; replies = new.replies; hits = (cache new.pages).hits }) where
-  each : (number : ℕ) → IsServed (shown_in root site templates) requests (input_of still number events) (seen before number) (seen after number)
+    (tally_is : tally ≡ record { connections = new.opened; replies = new.replies; hits = (cache new.pages).hits; changes = new.changes; refused = new.refused }) where
+  each : (number : ℕ) → IsServed (shown_in root site templates) requests (input_of texts.changed start number events) (seen before number) (seen after number)
   each number =
-      let start : D → Option ℕ → Input D = λ current greatest. (moment_after (λ current text. current) number (record { current = current; greatest = greatest; input = Unopened }) events).input in
+      let from : D → Option ℕ → Input D = λ current greatest. (moment_after texts.changed number (record { current = current; greatest = greatest; input = Unopened }) events).input in
       let here = stands number (none number) in
-      let there = plain_served (shown_in old.root site templates) (TermOf old.root) old.limit here.counted (start (state old.pages) old.greatest) (seen before number) (seen after number)
-      (served_of (shown_in old.root site templates) (TermOf old.root) still old.limit here.counted (at_in (line_of old) before.account before.faults number)
-      (at_in (line_of new) after.account after.faults number) (start (state old.pages) old.greatest) here.is.stands) in
-      subst (λ r. IsServed (shown_in r site templates) requests (input_of still number events) (seen before number) (seen after number)) root_is
-      (subst (λ n. IsServed (shown_in old.root site templates) n (input_of still number events) (seen before number) (seen after number)) limit_is
+      let there = plain_served (shown_in old.root site templates) (TermOf old.root) old.limit here.counted (from (state old.pages) old.greatest) (seen before number) (seen after number)
+      (served_of (shown_in old.root site templates) (TermOf old.root) start old.limit here.counted (at_in (line_of old) before.account before.faults number)
+      (at_in (line_of new) after.account after.faults number) (from (state old.pages) old.greatest) here.is.stands) in
+      subst (λ r. IsServed (shown_in r site templates) requests (input_of texts.changed start number events) (seen before number) (seen after number)) root_is
+      (subst (λ n. IsServed (shown_in old.root site templates) n (input_of texts.changed start number events) (seen before number) (seen after number)) limit_is
       (subst (λ i. IsServed (shown_in old.root site templates) old.limit i (seen before number) (seen after number))
-      (ap (λ d. start d old.greatest) state_is ∙ ap (λ g. start still g) greatest_is) there))
+      (ap (λ d. from d old.greatest) state_is ∙ ap (λ g. from start g) greatest_is) there))
 
   abbrev first : Scene D Kept
   first = scene state cache old before.account before.faults
@@ -101,12 +86,12 @@ module _ {P D : Type 0} (old new : HubState P) (root : Option (List ℕ)) (site 
   abbrev last : Scene D Kept
   last = scene state cache new after.account after.faults
 
-  course_is : IsCourse (still_rules root site templates) requests first events last
+  course_is : IsCourse (run_rules root site templates texts) requests end first events last
   course_is =
-      subst (λ r. IsCourse (still_rules r site templates) requests first events last) root_is
-      (subst (λ n. IsCourse (still_rules old.root site templates) n first events last) limit_is course)
+      subst (λ r. IsCourse (run_rules r site templates texts) requests end first events last) root_is
+      (subst (λ n. IsCourse (run_rules old.root site templates texts) n end first events last) limit_is course)
 
-  in_steps : TalliedInSteps root site templates still requests capacity before after events tally
+  in_steps : TalliedInSteps root site templates texts start requests capacity before after end events tally
   in_steps = record {
     first = first;
     last = last;
@@ -114,64 +99,82 @@ module _ {P D : Type 0} (old new : HubState P) (root : Option (List ℕ)) (site 
     data_are = state_is;
     none_open = greatest_is;
     none_counted = (opened_is, replies_is);
+    none_changed = (changes_is, refused_is);
     none_kept = cache_is;
     begins = λ number. ap (λ (l : Option Line). record { line = l; account = before.account number; faults = before.faults number }) (none number);
     ends = λ number. (refl, refl);
     tally_is = tally_is;
   }
 
-  tallied : Tallied root site templates still requests capacity before after events tally
-  tallied =
-      let all = whole root site templates still requests some first events last course_is in
-      let made = steps_of root site templates still requests some events first all.end state_is greatest_is none all.passes in
-      record {
-        makes = made.makes;
-        one_each = made.one_each;
-        each = λ number.
-            subst (λ a. IsCounted (λ (place : ℕ). shown_in root site templates still) (TermOf root) requests (counts_from number 0 no_counts events made.makes) (placed_input number events) (seen before number) (seen_of a))
-            (sym (all.ats number))
-            (counted_of (λ (place : ℕ). shown_in root site templates still) (TermOf root) 0 requests (counts_from number 0 no_counts events made.makes) (first.ats number) (all.end.ats number) (placed_input number events)
-            (made.stands number).stands);
-        connections = ap (λ (t : Tally). t.connections) tally_is
-            ∙ course_opened (still_rules old.root site templates) old.limit first events last course
-            ∙ ap (λ g. up_by (length (opened_from g events)) old.opened) greatest_is ∙ ap (up_by (length (opened_in events))) opened_is;
-        replies = ap (λ (t : Tally). t.replies) tally_is ∙ all.replies ∙ made.replies ∙ ap (λ n. fold (λ m one. up_by one.replies m) n made.makes) replies_is;
-        kept = all.end.cache;
-        looks = subst (λ k. AllLooked (LooksIn (IsOutcome (site still) (templates still))) k (flat_map (λ one. one.terms) made.makes) all.end.cache) cache_is made.looks;
-        hits = ap (λ (t : Tally). t.hits) tally_is ∙ all.hits;
-      }
+  all : Whole (run_rules root site templates texts) requests end first events last
+  all = whole (run_rules root site templates texts) requests end first events last course_is
 
-  pub serves : Serves root site templates still requests turns capacity before after (record { end = end; tally = tally })
-  serves = record { events = events; given = given; left = left; ends = ends; each = each; tally = tallied }
+  abbrev at_place : List WireEvent → ℕ → D
+  at_place taken = data_at texts.changed start taken
 
-  pub serves_in_steps : ServesInSteps root site templates still requests turns capacity before after (record { end = end; tally = tally })
+  made : After root site templates texts requests some (at_place all.taken) first.ats (λ k. record { current = 0; greatest = None; input = Unopened }) (λ k. no_counts) 0 all.taken first all.end
+  made = steps_of root site templates texts requests some (at_place all.taken) all.taken first all.end (λ n. ap (λ d. data_at texts.changed d all.taken n) (sym state_is)) greatest_is none all.passes
+
+  tallied : Tallied root site templates texts start requests capacity before after all.taken tally
+  tallied = record {
+    makes = made.makes;
+    one_each = made.one_each;
+    each = λ number.
+        subst (λ a. IsCounted (λ (place : ℕ). shown_in root site templates (at_place all.taken place)) (TermOf root) requests (counts_from number 0 no_counts all.taken made.makes) (placed_input number all.taken) (seen before number) (seen_of a))
+        (sym (all.ats number))
+        (counted_of (λ (place : ℕ). shown_in root site templates (at_place all.taken place)) (TermOf root) 0 requests (counts_from number 0 no_counts all.taken made.makes) (first.ats number) (all.end.ats number) (placed_input number all.taken)
+        (made.stands number).stands);
+    connections = ap (λ (t : Tally). t.connections) tally_is ∙ all.opened
+        ∙ opened_count (run_rules root site templates texts) requests first all.taken all.end all.passes
+        ∙ ap (λ g. up_by (length (opened_from g all.taken)) old.opened) greatest_is ∙ ap (up_by (length (opened_in all.taken))) opened_is;
+    replies = ap (λ (t : Tally). t.replies) tally_is ∙ all.replies ∙ made.replies ∙ ap (λ n. fold (λ m one. up_by one.replies m) n made.makes) replies_is;
+    changes = ap (λ (t : Tally). t.changes) tally_is ∙ all.changes ∙ made.changes ∙ ap (up_by (length (texts_in all.taken))) changes_is;
+    refused = ap (λ (t : Tally). t.refused) tally_is ∙ all.refused ∙ made.refused ∙ ap (up_by (length (refused_in texts (state old.pages) all.taken))) refused_is
+        ∙ ap (λ d. up_by (length (refused_in texts d all.taken)) 0) state_is;
+    kept = all.end.cache;
+    keeps = subst (λ d. AllKept site templates texts d all.taken made.makes (none_kept capacity) all.end.cache) state_is
+        (subst (λ k. AllKept site templates texts (state old.pages) all.taken made.makes k all.end.cache) cache_is made.keeps);
+    hits = ap (λ (t : Tally). t.hits) tally_is ∙ all.found;
+  }
+
+  pub serves : Serves root site templates texts start requests turns capacity before after (record { end = end; tally = tally })
+  serves = record { events = events; given = given; left = left; ends = ends; each = each; taken = all.taken; all_taken = all.all_taken; tally = tallied }
+
+  pub serves_in_steps : ServesInSteps root site templates texts start requests turns capacity before after (record { end = end; tally = tally })
   serves_in_steps = record { events = events; left = left; ends = ends; tally = in_steps }
 
+abbrev no_tally : Tally
+no_tally = record { connections = 0; replies = 0; hits = 0; changes = 0; refused = 0 }
+
 -- memory was missing before the first event
-pub serves_nothing : {D : Type 0} (root : Option (List ℕ)) (site : D → Site) (templates : D → TemplateFile) (still : D) (requests turns capacity : ℕ) (wire : Told)
-    → Serves root site templates still requests turns capacity wire wire (record { end = NoMemory; tally = record { connections = 0; replies = 0; hits = 0 } })
-serves_nothing {D} root site templates still requests turns capacity wire = record {
+pub serves_nothing : {D : Type 0} (root : Option (List ℕ)) (site : D → Site) (templates : D → TemplateFile) (texts : Changes D) (start : D) (requests turns capacity : ℕ) (wire : Told)
+    → Serves root site templates texts start requests turns capacity wire wire (record { end = NoMemory; tally = no_tally })
+serves_nothing {D} root site templates texts start requests turns capacity wire = record {
   events = [];
   given = refl;
   left = refl;
   ends = (let none : 0 ≤ turns = omega arith in none, refl);
   each = λ number. refl;
+  taken = [];
+  all_taken = inl refl;
   tally = record {
     makes = [];
     one_each = refl;
     each = λ number. (refl, λ is. refl);
     connections = refl;
     replies = refl;
+    changes = refl;
+    refused = refl;
     kept = none_kept capacity;
-    looks = refl;
+    keeps = refl;
     hits = refl;
   };
 }
 
-pub no_steps : {D : Type 0} (root : Option (List ℕ)) (site : D → Site) (templates : D → TemplateFile) (still : D) (requests turns capacity : ℕ) (wire : Told)
-    → ServesInSteps root site templates still requests turns capacity wire wire (record { end = NoMemory; tally = record { connections = 0; replies = 0; hits = 0 } })
-no_steps {D} root site templates still requests turns capacity wire =
-    let first : Scene D Kept = record { ats = at wire; current = still; greatest = None; opened = 0; replies = 0; cache = none_kept capacity } in
+pub no_steps : {D : Type 0} (root : Option (List ℕ)) (site : D → Site) (templates : D → TemplateFile) (texts : Changes D) (start : D) (requests turns capacity : ℕ) (wire : Told)
+    → ServesInSteps root site templates texts start requests turns capacity wire wire (record { end = NoMemory; tally = no_tally })
+no_steps {D} root site templates texts start requests turns capacity wire =
+    let first : Scene D Kept = record { ats = at wire; current = start; greatest = None; opened = 0; replies = 0; changes = 0; refused = 0; cache = none_kept capacity } in
     record {
       events = [];
       left = refl;
@@ -183,6 +186,7 @@ no_steps {D} root site templates still requests turns capacity wire =
         data_are = refl;
         none_open = refl;
         none_counted = (refl, refl);
+        none_changed = (refl, refl);
         none_kept = refl;
         begins = λ number. refl;
         ends = λ number. (refl, refl);

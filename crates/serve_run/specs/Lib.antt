@@ -1,4 +1,3 @@
 pub mod Texts
-pub mod Served
 pub mod Steps
 pub mod Puts

@@ -1,4 +1,4 @@
-//! Pages of data that do not change, served over a wire.
+//! Pages of data that texts may change, served over a wire.
 #![tactic(auto)]
 
 ghost use Rattle.std.specs.Prelude.{◌≡◌, ◌<◌, ◌⊎◌, ℕ, List, [], length, Some, None, false, IfOk};
@@ -12,7 +12,6 @@ ghost use Rattle.serve_run.specs.Steps.{ServesInSteps};
 
 mod opened;
 mod puts;
-mod site;
 mod texts;
 
 use hub::{Hub, serve};
@@ -22,19 +21,26 @@ pub use puts::{put_anyway, put_end};
 use sd_value::{NoMemory, Str};
 pub use serving_spec::Served;
 use serving_spec::{HubEnd, Tally};
-pub use site::serve_site;
-use site_view::Pages;
 use std::alloc::Global;
 use std::num::NonZeroUsize;
 pub use texts::{replay_text, tally_text};
-use versions::Still;
+use versions::Versions;
 use wire::Wire;
 
+/// The counts of a run before its first event.
+pub const NO_TALLY: Tally = Tally {
+    connections: 0,
+    replies: 0,
+    hits: 0,
+    changes: 0,
+    refused: 0,
+};
+
 /// Serves pages to the connections of a wire, at most `turns` events, and at most `requests` replies to each connection. `root` is
-/// the function of the term for `/`. At most `cache` pages are kept. It never calls `listen`. Where the wire reports the
-/// events that it will give, and there is a turn for each and one for `Done`, nothing but a fault of the wire or out of
-/// memory ends the run before.
-pub fn serve_pages<P: Pages + Drop, W: Wire>(
+/// the function of the term for `/`. At most `cache` pages are kept. It never calls `listen` and `watch`. Where the wire
+/// reports the events that it will give, and there is a turn for each and one for `Done`, nothing but a fault of the wire or
+/// out of memory ends the run before.
+pub fn serve_pages<P: Versions + Drop, W: Wire>(
     alloc: Global,
     pages: P,
     root: Option<Str>,
@@ -46,12 +52,15 @@ pub fn serve_pages<P: Pages + Drop, W: Wire>(
     requires own { P.Own pages }
     requires requests { 0 < requests }
     requires cache { 0 < cache }
-    ensures serves { Serves root P.site P.templates (P.fixed pages) requests turns cache
-        (W.told wire.old) (W.told wire.new) result }
+    ensures serves { Serves root P.site P.templates
+        (record { changed = P.changed; accepts = P.accepts; stays = P.stays }) (P.state pages)
+        requests turns cache (W.told wire.old) (W.told wire.new) result }
     // The hub's own steps give more for a run whose events are known.
-    ensures steps { ServesInSteps root P.site P.templates (P.fixed pages) requests turns cache
-        (W.told wire.old) (W.told wire.new) result }
+    ensures steps { ServesInSteps root P.site P.templates
+        (record { changed = P.changed; accepts = P.accepts; stays = P.stays }) (P.state pages)
+        requests turns cache (W.told wire.old) (W.told wire.new) result }
     ensures listens { (W.told wire.new).listens ≡ (W.told wire.old).listens }
+    ensures watches { (W.told wire.new).watches ≡ (W.told wire.old).watches }
     ensures failed { result.end ≡ HubEnd.WireFailed
         → Rose (W.told wire.old).next_faults (W.told wire.new).next_faults }
     ensures whole { (events : List WireEvent) → (W.told wire.old).left ≡ Some events
@@ -71,41 +80,38 @@ pub fn serve_pages<P: Pages + Drop, W: Wire>(
         }
         Err(_) => Served {
             end: HubEnd::NoMemory,
-            tally: Tally {
-                connections: 0,
-                replies: 0,
-                hits: 0,
-            },
+            tally: NO_TALLY,
         },
     }
 }
 
 /// A hub over the pages, of which some are kept.
-fn hub_over<P: Pages + Drop>(
+fn hub_over<P: Versions + Drop>(
     alloc: Global,
     pages: P,
     root: Option<Str>,
     requests: u64,
     cache: u64,
-) -> Result<Hub<Cached<Still<P>>>, NoMemory>
+) -> Result<Hub<Cached<P>>, NoMemory>
     requires own { P.Own pages }
     requires requests { 0 < requests }
     requires cache { 0 < cache }
-    ensures own { IfOk result (λ hub. P.Own hub.pages.pages.pages) }
+    ensures own { IfOk result (λ hub. P.Own hub.pages.pages) }
     ensures sound { IfOk result (λ hub. AreKept
-        (IsOutcome (P.site (P.fixed hub.pages.pages.pages))
-        (P.templates (P.fixed hub.pages.pages.pages))) hub.pages.kept.entries) }
-    ensures pages { IfOk result (λ hub. hub.pages.pages.pages ≡ pages) }
+        (IsOutcome (P.site (P.state hub.pages.pages)) (P.templates (P.state hub.pages.pages)))
+        hub.pages.kept.entries) }
+    ensures pages { IfOk result (λ hub. hub.pages.pages ≡ pages) }
     ensures kept { IfOk result (λ hub. (hub.pages.kept.cap ≡ cache) × (hub.pages.kept.entries ≡ [])
         × (hub.pages.hits ≡ 0)) }
     ensures none { IfOk result (λ hub. (number : ℕ) → line_of hub number ≡ None) }
     ensures new { IfOk result (λ hub. (hub.root ≡ root) × (hub.limit ≡ requests)
-        × (hub.greatest ≡ None) × (hub.opened ≡ 0) × (hub.replies ≡ 0)) }
+        × (hub.greatest ≡ None) × (hub.opened ≡ 0) × (hub.replies ≡ 0)
+        × (hub.changes ≡ 0) × (hub.refused ≡ 0)) }
     ensures alive { IfOk result (λ hub. hub.spent ≡ false) }
 {
     let Some(capacity) = NonZeroUsize::new(cache as usize) else {
         return Err(NoMemory);
     };
-    let kept = Cached::of(alloc, Still { pages }, capacity)?;
+    let kept = Cached::of(alloc, pages, capacity)?;
     Ok(Hub::of(alloc, kept, requests, root))
 }

@@ -1,7 +1,7 @@
 // What a run prints.
 ghost use Rattle.std.specs.Prelude.{◌≡◌, ◌++◌, All, IfOk, OnOk, decimal};
 ghost use Rattle.mem_wire.specs.WireInMemory.{accounts_of, faults_in};
-ghost use Rattle.serve_run.specs.Texts.{tally_text, bytes_taken, connection_line, connection_text, replay_text};
+ghost use Rattle.serve_run.specs.Texts.{tally_text, change_lines, bytes_taken, connection_line, connection_text, replay_text};
 
 use itoa::Buffer;
 use mem_wire::MemWire;
@@ -9,12 +9,12 @@ use sd_value::NoMemory;
 use serving_spec::Tally;
 use std::alloc::Global;
 
-/// The lines that report the counts of a run.
-pub fn tally_text(alloc: Global, tally: &Tally) -> Result<Vec<u8>, NoMemory>
-    ensures { IfOk result (λ text. text.items ≡ tally_text tally.now) }
+/// The lines that report the counts of a run, with those of the texts where these are to be told.
+pub fn tally_text(alloc: Global, with_changes: bool, tally: &Tally) -> Result<Vec<u8>, NoMemory>
+    ensures { IfOk result (λ text. text.items ≡ tally_text with_changes tally.now) }
 {
     let mut text = Vec::new(alloc);
-    push_tally(&mut text, tally)?;
+    push_tally(&mut text, with_changes, tally)?;
     Ok(text)
 }
 
@@ -24,17 +24,18 @@ pub fn replay_text(
     alloc: Global,
     wire: &MemWire,
     opened: &[u64],
+    with_changes: bool,
     tally: &Tally,
 ) -> Result<Vec<u8>, NoMemory>
     ensures text { IfOk result (λ text. text.items
-        ≡ replay_text (accounts_of wire.now) opened.now tally.now) }
+        ≡ replay_text (accounts_of wire.now) opened.now with_changes tally.now) }
     ensures whole { IfOk result (λ text. All (λ number. faults_in wire.now number ≡ 0) opened.now) }
 {
     let mut text = Vec::new(alloc);
     for number in opened {
         push_connection(&mut text, wire, *number)?;
     }
-    push_tally(&mut text, tally)?;
+    push_tally(&mut text, with_changes, tally)?;
     Ok(text)
 }
 
@@ -67,12 +68,25 @@ fn push_line(text: &mut Vec<u8>, number: u64, length: u64) -> Result<(), NoMemor
     Ok(())
 }
 
-fn push_tally(text: &mut Vec<u8>, tally: &Tally) -> Result<(), NoMemory>
-    ensures { OnOk result (text.new.items ≡ text.old.items ++ tally_text tally.now) }
+fn push_tally(text: &mut Vec<u8>, with_changes: bool, tally: &Tally) -> Result<(), NoMemory>
+    ensures { OnOk result (text.new.items
+        ≡ text.old.items ++ tally_text with_changes tally.now) }
 {
     push_number(text, b"connections ", tally.connections, b"\n")?;
     push_number(text, b"replies ", tally.replies, b"\n")?;
-    push_number(text, b"hits ", tally.hits, b"\n")
+    push_number(text, b"hits ", tally.hits, b"\n")?;
+    if with_changes {
+        push_changes(text, tally)?;
+    }
+    Ok(())
+}
+
+/// The lines that count texts.
+fn push_changes(text: &mut Vec<u8>, tally: &Tally) -> Result<(), NoMemory>
+    ensures { OnOk result (text.new.items ≡ text.old.items ++ change_lines tally.now) }
+{
+    push_number(text, b"changes ", tally.changes, b"\n")?;
+    push_number(text, b"refused ", tally.refused, b"\n")
 }
 
 /// A number between two texts.

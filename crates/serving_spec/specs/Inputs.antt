@@ -54,8 +54,8 @@ after_event changed k m Done = m
 abbrev pub moment_after : {D : Type 0} → (D → List ℕ → D) → ℕ → Moment D → List WireEvent → Moment D
 moment_after changed k start events = fold (after_event changed k) start events
 
--- what came of a connection in the events, where no text changes the data
-abbrev pub input_of : {D : Type 0} → D → ℕ → List WireEvent → Input D
-input_of still number events =
-    (moment_after (λ current text. current) number
-    (record { current = still; greatest = None; input = Unopened }) events).input
+-- what came of a connection in the events, each byte with the data that were current then
+abbrev pub input_of : {D : Type 0} → (D → List ℕ → D) → D → ℕ → List WireEvent → Input D
+input_of changed start number events =
+    (moment_after changed number
+    (record { current = start; greatest = None; input = Unopened }) events).input

@@ -1,3 +1,4 @@
+pub mod Changes
 pub mod Counted
 pub mod Delivered
 pub mod Inputs

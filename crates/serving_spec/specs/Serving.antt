@@ -1,18 +1,18 @@
--- Pages of data that do not change, served over a wire.
-use Rattle.std.specs.Prelude.{◌≡◌, ℕ, List, [], length, flat_map, Option, None}
+-- Pages of data that texts may change, served over a wire.
+use Rattle.std.specs.Prelude.{◌≡◌, ℕ, List, [], length, Option, None}
 use Rattle.std.specs.List.{fold}
 use Rattle.tmpl.specs.Body.{TemplateFile}
 use Rattle.page_spec.specs.Address.{TermOf}
-use Rattle.page_spec.specs.Page.{IsOutcome}
 use Rattle.page_spec.specs.Site.{Site}
 use Rattle.wire.specs.Accounts.{up_by}
 use Rattle.wire.specs.Events.{add_event, IsDrawn}
 use Rattle.wire.specs.Told.{Told}
 use Rattle.wire.specs.declared.WireEvent.{WireEvent}
+use Rattle.serving_spec.specs.Changes.{Changes, data_at, texts_in, refused_in, AllKept, AreTaken}
 use Rattle.serving_spec.specs.Counted.{no_counts, IsCounted, MakeFor, counts_from, placed_from}
-use Rattle.serving_spec.specs.Looks.{Kept, LooksIn}
+use Rattle.serving_spec.specs.Looks.{Kept}
 use Rattle.serving_spec.specs.Inputs.{Input, Unopened, input_of}
-use Rattle.serving_spec.specs.Made.{Made, AllLooked}
+use Rattle.serving_spec.specs.Made.{Made}
 use Rattle.serving_spec.specs.RunEnds.{EndsRun}
 use Rattle.serving_spec.specs.Sent.{seen, IsServed}
 use Rattle.serving_spec.specs.Shown.{shown_in}
@@ -30,35 +30,43 @@ placed_input number events =
     (placed_from number (record { current = 0; greatest = None; input = Unopened }) events).input
 
 -- The counts of a run. makes is what each event makes: replies, and look-ups. What the events of a connection make in
--- all is what its replies make, and each term is looked up at the event whose bytes complete its head.
+-- all is what its replies make, and each term is looked up at the event whose bytes complete its head, in the data that
+-- were current then.
 pub record Tallied {D : Type 0} (root : Option (List ℕ)) (site : D → Site)
-    (templates : D → TemplateFile) (still : D) (requests capacity : ℕ) (before after : Told)
-    (events : List WireEvent) (tally : Tally) : Type 0 where
+    (templates : D → TemplateFile) (texts : Changes D) (start : D) (requests capacity : ℕ)
+    (before after : Told) (events : List WireEvent) (tally : Tally) : Type 0 where
   pub makes : List Made
   pub one_each : MakeFor events makes
   pub each : (number : ℕ)
-      → IsCounted (λ place. shown_in root site templates still) (TermOf root) requests
+      → IsCounted (λ place. shown_in root site templates (data_at texts.changed start events place))
+      (TermOf root) requests
       (counts_from number 0 no_counts events makes) (placed_input number events)
       (seen before number) (seen after number)
   -- the connections that were opened
   pub connections : tally.connections ≡ up_by (length (opened_in events)) 0
   -- the replies that are no 503
   pub replies : tally.replies ≡ fold (λ n made. up_by made.replies n) 0 makes
+  -- the texts that came, and those that were refused
+  pub changes : tally.changes ≡ up_by (length (texts_in events)) 0
+  pub refused : tally.refused ≡ up_by (length (refused_in texts start events)) 0
   -- the look-ups, one after another, that found a page that was kept, where none is kept at first
   pub kept : Kept
-  pub looks : AllLooked (LooksIn (IsOutcome (site still) (templates still)))
-      (none_kept capacity) (flat_map (λ made. made.terms) makes) kept
+  pub keeps : AllKept site templates texts start events makes (none_kept capacity) kept
   pub hits : tally.hits ≡ kept.hits
 
 -- Pages were served over a wire: these events came, in any order and for any connections, each connection was sent what
--- its own bytes ask for, and the counts are those of the run.
+-- its own bytes ask for, each page of the data that were current when its head was complete, and the counts are those of
+-- the run.
 pub record Serves {D : Type 0} (root : Option (List ℕ)) (site : D → Site)
-    (templates : D → TemplateFile) (still : D) (requests turns capacity : ℕ)
-    (before after : Told) (served : Served) : Type 0 where
+    (templates : D → TemplateFile) (texts : Changes D) (start : D)
+    (requests turns capacity : ℕ) (before after : Told) (served : Served) : Type 0 where
   pub events : List WireEvent
   pub given : after.given ≡ fold add_event before.given events
   pub left : IsDrawn before.left events after.left
   pub ends : EndsRun turns events served.end
   pub each : (number : ℕ) → IsServed (shown_in root site templates) requests
-      (input_of still number events) (seen before number) (seen after number)
-  pub tally : Tallied root site templates still requests capacity before after events served.tally
+      (input_of texts.changed start number events) (seen before number) (seen after number)
+  pub taken : List WireEvent
+  pub all_taken : AreTaken served.end events taken
+  pub tally : Tallied root site templates texts start requests capacity before after taken
+      served.tally

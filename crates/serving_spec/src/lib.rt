@@ -16,7 +16,7 @@ pub enum HubEnd {
 }
 
 /// The counts of a run. Each stays at its last value.
-#[derive(Clone, Copy, Debug, PartialEq, Eq)]
+#[derive(Clone, Copy, Debug, Default, PartialEq, Eq)]
 pub struct Tally {
     /// The connections that were opened.
     pub connections: u64,
@@ -24,6 +24,10 @@ pub struct Tally {
     pub replies: u64,
     /// The pages that were kept when they were looked up.
     pub hits: u64,
+    /// The texts that were to change the data, refused or not.
+    pub changes: u64,
+    /// Those of them that were refused.
+    pub refused: u64,
 }
 
 /// How a run ended, and its counts.

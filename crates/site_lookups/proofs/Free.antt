@@ -12,9 +12,8 @@ use Rattle.graph_spec.specs.DataGraph.{DataGraph, Name}
 use Rattle.query_spec.specs.Query.{Target, Chain, Collect}
 use Rattle.query_spec.specs.declared.Variable.{Variable}
 use Rattle.query_spec.specs.Holds.{Assignment}
-use Rattle.query_spec.specs.Rows.{value_in, row_cmp, Agrees, IsRow, IsAnswer}
+use Rattle.query_spec.specs.Rows.{row_cmp, Agrees, IsRow, IsAnswer}
 use Rattle.site_spec.specs.Site.{IsTargetUnder, IsPut, SomeRow}
-use Rattle.sd_value.specs.Gathered.{Gathered}
 use Rattle.site_lookups.proofs.Rows.{row_long}
 use Rattle.site_lookups.proofs.Targets.{target_same, name_is}
 
@@ -22,13 +21,6 @@ use Rattle.site_lookups.proofs.Targets.{target_same, name_is}
 pub all_rows : (G : DataGraph) (c : Chain) (bound : List (Option Value)) (rows : List (List Value)) → ((row : List Value) → length row ≡ length c.variables → Agrees row bound)
     → ListsExactly row_cmp (IsAnswer G c bound) rows → ListsExactly row_cmp (IsRow G c) rows
 all_rows G c bound rows free exact = listed_as exact (λ row a. a.is_row) (λ row r. record { is_row = r; agrees = free row (row_long G c row r) })
-
-pub targets_listed : (G : DataGraph) (c : Chain) (target : Target) (rows : List (List Value)) (vs : List Value) → ListsExactly row_cmp (IsRow G c) rows
-    → Gathered (λ (row : List Value) (v : Value). IsTargetUnder (value_in c.variables row) target v) rows vs → (v : Value) → Contains vs v ↔ SomeRow G c (λ s. IsTargetUnder s target v)
-targets_listed G c target rows vs exact g v = (
-  λ h. let r = g.sound v h in record { row = r.0; is_row = exact.sound r.0 r.1; holds = r.2 },
-  λ s. g.complete s.row v (exact.complete s.row s.is_row) s.holds,
-)
 
 pub target_some : (t : Target) (s : Assignment) (o : Option Value) (v : Value) → o ≡ Some v → MatchOption o ((w : Value) → IsTargetUnder s t w → ⊥) (λ w. IsTargetUnder s t w) → IsTargetUnder s t v
 target_some t s o v e m = subst (λ (x : Option Value). MatchOption x ((w : Value) → IsTargetUnder s t w → ⊥) (λ w. IsTargetUnder s t w)) e m

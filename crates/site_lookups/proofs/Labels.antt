@@ -2,7 +2,6 @@
 use Rattle.std.proofs.Common.{◌≡◌, ◌∙◌, List, [], refl, sym, subst}
 use Rattle.std.specs.Prelude.{Option, Some, None, ◌↔◌, Contains}
 use Rattle.std.specs.Option.{MatchOption}
-use Rattle.sd_value.specs.Ascending.{ListsExactly}
 use Rattle.sd_value.specs.Members.{Contains-nil}
 use Rattle.sd_value.specs.declared.Term.{Term}
 use Rattle.sd_value.specs.declared.Value.{Value}
@@ -11,11 +10,10 @@ use Rattle.graph_spec.specs.DataGraph.{DataGraph, Name, text}
 use Rattle.query_spec.specs.declared.Variable.{Variable}
 use Rattle.query_spec.specs.Query.{SkolemTerm, made, Link, LinkLabel, quoted, label_variable, Chain}
 use Rattle.query_spec.specs.Holds.{Assignment}
-use Rattle.query_spec.specs.Rows.{value_in, row_cmp, IsAnswer}
+use Rattle.query_spec.specs.Rows.{value_in, IsAnswer}
 use Rattle.skolem.specs.Solved.{Solves, HasNone, Adds, Refutes, HasName}
-use Rattle.site_spec.specs.Site.{IsTermUnder, IsTargetUnder, IsLabelUnder, IsJoined}
+use Rattle.site_spec.specs.Site.{IsTermUnder, IsLabelUnder, IsJoined}
 use Rattle.site_lookups.specs.Counts.{IsLinkRow}
-use Rattle.sd_value.specs.Gathered.{Gathered}
 use Rattle.site_lookups.specs.Ends.{IsLabelled, StartsBy}
 use Rattle.site_lookups.proofs.Rows.{row_long, none_case}
 use Rattle.site_lookups.proofs.Targets.{source_to, source_from}
@@ -69,20 +67,6 @@ none_solved variables P o e m = subst (λ (x : Option (List (Option Value))). Ma
 
 pub link_rows : (G : DataGraph) (c : Chain) (k : Link) (p : Term) (label : Name) (bound : List (Option Value)) → Solves c.variables (StartsBy k p label) bound → (row : List Value) → IsAnswer G c bound row → IsLinkRow G c p label k row
 link_rows G c k p label bound s row a = let h = s.to row (row_long G c row a.is_row) a.agrees in (a.is_row, h.0, h.1)
-
-pub joined_ends : (G : DataGraph) (c : Chain) (k : Link) (p : Term) (label : Name) (bound : List (Option Value)) (rows : List (List Value)) (ends : List Value)
-    → Solves c.variables (StartsBy k p label) bound → ListsExactly row_cmp (IsAnswer G c bound) rows
-    → Gathered (λ (row : List Value) (v : Value). IsTargetUnder (value_in c.variables row) k.target v) rows ends → (v : Value) → Contains ends v ↔ IsJoined G c (Page p) label v k
-joined_ends G c k p label bound rows ends s exact g v = (
-  λ h.
-      let r = g.sound v h in
-      let a = exact.sound r.0 r.1 in
-      let starts = s.to r.0 (row_long G c r.0 a.is_row) a.agrees in
-      record { row = r.0; is_row = a.is_row; holds = record { from = starts.0; by = starts.1; to = r.2 } },
-  λ j.
-      let listed = exact.complete j.row (record { is_row = j.is_row; agrees = s.from j.row (row_long G c j.row j.is_row) (j.holds.from, j.holds.by) }) in
-      g.complete j.row v listed j.holds.to,
-)
 
 pub none_joined : (G : DataGraph) (c : Chain) (k : Link) (p : Term) (label : Name) (variables : List Variable) (o : Option (List (Option Value))) (ends : List Value) → variables ≡ c.variables → o ≡ None
     → MatchOption o (HasNone variables (StartsBy k p label)) (λ b. Solves variables (StartsBy k p label) b) → ends ≡ [] → (v : Value) → Contains ends v ↔ IsJoined G c (Page p) label v k

@@ -10,3 +10,4 @@ pub mod Stays
 pub mod TemplateOf
 pub mod Counts
 pub mod Labels
+pub mod SomeRows

@@ -10,6 +10,7 @@ ghost use Rattle.weight_spec.specs.CountsAtMost.{CountsAtMost};
 ghost use Rattle.sd_value.specs.Gathered.{Gathered};
 
 use crate::under::target_under;
+use crate::wanted::variables_in;
 use asker::Asker;
 use query_spec::{Bound, Row, Variable};
 use sd_value::{NoMemory, Value};
@@ -53,7 +54,7 @@ pub fn rows_of<A: Asker>(alloc: Global, asker: &mut A, chain: &Chain) -> Result<
     Ok(rows)
 }
 
-/// What the target is under the rows of the chain, each of which counts one.
+/// What the target is under the rows of the chain. Each row that is handed out counts one.
 pub fn targets_of<A: Asker>(
     alloc: Global,
     asker: &mut A,
@@ -68,7 +69,10 @@ pub fn targets_of<A: Asker>(
         (λ vs. (v : AnyValue) → Contains vs.items v
         ↔ SomeRow (A.graph asker.old) chain.now (λ s. IsTargetUnder s (target_of target.now) v)) }
 {
-    let rows = rows_of(alloc, asker, chain)?;
+    let free = all_free(alloc, chain.variables().len())?;
+    let bound = Bound::new(free);
+    let wanted = variables_in(alloc, chain.variables(), target)?;
+    let rows = asker.ask_some(alloc, chain, &bound, wanted.as_slice())?;
     let values = targets_under(alloc, chain.variables(), rows.as_slice(), target)?;
     Ok(values)
 }

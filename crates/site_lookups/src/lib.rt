@@ -8,6 +8,7 @@ mod linked;
 mod named;
 mod named_templates;
 mod under;
+mod wanted;
 
 pub use all_rows::rows_of;
 pub use collects::collected;

@@ -21,6 +21,7 @@ ghost use Rattle.sd_value.specs.Gathered.{Gathered};
 ghost use Rattle.site_lookups.specs.Ends.{IsLabelled, StartsBy};
 
 use crate::all_rows::targets_under;
+use crate::wanted::variables_in;
 use asker::Asker;
 use query_blocks::{QueryBlock, QueryBlocks};
 use query_spec::{Bound, Variable};
@@ -111,7 +112,8 @@ fn ends_of_link<A: Asker>(
     match bound_by(alloc, chain.variables(), link, term, label)? {
         None => Ok(Vec::new(alloc)),
         Some(bound) => {
-            let rows = asker.ask(alloc, chain, &bound)?;
+            let wanted = variables_in(alloc, chain.variables(), &link.target)?;
+            let rows = asker.ask_some(alloc, chain, &bound, wanted.as_slice())?;
             let ends = targets_under(alloc, chain.variables(), rows.as_slice(), &link.target)?;
             Ok(ends)
         }

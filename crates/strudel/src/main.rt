@@ -7,7 +7,7 @@ use run_report::{Status, report};
 use sd_value::{NoMemory, Str};
 use std::net::Net;
 use std::process::ExitCode;
-use std::rt::Env;
+use std::rt::{Env, Files};
 use std::time::Clock;
 use std::{env, io, process};
 use tcp_wire::{TcpWire, Waits};
@@ -25,14 +25,16 @@ fn given_words<R: Env + AllocGlobal>(rt: &R) -> io::Result<Vec<Str>> {
 }
 
 // A wire over the system's sockets that waits as the words say.
-fn given_wire<'r, R: Net + Clock + AllocGlobal>(
+fn given_wire<'r, R: Net + Clock + Files + AllocGlobal>(
     rt: &'r R,
+    process: u32,
     words: &[Str],
-) -> Result<TcpWire<'r, R>, NoMemory> {
+) -> Result<TcpWire<'r, R, RealFiles<'r, R>>, NoMemory> {
     let waits = wire_waits(rt.alloc(), words)?;
     Ok(TcpWire::new(
         rt.alloc(),
         rt,
+        RealFiles::new(rt, process),
         Waits {
             idle: waits.idle,
             stall: waits.stall,
@@ -42,11 +44,12 @@ fn given_wire<'r, R: Net + Clock + AllocGlobal>(
 
 fn main(rt: HostRuntime) -> ExitCode {
     let alloc = rt.alloc();
-    let mut files = RealFiles::new(&rt, process::id(rt.process()));
+    let process = process::id(rt.process());
+    let mut files = RealFiles::new(&rt, process);
     let mut out = RealOut::new(rt.stdout());
     let mut err = RealOut::new(rt.stderr());
     let status = match given_words(&rt) {
-        Ok(words) => match given_wire(&rt, &words) {
+        Ok(words) => match given_wire(&rt, process, &words) {
             Ok(mut wire) => strudel(alloc, &words, &mut files, &mut out, &mut err, &mut wire),
             Err(NoMemory) => report(alloc, Status::NoMemory, &mut err),
         },

@@ -31,12 +31,16 @@ pub next_of_ended
     → IfOk result (λ event. IsNextIn (record w { hand = None }) event after)
     → IfOk result (λ event. IsNextIn w event after)
 next_of_ended w (Err e) after free next = tt
-next_of_ended w (Ok (Opened number)) after free next = (free, next.1, next.2, next.3)
+next_of_ended w (Ok (Opened number)) after free next = (free, next.1)
 next_of_ended w (Ok (Bytes number bytes)) after free (hand, now, opened, piece, is) = absurd (cc)
 next_of_ended w (Ok (Ended number)) after free (hand, now, opened, piece, is) = absurd (cc)
 next_of_ended w (Ok (Lost number)) after free (hand, opened, same, is) = absurd (cc)
-next_of_ended w (Ok (Change text)) after free next = absurd next
-next_of_ended w (Ok Done) after free next = (free, next.1, next.2)
+next_of_ended w (Ok (Change text)) after free next = (
+  free,
+  next.1,
+  record { watch = next.2.watch; now = next.2.now; watched = next.2.watched; changed = next.2.changed; is = next.2.is },
+)
+next_of_ended w (Ok Done) after free next = (free, next.1)
 
 -- the same where no event comes
 pub miss_of_ended

@@ -12,8 +12,10 @@ use Rattle.tcp_wire.specs.declared.peer.Parting.{Parting}
 use Rattle.tcp_wire.specs.declared.peer.Parting.TheVariants.{Shut, Drained}
 use Rattle.tcp_wire.specs.declared.peer.Progress.{Progress}
 use Rattle.tcp_wire.specs.declared.waits.Waits.{Waits}
+use Rattle.tcp_wire.specs.declared.watch.Watch.{Watch}
 use Rattle.tcp_wire.specs.Replies.{refuses}
 use Rattle.tcp_wire.specs.Waits.{piece_wait, most_parts}
+use Rattle.tcp_wire.specs.Watching.{passed, IsChanged}
 
 -- what is known of the connection in hand
 pub record Hand : Type 0 where
@@ -30,12 +32,14 @@ pub record TcpState : Type 0 where
   pub opened : ℕ
   -- how many more are taken
   pub left : ℕ
-  -- how often listen and next failed
+  -- how often listen, watch and next failed
   pub next_faults : ℕ
   -- the address that it listens at, if it does
   pub address : Option SocketAddr
   -- how long connections are waited for
   pub waits : Waits
+  -- the file that is watched, if one is
+  pub watch : Option Watch
 
 -- the address 127.0.0.1 with this port
 abbrev pub local_address : ℕ → SocketAddr
@@ -65,6 +69,7 @@ told_of w = record {
   given = None;
   left = None;
   listens = None;
+  watches = None;
   next_faults = w.next_faults;
 }
 
@@ -132,12 +137,35 @@ kept (Lost number) now = None
 kept (Change text) now = Some now
 kept Done now = Some now
 
+-- none is in hand, and the watched file gives no change
+abbrev pub without_change : TcpState → TcpState
+without_change w = record w { hand = None; watch = option_map (passed w.opened) w.watch }
+
+-- the next connection is opened, or no more are taken
+abbrev pub IsAccepted : TcpState → WireEvent → TcpState → Type 0
+IsAccepted w (Opened number) after =
+    (number ≡ up w.opened) × (after.left + 1 ≡ w.left)
+    × (after ≡ record w { hand = Some fresh_hand; opened = number; left = after.left })
+IsAccepted w (Bytes number piece) after = ⊥
+IsAccepted w (Ended number) after = ⊥
+IsAccepted w (Lost number) after = ⊥
+IsAccepted w (Change text) after = ⊥
+IsAccepted w Done after = (w.left ≡ 0) × (after ≡ w)
+
+-- the watched file gives this change
+pub record GivesChange (w : TcpState) (text : List ℕ) (after : TcpState) : Type 0 where
+  pub watch : Watch
+  pub now : Watch
+  pub watched : w.watch ≡ Some watch
+  pub changed : IsChanged w.opened watch text now
+  pub is : after ≡ record w { hand = None; watch = Some now }
+
 -- The next event. Connections come one after another under the numbers from 1 on: a piece, the end or the loss is of the
 -- one in hand, the next is opened only where none is in hand whose input goes on, and Done comes where no more are taken.
+-- Before the next is opened the watched file may give a change.
 abbrev pub IsNextIn : TcpState → WireEvent → TcpState → Type 0
 IsNextIn w (Opened number) after =
-    IsFree w × (number ≡ up w.opened) × (after.left + 1 ≡ w.left)
-    × (after ≡ record w { hand = Some fresh_hand; opened = number; left = after.left })
+    IsFree w × IsAccepted (without_change w) (Opened number) after
 IsNextIn w (Bytes number piece) after =
     (hand now : Hand) × IsOpen w hand
     × IsPieceOf w.opened w.waits.idle hand (Bytes number piece) now
@@ -148,8 +176,8 @@ IsNextIn w (Ended number) after =
     × (after ≡ record w { hand = Some now })
 IsNextIn w (Lost number) after =
     (hand : Hand) × IsOpen w hand × (number ≡ w.opened) × (after ≡ record w { hand = None })
-IsNextIn w (Change text) after = ⊥
-IsNextIn w Done after = IsFree w × (w.left ≡ 0) × (after ≡ record w { hand = None })
+IsNextIn w (Change text) after = IsFree w × (0 < w.left) × GivesChange w text after
+IsNextIn w Done after = IsFree w × IsAccepted (record w { hand = None }) Done after
 
 -- There is no event: no connection came, which is counted. Out of memory costs a connection, which is lost.
 abbrev pub MissesNext : TcpState → TcpState → WireEnd → Type 0

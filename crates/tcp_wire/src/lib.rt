@@ -5,17 +5,19 @@ ghost use Rattle.std.specs.Prelude.{◌≡◌, ◌≤◌, ℕ, take, Some, None,
 ghost use Rattle.std.specs.declared.net.socket_addr.SocketAddr.TheVariants.{V4};
 ghost use Rattle.edge_io.specs.Counts.{Rose};
 ghost use Rattle.wire.specs.Accounts.{send_to, close_to, up};
-ghost use Rattle.wire.specs.Events.{add_event, IsNextOf, add_listen};
+ghost use Rattle.wire.specs.Events.{add_event, IsNextOf, add_listen, IsWatched};
 ghost use Rattle.wire.specs.Told.{EventsStay, OtherAccountsStay, OtherFaultsStay};
 ghost use Rattle.tcp_wire.specs.Waits.{first_wait};
-ghost use Rattle.tcp_wire.specs.TcpState.{IsPieceOf, IsNextIn, IsSent, MissesNext, HasRead, kept, let_go, local_address, parting_of, told_of};
+ghost use Rattle.tcp_wire.specs.TcpState.{IsPieceOf, GivesChange, IsNextIn, IsSent, MissesNext, HasRead, kept, let_go, local_address, parting_of, told_of, without_change};
+ghost use Rattle.tcp_wire.specs.Watching.{passed};
 
 mod accepting;
 mod peer;
 mod waiting;
 mod waits;
+mod watch;
 
-use edge_io::Failed;
+use edge_io::{Failed, Files};
 use peer::{NoBytes, Parting, Peer, refuses};
 use sd_value::Str;
 use std::alloc::Global;
@@ -26,6 +28,7 @@ use std::time::Clock;
 use waiting::Waiting;
 pub use waits::Waits;
 use waits::{MOST_PARTS, first_wait, first_waits, wait_at};
+use watch::Watch;
 use wire::{Wire, WireEnd, WireEvent};
 
 /// The longest piece, in bytes.
@@ -40,18 +43,26 @@ struct Place<L> {
 
 /// Connections to 127.0.0.1, one after another. A connection is opened only once it has sent something, or its input has
 /// ended: until then it waits beside others, at most 64 in all, and holds up none; one that sends nothing for long enough
-/// (`Waits`) is let go and never opened. One that is opened stays in hand until it is closed, a send to it fails or it is
+/// (`Waits`) is let go and never opened. Where 64 wait and none of them has sent anything, the one that came first is let go
+/// for the next, and so is at once one that memory is refused for. One that is opened stays in hand until it is closed, a send to it fails or it is
 /// lost, or until the event after the end of its input is asked for; only then the next one is opened. It is lost where
 /// nothing comes for long enough, where too many pieces come without a reply, where it has sent nothing since its last
-/// reply and another one has sent something, and where memory is refused for what it sent. The wire reports nothing of
+/// reply and another one has sent something, and where memory is refused for what it sent. A file that is watched is read
+/// after each so many connections that ended, when the next one has come and before it is opened, and gives a change where it
+/// holds another text than at the last read; where the read fails it gives none. The wire reports nothing of
 /// what its connections send and take, and the count of failed sends of each is at its last value, where every failure
 /// counts as a rise.
 #[derive(Drop)]
-pub struct TcpWire<'r, R: Net + Clock> {
+pub struct TcpWire<'r, R: Net + Clock, F> {
     system: &'r R,
+    /// Where the watched file is read.
+    files: F,
+    watch: Option<Watch>,
     waits: Waits,
     place: Option<Place<R::Listener>>,
     peer: Option<Peer<R::Stream>>,
+    /// The next connection, where a change was given before it.
+    ready: Option<R::Stream>,
     /// The connections that have sent nothing yet.
     waiting: Waiting<R::Stream>,
     /// The number of the last connection that was opened.
@@ -63,7 +74,7 @@ pub struct TcpWire<'r, R: Net + Clock> {
     piece: [u8; PIECE],
 }
 
-impl<'r, R: Net + Clock> Model for TcpWire<'r, R> {
+impl<'r, R: Net + Clock, F> Model for TcpWire<'r, R, F> {
     ghost use Rattle.std.specs.Prelude.{option_map};
     ghost use Rattle.tcp_wire.specs.TcpState.{TcpState};
 
@@ -76,12 +87,13 @@ impl<'r, R: Net + Clock> Model for TcpWire<'r, R> {
       next_faults = w.next_faults;
       address = option_map (λ p. p.address) w.place;
       waits = w.waits;
+      watch = w.watch;
     } };
 }
 
-impl<'r, R: Net + Clock> TcpWire<'r, R> {
-    /// A wire that does not listen yet: until then it has no connection to give.
-    pub fn new(alloc: Global, system: &'r R, waits: Waits) -> Self
+impl<'r, R: Net + Clock, F: Files> TcpWire<'r, R, F> {
+    /// A wire that does not listen yet: until then it has no connection to give. A file is watched in `files`.
+    pub fn new(alloc: Global, system: &'r R, files: F, waits: Waits) -> Self
         ensures { result ≡ record {
           hand = None;
           opened = 0;
@@ -89,13 +101,17 @@ impl<'r, R: Net + Clock> TcpWire<'r, R> {
           next_faults = 0;
           address = None;
           waits = waits;
+          watch = None;
         } }
     {
         TcpWire {
             system,
+            files,
+            watch: None,
             waits,
             place: None,
             peer: None,
+            ready: None,
             waiting: Waiting::new(alloc),
             opened: 0,
             left: 0,
@@ -139,8 +155,20 @@ impl<'r, R: Net + Clock> TcpWire<'r, R> {
             .next(&place.listener, self.system, self.waits.idle)
     }
 
-    // The next connection, or `Done` where no more are taken.
-    fn accept(&mut self) -> Result<WireEvent, WireEnd>
+    // The stream of the next connection: the one that came before a change was given, or a new one.
+    fn next_stream(&mut self) -> Option<R::Stream>
+        ensures { self.new ≡ self.old }
+    {
+        let ready = self.ready.take();
+        if ready.is_some() {
+            return ready;
+        }
+        self.take_stream()
+    }
+
+    // The next connection, before which the watched file may give a change, or `Done` where no more are taken. The file is
+    // read once the connection has come, so that it is as late as may be.
+    fn accept(&mut self, alloc: Global) -> Result<WireEvent, WireEnd>
         requires { self.old.hand ≡ None }
         ensures event { IfOk result (λ event. IsNextIn self.old event self.new) }
         ensures fine { OnOk result (self.new.next_faults ≡ self.old.next_faults) }
@@ -150,14 +178,30 @@ impl<'r, R: Net + Clock> TcpWire<'r, R> {
         if self.left == 0 {
             return Ok(WireEvent::Done);
         }
-        if let Some(stream) = self.take_stream() {
-            self.left -= 1;
-            self.opened = self.opened.saturating_add(1);
-            self.peer = Some(Peer::open(stream));
-            return Ok(WireEvent::Opened(self.opened));
+        let Some(stream) = self.next_stream() else {
+            self.next_faults = self.next_faults.saturating_add(1);
+            return Err(WireEnd::Failed);
+        };
+        if let Some(text) = self.look(alloc) {
+            self.ready = Some(stream);
+            return Ok(WireEvent::Change(text));
         }
-        self.next_faults = self.next_faults.saturating_add(1);
-        Err(WireEnd::Failed)
+        self.left -= 1;
+        self.opened = self.opened.saturating_add(1);
+        self.peer = Some(Peer::open(stream));
+        Ok(WireEvent::Opened(self.opened))
+    }
+
+    // What the watched file holds, where it is to be read and holds another text than before.
+    fn look(&mut self, alloc: Global) -> Option<Str>
+        requires { self.old.hand ≡ None }
+        ensures none { result ≡ None → self.new ≡ without_change self.old }
+        ensures some { IfSome result (λ text. GivesChange self.old text self.new) }
+    {
+        let mut watch = self.watch.take()?;
+        let text = watch.look(alloc, &mut self.files, self.opened);
+        self.watch = Some(watch);
+        text
     }
 
     // Reads the first bytes of a connection since its opening or its last reply. Behind each wait that gave nothing another
@@ -234,11 +278,11 @@ impl<'r, R: Net + Clock> TcpWire<'r, R> {
         ensures err { MatchResult result (λ event. Unit {0}) (MissesNext self.old self.new) }
     {
         let Some(mut peer) = self.peer.take() else {
-            return self.accept();
+            return self.accept(alloc);
         };
         if peer.progress.ended {
             peer.shut();
-            return self.accept();
+            return self.accept(alloc);
         }
         let event = self.event_of(alloc, &mut peer);
         self.peer = keep(peer, &event);
@@ -327,7 +371,7 @@ fn listen_at<R: Net>(net: &R, address: SocketAddrV4) -> Result<Place<R::Listener
     }
 }
 
-impl<R: Net + Clock> Wire for TcpWire<'_, R> {
+impl<R: Net + Clock, F: Files> Wire for TcpWire<'_, R, F> {
     ghost told = { told_of };
 
     /// Listens at 127.0.0.1.
@@ -341,7 +385,8 @@ impl<R: Net + Clock> Wire for TcpWire<'_, R> {
         ensures stays { ((told_of self.new).account ≡ (told_of self.old).account)
             × ((told_of self.new).faults ≡ (told_of self.old).faults)
             × ((told_of self.new).given ≡ (told_of self.old).given)
-            × ((told_of self.new).left ≡ (told_of self.old).left) }
+            × ((told_of self.new).left ≡ (told_of self.old).left)
+            × ((told_of self.new).watches ≡ (told_of self.old).watches) }
         ensures at { OnOk result (self.new ≡ record self.old {
           left = connections;
           address = Some (local_address port);
@@ -350,6 +395,42 @@ impl<R: Net + Clock> Wire for TcpWire<'_, R> {
             ≡ record self.old { next_faults = up self.old.next_faults }) }
     {
         self.bind(port, connections)
+    }
+
+    /// Never `Failed`: the file is read later.
+    fn watch(&mut self, alloc: Global, path: &Str, every: u64) -> Result<(), WireEnd>
+        ensures watches { IsWatched path.now every (told_of self.old).watches
+            (told_of self.new).watches result }
+        ensures fine { OnOk result ((told_of self.new).next_faults
+            ≡ (told_of self.old).next_faults) }
+        ensures failed { IsErrOf result WireEnd.Failed
+            → Rose (told_of self.old).next_faults (told_of self.new).next_faults }
+        ensures short { IsErrOf result WireEnd.NoMemory → told_of self.new ≡ told_of self.old }
+        ensures stays { ((told_of self.new).account ≡ (told_of self.old).account)
+            × ((told_of self.new).faults ≡ (told_of self.old).faults)
+            × ((told_of self.new).given ≡ (told_of self.old).given)
+            × ((told_of self.new).left ≡ (told_of self.old).left)
+            × ((told_of self.new).listens ≡ (told_of self.old).listens) }
+        ensures watching { OnOk result (self.new ≡ record self.old {
+          watch = Some (record {
+            path = path.now;
+            every = every;
+            read_at = self.old.opened;
+            last = None;
+          });
+        }) }
+        ensures short_only { OnErr result ((result ≡ Err WireEnd.NoMemory) × (self.new ≡ self.old)) }
+    {
+        let Ok(path) = path.copy(alloc) else {
+            return Err(WireEnd::NoMemory);
+        };
+        self.watch = Some(Watch {
+            path,
+            every,
+            read_at: self.opened,
+            last: None,
+        });
+        Ok(())
     }
 
     /// `Failed` where no connection could be taken. It never runs out of memory: that costs the connection.
@@ -366,7 +447,8 @@ impl<R: Net + Clock> Wire for TcpWire<'_, R> {
             → Rose (told_of self.old).next_faults (told_of self.new).next_faults }
         ensures stays { ((told_of self.new).account ≡ (told_of self.old).account)
             × ((told_of self.new).faults ≡ (told_of self.old).faults)
-            × ((told_of self.new).listens ≡ (told_of self.old).listens) }
+            × ((told_of self.new).listens ≡ (told_of self.old).listens)
+            × ((told_of self.new).watches ≡ (told_of self.old).watches) }
         ensures event { IfOk result (λ event. IsNextIn self.old event self.new) }
         ensures misses { IfErr result (MissesNext self.old self.new) }
     {

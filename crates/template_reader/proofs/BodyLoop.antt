@@ -10,7 +10,7 @@ use Rattle.tmpl.specs.Body.{Body, part_before, body_of}
 use Rattle.tmpl.specs.declared.Part.{Part, Text, Format, Choice', Repeat'}
 use Rattle.token_reader.specs.declared.halt.Halt.{Halt}
 use Rattle.token_reader.specs.declared.halt.Halt.TheVariants.{Expected, TooDeep, NoMemory}
-use Rattle.template_reader.specs.declared.words.Bound.{Bound}
+use Rattle.template_tags.specs.declared.words.Bound.{Bound}
 use Rattle.token_reader.specs.Gives.{Fails, Gives}
 use Rattle.template_reader.specs.Template.{before, chain, single}
 use Rattle.template_reader.specs.Reading.{is_part, read_part, read_body_of, read_body, read_block, read_block_at}

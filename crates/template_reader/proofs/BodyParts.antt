@@ -14,14 +14,15 @@ use Rattle.tmpl.specs.Body.{Body, done, text, format, choice, repeat}
 use Rattle.tmpl.specs.declared.Against.{Against}
 use Rattle.tmpl.specs.declared.Cmp.{Cmp}
 use Rattle.tmpl.specs.declared.Expr.{Expr}
-use Rattle.template_reader.specs.declared.words.Bound.{Bound}
-use Rattle.template_reader.specs.Terminals.{number, is_mark, is_text, text_value, is_compare, compare_value, is_not, not_value, has_keyword, mode_of, order_of, no_settings, loop_settings, IsReal}
-use Rattle.template_reader.specs.Template.{mark, expr, any_expr, settings, text_part, format_part, leaf, chain, compared, not_compared, comparison, other_branch, no_other, branches, tested, negated_test, choice_rest, repeat_rest, block, body_of, body}
+use Rattle.template_tags.specs.declared.words.Bound.{Bound}
+use Rattle.template_tags.specs.Terminals.{number, is_mark, is_text, text_value, is_compare, compare_value, is_not, not_value, has_keyword, mode_of, order_of, no_settings, loop_settings, IsReal}
+use Rattle.template_tags.specs.Tag.{mark, expr, any_expr, settings}
+use Rattle.template_reader.specs.Template.{text_part, format_part, leaf, chain, compared, not_compared, comparison, other_branch, no_other, branches, tested, negated_test, choice_rest, repeat_rest, block, body_of, body}
 use Rattle.template_reader.specs.Reading.{read_text, read_format, read_leaf, read_compared, read_not_compared, read_comparing, read_comparison, read_other_branch, read_no_other, read_ending, read_branches, read_tested, read_negated, read_choice_rest, read_repeated, read_repeat_rest, read_choice, read_repeat, read_block, is_block, is_part, read_part, read_body_of, read_body, read_block_at}
-use Rattle.template_reader.proofs.Known.{known_or}
-use Rattle.template_reader.proofs.ItemFacts.{guard, has_value, some_value, mark_part, text_item_part, constant_part, not_part, in_part, variable_part, mark_opens, text_opens, other_mark, mark_no_text, text_no_mark, compare_is_keyword, mark_is_no_compare}
-use Rattle.template_reader.proofs.WordParts.{expr_part, expr_is_no_not}
-use Rattle.template_reader.proofs.SettingParts.{ends_setting, setting_no_dot, or_left, or_right, or_either, settings_open, settings_part}
+use Rattle.template_tags.proofs.Known.{known_or}
+use Rattle.template_tags.proofs.ItemFacts.{guard, has_value, some_value, mark_part, text_item_part, constant_part, not_part, in_part, variable_part, mark_opens, text_opens, other_mark, mark_no_text, text_no_mark, compare_is_keyword, mark_is_no_compare}
+use Rattle.template_tags.proofs.WordParts.{expr_part, expr_is_no_not}
+use Rattle.template_tags.proofs.SettingParts.{ends_setting, setting_no_dot, or_left, or_right, or_either, settings_open, settings_part}
 
 -- ---- leaves
 

@@ -13,11 +13,12 @@ use Rattle.grammar.proofs.Parts.{Part, Opens, ◌>>=◌, give_part, then_opens, 
 use Rattle.template_items.specs.declared.item.Item.{Item}
 use Rattle.template_items.specs.declared.item.Mark.TheVariants as marks
 use Rattle.tmpl.specs.Body.{Body}
-use Rattle.template_reader.specs.Terminals.{is_mark, name_of, IsReal}
-use Rattle.template_reader.specs.Template.{mark, expr, any_expr, body, Entry, is_sort, named_value, collection_head, function_head, head_rest, template, within, spelled}
+use Rattle.template_tags.specs.Terminals.{is_mark, name_of, IsReal}
+use Rattle.template_tags.specs.Tag.{mark, expr, any_expr}
+use Rattle.template_reader.specs.Template.{body, Entry, is_sort, named_value, collection_head, function_head, head_rest, template, within, spelled}
 use Rattle.template_reader.specs.Reading.{read_collection_head, read_function_head, read_named_head, is_named, read_head_rest, read_template, read_file}
-use Rattle.template_reader.proofs.Known.{known_or}
-use Rattle.template_reader.proofs.ItemFacts.{has_value, some_value, mark_part, name_part, mark_opens, mark_no_token}
+use Rattle.template_tags.proofs.Known.{known_or}
+use Rattle.template_tags.proofs.ItemFacts.{has_value, some_value, mark_part, name_part, mark_opens, mark_no_token}
 use Rattle.template_reader.proofs.BodyParts.{ends_body, body_part, body_grows, many_map}
 
 collection_head_part : (name : List ℕ) → Part IsReal (collection_head name) (collection_head name) Always (read_collection_head name)

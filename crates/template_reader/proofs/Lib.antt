@@ -1,7 +1,3 @@
-pub mod Known
-pub mod ItemFacts
-pub mod WordParts
-pub mod SettingParts
 pub mod BodyParts
 pub mod BodyLoop
 pub mod FileParts

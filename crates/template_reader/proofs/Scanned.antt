@@ -16,7 +16,7 @@ use Rattle.template_items.specs.declared.item.State.{State}
 use Rattle.template_items.specs.declared.item.Front.{Front}
 use Rattle.template_items.specs.declared.item.Front.TheVariants.{Passes, Finds, Ends}
 use Rattle.template_items.specs.Scanning.{tag_at, text_before, text_run, opens, front_between, front_tag, front_body, front_token, front_inside, front_in, front, last_items, Scans, passes, finds, ends}
-use Rattle.template_reader.specs.Terminals.{IsReal}
+use Rattle.template_tags.specs.Terminals.{IsReal}
 use Rattle.template_reader.proofs.Faultless.{IsNoFault}
 
 -- an item that a text can have, unless it marks a fault

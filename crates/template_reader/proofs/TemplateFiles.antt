@@ -7,7 +7,7 @@ use Rattle.template_items.specs.declared.item.Item.{Item}
 use Rattle.template_items.proofs.Scanned.{one_list}
 use Rattle.tmpl.specs.Body.{TemplateFile}
 use Rattle.template_reader.specs.declared.refusal.TmplRefusal.{TmplRefusal}
-use Rattle.template_reader.specs.Terminals.{IsReal}
+use Rattle.template_tags.specs.Terminals.{IsReal}
 use Rattle.template_reader.specs.Template.{Entry, within, spelled}
 use Rattle.template_reader.specs.Reading.{read_file}
 use Rattle.template_reader.specs.Faults.{Ending, Whole, Unfit, Beyond, IsEnding, answer, twice, IsItemsAnswer}

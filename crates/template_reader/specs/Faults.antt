@@ -14,7 +14,7 @@ use Rattle.template_reader.specs.declared.titles.Title.{Title}
 use Rattle.template_reader.specs.declared.titles.Names.{Names}
 use Rattle.template_reader.specs.declared.refusal.TmplRefusal.{TmplRefusal}
 use Rattle.template_reader.specs.declared.refusal.TmplRefusal.TheVariants.{TooLong, Expected, Unclosed, Twice, TooDeep, UnknownVariable, NoMemory}
-use Rattle.template_reader.specs.Terminals.{is_mark, name_value, IsReal}
+use Rattle.template_tags.specs.Terminals.{is_mark, name_value, IsReal}
 use Rattle.template_reader.specs.Template.{Entry, named_value, within, spelled}
 use Rattle.template_reader.specs.Reading.{is_block}
 use Rattle.template_reader.specs.Entries.{file_from}

@@ -1,4 +1,3 @@
-pub mod Terminals
 pub mod Template
 pub mod Reading
 pub mod Entries

@@ -6,20 +6,17 @@ ghost use Rattle.grammar.specs.Reading as reading;
 ghost use Rattle.tmpl.specs.Body.{body_of, done, choice, repeat};
 ghost use Rattle.template_reader.specs.Template.{single};
 ghost use Rattle.token_reader.specs.Gives.{Gives};
-ghost use Rattle.template_reader.specs.Terminals.{no_settings, loop_settings};
+ghost use Rattle.template_tags.specs.Terminals.{no_settings, loop_settings};
 ghost use Rattle.template_reader.specs.Template.{chain};
 ghost use Rattle.template_reader.specs.Reading.{read_text, read_format, read_leaf, read_compared, read_not_compared, read_comparing, read_comparison, read_other_branch, read_no_other, read_ending, read_branches, read_tested, read_negated, read_choice_rest, read_repeated, read_repeat_rest, read_choice, read_repeat, read_block, is_block, is_part, read_part, read_body_of, read_body, read_block_at};
 
-use crate::expression::{expression_at, settings_at};
-use crate::settings::{Settings, mode_and_order};
-use crate::tokens::{
-    compare_at, constant_at, has_compare, has_mark, has_not, has_text, in_at, mark_at, not_at,
-    text_at, variable_at,
-};
-use crate::words::Bound;
 use sd_value::{NoMemory, Str};
 use std::alloc::Global;
 use template_items::{Item, Mark};
+use template_tags::{
+    Bound, Settings, compare_at, constant_at, expression_at, has_compare, has_mark, has_not,
+    has_text, in_at, mark_at, mode_and_order, not_at, settings_at, text_at, variable_at,
+};
 use tmpl::{Against, Choice, Expr, Format, Mode, Order, Part, Repeat};
 use token_reader::Halt;
 

@@ -5,17 +5,17 @@ ghost use Rattle.grammar.specs.Reading.{take_one, starts};
 ghost use Rattle.grammar.specs.Reading as reading;
 ghost use Rattle.template_items.specs.declared.item.Mark.TheVariants as marks;
 ghost use Rattle.token_reader.specs.Gives.{Gives};
-ghost use Rattle.template_reader.specs.Terminals.{is_mark};
+ghost use Rattle.template_tags.specs.Terminals.{is_mark};
 ghost use Rattle.template_reader.specs.Template.{is_sort, named_value};
 ghost use Rattle.template_reader.specs.Entries.{head_of, entry_of, GivesAll};
 ghost use Rattle.template_reader.specs.Reading.{read_collection_head, read_function_head, read_named_head, is_named, read_head_rest, read_template, read_file};
 
 use crate::body::body_at;
-use crate::tokens::{has_mark, mark_at, name_at};
 use sd_lex::TokenKind;
 use sd_value::Str;
 use std::alloc::Global;
 use template_items::{Item, ItemKind, Mark};
+use template_tags::{has_mark, mark_at, name_at};
 use tmpl::Part;
 use token_reader::Halt;
 

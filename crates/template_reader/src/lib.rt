@@ -2,15 +2,11 @@
 #![tactic(auto)]
 
 mod body;
-mod expression;
 mod file;
 mod laws;
 mod refusal;
-mod settings;
 mod templates;
 mod titles;
-mod tokens;
-mod words;
 
 pub use laws::a_file_of_templates_has_one_answer;
 pub use refusal::TmplRefusal;

@@ -1,16 +1,16 @@
 //! Names of templates, and tags that are never closed.
 
 ghost use Rattle.std.specs.Prelude.{◌≡◌, not, IfOk, None, []};
-ghost use Rattle.template_reader.specs.Terminals.{is_mark};
+ghost use Rattle.template_tags.specs.Terminals.{is_mark};
 ghost use Rattle.template_reader.specs.Faults.{second_name, title_of, titles, Seen, is_seen, see, first_twice, nothing_seen, Holds, twice, opens_body, closes_body, open_tags, last_of, innermost};
 
 use crate::file::is_sort;
-use crate::tokens::has_mark;
 use sd_lex::TokenKind;
 use sd_value::{NoMemory, Str};
 use std::alloc::Global;
 use std::collections::BTreeSet;
 use template_items::{Item, ItemKind, Mark};
+use template_tags::has_mark;
 
 /// The sort, name and place of what a template presents.
 #[derive(Drop)]

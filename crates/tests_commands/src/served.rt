@@ -1,4 +1,5 @@
 // The commands `serve` and `replay` over files and a wire in memory.
+mod changes;
 mod exchange;
 mod large;
 mod long_heads;

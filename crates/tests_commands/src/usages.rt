@@ -8,12 +8,20 @@ use std::alloc::Global;
 use std::str;
 use std::test::Fail;
 
-// A command's name, words that give it, how many of them it takes at least, and its operands and options.
+// The option of a command that has no value: none, one that may be given, or one that stands in the words.
+enum Flag {
+    None,
+    May(&'static str),
+    Has(&'static str),
+}
+
+// A form of a command: its name, words that give it, how many of them it takes at least, and its operands and options.
 struct UsageRow {
     name: CommandName,
     words: &'static [&'static str],
     fewest: usize,
     operands: &'static str,
+    flag: Flag,
     options: &'static [NumberOption],
 }
 
@@ -23,6 +31,7 @@ const ROWS: &[UsageRow] = &[
         words: &["page", "q", "t", "a", "d"],
         fewest: 5,
         operands: "QUERY TEMPLATES ADDRESS DATA..",
+        flag: Flag::None,
         options: &[],
     },
     UsageRow {
@@ -30,6 +39,7 @@ const ROWS: &[UsageRow] = &[
         words: &["build", "q", "t", "f", "d"],
         fewest: 5,
         operands: "QUERY TEMPLATES DIR DATA..",
+        flag: Flag::None,
         options: &[],
     },
     UsageRow {
@@ -37,6 +47,7 @@ const ROWS: &[UsageRow] = &[
         words: &["data", "d"],
         fewest: 2,
         operands: "DATA..",
+        flag: Flag::None,
         options: &[],
     },
     UsageRow {
@@ -44,6 +55,7 @@ const ROWS: &[UsageRow] = &[
         words: &["explain", "q", "d"],
         fewest: 3,
         operands: "QUERY DATA..",
+        flag: Flag::None,
         options: &[],
     },
     UsageRow {
@@ -51,6 +63,15 @@ const ROWS: &[UsageRow] = &[
         words: &["schema", "q"],
         fewest: 2,
         operands: "QUERY",
+        flag: Flag::May("--dot"),
+        options: &[],
+    },
+    UsageRow {
+        name: CommandName::Check,
+        words: &["check", "q", "c"],
+        fewest: 3,
+        operands: "QUERY CONSTRAINTS",
+        flag: Flag::None,
         options: &[],
     },
     UsageRow {
@@ -58,6 +79,7 @@ const ROWS: &[UsageRow] = &[
         words: &["check", "--here", "q", "c", "d"],
         fewest: 5,
         operands: "QUERY CONSTRAINTS DATA..",
+        flag: Flag::Has("--here"),
         options: &[],
     },
     UsageRow {
@@ -65,6 +87,7 @@ const ROWS: &[UsageRow] = &[
         words: &["serve", "q", "t", "d"],
         fewest: 4,
         operands: "QUERY TEMPLATES DATA..",
+        flag: Flag::None,
         options: &[
             NumberOption::Port,
             NumberOption::Connections,
@@ -73,6 +96,8 @@ const ROWS: &[UsageRow] = &[
             NumberOption::Cache,
             NumberOption::Idle,
             NumberOption::Stall,
+            NumberOption::Watch,
+            NumberOption::Every,
         ],
     },
     UsageRow {
@@ -80,6 +105,7 @@ const ROWS: &[UsageRow] = &[
         words: &["replay", "q", "t", "s", "d"],
         fewest: 5,
         operands: "QUERY TEMPLATES SCRIPT DATA..",
+        flag: Flag::None,
         options: &[
             NumberOption::Requests,
             NumberOption::Turns,
@@ -91,6 +117,7 @@ const ROWS: &[UsageRow] = &[
         words: &["trial", "1"],
         fewest: 2,
         operands: "N",
+        flag: Flag::None,
         options: &[],
     },
     UsageRow {
@@ -98,6 +125,7 @@ const ROWS: &[UsageRow] = &[
         words: &["help", "page"],
         fewest: 1,
         operands: "[COMMAND]",
+        flag: Flag::None,
         options: &[],
     },
     UsageRow {
@@ -105,6 +133,7 @@ const ROWS: &[UsageRow] = &[
         words: &["version"],
         fewest: 1,
         operands: "",
+        flag: Flag::None,
         options: &[],
     },
 ];
@@ -117,20 +146,18 @@ const OPTIONS: &[NumberOption] = &[
     NumberOption::Cache,
     NumberOption::Idle,
     NumberOption::Stall,
+    NumberOption::Watch,
 ];
 
-// The option of a command that has no value.
-fn flag_of(name: CommandName) -> Option<&'static str> {
-    match name {
-        CommandName::Schema => Some("--dot"),
-        CommandName::Check => Some("--here"),
-        _ => None,
-    }
-}
+// All options without a value.
+const FLAGS: &[&str] = &["--dot", "--here"];
 
-// Whether the command is none without its flag, which then stands in the row's words.
-fn wants_flag(name: CommandName) -> bool {
-    name == CommandName::Check
+// Whether the form may have this flag beside its words.
+fn may_have(row: &UsageRow, flag: &str) -> bool {
+    match row.flag {
+        Flag::May(own) => own == flag,
+        _ => false,
+    }
 }
 
 fn text_of(name: Option<CommandName>) -> Result<&'static str, Fail> {
@@ -164,7 +191,7 @@ fn gives_command(alloc: Global, words: &[&str], last: Option<Str>) -> Result<boo
     Ok(read_command(alloc, &words)?.is_some())
 }
 
-// The option with the number 1.
+// The option with the value 1.
 fn option_word(alloc: Global, option: NumberOption) -> Result<Str, NoMemory> {
     let mut word = Vec::new(alloc);
     push_parts(&mut word, &["--", option.name(), "=1"])?;
@@ -183,16 +210,33 @@ fn check_options(alloc: Global, row: &UsageRow) -> Result<(), Fail> {
     Ok(())
 }
 
-// The flag is taken, and no second one.
-fn check_flag(alloc: Global, row: &UsageRow) -> Result<(), Fail> {
-    let Some(flag) = flag_of(row.name) else {
-        return Ok(());
-    };
+#[test]
+fn every_stands_behind_watch_alone(rt: HostRuntime) -> Result<(), Fail> {
+    let alloc = rt.alloc();
+    let both = ["serve", "--watch", "w", "--every", "2", "q", "t", "d"];
+    check(gives_command(alloc, &both, None)?, "both")?;
+    let alone = ["serve", "--every", "2", "q", "t", "d"];
+    check(!gives_command(alloc, &alone, None)?, "every alone")?;
+    let twice = ["serve", "--watch", "w", "--watch", "v", "q", "t", "d"];
+    check(!gives_command(alloc, &twice, None)?, "watch twice")?;
+    let none = ["serve", "--watch", "w", "--every", "0", "q", "t", "d"];
+    check(!gives_command(alloc, &none, None)?, "every with 0")
+}
+
+fn check_flag(alloc: Global, row: &UsageRow, flag: &'static str) -> Result<(), Fail> {
     let word = Str::new(alloc, flag.as_bytes())?;
     let taken = gives_command(alloc, row.words, Some(word))?;
-    check(taken != wants_flag(row.name), "the flag")?;
+    check(taken == may_have(row, flag), "a flag of the row")?;
     let twice = [name_of(row), flag, "q", flag];
-    check(!gives_command(alloc, &twice, None)?, "the flag twice")
+    check(!gives_command(alloc, &twice, None)?, "a flag twice")
+}
+
+// The flag is taken, and no other nor a second one.
+fn check_flags(alloc: Global, row: &UsageRow) -> Result<(), Fail> {
+    for flag in FLAGS {
+        check_flag(alloc, row, *flag)?;
+    }
+    Ok(())
 }
 
 // With each number of words: a command from the fewest on.
@@ -210,7 +254,7 @@ fn check_row(alloc: Global, row: &UsageRow) -> Result<(), Fail> {
     let is_named = CommandName::of(name_of(row)) == Some(row.name);
     check(is_named, "the name of the row")?;
     check_counts(alloc, row)?;
-    check_flag(alloc, row)?;
+    check_flags(alloc, row)?;
     check_options(alloc, row)
 }
 
@@ -229,6 +273,9 @@ fn push_listed(out: &mut Vec<u8>, line: &str) -> Result<(), NoMemory> {
     let Some(line) = line.strip_prefix("  ") else {
         return Ok(());
     };
+    if line.starts_with(' ') {
+        return Ok(());
+    }
     let Some((name, about)) = line.split_once(' ') else {
         return push_parts(out, &[line, "\n"]);
     };
@@ -260,6 +307,10 @@ fn push_options(
     options: &[NumberOption],
 ) -> Result<(), NoMemory> {
     for option in options {
+        if *option == NumberOption::Watch {
+            push_parts(out, &["--watch\n"])?;
+            continue;
+        }
         let greatest = option.greatest().to_string(alloc)?;
         let otherwise = option.otherwise().to_string(alloc)?;
         push_parts(out, &["--", option.name(), " 1 to ", &greatest])?;
@@ -268,10 +319,10 @@ fn push_options(
     Ok(())
 }
 
-fn push_flag(out: &mut Vec<u8>, name: CommandName) -> Result<(), NoMemory> {
-    match flag_of(name) {
-        Some(flag) => push_parts(out, &[flag, "\n"]),
-        None => Ok(()),
+fn push_flag(out: &mut Vec<u8>, flag: &Flag) -> Result<(), NoMemory> {
+    match flag {
+        Flag::May(flag) | Flag::Has(flag) => push_parts(out, &[flag, "\n"]),
+        Flag::None => Ok(()),
     }
 }
 
@@ -279,39 +330,65 @@ fn check_listed(alloc: Global, row: &UsageRow, text: &str) -> Result<(), Fail> {
     let mut wanted = Vec::new(alloc);
     push_operands(&mut wanted, row.operands)?;
     push_options(alloc, &mut wanted, row.options)?;
-    push_flag(&mut wanted, row.name)?;
+    push_flag(&mut wanted, &row.flag)?;
     let found = listed(alloc, text)?;
     check_text(&found, &wanted)
 }
 
-// The command's name and its operands.
-fn push_words(out: &mut Vec<u8>, row: &UsageRow, options: &str) -> Result<(), NoMemory> {
-    push_parts(out, &[name_of(row), options])?;
+// The command's name and its operands, with its options between two marks.
+fn push_words(
+    out: &mut Vec<u8>,
+    row: &UsageRow,
+    before: &'static str,
+    options: &'static str,
+    behind: &'static str,
+) -> Result<(), NoMemory> {
+    push_parts(out, &[name_of(row), before, options, behind])?;
     if row.operands.is_empty() {
         return Ok(());
     }
     push_parts(out, &[" ", row.operands])
 }
 
-fn check_first_line(alloc: Global, row: &UsageRow, text: &str) -> Result<(), Fail> {
-    let options = match row.name {
-        CommandName::Schema => " [--dot]",
-        CommandName::Check => " --here",
-        _ if row.options.is_empty() => "",
-        _ => " [OPTION..]",
-    };
-    let mut wanted = Vec::new(alloc);
-    push_parts(&mut wanted, &["usage: strudel "])?;
-    push_words(&mut wanted, row, options)?;
-    match text.lines().next() {
-        Some(line) => check_text(line.as_bytes(), &wanted),
-        None => Err(Fail::new("an empty text")),
+// The words of the form as its usage has them.
+fn push_form(out: &mut Vec<u8>, row: &UsageRow) -> Result<(), NoMemory> {
+    match row.flag {
+        Flag::May(flag) => push_words(out, row, " [", flag, "]"),
+        Flag::Has(flag) => push_words(out, row, " ", flag, ""),
+        Flag::None if row.options.is_empty() => push_words(out, row, "", "", ""),
+        Flag::None => push_words(out, row, " ", "[OPTION..]", ""),
     }
+}
+
+// The words of the form stand in the text's first line, or in the one below where another form stands first.
+fn check_form(alloc: Global, row: &UsageRow, text: &str) -> Result<(), Fail> {
+    let mut first = Vec::new(alloc);
+    push_parts(&mut first, &["usage: strudel "])?;
+    push_form(&mut first, row)?;
+    let mut second = Vec::new(alloc);
+    push_parts(&mut second, &["       strudel "])?;
+    push_form(&mut second, row)?;
+    let mut lines = text.lines();
+    let is_first = lines
+        .next()
+        .is_some_and(|line| line.as_bytes() == first.as_slice());
+    let is_second = lines
+        .next()
+        .is_some_and(|line| line.as_bytes() == second.as_slice());
+    check(is_first || is_second, "the line of the form")
+}
+
+// Whether another form of the command has more operands, which the text then lists.
+fn has_longer(row: &UsageRow) -> bool {
+    ROWS.iter().any(|other| other.name == row.name && other.words.len() > row.words.len())
 }
 
 fn check_usage(alloc: Global, row: &UsageRow) -> Result<(), Fail> {
     let text = text_of(Some(row.name))?;
-    check_first_line(alloc, row, text)?;
+    check_form(alloc, row, text)?;
+    if has_longer(row) {
+        return Ok(());
+    }
     check_listed(alloc, row, text)
 }
 
@@ -345,8 +422,10 @@ fn commands_in(alloc: Global, text: &str) -> Result<Vec<u8>, NoMemory> {
 fn commands_of(alloc: Global, rows: &[UsageRow]) -> Result<Vec<u8>, NoMemory> {
     let mut out = Vec::new(alloc);
     for row in rows {
-        let flag = if wants_flag(row.name) { " --here" } else { "" };
-        push_words(&mut out, row, flag)?;
+        match row.flag {
+            Flag::Has(flag) => push_words(&mut out, row, " ", flag, "")?,
+            _ => push_words(&mut out, row, "", "", "")?,
+        }
         out.push(b'\n')?;
     }
     Ok(out)

@@ -17,7 +17,7 @@ const GROUP: &str = "INPUT Group { CREATE Home() } \
     LINK Venue(v) -> \"Name\" -> v, Venue(v) -> \"Paper\" -> Paper(x), \
     Home() -> \"Venue\" -> Venue(v), Paper(x) -> \"In\" -> Venue(v) } } OUTPUT Site";
 
-const CONSTRAINTS_OF_THE_GROUP: &[VerdictRow] = &[
+pub const CONSTRAINTS_OF_THE_GROUP: &[VerdictRow] = &[
     VerdictRow {
         query: GROUP,
         constraint: "REACHABLE Author FROM Home",

@@ -5,6 +5,8 @@
 #[cfg(test)]
 mod checks;
 #[cfg(test)]
+mod counterexamples;
+#[cfg(test)]
 mod group;
 #[cfg(test)]
 mod included;

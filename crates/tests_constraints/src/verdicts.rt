@@ -46,7 +46,7 @@ const PAPERS: &str = "INPUT Bib CREATE RootPage() \
     LINK YearPage(v) -> \"Year\" -> v, YearPage(v) -> \"Paper\" -> PaperPage(x), \
     RootPage() -> \"Year\" -> YearPage(v) } OUTPUT Home";
 
-const CONSTRAINTS_OF_THE_PAPERS: &[VerdictRow] = &[
+pub const CONSTRAINTS_OF_THE_PAPERS: &[VerdictRow] = &[
     VerdictRow {
         query: PAPERS,
         constraint: "ONLY YearPage LINKS \"Paper\" TO PaperPage",
@@ -139,7 +139,7 @@ const TITLED: &str = "INPUT Bib CREATE RootPage() \
     WHERE Publications(x), x -> l -> v CREATE PaperPage(x) LINK PaperPage(x) -> l -> v \
     { WHERE l = \"title\" LINK RootPage() -> \"Paper\" -> PaperPage(x) } OUTPUT Home";
 
-const A_HOME_PAGE_OF_TITLED_PAPERS: &[VerdictRow] = &[VerdictRow {
+pub const A_HOME_PAGE_OF_TITLED_PAPERS: &[VerdictRow] = &[VerdictRow {
     query: TITLED,
     constraint: "REACHABLE PaperPage FROM RootPage",
     yes: false,
@@ -157,7 +157,7 @@ const LISTED: &str =
 const LISTED_2: &str =
     "STRUQL 2 INPUT D WHERE C(x), x -> a -> y, a in {5} CREATE F(x) LINK F(x) -> a -> y OUTPUT S";
 
-const TWINS_OF_LABELS: &[VerdictRow] = &[
+pub const TWINS_OF_LABELS: &[VerdictRow] = &[
     VerdictRow {
         query: LISTED,
         constraint: "NONE F LINKS \"5\"",
@@ -187,7 +187,7 @@ const WIDER: &str =
     "INPUT D { WHERE C(x), x -> \"a\".\"b\" -> y, y < 5, not(x -> \"c\"|\"d\" -> y) CREATE F(x) } \
     { WHERE C(u), u -> * -> w, w <= 5, not(u -> \"c\" -> w) CREATE G(u) LINK F(u) -> \"l\" -> G(u) } OUTPUT S";
 
-const CONDITIONS_THAT_FOLLOW: &[VerdictRow] = &[VerdictRow {
+pub const CONDITIONS_THAT_FOLLOW: &[VerdictRow] = &[VerdictRow {
     query: WIDER,
     constraint: "EACH F LINKS \"l\" TO G",
     yes: true,
@@ -202,7 +202,7 @@ fn conditions_that_follow(rt: HostRuntime) -> Result<(), Fail> {
 const TURNED: &str = "INPUT D { WHERE C(x), x -> \"a\" -> y, not(x -> \"c\" -> y) CREATE F(x) } \
     { WHERE C(u), u -> \"a\" -> w, not(u -> \"c\"|\"d\" -> w) CREATE G(u) LINK F(u) -> \"l\" -> G(u) } OUTPUT S";
 
-const NEGATIONS_TURN_ROUND: &[VerdictRow] = &[VerdictRow {
+pub const NEGATIONS_TURN_ROUND: &[VerdictRow] = &[VerdictRow {
     query: TURNED,
     constraint: "EACH F LINKS \"l\" TO G",
     yes: false,
@@ -217,7 +217,7 @@ fn negations_turn_round(rt: HostRuntime) -> Result<(), Fail> {
 const SORTS: &str = "INPUT D { WHERE x -> a -> y CREATE F(a) } \
     { WHERE u = u CREATE G(u) LINK F(u) -> \"l\" -> G(u) } OUTPUT S";
 
-const AN_ARC_VARIABLE_IS_NO_NODE: &[VerdictRow] = &[VerdictRow {
+pub const AN_ARC_VARIABLE_IS_NO_NODE: &[VerdictRow] = &[VerdictRow {
     query: SORTS,
     constraint: "EACH F LINKS \"l\" TO G",
     yes: false,
@@ -236,7 +236,7 @@ const CATALOGUE: &str = "INPUT Catalogue { CREATE Home() } \
     LINK Shelf(v) -> \"Name\" -> v, Shelf(v) -> \"Item\" -> Item(x), Item(x) -> \"Shelf\" -> Shelf(v), \
     Home() -> \"Shelf\" -> Shelf(v) } } OUTPUT Shop";
 
-const CONSTRAINTS_OF_THE_CATALOGUE: &[VerdictRow] = &[
+pub const CONSTRAINTS_OF_THE_CATALOGUE: &[VerdictRow] = &[
     VerdictRow {
         query: CATALOGUE,
         constraint: "REACHABLE Item FROM Home",
@@ -338,7 +338,7 @@ const PROJECTS: &str = "INPUT Projects { CREATE Home() } \
     Project(x) -> \"Person\" -> Person(n) \
     { WHERE a -> \"group\".\"name\" -> g LINK Person(n) -> \"Group\" -> g } } OUTPUT Site";
 
-const CONSTRAINTS_OF_THE_PROJECTS: &[VerdictRow] = &[
+pub const CONSTRAINTS_OF_THE_PROJECTS: &[VerdictRow] = &[
     VerdictRow {
         query: PROJECTS,
         constraint: "REACHABLE Project FROM Home",
@@ -438,7 +438,7 @@ const STEPS: &str = "INPUT D { CREATE Top() } \
     LINK Top() -> \"m\" -> Middle(x), Middle(x) -> \"l\" -> Low(x, y), Low(x, y) -> \"n\" -> Low(y, x) } \
     OUTPUT S";
 
-const SEVERAL_LINKS_LEAD_TO_A_PAGE: &[VerdictRow] = &[
+pub const SEVERAL_LINKS_LEAD_TO_A_PAGE: &[VerdictRow] = &[
     VerdictRow {
         query: STEPS,
         constraint: "REACHABLE Middle FROM Top",

@@ -1,4 +1,4 @@
-// The constraints of a file in the site over data, by the words `check --here`.
+// The constraints of a file, in the site over data by the words `check --here`, and over every data graph without them.
 use crate::inputs::{BIB, FileRow, files_of, no_connections, texts};
 use crate::site::SITE;
 use command_run::strudel;
@@ -44,7 +44,53 @@ const FILES: &[FileRow] = &[
         path: "lower",
         text: "none YearPage LINKS \"Paper\"",
     },
+    FileRow {
+        path: "titled",
+        text: TITLED,
+    },
+    FileRow {
+        path: "three",
+        text: THREE,
+    },
+    FileRow {
+        path: "five",
+        text: FIVE,
+    },
+    FileRow {
+        path: "five2",
+        text: FIVE_COERCED,
+    },
+    FileRow {
+        path: "fives",
+        text: "NONE F LINKS \"5\"",
+    },
 ];
+
+// The first page leads to the papers with a title alone.
+const TITLED: &str = "INPUT Bib
+{ CREATE RootPage() }
+{ WHERE Publications(x), x -> l -> v
+  CREATE PaperPage(x)
+  LINK PaperPage(x) -> l -> v
+  { WHERE l = \"title\" LINK RootPage() -> \"Paper\" -> PaperPage(x) }
+  { WHERE l = \"year\"
+    CREATE YearPage(v)
+    LINK YearPage(v) -> \"Year\" -> v, YearPage(v) -> \"Paper\" -> PaperPage(x),
+         RootPage() -> \"Year\" -> YearPage(v) } }
+OUTPUT Home
+";
+
+const THREE: &str = "ONLY YearPage LINKS \"Paper\" TO PaperPage
+ONE YearPage LINKS \"Year\"
+NONE PaperPage LINKS \"x\"
+";
+
+// A label is a text, and the list has an integer.
+const FIVE: &str =
+    "INPUT D WHERE C(x), x -> a -> y, a in {5} CREATE F(x) LINK F(x) -> a -> y OUTPUT S";
+
+const FIVE_COERCED: &str =
+    "STRUQL 2 INPUT D WHERE C(x), x -> a -> y, a in {5} CREATE F(x) LINK F(x) -> a -> y OUTPUT S";
 
 // The words of a run, the calls of its files and of its output that fail, its exit code, and what it puts on the output
 // and the standard error.
@@ -115,10 +161,9 @@ fn constraints_are_tested(rt: HostRuntime) -> Result<(), Fail> {
 }
 
 #[test]
-fn without_its_flag_it_is_no_command(rt: HostRuntime) -> Result<(), Fail> {
+fn data_and_the_flag_stand_together(rt: HostRuntime) -> Result<(), Fail> {
     let line = "strudel: bad command line\n";
     check_run(&rt, &["check", "q", "papers", "bib"], 2, "", line)?;
-    check_run(&rt, &["check", "q", "papers"], 2, "", line)?;
     check_run(&rt, &["check", "--here", "q", "papers"], 2, "", line)
 }
 
@@ -180,4 +225,66 @@ fn failing_reads_and_writes_are_reported(rt: HostRuntime) -> Result<(), Fail> {
         ..expects(REACHED, 5, "", "strudel: cannot write\n")
     };
     check_row(&rt, &met)
+}
+
+// ---- over every data graph
+
+const PAPERS_PROVED: &str = "1 yes
+  2 PaperPage(x): link 2 {x=x, l=l, v=v}
+  2 PaperPage(x): link 2 {x=x, l=l, v=v}
+  2 PaperPage(x): link 2 {x=x, l=l, v=v}
+  2.1 PaperPage(x): link 2 {x=x, l=l, v=v}
+";
+
+const THREE_ANSWERED: &str = "1 yes
+2 yes
+  2.1 YearPage(v): link 3 {x=x, l=l, v=v}
+  2.1 YearPage(v): link 3 {x=x, l=l, v=v}
+  2.1 YearPage(v): link 3 {x=x, l=l, v=v}
+  2.1 YearPage(v): link 3 {x=x, l=l, v=v}
+3 unknown
+";
+
+// Status 1 where a constraint has no certificate: the lines are put all the same, and nothing is reported.
+#[test]
+fn constraints_are_proved(rt: HostRuntime) -> Result<(), Fail> {
+    check_run(&rt, &["check", "q", "reached"], 0, PAPERS_PROVED, "")?;
+    check_run(&rt, &["check", "titled", "reached"], 1, "1 unknown\n", "")?;
+    check_run(&rt, &["check", "q", "three"], 1, THREE_ANSWERED, "")?;
+    check_run(&rt, &["check", "q", "empty"], 0, "", "")
+}
+
+// Where texts are compared with integers by the text of the number, the label `5` is one of 5.
+#[test]
+fn the_versions_compare_otherwise(rt: HostRuntime) -> Result<(), Fail> {
+    check_run(&rt, &["check", "five", "fives"], 0, "1 yes\n", "")?;
+    check_run(&rt, &["check", "five2", "fives"], 1, "1 unknown\n", "")
+}
+
+// The query is read first, and then the constraints.
+#[test]
+fn the_first_fault_over_all_data_is_reported(rt: HostRuntime) -> Result<(), Fail> {
+    let query = "strudel: bib: 71 Expected at 0\n";
+    check_run(&rt, &["check", "bib", "zed"], 3, "", query)?;
+    let zed = "strudel: zed: 102 UnknownFunction at 5\n";
+    check_run(&rt, &["check", "q", "zed"], 3, "", zed)?;
+    let no_query = "strudel: cannot read none\n";
+    check_run(&rt, &["check", "none", "lost"], 4, "", no_query)?;
+    let no_file = "strudel: cannot read lost\n";
+    check_run(&rt, &["check", "q", "lost"], 4, "", no_file)
+}
+
+#[test]
+fn failing_devices_over_all_data_are_reported(rt: HostRuntime) -> Result<(), Fail> {
+    let words: &'static [&'static str] = &["check", "q", "three"];
+    let unread = CheckRow {
+        failing_calls: &[2],
+        ..expects(words, 4, "", "strudel: cannot read three\n")
+    };
+    check_row(&rt, &unread)?;
+    let unput = CheckRow {
+        failing_puts: &[1],
+        ..expects(words, 5, "", "strudel: cannot write\n")
+    };
+    check_row(&rt, &unput)
 }

@@ -46,6 +46,7 @@ const COMMANDS: &[&[&str]] = &[
     &["data", "d"],
     &["explain", "q", "d"],
     &["schema", "q"],
+    &["check", "q", "c"],
     &["check", "--here", "q", "c", "d"],
 ];
 

@@ -3,6 +3,8 @@
 #![tactic(auto)]
 
 #[cfg(test)]
+mod encodings;
+#[cfg(test)]
 mod inputs;
 #[cfg(test)]
 mod refused;

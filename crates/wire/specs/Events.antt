@@ -1,7 +1,9 @@
--- What a wire reports of its events and of the calls of listen.
-use Rattle.std.specs.Prelude.{◌≡◌, ℕ, Bool, true, false, List, [], ◌∷◌, ◌++◌, Option, Some, None, if◌then◌else◌}
+-- What a wire reports of its events and of the calls of listen and watch.
+use Rattle.std.specs.Prelude.{◌≡◌, ℕ, Bool, true, false, List, [], ◌∷◌, ◌++◌, Option, Some, None, Result, Ok, Err, ⊤, if◌then◌else◌}
 use Rattle.std.specs.List.{list_any}
 use Rattle.wire.specs.Accounts.{up}
+use Rattle.wire.specs.declared.WireEnd.{WireEnd}
+use Rattle.wire.specs.declared.WireEnd.TheVariants.{Failed, NoMemory}
 use Rattle.wire.specs.declared.WireEvent.{WireEvent}
 use Rattle.wire.specs.declared.WireEvent.TheVariants.{Opened, Bytes, Ended, Lost, Change, Done}
 
@@ -16,6 +18,25 @@ abbrev pub add_listen : Option Listens → ℕ → ℕ → Option Listens
 add_listen None port connections = None
 add_listen (Some before) port connections =
     Some (record { calls = up before.calls; port = port; connections = connections })
+
+-- how often watch was called, and the arguments of the last call
+pub record Watches : Type 0 where
+  pub calls : ℕ
+  pub path : List ℕ
+  pub every : ℕ
+
+-- one more call of watch
+abbrev pub add_watch : Option Watches → List ℕ → ℕ → Option Watches
+add_watch None path every = None
+add_watch (Some before) path every =
+    Some (record { calls = up before.calls; path = path; every = every })
+
+-- what a call of watch with these arguments does to what is reported of such calls: out of memory nothing
+abbrev pub IsWatched : (path : List ℕ) (every : ℕ) → (before after : Option Watches) → Result ⊤ WireEnd
+    → Type 0
+IsWatched path every before after (Ok unit) = after ≡ add_watch before path every
+IsWatched path every before after (Err Failed) = after ≡ add_watch before path every
+IsWatched path every before after (Err NoMemory) = after ≡ before
 
 -- the event is the first of those left, or Done where none is left
 abbrev pub IsNextOf : Option (List WireEvent) → WireEvent → Option (List WireEvent) → Type 0

@@ -1,7 +1,7 @@
 -- What a wire reports of its connections, its events and its failed calls.
 use Rattle.std.specs.Prelude.{◌≡◌, ◌≢◌, ℕ, List, Option}
 use Rattle.wire.specs.Accounts.{Account}
-use Rattle.wire.specs.Events.{Listens}
+use Rattle.wire.specs.Events.{Listens, Watches}
 use Rattle.wire.specs.declared.WireEvent.{WireEvent}
 
 -- What a wire reports at one moment. An account, the events and the calls of listen are reported or not, each for
@@ -17,14 +17,16 @@ pub record Told : Type 0 where
   pub left : Option (List WireEvent)
   -- the calls of listen
   pub listens : Option Listens
-  -- how often listen and next failed
+  -- the calls of watch
+  pub watches : Option Watches
+  -- how often listen, watch and next failed
   pub next_faults : ℕ
 
--- No event was given, listen was not called and neither failed: what changed is of connections alone.
+-- No event was given, listen and watch were not called and none failed: what changed is of connections alone.
 abbrev pub EventsStay : Told → Told → Type 0
 EventsStay before after =
     (after.given ≡ before.given) × (after.left ≡ before.left) × (after.listens ≡ before.listens)
-    × (after.next_faults ≡ before.next_faults)
+    × (after.next_faults ≡ before.next_faults) × (after.watches ≡ before.watches)
 
 -- nothing was sent to a connection, and none was closed
 abbrev pub ConnectionsStay : Told → Told → Type 0

@@ -4,7 +4,7 @@
 ghost use Rattle.std.specs.Prelude.{◌≡◌, ◌+◌, ℕ, List, [], ◌∷◌, ◌++◌, take, length, Option, Some, IfOk, OnOk, OnErr, IsErrOf, flat_map};
 ghost use Rattle.edge_io.specs.Counts.{Rose};
 ghost use Rattle.wire.specs.Accounts.{Account, send_to, gain, close_to, up, up_by};
-ghost use Rattle.wire.specs.Events.{add_event, IsNextOf, add_listen};
+ghost use Rattle.wire.specs.Events.{add_event, IsNextOf, add_listen, IsWatched};
 ghost use Rattle.wire.specs.Told.{Told, EventsStay, OtherAccountsStay, OtherFaultsStay};
 ghost use Rattle.wire.specs.declared.WireEvent.{WireEvent};
 
@@ -50,7 +50,23 @@ pub trait Wire {
         ensures stays { ((told self.new).account ≡ (told self.old).account)
             × ((told self.new).faults ≡ (told self.old).faults)
             × ((told self.new).given ≡ (told self.old).given)
-            × ((told self.new).left ≡ (told self.old).left) };
+            × ((told self.new).left ≡ (told self.old).left)
+            × ((told self.new).watches ≡ (told self.old).watches) };
+
+    /// Watches the file at the path: after each `every` connections that ended, what is there may come as a `Change`, before
+    /// the next connection is opened. Out of memory nothing is reported of the call.
+    fn watch(&mut self, alloc: Global, path: &Str, every: u64) -> Result<(), WireEnd>
+        ensures watches { IsWatched path.now every (told self.old).watches (told self.new).watches
+            result }
+        ensures fine { OnOk result ((told self.new).next_faults ≡ (told self.old).next_faults) }
+        ensures failed { IsErrOf result WireEnd.Failed
+            → Rose (told self.old).next_faults (told self.new).next_faults }
+        ensures short { IsErrOf result WireEnd.NoMemory → told self.new ≡ told self.old }
+        ensures stays { ((told self.new).account ≡ (told self.old).account)
+            × ((told self.new).faults ≡ (told self.old).faults)
+            × ((told self.new).given ≡ (told self.old).given)
+            × ((told self.new).left ≡ (told self.old).left)
+            × ((told self.new).listens ≡ (told self.old).listens) };
 
     /// The next event. Where the events left are reported it is the first of them, or `Done` where none is left.
     fn next(&mut self, alloc: Global) -> Result<WireEvent, WireEnd>
@@ -65,7 +81,8 @@ pub trait Wire {
             → Rose (told self.old).next_faults (told self.new).next_faults }
         ensures stays { ((told self.new).account ≡ (told self.old).account)
             × ((told self.new).faults ≡ (told self.old).faults)
-            × ((told self.new).listens ≡ (told self.old).listens) };
+            × ((told self.new).listens ≡ (told self.old).listens)
+            × ((told self.new).watches ≡ (told self.old).watches) };
 
     /// Sends bytes to a connection. Where that fails, some first bytes were taken.
     fn send(&mut self, connection: u64, bytes: &[u8]) -> Result<(), Failed>

@@ -8,22 +8,22 @@ use Rattle.command_serve.proofs.serve.Goals as goal
 
 pub returns-in-Ok-clause-silent : goal.returns-in-Ok-clause-silent
 returns-in-Ok-clause-silent g c = λ quiet.
-    absurd (never_silent (inputs_of c.in-Ok.inputs) c.args.command.now.options (outside (λ path. None) (λ path. 0) (λ path. 0) (g.O.Sink.text c.args.out.now) (g.O.Sink.failed c.args.out.now) (g.W.Wire.told c.args.wire.now)) (outside (λ path. None) (λ path. 0) (λ path. 0) (g.O.Sink.text c.serve_over.new.out) (g.O.Sink.failed c.serve_over.new.out) (g.W.Wire.told c.serve_over.new.wire)) c.serve_over.result
+    absurd (never_silent (inputs_of c.in-Ok.inputs) c.args.command.now.watch c.args.command.now.options (outside (λ path. None) (λ path. 0) (λ path. 0) (g.O.Sink.text c.args.out.now) (g.O.Sink.failed c.args.out.now) (g.W.Wire.told c.args.wire.now)) (outside (λ path. None) (λ path. 0) (λ path. 0) (g.O.Sink.text c.serve_over.new.out) (g.O.Sink.failed c.serve_over.new.out) (g.W.Wire.told c.serve_over.new.wire)) c.serve_over.result
     (c.serve_over.ensures.ends (λ path. None) (λ path. None) (λ path. 0) (λ path. 0) (λ path. 0) (λ path. 0)) quiet)
 
 pub returns-in-Ok-clause-quiet : goal.returns-in-Ok-clause-quiet
 returns-in-Ok-clause-quiet g c = λ quiet.
-    absurd (never_silent (inputs_of c.in-Ok.inputs) c.args.command.now.options (outside (λ path. None) (λ path. 0) (λ path. 0) (g.O.Sink.text c.args.out.now) (g.O.Sink.failed c.args.out.now) (g.W.Wire.told c.args.wire.now)) (outside (λ path. None) (λ path. 0) (λ path. 0) (g.O.Sink.text c.serve_over.new.out) (g.O.Sink.failed c.serve_over.new.out) (g.W.Wire.told c.serve_over.new.wire)) c.serve_over.result
+    absurd (never_silent (inputs_of c.in-Ok.inputs) c.args.command.now.watch c.args.command.now.options (outside (λ path. None) (λ path. 0) (λ path. 0) (g.O.Sink.text c.args.out.now) (g.O.Sink.failed c.args.out.now) (g.W.Wire.told c.args.wire.now)) (outside (λ path. None) (λ path. 0) (λ path. 0) (g.O.Sink.text c.serve_over.new.out) (g.O.Sink.failed c.serve_over.new.out) (g.W.Wire.told c.serve_over.new.wire)) c.serve_over.result
     (c.serve_over.ensures.ends (λ path. None) (λ path. None) (λ path. 0) (λ path. 0) (λ path. 0) (λ path. 0)) quiet)
 
 pub returns-in-Ok-clause-words : goal.returns-in-Ok-clause-words
 returns-in-Ok-clause-words g c = λ usage.
-    never_usage (inputs_of c.in-Ok.inputs) c.args.command.now.options (outside (λ path. None) (λ path. 0) (λ path. 0) (g.O.Sink.text c.args.out.now) (g.O.Sink.failed c.args.out.now) (g.W.Wire.told c.args.wire.now)) (outside (λ path. None) (λ path. 0) (λ path. 0) (g.O.Sink.text c.serve_over.new.out) (g.O.Sink.failed c.serve_over.new.out) (g.W.Wire.told c.serve_over.new.wire)) c.serve_over.result
+    never_usage (inputs_of c.in-Ok.inputs) c.args.command.now.watch c.args.command.now.options (outside (λ path. None) (λ path. 0) (λ path. 0) (g.O.Sink.text c.args.out.now) (g.O.Sink.failed c.args.out.now) (g.W.Wire.told c.args.wire.now)) (outside (λ path. None) (λ path. 0) (λ path. 0) (g.O.Sink.text c.serve_over.new.out) (g.O.Sink.failed c.serve_over.new.out) (g.W.Wire.told c.serve_over.new.wire)) c.serve_over.result
     (c.serve_over.ensures.ends (λ path. None) (λ path. None) (λ path. 0) (λ path. 0) (λ path. 0) (λ path. 0)) usage
 
 pub returns-in-Ok-clause-read_cause : goal.returns-in-Ok-clause-read_cause
 returns-in-Ok-clause-read_cause g c =
-    over_read_rose (inputs_of c.in-Ok.inputs) c.args.command.now.options (outside (λ path. None) (λ path. 0) (λ path. 0) (g.O.Sink.text c.args.out.now) (g.O.Sink.failed c.args.out.now) (g.W.Wire.told c.args.wire.now)) (outside (λ path. None) (λ path. 0) (λ path. 0) (g.O.Sink.text c.serve_over.new.out) (g.O.Sink.failed c.serve_over.new.out) (g.W.Wire.told c.serve_over.new.wire)) _ _ _ c.serve_over.result
+    over_read_rose (inputs_of c.in-Ok.inputs) c.args.command.now.watch c.args.command.now.options (outside (λ path. None) (λ path. 0) (λ path. 0) (g.O.Sink.text c.args.out.now) (g.O.Sink.failed c.args.out.now) (g.W.Wire.told c.args.wire.now)) (outside (λ path. None) (λ path. 0) (λ path. 0) (g.O.Sink.text c.serve_over.new.out) (g.O.Sink.failed c.serve_over.new.out) (g.W.Wire.told c.serve_over.new.wire)) _ _ _ c.serve_over.result
     (c.serve_over.ensures.ends (λ path. None) (λ path. None) (λ path. 0) (λ path. 0) (λ path. 0) (λ path. 0))
 
 pub returns-in-Ok-clause-ends : goal.returns-in-Ok-clause-ends

@@ -1,20 +1,24 @@
-use Rattle.std.proofs.Common.{◌≡◌}
-use Rattle.std.proofs.lemmas.Result.{IfOk-weaker}
-use Rattle.query_blocks.specs.Blocks.{scope_of}
-use Rattle.site_spec.specs.Site.{scope_of as scope_of_query}
-use Rattle.constraint_search.specs.Search.{find_certificate}
-use Rattle.inclusion_table.specs.Answers.{tests_of}
-use Rattle.constraint_prover.specs.Verdicts.{certificate_in, IsVerdict, HoldsOverAll}
-use Rattle.constraint_prover.proofs.Verdicts.{found_exact, exact_holds}
+use Rattle.std.proofs.Common.{arith, List, subst}
+use Rattle.std.specs.List.{AllZip}
+use Rattle.site_spec.specs.Site.{scope_of}
+use Rattle.constraint_spec.specs.declared.Constraint.{Constraint}
+use Rattle.constraint_prover.specs.Verdicts.{IsVerdict, HoldsOverAll}
+use Rattle.constraint_prover.proofs.Zipped.{zip_only, zip_one}
 use Rattle.constraint_prover.proofs.prove.Goals as goal
+
+pub remove-requires : goal.remove-requires
+remove-requires c =
+    let verdicts = c.in_ok-verdicts.verdicts in
+    let some = zip_one (IsVerdict (scope_of c.args.query.now)) c.args.constraint.now verdicts.items
+    (subst (λ (cs : List Constraint). AllZip (IsVerdict (scope_of c.args.query.now)) cs verdicts.items) c.from_ref.ensures.value c.in_ok-verdicts.ensures.exact) in
+    omega (arith, verdicts.ok.0, some)
 
 pub returns-clause-exact : goal.returns-clause-exact
 returns-clause-exact c =
-    IfOk-weaker c.find_certificate.result (λ v. certificate_in v ≡ find_certificate (tests_of c.in_ok-judge.judge) (scope_of c.in_ok-blocks.blocks) c.args.constraint.now) (IsVerdict (scope_of_query c.args.query.now) c.args.constraint.now)
-    (λ v e. found_exact (scope_of_query c.args.query.now) (scope_of c.in_ok-blocks.blocks) c.in_ok-judge.judge c.args.constraint.now v c.in_ok-blocks.ensures.scope c.in_ok-judge.ensures e) c.find_certificate.ensures
+    zip_only (IsVerdict (scope_of c.args.query.now)) c.args.constraint.now c.in_ok-verdicts.verdicts.items c.remove.result
+    (subst (λ (cs : List Constraint). AllZip (IsVerdict (scope_of c.args.query.now)) cs c.in_ok-verdicts.verdicts.items) c.from_ref.ensures.value c.in_ok-verdicts.ensures.exact) c.remove.ensures.value
 
 pub returns-clause-holds : goal.returns-clause-holds
 returns-clause-holds c =
-    IfOk-weaker c.find_certificate.result (λ v. certificate_in v ≡ find_certificate (tests_of c.in_ok-judge.judge) (scope_of c.in_ok-blocks.blocks) c.args.constraint.now) (HoldsOverAll (scope_of_query c.args.query.now) c.args.constraint.now)
-    (λ v e. exact_holds c.certificates_of_checked_queries_hold.ensures c.query-written.result.now c.args.query.now c.query-written.ensures.same c.query-written.ensures.faultless c.query-written.ensures.parsed c.args.constraint.now v
-    (found_exact (scope_of_query c.args.query.now) (scope_of c.in_ok-blocks.blocks) c.in_ok-judge.judge c.args.constraint.now v c.in_ok-blocks.ensures.scope c.in_ok-judge.ensures e)) c.find_certificate.ensures
+    zip_only (HoldsOverAll (scope_of c.args.query.now)) c.args.constraint.now c.in_ok-verdicts.verdicts.items c.remove.result
+    (subst (λ (cs : List Constraint). AllZip (HoldsOverAll (scope_of c.args.query.now)) cs c.in_ok-verdicts.verdicts.items) c.from_ref.ensures.value c.in_ok-verdicts.ensures.holds) c.remove.ensures.value

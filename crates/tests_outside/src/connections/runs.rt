@@ -216,6 +216,8 @@ fn a_hub_serves_kept_pages(rt: HostRuntime) -> Result<(), Fail> {
         connections: 2,
         replies: 2,
         hits: 0,
+        changes: 0,
+        refused: 0,
     };
     check_kept_pages(rt.alloc(), 4, tally)
 }

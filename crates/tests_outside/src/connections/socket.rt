@@ -1,6 +1,7 @@
 // A request over a socket.
 use super::no_pages::NoPages;
 use crate::inputs::{check, check_text};
+use edge_io::RealFiles;
 use hub::{Hub, HubEnd, serve};
 use std::io::{Read, Write};
 use std::net::{Ipv4Addr, SocketAddr, SocketAddrV4, TcpStream};
@@ -25,7 +26,7 @@ const WAITS: Waits = Waits {
 #[test]
 fn a_request_over_a_socket_has_its_reply(rt: HostRuntime) -> Result<(), Fail> {
     let alloc = rt.alloc();
-    let mut wire = TcpWire::new(alloc, &rt, WAITS);
+    let mut wire = TcpWire::new(alloc, &rt, RealFiles::new(&rt, 0), WAITS);
     check(wire.listen(0, 1).is_ok(), "no socket")?;
     let port = wire.port().ok_or("no port")?;
     let address = SocketAddr::from(SocketAddrV4::new(Ipv4Addr::LOCALHOST, port));

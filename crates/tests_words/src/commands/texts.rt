@@ -1,5 +1,5 @@
 // Commands as texts: the name, and then each part behind a blank.
-use command_spec::{Command, CommandName, HelpCommand};
+use command_spec::{Command, CommandName, HelpCommand, ServeCommand};
 use sd_value::{NoMemory, Str};
 use std::alloc::Global;
 
@@ -67,6 +67,32 @@ fn help_text(command: &HelpCommand) -> &'static [u8] {
     }
 }
 
+// The path of the watched file stands behind those of the query and the templates, and its number last.
+fn serve_text(alloc: Global, c: &ServeCommand) -> Result<Vec<u8>, NoMemory> {
+    let limits = &c.options.limits;
+    let numbers = [
+        u64::from(c.options.port),
+        c.options.connections,
+        limits.requests,
+        limits.turns,
+        u64::from(limits.cache),
+        u64::from(c.options.waits.idle),
+        u64::from(c.options.waits.stall),
+    ];
+    match &c.watch {
+        Some(watch) => {
+            let paths = [&c.query, &c.templates, &watch.path];
+            let mut all = Vec::from_slice(alloc, &numbers)?;
+            all.push(watch.every)?;
+            named(alloc, b"serve", &paths, c.sources.items(), &all)
+        }
+        None => {
+            let paths = [&c.query, &c.templates];
+            named(alloc, b"serve", &paths, c.sources.items(), &numbers)
+        }
+    }
+}
+
 /// The command as a text: its paths as they are in it, and behind them its numbers.
 pub fn command_text(alloc: Global, command: &Command) -> Result<Vec<u8>, NoMemory> {
     match command {
@@ -88,20 +114,11 @@ pub fn command_text(alloc: Global, command: &Command) -> Result<Vec<u8>, NoMemor
             let paths = [&c.query, &c.constraints];
             named(alloc, b"check", &paths, c.sources.items(), &[])
         }
-        Command::Serve(c) => {
-            let paths = [&c.query, &c.templates];
-            let limits = &c.options.limits;
-            let numbers = [
-                u64::from(c.options.port),
-                c.options.connections,
-                limits.requests,
-                limits.turns,
-                u64::from(limits.cache),
-                u64::from(c.options.waits.idle),
-                u64::from(c.options.waits.stall),
-            ];
-            named(alloc, b"serve", &paths, c.sources.items(), &numbers)
+        Command::CheckAll(c) => {
+            let paths = [&c.query, &c.constraints];
+            named(alloc, b"check all", &paths, &[], &[])
         }
+        Command::Serve(c) => serve_text(alloc, c),
         Command::Replay(c) => {
             let paths = [&c.query, &c.templates, &c.script];
             let limits = &c.limits;

@@ -2,7 +2,7 @@ use Rattle.std.proofs.Common.{◌≡◌, length, Some, None, ◌<◌, slice_set,
 use Rattle.std.proofs.lemmas.Option.{slice_get_within}
 use Rattle.condition_tests.specs.Known.{KnownInDomains}
 use Rattle.bindings.proofs.Known.{set_back, length-set, free_count-set, free_count}
-use Rattle.bindings.proofs.Found.{fruitless-init, fruitless-step, fruitless-end, fruitful, some_passed, some_later, some_complete, known_more, last_in}
+use Rattle.bindings.proofs.Found.{fruitless-init, fruitless-step, fruitless-end, fruitful, some_passed, complete_fits, join, some_later, some_complete, known_more, last_in}
 use Rattle.bindings.proofs.search.+finds.Goals as goal
 
 pub returns-in_default-2-clause-exact : goal.returns-in_default-2-clause-exact
@@ -59,3 +59,20 @@ returns-clause-exact g t c =
     let ch = rw c.in-Some-2.is at c.in_ok-choice.ensures.choice in
     let empty : length c.loop-value.values.items ≡ 0 = omega (arith, c.loop-value.values.ok, c.in_default-pop.ensures.cases.0) in
     ((λ yes. cc), (λ f. absurd (fruitless-end _ _ _ _ _ _ _ _ _ _ _ c.loop-value.invariant.fruitless empty ch (some_later _ _ _ _ _ _ _ ps f))))
+
+pub returns-in_default-2-clause-row : goal.returns-in_default-2-clause-row
+returns-in_default-2-clause-row g t c =
+    let ps = rw c.in-Some.is at c.in_ok-at.ensures.passed in
+    let full = rw c.in_default-2.is at c.in_ok-choice.ensures.choice in
+    λ yes. ps.2 _ (complete_fits _ _ _ _ _ _ c.requires.known full)
+
+pub returns-then-branch-clause-row : goal.returns-then-branch-clause-row
+returns-then-branch-clause-row g t c =
+    let ps = rw c.in-Some.is at c.in_ok-at.ensures.passed in
+    let ch = rw c.in-Some-2.is at c.in_ok-choice.ensures.choice in
+    let put_is : c.put.new.current ≡ slice_set c.args.current.now c.in-Some-2.choice.slot (Some c.in-Some-pop.value) = c.put.ensures ∙ ap (λ s. slice_set s c.in-Some-2.choice.slot (Some c.in-Some-pop.value)) c.loop-value.invariant.fruitless.same in
+    λ yes. ps.2 _ (join _ _ _ _ _ _ _ _ _ ch _ (record {
+      value = c.in-Some-pop.value;
+      is_one = last_in _ _ _ _ _ c.loop-value.invariant.fruitless.cut c.in-Some-pop.ensures.items;
+      fits = rw (← put_is) (c.in_ok-finds.ensures.row c.if-branch.true);
+    }))

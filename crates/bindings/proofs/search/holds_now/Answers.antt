@@ -1,6 +1,6 @@
 use Rattle.condition_tests.specs.declared.literal.Relation.TheVariants.{Walk}
 use Rattle.condition_tests.proofs.Decided.{decides_two}
-use Rattle.bindings.proofs.Kept.{walk_there}
+use Rattle.candidate_values.proofs.Kept.{walk_there}
 use Rattle.bindings.proofs.search.holds_now.Goals as goal
 
 pub joins-requires-clause-walk : goal.joins-requires-clause-walk

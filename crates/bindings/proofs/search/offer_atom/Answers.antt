@@ -1,4 +1,4 @@
-use Rattle.bindings.proofs.Kept.{walk_there}
+use Rattle.candidate_values.proofs.Kept.{walk_there}
 use Rattle.bindings.proofs.search.offer_atom.Goals as goal
 
 pub offer_walk-requires-clause-from_in_range : goal.offer_walk-requires-clause-from_in_range

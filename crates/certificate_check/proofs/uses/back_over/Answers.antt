@@ -12,6 +12,6 @@ use Rattle.certificate_check.proofs.uses.back_over.Goals as goal
 pub returns : goal.returns
 returns g c =
     let k = placed_link c.args.link.now in
-    both_true (is_use (g.J.Judge.tests c.args.judge.now) c.args.version c.args.given.now.conditions k c.args.using.now.names) (same_target (target_of k c.args.using.now) (made (term_of c.args.term.now)))
-    (made_term (source_of k c.args.using.now)) (option_map term_of c.in_ok-source.source)
+    both_true (is_use (g.J.Judge.tests c.args.judge.now) c.args.version c.args.given.now.conditions k c.args.step.now.names) (same_target (target_of k c.args.step.now) (made (term_of c.args.term.now)))
+    (made_term (source_of k c.args.step.now)) (option_map term_of c.in_ok-source.source)
     (cc (c.in_ok-is_use.ensures, c.names.ensures)) (cc (c.in_ok-ends_at_term.ensures, c.names-2.ensures)) (cc (c.in_ok-source.ensures, c.names-3.ensures))

@@ -3,7 +3,8 @@ use Rattle.std.proofs.lemmas.Result.{err_from_is_err_and}
 use Rattle.constraint_spec.specs.declared.Constraint.{Constraint}
 use Rattle.site_inputs.proofs.Runs.{none_fell}
 use Rattle.site_inputs.proofs.Causes.{cause_within, of_sources, of_query, of_templates}
-use Rattle.command_check.specs.Ends.{here_paths, ReportTaken}
+use Rattle.command_spec.specs.Inputs.{here_paths}
+use Rattle.command_check.specs.Ends.{ReportTaken}
 use Rattle.command_check.proofs.Stopped.{all_taken, constraints_fault, report_cause}
 use Rattle.command_check.proofs.here.check_here.Goals as goal
 

@@ -23,9 +23,9 @@ returns-then-is_done-clause-stands g c =
       given_more (g.W.Wire.told c.args.wire.now).given (g.W.Wire.told c.loop.wire).given (g.W.Wire.told c.next.new.self).given events e c.loop.invariant.6.1 c.in-Ok.ensures.given,
       drawn_more (g.W.Wire.told c.args.wire.now).left (g.W.Wire.told c.loop.wire).left (g.W.Wire.told c.next.new.self).left events e c.loop.invariant.6.2 c.in-Ok.ensures.left,
       (events, subst (λ (x : WireEvent). events ++ e ∷ [] ≡ events ++ x ∷ []) done refl, omega (arith, counted, c.loop-test.true), c.loop.invariant.6.4),
-      inl (passes_done (rules_under c.args.hub.now.root g.P.Versions.site g.P.Versions.templates g.P.Versions.changed g.P.Versions.looks g.P.Versions.renews g.P.Versions.found) c.args.hub.now.limit (scene g.P.Versions.state g.P.Versions.cache c.args.hub.now (g.W.Wire.told c.args.wire.now).account (g.W.Wire.told c.args.wire.now).faults)
+      inl (passes_done (rules_under c.args.hub.now.root g.P.Versions.site g.P.Versions.templates g.P.Versions.changed g.P.Versions.accepts g.P.Versions.looks g.P.Versions.renews g.P.Versions.found) c.args.hub.now.limit (scene g.P.Versions.state g.P.Versions.cache c.args.hub.now (g.W.Wire.told c.args.wire.now).account (g.W.Wire.told c.args.wire.now).faults)
           (scene g.P.Versions.state g.P.Versions.cache c.loop.hub (g.W.Wire.told c.next.new.self).account (g.W.Wire.told c.next.new.self).faults) events e done
-          (passes_moved (rules_under c.args.hub.now.root g.P.Versions.site g.P.Versions.templates g.P.Versions.changed g.P.Versions.looks g.P.Versions.renews g.P.Versions.found) c.args.hub.now.limit (scene g.P.Versions.state g.P.Versions.cache c.args.hub.now (g.W.Wire.told c.args.wire.now).account (g.W.Wire.told c.args.wire.now).faults) events c.loop.hub g.P.Versions.state g.P.Versions.cache (g.W.Wire.told c.loop.wire).account (g.W.Wire.told c.next.new.self).account
+          (passes_moved (rules_under c.args.hub.now.root g.P.Versions.site g.P.Versions.templates g.P.Versions.changed g.P.Versions.accepts g.P.Versions.looks g.P.Versions.renews g.P.Versions.found) c.args.hub.now.limit (scene g.P.Versions.state g.P.Versions.cache c.args.hub.now (g.W.Wire.told c.args.wire.now).account (g.W.Wire.told c.args.wire.now).faults) events c.loop.hub g.P.Versions.state g.P.Versions.cache (g.W.Wire.told c.loop.wire).account (g.W.Wire.told c.next.new.self).account
           (g.W.Wire.told c.loop.wire).faults (g.W.Wire.told c.next.new.self).faults c.in-Ok.ensures.stays.0 c.in-Ok.ensures.stays.1 c.loop.invariant.6.5)),
       λ number none.
           stands_done page (TermOf c.args.hub.now.root) g.P.Versions.changed c.args.hub.now.limit number start events e
@@ -60,12 +60,12 @@ returns-then-spent-clause-stands g c =
           (c.step.ensures.stays.0 ∙ c.in-Ok.ensures.given),
       drawn_more (g.W.Wire.told c.args.wire.now).left (g.W.Wire.told c.loop.wire).left (g.W.Wire.told c.step.new.wire).left events e c.loop.invariant.6.2 next,
       (omega (arith, counted, c.loop-test.true, length-append events (e ∷ [])), none_more events e c.loop.invariant.6.4 (sym c.is_done.ensures ∙ c.if-is_done.false)),
-      counts_stay (rules_under c.args.hub.now.root g.P.Versions.site g.P.Versions.templates g.P.Versions.changed g.P.Versions.looks g.P.Versions.renews g.P.Versions.found) c.args.hub.now.limit (scene g.P.Versions.state g.P.Versions.cache c.args.hub.now (g.W.Wire.told c.args.wire.now).account (g.W.Wire.told c.args.wire.now).faults)
+      counts_stay (rules_under c.args.hub.now.root g.P.Versions.site g.P.Versions.templates g.P.Versions.changed g.P.Versions.accepts g.P.Versions.looks g.P.Versions.renews g.P.Versions.found) c.args.hub.now.limit (scene g.P.Versions.state g.P.Versions.cache c.args.hub.now (g.W.Wire.told c.args.wire.now).account (g.W.Wire.told c.args.wire.now).faults)
           (scene g.P.Versions.state g.P.Versions.cache c.loop.hub (g.W.Wire.told c.next.new.self).account (g.W.Wire.told c.next.new.self).faults)
           (scene g.P.Versions.state g.P.Versions.cache c.step.new.self (g.W.Wire.told c.step.new.wire).account (g.W.Wire.told c.step.new.wire).faults) events e spends.0.0 told.0 spends.0.1
-          (passes_moved (rules_under c.args.hub.now.root g.P.Versions.site g.P.Versions.templates g.P.Versions.changed g.P.Versions.looks g.P.Versions.renews g.P.Versions.found) c.args.hub.now.limit (scene g.P.Versions.state g.P.Versions.cache c.args.hub.now (g.W.Wire.told c.args.wire.now).account (g.W.Wire.told c.args.wire.now).faults) events c.loop.hub g.P.Versions.state g.P.Versions.cache (g.W.Wire.told c.loop.wire).account (g.W.Wire.told c.next.new.self).account
+          (passes_moved (rules_under c.args.hub.now.root g.P.Versions.site g.P.Versions.templates g.P.Versions.changed g.P.Versions.accepts g.P.Versions.looks g.P.Versions.renews g.P.Versions.found) c.args.hub.now.limit (scene g.P.Versions.state g.P.Versions.cache c.args.hub.now (g.W.Wire.told c.args.wire.now).account (g.W.Wire.told c.args.wire.now).faults) events c.loop.hub g.P.Versions.state g.P.Versions.cache (g.W.Wire.told c.loop.wire).account (g.W.Wire.told c.next.new.self).account
           (g.W.Wire.told c.loop.wire).faults (g.W.Wire.told c.next.new.self).faults c.in-Ok.ensures.stays.0 c.in-Ok.ensures.stays.1 c.loop.invariant.6.5)
-          turned (c.step.ensures.opened c.loop.invariant.2) told.2 spends.1,
+          turned (c.step.ensures.opened c.loop.invariant.2) told.2 spends.1 spends.2 spends.3,
       λ number none.
           stands_more page (TermOf c.args.hub.now.root) g.P.Versions.changed c.args.hub.now.limit number start events e
           (at_in (line_of c.args.hub.now) (g.W.Wire.told c.args.wire.now).account (g.W.Wire.told c.args.wire.now).faults number) told.0
@@ -100,6 +100,7 @@ loop-init g c = (
         (at_in (line_of c.args.hub.now) (g.W.Wire.told c.args.wire.now).account (g.W.Wire.told c.args.wire.now).faults number)
         (g.P.Versions.state c.args.hub.now.pages) c.args.hub.now.greatest none,
   ),
+  refl,
 )
 
 pub loop-preserved : goal.loop-preserved
@@ -131,10 +132,10 @@ loop-preserved g c =
         drawn_more (g.W.Wire.told c.args.wire.now).left (g.W.Wire.told c.loop.wire).left (g.W.Wire.told c.step.new.wire).left events e c.loop.invariant.6.2 next,
         omega (arith, counted, length-append events (e ∷ [])),
         none_more events e c.loop.invariant.6.4 (sym c.is_done.ensures ∙ c.if-is_done.false),
-        passes_more (rules_under c.args.hub.now.root g.P.Versions.site g.P.Versions.templates g.P.Versions.changed g.P.Versions.looks g.P.Versions.renews g.P.Versions.found) c.args.hub.now.limit (scene g.P.Versions.state g.P.Versions.cache c.args.hub.now (g.W.Wire.told c.args.wire.now).account (g.W.Wire.told c.args.wire.now).faults)
+        passes_more (rules_under c.args.hub.now.root g.P.Versions.site g.P.Versions.templates g.P.Versions.changed g.P.Versions.accepts g.P.Versions.looks g.P.Versions.renews g.P.Versions.found) c.args.hub.now.limit (scene g.P.Versions.state g.P.Versions.cache c.args.hub.now (g.W.Wire.told c.args.wire.now).account (g.W.Wire.told c.args.wire.now).faults)
             (scene g.P.Versions.state g.P.Versions.cache c.loop.hub (g.W.Wire.told c.next.new.self).account (g.W.Wire.told c.next.new.self).faults)
             (scene g.P.Versions.state g.P.Versions.cache c.step.new.self (g.W.Wire.told c.step.new.wire).account (g.W.Wire.told c.step.new.wire).faults) events e
-            (passes_moved (rules_under c.args.hub.now.root g.P.Versions.site g.P.Versions.templates g.P.Versions.changed g.P.Versions.looks g.P.Versions.renews g.P.Versions.found) c.args.hub.now.limit (scene g.P.Versions.state g.P.Versions.cache c.args.hub.now (g.W.Wire.told c.args.wire.now).account (g.W.Wire.told c.args.wire.now).faults) events c.loop.hub g.P.Versions.state g.P.Versions.cache (g.W.Wire.told c.loop.wire).account (g.W.Wire.told c.next.new.self).account
+            (passes_moved (rules_under c.args.hub.now.root g.P.Versions.site g.P.Versions.templates g.P.Versions.changed g.P.Versions.accepts g.P.Versions.looks g.P.Versions.renews g.P.Versions.found) c.args.hub.now.limit (scene g.P.Versions.state g.P.Versions.cache c.args.hub.now (g.W.Wire.told c.args.wire.now).account (g.W.Wire.told c.args.wire.now).faults) events c.loop.hub g.P.Versions.state g.P.Versions.cache (g.W.Wire.told c.loop.wire).account (g.W.Wire.told c.next.new.self).account
             (g.W.Wire.told c.loop.wire).faults (g.W.Wire.told c.next.new.self).faults c.in-Ok.ensures.stays.0 c.in-Ok.ensures.stays.1 c.loop.invariant.6.5)
             (record {
               made = told.0;
@@ -143,6 +144,8 @@ loop-preserved g c =
               greatest = c.step.ensures.greatest c.loop.invariant.2;
               opened = c.step.ensures.opened c.loop.invariant.2;
               replies = told.2;
+              changes = c.step.ensures.changes c.loop.invariant.2 alive;
+              refused = c.step.ensures.refused c.loop.invariant.2 alive;
               cache = told.3 alive;
             }),
         λ number none.
@@ -159,4 +162,5 @@ loop-preserved g c =
             turned
             (c.step.ensures.state c.loop.invariant.2 alive) (c.step.ensures.greatest c.loop.invariant.2),
       ),
+      c.step.ensures.stays.4 ∙ c.in-Ok.ensures.stays.3 ∙ c.loop.invariant.7,
     )

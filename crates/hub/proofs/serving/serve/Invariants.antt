@@ -24,7 +24,7 @@ invariant-loop g l =
     × IsDrawn (g.W.Wire.told l.fn.wire).left events (g.W.Wire.told l.wire).left
     × (length events ≡ l.counter)
     × (list_any is_done events ≡ false)
-    × PassesAll (rules_under l.fn.hub.root g.P.Versions.site g.P.Versions.templates g.P.Versions.changed g.P.Versions.looks g.P.Versions.renews g.P.Versions.found) l.fn.hub.limit
+    × PassesAll (rules_under l.fn.hub.root g.P.Versions.site g.P.Versions.templates g.P.Versions.changed g.P.Versions.accepts g.P.Versions.looks g.P.Versions.renews g.P.Versions.found) l.fn.hub.limit
     (scene g.P.Versions.state g.P.Versions.cache l.fn.hub (g.W.Wire.told l.fn.wire).account (g.W.Wire.told l.fn.wire).faults) events
     (scene g.P.Versions.state g.P.Versions.cache l.hub (g.W.Wire.told l.wire).account (g.W.Wire.told l.wire).faults)
     × ((number : ℕ) → (line_of l.fn.hub) number ≡ None
@@ -33,3 +33,4 @@ invariant-loop g l =
     (at_in (line_of l.fn.hub) (g.W.Wire.told l.fn.wire).account (g.W.Wire.told l.fn.wire).faults number)
     (at_in (line_of l.hub) (g.W.Wire.told l.wire).account (g.W.Wire.told l.wire).faults number)
     (g.P.Versions.state l.hub.pages) l.hub.greatest))
+    × ((g.W.Wire.told l.wire).watches ≡ (g.W.Wire.told l.fn.wire).watches)

@@ -22,4 +22,5 @@ returns-clause-stays g c = (
   refl,
   next_faults_stay c.give.result c.args.connection c.args.bytes.now c.args.self.now c.give.new.self
       c.give.ensures.ok c.give.ensures.err,
+  refl,
 )

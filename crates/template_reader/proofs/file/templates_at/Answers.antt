@@ -4,7 +4,7 @@ use Rattle.std.proofs.lemmas.Result.{err_from_is_err_and}
 use Rattle.grammar.specs.Reading.{starts}
 use Rattle.grammar.proofs.RepeatLoop.{shrinks, goes_on, done}
 use Rattle.template_items.specs.declared.item.Mark.TheVariants as marks
-use Rattle.template_reader.specs.Terminals.{is_mark}
+use Rattle.template_tags.specs.Terminals.{is_mark}
 use Rattle.template_reader.specs.Entries.{entry_of}
 use Rattle.template_reader.proofs.FileParts.{entry_part, entry_opens}
 use Rattle.token_reader.proofs.Ends.{ends}

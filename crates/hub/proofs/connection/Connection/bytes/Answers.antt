@@ -26,7 +26,7 @@ loop-from-init g c = (
   λ other apart. refl,
   refl,
   λ other apart. refl,
-  (refl, refl, refl, refl),
+  (refl, refl, refl, refl, refl),
   c.requires.own,
 )
 
@@ -86,7 +86,7 @@ loop-from-preserved g c =
       λ other apart. c.in-Open.ensures.others other apart ∙ c.loop-from.invariant.3 other apart,
       faults_open (shown_in c.args.root.now g.P.Versions.site g.P.Versions.templates (g.P.Versions.state c.args.pages.now)) (TermOf c.args.root.now) c.in-Some.ask c.feed-fed.new.self.target (c.loop-from.self-inside.left == 1) sent.0 _ _ _ _ answered ∙ c.loop-from.invariant.4,
       λ other apart. c.in-Open.ensures.others_fine other apart ∙ c.loop-from.invariant.5 other apart,
-      (c.in-Open.ensures.stays.0 ∙ c.loop-from.invariant.6.0, c.in-Open.ensures.stays.1 ∙ c.loop-from.invariant.6.1, c.in-Open.ensures.stays.2 ∙ c.loop-from.invariant.6.2, c.in-Open.ensures.stays.3 ∙ c.loop-from.invariant.6.3),
+      (c.in-Open.ensures.stays.0 ∙ c.loop-from.invariant.6.0, c.in-Open.ensures.stays.1 ∙ c.loop-from.invariant.6.1, c.in-Open.ensures.stays.2 ∙ c.loop-from.invariant.6.2, c.in-Open.ensures.stays.3 ∙ c.loop-from.invariant.6.3, c.in-Open.ensures.stays.4 ∙ c.loop-from.invariant.6.4),
       c.in-Open.ensures.own,
     )
 

@@ -23,7 +23,8 @@ invariant-loop-from g l =
     × ((g.W.Wire.told l.wire).faults l.fn.number ≡ (g.W.Wire.told l.fn.wire).faults l.fn.number)
     × ((other : ℕ) → other ≢ l.fn.number → (g.W.Wire.told l.wire).faults other ≡ (g.W.Wire.told l.fn.wire).faults other)
     × (((g.W.Wire.told l.wire).given ≡ (g.W.Wire.told l.fn.wire).given) × ((g.W.Wire.told l.wire).left ≡ (g.W.Wire.told l.fn.wire).left)
-    × ((g.W.Wire.told l.wire).listens ≡ (g.W.Wire.told l.fn.wire).listens) × ((g.W.Wire.told l.wire).next_faults ≡ (g.W.Wire.told l.fn.wire).next_faults))
+    × ((g.W.Wire.told l.wire).listens ≡ (g.W.Wire.told l.fn.wire).listens) × ((g.W.Wire.told l.wire).next_faults ≡ (g.W.Wire.told l.fn.wire).next_faults)
+    × ((g.W.Wire.told l.wire).watches ≡ (g.W.Wire.told l.fn.wire).watches))
     × g.P.Versions.Own l.pages
 
 abbrev pub decreases-loop-from : goal.decreases-loop-from

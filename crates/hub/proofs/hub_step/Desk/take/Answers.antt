@@ -1,4 +1,4 @@
-use Rattle.std.proofs.Common.{◌≡◌, ℕ, Bool, true, false, Option, Result, Ok, Err, IfOk, is_err, refl, sym, ap, ◌∙◌}
+use Rattle.std.proofs.Common.{◌≡◌, ℕ, false, Option, refl, ap}
 use Rattle.std.specs.Ordering.{nat_cmp}
 use Rattle.std.specs.BTreeMap.{get}
 use Rattle.page_spec.specs.Address.{TermOf}
@@ -9,11 +9,6 @@ use Rattle.serving_spec.specs.Shown.{shown_in}
 use Rattle.hub.specs.Turns.{At, ats}
 use Rattle.hub.proofs.TurnLemmas.{told_at}
 use Rattle.hub.proofs.hub_step.Desk.take.Goals as goal
-
--- what holds of a result that is no error
-ok_of : {T E P : Type 0} (r : Result T E) (failed : Bool) → failed ≡ is_err r → failed ≡ false → IfOk r (λ x. P) → P
-ok_of (Ok x) failed is not p = p
-ok_of (Err e) failed is not p = absurd (let never : true ≡ false = sym is ∙ not in cc)
 
 pub returns-in-Opened-clause-turned : goal.returns-in-Opened-clause-turned
 returns-in-Opened-clause-turned g c =
@@ -30,17 +25,12 @@ returns-in-Lost-clause-turned g c =
     (g.P.Versions.looks (g.P.Versions.state c.args.self.now.pages)) (g.P.Versions.renews (g.P.Versions.state c.args.self.now.pages)) (g.P.Versions.cache c.args.self.now.pages) (g.P.Versions.cache c.args.self.now.pages) (c.args.self.now.spent ≡ false) c.in-Lost.is
     (ap (at c.in-Lost.number) c.forget.ensures.gone, λ other apart. ap (at other) (c.forget.ensures.others other apart), refl) refl (λ alive. refl)
 
-pub returns-then-is_err-clause-turned : goal.returns-then-is_err-clause-turned
-returns-then-is_err-clause-turned g c =
-    told_at (shown_in c.args.self.now.root g.P.Versions.site g.P.Versions.templates (g.P.Versions.state c.args.self.now.pages)) (TermOf c.args.self.now.root) c.args.self.now.requests c.args.self.now.greatest c.args.event.now (Change c.in-Change.text) nothing (ats (get nat_cmp c.args.self.now.connections) (g.W.Wire.told c.args.wire.now).account (g.W.Wire.told c.args.wire.now).faults) (ats (get nat_cmp c.args.self.now.connections) (g.W.Wire.told c.args.wire.now).account (g.W.Wire.told c.args.wire.now).faults) c.args.self.now.replies c.args.self.now.replies
-    (g.P.Versions.looks (g.P.Versions.state c.args.self.now.pages)) (g.P.Versions.renews (g.P.Versions.state c.args.self.now.pages)) (g.P.Versions.cache c.args.self.now.pages) (g.P.Versions.cache c.change.new.self) (true ≡ false) c.in-Change.is (λ number. refl, refl) refl
-    (λ alive. absurd (let never : true ≡ false = alive in cc))
-
-pub returns-else-is_err-clause-turned : goal.returns-else-is_err-clause-turned
-returns-else-is_err-clause-turned g c =
-    told_at (shown_in c.args.self.now.root g.P.Versions.site g.P.Versions.templates (g.P.Versions.state c.args.self.now.pages)) (TermOf c.args.self.now.root) c.args.self.now.requests c.args.self.now.greatest c.args.event.now (Change c.in-Change.text) nothing (ats (get nat_cmp c.args.self.now.connections) (g.W.Wire.told c.args.wire.now).account (g.W.Wire.told c.args.wire.now).faults) (ats (get nat_cmp c.args.self.now.connections) (g.W.Wire.told c.args.wire.now).account (g.W.Wire.told c.args.wire.now).faults) c.args.self.now.replies c.args.self.now.replies
-    (g.P.Versions.looks (g.P.Versions.state c.args.self.now.pages)) (g.P.Versions.renews (g.P.Versions.state c.args.self.now.pages)) (g.P.Versions.cache c.args.self.now.pages) (g.P.Versions.cache c.change.new.self) (c.args.self.now.spent ≡ false) c.in-Change.is (λ number. refl, refl) refl
-    (λ alive. ok_of c.change.result c.is_err.result c.is_err.ensures.value c.if-is_err.false c.change.ensures.renews)
+pub returns-in-Change-clause-turned : goal.returns-in-Change-clause-turned
+returns-in-Change-clause-turned g c =
+    told_at (shown_in c.args.self.now.root g.P.Versions.site g.P.Versions.templates (g.P.Versions.state c.args.self.now.pages)) (TermOf c.args.self.now.root) c.args.self.now.requests c.args.self.now.greatest c.args.event.now (Change c.in-Change.text) nothing (ats (get nat_cmp c.args.self.now.connections) (g.W.Wire.told c.args.wire.now).account (g.W.Wire.told c.args.wire.now).faults)
+    (ats (get nat_cmp c.renew.new.self.connections) (g.W.Wire.told c.args.wire.now).account (g.W.Wire.told c.args.wire.now).faults) c.args.self.now.replies c.renew.new.self.replies
+    (g.P.Versions.looks (g.P.Versions.state c.args.self.now.pages)) (g.P.Versions.renews (g.P.Versions.state c.args.self.now.pages)) (g.P.Versions.cache c.args.self.now.pages) (g.P.Versions.cache c.renew.new.self.pages) (c.renew.new.self.spent ≡ false) c.in-Change.is
+    (λ number. rw c.renew.ensures.connections refl, refl) c.renew.ensures.counts.1 c.renew.ensures.renews
 
 pub returns-in-Done-clause-turned : goal.returns-in-Done-clause-turned
 returns-in-Done-clause-turned g c =

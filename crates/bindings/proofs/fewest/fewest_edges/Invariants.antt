@@ -1,5 +1,0 @@
-use Rattle.bindings.specs.Kept.{IsFrom}
-use Rattle.bindings.proofs.fewest.fewest_edges.Given as goal
-
-abbrev pub invariant-loop-later : goal.invariant-loop-later
-invariant-loop-later g l = IsFrom l.search.goals.now l.at l.least.goal

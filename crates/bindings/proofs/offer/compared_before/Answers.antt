@@ -1,5 +1,0 @@
-use Rattle.bindings.proofs.Offers.{equals_before}
-use Rattle.bindings.proofs.offer.compared_before.Goals as goal
-
-pub returns-in_ok-values-in-Eq : goal.returns-in_ok-values-in-Eq
-returns-in_ok-values-in-Eq c = rw c.in-Eq.is (equals_before c.args.version c.args.v.now _ c.in_ok-values-in-Eq.ensures)

@@ -1,7 +1,0 @@
-use Rattle.bindings.proofs.Offers.{offer_one}
-use Rattle.bindings.proofs.offer.offer_one.Goals as goal
-
-pub returns : goal.returns
-returns g c =
-    let lists = rw c.in-Some-2.is at c.in_ok-ends.ensures in
-    offer_one (g.S.Store.graph c.args.search.now.store.now) c.args.search.now.version _ _ _ _ _ _ _ _ _ _ c.in-Some.ensures.0 c.in-Some.ensures.1 lists c.in_ok-offer-3.ensures

@@ -1,5 +1,0 @@
-use Rattle.bindings.proofs.Offers.{listed_by}
-use Rattle.bindings.proofs.offer.property_values.Goals as goal
-
-pub returns-in_ok-values-in-OneOf : goal.returns-in_ok-values-in-OneOf
-returns-in_ok-values-in-OneOf g c = rw c.in-OneOf.is (listed_by _ _ c.in_ok-values-in-OneOf.ensures)

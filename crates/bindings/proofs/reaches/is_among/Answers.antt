@@ -1,5 +1,0 @@
-use Rattle.bindings.proofs.Kept.{among}
-use Rattle.bindings.proofs.reaches.is_among.Goals as goal
-
-pub returns : goal.returns
-returns c = among c.args.values.now c.args.value.now c.binary_search.result c.is_ok.result c.is_ok.ensures.value c.binary_search.ensures.bound c.binary_search.ensures.position

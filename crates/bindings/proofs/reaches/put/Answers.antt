@@ -1,5 +1,0 @@
-use Rattle.bindings.proofs.Kept.{one_more}
-use Rattle.bindings.proofs.reaches.put.Goals as goal
-
-pub returns : goal.returns
-returns c G goals d kept right = one_more G goals d c.args.lists.now c.insert.new.self c.args.key c.args.values c.in_ok-insert.ensures.updates.0 kept right

@@ -1,9 +1,0 @@
-use Rattle.bindings.proofs.Kept.{listed_starts}
-use Rattle.bindings.proofs.Offers.{offer_before}
-use Rattle.bindings.proofs.walk_offer.offer_starts.Goals as goal
-
-pub returns-clause-offer : goal.returns-clause-offer
-returns-clause-offer g c =
-    let G = g.S.Store.graph c.args.search.now.store.now in
-    let lists = listed_starts G c.args.search.now.version c.args.automaton.now _ _ c.in_ok-values.ensures.reach in
-    offer_before G c.args.search.now.version _ _ _ _ _ _ _ _ _ _ _ _ c.in-Some.ensures c.in-Some-free_at.ensures.0 c.in-Some-free_at.ensures.1 lists c.in_ok-offer.ensures

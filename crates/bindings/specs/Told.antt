@@ -1,0 +1,23 @@
+-- Some of the rows that a search is to find, for the variables that are wanted.
+use Rattle.std.specs.Prelude.{◌≡◌, ◌⊎◌, List, Bool, IsTrue, Contains}
+use Rattle.std.specs.BTreeSet.{contains}
+use Rattle.sd_value.specs.declared.Value.{Value}
+use Rattle.query_spec.specs.Rows.{row_cmp}
+use Rattle.asker.specs.Wanted.{wanted_part}
+use Rattle.bindings.specs.declared.some_rows.Told.{Told}
+
+module _ (wanted : List Bool) where
+  -- some row has this part
+  abbrev pub HasPart : List (List Value) → List Value → Type 0
+  HasPart rows part = (r : List Value) × Contains rows r × (wanted_part wanted r ≡ part)
+
+  -- each part that is kept is one of a row that was found
+  abbrev pub AreTold : Told → Type 0
+  AreTold told =
+      (part : List Value) → IsTrue (contains row_cmp told.parts part) → HasPart told.rows.items part
+
+  -- ys has what xs has, besides that only things with P, and the part of each of these
+  pub record AddsSome (P : List Value → Type 0) (xs ys : List (List Value)) : Type 0 where
+    pub kept : (t : List Value) → Contains xs t → Contains ys t
+    pub nothing_else : (t : List Value) → Contains ys t → Contains xs t ⊎ P t
+    pub each : (t : List Value) → P t → HasPart ys (wanted_part wanted t)

@@ -1,0 +1,21 @@
+-- Values that are tried, which need not be all that could be.
+use Rattle.std.specs.Prelude.{◌≡◌, ℕ, List, Option, None, Some, Bool, slice_get, Contains}
+use Rattle.sd_value.specs.declared.Value.{Value}
+use Rattle.graph_spec.specs.DataGraph.{DataGraph}
+use Rattle.condition_tests.specs.Known.{IsCandidate, is_arc}
+use Rattle.condition_tests.specs.declared.literal.Goal.{Goal}
+use Rattle.bindings.specs.Fits.{Fits}
+
+-- values that a free variable may take
+pub record AreTried (G : DataGraph) (arcs : List Bool) (s : List (Option Value)) (slot : ℕ)
+    (values : List Value) : Type 0 where
+  pub free : slice_get s slot ≡ Some None
+  pub within : (v : Value) → Contains values v → IsCandidate G (is_arc arcs slot) v
+
+-- the same, and from `next` on nothing more is asked of a row with one of them
+pub record IsTry (G : DataGraph) (version : ℕ) (arcs : List Bool) (goals : List Goal) (at : ℕ)
+    (s : List (Option Value)) (slot : ℕ) (values : List Value) (next : ℕ) : Type 0 where
+  pub free : slice_get s slot ≡ Some None
+  pub within : (v : Value) → Contains values v → IsCandidate G (is_arc arcs slot) v
+  pub exact : (t : List Value) (v : Value) → Contains values v → slice_get t slot ≡ Some v
+      → Fits G version arcs goals next s t → Fits G version arcs goals at s t

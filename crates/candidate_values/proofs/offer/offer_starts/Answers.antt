@@ -1,0 +1,7 @@
+use Rattle.candidate_values.proofs.Offers.{offer_starts}
+use Rattle.candidate_values.proofs.offer.offer_starts.Goals as goal
+
+pub returns : goal.returns
+returns g c =
+    rw c.in-Edge.is
+    (offer_starts (g.S.Store.graph c.args.search.now.store.now) c.args.search.now.version _ _ _ _ _ _ _ _ _ _ _ c.in-Some.ensures.0 c.in-Some.ensures.1 c.in_ok-edges_by.ensures c.in_ok-values.ensures c.in_ok-offer.ensures)

@@ -1,0 +1,74 @@
+// Domains of variables.
+ghost use Rattle.std.specs.Prelude.{◌≡◌, ◌↔◌, IfOk, IsTrue, map, if◌then◌else◌, ◌++◌, ◌∷◌, []};
+ghost use Rattle.condition_tests.specs.Known.{IsCandidate};
+ghost use Rattle.candidate_values.specs.Offers.{IsListOf, IsPartOf};
+ghost use Rattle.graph_spec.specs.DataGraph.{text};
+
+use sd_value::{Datum, NoMemory, Str, Value};
+use std::alloc::Global;
+use store::Store;
+
+/// Whether a variable may take the value.
+pub fn in_domain<S: Store>(store: &S, arc: bool, value: &Value) -> bool
+    ensures { IsTrue result ↔ IsCandidate (S.graph store.now) arc value.now }
+{
+    if arc {
+        match value {
+            Value::Data(Datum::Text(label)) => store.is_label(label),
+            _ => false,
+        }
+    } else {
+        store.is_value(value)
+    }
+}
+
+// Labels, seen as texts.
+fn texts(alloc: Global, labels: Vec<Str>) -> Result<Vec<Value>, NoMemory>
+    ensures { IfOk result (λ values. values.items ≡ map text labels.items) }
+{
+    labels
+        .into_iter()
+        .map(|label| Value::Data(Datum::Text(label)))
+        .collect(alloc)
+        .map_err(|_| NoMemory)
+}
+
+// All values that a variable may take.
+pub(crate) fn domain<S: Store>(alloc: Global, store: &S, arc: bool) -> Result<Vec<Value>, NoMemory>
+    ensures { IfOk result (λ values. IsListOf (IsCandidate (S.graph store.now) arc) values.items) }
+{
+    if arc {
+        let values = texts(alloc, store.labels(alloc)?)?;
+        Ok(values)
+    } else {
+        store.values(alloc)
+    }
+}
+
+pub(crate) fn keep_if(kept: &mut Vec<Value>, good: bool, value: Value) -> Result<(), NoMemory>
+    ensures { IfOk result
+        (λ _. kept.new.items ≡ (if good then kept.old.items ++ value ∷ [] else kept.old.items)) }
+{
+    if good {
+        kept.push(value)?;
+    }
+    Ok(())
+}
+
+// Those of the values that a variable may take.
+pub(crate) fn within<S: Store>(
+    alloc: Global,
+    store: &S,
+    arc: bool,
+    mut values: Vec<Value>,
+) -> Result<Vec<Value>, NoMemory>
+    ensures { IfOk result
+        (λ kept. IsPartOf (IsCandidate (S.graph store.now) arc) values.items kept.items) }
+{
+    let mut kept = Vec::with_capacity(alloc, values.len())?;
+    while let Some(value) = values.pop() {
+        let good = in_domain(store, arc, &value);
+        keep_if(&mut kept, good, value)?;
+    }
+    Ok(kept)
+}

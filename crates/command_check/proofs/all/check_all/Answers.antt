@@ -1,0 +1,36 @@
+use Rattle.std.proofs.Common.{List, ◌∙◌, ◌∷◌, [], arith, subst}
+use Rattle.std.proofs.lemmas.Result.{err_from_is_err_and}
+use Rattle.std.proofs.lemmas.List.Elements.{Contains-append_left, Contains-append_right}
+use Rattle.constraint_spec.specs.declared.Constraint.{Constraint}
+use Rattle.site_inputs.proofs.Runs.{none_fell}
+use Rattle.site_inputs.proofs.Causes.{cause_within}
+use Rattle.command_spec.specs.Inputs.{check_paths}
+use Rattle.command_check.specs.CheckEnds.{VerdictsTaken}
+use Rattle.command_check.proofs.Answers.{all_checked, verdicts_cause}
+use Rattle.command_check.proofs.all.check_all.Goals as goal
+
+pub returns-clause-ends : goal.returns-clause-ends
+returns-clause-ends g c = λ map told.
+    all_checked map c.args.query.now c.args.constraints.now c.in_ok-query.query c.in_ok-constraints.constraints.items c.verdicts_on.result
+    (c.in_ok-query.ensures.ends map told)
+    (c.in_ok-constraints.ensures.ends map (c.in_ok-query.ensures.same ∙ told))
+    (subst (λ (cs : List Constraint). VerdictsTaken c.in_ok-query.query cs c.verdicts_on.result) c.as_slice.ensures.value c.verdicts_on.ensures)
+
+pub returns-clause-cause : goal.returns-clause-cause
+returns-clause-cause g c =
+    verdicts_cause c.in_ok-query.query c.as_slice.result.now _ _ _ c.verdicts_on.result
+    (none_fell c.in_ok-query.ensures.cause.later c.in_ok-constraints.ensures.cause.later) c.verdicts_on.ensures
+
+pub returns-in_err-query-clause-cause : goal.returns-in_err-query-clause-cause
+returns-in_err-query-clause-cause g c =
+    let p = err_from_is_err_and c.from_residual.result c.from_residual.ensures.1 in
+    rw (p.1, p.2)
+    (cause_within (c.args.query.now ∷ []) (check_paths c.args.query.now c.args.constraints.now) _ _ _ c.in_err-query.field-0.0
+    (λ path h. Contains-append_left (c.args.query.now ∷ []) (c.args.constraints.now ∷ []) path h) (λ path. omega arith) c.in_err-query.ensures.cause)
+
+pub returns-in_err-constraints-clause-cause : goal.returns-in_err-constraints-clause-cause
+returns-in_err-constraints-clause-cause g c =
+    let p = err_from_is_err_and c.from_residual-in_err-constraints.result c.from_residual-in_err-constraints.ensures.1 in
+    rw (p.1, p.2)
+    (cause_within (c.args.constraints.now ∷ []) (check_paths c.args.query.now c.args.constraints.now) _ _ _ c.in_err-constraints.field-0.0
+    (λ path h. Contains-append_right (c.args.query.now ∷ []) (c.args.constraints.now ∷ []) path h) c.in_ok-query.ensures.cause.later c.in_err-constraints.ensures.cause)

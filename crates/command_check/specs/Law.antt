@@ -1,0 +1,49 @@
+-- What the inputs of `check` over every data graph decide, and what holds of that which it answers yes.
+use Rattle.std.specs.Prelude.{◌≡◌, ℕ, List, All, Option, Result, Ok, Err}
+use Rattle.std.specs.List.{AllZip}
+use Rattle.edge_io.specs.Files.{FileMap}
+use Rattle.edge_io.specs.Sink.{Gains}
+use Rattle.query_spec.specs.Query as plain
+use Rattle.site_spec.specs.Site.{scope_of}
+use Rattle.constraint_spec.specs.declared.Constraint.{Constraint}
+use Rattle.certificates.specs.declared.Verdict.{Verdict}
+use Rattle.constraint_prover.specs.Verdicts.{HoldsOverAll}
+use Rattle.constraint_verdicts.specs.Told.{HasCertificate, IsMetOverAll, verdict_lines}
+use Rattle.run_report.specs.declared.status.Status.{Status}
+use Rattle.run_report.specs.declared.status.Status.TheVariants as status
+use Rattle.site_inputs.specs.declared.fault.Fault.{Fault}
+use Rattle.site_inputs.specs.Runs.{IsDecidedFault}
+use Rattle.site_inputs.specs.Sites.{QueryEnds}
+use Rattle.site_inputs.specs.Statuses.{status_of}
+use Rattle.site_inputs.specs.Outside.{HasStatus}
+use Rattle.command_check.specs.ConstraintFile.{ConstraintsEnd}
+use Rattle.command_check.specs.CheckEnds.{CheckEnds}
+
+module _ (map : FileMap) (query_path constraints_path : List ℕ) where
+  -- the files spell this query and these constraints over it
+  pub record AreInputs (query : plain.Query) (constraints : List Constraint) : Type 0 where
+    pub is_query : QueryEnds map query_path (Ok query)
+    pub are_constraints : ConstraintsEnd query map constraints_path (Ok constraints)
+
+  -- Where the inputs are read, they decide how the run ends that no failed put ends: with status 0 where
+  -- each constraint has a certificate, with 1 where some constraint has none, or with their refusal.
+  pub record CheckIsDecided (reached : Status) : Type 0 where
+    pub all_shown : (query : plain.Query) (constraints : List Constraint)
+        → AreInputs query constraints → All (HasCertificate query) constraints
+        → HasStatus status.Ok reached
+    pub not_all_shown : (query : plain.Query) (constraints : List Constraint)
+        → AreInputs query constraints → ¬ All (HasCertificate query) constraints
+        → HasStatus status.NotAllYes reached
+    pub refused : (reason : Fault) → CheckEnds map query_path constraints_path (Err reason)
+        → IsDecidedFault reason → HasStatus (status_of reason) reached
+
+  -- The output has gained the lines of the verdicts on the file's constraints, and each constraint that is
+  -- answered yes is met in the query's site over every data graph: at status 0 each of them is.
+  pub record YesHolds (old new : Option (List ℕ)) (reached : Status) : Type 0 where
+    pub query : plain.Query
+    pub constraints : List Constraint
+    pub inputs : AreInputs query constraints
+    pub verdicts : List Verdict
+    pub gained : Gains old new (verdict_lines query 1 constraints verdicts)
+    pub holds : AllZip (HoldsOverAll (scope_of query)) constraints verdicts
+    pub all_hold : reached ≡ status.Ok → All (IsMetOverAll query) constraints

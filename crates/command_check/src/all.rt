@@ -1,0 +1,48 @@
+// What is known of constraints over every data graph.
+ghost use Rattle.std.specs.Prelude.{◌≡◌};
+ghost use Rattle.std.specs.Option.{ForSome};
+ghost use Rattle.command_spec.specs.Inputs.{check_paths};
+ghost use Rattle.site_inputs.specs.Runs.{ReadsHaveCause};
+ghost use Rattle.command_check.specs.CheckEnds.{VerdictsTaken, CheckEnds};
+
+use crate::constraint_file::load_constraints;
+use constraint_report::Report;
+use constraint_spec::Constraint;
+use constraint_verdicts::verdicts_of;
+use edge_io::Files;
+use sd_value::Str;
+use site_inputs::{Fault, load_query};
+use std::alloc::Global;
+use struql_check::Checked;
+
+fn verdicts_on(alloc: Global, query: &Checked, constraints: &[Constraint]) -> Result<Report, Fault>
+    ensures { VerdictsTaken query.now constraints.now result }
+{
+    let verdicts = verdicts_of(alloc, query, constraints)?;
+    Ok(Report {
+        text: verdicts.text,
+        all_met: verdicts.all_yes,
+    })
+}
+
+/// What is known of each of the constraints of a file over every data graph: `K yes` with the lines of a certificate, or
+/// `K unknown`, and whether all of them are answered yes.
+/// # Errors
+/// The first of the query and the constraints that is refused or unread, or out of memory.
+pub fn check_all<F: Files>(
+    alloc: Global,
+    files: &mut F,
+    query: &Str,
+    constraints: &Str,
+) -> Result<Report, Fault>
+    ensures ends { ForSome (F.contents files.old) (λ map.
+        CheckEnds map query.now constraints.now result) }
+    ensures same { F.contents files.new ≡ F.contents files.old }
+    ensures cause { ReadsHaveCause (check_paths query.now constraints.now)
+        (F.failed_reads files.old) (F.failed_reads files.new) result }
+    ensures writes { F.failed_writes files.new ≡ F.failed_writes files.old }
+{
+    let query = load_query(alloc, files, query)?;
+    let constraints = load_constraints(alloc, files, &query, constraints)?;
+    verdicts_on(alloc, &query, constraints.as_slice())
+}

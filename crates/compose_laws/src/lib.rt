@@ -1,0 +1,29 @@
+//! What the graph of a site asks of the site is so of a query's.
+#![tactic(auto)]
+
+ghost use Rattle.std.specs.Prelude.{List};
+ghost use Rattle.sd_value.specs.Names.{Name, Label};
+ghost use Rattle.sd_value.specs.Order.{bytes_cmp, term_cmp};
+ghost use Rattle.sd_value.specs.Ascending.{ListsExactly};
+ghost use Rattle.sd_value.specs.declared.Term.{Term as AnyTerm};
+ghost use Rattle.sd_value.specs.declared.Value.{Value as AnyValue};
+ghost use Rattle.graph_spec.specs.DataGraph.{DataGraph, IsWellFormed};
+ghost use Rattle.site_spec.specs.Site.{InSite, Linked};
+ghost use Rattle.query_blocks.specs.declared.QueryBlocks.{QueryBlocks as AnyBlocks};
+ghost use Rattle.query_blocks.specs.Blocks.{AreCheckedBlocks, scope_of};
+ghost use Rattle.weight_spec.specs.Site.{site_of};
+ghost use Rattle.compose.specs.Listed.{IsListed};
+ghost use Rattle.compose_laws.specs.Named.{NamesNoNode, AreNames};
+
+/// The site of a query's checked blocks over a data graph, with its terms, the labels of its links and the names of its
+/// COLLECTs, is as the graph of a site asks, where no target of a LINK or COLLECT is a node that is written out.
+pub fn a_querys_site_is_listed()
+    ensures { (graph : DataGraph) (scopes : AnyBlocks) (terms : List AnyTerm)
+        (labels : List Label) (collections : List Name) → IsWellFormed graph
+        → AreCheckedBlocks scopes.version scopes.blocks.items → NamesNoNode scopes
+        → ListsExactly term_cmp (InSite graph (scope_of scopes)) terms
+        → ListsExactly bytes_cmp (λ l. (u : AnyValue) × (v : AnyValue)
+        × Linked graph (scope_of scopes) u l v) labels
+        → AreNames scopes collections
+        → IsListed (site_of graph (scope_of scopes)) graph terms labels collections }
+{}

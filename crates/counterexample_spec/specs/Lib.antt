@@ -1,0 +1,4 @@
+pub mod Values
+pub mod Frozen
+pub mod Candidates
+pub mod First

@@ -1,0 +1,3 @@
+mod Lexed
+mod Decided
+pub mod TheReader

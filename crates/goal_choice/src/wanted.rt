@@ -1,0 +1,212 @@
+// Which goal of a search leads to the variables that are wanted.
+ghost use Rattle.std.specs.Prelude.{◌≡◌, ◌<◌, IfOk, IfSome, length};
+ghost use Rattle.condition_tests.specs.Places.{AtomInRange, GoalsInRange, PlaceInRange};
+ghost use Rattle.candidate_values.specs.Kept.{IsFrom};
+
+use crate::counts::{Least, end_of_look, literal_at, offered_by, or_fewer};
+use candidate_values::Search;
+use condition_tests::{Atom, Goal, Literal, Place, Property, Relation, free_at, known, value_of};
+use query_spec::Op;
+use sd_value::{NoMemory, Value};
+use std::alloc::Global;
+use store::Store;
+
+// At most this many goals are looked at for variables that goals join.
+const LOOKED: usize = 256;
+
+/// Flags of the variables that are wanted, and of those that goals join with them, over one another.
+#[derive(Drop)]
+pub struct Wanted<'a> {
+    pub flags: &'a [bool],
+    near: Vec<bool>,
+}
+
+fn is_set(flags: &[bool], slot: usize) -> bool {
+    match flags.get(slot) {
+        Some(flag) => *flag,
+        None => false,
+    }
+}
+
+// Whether the place is a variable that has no value, and its flag is set.
+fn is_open(place: &Place, flags: &[bool], current: &[Option<Value>]) -> bool
+    requires { PlaceInRange (length current.now) place.now }
+{
+    match free_at(place, current) {
+        Some(slot) => is_set(flags, slot),
+        None => false,
+    }
+}
+
+fn is_open_arc(arc: usize, flags: &[bool], current: &[Option<Value>]) -> bool
+    requires { arc < length current.now }
+{
+    value_of(arc, current).is_none() && is_set(flags, arc)
+}
+
+// Whether a variable of the atom has no value, and its flag is set.
+fn touches(atom: &Atom, flags: &[bool], current: &[Option<Value>]) -> bool
+    requires { AtomInRange (length current.now) atom.now }
+{
+    match atom {
+        Atom::One(place, _) => is_open(place, flags, current),
+        Atom::Two(from, _, to) => is_open(from, flags, current) || is_open(to, flags, current),
+        Atom::Arc(from, arc, to) => {
+            is_open(from, flags, current)
+                || is_open_arc(*arc, flags, current)
+                || is_open(to, flags, current)
+        }
+    }
+}
+
+// Whether the atom offers values by an end that is known.
+fn offers_by_end(atom: &Atom, current: &[Option<Value>]) -> bool
+    requires { AtomInRange (length current.now) atom.now }
+{
+    match atom {
+        Atom::One(_, Property::OneOf(_)) => true,
+        Atom::One(_, _) => false,
+        Atom::Two(from, Relation::Edge(_) | Relation::Walk(_) | Relation::Compare(Op::Eq), to) => {
+            known(from, current).is_some() || known(to, current).is_some()
+        }
+        Atom::Two(_, _, _) => false,
+        Atom::Arc(from, _, to) => known(from, current).is_some() || known(to, current).is_some(),
+    }
+}
+
+// About how many values the goal offers, where it leads from what is known to a variable whose flag is set.
+fn leading_count<S: Store>(
+    search: &Search<S>,
+    goal: usize,
+    flags: &[bool],
+    current: &[Option<Value>],
+) -> Option<u64>
+    requires in_range { GoalsInRange (length current.now) search.now.goals.now }
+    requires within { goal < length search.now.goals.now }
+{
+    let literal = literal_at(search.goals, goal)?;
+    if !literal.negated
+        && offers_by_end(&literal.atom, current)
+        && touches(&literal.atom, flags, current)
+    {
+        Some(offered_by(search, literal, current))
+    } else {
+        None
+    }
+}
+
+// The goal from `at` on that leads so and offers fewest values, if one leads so.
+fn leading<S: Store>(
+    search: &Search<S>,
+    at: usize,
+    flags: &[bool],
+    current: &[Option<Value>],
+) -> Option<usize>
+    requires in_range { GoalsInRange (length current.now) search.now.goals.now }
+    requires within { at < length search.now.goals.now }
+    ensures { IfSome result (IsFrom search.now.goals.now at) }
+{
+    let mut least = Least {
+        goal: at,
+        count: u64::MAX,
+    };
+    for later in at..end_of_look(at, search.goals.len()) {
+        least = or_fewer(least, later, leading_count(search, later, flags, current));
+    }
+    if least.count < u64::MAX {
+        Some(least.goal)
+    } else {
+        None
+    }
+}
+
+fn mark(slot: usize, flags: &mut [bool])
+    ensures { length flags.new ≡ length flags.old }
+{
+    if slot < flags.len() {
+        flags[slot] = true;
+    }
+}
+
+fn mark_place(place: &Place, flags: &mut [bool])
+    ensures { length flags.new ≡ length flags.old }
+{
+    if let Place::Variable(slot) = place {
+        mark(*slot, flags);
+    }
+}
+
+fn mark_atom(atom: &Atom, flags: &mut [bool])
+    ensures { length flags.new ≡ length flags.old }
+{
+    match atom {
+        Atom::One(place, _) => mark_place(place, flags),
+        Atom::Two(from, _, to) => {
+            mark_place(from, flags);
+            mark_place(to, flags);
+        }
+        Atom::Arc(from, arc, to) => {
+            mark_place(from, flags);
+            mark(*arc, flags);
+            mark_place(to, flags);
+        }
+    }
+}
+
+// Sets the flags of variables that one goal joins with those whose flags are set.
+fn spread(goals: &[Goal], current: &[Option<Value>], flags: &mut [bool])
+    requires { GoalsInRange (length current.now) goals.now }
+{
+    for goal in 0..goals.len().min(LOOKED) {
+        if let Some(literal) = literal_at(goals, goal) {
+            if touches(&literal.atom, flags, current) {
+                mark_atom(&literal.atom, flags);
+            }
+        }
+    }
+}
+
+fn copied(alloc: Global, flags: &[bool]) -> Result<Vec<bool>, NoMemory> {
+    let mut copied = Vec::with_capacity(alloc, flags.len())?;
+    for flag in flags {
+        copied.push(*flag)?;
+    }
+    Ok(copied)
+}
+
+impl<'a> Wanted<'a> {
+    /// Marks the variables that goals join with those of the flags. Only memory can run out.
+    pub fn new(
+        alloc: Global,
+        goals: &[Goal],
+        current: &[Option<Value>],
+        flags: &'a [bool],
+    ) -> Result<Wanted<'a>, NoMemory>
+        requires { GoalsInRange (length current.now) goals.now }
+        ensures { IfOk result (λ wanted. wanted.flags.now ≡ flags.now) }
+    {
+        let mut near = copied(alloc, flags)?;
+        for _round in 0..flags.len() {
+            spread(goals, current, near.as_mut_slice());
+        }
+        Ok(Wanted { flags, near })
+    }
+
+    /// The goal from `at` on that leads to a variable that is wanted, or else to one that goals join with them, if one does.
+    pub fn leading_goal<S: Store>(
+        &self,
+        search: &Search<S>,
+        at: usize,
+        current: &[Option<Value>],
+    ) -> Option<usize>
+        requires in_range { GoalsInRange (length current.now) search.now.goals.now }
+        requires within { at < length search.now.goals.now }
+        ensures { IfSome result (IsFrom search.now.goals.now at) }
+    {
+        let wanted = leading(search, at, self.flags, current);
+        if wanted.is_some() {
+            return wanted;
+        }
+        leading(search, at, self.near.as_slice(), current)
+    }
+}

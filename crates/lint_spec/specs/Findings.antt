@@ -1,0 +1,41 @@
+-- The findings of a text: those of its claims that are mistakes, in their order, by their numbers.
+use Rattle.std.specs.Prelude.{◌≡◌, ◌↔◌, ℕ, List, [], ◌∷◌, Bool, true, false, IsTrue, codes, nat_eq}
+use Rattle.std.specs.Prelude.{if◌then◌else◌}
+use Rattle.std.specs.List.{AllZip}
+use Rattle.lint_spec.specs.declared.Asked.{Asked}
+use Rattle.lint_spec.specs.declared.Asked.TheVariants as asked
+use Rattle.lint_spec.specs.declared.Claim.{Claim}
+use Rattle.lint_spec.specs.declared.Finding.{Finding}
+
+-- the number of a mistake: UnknownCollection, UnknownLabel, NoSuchLink, NeverCreated, NoTemplate,
+-- NeverReached, Unbounded, NoRow, MisspelledTag
+abbrev pub number_of : Asked → ℕ
+number_of (asked.Collection c) = 141
+number_of (asked.Labels labels) = 142
+number_of (asked.Compared block x labels) = 142
+number_of (asked.LinkOf f l) = 143
+number_of (asked.Step l) = 143
+number_of (asked.Presented f) = 144
+number_of (asked.Linked f) = 145
+number_of (asked.Created f) = 146
+number_of (asked.Variable block x) = 147
+number_of (asked.Rows block) = 148
+number_of asked.Tag = 149
+
+-- the mistake at the claim's place
+abbrev pub finding : Claim → Finding
+finding c = record { number = number_of c.asked; at = c.at }
+
+-- those of the claims that are marked
+abbrev pub marked : List Claim → List Bool → List Finding
+marked [] marks = []
+marked (c ∷ claims) [] = []
+marked (c ∷ claims) (true ∷ marks) = finding c ∷ marked claims marks
+marked (c ∷ claims) (false ∷ marks) = marked claims marks
+
+-- the findings are those of the claims with P, and no others, in the order of the claims
+pub record AreFindings (P : Asked → Type 0) (claims : List Claim) (findings : List Finding)
+    : Type 0 where
+  pub marks : List Bool
+  pub decided : AllZip (λ c mark. IsTrue mark ↔ P c.asked) claims marks
+  pub are : findings ≡ marked claims marks

@@ -1,0 +1,4 @@
+pub mod QueryClaims
+pub mod TemplateClaims
+pub mod Mistakes
+pub mod Findings

@@ -1,0 +1,132 @@
+-- What a file of templates asks for, at each place of its text, in the text's order.
+use Rattle.std.specs.Prelude.{ℕ, ◌+◌, Bool, true, false, ◌&&◌, ◌||◌, List, [], ◌∷◌, ◌++◌}
+use Rattle.std.specs.Prelude.{map, if◌then◌else◌, codes, Option, Some, None}
+use Rattle.std.specs.Char.{to_ascii_uppercase}
+use Rattle.std.specs.Option.{is_some}
+use Rattle.std.specs.Str.{bytes_eq}
+use Rattle.sd_value.specs.Names.{Name, Label}
+use Rattle.sd_lex.specs.declared.token.Sign.TheVariants as signs
+use Rattle.sd_lex.specs.declared.token.TokenKind.TheVariants as tokens
+use Rattle.template_items.specs.declared.item.Mark.TheVariants as marks
+use Rattle.template_items.specs.declared.item.ItemKind.{ItemKind}
+use Rattle.template_items.specs.declared.item.ItemKind.TheVariants as kinds
+use Rattle.template_items.specs.declared.item.Item.{Item}
+use Rattle.template_items.specs.Scanning.{tag_at}
+use Rattle.lint_spec.specs.declared.Asked.{Asked}
+use Rattle.lint_spec.specs.declared.Asked.TheVariants as asked
+use Rattle.lint_spec.specs.declared.Before.{Before}
+use Rattle.lint_spec.specs.declared.Claim.{Claim}
+use Rattle.lint_spec.specs.QueryClaims.{claim}
+
+-- ---- tags in other letters
+
+-- the tags with which a text begins at any of its bytes, of which the first is at this place
+abbrev pub tags_from : ℕ → List ℕ → List Claim
+tags_from at [] = []
+tags_from at (b ∷ bytes) =
+    (if is_some (tag_at (b ∷ bytes)) then claim asked.Tag at ∷ [] else [])
+    ++ tags_from (at + 1) bytes
+
+-- The tags that a text between tags has in other letters: those that it has with capitals for its
+-- small letters. As it is it has none.
+abbrev pub tag_claims : ℕ → List ℕ → List Claim
+tag_claims at bytes = tags_from at (map to_ascii_uppercase bytes)
+
+-- ---- labels and collections
+
+-- the name that an item is
+abbrev pub name_of : ItemKind → Option Name
+name_of (kinds.Token (tokens.Name n)) = Some n
+name_of k = None
+
+-- the label that an item is: a name or a quoted text
+abbrev pub label_of : ItemKind → Option Label
+label_of (kinds.Token (tokens.Name n)) = Some n
+label_of (kinds.Token (tokens.Quoted q)) = Some q
+label_of k = None
+
+-- what is asked for by an item that may be a label
+abbrev pub labelled : (Label → Asked) → Option Label → ℕ → List Claim
+labelled ask None at = []
+labelled ask (Some l) at = claim (ask l) at ∷ []
+
+-- what is asked for by the label that the items begin with
+abbrev pub label_claims : (Label → Asked) → List Item → List Claim
+label_claims ask [] = []
+label_claims ask (i ∷ items) = labelled ask (label_of i.kind) i.place
+
+-- the item is `=`
+abbrev pub is_equals : ItemKind → Bool
+is_equals (kinds.Token (tokens.Sign signs.Eq)) = true
+is_equals k = false
+
+-- the first label of the word behind `KEY` or `LINK`
+abbrev pub word_claims : List Item → List Claim
+word_claims [] = []
+word_claims (i ∷ items) = if is_equals i.kind then label_claims asked.Step items else []
+
+-- a setting that a word may follow
+abbrev pub is_word_setting : Name → Bool
+is_word_setting n = bytes_eq n (codes "KEY") || bytes_eq n (codes "LINK")
+
+-- behind `@`: a link of the function whose pages the template presents, or of whatever it presents
+abbrev pub of_page : Option Name → Label → Asked
+of_page None l = asked.Step l
+of_page (Some f) l = asked.LinkOf f l
+
+-- ---- templates
+
+-- the name behind a first name, which is then the word COLLECTION
+abbrev pub has_name : List Item → Bool
+has_name [] = false
+has_name (i ∷ items) = is_some (name_of i.kind)
+
+-- the function of a template whose first name is this: none where it is a collection's
+abbrev pub function_of : Name → List Item → Option Name
+function_of n items =
+    if bytes_eq n (codes "COLLECTION") && has_name items then None else Some n
+
+-- the same of a template with these items behind `<TEMPLATE`
+abbrev pub named_function : Option Name → List Item → Option Name
+named_function None items = None
+named_function (Some n) items = function_of n items
+
+abbrev pub title_function : List Item → Option Name
+title_function [] = None
+title_function (i ∷ items) = named_function (name_of i.kind) items
+
+-- the function that a template presents, at its name
+abbrev pub title_claims : List Item → List Claim
+title_claims [] = []
+title_claims (i ∷ items) = labelled asked.Presented (title_function (i ∷ items)) i.place
+
+-- what an item asks for, by what is before it and behind it
+abbrev pub item_claims : Before → ItemKind → ℕ → List Item → List Claim
+item_claims s (kinds.Text t) at items = tag_claims at t
+item_claims s (kinds.Mark marks.OpenTemplate) at items = title_claims items
+item_claims s (kinds.Mark marks.HereOf) at items = label_claims (of_page s.function) items
+item_claims s (kinds.Mark marks.Hash) at items = label_claims asked.Collection items
+item_claims s (kinds.Token (tokens.Sign signs.Dot)) at items = label_claims asked.Step items
+item_claims s (kinds.Token (tokens.Name n)) at items =
+    if s.labelled then [] else (if is_word_setting n then word_claims items else [])
+item_claims s k at items = []
+
+-- what is known behind an item
+abbrev pub before_next : Before → ItemKind → List Item → Before
+before_next s (kinds.Mark marks.OpenTemplate) items =
+    record { function = title_function items; labelled = false }
+before_next s (kinds.Mark marks.HereOf) items = record { function = s.function; labelled = true }
+before_next s (kinds.Mark marks.Hash) items = record { function = s.function; labelled = true }
+before_next s (kinds.Token (tokens.Sign signs.Dot)) items =
+    record { function = s.function; labelled = true }
+before_next s k items = record { function = s.function; labelled = false }
+
+-- what items ask for
+abbrev pub items_claims : Before → List Item → List Claim
+items_claims s [] = []
+items_claims s (i ∷ items) =
+    item_claims s i.kind i.place items ++ items_claims (before_next s i.kind items) items
+
+-- all that a file of templates asks for, by its items
+abbrev pub template_claims : List Item → List Claim
+template_claims = items_claims (record { function = None; labelled = false })

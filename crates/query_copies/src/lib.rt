@@ -1,0 +1,325 @@
+//! Equal parts of queries.
+#![tactic(auto)]
+
+ghost use Rattle.std.specs.Prelude.{◌≡◌, ◌++◌, IfOk, map};
+ghost use Rattle.rpe.specs.Regex.{seq, alt, star};
+ghost use Rattle.query_spec.specs.Query.{member, path, compare, one_of, kind, negation};
+ghost use Rattle.rpe.specs.Reading.{regex_of};
+ghost use Rattle.struql_ast.specs.Reading.{operand_of, step_of, condition_of, term_of, target_of, label_of, link_of, collect_of};
+
+use query_spec::{Op, Test};
+use rpe::Rpe;
+use sd_lex::Span;
+use sd_value::{NoMemory, Str, Value};
+use std::alloc::Global;
+use struql_ast::{
+    Collect, Condition, Constants, Link, LinkLabel, Operand, PathStep, SkolemTerm, Target,
+};
+
+/// An equal operand.
+pub fn copied_operand(alloc: Global, operand: &Operand) -> Result<Operand, NoMemory>
+    ensures { IfOk result (λ copy. operand_of copy ≡ operand_of operand.now) }
+{
+    match operand {
+        Operand::Variable(name, span) => Ok(Operand::Variable(name.copy(alloc)?, *span)),
+        Operand::Constant(value, span) => {
+            Ok(Operand::Constant(sd_value::copy(alloc, value)?, *span))
+        }
+    }
+}
+
+fn copied_operands(alloc: Global, operands: &[Operand]) -> Result<Vec<Operand>, NoMemory>
+    ensures { IfOk result (λ copy. map operand_of copy.items ≡ map operand_of operands.now) }
+{
+    let mut copies = Vec::new(alloc);
+    for item in operands {
+        copies.push(copied_operand(alloc, item)?)?;
+    }
+    Ok(copies)
+}
+
+/// Equal values.
+pub fn copied_values(alloc: Global, values: &[Value]) -> Result<Vec<Value>, NoMemory>
+    ensures { IfOk result (λ copy. copy.items ≡ values.now) }
+{
+    let mut copies = Vec::new(alloc);
+    for item in values {
+        copies.push(sd_value::copy(alloc, item)?)?;
+    }
+    Ok(copies)
+}
+
+fn sequence(alloc: Global, one: Rpe, other: Rpe) -> Result<Rpe, NoMemory>
+    ensures { IfOk result (λ whole. regex_of whole ≡ seq (regex_of one) (regex_of other)) }
+{
+    Ok(Rpe::Seq(Box::new(alloc, one)?, Box::new(alloc, other)?))
+}
+
+fn choice(alloc: Global, one: Rpe, other: Rpe) -> Result<Rpe, NoMemory>
+    ensures { IfOk result (λ whole. regex_of whole ≡ alt (regex_of one) (regex_of other)) }
+{
+    Ok(Rpe::Alt(Box::new(alloc, one)?, Box::new(alloc, other)?))
+}
+
+fn repetition(alloc: Global, inner: Rpe) -> Result<Rpe, NoMemory>
+    ensures { IfOk result (λ whole. regex_of whole ≡ star (regex_of inner)) }
+{
+    Ok(Rpe::Star(Box::new(alloc, inner)?))
+}
+
+/// An equal expression.
+pub fn copied_rpe(alloc: Global, expression: &Rpe) -> Result<Rpe, NoMemory>
+    ensures { IfOk result (λ copy. regex_of copy ≡ regex_of expression.now) }
+{
+    match expression {
+        Rpe::Label(label) => Ok(Rpe::Label(label.copy(alloc)?)),
+        Rpe::Any => Ok(Rpe::Any),
+        Rpe::Empty => Ok(Rpe::Empty),
+        Rpe::Seq(one, other) => {
+            let one = copied_rpe(alloc, one)?;
+            sequence(alloc, one, copied_rpe(alloc, other)?)
+        }
+        Rpe::Alt(one, other) => {
+            let one = copied_rpe(alloc, one)?;
+            choice(alloc, one, copied_rpe(alloc, other)?)
+        }
+        Rpe::Star(inner) => repetition(alloc, copied_rpe(alloc, inner)?),
+    }
+}
+
+fn copied_step(alloc: Global, step: &PathStep) -> Result<PathStep, NoMemory>
+    ensures { IfOk result (λ copy. step_of copy ≡ step_of step.now) }
+{
+    match step {
+        PathStep::ArcVariable(name, span) => Ok(PathStep::ArcVariable(name.copy(alloc)?, *span)),
+        PathStep::Expression(expression, span) => {
+            Ok(PathStep::Expression(copied_rpe(alloc, expression)?, *span))
+        }
+    }
+}
+
+fn member_condition(
+    alloc: Global,
+    collection: &Str,
+    variable: &Str,
+    variable_span: Span,
+    span: Span,
+) -> Result<Condition, NoMemory>
+    ensures { IfOk result (λ copy. condition_of copy ≡ member collection.now variable.now) }
+{
+    Ok(Condition::Member {
+        collection: collection.copy(alloc)?,
+        variable: variable.copy(alloc)?,
+        variable_span,
+        span,
+    })
+}
+
+fn path_condition(
+    alloc: Global,
+    from: &Operand,
+    along: &PathStep,
+    to: &Operand,
+    span: Span,
+) -> Result<Condition, NoMemory>
+    ensures { IfOk result (λ copy. condition_of copy
+        ≡ path (operand_of from.now) (step_of along.now) (operand_of to.now)) }
+{
+    Ok(Condition::Path {
+        from: copied_operand(alloc, from)?,
+        step: copied_step(alloc, along)?,
+        to: copied_operand(alloc, to)?,
+        span,
+    })
+}
+
+fn comparison(
+    alloc: Global,
+    left: &Operand,
+    op: Op,
+    right: &Operand,
+    span: Span,
+) -> Result<Condition, NoMemory>
+    ensures { IfOk result (λ copy. condition_of copy
+        ≡ compare (operand_of left.now) op (operand_of right.now)) }
+{
+    Ok(Condition::Compare {
+        left: copied_operand(alloc, left)?,
+        op,
+        right: copied_operand(alloc, right)?,
+        span,
+    })
+}
+
+fn one_of_condition(
+    alloc: Global,
+    left: &Operand,
+    constants: &Constants,
+    span: Span,
+) -> Result<Condition, NoMemory>
+    ensures { IfOk result (λ copy. condition_of copy ≡ one_of (operand_of left.now) constants.now) }
+{
+    Ok(Condition::OneOf {
+        operand: copied_operand(alloc, left)?,
+        constants: Constants::new(copied_values(alloc, constants.items())?),
+        span,
+    })
+}
+
+fn kind_condition(
+    alloc: Global,
+    test: Test,
+    variable: &Str,
+    variable_span: Span,
+    span: Span,
+) -> Result<Condition, NoMemory>
+    ensures { IfOk result (λ copy. condition_of copy ≡ kind test variable.now) }
+{
+    Ok(Condition::Kind {
+        test,
+        variable: variable.copy(alloc)?,
+        variable_span,
+        span,
+    })
+}
+
+fn negated(alloc: Global, inner: Condition, span: Span) -> Result<Condition, NoMemory>
+    ensures { IfOk result (λ whole. condition_of whole ≡ negation (condition_of inner)) }
+{
+    Ok(Condition::Not(Box::new(alloc, inner)?, span))
+}
+
+fn copied_condition(alloc: Global, original: &Condition) -> Result<Condition, NoMemory>
+    ensures { IfOk result (λ copy. condition_of copy ≡ condition_of original.now) }
+{
+    match original {
+        Condition::Member {
+            collection,
+            variable,
+            variable_span,
+            span,
+        } => member_condition(alloc, collection, variable, *variable_span, *span),
+        Condition::Path {
+            from,
+            step,
+            to,
+            span,
+        } => path_condition(alloc, from, step, to, *span),
+        Condition::Compare {
+            left,
+            op,
+            right,
+            span,
+        } => comparison(alloc, left, *op, right, *span),
+        Condition::OneOf {
+            operand,
+            constants,
+            span,
+        } => one_of_condition(alloc, operand, constants, *span),
+        Condition::Kind {
+            test,
+            variable,
+            variable_span,
+            span,
+        } => kind_condition(alloc, *test, variable, *variable_span, *span),
+        Condition::Not(inner, span) => negated(alloc, copied_condition(alloc, inner)?, *span),
+    }
+}
+
+/// Adds copies of these conditions.
+pub fn push_conditions(
+    alloc: Global,
+    found: &mut Vec<Condition>,
+    conditions: &[Condition],
+) -> Result<(), NoMemory>
+    ensures { IfOk result (λ _. map condition_of found.new.items
+        ≡ map condition_of found.old.items ++ map condition_of conditions.now) }
+{
+    for item in conditions {
+        found.push(copied_condition(alloc, item)?)?;
+    }
+    Ok(())
+}
+
+/// An equal term.
+pub fn copied_term(alloc: Global, term: &SkolemTerm) -> Result<SkolemTerm, NoMemory>
+    ensures { IfOk result (λ copy. term_of copy ≡ term_of term.now) }
+{
+    Ok(SkolemTerm {
+        function: term.function.copy(alloc)?,
+        args: copied_operands(alloc, &term.args)?,
+        span: term.span,
+    })
+}
+
+/// Equal terms.
+pub fn copied_terms(alloc: Global, terms: &[SkolemTerm]) -> Result<Vec<SkolemTerm>, NoMemory>
+    ensures { IfOk result (λ copy. map term_of copy.items ≡ map term_of terms.now) }
+{
+    let mut copies = Vec::new(alloc);
+    for item in terms {
+        copies.push(copied_term(alloc, item)?)?;
+    }
+    Ok(copies)
+}
+
+fn copied_target(alloc: Global, target: &Target) -> Result<Target, NoMemory>
+    ensures { IfOk result (λ copy. target_of copy ≡ target_of target.now) }
+{
+    match target {
+        Target::Plain(plain) => Ok(Target::Plain(copied_operand(alloc, plain)?)),
+        Target::Made(made) => Ok(Target::Made(copied_term(alloc, made)?)),
+    }
+}
+
+fn copied_label(alloc: Global, label: &LinkLabel) -> Result<LinkLabel, NoMemory>
+    ensures { IfOk result (λ copy. label_of copy ≡ label_of label.now) }
+{
+    match label {
+        LinkLabel::Quoted(text) => Ok(LinkLabel::Quoted(text.copy(alloc)?)),
+        LinkLabel::Variable(name, span) => Ok(LinkLabel::Variable(name.copy(alloc)?, *span)),
+    }
+}
+
+fn copied_link(alloc: Global, link: &Link) -> Result<Link, NoMemory>
+    ensures { IfOk result (λ copy. link_of copy ≡ link_of link.now) }
+{
+    Ok(Link {
+        source: copied_target(alloc, &link.source)?,
+        label: copied_label(alloc, &link.label)?,
+        target: copied_target(alloc, &link.target)?,
+        span: link.span,
+    })
+}
+
+/// Equal links.
+pub fn copied_links(alloc: Global, links: &[Link]) -> Result<Vec<Link>, NoMemory>
+    ensures { IfOk result (λ copy. map link_of copy.items ≡ map link_of links.now) }
+{
+    let mut copies = Vec::new(alloc);
+    for item in links {
+        copies.push(copied_link(alloc, item)?)?;
+    }
+    Ok(copies)
+}
+
+fn copied_collect(alloc: Global, collect: &Collect) -> Result<Collect, NoMemory>
+    ensures { IfOk result (λ copy. collect_of copy ≡ collect_of collect.now) }
+{
+    Ok(Collect {
+        collection: collect.collection.copy(alloc)?,
+        target: copied_target(alloc, &collect.target)?,
+        span: collect.span,
+    })
+}
+
+/// Equal COLLECTs.
+pub fn copied_collects(alloc: Global, collects: &[Collect]) -> Result<Vec<Collect>, NoMemory>
+    ensures { IfOk result (λ copy. map collect_of copy.items ≡ map collect_of collects.now) }
+{
+    let mut copies = Vec::new(alloc);
+    for item in collects {
+        copies.push(copied_collect(alloc, item)?)?;
+    }
+    Ok(copies)
+}

@@ -1,0 +1,9 @@
+pub mod Chosen
+pub mod CopyNames
+pub mod First
+pub mod Found
+pub mod Frozen
+pub mod Lists
+pub mod Pushed
+pub mod Stated
+pub mod Tried

@@ -1,0 +1,37 @@
+use Rattle.std.proofs.Common.{◌≡◌, List, subst}
+use Rattle.std.specs.Prelude.{Option, map}
+use Rattle.std.proofs.lemmas.Result.{IfOk-weaker}
+use Rattle.graph_spec.specs.DataGraph.{DataGraph}
+use Rattle.site_spec.specs.Site.{Scope, scope_of as scope_of_query}
+use Rattle.query_blocks.specs.Blocks.{scope_of}
+use Rattle.constraint_spec.specs.Meets.{Meets}
+use Rattle.counterexample_spec.specs.First.{IsFirstWithout, IsFirstBroken}
+use Rattle.refute_site.specs.declared.candidate.Candidate.{Candidate}
+use Rattle.refute_site.specs.Candidates.{candidate_graph}
+use Rattle.refute_site.proofs.Tried.{none_met, some_met}
+use Rattle.refute_site.proofs.First.{at_once, later}
+use Rattle.refute_site.proofs.first_broken.Goals as goal
+
+pub returns-in-Some-clause-first : goal.returns-in-Some-clause-first
+returns-in-Some-clause-first g c =
+    let t : Scope = g.T.Trial.scope c.args.trial.now in
+    let k = c.args.constraint.now in
+    let e : DataGraph = c.new-empty.result.graph in
+    at_once (scope_of_query c.args.query.now) (scope_of c.in_ok-blocks.blocks) t k (map candidate_graph c.in_ok-candidates.candidates.items) c.in_ok-blocks.ensures.scope c.requires.scope c.in_ok-candidates.ensures.graphs e c.new-empty.ensures.empty c.in-Some.refuted
+    (some_met c.in_ok-refuted.field-0 (Meets e t k) (λ (graph : DataGraph). (graph ≡ e) × (Meets e t k → ⊥)) c.in-Some.refuted c.in-Some.is c.in_ok-refuted.ensures.first)
+
+pub returns-clause-first : goal.returns-clause-first
+returns-clause-first g c =
+    let t : Scope = g.T.Trial.scope c.args.trial.now in
+    let k = c.args.constraint.now in
+    let e : DataGraph = c.new-empty.result.graph in
+    IfOk-weaker c.first_refuting.result
+    (IsFirstWithout (λ (G : DataGraph). Meets G (g.T.Trial.scope c.refuting.new.trial) k) (map candidate_graph c.deref.result.now))
+    (IsFirstBroken (scope_of_query c.args.query.now) k)
+    (λ (found : Option DataGraph) h.
+    later (scope_of_query c.args.query.now) (scope_of c.in_ok-blocks.blocks) t k (map candidate_graph c.in_ok-candidates.candidates.items) c.in_ok-blocks.ensures.scope c.requires.scope c.in_ok-candidates.ensures.graphs e c.new-empty.ensures.empty
+    (none_met c.in_ok-refuted.field-0 (Meets e t k) (λ (graph : DataGraph). (graph ≡ e) × (Meets e t k → ⊥)) c.in_default.is c.in_ok-refuted.ensures.first)
+    found
+    (subst (λ (l : List Candidate). IsFirstWithout (λ (G : DataGraph). Meets G t k) (map candidate_graph l) found) c.deref.ensures.value
+    (subst (λ (s : Scope). IsFirstWithout (λ (G : DataGraph). Meets G s k) (map candidate_graph c.deref.result.now) found) c.in_ok-refuted.ensures.scope h)))
+    c.first_refuting.ensures.first

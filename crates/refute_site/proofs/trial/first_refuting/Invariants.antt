@@ -1,0 +1,12 @@
+use Rattle.std.proofs.Common.{◌≡◌, take}
+use Rattle.std.specs.Prelude.{All, map}
+use Rattle.constraint_spec.specs.Meets.{Meets}
+use Rattle.refute_site.specs.Candidates.{candidate_graph}
+use Rattle.refute_site.proofs.trial.first_refuting.Given as goal
+
+abbrev pub invariant-loop-candidate : goal.invariant-loop-candidate
+invariant-loop-candidate g l = record {
+  own : g.T.Trial.Own l.trial;
+  scope : g.T.Trial.scope l.trial ≡ g.T.Trial.scope l.initial.trial;
+  met : All (λ G. Meets G (g.T.Trial.scope l.initial.trial) l.constraint) (map candidate_graph (take l.candidate-index l.candidates));
+}

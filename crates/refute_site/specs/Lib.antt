@@ -1,0 +1,4 @@
+pub mod Candidates
+pub mod Links
+pub mod Patterns
+pub mod Rules

@@ -1,0 +1,57 @@
+// Data graphs in which the conditions of a chain are frozen: what they ask for of values that its
+// variables are given.
+ghost use Rattle.std.specs.Prelude.{OnOk, ◌≡◌};
+ghost use Rattle.counterexample_spec.specs.Frozen.{with_all, stated};
+ghost use Rattle.refute_site.specs.Patterns.{pattern_of, HasItsVariables};
+
+use crate::conditions::add_conditions;
+use crate::statements::add_values;
+use crate::values::values_of;
+use sd_graph::GraphBuilder;
+use sd_value::{NoMemory, Str};
+use std::alloc::Global;
+use struql_ast::{Chain, Operand};
+
+/// An arc variable, and the label that it is to be.
+#[derive(Clone, Copy)]
+pub(crate) struct LabelSet<'a> {
+    pub variable: &'a Str,
+    pub label: &'a Str,
+}
+
+/// Which copy of a chain is made.
+#[derive(Clone, Copy)]
+pub(crate) enum ChainCopy<'a> {
+    /// One that stands alone.
+    First,
+    /// One beside the first, which shares the variables among these operands.
+    Second(&'a [Operand]),
+}
+
+/// A chain that is to be frozen.
+#[derive(Clone, Copy)]
+pub(crate) struct Pattern<'a> {
+    pub chain: &'a Chain,
+    /// The label that a variable is set to, if it is.
+    pub set: Option<LabelSet<'a>>,
+    pub copy: ChainCopy<'a>,
+    /// Whether what may be repeated in a path is taken once, or else left out.
+    pub repeats: bool,
+}
+
+/// Adds what the chain asks for to the graph that is built.
+/// # Errors
+/// Out of memory, also where the builder's limits leave no room. The graph then has some part of it.
+pub(crate) fn freeze(
+    alloc: Global,
+    builder: &mut GraphBuilder,
+    pattern: &Pattern,
+) -> Result<(), NoMemory>
+    requires { HasItsVariables pattern.now }
+    ensures { OnOk result
+        (builder.new.graph ≡ with_all builder.old.graph (stated (pattern_of pattern.now))) }
+{
+    let values = values_of(alloc, pattern)?;
+    add_values(alloc, builder, &values)?;
+    add_conditions(alloc, builder, pattern, &values)
+}

@@ -1,0 +1,62 @@
+//! Counterexamples: a data graph over which a query's site breaks a constraint.
+#![tactic(auto)]
+
+ghost use Rattle.std.specs.Prelude.{◌≡◌, IfOk, Some};
+ghost use Rattle.site_spec.specs.Site.{scope_of, Scope};
+ghost use Rattle.graph_spec.specs.DataGraph.{DataGraph};
+ghost use Rattle.constraint_spec.specs.declared.Constraint.{Constraint as TheConstraint};
+ghost use Rattle.constraint_spec.specs.Meets.{Meets};
+ghost use Rattle.counterexample_spec.specs.First.{IsFirstBroken};
+
+mod candidate;
+mod candidates;
+mod conditions;
+mod freezing;
+mod given;
+mod names;
+mod statements;
+mod trial;
+mod values;
+mod words;
+
+use candidate::UNBOUNDED;
+use candidates::candidates_of;
+use constraint_spec::Constraint;
+use graph_trial::Trial;
+use query_scoping::scopes;
+use sd_graph::{Graph, GraphBuilder};
+use sd_value::NoMemory;
+use std::alloc::Global;
+use struql_check::Checked;
+use trial::{first_refuting, refuting};
+
+/// The first of the constraint's candidates over which the query's site doesn't meet the constraint,
+/// and none exactly where it meets it over each of them. The candidates are made one after another.
+/// # Errors
+/// Out of memory.
+pub fn first_broken<T: Trial>(
+    alloc: Global,
+    query: &Checked,
+    constraint: &Constraint,
+    trial: &mut T,
+) -> Result<Option<Graph>, NoMemory>
+    requires own { T.Own trial.old }
+    requires scope { T.scope trial.old ≡ scope_of query.now }
+    ensures own { T.Own trial.new }
+    ensures scope { T.scope trial.new ≡ T.scope trial.old }
+    ensures first { IfOk result (IsFirstBroken (scope_of query.now) constraint.now) }
+{
+    let blocks = scopes(alloc, query)?;
+    let candidates = candidates_of(alloc, &blocks, constraint)?;
+    let empty = GraphBuilder::new(alloc, UNBOUNDED);
+    if let Some(refuted) = refuting(alloc, empty, constraint, trial)? {
+        return Ok(Some(refuted));
+    }
+    first_refuting(alloc, &candidates, constraint, trial)
+}
+
+/// The query's site over the graph that is found doesn't meet the constraint.
+pub fn what_is_found_is_a_counterexample()
+    ensures { (q : Scope) (c : TheConstraint) (G : DataGraph) → IsFirstBroken q c (Some G)
+        → Meets G q c → ⊥ }
+{}

@@ -1,0 +1,146 @@
+// What is stated of values, added to a graph that is built.
+ghost use Rattle.std.specs.Prelude.{◌≡◌, ◌++◌, suc, IfOk, OnOk, codes};
+ghost use Rattle.std.specs.List.{flat_map};
+ghost use Rattle.counterexample_spec.specs.Frozen.{with_all, declared, joined, edge, edge_by};
+ghost use Rattle.counterexample_spec.specs.Frozen.{ending as ending_of, step as step_of, along};
+ghost use Rattle.refute_site.specs.Patterns.{copy_of};
+
+use crate::freezing::ChainCopy;
+use sd_graph::GraphBuilder;
+use sd_value::{Datum, NoMemory, Str, Value, copy};
+use std::alloc::Global;
+
+// Declares the value, if it is a node.
+fn add_value(alloc: Global, builder: &mut GraphBuilder, value: &Value) -> Result<(), NoMemory>
+    ensures { OnOk result
+        (builder.new.graph ≡ with_all builder.old.graph (declared value.now)) }
+{
+    match value {
+        Value::Data(Datum::Node(name)) => match builder.add_node(alloc, name) {
+            Ok(()) => Ok(()),
+            Err(_) => Err(NoMemory),
+        },
+        _ => Ok(()),
+    }
+}
+
+/// Declares the nodes among the values.
+pub(crate) fn add_values(
+    alloc: Global,
+    builder: &mut GraphBuilder,
+    values: &[Value],
+) -> Result<(), NoMemory>
+    ensures { OnOk result
+        (builder.new.graph ≡ with_all builder.old.graph (flat_map declared values.now)) }
+{
+    for value in values {
+        add_value(alloc, builder, value)?;
+    }
+    Ok(())
+}
+
+/// Makes the value a member, if it is a node.
+pub(crate) fn add_member(
+    alloc: Global,
+    builder: &mut GraphBuilder,
+    collection: &Str,
+    value: &Value,
+) -> Result<(), NoMemory>
+    ensures { OnOk result
+        (builder.new.graph ≡ with_all builder.old.graph (joined collection.now value.now)) }
+{
+    match value {
+        Value::Data(Datum::Node(name)) => match builder.add_member(alloc, collection, name) {
+            Ok(()) => Ok(()),
+            Err(_) => Err(NoMemory),
+        },
+        _ => Ok(()),
+    }
+}
+
+// Adds the edge, if it starts at a node and ends at no page.
+fn add_edge(
+    alloc: Global,
+    builder: &mut GraphBuilder,
+    from: &Value,
+    label: &Str,
+    to: &Value,
+) -> Result<(), NoMemory>
+    ensures { OnOk result
+        (builder.new.graph ≡ with_all builder.old.graph (edge from.now label.now to.now)) }
+{
+    let Value::Data(Datum::Node(name)) = from else {
+        return Ok(());
+    };
+    match to {
+        Value::Data(_) => match builder.add_edge(alloc, name, label, to) {
+            Ok(()) => Ok(()),
+            Err(_) => Err(NoMemory),
+        },
+        Value::Page(_) => Ok(()),
+    }
+}
+
+/// Adds the edge by a label that is a value.
+pub(crate) fn add_edge_by(
+    alloc: Global,
+    builder: &mut GraphBuilder,
+    from: &Value,
+    label: &Value,
+    to: &Value,
+) -> Result<(), NoMemory>
+    ensures { OnOk result
+        (builder.new.graph ≡ with_all builder.old.graph (edge_by from.now label.now to.now)) }
+{
+    match label {
+        Value::Data(Datum::Text(text)) => add_edge(alloc, builder, from, text, to),
+        _ => Ok(()),
+    }
+}
+
+fn ending(chain_copy: ChainCopy) -> &'static [u8]
+    ensures { result.now ≡ ending_of (copy_of chain_copy.entry) }
+{
+    match chain_copy {
+        ChainCopy::First => b"",
+        ChainCopy::Second(_) => b"_2",
+    }
+}
+
+// The node of this number within the path of the condition of number k.
+fn step(alloc: Global, chain_copy: ChainCopy, k: usize, number: usize) -> Result<Value, NoMemory>
+    ensures { IfOk result (λ v. v ≡ step_of (copy_of chain_copy.entry) k number) }
+{
+    let mut name = Vec::from_slice(alloc, b"step_")?;
+    name.extend_from_slice(k.to_string(alloc)?.as_bytes())?;
+    name.extend_from_slice(b"_")?;
+    name.extend_from_slice(number.to_string(alloc)?.as_bytes())?;
+    name.extend_from_slice(ending(chain_copy))?;
+    Ok(Value::Data(Datum::Node(Str::of(alloc, name)?)))
+}
+
+/// Adds the edges of the word from one value to another, over nodes of the path.
+pub(crate) fn add_along(
+    alloc: Global,
+    builder: &mut GraphBuilder,
+    chain_copy: ChainCopy,
+    k: usize,
+    from: &Value,
+    word: &[Str],
+    to: &Value,
+) -> Result<(), NoMemory>
+    ensures { OnOk result (builder.new.graph ≡ with_all builder.old.graph
+        (along (step_of (copy_of chain_copy.entry) k) 1 from.now word.now to.now)) }
+{
+    let mut start = copy(alloc, from)?;
+    for (j, label) in word.iter().enumerate() {
+        let end = if j + 1 < word.len() {
+            step(alloc, chain_copy, k, j + 1)?
+        } else {
+            copy(alloc, to)?
+        };
+        add_edge(alloc, builder, &start, label, &end)?;
+        start = end;
+    }
+    Ok(())
+}

@@ -1,0 +1,3 @@
+mod NameLists
+mod Data
+mod Marks

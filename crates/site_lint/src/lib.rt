@@ -1,0 +1,17 @@
+//! Which of what a site's texts ask for is a mistake over which a build passes in silence.
+#![tactic(auto)]
+
+mod conditions;
+mod findings;
+mod gathered;
+mod judged;
+mod links;
+mod lookups;
+mod names;
+mod rows;
+
+pub use findings::findings_of;
+pub use judged::LintedSite;
+pub use links::LinkAnswers;
+pub use names::{SiteNames, names_of};
+pub use rows::blocks_without_rows;

@@ -1,0 +1,59 @@
+//! Names among lists of names, and labels and collections of the data.
+
+ghost use Rattle.std.specs.Prelude.{◌≡◌, ◌↔◌, ℕ, List, Contains, IsTrue};
+ghost use Rattle.std.specs.List.{list_any};
+ghost use Rattle.graph_spec.specs.DataGraph.{HasMember, IsLabelOf};
+ghost use Rattle.query_spec.specs.Mentions.{same_name};
+ghost use Rattle.site_spec.specs.Site.{SomeOf};
+
+use sd_value::Str;
+use store::Store;
+
+/// Whether the name is among these.
+pub(crate) fn is_among(names: &[Str], name: &Str) -> bool
+    ensures { result ≡ list_any (same_name name.now) names.now }
+{
+    names.iter().any(|n| name == n)
+}
+
+/// Whether the name isn't among these.
+pub(crate) fn is_absent(names: &[Str], name: &Str) -> bool
+    ensures { IsTrue result ↔ (Contains names.now name.now → ⊥) }
+{
+    !is_among(names, name)
+}
+
+// Whether the data have no member of the collection.
+fn has_no_member<S: Store>(store: &S, name: &Str) -> bool
+    ensures { IsTrue result ↔ ((n : List ℕ) → HasMember (S.graph store.now) name.now n → ⊥) }
+{
+    store.members_of(name) == 0
+}
+
+/// Whether the data have no member of the collection, and it isn't among those of COLLECTs.
+pub(crate) fn is_empty_collection<S: Store>(store: &S, collected: &[Str], name: &Str) -> bool
+    ensures { IsTrue result ↔ ((n : List ℕ) → HasMember (S.graph store.now) name.now n → ⊥)
+        × (Contains collected.now name.now → ⊥) }
+{
+    has_no_member(store, name) && is_absent(collected, name)
+}
+
+/// Whether no edge has the label.
+pub(crate) fn is_unknown<S: Store>(store: &S, label: &Str) -> bool
+    ensures { IsTrue result ↔ (IsLabelOf (S.graph store.now) label.now → ⊥) }
+{
+    !store.is_label(label)
+}
+
+/// Whether no edge has one of the labels.
+pub(crate) fn has_unknown<S: Store>(store: &S, labels: &[Str]) -> bool
+    ensures { IsTrue result
+        ↔ SomeOf (λ l. IsLabelOf (S.graph store.now) l → ⊥) labels.now }
+{
+    for label in labels {
+        if is_unknown(store, label) {
+            return true;
+        }
+    }
+    false
+}

@@ -1,0 +1,142 @@
+//! The pages of a query's site over data that a text replaces.
+#![tactic(auto)]
+
+ghost use Rattle.std.specs.Prelude.{◌≡◌, IfOk, false, map};
+ghost use Rattle.tmpl.specs.Reading.{file_of};
+ghost use Rattle.query_blocks.specs.Blocks.{AreCheckedBlocks, scope_of};
+ghost use Rattle.click_time.specs.Page.{PageFixed, page_site};
+ghost use Rattle.data_change.proofs.TheReader.{the_reader};
+ghost use Rattle.site_pages.specs.Texts.{data_texts};
+
+use bindings::StoreAsker;
+use click_time::Click;
+use data_change::read_change;
+use index_store::IndexStore;
+use page_spec::Outcome;
+use query_blocks::QueryBlocks;
+use sd_graph::Graph;
+use sd_value::{NoMemory, Str, Term};
+use site_view::Pages;
+use std::alloc::Global;
+use tmpl::Templates;
+use versions::{Changed, Same, Versions};
+
+/// The pages of a query's site, each from its own demand, over data that an accepted data text replaces.
+#[derive(Drop)]
+pub struct SitePages<'q> {
+    click: Click<'q, StoreAsker<IndexStore>>,
+    scopes: &'q QueryBlocks,
+    templates: &'q Templates,
+}
+
+// The pages over these data.
+fn click_over<'q>(
+    alloc: Global,
+    graph: Graph,
+    scopes: &'q QueryBlocks,
+    templates: &'q Templates,
+) -> Result<Click<'q, StoreAsker<IndexStore>>, NoMemory>
+    requires { AreCheckedBlocks scopes.now.version scopes.now.blocks.items }
+    ensures fixed { IfOk result (λ click.
+        ⟦<Click<'q, StoreAsker<IndexStore>> as Pages>⟧.fixed click ≡ record {
+          graph = graph;
+          scope = scope_of scopes.now;
+          templates = file_of templates.now;
+        }) }
+    ensures own { IfOk result (λ click.
+        ⟦<Click<'q, StoreAsker<IndexStore>> as Pages>⟧.Own click) }
+{
+    let store = IndexStore::of(alloc, graph)?;
+    Ok(Click::of(alloc, StoreAsker::of(store), scopes, templates))
+}
+
+// As many times false as there are terms.
+fn none_stays(alloc: Global, terms: &[Term]) -> Result<Vec<bool>, NoMemory>
+    ensures { IfOk result (λ flags. flags.items ≡ map (λ term. false) terms.now) }
+{
+    let mut flags = Vec::with_capacity(alloc, terms.len())?;
+    for _ in terms {
+        flags.push(false)?;
+    }
+    Ok(flags)
+}
+
+impl<'q> SitePages<'q> {
+    ghost use Rattle.std.specs.Prelude.{◌≡◌, IfOk};
+    ghost use Rattle.tmpl.specs.Reading.{file_of};
+    ghost use Rattle.query_blocks.specs.Blocks.{AreCheckedBlocks, scope_of};
+
+    /// The pages over these data.
+    pub fn of(
+        alloc: Global,
+        graph: Graph,
+        scopes: &'q QueryBlocks,
+        templates: &'q Templates,
+    ) -> Result<SitePages<'q>, NoMemory>
+        requires { AreCheckedBlocks scopes.now.version scopes.now.blocks.items }
+        ensures state { IfOk result (λ pages. ⟦<SitePages<'q> as Versions>⟧.state pages ≡ record {
+          graph = graph;
+          scope = scope_of scopes.now;
+          templates = file_of templates.now;
+        }) }
+        ensures own { IfOk result (λ pages. ⟦<SitePages<'q> as Versions>⟧.Own pages) }
+    {
+        let click = click_over(alloc, graph, scopes, templates)?;
+        Ok(SitePages {
+            click,
+            scopes,
+            templates,
+        })
+    }
+}
+
+impl<'q> Versions for SitePages<'q> {
+    ghost State = { PageFixed };
+
+    ghost Cache = { Unit {0} };
+
+    ghost state = { λ s. ⟦<Click<'q, StoreAsker<IndexStore>> as Pages>⟧.fixed s.click };
+
+    ghost cache = { λ s. record {} };
+
+    ghost site = { page_site };
+
+    ghost templates = { λ f. f.templates };
+
+    ghost changed = { (data_texts the_reader).changed };
+
+    ghost accepts = { (data_texts the_reader).accepts };
+
+    ghost stays = { (data_texts the_reader).stays };
+
+    ghost looks = { λ state before term after. Unit {0} };
+
+    ghost renews = { λ state text before after. Unit {0} };
+
+    ghost found = { λ cache. 0 };
+
+    ghost Own = { λ s. ⟦<Click<'q, StoreAsker<IndexStore>> as Pages>⟧.Own s.click
+        × AreCheckedBlocks s.scopes.now.version s.scopes.now.blocks.items
+        × ((⟦<Click<'q, StoreAsker<IndexStore>> as Pages>⟧.fixed s.click).scope
+        ≡ scope_of s.scopes.now)
+        × ((⟦<Click<'q, StoreAsker<IndexStore>> as Pages>⟧.fixed s.click).templates
+        ≡ file_of s.templates.now) };
+
+    fn page(&mut self, alloc: Global, term: &Term) -> Result<Outcome, NoMemory> {
+        self.click.page(alloc, term)
+    }
+
+    /// The new data are loaded and indexed whole before the old ones go.
+    fn change(&mut self, alloc: Global, text: &Str, kept: &[Term]) -> Result<Changed, NoMemory> {
+        let Some(graph) = read_change(alloc, text)? else {
+            return Ok(Changed::Refused);
+        };
+        let flags = none_stays(alloc, kept)?;
+        self.click = click_over(alloc, graph, self.scopes, self.templates)?;
+        Ok(Changed::Taken(Same { flags }))
+    }
+
+    fn hits(&self) -> u64 {
+        0
+    }
+}

@@ -1,0 +1,92 @@
+//! The pages of a site over data that texts may change, each from its own demand, served over a wire.
+#![tactic(auto)]
+
+ghost use Rattle.std.specs.Prelude.{◌≡◌, ◌⊎◌, IfOk, OnErr};
+ghost use Rattle.edge_io.specs.Counts.{Rose};
+ghost use Rattle.command_spec.specs.Ranges.{AreLimits};
+ghost use Rattle.query_blocks.specs.Blocks.{scope_of};
+ghost use Rattle.query_blocks.specs.Roots.{root_of_bodies};
+ghost use Rattle.site_inputs.specs.Values.{inputs_of};
+ghost use Rattle.data_change.proofs.TheReader.{the_reader};
+ghost use Rattle.site_serving.specs.Served.{ServesSite, ServesSiteBy, ServesSiteInSteps, StepsBy};
+
+use command_spec::RunLimits;
+use query_blocks::{QueryBlocks, root_of};
+use query_scoping::scopes;
+use sd_value::{NoMemory, Str};
+use serve_run::{NO_TALLY, serve_pages};
+use serving_spec::{HubEnd, Served};
+use site_inputs::SiteInputs;
+use site_pages::SitePages;
+use std::alloc::Global;
+use wire::Wire;
+
+// The function of the term for `/`.
+fn root_function(alloc: Global, scopes: &QueryBlocks) -> Result<Option<Str>, NoMemory>
+    ensures { IfOk result (λ root. root ≡ root_of_bodies (scope_of scopes.now).bodies) }
+{
+    match root_of(scopes) {
+        Some(root) => Ok(Some(root.copy(alloc)?)),
+        None => Ok(None),
+    }
+}
+
+// Serves the pages of the inputs' site. Out of memory before the first event, the wire is as it was.
+fn serve_inputs<W: Wire>(
+    alloc: Global,
+    inputs: SiteInputs,
+    limits: &RunLimits,
+    wire: &mut W,
+) -> Result<Served, NoMemory>
+    requires { AreLimits limits.now }
+    ensures serves { IfOk result (ServesSiteBy the_reader (inputs_of inputs) limits.now
+        (W.told wire.old) (W.told wire.new)) }
+    ensures steps { IfOk result (StepsBy the_reader (inputs_of inputs) limits.now
+        (W.told wire.old) (W.told wire.new)) }
+    ensures listens { (W.told wire.new).listens ≡ (W.told wire.old).listens }
+    ensures watches { (W.told wire.new).watches ≡ (W.told wire.old).watches }
+    ensures failed { IfOk result (λ served. served.end ≡ HubEnd.WireFailed
+        → Rose (W.told wire.old).next_faults (W.told wire.new).next_faults) }
+    ensures err { OnErr result (wire.new ≡ wire.old) }
+{
+    let scopes = scopes(alloc, &inputs.query)?;
+    let root = root_function(alloc, &scopes)?;
+    let pages = SitePages::of(alloc, inputs.graph, &scopes, &inputs.templates)?;
+    let served = serve_pages(
+        alloc,
+        pages,
+        root,
+        limits.requests,
+        limits.turns,
+        u64::from(limits.cache),
+        wire,
+    );
+    Ok(served)
+}
+
+/// Serves the pages of the site of the query over the data to the connections of a wire, within the limits. A text that is
+/// an accepted data text replaces all data, and any other changes nothing. It never calls `listen` and `watch`.
+pub fn serve_site<W: Wire>(
+    alloc: Global,
+    inputs: SiteInputs,
+    limits: &RunLimits,
+    wire: &mut W,
+) -> Served
+    requires { AreLimits limits.now }
+    ensures serves { ServesSite (inputs_of inputs) limits.now
+        (W.told wire.old) (W.told wire.new) result }
+    ensures steps { ServesSiteInSteps (inputs_of inputs) limits.now
+        (W.told wire.old) (W.told wire.new) result }
+    ensures listens { (W.told wire.new).listens ≡ (W.told wire.old).listens }
+    ensures watches { (W.told wire.new).watches ≡ (W.told wire.old).watches }
+    ensures failed { result.end ≡ HubEnd.WireFailed
+        → Rose (W.told wire.old).next_faults (W.told wire.new).next_faults }
+{
+    match serve_inputs(alloc, inputs, limits, wire) {
+        Ok(served) => served,
+        Err(NoMemory) => Served {
+            end: HubEnd::NoMemory,
+            tally: NO_TALLY,
+        },
+    }
+}

@@ -1,0 +1,8 @@
+//! What a file of templates asks for, at each place of its text.
+#![tactic(auto)]
+
+mod claims;
+mod tags;
+mod words;
+
+pub use claims::claims_of;

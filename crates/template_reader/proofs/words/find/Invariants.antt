@@ -1,6 +1,0 @@
-use Rattle.std.proofs.Common.{◌≡◌, drop, None}
-use Rattle.template_reader.specs.Terminals.{find}
-use Rattle.template_reader.proofs.words.find.Given as goal
-
-abbrev pub invariant-loop-bound : goal.invariant-loop-bound
-invariant-loop-bound l = find l.found (drop l.bound-index l.scope) l.name ≡ find None l.scope l.name

@@ -1,0 +1,4 @@
+pub mod Known
+pub mod ItemFacts
+pub mod WordParts
+pub mod SettingParts

@@ -1,0 +1,154 @@
+-- Reading what stands within a tag, from left to right.
+use Rattle.std.specs.Prelude.{ℕ, zero, suc, true, List, [], ◌∷◌, Some}
+use Rattle.grammar.specs.Reading.{Outcome, Past, and_then, ◌>>=◌, ◌>>◌, give, take_one, choose}
+use Rattle.grammar.specs.Reading as reading
+use Rattle.template_items.specs.declared.item.Item.{Item}
+use Rattle.template_items.specs.declared.item.Mark.{Mark}
+use Rattle.template_items.specs.declared.item.Mark.TheVariants as marks
+use Rattle.tmpl.specs.declared.Expr.{Expr}
+use Rattle.tmpl.specs.declared.Mode.TheVariants.{Link}
+use Rattle.tmpl.specs.declared.WordRoot.TheVariants.{Here, Loop, Collection}
+use Rattle.template_tags.specs.declared.words.Bound.{Bound}
+use Rattle.template_tags.specs.declared.settings.Setting.{Setting}
+use Rattle.template_tags.specs.declared.settings.Setting.TheVariants as setting
+use Rattle.template_tags.specs.declared.settings.Settings.{Settings}
+use Rattle.template_tags.specs.Terminals.{is_mark, mark_value, is_dot, dot_value, is_equals, equals_value, quoted_value, label_value, joined_value, direction_value, is_setting, setting_value, is_known, known_value, is_unknown}
+use Rattle.template_tags.specs.Tag.{from, with_embed, with_link}
+
+-- the reader of a mark
+unfoldable pub read_mark : Mark → List Item → Outcome Item ℕ
+read_mark m = take_one true (mark_value m)
+
+-- a dot and a label
+unfoldable pub read_dotted : List Item → Outcome Item (List ℕ)
+read_dotted = do
+  take_one true dot_value
+  take_one true joined_value
+
+-- labels with dots before them
+abbrev pub read_labels : List Item → Outcome Item (List (List ℕ))
+read_labels = reading.repeat is_dot read_dotted
+
+-- a label, and labels behind it
+unfoldable pub read_word : List Item → Outcome Item (List (List ℕ))
+read_word = do
+  first ← take_one true label_value
+  others ← read_labels
+  give (first ∷ others)
+
+-- the same right behind a sign
+unfoldable pub read_joined_word : List Item → Outcome Item (List (List ℕ))
+read_joined_word = do
+  first ← take_one true joined_value
+  others ← read_labels
+  give (first ∷ others)
+
+-- an expression that begins at the page
+unfoldable pub read_here : List Item → Outcome Item Expr
+read_here = do
+  read_mark marks.Here
+  give (from Here [])
+
+-- the same, with labels
+unfoldable pub read_here_of : List Item → Outcome Item Expr
+read_here_of = do
+  read_mark marks.HereOf
+  labels ← read_joined_word
+  give (from Here labels)
+
+-- an expression that begins at a collection
+unfoldable pub read_collection : List Item → Outcome Item Expr
+read_collection = do
+  read_mark marks.Hash
+  name ← take_one true joined_value
+  labels ← read_labels
+  give (from (Collection name) labels)
+
+-- what is behind a variable
+unfoldable pub read_of_loop : ℕ → List Item → Outcome Item Expr
+read_of_loop number = do
+  labels ← read_labels
+  give (from (Loop number) labels)
+
+-- an expression that begins at a variable
+unfoldable pub read_loop : List Bound → List Item → Outcome Item Expr
+read_loop scope = do
+  number ← take_one true (known_value scope)
+  read_of_loop number
+
+-- an expression that begins at no variable
+unfoldable pub read_place : List Item → Outcome Item Expr
+read_place =
+    choose (is_mark marks.Here) read_here
+    (choose (is_mark marks.HereOf) read_here_of read_collection)
+
+-- an expression, where these loops are round it
+unfoldable pub read_expr : List Bound → List Item → Outcome Item Expr
+read_expr scope =
+    choose (is_unknown scope) Past (choose (is_known scope) (read_loop scope) read_place)
+
+-- ---- settings
+
+-- the word of values' keys
+unfoldable pub read_key : Settings → List Item → Outcome Item Settings
+read_key s = do
+  take_one true equals_value
+  w ← read_word
+  give (record { key = Some w; descend = s.descend; delimiter = s.delimiter; mode = s.mode })
+
+-- a direction
+unfoldable pub read_order : Settings → List Item → Outcome Item Settings
+read_order s = do
+  take_one true equals_value
+  d ← take_one true direction_value
+  give (record { key = s.key; descend = Some d; delimiter = s.delimiter; mode = s.mode })
+
+-- a text between values
+unfoldable pub read_delimiter : Settings → List Item → Outcome Item Settings
+read_delimiter s = do
+  take_one true equals_value
+  q ← take_one true quoted_value
+  give (record { key = s.key; descend = s.descend; delimiter = Some q; mode = s.mode })
+
+-- the word of a link's text
+unfoldable pub read_label : Settings → List Item → Outcome Item Settings
+read_label s = do
+  take_one true equals_value
+  w ← read_word
+  give (record {
+    key = s.key;
+    descend = s.descend;
+    delimiter = s.delimiter;
+    mode = Some (Link (Some w));
+  })
+
+-- a link, with its text or without
+unfoldable pub read_link : Settings → List Item → Outcome Item Settings
+read_link s = choose is_equals (read_label s) (give (with_link s))
+
+-- the reader of one setting
+abbrev pub read_set : Settings → Setting → List Item → Outcome Item Settings
+read_set s setting.Key = read_key s
+read_set s setting.Order = read_order s
+read_set s setting.Delimiter = read_delimiter s
+read_set s setting.Embed = give (with_embed s)
+read_set s setting.Link = read_link s
+
+-- the end of the settings
+unfoldable pub read_close : Settings → List Item → Outcome Item Settings
+read_close s = do
+  read_mark marks.Close
+  give s
+
+-- the next setting, and then the others
+unfoldable pub read_next : (Settings → List Item → Outcome Item Settings) → Settings → List Item
+    → Outcome Item Settings
+read_next others s = do
+  x ← take_one true (setting_value s)
+  next ← read_set s x
+  others next
+
+-- at most n more settings, and the end of the tag
+unfoldable pub read_settings : ℕ → Settings → List Item → Outcome Item Settings
+read_settings zero s = read_close s
+read_settings (suc n) s = choose (is_setting s) (read_next (read_settings n) s) (read_close s)

@@ -1,0 +1,364 @@
+-- Single items, by what they stand for.
+use Rattle.std.specs.Prelude.{◌≡◌, ℕ, Bool, true, false, ◌||◌, ◌&&◌, not, List, [], ◌∷◌, nat_eq, if◌then◌else◌, Option, Some, None, codes}
+use Rattle.std.specs.Str.{bytes_eq}
+use Rattle.std.specs.Option.{is_some, is_none}
+use Rattle.sd_lex.specs.declared.token.TokenKind.{TokenKind}
+use Rattle.sd_lex.specs.declared.token.TokenKind.TheVariants as tokens
+use Rattle.sd_lex.specs.declared.token.Sign.{Sign}
+use Rattle.sd_lex.specs.declared.token.Sign.TheVariants as signs
+use Rattle.sd_lex.specs.Lexing.{Spells}
+use Rattle.sd_value.specs.declared.Datum.TheVariants as datum
+use Rattle.sd_value.specs.declared.Value.{Value}
+use Rattle.sd_value.specs.declared.Value.TheVariants.{Data}
+use Rattle.template_items.specs.declared.item.Mark.{Mark}
+use Rattle.template_items.specs.declared.item.Mark.TheVariants as marks
+use Rattle.template_items.specs.declared.item.ItemKind.{ItemKind}
+use Rattle.template_items.specs.declared.item.ItemKind.TheVariants as kinds
+use Rattle.template_items.specs.declared.item.Item.{Item}
+use Rattle.token_reader.specs.Terminals.{is_sign_kind}
+use Rattle.tmpl.specs.declared.Cmp.{Cmp}
+use Rattle.tmpl.specs.declared.Cmp.TheVariants as cmp
+use Rattle.tmpl.specs.declared.Mode.{Mode}
+use Rattle.tmpl.specs.declared.Mode.TheVariants.{Plain}
+use Rattle.tmpl.specs.declared.Order.{Order}
+use Rattle.template_tags.specs.declared.words.Keyword.{Keyword}
+use Rattle.template_tags.specs.declared.words.Keyword.TheVariants as words
+use Rattle.template_tags.specs.declared.words.Bound.{Bound}
+use Rattle.template_tags.specs.declared.settings.Setting.{Setting}
+use Rattle.template_tags.specs.declared.settings.Setting.TheVariants as setting
+use Rattle.template_tags.specs.declared.settings.Settings.{Settings}
+
+-- ---- words
+
+-- the keyword of a setting that a word is
+unfoldable pub setting_word : List ℕ → Option Keyword
+setting_word w =
+    if bytes_eq w (codes "KEY") then Some words.Key else (
+    if bytes_eq w (codes "ORDER") then Some words.Order else (
+    if bytes_eq w (codes "DELIM") then Some words.Delimiter else (
+    if bytes_eq w (codes "EMBED") then Some words.Embed else (
+    if bytes_eq w (codes "LINK") then Some words.Link else None))))
+
+-- the keyword of a comparison, or of a setting, that a word is
+unfoldable pub compare_word : List ℕ → Option Keyword
+compare_word w =
+    if bytes_eq w (codes "EQ") then Some words.Eq else (
+    if bytes_eq w (codes "NE") then Some words.Ne else (
+    if bytes_eq w (codes "LT") then Some words.Lt else (
+    if bytes_eq w (codes "LE") then Some words.Le else (
+    if bytes_eq w (codes "GT") then Some words.Gt else (
+    if bytes_eq w (codes "GE") then Some words.Ge else setting_word w)))))
+
+-- the keyword that a word is
+unfoldable pub keyword_of : List ℕ → Option Keyword
+keyword_of w =
+    if bytes_eq w (codes "TEMPLATE") ||
+    (bytes_eq w (codes "SFMT") ||
+    (bytes_eq w (codes "SIF") || (bytes_eq w (codes "SFOR") || bytes_eq w (codes "SELSE")))) then
+    Some words.Tag else (
+    if bytes_eq w (codes "COLLECTION") then Some words.Collection else (
+    if bytes_eq w (codes "NOT") then Some words.Not else (
+    if bytes_eq w (codes "IN") then Some words.In else compare_word w)))
+
+-- the number of the innermost loop with a variable of this name; the innermost loop is the last one
+abbrev pub find : Option ℕ → List Bound → List ℕ → Option ℕ
+find found [] name = found
+find found (b ∷ scope) name =
+    find (if bytes_eq b.name name then Some b.number else found) scope name
+
+-- ---- marks
+
+-- a number for each mark
+abbrev pub number : Mark → ℕ
+number marks.OpenTemplate = 0
+number marks.OpenFormat = 1
+number marks.OpenChoice = 2
+number marks.OpenRepeat = 3
+number marks.Close = 4
+number marks.Otherwise = 5
+number marks.EndChoice = 6
+number marks.EndRepeat = 7
+number marks.EndTemplate = 8
+number marks.Here = 9
+number marks.HereOf = 10
+number marks.Hash = 11
+number marks.Fault = 12
+
+-- the kind of an item is this mark
+abbrev pub is_mark_kind : Mark → ItemKind → Bool
+is_mark_kind m (kinds.Mark r) = nat_eq (number r) (number m)
+is_mark_kind m (kinds.Text t) = false
+is_mark_kind m (kinds.Token k) = false
+
+-- the item is this mark
+abbrev pub is_mark : Mark → Item → Bool
+is_mark m i = is_mark_kind m i.kind
+
+-- the mark, whose value is how many loops begin before it
+abbrev pub mark_value : Mark → Item → Option ℕ
+mark_value m i = if is_mark m i then Some i.loops else None
+
+-- ---- text
+
+-- the text that an item's kind is
+abbrev pub text_kind : ItemKind → Option (List ℕ)
+text_kind (kinds.Mark m) = None
+text_kind (kinds.Text t) = Some t
+text_kind (kinds.Token k) = None
+
+-- the text that an item is
+abbrev pub text_value : Item → Option (List ℕ)
+text_value i = text_kind i.kind
+
+-- the kind of an item is text
+abbrev pub is_text_kind : ItemKind → Bool
+is_text_kind (kinds.Mark m) = false
+is_text_kind (kinds.Text t) = true
+is_text_kind (kinds.Token k) = false
+
+-- the item is text
+abbrev pub is_text : Item → Bool
+is_text i = is_text_kind i.kind
+
+-- ---- tokens
+
+-- the token that an item holds
+abbrev pub token_of : ItemKind → Option TokenKind
+token_of (kinds.Mark m) = None
+token_of (kinds.Text t) = None
+token_of (kinds.Token k) = Some k
+
+-- the name that a token is
+abbrev pub name_of : Option TokenKind → Option (List ℕ)
+name_of (Some (tokens.Name n)) = Some n
+name_of k = None
+
+-- the quoted text that a token is
+abbrev pub quoted_of : Option TokenKind → Option (List ℕ)
+quoted_of (Some (tokens.Quoted q)) = Some q
+quoted_of k = None
+
+-- the label that a token is
+abbrev pub label_of : Option TokenKind → Option (List ℕ)
+label_of (Some (tokens.Name n)) = Some n
+label_of (Some (tokens.Quoted q)) = Some q
+label_of k = None
+
+-- a name
+abbrev pub name_value : Item → Option (List ℕ)
+name_value i = name_of (token_of i.kind)
+
+-- a quoted text
+abbrev pub quoted_value : Item → Option (List ℕ)
+quoted_value i = quoted_of (token_of i.kind)
+
+-- a label: a name or a quoted text
+abbrev pub label_value : Item → Option (List ℕ)
+label_value i = label_of (token_of i.kind)
+
+-- a label that no blank is before
+abbrev pub joined_value : Item → Option (List ℕ)
+joined_value i = if i.apart then None else label_of (token_of i.kind)
+
+-- the token is this sign
+abbrev pub is_sign_of : Sign → Option TokenKind → Bool
+is_sign_of s None = false
+is_sign_of s (Some k) = is_sign_kind s k
+
+-- a dot that no blank is before
+abbrev pub is_dot : Item → Bool
+is_dot i = not i.apart && is_sign_of signs.Dot (token_of i.kind)
+
+-- a dot that no blank is before
+abbrev pub dot_value : Item → Option ℕ
+dot_value i = if is_dot i then Some i.loops else None
+
+-- the item is `=`
+abbrev pub is_equals : Item → Bool
+is_equals i = is_sign_of signs.Eq (token_of i.kind)
+
+-- the sign `=`
+abbrev pub equals_value : Item → Option ℕ
+equals_value i = if is_equals i then Some i.loops else None
+
+-- the constant that a token is
+abbrev pub constant_of : Option TokenKind → Option Value
+constant_of (Some (tokens.Int n)) = Some (Data (datum.Int n))
+constant_of (Some (tokens.Quoted q)) = Some (Data (datum.Text q))
+constant_of k = None
+
+-- a constant: an integer or a text
+abbrev pub constant_value : Item → Option Value
+constant_value i = constant_of (token_of i.kind)
+
+-- the direction that a word is
+abbrev pub direction_of : Option (List ℕ) → Option Bool
+direction_of None = None
+direction_of (Some w) =
+    if bytes_eq w (codes "ascend") then Some false else
+    (if bytes_eq w (codes "descend") then Some true else None)
+
+-- whether the order is descending
+abbrev pub direction_value : Item → Option Bool
+direction_value i = direction_of (name_value i)
+
+-- ---- keywords
+
+-- the keyword that a word is
+abbrev pub word_of : Option (List ℕ) → Option Keyword
+word_of None = None
+word_of (Some n) = keyword_of n
+
+-- the keyword that an item is
+abbrev pub keyword_at : Item → Option Keyword
+keyword_at i = word_of (name_value i)
+
+-- the item is a keyword
+abbrev pub has_keyword : Item → Bool
+has_keyword i = is_some (keyword_at i)
+
+-- the keyword is `NOT`
+abbrev pub is_not_word : Option Keyword → Bool
+is_not_word (Some words.Not) = true
+is_not_word k = false
+
+-- the item is the word `NOT`
+abbrev pub is_not : Item → Bool
+is_not i = is_not_word (keyword_at i)
+
+-- the word `NOT`
+abbrev pub not_value : Item → Option ℕ
+not_value i = if is_not i then Some i.loops else None
+
+-- the keyword is `IN`
+abbrev pub is_in_word : Option Keyword → Bool
+is_in_word (Some words.In) = true
+is_in_word k = false
+
+-- the item is the word `IN`
+abbrev pub is_in : Item → Bool
+is_in i = is_in_word (keyword_at i)
+
+-- the word `IN`
+abbrev pub in_value : Item → Option ℕ
+in_value i = if is_in i then Some i.loops else None
+
+-- the comparison that a keyword is
+abbrev pub compare_of : Option Keyword → Option Cmp
+compare_of (Some words.Eq) = Some cmp.Eq
+compare_of (Some words.Ne) = Some cmp.Ne
+compare_of (Some words.Lt) = Some cmp.Lt
+compare_of (Some words.Le) = Some cmp.Le
+compare_of (Some words.Gt) = Some cmp.Gt
+compare_of (Some words.Ge) = Some cmp.Ge
+compare_of k = None
+
+-- the comparison that an item is
+abbrev pub compare_value : Item → Option Cmp
+compare_value i = compare_of (keyword_at i)
+
+-- the item is a comparison
+abbrev pub is_compare : Item → Bool
+is_compare i = is_some (compare_value i)
+
+-- ---- settings
+
+-- the setting that a keyword is
+abbrev pub setting_of : Option Keyword → Option Setting
+setting_of (Some words.Key) = Some setting.Key
+setting_of (Some words.Order) = Some setting.Order
+setting_of (Some words.Delimiter) = Some setting.Delimiter
+setting_of (Some words.Embed) = Some setting.Embed
+setting_of (Some words.Link) = Some setting.Link
+setting_of k = None
+
+-- each setting at most once, and EMBED or LINK
+abbrev pub allows : Settings → Setting → Bool
+allows s setting.Key = is_none s.key
+allows s setting.Order = is_none s.descend
+allows s setting.Delimiter = is_none s.delimiter
+allows s setting.Embed = is_none s.mode
+allows s setting.Link = is_none s.mode
+
+-- the setting, where it is not yet
+abbrev pub if_allowed : Settings → Option Setting → Option Setting
+if_allowed s None = None
+if_allowed s (Some x) = if allows s x then Some x else None
+
+-- the word of a setting that the tag does not have yet
+abbrev pub setting_value : Settings → Item → Option Setting
+setting_value s i = if_allowed s (setting_of (keyword_at i))
+
+-- the item is a setting that is not yet
+abbrev pub is_setting : Settings → Item → Bool
+is_setting s i = is_some (setting_value s i)
+
+-- the value, or else the other one
+abbrev pub or_else : {A : Type 0} → Option A → A → A
+or_else (Some x) y = x
+or_else None y = y
+
+-- how values are shown under these settings
+abbrev pub mode_of : Settings → Mode
+mode_of s = or_else s.mode Plain
+
+-- ascending where the tag does not say otherwise
+abbrev pub order_of : Settings → Order
+order_of s = record { key = s.key; descend = or_else s.descend false; delimiter = s.delimiter }
+
+-- before the first setting
+abbrev pub no_settings : Settings
+no_settings = record { key = None; descend = None; delimiter = None; mode = None }
+
+-- a loop's tag takes no mode
+abbrev pub loop_settings : Settings
+loop_settings = record { key = None; descend = None; delimiter = None; mode = Some Plain }
+
+-- ---- variables
+
+-- the word, where it is no keyword
+abbrev pub unless_keyword : Option Keyword → List ℕ → Option (List ℕ)
+unless_keyword None n = Some n
+unless_keyword (Some k) n = None
+
+-- the name, where it is no keyword
+abbrev pub free_name : Option (List ℕ) → Option (List ℕ)
+free_name None = None
+free_name (Some n) = unless_keyword (keyword_of n) n
+
+-- a name that is no keyword
+abbrev pub variable_value : Item → Option (List ℕ)
+variable_value i = free_name (name_value i)
+
+-- the number of the loop whose variable has this name
+abbrev pub number_of : List Bound → Option (List ℕ) → Option ℕ
+number_of scope None = None
+number_of scope (Some n) = find None scope n
+
+-- a variable of a loop round it, whose value is the loop's number
+abbrev pub known_value : List Bound → Item → Option ℕ
+known_value scope i = number_of scope (variable_value i)
+
+-- the item is a variable of a loop round it
+abbrev pub is_known : List Bound → Item → Bool
+is_known scope i = is_some (known_value scope i)
+
+-- another variable
+abbrev pub is_unknown : List Bound → Item → Bool
+is_unknown scope i = is_some (variable_value i) && is_none (known_value scope i)
+
+-- a variable of no loop round it; it counts as that of the first loop
+abbrev pub unknown_value : List Bound → Item → Option ℕ
+unknown_value scope i = if is_unknown scope i then Some 0 else None
+
+-- ---- what a text can have
+
+-- A text can have this item.
+abbrev pub IsRealKind : ItemKind → Type 0
+IsRealKind (kinds.Mark m) = is_mark_kind marks.Fault (kinds.Mark m) ≡ false
+IsRealKind (kinds.Text t) = t ≡ [] → ⊥
+IsRealKind (kinds.Token k) = (text : List ℕ) × Spells text k
+
+-- an item of the scanner, and not one for the end
+abbrev pub IsReal : Item → Type 0
+IsReal i = IsRealKind i.kind

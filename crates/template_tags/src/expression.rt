@@ -1,0 +1,364 @@
+//! Words, expressions and the settings of a tag.
+
+ghost use Rattle.std.specs.Prelude.{◌≡◌, true, Some};
+ghost use Rattle.grammar.specs.Reading.{take_one, repeat, with_front, choose};
+ghost use Rattle.token_reader.specs.Gives.{Gives};
+ghost use Rattle.template_tags.specs.Terminals.{is_dot, is_setting};
+ghost use Rattle.template_tags.specs.Reading.{read_dotted, read_word, read_joined_word, read_here, read_here_of, read_collection, read_of_loop, read_loop, read_place, read_expr, read_key, read_order, read_delimiter, read_label, read_link, read_set, read_close, read_next, read_settings};
+
+use crate::settings::{Setting, Settings};
+use crate::tokens::{
+    direction_at, dot_at, equals_at, has_dot, has_equals, has_known, has_mark, has_setting,
+    has_unknown, joined_at, known_at, label_at, mark_at, quoted_at, setting_at,
+};
+use crate::words::Bound;
+use sd_value::Str;
+use std::alloc::Global;
+use template_items::{Item, Mark};
+use tmpl::{Expr, Mode, Word, WordRoot};
+use token_reader::Halt;
+
+/// A dot and a label.
+#[tactic(auto, unfolding(crate::specs::Reading::read_dotted))]
+fn dotted_at(alloc: Global, items: &[Item]) -> Result<(Str, &[Item]), Halt<Item>>
+    ensures { Gives (λ x. x.0) (λ x. x.1.now) result (read_dotted items.now) }
+{
+    let (_, rest) = dot_at(items)?;
+    joined_at(alloc, rest)
+}
+
+/// The labels behind `labels`, each behind a dot.
+fn labels_from(
+    alloc: Global,
+    mut labels: Vec<Str>,
+    items: &[Item],
+) -> Result<(Word, &[Item]), Halt<Item>>
+    ensures { Gives (λ x. x.0) (λ x. x.1.now) result
+        (with_front labels.items (repeat is_dot read_dotted items.now)) }
+{
+    let mut rest = items;
+    'labels: while has_dot(rest) {
+        let (label, after) = dotted_at(alloc, rest)?;
+        labels.push(label)?;
+        rest = after;
+    }
+    Ok((Word { labels }, rest))
+}
+
+/// A word.
+#[tactic(auto, unfolding(crate::specs::Reading::read_word))]
+fn word_at(alloc: Global, items: &[Item]) -> Result<(Word, &[Item]), Halt<Item>>
+    ensures { Gives (λ x. x.0) (λ x. x.1.now) result (read_word items.now) }
+{
+    let (first, rest) = label_at(alloc, items)?;
+    labels_from(alloc, vec![in alloc; first]?, rest)
+}
+
+/// A word right behind a sign.
+#[tactic(auto, unfolding(crate::specs::Reading::read_joined_word))]
+fn joined_word_at(alloc: Global, items: &[Item]) -> Result<(Word, &[Item]), Halt<Item>>
+    ensures { Gives (λ x. x.0) (λ x. x.1.now) result (read_joined_word items.now) }
+{
+    let (first, rest) = joined_at(alloc, items)?;
+    labels_from(alloc, vec![in alloc; first]?, rest)
+}
+
+/// `@` alone.
+#[tactic(auto, unfolding(crate::specs::Reading::read_here))]
+fn here_at(alloc: Global, items: &[Item]) -> Result<(Expr, &[Item]), Halt<Item>>
+    ensures { Gives (λ x. x.0) (λ x. x.1.now) result (read_here items.now) }
+{
+    let (_, rest) = mark_at(items, Mark::Here)?;
+    let word = Word {
+        labels: Vec::new(alloc),
+    };
+    Ok((
+        Expr {
+            root: WordRoot::Here,
+            word,
+        },
+        rest,
+    ))
+}
+
+/// `@` and a word.
+#[tactic(auto, unfolding(crate::specs::Reading::read_here_of))]
+fn here_of_at(alloc: Global, items: &[Item]) -> Result<(Expr, &[Item]), Halt<Item>>
+    ensures { Gives (λ x. x.0) (λ x. x.1.now) result (read_here_of items.now) }
+{
+    let (_, rest) = mark_at(items, Mark::HereOf)?;
+    let (word, rest) = joined_word_at(alloc, rest)?;
+    Ok((
+        Expr {
+            root: WordRoot::Here,
+            word,
+        },
+        rest,
+    ))
+}
+
+/// `#`, a collection's name, and perhaps a word.
+#[tactic(auto, unfolding(crate::specs::Reading::read_collection))]
+fn collection_at(alloc: Global, items: &[Item]) -> Result<(Expr, &[Item]), Halt<Item>>
+    ensures { Gives (λ x. x.0) (λ x. x.1.now) result (read_collection items.now) }
+{
+    let (_, rest) = mark_at(items, Mark::Hash)?;
+    let (name, rest) = joined_at(alloc, rest)?;
+    let (word, rest) = labels_from(alloc, Vec::new(alloc), rest)?;
+    Ok((
+        Expr {
+            root: WordRoot::Collection(name),
+            word,
+        },
+        rest,
+    ))
+}
+
+/// A variable of a loop, and perhaps a word.
+#[tactic(auto, unfolding(crate::specs::Reading::read_loop, crate::specs::Reading::read_of_loop))]
+fn loop_at<'a>(
+    alloc: Global,
+    scope: &[Bound],
+    items: &'a [Item],
+) -> Result<(Expr, &'a [Item]), Halt<'a, Item>>
+    ensures { Gives (λ x. x.0) (λ x. x.1.now) result (read_loop scope.now items.now) }
+{
+    let (number, rest) = known_at(items, scope)?;
+    let (word, rest) = labels_from(alloc, Vec::new(alloc), rest)?;
+    Ok((
+        Expr {
+            root: WordRoot::Loop(number),
+            word,
+        },
+        rest,
+    ))
+}
+
+/// An expression without a variable.
+#[tactic(auto, unfolding(crate::specs::Reading::read_place))]
+fn place_at(alloc: Global, items: &[Item]) -> Result<(Expr, &[Item]), Halt<Item>>
+    ensures { Gives (λ x. x.0) (λ x. x.1.now) result (read_place items.now) }
+{
+    if has_mark(items, Mark::Here) {
+        here_at(alloc, items)
+    } else if has_mark(items, Mark::HereOf) {
+        here_of_at(alloc, items)
+    } else {
+        collection_at(alloc, items)
+    }
+}
+
+/// An expression; these loops are round it.
+#[tactic(auto, unfolding(crate::specs::Reading::read_expr))]
+pub fn expression_at<'a>(
+    alloc: Global,
+    scope: &[Bound],
+    items: &'a [Item],
+) -> Result<(Expr, &'a [Item]), Halt<'a, Item>>
+    ensures { Gives (λ x. x.0) (λ x. x.1.now) result (read_expr scope.now items.now) }
+{
+    if has_unknown(items, scope) {
+        Err(Halt::TooDeep(items))
+    } else if has_known(items, scope) {
+        loop_at(alloc, scope, items)
+    } else {
+        place_at(alloc, items)
+    }
+}
+
+#[tactic(auto, unfolding(crate::specs::Reading::read_key))]
+fn key_at(
+    alloc: Global,
+    settings: Settings,
+    items: &[Item],
+) -> Result<(Settings, &[Item]), Halt<Item>>
+    ensures { Gives (λ x. x.0) (λ x. x.1.now) result (read_key settings items.now) }
+{
+    let (_, rest) = equals_at(items)?;
+    let (word, rest) = word_at(alloc, rest)?;
+    let Settings {
+        key: _,
+        descend,
+        delimiter,
+        mode,
+    } = settings;
+    Ok((
+        Settings {
+            key: Some(word),
+            descend,
+            delimiter,
+            mode,
+        },
+        rest,
+    ))
+}
+
+#[tactic(auto, unfolding(crate::specs::Reading::read_order))]
+fn order_at(settings: Settings, items: &[Item]) -> Result<(Settings, &[Item]), Halt<Item>>
+    ensures { Gives (λ x. x.0) (λ x. x.1.now) result (read_order settings items.now) }
+{
+    let (_, rest) = equals_at(items)?;
+    let (descend, rest) = direction_at(rest)?;
+    let Settings {
+        key,
+        descend: _,
+        delimiter,
+        mode,
+    } = settings;
+    Ok((
+        Settings {
+            key,
+            descend: Some(descend),
+            delimiter,
+            mode,
+        },
+        rest,
+    ))
+}
+
+#[tactic(auto, unfolding(crate::specs::Reading::read_delimiter))]
+fn delimiter_at(
+    alloc: Global,
+    settings: Settings,
+    items: &[Item],
+) -> Result<(Settings, &[Item]), Halt<Item>>
+    ensures { Gives (λ x. x.0) (λ x. x.1.now) result (read_delimiter settings items.now) }
+{
+    let (_, rest) = equals_at(items)?;
+    let (text, rest) = quoted_at(alloc, rest)?;
+    let Settings {
+        key,
+        descend,
+        delimiter: _,
+        mode,
+    } = settings;
+    Ok((
+        Settings {
+            key,
+            descend,
+            delimiter: Some(text),
+            mode,
+        },
+        rest,
+    ))
+}
+
+/// The same settings with this mode.
+fn with_mode(settings: Settings, mode: Mode) -> Settings
+    ensures { result ≡ record {
+      key = settings.key;
+      descend = settings.descend;
+      delimiter =
+          settings.delimiter;
+      mode = Some mode;
+    } }
+{
+    let Settings {
+        key,
+        descend,
+        delimiter,
+        mode: _,
+    } = settings;
+    Settings {
+        key,
+        descend,
+        delimiter,
+        mode: Some(mode),
+    }
+}
+
+#[tactic(auto, unfolding(crate::specs::Reading::read_link, crate::specs::Reading::read_label))]
+fn link_at(
+    alloc: Global,
+    settings: Settings,
+    items: &[Item],
+) -> Result<(Settings, &[Item]), Halt<Item>>
+    ensures { Gives (λ x. x.0) (λ x. x.1.now) result (read_link settings items.now) }
+{
+    if !has_equals(items) {
+        return Ok((with_mode(settings, Mode::Link(None)), items));
+    }
+    let (_, rest) = equals_at(items)?;
+    let (word, rest) = word_at(alloc, rest)?;
+    Ok((with_mode(settings, Mode::Link(Some(word))), rest))
+}
+
+/// What is behind the word of a setting.
+fn set_at(
+    alloc: Global,
+    settings: Settings,
+    setting: Setting,
+    items: &[Item],
+) -> Result<(Settings, &[Item]), Halt<Item>>
+    ensures { Gives (λ x. x.0) (λ x. x.1.now) result (read_set settings setting items.now) }
+{
+    match setting {
+        Setting::Key => key_at(alloc, settings, items),
+        Setting::Order => order_at(settings, items),
+        Setting::Delimiter => delimiter_at(alloc, settings, items),
+        Setting::Embed => Ok((with_mode(settings, Mode::Embed), items)),
+        Setting::Link => link_at(alloc, settings, items),
+    }
+}
+
+/// The end of a tag that has these settings.
+#[tactic(auto, unfolding(crate::specs::Reading::read_close))]
+fn close_at(settings: Settings, items: &[Item]) -> Result<(Settings, &[Item]), Halt<Item>>
+    ensures { Gives (λ x. x.0) (λ x. x.1.now) result (read_close settings items.now) }
+{
+    let (_, rest) = mark_at(items, Mark::Close)?;
+    Ok((settings, rest))
+}
+
+/// At most `turns` further settings, and the end of the tag.
+#[cycle(settings)]
+pub fn settings_at(
+    alloc: Global,
+    turns: u32,
+    settings: Settings,
+    items: &[Item],
+) -> Result<(Settings, &[Item]), Halt<Item>>
+    ensures { Gives (λ x. x.0) (λ x. x.1.now) result (read_settings turns settings items.now) }
+{
+    if turns == 0 {
+        close_at(settings, items)
+    } else {
+        further_at(alloc, turns - 1, settings, items)
+    }
+}
+
+/// At most `turns` settings more than one, and the end of the tag.
+#[cycle(settings)]
+fn further_at(
+    alloc: Global,
+    turns: u32,
+    settings: Settings,
+    items: &[Item],
+) -> Result<(Settings, &[Item]), Halt<Item>>
+    ensures { Gives (λ x. x.0) (λ x. x.1.now) result
+        (choose (is_setting settings) (read_next (read_settings turns) settings)
+        (read_close settings) items.now) }
+{
+    if has_setting(items, &settings) {
+        next_at(alloc, turns, settings, items)
+    } else {
+        close_at(settings, items)
+    }
+}
+
+/// A setting, and at most `turns` more behind it.
+#[cycle(settings)]
+#[tactic(auto, unfolding(crate::specs::Reading::read_next))]
+fn next_at(
+    alloc: Global,
+    turns: u32,
+    settings: Settings,
+    items: &[Item],
+) -> Result<(Settings, &[Item]), Halt<Item>>
+    ensures { Gives (λ x. x.0) (λ x. x.1.now) result
+        (read_next (read_settings turns) settings items.now) }
+{
+    let (setting, rest) = setting_at(items, &settings)?;
+    let (settings, rest) = set_at(alloc, settings, setting, rest)?;
+    settings_at(alloc, turns, settings, rest)
+}

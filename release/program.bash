@@ -1,0 +1,170 @@
+# Which program the launcher runs in a checkout: the released one exactly where it was built from these sources, or else the one
+# that is proved and built here. The launcher, release/make and release/verify read this file, with `top` set.
+
+released=$top/release/strudel-x86_64-linux
+built_here=$top/crates/strudel/out/strudel
+
+# What the program is built from: the files that a proof reads, and the list of crates.
+list_sources() {
+  (
+    cd "$top" || exit
+    shopt -s nullglob
+    printf 'crates.txt\0'
+    find crates/*/src crates/*/specs crates/*/proofs -type f \( -name '*.rt' -o -name '*.antt' \) -print0 | LC_ALL=C sort -z
+  )
+}
+
+# sum_of_sources KIT: the checksum of the names and contents of all sources, and of the kit's line.
+sum_of_sources() {
+  local sum
+  sum=$(
+    set -o pipefail
+    cd "$top" && {
+      list_sources | xargs -0 sha256sum -- || echo unread
+      echo "$1"
+    } | sha256sum
+  ) && echo "${sum%% *}"
+}
+
+# Whether the released program is what was made, for this system, from these sources.
+is_release_of_sources() {
+  local name value kit='' sources=''
+  [ -x "$released" ] && [ "$HOSTTYPE" = x86_64 ] && [[ $OSTYPE = linux-gnu* ]] || return 1
+  [ -r "$top/release/built-from" ] || return 1
+  while read -r name value; do
+    case $name in
+      sources) sources=$value ;;
+      kit) kit=$value ;;
+    esac
+  done <"$top/release/built-from"
+  (cd "$top/release" && sha256sum --status -c strudel-x86_64-linux.sha256 2>/dev/null) || return 1
+  [ -n "$sources" ] && [ "$sources" = "$(sum_of_sources "$kit")" ]
+}
+
+# The same, remembered until a file changes: `release/.fits` has the answer, and its time is before all that was read for it.
+# Files are compared by the time of their last change of any kind, which no copying sets back.
+fits_sources() {
+  local stamp=$top/release/.fits answer
+  [ -e "$released" ] || return 1
+  # (an answer from the future tells of a clock that was set back)
+  if [ -e "$stamp" ] && [ -z "$(
+    cd "$top" && find release/.fits crates crates.txt release/strudel-x86_64-linux release/strudel-x86_64-linux.sha256 release/built-from \
+      -path release/.fits \( -newermt now -print -quit -o -prune \) -o \
+      -path 'crates/*/out' ! -path 'crates/*/*/out' -prune -o -cnewer release/.fits -print -quit 2>&1
+  )" ]; then
+    read -r answer <"$stamp"
+  else
+    { : >"$stamp.$$" && touch -d '-2 seconds' "$stamp.$$" && touch -r "$stamp.$$" "$stamp.time.$$"; } 2>/dev/null
+    is_release_of_sources && answer=yes || answer=no
+    {
+      [ -e "$stamp.time.$$" ] && echo $answer >"$stamp.$$" && touch -r "$stamp.time.$$" "$stamp.$$" && mv -f "$stamp.$$" "$stamp"
+    } 2>/dev/null
+    rm -f "$stamp.$$" "$stamp.time.$$" 2>/dev/null
+  fi
+  [ "$answer" = yes ]
+}
+
+# The crates that the program is made of, itself the last.
+list_crates() {
+  awk '
+    function visit(name, names, count, at) {
+      if (seen[name]++ || !(name in uses)) return
+      count = split(uses[name], names, " ")
+      for (at = 1; at <= count; at++) visit(names[at])
+      print name
+    }
+    { sub(/#.*/, "") }
+    /:/ { at = index($0, ":"); split($0, words, /[ :]+/); uses[words[1]] = substr($0, at + 1) }
+    END { visit("strudel") }
+  ' "$top/crates.txt"
+}
+
+# clock SECONDS: as 1:05, or 1:02:05.
+clock() {
+  if [ "$1" -ge 3600 ]; then
+    printf '%d:%02d:%02d' $(($1 / 3600)) $(($1 / 60 % 60)) $(($1 % 60))
+  else
+    printf '%d:%02d' $(($1 / 60)) $(($1 % 60))
+  fi
+}
+
+# show_progress PROCESS: once a second, while that process runs, how many crates are proved, and how long the last one took.
+show_progress() {
+  local crates proved=-1 count name newest last='' began=$SECONDS
+  mapfile -t crates < <(list_crates)
+  while kill -0 "$1" 2>/dev/null; do
+    count=0 newest=
+    for name in "${crates[@]}"; do
+      [ -e "$top/crates/$name/out/rlib/stamp" ] || continue
+      count=$((count + 1))
+      if [ -z "$newest" ] || [ "$top/crates/$name/out/rlib/stamp" -nt "$top/crates/$newest/out/rlib/stamp" ]; then newest=$name; fi
+    done
+    if [ "$count" -ne "$proved" ]; then
+      [ "$proved" -lt 0 ] || last="; the last, $newest, took $(clock $((SECONDS - began)))"
+      proved=$count began=$SECONDS
+    fi
+    printf '\r\033[K%s' "$proved of ${#crates[@]} crates proved, $(clock $SECONDS)$last" >&2
+    sleep 1
+  done
+}
+
+# Proves and builds the program, with each crate that it is made of.
+build_program() {
+  local log watcher=''
+  [ ! -e "$released" ] || echo "strudel: the released program wasn't built from these sources, or isn't for this system" >&2
+  echo "strudel: proving and building the program, once; that takes more than an hour of one processor" >&2
+  log=$(mktemp) || return 70
+  SECONDS=0
+  trap 'trap - INT; rm -f "$log"; printf "\nstrudel: not built; the next start goes on with what is proved by now\n" >&2; kill -INT $$' INT
+  if [ -t 2 ]; then
+    show_progress $$ &
+    watcher=$!
+  fi
+  (cd "$top/crates/strudel" && rt run -- </dev/null) >"$log" 2>&1
+  trap - INT
+  if [ -n "$watcher" ]; then
+    kill "$watcher" 2>/dev/null
+    wait "$watcher" 2>/dev/null
+    printf '\r\033[K' >&2
+  fi
+  if [ ! -x "$built_here" ]; then
+    cat "$log" >&2
+    rm -f "$log"
+    echo "strudel: not proved or not built, after $(clock $SECONDS)" >&2
+    return 70
+  fi
+  rm -f "$log"
+  echo "strudel: proved and built in $(clock $SECONDS)" >&2
+}
+
+# What is missing where there is no program and nothing to build it with.
+tell_missing() {
+  {
+    echo "strudel: there is no program to run"
+    if [ ! -e "$released" ]; then
+      echo "This checkout has no released program (release/strudel-x86_64-linux),"
+    elif [ "$HOSTTYPE" != x86_64 ] || [[ $OSTYPE != linux-gnu* ]]; then
+      echo "The released program is for x86-64 Linux with glibc, and this system is $HOSTTYPE $OSTYPE,"
+    else
+      echo "The released program wasn't built from these sources: a file of crates/, crates.txt or the release itself was changed,"
+    fi
+    echo "and the kit that proves and builds one (\`rt\`) isn't in the PATH. Any one of these helps:"
+    echo "  a checkout of a release as it was published, or its package or archive (\`git status\` shows what was changed here);"
+    echo "  the folder of \`rt\` in PATH: then the program is proved and built, which takes more than an hour;"
+    echo "  STRUDEL_PROGRAM=FILE, which names a program that is elsewhere."
+  } >&2
+}
+
+# Sets `program`, or ends with 69 where there is none and no kit, and with 70 where it isn't proved or not built.
+find_program() {
+  if fits_sources; then
+    program=$released
+  elif [ -x "$built_here" ]; then
+    program=$built_here
+  elif command -v rt >/dev/null; then
+    build_program && program=$built_here
+  else
+    tell_missing
+    return 69
+  fi
+}
