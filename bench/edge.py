@@ -1,6 +1,7 @@
 """The server under many requests and beside silent clients, over real sockets on 127.0.0.1."""
 import contextlib
 import os
+import random
 import socket
 import subprocess
 import sys
@@ -9,7 +10,7 @@ import time
 
 from measure import STRUDEL, resident, spent, written
 import shapes
-from queries import PAPERS, PAPERS_PAGES
+from queries import COUNTRIES, COUNTRIES_PAGES, GROUPS, GROUPS_PAGES, JOURNAL, JOURNAL_PAGES, PAPERS, PAPERS_PAGES
 
 # How long a silent client may hold the server, in milliseconds, and how long a page is waited for, in seconds.
 IDLE = 500
@@ -172,4 +173,41 @@ def bench_silent(folder):
     with serving(folder, "--idle", str(IDLE)) as (_, port), dripping(port):
         time.sleep(0.2)
         rows.append((f"a client that sends a byte of a head each tenth of a second: a page after {after(waited(port))}", None, None, f"a few times {IDLE / 1000} s is asked for"))
+    return rows
+
+
+# Sites, and how a page of theirs is named by a number.
+SITES = (
+    ("a subdivision of 5,127", COUNTRIES, COUNTRIES_PAGES, lambda: shapes.countries(), lambda n: f"/Part/nd{n % 5_127}.html"),
+    ("a paper of 5,000", JOURNAL, JOURNAL_PAGES, lambda: shapes.journal(5_000), lambda n: f"/Paper/np{n % 5_000}.html"),
+    ("an entry of 20,000, with the name of a page of 1,000 rows", GROUPS, GROUPS_PAGES, lambda: shapes.groups(20, 1_000), lambda n: f"/Entry/ne{n % 20_000}.html"),
+    ("a page that shows 1,000 links", GROUPS, GROUPS_PAGES, lambda: shapes.groups(20, 1_000), lambda n: f"/Type/tType~20{n % 20:03}.html"),
+)
+
+
+def each_page(folder, addresses, *options):
+    """Processor seconds of the server for each page, less those of as many replies with a page that is kept; the megabytes that it holds then; and the seconds that it took to start."""
+    with serving(folder, "--requests", "4294967296", "--cache", "1", *options) as (server, port):
+        ask_over_one(port, addresses[:1])
+        begun = spent(server.pid)
+        ask_over_one(port, [addresses[0]] * len(addresses))
+        kept = spent(server.pid)
+        ask_over_one(port, addresses)
+        return (spent(server.pid) - kept - (kept - begun)) / len(addresses), resident(server.pid), begun
+
+
+def bench_whole(folder):
+    """Pages from the whole site (`serve --whole`), beside those from their own demand: processor seconds of the server for one page, none of which is kept, less those of a reply with a kept page. The megabytes are those of the server."""
+    rows = []
+    for what, query, templates, data, address in SITES:
+        written(f"{folder}/q", [query])
+        written(f"{folder}/t", [templates])
+        written(f"{folder}/d.ddl", data())
+        draw = random.Random(1)
+        addresses = [address(draw.randrange(1_000_000)) for _ in range(2_000)]
+        for how, options in (("from its own demand", ()), ("from the whole site", ("--whole",))):
+            # (a click may take a hundred times as long)
+            seconds, memory, start = each_page(folder, addresses if options else addresses[:200], *options)
+            note = f"0.1 ms is asked for; the start took {start:.2f} s" if options and "links" not in what else f"the start took {start:.2f} s"
+            rows.append((f"{what}, {how}", seconds, memory, note))
     return rows

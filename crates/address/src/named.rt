@@ -3,7 +3,8 @@ ghost use Rattle.std.specs.Prelude.{◌≡◌, ◌↔◌, ℕ, List, ◌∷◌, 
 ghost use Rattle.sd_value.specs.declared.Datum.{Datum};
 ghost use Rattle.sd_value.specs.declared.Term.{Term};
 ghost use Rattle.page_spec.specs.Show as spec;
-ghost use Rattle.page_spec.specs.Address.{IsDatum, IsName, IsAddressable, Named, TermOf, is_letter as spec_is_letter, is_digit as spec_is_digit, asks_root as spec_asks_root};
+ghost use Rattle.page_spec.specs.Address.{IsDatum, IsName, IsAddressable, Named, TermOf, is_letter as spec_is_letter};
+ghost use Rattle.page_spec.specs.Address.{is_digit as spec_is_digit, asks_root as spec_asks_root};
 ghost use Rattle.address.specs.Segments.{HasNoSlash, IsEndOrSlash};
 ghost use Rattle.address.specs.Targets.{root_name, IsOnly, IsSame};
 

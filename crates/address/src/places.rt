@@ -8,7 +8,7 @@ use page_spec::NAME_LIMIT;
 use sd_value::{NoMemory, Term};
 use std::alloc::Global;
 
-/// Why a page has no file: a name on its way would have more than 255 bytes, or memory ran out.
+/// Why a page has no file: a name on its way would have more than 255 bytes, or it was out of memory.
 #[derive(Clone, Copy, Debug, PartialEq, Eq)]
 pub enum FileRefusal {
     LongName,

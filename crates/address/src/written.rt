@@ -8,7 +8,7 @@ use std::alloc::Global;
 
 /// The address of the term is put after what `out` has: `/F.html`, and with arguments `/F/a1/a2.html`, where an
 /// argument is its kind's letter and then its text, a byte other than A-Z a-z 0-9 `-` and `_` as `~XX`. `out` is as
-/// it was where memory runs out.
+/// it was where it is out of memory.
 pub fn address(alloc: Global, term: &Term, out: &mut Vec<u8>) -> Result<(), NoMemory>
     ensures { out.new.items
         ≡ (if is_ok result then out.old.items ++ spec.address term.now else out.old.items) }
@@ -20,7 +20,7 @@ pub fn address(alloc: Global, term: &Term, out: &mut Vec<u8>) -> Result<(), NoMe
 }
 
 /// The value as text is put after what `out` has: an Int in decimal, another datum's bytes, a page's address. `out`
-/// is as it was where memory runs out.
+/// is as it was where it is out of memory.
 pub fn show(alloc: Global, value: &Value, out: &mut Vec<u8>) -> Result<(), NoMemory>
     ensures { out.new.items
         ≡ (if is_ok result then out.old.items ++ spec.show value.now else out.old.items) }

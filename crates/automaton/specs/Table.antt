@@ -5,7 +5,8 @@ use Rattle.rpe.specs.Regex.{Label, Word, Regex}
 use Rattle.automaton.specs.PositionSet.{Has}
 use Rattle.automaton.specs.Positions.{letters_of, has_empty_of, IsFirst, IsLast, Follows, ReadsIn}
 
--- what is at each position, the sets of positions at which a word may begin and end, and for each position the set of those that may be right after it
+-- what is at each position, the sets of positions at which a word may begin and end, and for
+-- each position the set of those that may be right after it
 pub record Table : Type 0 where
   pub letters : List (Option Label)
   pub has_empty : Bool

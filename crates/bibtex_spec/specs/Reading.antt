@@ -10,7 +10,8 @@
 --
 -- Blanks may stand between all of these. A reader is stuck at the first byte with which no item goes on, and is past
 -- a limit at a macro that isn't defined, or at the brace that is open within 64 others.
-use Rattle.std.specs.Prelude.{◌+◌, ◌-◌, ◌==◌, ◌&&◌, ℕ, zero, suc, Bool, true, false, List, [], ◌∷◌, ◌++◌, length, codes, nat_eq, nat_lt, map, if◌then◌else◌, Option, Some, None}
+use Rattle.std.specs.Prelude.{◌+◌, ◌-◌, ◌==◌, ◌&&◌, ℕ, zero, suc, Bool, true, false, List, [], ◌∷◌, ◌++◌, length}
+use Rattle.std.specs.Prelude.{codes, nat_eq, nat_lt, map, if◌then◌else◌, Option, Some, None}
 use Rattle.std.specs.Str.{bytes_eq}
 use Rattle.grammar.specs.Reading.{Outcome, Read, Stuck, Past, and_then, ◌>>=◌, ◌>>◌, give, take_one, choose, repeat, with_front}
 use Rattle.bibtex_spec.specs.declared.Field.{Field}

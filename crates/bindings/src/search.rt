@@ -1,5 +1,6 @@
 // A search, depth first, for all rows that meet a list of goals.
-ghost use Rattle.std.specs.Prelude.{◌≡◌, ◌↔◌, IsTrue, false, ◌≤◌, ℕ, IfOk, MatchOption, IfSome, length, Some, None, ◌<◌, ◌+◌, slice_set, slice_get, if◌then◌else◌};
+ghost use Rattle.std.specs.Prelude.{◌≡◌, ◌↔◌, IsTrue, false, ◌≤◌, ℕ, IfOk, MatchOption, IfSome, length, Some, None};
+ghost use Rattle.std.specs.Prelude.{◌<◌, ◌+◌, slice_set, slice_get, if◌then◌else◌};
 ghost use Rattle.sd_value.specs.Ascending.{ListsExactly};
 ghost use Rattle.query_spec.specs.Rows.{arcs_of, row_cmp, IsAnswer, SomeAnswer};
 ghost use Rattle.condition_tests.specs.Resolved.{AreGoalsOf};

@@ -33,6 +33,13 @@ impl<S: Store> StoreAsker<S> {
     {
         StoreAsker { store, given: 0 }
     }
+
+    /// The store that it asks.
+    pub fn store(&self) -> &S
+        ensures { result.now ≡ store_of self.now }
+    {
+        &self.store
+    }
 }
 
 fn rows_of<S: Store>(

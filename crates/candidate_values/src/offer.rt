@@ -1,5 +1,6 @@
 // The values that a free variable of a condition may take.
-ghost use Rattle.std.specs.Prelude.{◌≡◌, ◌<◌, ℕ, IfOk, IfSome, MatchOption, IsTrue, Contains, length, None, Some, slice_get, map, true, false};
+ghost use Rattle.std.specs.Prelude.{◌≡◌, ◌<◌, ℕ, IfOk, IfSome, MatchOption, IsTrue, Contains, length, None, Some};
+ghost use Rattle.std.specs.Prelude.{slice_get, map, true, false};
 ghost use Rattle.sd_value.specs.Ascending.{ListsExactly};
 ghost use Rattle.sd_value.specs.Order.{value_cmp};
 ghost use Rattle.graph_spec.specs.DataGraph.{node, text};

@@ -2,7 +2,9 @@
 
 ghost use Rattle.std.specs.Prelude.{◌≡◌, ◌&&◌, true, IfOk, map, option_copied};
 ghost use Rattle.query_blocks.specs.Blocks.{scope_of, AreCheckedBlocks};
-ghost use Rattle.constraint_recheck.specs.Recheck.{zip_all, is_empty, shows as is_shown, shows_reached as is_reached, each_may as each, may_carry, single, determined, recheck as passes};
+ghost use Rattle.constraint_recheck.specs.Recheck.{zip_all, is_empty, shows as is_shown, shows_reached as is_reached};
+ghost use Rattle.constraint_recheck.specs.Recheck.{each_may as each, may_carry, single, determined};
+ghost use Rattle.constraint_recheck.specs.Recheck.{recheck as passes};
 ghost use Rattle.constraint_spec.specs.Placed.{mentions_of, links_of as links_of_scope};
 ghost use Rattle.query_links.specs.Links.{ends_at as ends_there};
 ghost use Rattle.query_links.specs.Mentions.{mention_of, HaveChains};

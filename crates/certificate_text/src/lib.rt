@@ -14,7 +14,7 @@ mod print;
 mod terms;
 mod variables;
 
-pub use print::print_verdict;
+pub use print::{print_unknown, print_yes};
 
 /// The terms that the lines of a certificate name are those of the function's mentions, in their
 /// order.

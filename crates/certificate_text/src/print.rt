@@ -1,4 +1,4 @@
-// The lines of a verdict.
+// The lines of an answer.
 
 ghost use Rattle.std.specs.Prelude.{◌≡◌, ◌++◌, IfOk, length, map, codes};
 ghost use Rattle.std.specs.Fmt.{decimal};
@@ -6,12 +6,14 @@ ghost use Rattle.std.specs.List.{flat_map};
 ghost use Rattle.struql_print.specs.Texts.{joined, further};
 ghost use Rattle.query_blocks.specs.Blocks.{body_of, scope_of, AreCheckedBlocks};
 ghost use Rattle.constraint_spec.specs.Placed.{links_of};
-ghost use Rattle.certificate_text.specs.Lines.{variables_of_links, mapped_texts, use_text, mention_text, placed_terms, proof_line, proof_lines, function_of as function_named, unknown_text};
-ghost use Rattle.certificate_text.specs.Written.{placed_of, verdict_text};
+ghost use Rattle.certificate_text.specs.Lines.{variables_of_links, mapped_texts, use_text, mention_text};
+ghost use Rattle.certificate_text.specs.Lines.{placed_terms, proof_line, proof_lines, function_of as function_named};
+ghost use Rattle.certificate_text.specs.Lines.{unknown_text};
+ghost use Rattle.certificate_text.specs.Written.{placed_of, yes_text_by};
 
 use crate::terms::{WrittenTerm, terms_of};
 use crate::variables::{variables_at, variables_by_link};
-use certificates::{Certificate, LinkUse, MentionProof, Verdict};
+use certificates::{Certificate, LinkUse, MentionProof};
 use constraint_spec::Constraint;
 use itoa::Buffer;
 use query_blocks::QueryBlocks;
@@ -172,30 +174,34 @@ fn put_certificate(
     put_proofs(&variables, &mentions, certificate.proofs(), out)
 }
 
-/// Appends what is known of a query's constraint of this number: `K yes` and a line for each proof of
-/// the certificate, `  PATH TERM:` and per use ` link N {a=b, c=d}`, or `K unknown`. The paths are
+/// Appends that a query's constraint of this number is met over every data graph: `K yes`, and a line
+/// for each proof of the certificate, `  PATH TERM:` and per use ` link N {a=b, c=d}`. The paths are
 /// those of the blocks. After `NoMemory` what `out` holds is not said.
-pub fn print_verdict(
+pub fn print_yes(
     alloc: Global,
     blocks: &QueryBlocks,
     paths: &[Str],
     number: usize,
     constraint: &Constraint,
-    verdict: &Verdict,
+    certificate: &Certificate,
     out: &mut Vec<u8>,
 ) -> Result<(), NoMemory>
     requires paths { length paths.now ≡ length blocks.now.blocks.items }
     requires checked { AreCheckedBlocks blocks.now.version blocks.now.blocks.items }
     ensures { IfOk result (λ _. out.new.items ≡ out.old.items
-        ++ verdict_text blocks.now.version paths.now (scope_of blocks.now).bodies number
-        constraint.now verdict.now) }
+        ++ yes_text_by blocks.now.version paths.now (scope_of blocks.now).bodies number
+        constraint.now certificate.now) }
 {
     put_number(number, out)?;
-    match verdict {
-        Verdict::Yes(certificate) => {
-            put(b" yes\n", out)?;
-            put_certificate(alloc, blocks, paths, constraint, certificate, out)
-        }
-        Verdict::Unknown => put(b" unknown\n", out),
-    }
+    put(b" yes\n", out)?;
+    put_certificate(alloc, blocks, paths, constraint, certificate, out)
+}
+
+/// Appends that it isn't known of the constraint of this number: `K unknown`. After `NoMemory` what
+/// `out` holds is not said.
+pub fn print_unknown(number: usize, out: &mut Vec<u8>) -> Result<(), NoMemory>
+    ensures { IfOk result (λ _. out.new.items ≡ out.old.items ++ unknown_text number) }
+{
+    put_number(number, out)?;
+    put(b" unknown\n", out)
 }

@@ -33,7 +33,7 @@ use Rattle.site_inputs.specs.Outside.{Host, host}
 use Rattle.site_inputs.proofs.PageFaults.{inputs_none}
 use Rattle.command_build.specs.Ends.{BuiltEnds, Builds, BuildEnds, IsSiteFile, SiteRose, build_text, written_end, stop_status}
 
--- a page's fault leaves what want of memory at that page leaves
+-- a page's fault leaves what is left when out of memory at that page
 site_no_memory : (s : Site) (f : TemplateFile) (folder : List ℕ) (terms : List Term) (root : Option (List ℕ)) (old new : FileMap) (term : Term) (kind : PageKind)
     → SiteEnds s f folder terms root old new (Err (stop.Faulty term kind)) → SiteEnds s f folder terms root old new (Err stop.NoMemory)
 site_no_memory s f folder terms root old new term kind (inl at) = inl (record { front = at.front; at = at.at; back = at.back; split = at.split; between = at.between; written = at.written; stops = at.stops.2 })
@@ -79,7 +79,7 @@ built_told (Some new) s graph scope file root folder terms old end is_graph is_s
   told = told;
 })
 
--- no memory before the first file
+-- out of memory before the first file
 pub unbuilt_told : (o n : Option FileMap) (s : Inputs) (folder : List ℕ) (old : FileMap) (end : Result (List ℕ) Stop) → n ≡ o → o ≡ Some old → end ≡ Err stop.NoMemory → IsSomeAnd n (λ new. BuiltEnds s folder old new end)
 unbuilt_told o n s folder old end same told is =
     let at : n ≡ Some old = same ∙ told in
@@ -176,6 +176,6 @@ stop_is reason e = cc
 pub unwritten_again : (reason : Stop) → ◌≡◌ {A = Result (List ℕ) Stop} (Err reason) (Err stop.Unwritten) → ◌≡◌ {A = Result ⊤ Stop} (Err reason) (Err stop.Unwritten)
 unwritten_again reason e = ap (λ (r : Stop). Err r) (stop_is reason e)
 
--- where memory ran out before anything was written, no count rose
+-- where it was out of memory before anything was written, no count rose
 pub no_write : (P : List ℕ → Type 0) (counts : List ℕ → ℕ) (end : Result (List ℕ) Stop) → end ≡ Err stop.NoMemory → WritesHaveCause P counts counts end
 no_write P counts end is = record { later = λ path. omega arith; failed = λ e. absurd cc }

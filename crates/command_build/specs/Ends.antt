@@ -41,7 +41,7 @@ pub record IsBuilt (s : Inputs) (folder : List ℕ) (old new : FileMap)
       (written_end end)
   pub told : IfOk end (λ text. text ≡ build_text (length pages))
 
--- How building a site from its inputs ends: its files are written, or memory runs out before the first of them.
+-- How building a site from its inputs ends: its files are written, or it is out of memory before the first of them.
 abbrev pub BuiltEnds
     : Inputs → (folder : List ℕ) → (old new : FileMap) → Result (List ℕ) Stop → Type 0
 BuiltEnds s folder old new end =

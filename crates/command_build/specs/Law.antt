@@ -1,4 +1,4 @@
--- A build ends well, unless memory runs out, where its inputs are accepted and nothing outside fails.
+-- A build ends well, unless it is out of memory, where its inputs are accepted and nothing outside fails.
 use Rattle.std.specs.Prelude.{ℕ, List, Ok, Err}
 use Rattle.sd_value.specs.declared.Term.{Term}
 use Rattle.page_spec.specs.Page.{IsPresent}

@@ -19,7 +19,7 @@ use Rattle.site_inputs.proofs.Decided.{then_decides}
 use Rattle.site_inputs.proofs.DecidedInputs.{query_decides}
 use Rattle.command_check.specs.ConstraintFile.{ConstraintsEnd}
 use Rattle.command_check.specs.CheckEnds.{VerdictsTaken, CheckEnds, all_yes_of}
-use Rattle.command_check.specs.Law.{AreInputs, YesHolds}
+use Rattle.command_check.specs.Law.{AreInputs, FindingsHold}
 use Rattle.command_check.proofs.Once.{same_test, constraints_decide}
 use Rattle.command_check.proofs.Stopped.{then_next}
 
@@ -87,14 +87,14 @@ module _ (map : FileMap) (query_path constraints_path : List ℕ) where
       record { value = query; first = inputs.is_query; next = record { value = constraints; first = inputs.are_constraints; next = is } }
 
   -- what is told holds
-  pub yes_holds : (old new : Option (List ℕ)) (reached : Status) (r : Report) → CheckEnds map query_path constraints_path (Ok r) → Gains old new r.text → (reached ≡ status.Ok → IsTrue r.all_met) → YesHolds map query_path constraints_path old new reached
-  yes_holds old new reached r ends gained met =
+  pub findings_hold : (old new : Option (List ℕ)) (reached : Status) (r : Report) → CheckEnds map query_path constraints_path (Ok r) → Gains old new r.text → (reached ≡ status.Ok → IsTrue r.all_met) → FindingsHold map query_path constraints_path old new reached
+  findings_hold old new reached r ends gained met =
       let told : AreTold ends.value ends.next.value r.text r.all_met = ends.next.next in
       record {
         query = ends.value;
         constraints = ends.next.value;
         inputs = record { is_query = ends.first; are_constraints = ends.next.first };
-        verdicts = told.verdicts;
+        findings = told.findings;
         gained = subst (Gains old new) told.told gained;
         holds = told.holds;
         all_hold = λ ok. yes_is_met ends.value ends.next.value r.text r.all_met told (met ok);

@@ -14,7 +14,7 @@ use Rattle.site_inputs.specs.declared.fault.Fault.TheVariants.{Refused, NoMemory
 use Rattle.site_inputs.specs.declared.told.Told.{Told}
 use Rattle.site_inputs.specs.Runs.{Then, FileEnds}
 
--- the number and the place of a refused text of constraints; none where memory ran out
+-- the number and the place of a refused text of constraints; none where it was out of memory
 abbrev pub constraints_told : ConstraintRefusal → Option Told
 constraints_told (constraints.TooLong at) = Some (record { number = 24; at = at })
 constraints_told (constraints.BadByte at) = Some (record { number = 21; at = at })

@@ -1,4 +1,4 @@
--- What the inputs of `check` over every data graph decide, and what holds of that which it answers yes.
+-- What the inputs of `check` over every data graph decide, and what holds of its answers.
 use Rattle.std.specs.Prelude.{◌≡◌, ℕ, List, All, Option, Result, Ok, Err}
 use Rattle.std.specs.List.{AllZip}
 use Rattle.edge_io.specs.Files.{FileMap}
@@ -6,9 +6,7 @@ use Rattle.edge_io.specs.Sink.{Gains}
 use Rattle.query_spec.specs.Query as plain
 use Rattle.site_spec.specs.Site.{scope_of}
 use Rattle.constraint_spec.specs.declared.Constraint.{Constraint}
-use Rattle.certificates.specs.declared.Verdict.{Verdict}
-use Rattle.constraint_prover.specs.Verdicts.{HoldsOverAll}
-use Rattle.constraint_verdicts.specs.Told.{HasCertificate, IsMetOverAll, verdict_lines}
+use Rattle.constraint_verdicts.specs.Told.{Finding, finding_lines, HoldsOfSites, HasCertificate, IsMetOverAll}
 use Rattle.run_report.specs.declared.status.Status.{Status}
 use Rattle.run_report.specs.declared.status.Status.TheVariants as status
 use Rattle.site_inputs.specs.declared.fault.Fault.{Fault}
@@ -37,13 +35,14 @@ module _ (map : FileMap) (query_path constraints_path : List ℕ) where
     pub refused : (reason : Fault) → CheckEnds map query_path constraints_path (Err reason)
         → IsDecidedFault reason → HasStatus (status_of reason) reached
 
-  -- The output has gained the lines of the verdicts on the file's constraints, and each constraint that is
-  -- answered yes is met in the query's site over every data graph: at status 0 each of them is.
-  pub record YesHolds (old new : Option (List ℕ)) (reached : Status) : Type 0 where
+  -- The output has gained the lines of what is found of the file's constraints. Each constraint that is
+  -- answered yes is met in the query's site over every data graph, and at status 0 each of them is. Each
+  -- that is answered no isn't met in its site over the graph whose text is shown.
+  pub record FindingsHold (old new : Option (List ℕ)) (reached : Status) : Type 0 where
     pub query : plain.Query
     pub constraints : List Constraint
     pub inputs : AreInputs query constraints
-    pub verdicts : List Verdict
-    pub gained : Gains old new (verdict_lines query 1 constraints verdicts)
-    pub holds : AllZip (HoldsOverAll (scope_of query)) constraints verdicts
+    pub findings : List Finding
+    pub gained : Gains old new (finding_lines query 1 constraints findings)
+    pub holds : AllZip (HoldsOfSites (scope_of query)) constraints findings
     pub all_hold : reached ≡ status.Ok → All (IsMetOverAll query) constraints

@@ -12,21 +12,24 @@ use constraint_verdicts::verdicts_of;
 use edge_io::Files;
 use sd_value::Str;
 use site_inputs::{Fault, load_query};
+use site_trial::SiteTrial;
 use std::alloc::Global;
 use struql_check::Checked;
 
 fn verdicts_on(alloc: Global, query: &Checked, constraints: &[Constraint]) -> Result<Report, Fault>
     ensures { VerdictsTaken query.now constraints.now result }
 {
-    let verdicts = verdicts_of(alloc, query, constraints)?;
+    let mut trial = SiteTrial::of(alloc, query)?;
+    let verdicts = verdicts_of(alloc, query, constraints, &mut trial)?;
     Ok(Report {
         text: verdicts.text,
         all_met: verdicts.all_yes,
     })
 }
 
-/// What is known of each of the constraints of a file over every data graph: `K yes` with the lines of a certificate, or
-/// `K unknown`, and whether all of them are answered yes.
+/// What is known of each of the constraints of a file over every data graph: `K yes` with the lines of a certificate,
+/// `K no` with a data graph over which the query's site breaks it, or `K unknown`; and whether all of them are answered
+/// yes.
 /// # Errors
 /// The first of the query and the constraints that is refused or unread, or out of memory.
 pub fn check_all<F: Files>(

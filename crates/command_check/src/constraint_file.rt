@@ -17,7 +17,7 @@ use struql_check::Checked;
 // The most bytes of a file of constraints.
 const CONSTRAINTS_LIMIT: u64 = 1_048_576;
 
-// What a refused text of constraints reports; none where memory ran out.
+// What a refused text of constraints reports; none where it was out of memory.
 fn told_of_constraints(refusal: &ConstraintRefusal) -> Option<Told>
     ensures { result ≡ constraints_told refusal.now }
 {

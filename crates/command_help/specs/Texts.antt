@@ -2,8 +2,8 @@
 use Rattle.std.specs.Prelude.{ℕ, List, ◌++◌, codes}
 use Rattle.std.specs.Prelude.{Option, None, Some}
 use Rattle.command_spec.specs.declared.names.CommandName.{CommandName}
-use Rattle.command_spec.specs.declared.names.CommandName.TheVariants.{Page, Build, Data, Explain, Schema, Check, Serve}
-use Rattle.command_spec.specs.declared.names.CommandName.TheVariants.{Replay, Trial, Help, Version}
+use Rattle.command_spec.specs.declared.names.CommandName.TheVariants.{Page, Build, Data, Explain, Schema, Check, Lint}
+use Rattle.command_spec.specs.declared.names.CommandName.TheVariants.{Serve, Replay, Trial, Help, Version}
 
 -- the usage of the program
 abbrev pub program_usage : List ℕ
@@ -17,6 +17,7 @@ program_usage =
     ++ codes "  schema QUERY                           prints the functions and the links of the site\n"
     ++ codes "  check QUERY CONSTRAINTS                prints which constraints are proved for all data\n"
     ++ codes "  check --here QUERY CONSTRAINTS DATA..  prints whether the site meets its constraints\n"
+    ++ codes "  lint QUERY TEMPLATES DATA..            prints likely mistakes in query and templates\n"
     ++ codes "  serve QUERY TEMPLATES DATA..           serves the site over HTTP\n"
     ++ codes "  replay QUERY TEMPLATES SCRIPT DATA..   serves the site over the events of a script\n"
     ++ codes "  trial N                                serves a site of made data, and counts\n"
@@ -79,6 +80,15 @@ check_usage =
     ++ codes "  DATA             a data file: data text, CSV, JSON or BibTeX\n"
     ++ codes "  --here           says that the constraints are tested over these data\n"
 
+-- that of `lint`
+abbrev pub lint_usage : List ℕ
+lint_usage =
+    codes "usage: strudel lint QUERY TEMPLATES DATA..\n\n"
+    ++ codes "Prints likely mistakes in the query and the templates, each with its place.\n\n"
+    ++ codes "  QUERY            the file of the query\n"
+    ++ codes "  TEMPLATES        the file of the templates\n"
+    ++ codes "  DATA             a data file: data text, CSV, JSON or BibTeX\n"
+
 -- that of `serve`
 abbrev pub serve_usage : List ℕ
 serve_usage =
@@ -97,6 +107,7 @@ serve_usage =
     ++ codes "(10000)\n"
     ++ codes "  --watch PATH     a file of data text that replaces the data when it has changed\n"
     ++ codes "  --every N        connections after which it is read, 1 to 4294967296 (1)\n"
+    ++ codes "  --whole          makes the whole site first and takes its pages from there\n"
 
 -- that of `replay`
 abbrev pub replay_usage : List ℕ
@@ -146,6 +157,7 @@ usage_of (Some Data) = data_usage
 usage_of (Some Explain) = explain_usage
 usage_of (Some Schema) = schema_usage
 usage_of (Some Check) = check_usage
+usage_of (Some Lint) = lint_usage
 usage_of (Some Serve) = serve_usage
 usage_of (Some Replay) = replay_usage
 usage_of (Some Trial) = trial_usage

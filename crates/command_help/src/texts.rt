@@ -16,6 +16,7 @@ usage: strudel COMMAND\n\
 \x20 schema QUERY                           prints the functions and the links of the site\n\
 \x20 check QUERY CONSTRAINTS                prints which constraints are proved for all data\n\
 \x20 check --here QUERY CONSTRAINTS DATA..  prints whether the site meets its constraints\n\
+\x20 lint QUERY TEMPLATES DATA..            prints likely mistakes in query and templates\n\
 \x20 serve QUERY TEMPLATES DATA..           serves the site over HTTP\n\
 \x20 replay QUERY TEMPLATES SCRIPT DATA..   serves the site over the events of a script\n\
 \x20 trial N                                serves a site of made data, and counts\n\
@@ -79,6 +80,15 @@ With --here: whether the site of these data meets it.\n\
 \x20 DATA             a data file: data text, CSV, JSON or BibTeX\n\
 \x20 --here           says that the constraints are tested over these data\n";
 
+const LINT_USAGE: &[u8] = b"\
+usage: strudel lint QUERY TEMPLATES DATA..\n\
+\n\
+Prints likely mistakes in the query and the templates, each with its place.\n\
+\n\
+\x20 QUERY            the file of the query\n\
+\x20 TEMPLATES        the file of the templates\n\
+\x20 DATA             a data file: data text, CSV, JSON or BibTeX\n";
+
 const SERVE_USAGE: &[u8] = b"\
 usage: strudel serve [OPTION..] QUERY TEMPLATES DATA..\n\
 \n\
@@ -95,7 +105,8 @@ Serves the pages of the site on 127.0.0.1 over HTTP.\n\
 \x20 --idle MS        milliseconds that a silent client has, 1 to 4294967295 (5000)\n\
 \x20 --stall MS       milliseconds that a reply waits for its client, 1 to 4294967295 (10000)\n\
 \x20 --watch PATH     a file of data text that replaces the data when it has changed\n\
-\x20 --every N        connections after which it is read, 1 to 4294967296 (1)\n";
+\x20 --every N        connections after which it is read, 1 to 4294967296 (1)\n\
+\x20 --whole          makes the whole site first and takes its pages from there\n";
 
 const REPLAY_USAGE: &[u8] = b"\
 usage: strudel replay [OPTION..] QUERY TEMPLATES SCRIPT DATA..\n\
@@ -147,6 +158,7 @@ pub fn usage(name: Option<CommandName>) -> &'static [u8]
         CommandName::Explain => EXPLAIN_USAGE,
         CommandName::Schema => SCHEMA_USAGE,
         CommandName::Check => CHECK_USAGE,
+        CommandName::Lint => LINT_USAGE,
         CommandName::Serve => SERVE_USAGE,
         CommandName::Replay => REPLAY_USAGE,
         CommandName::Trial => TRIAL_USAGE,

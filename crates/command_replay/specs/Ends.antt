@@ -44,7 +44,7 @@ pub record IsFresh (events : List WireEvent) (wire : Told) : Type 0 where
   pub nothing : (number : ℕ) → IfSome (wire.account number) (λ account. account ≡ nothing_sent)
   pub none_failed : (number : ℕ) → wire.faults number ≡ 0
 
--- a call that fails of a wire in memory means that memory ran out
+-- a call that fails of a wire in memory means out of memory
 abbrev pub run_end : HubEnd → HubEnd
 run_end end.WireFailed = end.NoMemory
 run_end ended = ended
@@ -73,7 +73,7 @@ pub record IsReplayed (s : Scripted) (limits : RunLimits) (ended : HubEnd)
       (list_any is_change s.events) served.tally
 
 -- What a run over a script has put, and why it has this status. A fault of the output doesn't change the status of a run
--- that was cut off. Where memory ran out nothing was put.
+-- that was cut off. Where it was out of memory nothing was put.
 module _ (s : Scripted) (limits : RunLimits) (old new : Option (List ℕ)) (PutsRose : Type 0) where
   -- how the run over the script ends
   abbrev pub RunEnds : Status → Type 0
@@ -99,7 +99,7 @@ module _ (command : ReplayCommand) (before after : Host) (reached : Status) wher
     pub ends : RunEnds script command.limits before.output after.output (PutsRose before after)
         reached
 
-  -- an input was refused or unread, or memory ran out for one, and nothing was put
+  -- an input was refused or unread, or it was out of memory for one, and nothing was put
   pub record IsUnread : Type 0 where
     pub reason : Fault
     pub taken : ScriptedEnd before.files command (Err reason)

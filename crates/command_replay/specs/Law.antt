@@ -1,4 +1,4 @@
--- A replay ends well, unless memory runs out, where its inputs are accepted and nothing outside fails.
+-- A replay ends well, unless it is out of memory, where its inputs are accepted and nothing outside fails.
 use Rattle.std.specs.Prelude.{◌≡◌, ◌<◌, length, Ok, Err}
 use Rattle.run_report.specs.declared.status.Status.{Status}
 use Rattle.run_report.specs.declared.status.Status.TheVariants as status

@@ -17,7 +17,7 @@ use Rattle.site_inputs.specs.Sites.{Inputs, InputsEnd}
 use Rattle.site_inputs.specs.Values.{inputs_of}
 use Rattle.command_replay.specs.declared.replaying.Script.{Script}
 
--- the number and the place of a refused script; none where memory ran out
+-- the number and the place of a refused script; none where it was out of memory
 abbrev pub script_told : ScriptRefusal → Option Told
 script_told (script.TooLong at) = Some (record { number = 24; at = at })
 script_told (script.BadByte at) = Some (record { number = 21; at = at })

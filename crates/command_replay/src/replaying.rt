@@ -20,7 +20,7 @@ use run_report::Status;
 use sd_value::NoMemory;
 use serve_run::{opened_in, put_end, replay_text};
 use site_inputs::{Fault, SiteInputs, load_inputs};
-use site_serving::serve_site;
+use site_serving::{PageSource, serve_site};
 use std::alloc::Global;
 use wire::WireEvent;
 
@@ -72,7 +72,7 @@ fn first_events(events: &[WireEvent], turns: u64) -> &[WireEvent]
     }
 }
 
-// How a run over a wire in memory ended: no call of that wire is to fail, so one that does means that memory ran out.
+// How a run over a wire in memory ended: no call of that wire is to fail, so one that does means out of memory.
 fn run_end(end: HubEnd) -> HubEnd
     ensures { result ≡ run_end end }
 {
@@ -107,7 +107,7 @@ fn play(alloc: Global, script: Script, limits: &RunLimits) -> Result<Finished, N
     let opened = opened_in(alloc, first_events(&script.events, limits.turns))?;
     let with_changes = have_change(&script.events);
     let mut wire = MemWire::new(alloc, script.events, Vec::new(alloc), Vec::new(alloc))?;
-    let served = serve_site(alloc, script.site, limits, &mut wire);
+    let served = serve_site(alloc, script.site, limits, PageSource::Demand, &mut wire);
     let text = replay_text(alloc, &wire, &opened, with_changes, &served.tally)?;
     Ok(Finished {
         end: run_end(served.end),

@@ -16,7 +16,7 @@ use wire::WireEvent;
 // The most bytes of a script.
 const SCRIPT_LIMIT: u64 = 67_108_864;
 
-// What a refused script reports; none where memory ran out.
+// What a refused script reports; none where it was out of memory.
 fn told_of_script(refusal: &ScriptRefusal) -> Option<Told>
     ensures { result ≡ script_told refusal.now }
 {

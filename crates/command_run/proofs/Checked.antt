@@ -18,8 +18,8 @@ use Rattle.command_spec.specs.declared.Command.{Command}
 use Rattle.command_spec.specs.declared.Command.TheVariants.{CheckAll}
 use Rattle.command_spec.specs.Inputs.{check_paths}
 use Rattle.command_check.specs.CheckEnds.{CheckEnds}
-use Rattle.command_check.specs.Law.{CheckIsDecided, YesHolds}
-use Rattle.command_check.proofs.Answers.{AnswerEnds, answer_ends, answers_decide, inputs_answer, yes_holds}
+use Rattle.command_check.specs.Law.{CheckIsDecided, FindingsHold}
+use Rattle.command_check.proofs.Answers.{AnswerEnds, answer_ends, answers_decide, inputs_answer, findings_hold}
 use Rattle.command_run.specs.Top.{ReportEnds, Ends, RunEnds, HasTold, AnswersHold}
 
 module _ (map : FileMap) (query_path constraints_path : List ℕ) where
@@ -97,9 +97,9 @@ module _ (map : FileMap) (query_path constraints_path : List ℕ) where
     }
 
   -- what was told holds
-  holds : (old new : Option (List ℕ)) (status : Status) → ReportEnds Answer old new status → HasTold status → YesHolds map query_path constraints_path old new status
-  holds old new Ok ends told = yes_holds map query_path constraints_path old new Ok ends.report ends.answer ends.gained (λ ok. ends.verdict)
-  holds old new NotAllYes ends told = yes_holds map query_path constraints_path old new NotAllYes ends.report ends.answer ends.gained (λ ok. absurd cc)
+  holds : (old new : Option (List ℕ)) (status : Status) → ReportEnds Answer old new status → HasTold status → FindingsHold map query_path constraints_path old new status
+  holds old new Ok ends told = findings_hold map query_path constraints_path old new Ok ends.report ends.answer ends.gained (λ ok. ends.verdict)
+  holds old new NotAllYes ends told = findings_hold map query_path constraints_path old new NotAllYes ends.report ends.answer ends.gained (λ ok. absurd cc)
   holds old new status ends told = absurd told
 
 answers_hold : (command : Command) (before after : Outside) (status : Status) → Ends command before after status → AnswersHold command before.host.files before.host.output after.host.output status

@@ -6,7 +6,7 @@ use Rattle.edge_io.specs.Files.{FileMap}
 use Rattle.run_report.specs.declared.status.Status.{Status}
 use Rattle.run_report.specs.declared.status.Status.TheVariants as status
 use Rattle.command_spec.specs.declared.Command.{Command}
-use Rattle.command_spec.specs.declared.Command.TheVariants.{Page, Build, Data, Explain, Schema, Check, CheckAll, Serve, Replay, Trial, Help, Version}
+use Rattle.command_spec.specs.declared.Command.TheVariants.{Page, Build, Data, Explain, Schema, Check, CheckAll, Lint, Serve, Replay, Trial, Help, Version}
 use Rattle.site_inputs.specs.Statuses.{ReadRose}
 use Rattle.edge_io.specs.Counts.{Rose}
 use Rattle.wire.specs.Told.{Told}
@@ -37,6 +37,7 @@ module _ (contents : Option FileMap) (before after : Outside) where
   complete_end (Schema command) reached ends read write wire = λ all. tt
   complete_end (Check command) reached ends read write wire = λ all. tt
   complete_end (CheckAll command) reached ends read write wire = λ all. tt
+  complete_end (Lint command) reached ends read write wire = λ all. tt
   complete_end (Trial command) reached ends read write wire = λ all. tt
   complete_end (Help command) reached ends read write wire = λ all. tt
   complete_end Version reached ends read write wire = λ all. tt
@@ -49,7 +50,7 @@ module _ (contents : Option FileMap) (before after : Outside) where
       (subst (λ (g : Option Command). Read (given_inputs g) reached) is_given read)
       (λ e. subst (λ (g : Option Command). Wrote g) is_given (write e)) wire
 
-  -- memory ran out for the report
+  -- out of memory for the report
   short_run : (command : Command) (reached : Status) → reached ≡ status.NoMemory → IsDecidedRun command before after reached
   short_run (Build command) reached memory = record { accepted = λ s taken can no_put no_write. inr memory; refused = λ reason ended decided. inr memory }
   short_run (Serve command) reached memory = record { accepted = λ s taken turns no_put no_event. inr memory; refused = λ reason ended decided. inr memory }
@@ -60,6 +61,7 @@ module _ (contents : Option FileMap) (before after : Outside) where
   short_run (Schema command) reached memory = tt
   short_run (Check command) reached memory = tt
   short_run (CheckAll command) reached memory = tt
+  short_run (Lint command) reached memory = tt
   short_run (Trial command) reached memory = tt
   short_run (Help command) reached memory = tt
   short_run Version reached memory = tt

@@ -9,7 +9,7 @@ use Rattle.site_inputs.specs.declared.fault.Fault.TheVariants as fault
 use Rattle.run_report.specs.declared.status.Status.{Status}
 use Rattle.run_report.specs.declared.status.Status.TheVariants.{Ok, NotAllYes, Usage, Refused, ReadFault, WriteFault, WireFault, PageFault, NoMemory, NotFound, TurnsSpent}
 use Rattle.command_spec.specs.declared.Command.{Command}
-use Rattle.command_spec.specs.declared.Command.TheVariants.{Page, Build, Data, Explain, Schema, Check, CheckAll, Serve, Replay, Trial, Help, Version}
+use Rattle.command_spec.specs.declared.Command.TheVariants.{Page, Build, Data, Explain, Schema, Check, CheckAll, Lint, Serve, Replay, Trial, Help, Version}
 use Rattle.command_spec.specs.declared.BuildCommand.{BuildCommand}
 use Rattle.command_spec.specs.declared.PageCommand.{PageCommand}
 use Rattle.command_spec.specs.declared.DataCommand.{DataCommand}
@@ -17,6 +17,7 @@ use Rattle.command_spec.specs.declared.ExplainCommand.{ExplainCommand}
 use Rattle.command_spec.specs.declared.SchemaCommand.{SchemaCommand}
 use Rattle.command_spec.specs.declared.HereCommand.{HereCommand}
 use Rattle.command_spec.specs.declared.CheckAllCommand.{CheckAllCommand}
+use Rattle.command_spec.specs.declared.LintCommand.{LintCommand}
 use Rattle.constraint_report.specs.declared.report.Report.{Report}
 use Rattle.command_spec.specs.declared.ServeCommand.{ServeCommand}
 use Rattle.command_spec.specs.declared.ReplayCommand.{ReplayCommand}
@@ -48,8 +49,9 @@ use Rattle.command_explain.specs.Ends.{ExplainEnds}
 use Rattle.command_schema.specs.Ends.{SchemaEnds}
 use Rattle.command_check.specs.Ends.{HereEnds}
 use Rattle.command_check.specs.CheckEnds.{CheckEnds}
+use Rattle.command_lint.specs.Ends.{LintEnds}
 use Rattle.command_spec.specs.Inputs.{inputs_of_command, given_inputs}
-use Rattle.command_run.specs.Top.{TextEnds, CheckAnswers, ReportEnds, Ends, RunEnds, WriteRose, WritesNoFile, UsesNoWire}
+use Rattle.command_run.specs.Top.{TextEnds, CheckAnswers, LintAnswers, ReportEnds, Ends, RunEnds, WriteRose, WritesNoFile, UsesNoWire}
 use Rattle.command_run.proofs.Reports.{report_as, report_read_rose, memory_report_ends}
 
 -- a text command whose answers are told in another way
@@ -118,6 +120,12 @@ check_read_rose command c sources answer old new before now status is same h cau
     subst (λ (d : Command). ReadRose (inputs_of_command d) before now status) (sym is)
     (report_read_rose (here_paths c.sources c.query c.constraints) answer old new before now status h (subst (λ (s : List (List ℕ)). ReadsHaveCause (here_paths s c.query c.constraints) before now answer) same cause))
 
+pub lint_read_rose : (command : Command) (c : LintCommand) (sources : List (List ℕ)) (answer : Result Report Fault) (old new : Option (List ℕ)) (before now : List ℕ → ℕ) (status : Status) → command ≡ Lint c → sources ≡ c.sources
+    → ReportEnds (λ a. a ≡ answer) old new status → ReadsHaveCause (input_paths sources c.query c.templates) before now answer → ReadRose (inputs_of_command command) before now status
+lint_read_rose command c sources answer old new before now status is same h cause =
+    subst (λ (d : Command). ReadRose (inputs_of_command d) before now status) (sym is)
+    (report_read_rose (input_paths c.sources c.query c.templates) answer old new before now status h (subst (λ (s : List (List ℕ)). ReadsHaveCause (input_paths s c.query c.templates) before now answer) same cause))
+
 pub check_all_read_rose : (command : Command) (c : CheckAllCommand) (answer : Result Report Fault) (old new : Option (List ℕ)) (before now : List ℕ → ℕ) (status : Status) → command ≡ CheckAll c
     → ReportEnds (λ a. a ≡ answer) old new status → ReadsHaveCause (check_paths c.query c.constraints) before now answer → ReadRose (inputs_of_command command) before now status
 check_all_read_rose command c answer old new before now status is h cause =
@@ -179,7 +187,7 @@ pub given_read_rose : (given : Option Command) (command : Command) (before now :
     → ReadRose (inputs_of_command command) before now status → ReadRose (given_inputs given) before now status
 given_read_rose given command before now status is h = subst (λ (g : Option Command). ReadRose (given_inputs g) before now status) (sym is) h
 
--- memory ran out before anything was done
+-- out of memory before anything was done
 graph_no_memory : (map : FileMap) (b : Building) (sources : List (List ℕ)) → GraphEnds map b sources (prelude.Err fault.NoMemory)
 graph_no_memory map b [] = inr refl
 graph_no_memory map b (path ∷ paths) = inl (inl tt)
@@ -205,6 +213,7 @@ no_memory_ends (Some (Explain command)) before after files out wire = out
 no_memory_ends (Some (Schema command)) before after files out wire = out
 no_memory_ends (Some (Check command)) before after files out wire = out
 no_memory_ends (Some (CheckAll command)) before after files out wire = out
+no_memory_ends (Some (Lint command)) before after files out wire = out
 no_memory_ends (Some (Trial command)) before after files out wire = out
 no_memory_ends (Some (Help command)) before after files out wire = out
 no_memory_ends (Some Version) before after files out wire = out
@@ -218,7 +227,7 @@ ok_no_memory reported ok memory = cc
 write_no_memory : (reported : Status) → reported ≡ WriteFault → reported ≡ NoMemory → ⊥
 write_no_memory reported write memory = cc
 
--- want of memory for the line of a status: it has a part of its own, so nothing was put
+-- out of memory for the line of a status: it has a part of its own, so nothing was put
 memory_text_ends : (P : Result (List ℕ) Fault → Type 0) (old new : Option (List ℕ)) (status reported : Status)
     → TextEnds P old new status → (IsSilent status → new ≡ old) → (IsFixed status → reported ≡ status) → reported ≡ NoMemory → new ≡ old
 memory_text_ends P old new Ok reported ends silent fixed memory = absurd (ok_no_memory reported (fixed tt) memory)
@@ -292,6 +301,7 @@ module _ (before after : Outside) where
   memory_run_ends (Some (Schema command)) status reported ends silent fixed memory = memory_text_ends (SchemaEnds before.host.files command) before.host.output after.host.output status reported ends silent fixed memory
   memory_run_ends (Some (Check command)) status reported ends silent fixed memory = memory_report_ends (CheckAnswers before.host.files command) before.host.output after.host.output status reported ends silent fixed memory
   memory_run_ends (Some (CheckAll command)) status reported ends silent fixed memory = memory_report_ends (CheckEnds before.host.files command.query command.constraints) before.host.output after.host.output status reported ends silent fixed memory
+  memory_run_ends (Some (Lint command)) status reported ends silent fixed memory = memory_report_ends (LintAnswers before.host.files command) before.host.output after.host.output status reported ends silent fixed memory
   memory_run_ends (Some (Trial command)) status reported ends silent fixed memory = memory_text_ends (TrialEnds command) before.host.output after.host.output status reported ends silent fixed memory
   memory_run_ends (Some (Help command)) status reported ends silent fixed memory = memory_text_ends (HelpEnds command) before.host.output after.host.output status reported ends silent fixed memory
   memory_run_ends (Some Version) status reported ends silent fixed memory = memory_text_ends VersionEnds before.host.output after.host.output status reported ends silent fixed memory
@@ -299,7 +309,7 @@ module _ (before after : Outside) where
   memory_run_ends (Some (Serve command)) status reported ends silent fixed memory = memory_serve_ends command before after reported status ends fixed memory
   memory_run_ends (Some (Replay command)) status reported ends silent fixed memory = memory_replay_ends command before.host after.host reported status ends silent fixed memory
 
-  -- the status after its line: itself, or that memory ran out where nothing was put
+  -- the status after its line: itself, or out of memory where nothing was put
   reported_run_ends : (given : Option Command) (status reported : Status)
       → RunEnds given before after status → (IsSilent status → after.host.output ≡ before.host.output) → (IsFixed status → reported ≡ status)
       → (reported ≡ status) ⊎ (reported ≡ NoMemory) → RunEnds given before after reported
@@ -386,6 +396,12 @@ module _ (reads reads_now writes writes_now : List ℕ → ℕ) (output output_n
       stays o n map command (CheckAll c) status same told is
       (report_as (λ a. a ≡ answer) (CheckEnds map c.query c.constraints) output output_now status (λ a e. subst (CheckEnds map c.query c.constraints) (sym e) ends) put)
 
+  pub lint_told : (o n : Option FileMap) (map : FileMap) (command : Command) (c : LintCommand) (sources : List (List ℕ)) (answer : Result Report Fault) (status : Status) → n ≡ o → o ≡ Some map → command ≡ Lint c → sources ≡ c.sources
+      → LintEnds map sources c.query c.templates answer → ReportEnds (λ a. a ≡ answer) output output_now status → IsSomeAnd n (λ now. Ends command (Before map) (After now) status)
+  lint_told o n map command c sources answer status same told is given ends put =
+      let its : LintAnswers map c answer = subst (λ (s : List (List ℕ)). LintEnds map s c.query c.templates answer) given ends in
+      stays o n map command (Lint c) status same told is (report_as (λ a. a ≡ answer) (LintAnswers map c) output output_now status (λ a e. subst (LintAnswers map c) (sym e) its) put)
+
   pub trial_told : (o n : Option FileMap) (map : FileMap) (command : Command) (c : TrialCommand) (answer : Result (List ℕ) Fault) (status : Status) → n ≡ o → o ≡ Some map → command ≡ Trial c
       → TrialEnds c answer → TextEnds (λ a. a ≡ answer) output output_now status → IsSomeAnd n (λ now. Ends command (Before map) (After now) status)
   trial_told o n map command c answer status same told is ends put = stays o n map command (Trial c) status same told is (answered (TrialEnds c) answer status ends put)
@@ -437,6 +453,9 @@ check_write_rose command c contents before now P is p = subst (λ (d : Command).
 
 pub check_all_write_rose : (command : Command) (c : CheckAllCommand) (contents : Option FileMap) (before now : List ℕ → ℕ) (P : Type 0) → command ≡ CheckAll c → P → WriteRose (Some command) contents before now P
 check_all_write_rose command c contents before now P is p = subst (λ (d : Command). WriteRose (Some d) contents before now P) (sym is) p
+
+pub lint_write_rose : (command : Command) (c : LintCommand) (contents : Option FileMap) (before now : List ℕ → ℕ) (P : Type 0) → command ≡ Lint c → P → WriteRose (Some command) contents before now P
+lint_write_rose command c contents before now P is p = subst (λ (d : Command). WriteRose (Some d) contents before now P) (sym is) p
 
 pub trial_write_rose : (command : Command) (c : TrialCommand) (contents : Option FileMap) (before now : List ℕ → ℕ) (P : Type 0) → command ≡ Trial c → P → WriteRose (Some command) contents before now P
 trial_write_rose command c contents before now P is p = subst (λ (d : Command). WriteRose (Some d) contents before now P) (sym is) p

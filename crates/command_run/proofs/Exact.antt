@@ -10,7 +10,7 @@ use Rattle.site_inputs.specs.declared.fault.Fault.TheVariants as fault
 use Rattle.run_report.specs.declared.status.Status.{Status}
 use Rattle.run_report.specs.declared.status.Status.TheVariants.{Ok, NotAllYes, Usage, Refused, ReadFault, WriteFault, WireFault, PageFault, NoMemory, NotFound, TurnsSpent}
 use Rattle.command_spec.specs.declared.Command.{Command}
-use Rattle.command_spec.specs.declared.Command.TheVariants.{Page, Build, Data, Explain, Schema, Check, CheckAll, Serve, Replay, Trial, Help, Version}
+use Rattle.command_spec.specs.declared.Command.TheVariants.{Page, Build, Data, Explain, Schema, Check, CheckAll, Lint, Serve, Replay, Trial, Help, Version}
 use Rattle.std.specs.Option.{IsSomeAnd}
 use Rattle.site_inputs.specs.Runs.{IsDecided, Decides}
 use Rattle.site_inputs.specs.Statuses.{ReadRose}
@@ -23,8 +23,8 @@ use Rattle.command_data.specs.Ends.{DataEnds}
 use Rattle.command_explain.specs.Ends.{ExplainEnds}
 use Rattle.command_schema.specs.Ends.{SchemaEnds}
 use Rattle.command_spec.specs.Inputs.{inputs_of_command, given_inputs}
-use Rattle.command_run.specs.Top.{TextEnds, CheckAnswers, Ends, RunEnds, WriteRose, IsExact, answer_status}
-use Rattle.command_run.proofs.Decided.{answer_decides, report_decides}
+use Rattle.command_run.specs.Top.{TextEnds, CheckAnswers, LintAnswers, Ends, RunEnds, WriteRose, IsExact, answer_status}
+use Rattle.command_run.proofs.Decided.{answer_decides, report_decides, findings_decide}
 use Rattle.command_run.proofs.Reports.{exact_report}
 use Rattle.command_run.proofs.Checked.{exact_check}
 
@@ -71,6 +71,7 @@ module _ (contents : Option FileMap) (before after : Outside) where
   exact_end (Schema command) status ends read write = exact_text (SchemaEnds before.host.files command) (answer_decides before.host.files (Schema command)) before.host after.host (inputs_of_command (Schema command)) status ends read write
   exact_end (Check command) status ends read write = exact_report (CheckAnswers before.host.files command) (report_decides before.host.files command) before.host after.host (inputs_of_command (Check command)) status ends read write
   exact_end (CheckAll command) status ends read write = exact_check before.host.files command.query command.constraints before.host after.host status ends read write
+  exact_end (Lint command) status ends read write = exact_report (LintAnswers before.host.files command) (findings_decide before.host.files command) before.host after.host (inputs_of_command (Lint command)) status ends read write
   exact_end (Trial command) status ends read write = exact_text (TrialEnds command) (answer_decides before.host.files (Trial command)) before.host after.host (inputs_of_command (Trial command)) status ends read write
   exact_end (Help command) status ends read write = exact_text (HelpEnds command) (answer_decides before.host.files (Help command)) before.host after.host (inputs_of_command (Help command)) status ends read write
   exact_end Version status ends read write = exact_text VersionEnds (answer_decides before.host.files Version) before.host after.host (inputs_of_command Version) status ends read write
@@ -87,6 +88,7 @@ module _ (contents : Option FileMap) (before after : Outside) where
 
   memory_exact : (command : Command) (reported : Status) → reported ≡ NoMemory → IsExact command before.host after.host reported
   memory_exact (Check command) reported memory = λ answer its d no_read no_write. inr memory
+  memory_exact (Lint command) reported memory = λ answer its d no_read no_write. inr memory
   memory_exact (CheckAll command) reported memory = λ no_read no_write. record {
     all_shown = λ query constraints inputs shown. inr memory;
     not_all_shown = λ query constraints inputs shown. inr memory;

@@ -4,3 +4,4 @@ pub mod Exact
 pub mod Complete
 pub mod Reports
 pub mod Checked
+pub mod Linted

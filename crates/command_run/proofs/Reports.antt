@@ -56,7 +56,7 @@ not_all_memory reported not_all memory = cc
 write_memory : (reported : Status) → reported ≡ WriteFault → reported ≡ NoMemory → ⊥
 write_memory reported write memory = cc
 
--- want of memory for the line of a status: it has a part of its own, so nothing was put
+-- out of memory for the line of a status: it has a part of its own, so nothing was put
 pub memory_report_ends : (P : Result Report Fault → Type 0) (old new : Option (List ℕ)) (status reported : Status)
     → ReportEnds P old new status → (IsSilent status → new ≡ old) → (IsFixed status → reported ≡ status) → reported ≡ NoMemory → new ≡ old
 memory_report_ends P old new Ok reported ends silent fixed memory = absurd (ok_memory reported (fixed tt) memory)

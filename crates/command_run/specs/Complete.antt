@@ -4,7 +4,7 @@ use Rattle.run_report.specs.declared.status.Status.{Status}
 use Rattle.command_spec.specs.Inputs.{inputs_of_command}
 use Rattle.command_spec.specs.declared.Command.{Command}
 use Rattle.command_spec.specs.declared.Command.TheVariants.{Page, Build, Data, Explain, Schema, Check, CheckAll}
-use Rattle.command_spec.specs.declared.Command.TheVariants.{Serve, Replay, Trial, Help, Version}
+use Rattle.command_spec.specs.declared.Command.TheVariants.{Lint, Serve, Replay, Trial, Help, Version}
 use Rattle.site_inputs.specs.Outside.{Outside, AllRead}
 use Rattle.command_build.specs.Law.{BuildIsDecided}
 use Rattle.command_serve.specs.Law.{ServingIsDecided}
@@ -24,6 +24,7 @@ IsDecidedRun (Explain command) before after reached = ⊤
 IsDecidedRun (Schema command) before after reached = ⊤
 IsDecidedRun (Check command) before after reached = ⊤
 IsDecidedRun (CheckAll command) before after reached = ⊤
+IsDecidedRun (Lint command) before after reached = ⊤
 IsDecidedRun (Trial command) before after reached = ⊤
 IsDecidedRun (Help command) before after reached = ⊤
 IsDecidedRun Version before after reached = ⊤

@@ -6,9 +6,10 @@ use Rattle.edge_io.specs.Sink.{Gains, GainsPart}
 use Rattle.constraint_report.specs.declared.report.Report.{Report}
 use Rattle.command_spec.specs.Inputs.{inputs_of_command}
 use Rattle.command_spec.specs.declared.HereCommand.{HereCommand}
+use Rattle.command_spec.specs.declared.LintCommand.{LintCommand}
 use Rattle.command_spec.specs.declared.Command.{Command}
 use Rattle.command_spec.specs.declared.Command.TheVariants.{Page, Build, Data, Explain, Schema, Check, CheckAll}
-use Rattle.command_spec.specs.declared.Command.TheVariants.{Serve, Replay, Trial, Help, Version}
+use Rattle.command_spec.specs.declared.Command.TheVariants.{Lint, Serve, Replay, Trial, Help, Version}
 use Rattle.site_inputs.specs.declared.fault.Fault.{Fault}
 use Rattle.site_inputs.specs.declared.fault.Fault.TheVariants as fault
 use Rattle.site_inputs.specs.Outside.{Host, Outside, PutsRose, AllRead}
@@ -21,7 +22,9 @@ use Rattle.command_explain.specs.Ends.{ExplainEnds}
 use Rattle.command_schema.specs.Ends.{SchemaEnds}
 use Rattle.command_check.specs.Ends.{HereEnds}
 use Rattle.command_check.specs.CheckEnds.{CheckEnds}
-use Rattle.command_check.specs.Law.{CheckIsDecided, YesHolds}
+use Rattle.command_check.specs.Law.{CheckIsDecided, FindingsHold}
+use Rattle.command_lint.specs.Ends.{LintEnds}
+use Rattle.command_lint.specs.Law.{TellsFindings}
 use Rattle.command_serve.specs.Ends.{ServeEnds}
 use Rattle.command_replay.specs.Ends.{ReplayEnds}
 use Rattle.command_trial.specs.Ends.{TrialEnds}
@@ -33,7 +36,7 @@ use Rattle.run_report.specs.declared.status.Status.TheVariants.{WireFault, PageF
 -- The answer of a command: the text that it writes, or the fault that it ends with. A build is answered by files, and a run
 -- over connections by replies, so they have none here: `BuildEnds`, `ServeEnds` and `ReplayEnds` say how they end. The
 -- answer of `check` is a report, which has more than a text: `CheckAnswers` over data, and `CheckEnds` over every data
--- graph.
+-- graph; so is that of `lint`: `LintAnswers`.
 abbrev pub Answers : FileMap → Command → Result (List ℕ) Fault → Type 0
 Answers map (Page command) = PageEnds map command
 Answers map (Data command) = DataEnds map command
@@ -44,6 +47,7 @@ Answers map (Help command) = HelpEnds command
 Answers map Version = VersionEnds
 Answers map (Check command) = λ answer. ⊥
 Answers map (CheckAll command) = λ answer. ⊥
+Answers map (Lint command) = λ answer. ⊥
 Answers map (Build command) = λ answer. ⊥
 Answers map (Serve command) = λ answer. ⊥
 Answers map (Replay command) = λ answer. ⊥
@@ -80,6 +84,11 @@ module _ (Answer : Result (List ℕ) Fault → Type 0) (old new : Option (List �
 -- The answer of `check --here`: a text and whether all constraints are met, or the fault that it ends with.
 abbrev pub CheckAnswers : FileMap → HereCommand → Result Report Fault → Type 0
 CheckAnswers map command = HereEnds map command.sources command.query command.constraints
+
+-- The answer of `lint`: the lines of the findings and whether all that is asked for is there, or the fault that it ends
+-- with.
+abbrev pub LintAnswers : FileMap → LintCommand → Result Report Fault → Type 0
+LintAnswers map command = LintEnds map command.sources command.query command.templates
 
 module _ (Answer : Result Report Fault → Type 0) (old new : Option (List ℕ)) where
   -- the text of a report was put, all of whose constraints are met or not
@@ -127,6 +136,8 @@ Ends (Check command) before after =
 Ends (CheckAll command) before after =
     ReportEnds (CheckEnds before.host.files command.query command.constraints)
     before.host.output after.host.output
+Ends (Lint command) before after =
+    ReportEnds (LintAnswers before.host.files command) before.host.output after.host.output
 Ends (Trial command) before after =
     TextEnds (TrialEnds command) before.host.output after.host.output
 Ends (Help command) before after =
@@ -171,7 +182,7 @@ report_status (prelude.Ok report) = if report.all_met then Ok else NotAllYes
 report_status (prelude.Err stop) = status_of stop
 
 -- Where no count of these files or of the output rose, the run ends with the one answer that the inputs decide, its text
--- put whole, or because memory ran out.
+-- put whole, or because it was out of memory.
 abbrev pub IsExactEnd
     : {A : Type 0} → (Answer : Result A Fault → Type 0) → (status_is : Result A Fault → Status)
     → (text_of : A → List ℕ) → (paths : List (List ℕ)) → (before after : Host) → Status → Type 0
@@ -188,6 +199,9 @@ abbrev pub IsExact : Command → (before after : Host) → Status → Type 0
 IsExact (Check command) before after =
     IsExactEnd (CheckAnswers before.files command) report_status (λ r. r.text)
     (inputs_of_command (Check command)) before after
+IsExact (Lint command) before after =
+    IsExactEnd (LintAnswers before.files command) report_status (λ r. r.text)
+    (inputs_of_command (Lint command)) before after
 IsExact (CheckAll command) before after = λ reached.
     AllRead (inputs_of_command (CheckAll command)) before after → ¬ PutsRose before after
     → CheckIsDecided before.files command.query command.constraints reached
@@ -195,14 +209,22 @@ IsExact command before after =
     IsExactEnd (Answers before.files command) answer_status (λ text. text)
     (inputs_of_command command) before after
 
--- a status at which a command has told of all constraints
+-- a status at which a command has told of all constraints, or of all that its texts ask for
 abbrev pub HasTold : Status → Type 0
 HasTold Ok = ⊤
 HasTold NotAllYes = ⊤
 HasTold reached = ⊥
 
--- Each constraint that `check` has answered yes is met in the query's site over every data graph.
+-- Each constraint that `check` has answered yes is met in the query's site over every data graph, and each that it has
+-- answered no is broken over the graph that it has shown.
 abbrev pub AnswersHold : Command → FileMap → (old new : Option (List ℕ)) → Status → Type 0
 AnswersHold (CheckAll command) map old new reached =
-    HasTold reached → YesHolds map command.query command.constraints old new reached
+    HasTold reached → FindingsHold map command.query command.constraints old new reached
 AnswersHold command map old new reached = ⊤
+
+-- The output has gained exactly the lines of the findings of `lint`, and its status is 0 exactly where there is none.
+abbrev pub FindingsAreTold : Command → FileMap → (old new : Option (List ℕ)) → Status → Type 0
+FindingsAreTold (Lint command) map old new reached =
+    HasTold reached
+    → TellsFindings map command.sources command.query command.templates old new reached
+FindingsAreTold command map old new reached = ⊤

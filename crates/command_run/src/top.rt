@@ -12,13 +12,14 @@ ghost use Rattle.site_inputs.specs.Outside.{host, outside};
 ghost use Rattle.command_run.specs.Complete.{IsComplete};
 ghost use Rattle.command_spec.specs.Inputs.{inputs_of_command, given_inputs};
 ghost use Rattle.command_run.specs.Top.{Ends, TextEnds, ReportEnds, RunEnds, IsExact, AnswersHold};
-ghost use Rattle.command_run.specs.Top.{WriteRose, WritesNoFile, UsesNoWire};
+ghost use Rattle.command_run.specs.Top.{FindingsAreTold, WriteRose, WritesNoFile, UsesNoWire};
 
 use command_build::build;
 use command_check::{check_all, check_here};
 use command_data::data;
 use command_explain::explain;
 use command_help::{help, version};
+use command_lint::lint;
 use command_page::page;
 use command_replay::replay;
 use command_schema::schema_text;
@@ -131,6 +132,11 @@ fn run_command<F: Files, O: Sink, W: Wire>(
             let answer = check_all(alloc, files, &command.query, &command.constraints);
             put_report(answer, out)
         }
+        Command::Lint(command) => {
+            let sources = command.sources.items();
+            let answer = lint(alloc, files, sources, &command.query, &command.templates);
+            put_report(answer, out)
+        }
         Command::Trial(command) => {
             let answer = trial(alloc, command);
             put_answer(answer, out)
@@ -217,7 +223,7 @@ pub fn strudel<F: Files, O: Sink, E: Sink, W: Wire>(
     ensures wire_cause { result ≡ Status.WireFault
         → Rose (W.told wire.old).next_faults (W.told wire.new).next_faults }
 
-    // Where the command's files and the output have no fault, the inputs decide the end, unless memory runs out.
+    // Where the command's files and the output have no fault, the inputs decide the end, unless it is out of memory.
     ensures exact { ForSome (F.contents files.old) (λ map. ForSome (command words.now) (λ command.
         IsSomeAnd (F.contents files.new) (λ now.
         IsExact command
@@ -227,9 +233,14 @@ pub fn strudel<F: Files, O: Sink, E: Sink, W: Wire>(
         (O.text out.new) (O.failed out.new))
         result))) }
 
-    // A constraint that `check` answers yes is met in the query's site over every data graph.
+    // A constraint that `check` answers yes is met in the query's site over every data graph. One that it answers no is
+    // broken over the graph whose text it shows.
     ensures holds { ForSome (F.contents files.old) (λ map. ForSome (command words.now) (λ command.
         AnswersHold command map (O.text out.old) (O.text out.new) result)) }
+
+    // `lint` has told exactly the findings in its texts, and its status is 0 exactly where there is none.
+    ensures found { ForSome (F.contents files.old) (λ map. ForSome (command words.now) (λ command.
+        FindingsAreTold command map (O.text out.old) (O.text out.new) result)) }
 
     // A build and a run over connections end well where their inputs are accepted and nothing outside fails, unless memory
     // runs out, and a refused input ends them.

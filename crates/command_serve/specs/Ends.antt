@@ -137,7 +137,7 @@ module _ (command : ServeCommand) (before after : Outside) (reached : Status) wh
         (Ok inputs)
     pub ends : OverEnds inputs command.watch command.options before after reached
 
-  -- an input was refused or unread, or memory ran out for one, and nothing was done
+  -- an input was refused or unread, or it was out of memory for one, and nothing was done
   pub record IsUnread : Type 0 where
     pub reason : Fault
     pub taken : InputsEnd before.host.files command.sources command.query command.templates
@@ -152,7 +152,7 @@ module _ (command : ServeCommand) (before after : Outside) (reached : Status) wh
 
 -- ---- the parts of a run
 
--- the counts of a run were put, as its end says, or memory ran out for them
+-- the counts of a run were put, as its end says, or it was out of memory for them
 abbrev pub CountsPut
     : HubEnd → (watches : Bool) → Tally → (old new : Option (List ℕ)) → (PutsRose : Type 0) → Status
     → Type 0

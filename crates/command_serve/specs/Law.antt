@@ -1,4 +1,4 @@
--- A run over connections ends well, unless memory runs out, where its inputs are accepted and nothing outside fails.
+-- A run over connections ends well, unless it is out of memory, where its inputs are accepted and nothing outside fails.
 use Rattle.std.specs.Prelude.{◌≡◌, ◌<◌, ℕ, List, length, Some, Ok, Err}
 use Rattle.wire.specs.Told.{Told}
 use Rattle.wire.specs.declared.WireEvent.{WireEvent}

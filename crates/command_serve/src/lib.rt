@@ -1,7 +1,7 @@
 //! The command `serve`: the pages of a site over the connections that a wire gives.
 #![tactic(auto)]
 
-ghost use Rattle.std.specs.Prelude.{◌≡◌, ◌⊎◌, ℕ, List, IfOk, OnOk, IsErrOf};
+ghost use Rattle.std.specs.Prelude.{◌≡◌, ◌⊎◌, ℕ, List, IfOk, OnOk, IsErrOf, if◌then◌else◌};
 ghost use Rattle.std.specs.Option.{ForSome};
 ghost use Rattle.edge_io.specs.Counts.{Rose};
 ghost use Rattle.edge_io.specs.Files.{FileMap};
@@ -24,7 +24,7 @@ use run_report::Status;
 use sd_value::{NoMemory, Str};
 use serve_run::{Served, put_anyway, put_end, tally_text};
 use site_inputs::{SiteInputs, load_inputs};
-use site_serving::serve_site;
+use site_serving::{PageSource, serve_site};
 use std::alloc::Global;
 use wire::{Wire, WireEnd};
 
@@ -68,6 +68,17 @@ fn put_counts<O: Sink>(alloc: Global, watches: bool, served: &Served, out: &mut 
     }
 }
 
+// What the pages are made from.
+fn page_source(whole: bool) -> PageSource
+    ensures { result ≡ (if whole then PageSource.Whole else PageSource.Demand) }
+{
+    if whole {
+        PageSource::Whole
+    } else {
+        PageSource::Demand
+    }
+}
+
 // Serves over a wire that listens, and puts the counts.
 fn serve_listening<O: Sink, W: Wire>(
     alloc: Global,
@@ -87,7 +98,8 @@ fn serve_listening<O: Sink, W: Wire>(
     ensures wire_cause { result ≡ Status.WireFault
         → Rose (W.told wire.old).next_faults (W.told wire.new).next_faults }
 {
-    let served = serve_site(alloc, inputs, &options.limits, wire);
+    let source = page_source(options.whole);
+    let served = serve_site(alloc, inputs, &options.limits, source, wire);
     put_counts(alloc, watches, &served, out)
 }
 
@@ -196,8 +208,8 @@ fn serve_over<O: Sink, W: Wire>(
     }
 }
 
-/// Watches the command's file, if one is to be watched. Listens at the command's port for its connections, reports the port on `out`, serves the site of the query over the data
-/// until no more events come, and puts the counts of the run.
+/// Watches the command's file, if one is to be watched. Listens at the command's port for its connections, reports the
+/// port on `out`, serves the site of the query over the data until no more events come, and puts the counts of the run.
 pub fn serve<F: Files, O: Sink, W: Wire>(
     alloc: Global,
     files: &mut F,

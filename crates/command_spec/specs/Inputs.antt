@@ -4,7 +4,7 @@ use Rattle.command_spec.specs.declared.ExplainCommand.{ExplainCommand}
 use Rattle.command_spec.specs.declared.ReplayCommand.{ReplayCommand}
 use Rattle.command_spec.specs.declared.Command.{Command}
 use Rattle.command_spec.specs.declared.Command.TheVariants.{Page, Build, Data, Explain, Schema, Check, CheckAll}
-use Rattle.command_spec.specs.declared.Command.TheVariants.{Serve, Replay, Trial, Help, Version}
+use Rattle.command_spec.specs.declared.Command.TheVariants.{Lint, Serve, Replay, Trial, Help, Version}
 
 -- the inputs of a site: the data, the query and the templates
 abbrev pub input_paths : (sources : List (List ℕ)) (query templates : List ℕ) → List (List ℕ)
@@ -36,6 +36,7 @@ inputs_of_command (Explain command) = explain_paths command
 inputs_of_command (Schema command) = command.query ∷ []
 inputs_of_command (Check command) = here_paths command.sources command.query command.constraints
 inputs_of_command (CheckAll command) = check_paths command.query command.constraints
+inputs_of_command (Lint command) = input_paths command.sources command.query command.templates
 inputs_of_command (Serve command) = input_paths command.sources command.query command.templates
 inputs_of_command (Replay command) = replay_paths command
 inputs_of_command (Trial command) = []

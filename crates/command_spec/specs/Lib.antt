@@ -1,5 +1,6 @@
 pub mod Limits
 pub mod Options
+pub mod Values
 pub mod Numbers
 pub mod Names
 pub mod Words

@@ -2,8 +2,8 @@
 use Rattle.std.specs.Prelude.{ℕ, List, Option, None, Some, if◌then◌else◌, codes}
 use Rattle.std.specs.Str.{bytes_eq}
 use Rattle.command_spec.specs.declared.names.CommandName.{CommandName}
-use Rattle.command_spec.specs.declared.names.CommandName.TheVariants.{Page, Build, Data, Explain, Schema, Check, Serve}
-use Rattle.command_spec.specs.declared.names.CommandName.TheVariants.{Replay, Trial, Help, Version}
+use Rattle.command_spec.specs.declared.names.CommandName.TheVariants.{Page, Build, Data, Explain, Schema, Check, Lint}
+use Rattle.command_spec.specs.declared.names.CommandName.TheVariants.{Serve, Replay, Trial, Help, Version}
 
 -- the command of this name, if any
 abbrev pub name_of : List ℕ → Option CommandName
@@ -14,6 +14,7 @@ name_of word =
     else if bytes_eq word (codes "explain") then Some Explain
     else if bytes_eq word (codes "schema") then Some Schema
     else if bytes_eq word (codes "check") then Some Check
+    else if bytes_eq word (codes "lint") then Some Lint
     else if bytes_eq word (codes "serve") then Some Serve
     else if bytes_eq word (codes "replay") then Some Replay
     else if bytes_eq word (codes "trial") then Some Trial

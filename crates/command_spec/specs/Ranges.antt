@@ -7,7 +7,7 @@ use Rattle.command_spec.specs.declared.ServeWaits.{ServeWaits}
 use Rattle.command_spec.specs.declared.WatchOptions.{WatchOptions}
 use Rattle.command_spec.specs.declared.Command.{Command}
 use Rattle.command_spec.specs.declared.Command.TheVariants.{Page, Build, Data, Explain, Schema, Check, CheckAll}
-use Rattle.command_spec.specs.declared.Command.TheVariants.{Serve, Replay, Trial, Help, Version}
+use Rattle.command_spec.specs.declared.Command.TheVariants.{Lint, Serve, Replay, Trial, Help, Version}
 
 -- a number from 1 to `most`
 abbrev pub IsFrom1To : ℕ → ℕ → Type 0
@@ -46,6 +46,7 @@ IsInRange (Explain c) = Unit {0}
 IsInRange (Schema c) = Unit {0}
 IsInRange (Check c) = Unit {0}
 IsInRange (CheckAll c) = Unit {0}
+IsInRange (Lint c) = Unit {0}
 IsInRange (Trial c) = IsFrom1To entry_limit c.entries
 IsInRange (Help c) = Unit {0}
 IsInRange Version = Unit {0}

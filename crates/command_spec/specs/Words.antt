@@ -5,17 +5,21 @@ use Rattle.std.specs.List.{list_all}
 use Rattle.std.specs.Str.{bytes_eq, is_utf8}
 use Rattle.command_spec.specs.Limits.{entry_limit}
 use Rattle.command_spec.specs.declared.numbers.NumberOption.TheVariants.{Port, Connections, Requests}
-use Rattle.command_spec.specs.declared.numbers.NumberOption.TheVariants.{Turns, Cache, Idle, Stall, Watch, Every}
+use Rattle.command_spec.specs.declared.numbers.NumberOption.TheVariants.{Turns, Cache, Idle, Stall, Every}
+use Rattle.command_spec.specs.declared.options.PathOption.TheVariants.{Watch}
+use Rattle.command_spec.specs.declared.options.ValueOption.{ValueOption}
+use Rattle.command_spec.specs.declared.options.ValueOption.TheVariants.{Number, Path}
 use Rattle.command_spec.specs.declared.RunLimits.{RunLimits}
 use Rattle.command_spec.specs.declared.ServeOptions.{ServeOptions}
 use Rattle.command_spec.specs.declared.ServeWaits.{ServeWaits}
 use Rattle.command_spec.specs.declared.WatchOptions.{WatchOptions}
 use Rattle.command_spec.specs.declared.Command.{Command}
 use Rattle.command_spec.specs.declared.Command.TheVariants.{Page, Build, Data, Explain, Schema, Check, CheckAll}
-use Rattle.command_spec.specs.declared.Command.TheVariants.{Serve, Replay, Trial, Help, Version}
+use Rattle.command_spec.specs.declared.Command.TheVariants.{Lint, Serve, Replay, Trial, Help, Version}
 use Rattle.command_spec.specs.Names.{name_of}
 use Rattle.command_spec.specs.Options.{Parts, Setting, is_empty, parts_of}
-use Rattle.command_spec.specs.Numbers.{number, number_of, one_number, values_of, are_among}
+use Rattle.command_spec.specs.Numbers.{number, number_of, one_number}
+use Rattle.command_spec.specs.Values.{are_among, path_of, values_of}
 
 -- the first answer, and then the second of it
 infixl 10 ◌>>=◌
@@ -77,6 +81,16 @@ check_command (query ∷ constraints ∷ source ∷ sources) =
     }))
 check_command words = None
 
+-- the words after `lint`
+abbrev pub lint_command : List (List ℕ) → Option Command
+lint_command (query ∷ templates ∷ source ∷ sources) =
+    Some (Lint (record {
+      query = query;
+      templates = templates;
+      sources = source ∷ sources;
+    }))
+lint_command words = None
+
 -- the words after `trial`
 abbrev pub trial_command : List (List ℕ) → Option Command
 trial_command (entries ∷ []) = do
@@ -112,44 +126,58 @@ serve_waits settings = do
   stall ← number_of Stall settings
   Some (record { idle = idle; stall = stall })
 
--- the numbers of `serve`
+-- the numbers of `serve`, its flag aside
 abbrev pub serve_numbers : List Setting → Option ServeOptions
 serve_numbers settings = do
   port ← number_of Port settings
   connections ← number_of Connections settings
   limits ← run_limits settings
   waits ← serve_waits settings
-  Some (record { port = port; connections = connections; limits = limits; waits = waits })
+  Some (record {
+    port = port;
+    connections = connections;
+    limits = limits;
+    waits = waits;
+    whole = false;
+  })
 
 -- whether there are no options
 abbrev pub are_none : List Setting → Bool
 are_none [] = true
 are_none (setting ∷ settings) = false
 
+-- the options that `serve` has
+abbrev pub options_of_serve : List ValueOption
+options_of_serve =
+    Number Port ∷ Number Connections ∷ Number Requests ∷ Number Turns ∷ Number Cache
+    ∷ Number Idle ∷ Number Stall ∷ Path Watch ∷ Number Every ∷ []
+
+-- the options that `replay` has
+abbrev pub options_of_replay : List ValueOption
+options_of_replay = Number Requests ∷ Number Turns ∷ Number Cache ∷ []
+
 -- the options of `serve`
 abbrev pub serve_options : List Setting → Option ServeOptions
 serve_options settings =
-    if are_among
-    (Port ∷ Connections ∷ Requests ∷ Turns ∷ Cache ∷ Idle ∷ Stall ∷ Watch ∷ Every ∷ []) settings
-    then serve_numbers settings
-    else None
+    if are_among options_of_serve settings then serve_numbers settings else None
 
--- the file that is watched, if one is, by the values of `--watch` and of `--every`, which doesn't stand alone
-abbrev pub watch_by : List (List ℕ) → List (List ℕ) → Option (Option WatchOptions)
-watch_by [] [] = Some None
-watch_by [] (value ∷ values) = None
-watch_by (path ∷ []) values =
+-- the file that is watched, if one is, by the path of `--watch` and the values of `--every`, which doesn't stand alone
+abbrev pub watch_by : Option (List ℕ) → List (List ℕ) → Option (Option WatchOptions)
+watch_by None [] = Some None
+watch_by None (value ∷ values) = None
+watch_by (Some path) values =
     option_map (λ every. Some (record { path = path; every = every })) (one_number Every values)
-watch_by (path ∷ other ∷ paths) values = None
 
 -- the file that `serve` watches
 abbrev pub serve_watch : List Setting → Option (Option WatchOptions)
-serve_watch settings = watch_by (values_of Watch settings) (values_of Every settings)
+serve_watch settings = do
+  path ← path_of Watch settings
+  watch_by path (values_of (Number Every) settings)
 
 -- the options of `replay`
 abbrev pub replay_options : List Setting → Option RunLimits
 replay_options settings =
-    if are_among (Requests ∷ Turns ∷ Cache ∷ []) settings then run_limits settings else None
+    if are_among options_of_replay settings then run_limits settings else None
 
 -- the words after `serve`
 abbrev pub serve_command : ServeOptions → Option WatchOptions → List (List ℕ) → Option Command
@@ -184,6 +212,7 @@ plain_command name words =
     else if bytes_eq name (codes "explain") then explain_command words
     else if bytes_eq name (codes "schema") then schema_command words
     else if bytes_eq name (codes "check") then check_command words
+    else if bytes_eq name (codes "lint") then lint_command words
     else if bytes_eq name (codes "trial") then trial_command words
     else if bytes_eq name (codes "help") then help_command words
     else if bytes_eq name (codes "version") then version_command words
@@ -226,6 +255,7 @@ abbrev pub flag_of : List ℕ → Option (List ℕ)
 flag_of name =
     if bytes_eq name (codes "schema") then Some (codes "--dot")
     else if bytes_eq name (codes "check") then Some (codes "--here")
+    else if bytes_eq name (codes "serve") then Some (codes "--whole")
     else None
 
 -- where the flag stands first before a `--`, if it stands there at all
@@ -239,6 +269,7 @@ flag_place flag (word ∷ words) =
 -- the command with its flag, or without it: `check` has its flag exactly where it has data
 abbrev pub with_flag : Bool → Command → Option Command
 with_flag set (Schema c) = Some (Schema (record c { dot = set }))
+with_flag set (Serve c) = Some (Serve (record c { options = record c.options { whole = set } }))
 with_flag true (Check c) = Some (Check c)
 with_flag false (Check c) = None
 with_flag true (CheckAll c) = None

@@ -5,9 +5,11 @@ ghost use Rattle.std.specs.Prelude.{◌≡◌, IfOk, map};
 
 mod names;
 mod numbers;
+mod options;
 
 pub use names::CommandName;
 pub use numbers::NumberOption;
+pub use options::{PathOption, ValueOption};
 use sd_value::{NoMemory, Str};
 use std::alloc::Global;
 use std::marker::Model;
@@ -102,6 +104,14 @@ pub struct CheckAllCommand {
     pub constraints: Str,
 }
 
+/// `lint QUERY TEMPLATES DATA..`: what the query and the templates ask for, and the data don't have, is printed.
+#[derive(Debug, Drop)]
+pub struct LintCommand {
+    pub query: Str,
+    pub templates: Str,
+    pub sources: Paths,
+}
+
 /// The limits of a run over connections.
 #[derive(Clone, Copy, Debug, PartialEq, Eq)]
 pub struct RunLimits {
@@ -131,6 +141,8 @@ pub struct ServeOptions {
     pub connections: u64,
     pub limits: RunLimits,
     pub waits: ServeWaits,
+    /// Whether the whole site is made before the first request, and pages come from it.
+    pub whole: bool,
 }
 
 /// `--watch` and `--every` of `serve`: a file whose text is to become the data.
@@ -141,7 +153,7 @@ pub struct WatchOptions {
     pub every: u64,
 }
 
-/// `serve QUERY TEMPLATES DATA..`: pages are served over HTTP.
+/// `serve [--whole] QUERY TEMPLATES DATA..`: pages are served over HTTP.
 #[derive(Debug, Drop)]
 pub struct ServeCommand {
     pub query: Str,
@@ -185,6 +197,7 @@ pub enum Command {
     Schema(SchemaCommand),
     Check(HereCommand),
     CheckAll(CheckAllCommand),
+    Lint(LintCommand),
     Serve(ServeCommand),
     Replay(ReplayCommand),
     Trial(TrialCommand),

@@ -1,8 +1,9 @@
-// The options that have a value.
+// The options whose value is a number.
 ghost use Rattle.std.specs.Prelude.{◌≡◌};
 ghost use Rattle.command_spec.specs.Numbers as specs;
+ghost use Rattle.command_spec.specs.Values.{number_name};
 
-/// An option with a value, which is a number from 1 on, but for `--watch`, whose value is a path.
+/// An option whose value is a number from 1 on.
 #[derive(Clone, Copy, Debug, PartialEq, Eq)]
 pub enum NumberOption {
     Port,
@@ -12,14 +13,13 @@ pub enum NumberOption {
     Cache,
     Idle,
     Stall,
-    Watch,
     Every,
 }
 
 impl NumberOption {
     /// The name of the option, without its dashes.
     pub fn name<'a>(self) -> &'a str
-        ensures { result.now ≡ specs.option_name self }
+        ensures { result.now ≡ number_name self }
     {
         match self {
             NumberOption::Port => "port",
@@ -29,12 +29,11 @@ impl NumberOption {
             NumberOption::Cache => "cache",
             NumberOption::Idle => "idle",
             NumberOption::Stall => "stall",
-            NumberOption::Watch => "watch",
             NumberOption::Every => "every",
         }
     }
 
-    /// The greatest number that the option may have, or 0 where its value is no number.
+    /// The greatest number that the option may have.
     pub fn greatest(self) -> u64
         ensures { result ≡ specs.greatest self }
     {
@@ -46,11 +45,10 @@ impl NumberOption {
             | NumberOption::Every => 4_294_967_296,
             NumberOption::Cache => 4_096,
             NumberOption::Idle | NumberOption::Stall => 4_294_967_295,
-            NumberOption::Watch => 0,
         }
     }
 
-    /// The number where the option isn't given, or 0 where its value is no number.
+    /// The number where the option isn't given.
     pub fn otherwise(self) -> u64
         ensures { result ≡ specs.default_of self }
     {
@@ -61,7 +59,6 @@ impl NumberOption {
             NumberOption::Cache => 256,
             NumberOption::Idle => 5_000,
             NumberOption::Stall => 10_000,
-            NumberOption::Watch => 0,
         }
     }
 }

@@ -19,7 +19,8 @@ use Rattle.graph_spec.specs.DataGraph.{DataGraph}
 use Rattle.sd_graph.specs.Statement.{Statement, graph_with}
 use Rattle.command_trial.specs.Askable.{IsAskable, is_visible}
 use Rattle.trial_spec.specs.declared.Entry.{Entry}
-use Rattle.trial_spec.specs.Data.{below, next, entry, entry_after, state_at, statements, with_all, empty_graph, node_name}
+use Rattle.trial_spec.specs.Data.{below, next, entry, entry_after, state_at, statements, node_name}
+use Rattle.graph_spec.specs.Statement.{with_all, empty_graph}
 use Rattle.trial_spec.specs.Events.{events_from}
 use Rattle.trial_spec.specs.Requests.{papers, years, each_address, targets, paper_page, year_page}
 

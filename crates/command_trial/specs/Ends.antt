@@ -24,7 +24,7 @@ pub record IsTrial (entries : ℕ) (text : List ℕ) : Type 0 where
   pub made : IsMadeSite entries site
   pub is : IsTrialText (root_function site.query) (site_at site) site.templates entries text
 
--- How a trial ends: with its text, unless memory runs out.
+-- How a trial ends: with its text, unless it is out of memory.
 abbrev pub TrialEnds : TrialCommand → Result (List ℕ) Fault → Type 0
 TrialEnds command (Ok text) = IsTrial command.entries text
 TrialEnds command (Err NoMemory) = ⊤

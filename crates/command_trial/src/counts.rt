@@ -122,7 +122,7 @@ fn with_connection(counts: Counts, wire: &MemWire, number: u64) -> Result<Counts
 
 /// Counts the replies to the connections from 1 to this number, each of which asked for one page.
 /// # Errors
-/// A reply is missing or cut short, which only happens where memory runs out.
+/// A reply is missing or cut short, which only happens where it is out of memory.
 pub(crate) fn count(wire: &MemWire, connections: u64) -> Result<Counts, NoMemory>
     ensures counted { IfOk result (λ counts. (outcomes : List Outcome) → length outcomes
         ≡ connections

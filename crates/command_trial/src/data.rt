@@ -1,6 +1,7 @@
 // The data of a trial.
 ghost use Rattle.std.specs.Prelude.{◌≡◌, ◌<◌, ◌≤◌, ◌++◌, ◌∷◌, [], IfOk, OnOk, decimal};
 ghost use Rattle.graph_spec.specs.DataGraph.{text};
+ghost use Rattle.graph_spec.specs.Statement.{with_all};
 ghost use Rattle.sd_graph.specs.Statement.{a_member, an_edge, graph_with, IsData};
 ghost use Rattle.trial_spec.specs.Data as specs;
 ghost use Rattle.command_trial.specs.Data.{as_value, AreWords};
@@ -159,7 +160,7 @@ fn add_entry(
     requires words { AreWords words.now }
     requires year { entry.year < 4294967296 }
     ensures { OnOk result (graph.new.graph
-        ≡ specs.with_all graph.old.graph (specs.statements entry)) }
+        ≡ with_all graph.old.graph (specs.statements entry)) }
 {
     let node = node_name(alloc, entry.number)?;
     add_member(alloc, graph, &words.publications, &node)?;

@@ -17,7 +17,7 @@ use hub::HubEnd;
 use mem_wire::MemWire;
 use sd_value::{NoMemory, Str};
 use site_inputs::{Fault, SiteInputs};
-use site_serving::serve_site;
+use site_serving::{PageSource, serve_site};
 use std::alloc::Global;
 use trial_spec::Counts;
 
@@ -44,7 +44,7 @@ fn ask_for(alloc: Global, site: SiteInputs, targets: &[Str]) -> Result<Counted, 
 {
     let events = events(alloc, targets)?;
     let mut wire = MemWire::new(alloc, events, Vec::new(alloc), Vec::new(alloc))?;
-    let served = serve_site(alloc, site, &LIMITS, &mut wire);
+    let served = serve_site(alloc, site, &LIMITS, PageSource::Demand, &mut wire);
     match served.end {
         HubEnd::Done => Ok(Counted {
             counts: count(&wire, targets.len() as u64)?,

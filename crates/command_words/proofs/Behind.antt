@@ -7,8 +7,8 @@ use Rattle.clap.specs.Kinds.{Kinds, or_else}
 use Rattle.clap.specs.declared.builder.value_parser.Reading.TheVariants.{AsWritten}
 use Rattle.clap.specs.declared.parser.matches.ValueSource.TheVariants.{CommandLine}
 use Rattle.clap.specs.Faults.{settle_fault, turn_fault}
-use Rattle.command_spec.specs.declared.numbers.NumberOption.{NumberOption}
-use Rattle.command_spec.specs.Numbers.{are_among, is_among, option_name, option_word, values_of}
+use Rattle.command_spec.specs.declared.options.ValueOption.{ValueOption}
+use Rattle.command_spec.specs.Values.{are_among, is_among, option_name, option_word, values_of}
 use Rattle.command_spec.specs.Options.{Parts, Setting, Role, Plain, Dashes, Complete, Open, Misplaced, parts_of, role_of}
 use Rattle.command_words.proofs.Lookups.{IsIn, built_option, built_rules, by_long, dashed, equal, one_option, own_name, same, turned, two}
 use Rattle.command_words.proofs.Found.{at, more_at, new_at, none_out, other_at, row_found, values_at}
@@ -26,25 +26,25 @@ AreWords [] = Unit {0}
 AreWords (word ∷ words) = IsWord word × AreWords words
 
 -- an option's value among the rows
-pub data Slot (o : NumberOption) (rows : List Row) (settings : List Setting) : Type 0 where
+pub data Slot (o : ValueOption) (rows : List Row) (settings : List Setting) : Type 0 where
   unset : values_of o settings ≡ [] → has_row (option_name o) rows ≡ false → first_of (option_name o) rows ≡ None → Slot o rows settings
   set : (text : Text) → values_of o settings ≡ text ∷ [] → has_row (option_name o) rows ≡ true → first_of (option_name o) rows ≡ Some text → Slot o rows settings
 
-pub record Agrees (options : List NumberOption) (rows : List Row) (settings : List Setting) (words : List Text) : Type 0 where
+pub record Agrees (options : List ValueOption) (rows : List Row) (settings : List Setting) (words : List Text) : Type 0 where
   pub known : are_among options settings ≡ true
   pub words_are : values_at (codes "words") rows ≡ words
-  pub options_are : (o : NumberOption) → Slot o rows settings
+  pub options_are : (o : ValueOption) → Slot o rows settings
 
-pub record Holds (options : List NumberOption) (h : Held) (settings : List Setting) (words : List Text) : Type 0 where
+pub record Holds (options : List ValueOption) (h : Held) (settings : List Setting) (words : List Text) : Type 0 where
   pub fine : settle_fault (built_rules options) false h ≡ []
   pub skips : h.skip ≡ 0
   pub agrees : Agrees options (settled (built_rules options) h).rows settings words
 
-pub data Outcome (options : List NumberOption) (kinds : Kinds) (rows : List Row) (parts : Option Parts) : Type 0 where
+pub data Outcome (options : List ValueOption) (kinds : Kinds) (rows : List Row) (parts : Option Parts) : Type 0 where
   accepted : (p : Parts) → kinds ≡ [] → parts ≡ Some p → Agrees options rows p.settings p.words → Outcome options kinds rows parts
   refused : Fails kinds → IsUnfit options parts → Outcome options kinds rows parts
 
-outcome_as : (options : List NumberOption) (k k2 : Kinds) (r r2 : List Row) (p p2 : Option Parts) → k ≡ k2 → r ≡ r2 → p ≡ p2 → Outcome options k2 r2 p2 → Outcome options k r p
+outcome_as : (options : List ValueOption) (k k2 : Kinds) (r r2 : List Row) (p p2 : Option Parts) → k ≡ k2 → r ≡ r2 → p ≡ p2 → Outcome options k2 r2 p2 → Outcome options k r p
 outcome_as options k k2 r r2 p p2 ek er ep o =
     subst (λ x. Outcome options x r p) (sym ek) (subst (λ x. Outcome options k2 x p) (sym er) (subst (λ x. Outcome options k2 r2 x) (sym ep) o))
 
@@ -54,24 +54,24 @@ has_as id rows rows2 e = row_found id rows2 ∙ ap is_some e ∙ sym (row_found 
 first_as : (id : Text) (rows rows2 : List Row) → at id rows2 ≡ at id rows → first_of id rows2 ≡ first_of id rows
 first_as id rows rows2 e = ap (option_and_then (λ (r : Row). slice_get r.values 0)) e
 
-slot_as : (o : NumberOption) (rows rows2 : List Row) (settings settings2 : List Setting) → at (option_name o) rows2 ≡ at (option_name o) rows → values_of o settings2 ≡ values_of o settings → Slot o rows settings → Slot o rows2 settings2
+slot_as : (o : ValueOption) (rows rows2 : List Row) (settings settings2 : List Setting) → at (option_name o) rows2 ≡ at (option_name o) rows → values_of o settings2 ≡ values_of o settings → Slot o rows settings → Slot o rows2 settings2
 slot_as o rows rows2 s s2 e v (unset a b c) = unset (v ∙ a) (has_as (option_name o) rows rows2 e ∙ b) (first_as (option_name o) rows rows2 e ∙ c)
 slot_as o rows rows2 s s2 e v (set t a b c) = set t (v ∙ a) (has_as (option_name o) rows rows2 e ∙ b) (first_as (option_name o) rows rows2 e ∙ c)
 
-pub free_idle : (options : List NumberOption) → IsFree options idle
+pub free_idle : (options : List ValueOption) → IsFree options idle
 free_idle options word h = refl
 
-free_positional : (options : List NumberOption) → IsFree options positional
+free_positional : (options : List ValueOption) → IsFree options positional
 free_positional options word h = refl
 
 option_view : (o : Option Text) → (o ≡ None) ⊎ ((t : Text) × (o ≡ Some t))
 option_view None = inl refl
 option_view (Some t) = inr (t, refl)
 
-abbrev pub setting_of : NumberOption → Text → Setting
+abbrev pub setting_of : ValueOption → Text → Setting
 setting_of o text = record { name = 45 ∷ 45 ∷ option_name o; value = text }
 
-module _ (name : Text) (options : List NumberOption) where
+module _ (name : Text) (options : List ValueOption) where
   -- ---- what is held fails
 
   pub bad_trailing : (words : List Text) (h : Held) (waiting : Waiting) → Fails (settle_fault (built_rules options) false h) → Fails (faults name options (trailing_at h waiting) words)
@@ -117,7 +117,7 @@ module _ (name : Text) (options : List NumberOption) where
     };
   }
 
-  with_option : (rows : List Row) (settings : List Setting) (words : List Text) (o : NumberOption) (text : Text) → IsIn options o → Agrees options rows settings words
+  with_option : (rows : List Row) (settings : List Setting) (words : List Text) (o : ValueOption) (text : Text) → IsIn options o → Agrees options rows settings words
       → values_of o settings ≡ [] → has_row (option_name o) rows ≡ false → Agrees options (used (built_option o) (text ∷ []) rows) (settings ++ setting_of o text ∷ []) words
   with_option rows settings words o text i a empty none = record {
     known = known_last options settings (setting_of o text) a.known (subst (λ w. is_among options w ≡ true) (dashed o) i);
@@ -140,7 +140,7 @@ module _ (name : Text) (options : List NumberOption) where
       mine : Slot o (used (built_option o) (text ∷ []) rows) (settings ++ setting_of o text ∷ [])
       mine = set text (value_last o settings (setting_of o text) true (ap (λ w. bytes_eq w (option_word o)) (sym (dashed o)) ∙ equal (option_word o)) ∙ ap (λ vs. vs ++ text ∷ []) empty) (row_found (option_name o) _ ∙ ap is_some new) (ap (option_and_then (λ (r : Row). slice_get r.values 0)) new)
 
-  stands_twice : (settings : List Setting) (o : NumberOption) (text before : Text) → IsIn options o → values_of o settings ≡ before ∷ [] → AreUnfit options (settings ++ setting_of o text ∷ [])
+  stands_twice : (settings : List Setting) (o : ValueOption) (text before : Text) → IsIn options o → values_of o settings ≡ before ∷ [] → AreUnfit options (settings ++ setting_of o text ∷ [])
   stands_twice settings o text before i one = twice o i before text [] (value_last o settings (setting_of o text) true (ap (λ w. bytes_eq w (option_word o)) (sym (dashed o)) ∙ equal (option_word o)) ∙ ap (λ vs. vs ++ text ∷ []) one)
 
   -- ---- behind `--`
@@ -161,7 +161,7 @@ module _ (name : Text) (options : List NumberOption) where
   pub record Reads (later : List Text) : Type 0 where
     pub free : (h : Held) (waiting : Waiting) (settings : List Setting) (words : List Text) → IsFree options waiting → AreWords later → Holds options h settings words
         → Outcome options (faults name options (walk_at h waiting) later) (found name options (walk_at h waiting) later) (carried settings words (parts_of None later))
-    pub waits : (rows : List Row) (skip : ℕ) (o : NumberOption) (settings : List Setting) (words : List Text) → skip ≡ 0 → IsIn options o → AreWords later → Agrees options rows settings words
+    pub waits : (rows : List Row) (skip : ℕ) (o : ValueOption) (settings : List Setting) (words : List Text) → skip ≡ 0 → IsIn options o → AreWords later → Agrees options rows settings words
         → Outcome options (faults name options (walk_at (step.waits name options rows skip o) (option (option_name o))) later) (found name options (walk_at (step.waits name options rows skip o) (option (option_name o))) later)
         (carried settings words (parts_of (Some (45 ∷ 45 ∷ option_name o)) later))
 
@@ -187,7 +187,7 @@ module _ (name : Text) (options : List NumberOption) where
 
   -- an option with its value in one word
   joined_word : (word : Text) (l : IsLongWord word) (later : List Text) (ih : Reads later) (h : Held) (waiting : Waiting) (settings : List Setting) (words : List Text) → AreWords later → Holds options h settings words
-      → (o : NumberOption) → l.name ≡ option_name o → IsIn options o → arg_by_long (built_rules options) l.name ≡ Some (built_option o) → (text : Text) → l.value ≡ Some text → Slot o (settled (built_rules options) h).rows settings
+      → (o : ValueOption) → l.name ≡ option_name o → IsIn options o → arg_by_long (built_rules options) l.name ≡ Some (built_option o) → (text : Text) → l.value ≡ Some text → Slot o (settled (built_rules options) h).rows settings
       → Outcome options (faults name options (walk_at h waiting) (word ∷ later)) (found name options (walk_at h waiting) (word ∷ later)) (carried settings words (parts_of None (word ∷ later)))
   joined_word word l later ih h waiting settings words are good o named i is [] v slot =
       refused_word word later (walk_at h waiting) settings words None Misplaced (l.role ∙ ap (long_role l.name) v)
@@ -248,7 +248,7 @@ module _ (name : Text) (options : List NumberOption) where
 
   -- ---- the value of an option
 
-  valued_word : (word : Text) (p : IsPlainWord word) (later : List Text) (ih : Reads later) (rows : List Row) (skip : ℕ) (o : NumberOption) (settings : List Setting) (words : List Text) → skip ≡ 0 → IsIn options o → IsWord word → AreWords later → Agrees options rows settings words → Slot o rows settings
+  valued_word : (word : Text) (p : IsPlainWord word) (later : List Text) (ih : Reads later) (rows : List Row) (skip : ℕ) (o : ValueOption) (settings : List Setting) (words : List Text) → skip ≡ 0 → IsIn options o → IsWord word → AreWords later → Agrees options rows settings words → Slot o rows settings
       → Outcome options (faults name options (walk_at (step.waits name options rows skip o) (option (option_name o))) (word ∷ later)) (found name options (walk_at (step.waits name options rows skip o) (option (option_name o))) (word ∷ later))
       (carried settings words (parts_of (Some (45 ∷ 45 ∷ option_name o)) (word ∷ later)))
   valued_word [] p later ih rows skip o settings words none i is are a slot = absurd is
@@ -269,7 +269,7 @@ module _ (name : Text) (options : List NumberOption) where
       (bad_walk later (step.valued name options rows skip o (x ∷ xs)) idle (free_idle options) are none (fails_as _ _ (step.valued_fault name options rows skip o (x ∷ xs) i) (use_twice o (x ∷ xs) rows some))))
       (subst (IsUnfit options) (sym (with_setting_carried settings words (setting_of o (x ∷ xs)) (parts_of None later))) (unfit_more options (settings ++ setting_of o (x ∷ xs) ∷ []) words (parts_of None later) (stands_twice settings o (x ∷ xs) before i one)))
 
-  waits_word : (word : Text) (v : View word) (later : List Text) (ih : Reads later) (rows : List Row) (skip : ℕ) (o : NumberOption) (settings : List Setting) (words : List Text) → skip ≡ 0 → IsIn options o → IsWord word → AreWords later → Agrees options rows settings words
+  waits_word : (word : Text) (v : View word) (later : List Text) (ih : Reads later) (rows : List Row) (skip : ℕ) (o : ValueOption) (settings : List Setting) (words : List Text) → skip ≡ 0 → IsIn options o → IsWord word → AreWords later → Agrees options rows settings words
       → Outcome options (faults name options (walk_at (step.waits name options rows skip o) (option (option_name o))) (word ∷ later)) (found name options (walk_at (step.waits name options rows skip o) (option (option_name o))) (word ∷ later))
       (carried settings words (parts_of (Some (45 ∷ 45 ∷ option_name o)) (word ∷ later)))
   waits_word word (is_plain p) later ih rows skip o settings words none i is are a = valued_word word p later ih rows skip o settings words none i is are a (a.options_are o)

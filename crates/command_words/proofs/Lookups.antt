@@ -5,9 +5,11 @@ use Rattle.std.specs.Str.{bytes_eq}
 use Rattle.std.proofs.lemmas.Slice.Eq.{bytes_eq-Decides}
 use Rattle.clap.specs.Walk.{Rule, Text, arg_by_id, arg_by_long, arg_by_short, has_short}
 use Rattle.clap.specs.declared.builder.value_parser.ValueParser.TheVariants.{String}
-use Rattle.command_spec.specs.declared.numbers.NumberOption.{NumberOption}
-use Rattle.command_spec.specs.declared.numbers.NumberOption.TheVariants.{Port, Connections, Requests, Turns, Cache, Idle, Stall, Watch, Every}
-use Rattle.command_spec.specs.Numbers.{option_name, option_word, is_among}
+use Rattle.command_spec.specs.declared.options.ValueOption.{ValueOption}
+use Rattle.command_spec.specs.declared.numbers.NumberOption.TheVariants.{Port, Connections, Requests, Turns, Cache, Idle, Stall, Every}
+use Rattle.command_spec.specs.declared.options.PathOption.TheVariants.{Watch}
+use Rattle.command_spec.specs.declared.options.ValueOption.TheVariants.{Number, Path}
+use Rattle.command_spec.specs.Values.{option_name, option_word, is_among}
 use Rattle.command_words.specs.Parsed.{option_rule, words_rule}
 
 -- the arguments as building leaves them
@@ -21,10 +23,10 @@ words_built = record words_rule {
   parser = Some String;
 }
 
-abbrev pub built_option : NumberOption → Rule
+abbrev pub built_option : ValueOption → Rule
 built_option option = option_built (option_name option)
 
-abbrev pub built_rules : List NumberOption → List Rule
+abbrev pub built_rules : List ValueOption → List Rule
 built_rules options = words_built ∷ map built_option options
 
 pub two : (b : Bool) → (b ≡ true) ⊎ (b ≡ false)
@@ -50,77 +52,77 @@ turned a b = elim (two (bytes_eq b a)) [
   | inr f ↦ not_true (bytes_eq a b) (λ t. false_is (bytes_eq b a) f ((bytes_eq-Decides b a).1 (sym (same a b t)))) ∙ sym f
 ]
 
-pub dashed : (option : NumberOption) → option_word option ≡ 45 ∷ 45 ∷ option_name option
-dashed Port = refl
-dashed Connections = refl
-dashed Requests = refl
-dashed Turns = refl
-dashed Cache = refl
-dashed Idle = refl
-dashed Stall = refl
-dashed Watch = refl
-dashed Every = refl
+pub dashed : (option : ValueOption) → option_word option ≡ 45 ∷ 45 ∷ option_name option
+dashed (Number Port) = refl
+dashed (Number Connections) = refl
+dashed (Number Requests) = refl
+dashed (Number Turns) = refl
+dashed (Number Cache) = refl
+dashed (Number Idle) = refl
+dashed (Number Stall) = refl
+dashed (Path Watch) = refl
+dashed (Number Every) = refl
 
-pub own_name : (option : NumberOption) → bytes_eq (codes "words") (option_name option) ≡ false
-own_name Port = refl
-own_name Connections = refl
-own_name Requests = refl
-own_name Turns = refl
-own_name Cache = refl
-own_name Idle = refl
-own_name Stall = refl
-own_name Watch = refl
-own_name Every = refl
+pub own_name : (option : ValueOption) → bytes_eq (codes "words") (option_name option) ≡ false
+own_name (Number Port) = refl
+own_name (Number Connections) = refl
+own_name (Number Requests) = refl
+own_name (Number Turns) = refl
+own_name (Number Cache) = refl
+own_name (Number Idle) = refl
+own_name (Number Stall) = refl
+own_name (Path Watch) = refl
+own_name (Number Every) = refl
 
 -- the option of a name
-which : Text → Option NumberOption
+which : Text → Option ValueOption
 which name =
-    if bytes_eq name (codes "port") then Some Port
-    else if bytes_eq name (codes "connections") then Some Connections
-    else if bytes_eq name (codes "requests") then Some Requests
-    else if bytes_eq name (codes "turns") then Some Turns
-    else if bytes_eq name (codes "cache") then Some Cache
-    else if bytes_eq name (codes "idle") then Some Idle
-    else if bytes_eq name (codes "stall") then Some Stall
-    else if bytes_eq name (codes "watch") then Some Watch
-    else if bytes_eq name (codes "every") then Some Every
+    if bytes_eq name (codes "port") then Some (Number Port)
+    else if bytes_eq name (codes "connections") then Some (Number Connections)
+    else if bytes_eq name (codes "requests") then Some (Number Requests)
+    else if bytes_eq name (codes "turns") then Some (Number Turns)
+    else if bytes_eq name (codes "cache") then Some (Number Cache)
+    else if bytes_eq name (codes "idle") then Some (Number Idle)
+    else if bytes_eq name (codes "stall") then Some (Number Stall)
+    else if bytes_eq name (codes "watch") then Some (Path Watch)
+    else if bytes_eq name (codes "every") then Some (Number Every)
     else None
 
-which_own : (option : NumberOption) → which (option_name option) ≡ Some option
+which_own : (option : ValueOption) → which (option_name option) ≡ Some option
 unfolding which
-which_own Port = refl
-which_own Connections = refl
-which_own Requests = refl
-which_own Turns = refl
-which_own Cache = refl
-which_own Idle = refl
-which_own Stall = refl
-which_own Watch = refl
-which_own Every = refl
+which_own (Number Port) = refl
+which_own (Number Connections) = refl
+which_own (Number Requests) = refl
+which_own (Number Turns) = refl
+which_own (Number Cache) = refl
+which_own (Number Idle) = refl
+which_own (Number Stall) = refl
+which_own (Path Watch) = refl
+which_own (Number Every) = refl
 
 -- options of one name are one
-pub one_option : (a b : NumberOption) → option_name a ≡ option_name b → a ≡ b
+pub one_option : (a b : ValueOption) → option_name a ≡ option_name b → a ≡ b
 one_option a b e = ap (λ found. unwrap_or found a) (sym (which_own a) ∙ ap which e ∙ which_own b)
 
 -- one of the options
-abbrev pub IsIn : List NumberOption → NumberOption → Type 0
+abbrev pub IsIn : List ValueOption → ValueOption → Type 0
 IsIn options option = is_among options (option_word option) ≡ true
 
 -- what a long name finds
-pub record IsFound (options : List NumberOption) (name : Text) : Type 0 where
-  pub option : NumberOption
+pub record IsFound (options : List ValueOption) (name : Text) : Type 0 where
+  pub option : ValueOption
   pub named : name ≡ option_name option
   pub found : arg_by_long (built_rules options) name ≡ Some (built_option option)
   pub in_it : IsIn options option
 
-pub record IsUnknown (options : List NumberOption) (name : Text) : Type 0 where
+pub record IsUnknown (options : List ValueOption) (name : Text) : Type 0 where
   pub found : arg_by_long (built_rules options) name ≡ None
   pub not_in : is_among options (45 ∷ 45 ∷ name) ≡ false
 
-word_test : (option : NumberOption) (name : Text) → bytes_eq (45 ∷ 45 ∷ name) (option_word option) ≡ bytes_eq (option_name option) name
+word_test : (option : ValueOption) (name : Text) → bytes_eq (45 ∷ 45 ∷ name) (option_word option) ≡ bytes_eq (option_name option) name
 word_test option name = ap (bytes_eq (45 ∷ 45 ∷ name)) (dashed option) ∙ turned name (option_name option)
 
-pub by_long : (options : List NumberOption) (name : Text) → IsFound options name ⊎ IsUnknown options name
+pub by_long : (options : List ValueOption) (name : Text) → IsFound options name ⊎ IsUnknown options name
 by_long [] name = inr (record { found = refl; not_in = refl })
 by_long (o ∷ os) name = elim (two (bytes_eq (option_name o) name)) [
   | inl t ↦ inl (record {
@@ -144,7 +146,7 @@ by_long (o ∷ os) name = elim (two (bytes_eq (option_name o) name)) [
     or_right true b e = refl
     or_right false b e = e
 
-by_id_in : (options : List NumberOption) (option : NumberOption) → IsIn options option → find (λ a. bytes_eq a.id (option_name option)) (map built_option options) ≡ Some (built_option option)
+by_id_in : (options : List ValueOption) (option : ValueOption) → IsIn options option → find (λ a. bytes_eq a.id (option_name option)) (map built_option options) ≡ Some (built_option option)
 by_id_in [] option i = absurd (true≢false (sym i))
 by_id_in (o ∷ os) option i = elim (two (bytes_eq (option_name o) (option_name option))) [
   | inl t ↦ rw t (ap (λ x. Some (built_option x)) (one_option o option (same _ _ t)))
@@ -157,13 +159,13 @@ by_id_in (o ∷ os) option i = elim (two (bytes_eq (option_name o) (option_name 
     rest : {b : Bool} → (false || b) ≡ true → b ≡ true
     rest e = e
 
-pub by_id : (options : List NumberOption) (option : NumberOption) → IsIn options option → arg_by_id (built_rules options) (option_name option) ≡ Some (built_option option)
+pub by_id : (options : List ValueOption) (option : ValueOption) → IsIn options option → arg_by_id (built_rules options) (option_name option) ≡ Some (built_option option)
 by_id options option i = rw (own_name option) (by_id_in options option i)
 
-no_short : (options : List NumberOption) (x : ℕ) → find (λ a. not (is_some a.index) && has_short a x) (map built_option options) ≡ None
+no_short : (options : List ValueOption) (x : ℕ) → find (λ a. not (is_some a.index) && has_short a x) (map built_option options) ≡ None
 no_short [] x = refl
 no_short (o ∷ os) x = no_short os x
 
 -- no option has a short name
-pub by_short : (options : List NumberOption) (x : ℕ) → arg_by_short (built_rules options) x ≡ None
+pub by_short : (options : List ValueOption) (x : ℕ) → arg_by_short (built_rules options) x ≡ None
 by_short options x = no_short options x

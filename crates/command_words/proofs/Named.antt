@@ -4,18 +4,22 @@ use Rattle.std.specs.Prelude.{◌⊎◌, codes, option_and_then}
 use Rattle.std.specs.Str.{bytes_eq}
 use Rattle.clap.specs.Walk.{Row, Text}
 use Rattle.command_spec.specs.declared.numbers.NumberOption.{NumberOption}
-use Rattle.command_spec.specs.declared.numbers.NumberOption.TheVariants.{Port, Connections, Requests, Turns, Cache, Idle, Stall, Watch, Every}
+use Rattle.command_spec.specs.declared.options.ValueOption.{ValueOption}
+use Rattle.command_spec.specs.declared.numbers.NumberOption.TheVariants.{Port, Connections, Requests, Turns, Cache, Idle, Stall, Every}
+use Rattle.command_spec.specs.declared.options.PathOption.TheVariants.{Watch}
+use Rattle.command_spec.specs.declared.options.ValueOption.TheVariants.{Number, Path}
 use Rattle.command_spec.specs.declared.RunLimits.{RunLimits}
 use Rattle.command_spec.specs.declared.ServeOptions.{ServeOptions}
 use Rattle.command_spec.specs.declared.ServeWaits.{ServeWaits}
 use Rattle.command_spec.specs.declared.WatchOptions.{WatchOptions}
 use Rattle.command_spec.specs.declared.Command.{Command}
-use Rattle.command_spec.specs.Numbers.{are_among, number_of, one_number, values_of}
+use Rattle.command_spec.specs.Numbers.{number_of, one_number}
+use Rattle.command_spec.specs.Values.{are_among, one_path, values_of}
 use Rattle.command_spec.specs.Options.{Parts, Setting}
 use Rattle.command_words.specs.Parsed as parsed
-use Rattle.command_words.specs.Parsed.{number_in, command_in_rows, run_numbers, command_with_words}
+use Rattle.command_words.specs.Parsed.{number_in, command_in_rows, command_with_words}
 use Rattle.command_spec.specs.Words as words
-use Rattle.command_spec.specs.Words.{are_none, named_command, replay_command, serve_command}
+use Rattle.command_spec.specs.Words.{are_none, named_command, options_of_serve, options_of_replay, replay_command, serve_command}
 use Rattle.command_words.proofs.Lookups.{IsIn}
 use Rattle.command_words.proofs.Found.{values_at}
 use Rattle.command_words.proofs.Settings.{AreUnfit, IsUnfit, twice, unknown}
@@ -25,7 +29,7 @@ pub none_later : {A B : Type 0} (x : Option A) (f : A → Option B) → ((a : A)
 none_later None f none = refl
 none_later (Some a) f none = none a
 
-same_number : (o : NumberOption) (rows : List Row) (settings : List Setting) → Slot o rows settings → number_in o rows ≡ number_of o settings
+same_number : (o : NumberOption) (rows : List Row) (settings : List Setting) → Slot (Number o) rows settings → number_in o rows ≡ number_of o settings
 same_number o rows settings (unset empty no_row first) = ap (parsed.number_or_default o) first ∙ sym (ap (one_number o) empty)
 same_number o rows settings (set text one some first) = ap (parsed.number_or_default o) first ∙ sym (ap (one_number o) one)
 
@@ -36,11 +40,15 @@ abbrev waits_by : Option ℕ → Option ℕ → Option ServeWaits
 waits_by idle stall = option_and_then (λ i. option_and_then (λ s. Some (record { idle = i; stall = s })) stall) idle
 
 abbrev serve_by : Option ℕ → Option ℕ → Option RunLimits → Option ServeWaits → Option ServeOptions
-serve_by port connections limits waits = option_and_then (λ p. option_and_then (λ n. option_and_then (λ l. option_and_then (λ w. Some (record { port = p; connections = n; limits = l; waits = w })) waits) limits) connections) port
+serve_by port connections limits waits = option_and_then (λ p. option_and_then (λ n. option_and_then (λ l. option_and_then (λ w. Some (record { port = p; connections = n; limits = l; waits = w; whole = false })) waits) limits) connections) port
 
-module _ (rows : List Row) (settings : List Setting) (slots : (o : NumberOption) → Slot o rows settings) where
+-- the watched file, by the values of `--watch` and of `--every`
+abbrev watched_by : List Text → List Text → Option (Option WatchOptions)
+watched_by paths values = option_and_then (λ path. words.watch_by path values) (one_path paths)
+
+module _ (rows : List Row) (settings : List Setting) (slots : (o : ValueOption) → Slot o rows settings) where
   same : (o : NumberOption) → number_in o rows ≡ number_of o settings
-  same o = same_number o rows settings (slots o)
+  same o = same_number o rows settings (slots (Number o))
 
   pub same_limits : parsed.run_limits rows ≡ words.run_limits settings
   same_limits = rw (same Requests, same Turns, same Cache) refl
@@ -49,13 +57,13 @@ module _ (rows : List Row) (settings : List Setting) (slots : (o : NumberOption)
   same_waits = rw (same Idle, same Stall) refl
 
   pub same_watch : parsed.serve_watch rows ≡ words.serve_watch settings
-  same_watch = by (slots Watch) (slots Every)
+  same_watch = by (slots (Path Watch)) (slots (Number Every))
     where
-      by : Slot Watch rows settings → Slot Every rows settings → parsed.serve_watch rows ≡ words.serve_watch settings
-      by (unset empty no_row first) (unset none no_other absent) = ap₂ parsed.watch_in first absent ∙ sym (ap₂ words.watch_by empty none)
-      by (unset empty no_row first) (set every one some found) = ap₂ parsed.watch_in first found ∙ sym (ap₂ words.watch_by empty one)
-      by (set path one some first) (unset none no_other absent) = ap₂ parsed.watch_in first absent ∙ sym (ap₂ words.watch_by one none)
-      by (set path one some first) (set every other more found) = ap₂ parsed.watch_in first found ∙ sym (ap₂ words.watch_by one other)
+      by : Slot (Path Watch) rows settings → Slot (Number Every) rows settings → parsed.serve_watch rows ≡ words.serve_watch settings
+      by (unset empty no_row first) (unset none no_other absent) = ap₂ parsed.watch_in first absent ∙ sym (ap₂ watched_by empty none)
+      by (unset empty no_row first) (set every one some found) = ap₂ parsed.watch_in first found ∙ sym (ap₂ watched_by empty one)
+      by (set path one some first) (unset none no_other absent) = ap₂ parsed.watch_in first absent ∙ sym (ap₂ watched_by one none)
+      by (set path one some first) (set every other more found) = ap₂ parsed.watch_in first found ∙ sym (ap₂ watched_by one other)
 
   pub same_options : parsed.serve_options rows ≡ words.serve_numbers settings
   same_options = rw (same Port, same Connections, same_limits, same_waits) refl
@@ -75,19 +83,19 @@ no_options a b c d (inr (inl e)) = none_later a _ (λ p. rw e refl)
 no_options a b c d (inr (inr (inl e))) = none_later a _ (λ p. none_later b _ (λ n. rw e refl))
 no_options a b c d (inr (inr (inr e))) = none_later a _ (λ p. none_later b _ (λ n. none_later c _ (λ l. rw e refl)))
 
-no_number : (o : NumberOption) (settings : List Setting) (a b : Text) (rest : List Text) → values_of o settings ≡ a ∷ b ∷ rest → number_of o settings ≡ None
+no_number : (o : NumberOption) (settings : List Setting) (a b : Text) (rest : List Text) → values_of (Number o) settings ≡ a ∷ b ∷ rest → number_of o settings ≡ None
 no_number o settings a b rest e = ap (one_number o) e
 
-no_run : (o : NumberOption) (settings : List Setting) → IsIn run_numbers o → number_of o settings ≡ None → words.run_limits settings ≡ None
-no_run Port settings i e = absurd (true≢false (sym i))
-no_run Connections settings i e = absurd (true≢false (sym i))
-no_run Requests settings i e = no_limits _ _ _ (inl e)
-no_run Turns settings i e = no_limits _ _ _ (inr (inl e))
-no_run Cache settings i e = no_limits _ _ _ (inr (inr e))
-no_run Idle settings i e = absurd (true≢false (sym i))
-no_run Stall settings i e = absurd (true≢false (sym i))
-no_run Watch settings i e = absurd (true≢false (sym i))
-no_run Every settings i e = absurd (true≢false (sym i))
+no_run : (o : ValueOption) (settings : List Setting) (a b : Text) (rest : List Text) → IsIn options_of_replay o → values_of o settings ≡ a ∷ b ∷ rest → words.run_limits settings ≡ None
+no_run (Number Port) settings a b rest i e = absurd (true≢false (sym i))
+no_run (Number Connections) settings a b rest i e = absurd (true≢false (sym i))
+no_run (Number Requests) settings a b rest i e = no_limits _ _ _ (inl (no_number Requests settings a b rest e))
+no_run (Number Turns) settings a b rest i e = no_limits _ _ _ (inr (inl (no_number Turns settings a b rest e)))
+no_run (Number Cache) settings a b rest i e = no_limits _ _ _ (inr (inr (no_number Cache settings a b rest e)))
+no_run (Number Idle) settings a b rest i e = absurd (true≢false (sym i))
+no_run (Number Stall) settings a b rest i e = absurd (true≢false (sym i))
+no_run (Number Every) settings a b rest i e = absurd (true≢false (sym i))
+no_run (Path Watch) settings a b rest i e = absurd (true≢false (sym i))
 
 -- the options of `serve` where one of them has no number
 no_serve_by : (settings : List Setting) → (number_of Port settings ≡ None) ⊎ ((number_of Connections settings ≡ None) ⊎ ((words.run_limits settings ≡ None) ⊎ (words.serve_waits settings ≡ None))) → words.serve_numbers settings ≡ None
@@ -98,10 +106,10 @@ when true x e = e
 when false x e = refl
 
 -- no file is watched where an option that says which stands twice
-no_path : (paths values : List Text) (a b : Text) (rest : List Text) → paths ≡ a ∷ b ∷ rest → words.watch_by paths values ≡ None
-no_path paths values a b rest e = ap (λ ps. words.watch_by ps values) e
+no_path : (paths values : List Text) (a b : Text) (rest : List Text) → paths ≡ a ∷ b ∷ rest → watched_by paths values ≡ None
+no_path paths values a b rest e = ap (λ ps. watched_by ps values) e
 
-no_every : (paths : List Text) (a b : Text) (rest : List Text) → words.watch_by paths (a ∷ b ∷ rest) ≡ None
+no_every : (paths : List Text) (a b : Text) (rest : List Text) → watched_by paths (a ∷ b ∷ rest) ≡ None
 no_every [] a b rest = refl
 no_every (path ∷ []) a b rest = refl
 no_every (path ∷ other ∷ paths) a b rest = refl
@@ -110,34 +118,34 @@ abbrev serving : Parts → Option ServeOptions → Option (Option WatchOptions) 
 serving p options watch = option_and_then (λ o. option_and_then (λ w. serve_command o w p.words) watch) options
 
 no_options_given : (p : Parts) → words.serve_numbers p.settings ≡ None → words.serve_parts p ≡ None
-no_options_given p none = ap (λ o. serving p o (words.serve_watch p.settings)) (when (are_among parsed.serve_numbers p.settings) _ none)
+no_options_given p none = ap (λ o. serving p o (words.serve_watch p.settings)) (when (are_among options_of_serve p.settings) _ none)
 
 no_watch_given : (p : Parts) → words.serve_watch p.settings ≡ None → words.serve_parts p ≡ None
 no_watch_given p none = none_later (words.serve_options p.settings) _ (λ o. ap (option_and_then (λ w. serve_command o w p.words)) none)
 
-no_serve : (o : NumberOption) (p : Parts) (a b : Text) (rest : List Text) → values_of o p.settings ≡ a ∷ b ∷ rest → words.serve_parts p ≡ None
-no_serve Port p a b rest e = no_options_given p (no_serve_by p.settings (inl (no_number Port p.settings a b rest e)))
-no_serve Connections p a b rest e = no_options_given p (no_serve_by p.settings (inr (inl (no_number Connections p.settings a b rest e))))
-no_serve Requests p a b rest e = no_options_given p (no_serve_by p.settings (inr (inr (inl (no_run Requests p.settings refl (no_number Requests p.settings a b rest e))))))
-no_serve Turns p a b rest e = no_options_given p (no_serve_by p.settings (inr (inr (inl (no_run Turns p.settings refl (no_number Turns p.settings a b rest e))))))
-no_serve Cache p a b rest e = no_options_given p (no_serve_by p.settings (inr (inr (inl (no_run Cache p.settings refl (no_number Cache p.settings a b rest e))))))
-no_serve Idle p a b rest e = no_options_given p (no_serve_by p.settings (inr (inr (inr (no_waits _ _ (inl (no_number Idle p.settings a b rest e)))))))
-no_serve Stall p a b rest e = no_options_given p (no_serve_by p.settings (inr (inr (inr (no_waits _ _ (inr (no_number Stall p.settings a b rest e)))))))
-no_serve Watch p a b rest e = no_watch_given p (no_path _ _ a b rest e)
-no_serve Every p a b rest e = no_watch_given p (ap (words.watch_by (values_of Watch p.settings)) e ∙ no_every (values_of Watch p.settings) a b rest)
+no_serve : (o : ValueOption) (p : Parts) (a b : Text) (rest : List Text) → values_of o p.settings ≡ a ∷ b ∷ rest → words.serve_parts p ≡ None
+no_serve (Number Port) p a b rest e = no_options_given p (no_serve_by p.settings (inl (no_number Port p.settings a b rest e)))
+no_serve (Number Connections) p a b rest e = no_options_given p (no_serve_by p.settings (inr (inl (no_number Connections p.settings a b rest e))))
+no_serve (Number Requests) p a b rest e = no_options_given p (no_serve_by p.settings (inr (inr (inl (no_run (Number Requests) p.settings a b rest refl e)))))
+no_serve (Number Turns) p a b rest e = no_options_given p (no_serve_by p.settings (inr (inr (inl (no_run (Number Turns) p.settings a b rest refl e)))))
+no_serve (Number Cache) p a b rest e = no_options_given p (no_serve_by p.settings (inr (inr (inl (no_run (Number Cache) p.settings a b rest refl e)))))
+no_serve (Number Idle) p a b rest e = no_options_given p (no_serve_by p.settings (inr (inr (inr (no_waits _ _ (inl (no_number Idle p.settings a b rest e)))))))
+no_serve (Number Stall) p a b rest e = no_options_given p (no_serve_by p.settings (inr (inr (inr (no_waits _ _ (inr (no_number Stall p.settings a b rest e)))))))
+no_serve (Path Watch) p a b rest e = no_watch_given p (no_path _ _ a b rest e)
+no_serve (Number Every) p a b rest e = no_watch_given p (ap (watched_by (values_of (Path Watch) p.settings)) e ∙ no_every (values_of (Path Watch) p.settings) a b rest)
 
 -- ---- no command of what is unfit
 
-pub unfit_serve : (parts : Option Parts) → IsUnfit parsed.serve_numbers parts → named_command (codes "serve") parts ≡ None
+pub unfit_serve : (parts : Option Parts) → IsUnfit options_of_serve parts → named_command (codes "serve") parts ≡ None
 unfit_serve None u = refl
 unfit_serve (Some p) (unknown f) = rw f refl
 unfit_serve (Some p) (twice o i a b rest e) = no_serve o p a b rest e
 
-pub unfit_replay : (parts : Option Parts) → IsUnfit run_numbers parts → named_command (codes "replay") parts ≡ None
+pub unfit_replay : (parts : Option Parts) → IsUnfit options_of_replay parts → named_command (codes "replay") parts ≡ None
 unfit_replay None u = refl
 unfit_replay (Some p) (unknown f) = rw f refl
 unfit_replay (Some p) (twice o i a b rest e) =
-    ap (option_and_then (λ limits. replay_command limits p.words)) (when (are_among run_numbers p.settings) _ (no_run o p.settings i (no_number o p.settings a b rest e)))
+    ap (option_and_then (λ limits. replay_command limits p.words)) (when (are_among options_of_replay p.settings) _ (no_run o p.settings a b rest i e))
 
 -- a name of a command without options
 pub record IsPlainName (name : Text) : Type 0 where
@@ -163,11 +171,11 @@ are_none_settings (s ∷ ss) e = absurd (true≢false (sym e))
 by_words : (name : Text) (rows : List Row) (p : Parts) → values_at (codes "words") rows ≡ p.words → command_with_words name rows p.words ≡ named_command name (Some p) → command_in_rows name rows ≡ named_command name (Some p)
 by_words name rows p are same = ap (command_with_words name rows) are ∙ same
 
-pub same_serve : (rows : List Row) (p : Parts) → Agrees parsed.serve_numbers rows p.settings p.words → command_in_rows (codes "serve") rows ≡ named_command (codes "serve") (Some p)
+pub same_serve : (rows : List Row) (p : Parts) → Agrees options_of_serve rows p.settings p.words → command_in_rows (codes "serve") rows ≡ named_command (codes "serve") (Some p)
 same_serve rows p a = by_words (codes "serve") rows p a.words_are
     (rw (a.known) (ap₂ (serving p) (same_options rows p.settings a.options_are) (same_watch rows p.settings a.options_are)))
 
-pub same_replay : (rows : List Row) (p : Parts) → Agrees run_numbers rows p.settings p.words → command_in_rows (codes "replay") rows ≡ named_command (codes "replay") (Some p)
+pub same_replay : (rows : List Row) (p : Parts) → Agrees options_of_replay rows p.settings p.words → command_in_rows (codes "replay") rows ≡ named_command (codes "replay") (Some p)
 same_replay rows p a = by_words (codes "replay") rows p a.words_are
     (rw (a.known) (ap (option_and_then (λ limits. replay_command limits p.words)) (same_limits rows p.settings a.options_are)))
 

@@ -9,8 +9,8 @@ use Rattle.clap.specs.Values.{refused_kind}
 use Rattle.clap.specs.declared.builder.value_parser.ValueParser.TheVariants.{NonEmptyString}
 use Rattle.clap.specs.Faults.{flags_fault, settle_fault, turn_fault, use_fault, walk_fault}
 use Rattle.clap.specs.declared.error.kind.ErrorKind.{ErrorKind}
-use Rattle.command_spec.specs.declared.numbers.NumberOption.{NumberOption}
-use Rattle.command_spec.specs.Numbers.{option_name}
+use Rattle.command_spec.specs.declared.options.ValueOption.{ValueOption}
+use Rattle.command_spec.specs.Values.{option_name}
 use Rattle.command_words.proofs.Lookups.{IsIn, built_option, built_rules, by_id, by_short, equal, words_built}
 use Rattle.command_words.proofs.Views.{IsLongWord, IsPlainWord, IsShortWord, positive}
 
@@ -38,7 +38,7 @@ no_subcommand idle word = refl
 no_subcommand (option id) word = refl
 no_subcommand positional word = refl
 
-abbrev pub leaf_shape : Text → List NumberOption → Shape
+abbrev pub leaf_shape : Text → List ValueOption → Shape
 leaf_shape name options = record (new_shape name) {
   rules = built_rules options;
   no_binary_name = true;
@@ -56,10 +56,10 @@ abbrev pub trailing_at : Held → Waiting → Walk
 trailing_at h waiting = record { held = h; waiting = waiting; position = 1; is_trailing = true; stopped = None }
 
 -- no option waits for its value
-abbrev pub IsFree : List NumberOption → Waiting → Type 0
+abbrev pub IsFree : List ValueOption → Waiting → Type 0
 IsFree options waiting = (word : Text) (h : Held) → plain_word (built_rules options) waiting word h ≡ (h, value)
 
-module _ (name : Text) (options : List NumberOption) where
+module _ (name : Text) (options : List ValueOption) where
   abbrev pub shape : Shape
   shape = leaf_shape name options
 
@@ -123,29 +123,29 @@ module _ (name : Text) (options : List NumberOption) where
 
   -- ---- an option
 
-  abbrev pub given : Held → NumberOption → Text → Held
+  abbrev pub given : Held → ValueOption → Text → Held
   given h o text = record { rows = used (built_option o) (text ∷ []) (settled rules h).rows; pending = None; skip = h.skip }
 
-  abbrev pub opened : Held → NumberOption → Held
+  abbrev pub opened : Held → ValueOption → Held
   opened h o = record { rows = (settled rules h).rows; pending = Some (option_name o, []); skip = h.skip }
 
-  abbrev pub used_kinds : NumberOption → Text → Held → Kinds
+  abbrev pub used_kinds : ValueOption → Text → Held → Kinds
   used_kinds o text h = use_fault false (built_option o) (text ∷ []) (settled rules h).rows
 
-  pub value_turn : (h : Held) (waiting : Waiting) (word : Text) (l : IsLongWord word) (o : NumberOption) (text : Text) → l.value ≡ Some text → arg_by_long rules l.name ≡ Some (built_option o)
+  pub value_turn : (h : Held) (waiting : Waiting) (word : Text) (l : IsLongWord word) (o : ValueOption) (text : Text) → l.value ≡ Some text → arg_by_long rules l.name ≡ Some (built_option o)
       → turn_fault shape [] (walk_at h waiting) word ≡ or_else (or_else (settle_fault rules false h) (used_kinds o text h)) []
   value_turn h waiting word l o text v is = rw (no_subcommand waiting word, l.no_dashes, l.long, v, is) refl
 
-  pub value_next : (h : Held) (waiting : Waiting) (word : Text) (l : IsLongWord word) (o : NumberOption) (text : Text) → l.value ≡ Some text → arg_by_long rules l.name ≡ Some (built_option o)
+  pub value_next : (h : Held) (waiting : Waiting) (word : Text) (l : IsLongWord word) (o : ValueOption) (text : Text) → l.value ≡ Some text → arg_by_long rules l.name ≡ Some (built_option o)
       → walked rules [] (walk_at h waiting) word ≡ walk_at (given h o text) idle
   unfolding walked
   value_next h waiting word l o text v is = rw (no_subcommand waiting word, l.no_dashes, l.long, v, is) refl
 
-  pub open_turn : (h : Held) (waiting : Waiting) (word : Text) (l : IsLongWord word) (o : NumberOption) → l.value ≡ None → arg_by_long rules l.name ≡ Some (built_option o)
+  pub open_turn : (h : Held) (waiting : Waiting) (word : Text) (l : IsLongWord word) (o : ValueOption) → l.value ≡ None → arg_by_long rules l.name ≡ Some (built_option o)
       → turn_fault shape [] (walk_at h waiting) word ≡ or_else (settle_fault rules false h) []
   open_turn h waiting word l o v is = rw (no_subcommand waiting word, l.no_dashes, l.long, v, is) refl
 
-  pub open_next : (h : Held) (waiting : Waiting) (word : Text) (l : IsLongWord word) (o : NumberOption) → l.value ≡ None → arg_by_long rules l.name ≡ Some (built_option o)
+  pub open_next : (h : Held) (waiting : Waiting) (word : Text) (l : IsLongWord word) (o : ValueOption) → l.value ≡ None → arg_by_long rules l.name ≡ Some (built_option o)
       → walked rules [] (walk_at h waiting) word ≡ walk_at (opened h o) (option (option_name o))
   unfolding walked
   open_next h waiting word l o v is = rw (no_subcommand waiting word, l.no_dashes, l.long, v, is) refl
@@ -159,39 +159,39 @@ module _ (name : Text) (options : List NumberOption) where
 
   -- ---- the value of an option that waits for it
 
-  abbrev pub valued : List Row → ℕ → NumberOption → Text → Held
+  abbrev pub valued : List Row → ℕ → ValueOption → Text → Held
   valued rows skip o word = record { rows = rows; pending = Some (option_name o, word ∷ []); skip = skip }
 
-  abbrev pub waits : List Row → ℕ → NumberOption → Held
+  abbrev pub waits : List Row → ℕ → ValueOption → Held
   waits rows skip o = record { rows = rows; pending = Some (option_name o, []); skip = skip }
 
-  pub taken_turn : (rows : List Row) (skip : ℕ) (o : NumberOption) (word : Text) → IsIn options o → IsPlainWord word → turn_fault shape [] (walk_at (waits rows skip o) (option (option_name o))) word ≡ []
+  pub taken_turn : (rows : List Row) (skip : ℕ) (o : ValueOption) (word : Text) → IsIn options o → IsPlainWord word → turn_fault shape [] (walk_at (waits rows skip o) (option (option_name o))) word ≡ []
   taken_turn rows skip o word i p = rw (p.no_dashes, p.no_long, p.no_short) refl
 
-  pub taken_next : (rows : List Row) (skip : ℕ) (o : NumberOption) (word : Text) → IsIn options o → IsPlainWord word → walked rules [] (walk_at (waits rows skip o) (option (option_name o))) word ≡ walk_at (valued rows skip o word) idle
+  pub taken_next : (rows : List Row) (skip : ℕ) (o : ValueOption) (word : Text) → IsIn options o → IsPlainWord word → walked rules [] (walk_at (waits rows skip o) (option (option_name o))) word ≡ walk_at (valued rows skip o word) idle
   unfolding walked
   taken_next rows skip o word i p = rw (p.no_dashes, p.no_long, p.no_short, by_id options o i, equal (option_name o)) refl
 
   -- ---- one use of an option
 
-  pub waits_fails : (rows : List Row) (skip : ℕ) (o : NumberOption) → IsIn options o → Fails (settle_fault rules false (waits rows skip o))
+  pub waits_fails : (rows : List Row) (skip : ℕ) (o : ValueOption) → IsIn options o → Fails (settle_fault rules false (waits rows skip o))
   waits_fails rows skip o i = rw (by_id options o i) (record { kind = _; more = _; are = refl })
 
-  pub valued_fault : (rows : List Row) (skip : ℕ) (o : NumberOption) (word : Text) → IsIn options o → settle_fault rules false (valued rows skip o word) ≡ use_fault false (built_option o) (word ∷ []) rows
+  pub valued_fault : (rows : List Row) (skip : ℕ) (o : ValueOption) (word : Text) → IsIn options o → settle_fault rules false (valued rows skip o word) ≡ use_fault false (built_option o) (word ∷ []) rows
   valued_fault rows skip o word i = rw (by_id options o i) refl
 
-  pub valued_rows : (rows : List Row) (skip : ℕ) (o : NumberOption) (word : Text) → IsIn options o → (settled rules (valued rows skip o word)).rows ≡ used (built_option o) (word ∷ []) rows
+  pub valued_rows : (rows : List Row) (skip : ℕ) (o : ValueOption) (word : Text) → IsIn options o → (settled rules (valued rows skip o word)).rows ≡ used (built_option o) (word ∷ []) rows
   valued_rows rows skip o word i = rw (by_id options o i) refl
 
 taken : (x : ℕ) (xs : Text) → value_kinds false NonEmptyString (x ∷ xs) ≡ []
 taken x xs = ap (λ b. cond b [] (refused_kind NonEmptyString ∷ [])) (positive (length xs))
 
-pub use_once : (o : NumberOption) (x : ℕ) (xs : Text) (rows : List Row) → has_row (option_name o) rows ≡ false → use_fault false (built_option o) ((x ∷ xs) ∷ []) rows ≡ []
+pub use_once : (o : ValueOption) (x : ℕ) (xs : Text) (rows : List Row) → has_row (option_name o) rows ≡ false → use_fault false (built_option o) ((x ∷ xs) ∷ []) rows ≡ []
 use_once o x xs rows none = rw (none, taken x xs) refl
 
-pub use_twice : (o : NumberOption) (text : Text) (rows : List Row) → has_row (option_name o) rows ≡ true → Fails (use_fault false (built_option o) (text ∷ []) rows)
+pub use_twice : (o : ValueOption) (text : Text) (rows : List Row) → has_row (option_name o) rows ≡ true → Fails (use_fault false (built_option o) (text ∷ []) rows)
 use_twice o text rows some = rw some (record { kind = _; more = _; are = refl })
 
-pub use_empty : (o : NumberOption) (rows : List Row) (b : Bool) → has_row (option_name o) rows ≡ b → Fails (use_fault false (built_option o) ([] ∷ []) rows)
+pub use_empty : (o : ValueOption) (rows : List Row) (b : Bool) → has_row (option_name o) rows ≡ b → Fails (use_fault false (built_option o) ([] ∷ []) rows)
 use_empty o rows true some = rw some (record { kind = _; more = _; are = refl })
 use_empty o rows false none = rw none (record { kind = _; more = _; are = refl })

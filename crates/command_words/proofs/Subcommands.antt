@@ -6,38 +6,38 @@ use Rattle.clap.specs.Built.{AddsArg, AddsSubcommand}
 use Rattle.clap.specs.declared.builder.arg.Arg.{Arg}
 use Rattle.clap.specs.declared.builder.command.Command.{Command}
 use Rattle.clap.specs.declared.builder.command.Command.TheViews.{out-Command}
-use Rattle.command_spec.specs.declared.numbers.NumberOption.{NumberOption}
-use Rattle.command_spec.specs.Numbers.{option_name}
+use Rattle.command_spec.specs.declared.options.ValueOption.{ValueOption}
+use Rattle.command_spec.specs.Values.{option_name}
 use Rattle.command_words.specs.Parsed.{IsLeaf, leaf, option_rule, words_rule}
 
 abbrev pub alone : Shape → App
 alone shape = record { top = shape; subs = [] }
 
-more_options : (xs : List NumberOption) (o : NumberOption) → map (λ x. option_rule (option_name x)) xs ++ option_rule (option_name o) ∷ [] ≡ map (λ x. option_rule (option_name x)) (xs ++ o ∷ [])
+more_options : (xs : List ValueOption) (o : ValueOption) → map (λ x. option_rule (option_name x)) xs ++ option_rule (option_name o) ∷ [] ≡ map (λ x. option_rule (option_name x)) (xs ++ o ∷ [])
 more_options [] o = refl
 more_options (x ∷ xs) o = ap (λ rs. option_rule (option_name x) ∷ rs) (more_options xs o)
 
-take_more : (xs : List NumberOption) (i : ℕ) (x : NumberOption) → i < length xs → x ≡ get_or xs i x → take (i + 1) xs ≡ take i xs ++ x ∷ []
+take_more : (xs : List ValueOption) (i : ℕ) (x : ValueOption) → i < length xs → x ≡ get_or xs i x → take (i + 1) xs ≡ take i xs ++ x ∷ []
 take_more [] i x within is = absurd (omega arith)
 take_more (y ∷ ys) zero x within is = ap (λ z. z ∷ []) (sym is)
 take_more (y ∷ ys) (suc i) x within is = rw add-one (ap (λ zs. y ∷ zs) (rw add-one at (take_more ys i x (omega arith) is)))
 
 -- the words' argument comes first
-pub first_argument : (start c : Command) (a : Arg) (name : List ℕ) (options : List NumberOption) → AddsArg start a c → app_of start ≡ new_app name → (out-Command start).has_globals ≡ false → rule_of a ≡ words_rule → a.global ≡ false → options ≡ [] → IsLeaf name options c
+pub first_argument : (start c : Command) (a : Arg) (name : List ℕ) (options : List ValueOption) → AddsArg start a c → app_of start ≡ new_app name → (out-Command start).has_globals ≡ false → rule_of a ≡ words_rule → a.global ≡ false → options ≡ [] → IsLeaf name options c
 first_argument start c a name options adds is no_globals rule own none =
     (adds.shape own ∙ ap₂ with_rule is rule ∙ ap (λ os. alone (leaf name os)) (sym none), adds.globals ∙ rw (no_globals, own) refl)
 
 -- and then each option
-pub next_argument : (start c : Command) (a : Arg) (name : List ℕ) (options more : List NumberOption) (o : NumberOption) → AddsArg start a c → IsLeaf name options start → rule_of a ≡ option_rule (option_name o) → a.global ≡ false → more ≡ options ++ o ∷ [] → IsLeaf name more c
+pub next_argument : (start c : Command) (a : Arg) (name : List ℕ) (options more : List ValueOption) (o : ValueOption) → AddsArg start a c → IsLeaf name options start → rule_of a ≡ option_rule (option_name o) → a.global ≡ false → more ≡ options ++ o ∷ [] → IsLeaf name more c
 next_argument start c a name options more o adds is rule own same =
     (adds.shape own ∙ ap₂ with_rule is.0 rule ∙ ap (λ rs. alone (record (leaf name []) { rules = words_rule ∷ rs })) (more_options options o) ∙ ap (λ os. alone (leaf name os)) (sym same), adds.globals ∙ rw (is.1, own) refl)
 
-pub one_more : (xs : List NumberOption) (i : ℕ) (x : NumberOption) → i < length xs → x ≡ get_or xs i x → take (i + 1) xs ≡ take i xs ++ x ∷ []
+pub one_more : (xs : List ValueOption) (i : ℕ) (x : ValueOption) → i < length xs → x ≡ get_or xs i x → take (i + 1) xs ≡ take i xs ++ x ∷ []
 one_more = take_more
 
-pub next_command : (old sub new : Command) (before : App) (name : List ℕ) (options : List NumberOption) → AddsSubcommand old sub new → IsLeaf name options sub → app_of old ≡ before → app_of new ≡ with_subcommand before (leaf name options)
+pub next_command : (old sub new : Command) (before : App) (name : List ℕ) (options : List ValueOption) → AddsSubcommand old sub new → IsLeaf name options sub → app_of old ≡ before → app_of new ≡ with_subcommand before (leaf name options)
 next_command old sub new before name options adds is was = adds.shape is.1 ∙ ap₂ with_subcommand was (ap (λ (a : App). a.top) is.0)
 
-pub take_none : (xs : List NumberOption) → take 0 xs ≡ []
+pub take_none : (xs : List ValueOption) → take 0 xs ≡ []
 take_none [] = refl
 take_none (x ∷ xs) = refl

@@ -11,15 +11,17 @@ use Rattle.std.proofs.lemmas.Str.{encodes-chars}
 use Rattle.std.specs.Char.{encode_utf8}
 use Rattle.clap.specs.Walk.{Text}
 use Rattle.clap.specs.Lexer.{has_byte, long_of, name_and_value, short_of}
-use Rattle.command_spec.specs.declared.numbers.NumberOption.{NumberOption}
-use Rattle.command_spec.specs.declared.numbers.NumberOption.TheVariants.{Port, Connections, Requests, Turns, Cache, Idle, Stall, Watch, Every}
-use Rattle.command_spec.specs.Numbers.{option_word, is_among}
+use Rattle.command_spec.specs.declared.options.ValueOption.{ValueOption}
+use Rattle.command_spec.specs.declared.numbers.NumberOption.TheVariants.{Port, Connections, Requests, Turns, Cache, Idle, Stall, Every}
+use Rattle.command_spec.specs.declared.options.PathOption.TheVariants.{Watch}
+use Rattle.command_spec.specs.declared.options.ValueOption.TheVariants.{Number, Path}
+use Rattle.command_spec.specs.Values.{option_word, is_among}
 use Rattle.command_spec.specs.Options.{Setting, Role, Complete, Open, Misplaced, is_equals, is_option, joined, option_role, word_role}
 use Rattle.command_words.proofs.Lookups.{two}
 
 -- a name that no option has
 abbrev pub IsNoOption : Text → Type 0
-IsNoOption name = (options : List NumberOption) → is_among options name ≡ false
+IsNoOption name = (options : List ValueOption) → is_among options name ≡ false
 
 pub data RoleOfUnknown : Text → Role → Type 0 where
   opens : {word : Text} → IsNoOption word → RoleOfUnknown word Open
@@ -120,31 +122,31 @@ module _ (e : ℕ) (r : Text) where
 
 -- ---- a word with one dash names no option
 
-no_option : (name : Text) → ((o : NumberOption) → bytes_eq name (option_word o) ≡ false) → IsNoOption name
+no_option : (name : Text) → ((o : ValueOption) → bytes_eq name (option_word o) ≡ false) → IsNoOption name
 no_option name none [] = refl
 no_option name none (o ∷ os) = rw (none o) (no_option name none os)
 
-one_dash : (first : ℕ) (rest : Text) → nat_eq first 45 ≡ false → (o : NumberOption) → bytes_eq (45 ∷ first ∷ rest) (option_word o) ≡ false
-one_dash first rest d Port = rw d refl
-one_dash first rest d Connections = rw d refl
-one_dash first rest d Requests = rw d refl
-one_dash first rest d Turns = rw d refl
-one_dash first rest d Cache = rw d refl
-one_dash first rest d Idle = rw d refl
-one_dash first rest d Stall = rw d refl
-one_dash first rest d Watch = rw d refl
-one_dash first rest d Every = rw d refl
+one_dash : (first : ℕ) (rest : Text) → nat_eq first 45 ≡ false → (o : ValueOption) → bytes_eq (45 ∷ first ∷ rest) (option_word o) ≡ false
+one_dash first rest d (Number Port) = rw d refl
+one_dash first rest d (Number Connections) = rw d refl
+one_dash first rest d (Number Requests) = rw d refl
+one_dash first rest d (Number Turns) = rw d refl
+one_dash first rest d (Number Cache) = rw d refl
+one_dash first rest d (Number Idle) = rw d refl
+one_dash first rest d (Number Stall) = rw d refl
+one_dash first rest d (Path Watch) = rw d refl
+one_dash first rest d (Number Every) = rw d refl
 
-dash_alone : (o : NumberOption) → bytes_eq (45 ∷ []) (option_word o) ≡ false
-dash_alone Port = refl
-dash_alone Connections = refl
-dash_alone Requests = refl
-dash_alone Turns = refl
-dash_alone Cache = refl
-dash_alone Idle = refl
-dash_alone Stall = refl
-dash_alone Watch = refl
-dash_alone Every = refl
+dash_alone : (o : ValueOption) → bytes_eq (45 ∷ []) (option_word o) ≡ false
+dash_alone (Number Port) = refl
+dash_alone (Number Connections) = refl
+dash_alone (Number Requests) = refl
+dash_alone (Number Turns) = refl
+dash_alone (Number Cache) = refl
+dash_alone (Number Idle) = refl
+dash_alone (Number Stall) = refl
+dash_alone (Path Watch) = refl
+dash_alone (Number Every) = refl
 
 dash_before : (first : ℕ) (rest : Text) → nat_eq first 45 ≡ false → (n : ℕ) → IsNoOption (take n (first ∷ rest)) → IsNoOption (45 ∷ take n (first ∷ rest))
 dash_before first rest d zero h = no_option (45 ∷ []) dash_alone

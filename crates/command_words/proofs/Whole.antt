@@ -12,14 +12,14 @@ use Rattle.clap.specs.Takes.{is_given}
 use Rattle.clap.specs.Kinds.{Kinds, or_else}
 use Rattle.clap.specs.Faults.{built_fault, check_fault, entered_fault, defaults_fault, fault_of, flags_fault, level_fault, settle_fault, turn_fault, walk_fault}
 use Rattle.clap.proofs.FaultLemmas.{stopped_fault}
-use Rattle.command_spec.specs.declared.numbers.NumberOption.{NumberOption}
+use Rattle.command_spec.specs.declared.options.ValueOption.{ValueOption}
 use Rattle.command_spec.specs.declared.Command.{Command}
 use Rattle.command_spec.specs.Options.{Parts, parts_of}
 use Rattle.command_words.specs.Parsed as parsed
-use Rattle.command_spec.specs.Numbers.{option_name}
-use Rattle.command_words.specs.Parsed.{command_in_rows, program, run_numbers, top}
+use Rattle.command_spec.specs.Values.{option_name}
+use Rattle.command_words.specs.Parsed.{command_in_rows, program, top}
 use Rattle.command_spec.specs.Words as words
-use Rattle.command_spec.specs.Words.{is_word, named_command, word_command}
+use Rattle.command_spec.specs.Words.{is_word, named_command, word_command, options_of_serve, options_of_replay}
 use Rattle.command_words.proofs.Lookups.{built_option, built_rules, not_true, same, turned}
 use Rattle.command_words.proofs.Views.{View, first_char, is_dashes, is_long, is_plain, is_short, view}
 use Rattle.command_words.proofs.Settings.{IsUnfit, carried}
@@ -40,31 +40,31 @@ same_rows : (b : Bool) (rows : List Row) → cond b rows rows ≡ rows
 same_rows true rows = refl
 same_rows false rows = refl
 
-no_row_added : (options : List NumberOption) (rows : List Row) → fold with_default rows (map built_option options) ≡ rows
+no_row_added : (options : List ValueOption) (rows : List Row) → fold with_default rows (map built_option options) ≡ rows
 no_row_added [] rows = refl
 no_row_added (o ∷ os) rows = ap (λ rs. fold with_default rs (map built_option os)) (same_rows (has_row (option_name o) rows) rows) ∙ no_row_added os rows
 
-rows_stay : (options : List NumberOption) (rows : List Row) → fold with_default rows (built_rules options) ≡ rows
+rows_stay : (options : List ValueOption) (rows : List Row) → fold with_default rows (built_rules options) ≡ rows
 rows_stay options rows = ap (λ rs. fold with_default rs (map built_option options)) (same_rows (has_row (codes "words") rows) rows) ∙ no_row_added options rows
 
 or_true : (b : Bool) → (b || true) ≡ true
 or_true true = refl
 or_true false = refl
 
-no_default : (options : List NumberOption) (rows : List Row) → defaults_fault rows (map built_option options) ≡ []
+no_default : (options : List ValueOption) (rows : List Row) → defaults_fault rows (map built_option options) ≡ []
 unfolding defaults_fault
 no_default [] rows = refl
 no_default (o ∷ os) rows = rw (or_true (has_row (option_name o) rows), same_rows (has_row (option_name o) rows) rows) (no_default os rows)
 
-no_default_fault : (options : List NumberOption) (rows : List Row) → defaults_fault rows (built_rules options) ≡ []
+no_default_fault : (options : List ValueOption) (rows : List Row) → defaults_fault rows (built_rules options) ≡ []
 unfolding defaults_fault
 no_default_fault options rows = rw (or_true (has_row (codes "words") rows), same_rows (has_row (codes "words") rows) rows) (no_default options rows)
 
-no_required : (options : List NumberOption) → (p : Rule → Bool) → list_any (λ a. a.required && p a) (map built_option options) ≡ false
+no_required : (options : List ValueOption) → (p : Rule → Bool) → list_any (λ a. a.required && p a) (map built_option options) ≡ false
 no_required [] p = refl
 no_required (o ∷ os) p = no_required os p
 
-module _ (name : Text) (options : List NumberOption) (later : List Text) where
+module _ (name : Text) (options : List ValueOption) (later : List Text) where
   abbrev end : Held
   end = (walk (built_rules options) [] nothing_held later).held
 
@@ -108,8 +108,8 @@ abbrev built_program : App
 built_program = record {
   top = built_top;
   subs = leaf_shape (codes "page") [] ∷ leaf_shape (codes "build") [] ∷ leaf_shape (codes "data") [] ∷ leaf_shape (codes "explain") []
-      ∷ leaf_shape (codes "schema") [] ∷ leaf_shape (codes "check") []
-      ∷ leaf_shape (codes "serve") parsed.serve_numbers ∷ leaf_shape (codes "replay") run_numbers ∷ leaf_shape (codes "trial") []
+      ∷ leaf_shape (codes "schema") [] ∷ leaf_shape (codes "check") [] ∷ leaf_shape (codes "lint") []
+      ∷ leaf_shape (codes "serve") options_of_serve ∷ leaf_shape (codes "replay") options_of_replay ∷ leaf_shape (codes "trial") []
       ∷ leaf_shape (codes "help") [] ∷ leaf_shape (codes "version") [] ∷ [];
 }
 
@@ -131,7 +131,7 @@ unfolding walked
 stopped_walk w name before [] = rw (append-nil before) refl
 stopped_walk w name before (x ∷ xs) = stopped_walk w name (before ++ x ∷ []) xs ∙ ap (λ ws. record w { stopped = Some (name, ws) }) (append_assoc before (x ∷ []) xs)
 
-module _ (name : Text) (options : List NumberOption) (met : subcommand_met names idle name ≡ Some name) (in_subs : find (λ s. answers_to name (label_of s)) built_program.subs ≡ Some (leaf_shape name options)) (later : List Text) where
+module _ (name : Text) (options : List ValueOption) (met : subcommand_met names idle name ≡ Some name) (in_subs : find (λ s. answers_to name (label_of s)) built_program.subs ≡ Some (leaf_shape name options)) (later : List Text) where
   first_step : walked [] names (walk_from nothing_held) name ≡ record (walk_from nothing_held) { stopped = Some (name, []) }
   unfolding walked
   first_step = rw met refl
@@ -170,6 +170,7 @@ pub record IsNoName (word : Text) : Type 0 where
   pub explain : bytes_eq word (codes "explain") ≡ false
   pub schema : bytes_eq word (codes "schema") ≡ false
   pub check : bytes_eq word (codes "check") ≡ false
+  pub lint : bytes_eq word (codes "lint") ≡ false
   pub serve : bytes_eq word (codes "serve") ≡ false
   pub replay : bytes_eq word (codes "replay") ≡ false
   pub trial : bytes_eq word (codes "trial") ≡ false
@@ -192,7 +193,7 @@ no_such word (is_short s) later is none =
 
 no_command_named : (word : Text) (parts : Option Parts) → IsNoName word → named_command word parts ≡ None
 no_command_named word None n = refl
-no_command_named word (Some p) n = rw (n.serve, n.replay) (when_some (words.are_none p.settings) _ (rw (n.page, n.build, n.data_name, n.explain, n.schema, n.check, n.trial, n.help, n.version) refl))
+no_command_named word (Some p) n = rw (n.serve, n.replay) (when_some (words.are_none p.settings) _ (rw (n.page, n.build, n.data_name, n.explain, n.schema, n.check, n.lint, n.trial, n.help, n.version) refl))
   where
     when_some : (b : Bool) (x : Option Command) → x ≡ None → cond b x None ≡ None
     when_some true x e = e
@@ -206,6 +207,7 @@ no_name_met word n = rw (
   turned (codes "explain") word ∙ n.explain,
   turned (codes "schema") word ∙ n.schema,
   turned (codes "check") word ∙ n.check,
+  turned (codes "lint") word ∙ n.lint,
   turned (codes "serve") word ∙ n.serve,
   turned (codes "replay") word ∙ n.replay,
   turned (codes "trial") word ∙ n.trial,
@@ -237,12 +239,13 @@ by_name word later is v are =
     decide (bytes_eq word (codes "explain")) (λ t. as_name goal word (codes "explain") t (plain_name (codes "explain") (record { no_serve_name = refl; no_replay_name = refl }) later are refl refl)) (λ explain.
     decide (bytes_eq word (codes "schema")) (λ t. as_name goal word (codes "schema") t (plain_name (codes "schema") (record { no_serve_name = refl; no_replay_name = refl }) later are refl refl)) (λ schema.
     decide (bytes_eq word (codes "check")) (λ t. as_name goal word (codes "check") t (plain_name (codes "check") (record { no_serve_name = refl; no_replay_name = refl }) later are refl refl)) (λ check.
-    decide (bytes_eq word (codes "serve")) (λ t. as_name goal word (codes "serve") t (named_is (codes "serve") parsed.serve_numbers refl refl later (behind_name (codes "serve") parsed.serve_numbers later are unfit_serve same_serve))) (λ serve.
-    decide (bytes_eq word (codes "replay")) (λ t. as_name goal word (codes "replay") t (named_is (codes "replay") run_numbers refl refl later (behind_name (codes "replay") run_numbers later are unfit_replay same_replay))) (λ replay.
+    decide (bytes_eq word (codes "lint")) (λ t. as_name goal word (codes "lint") t (plain_name (codes "lint") (record { no_serve_name = refl; no_replay_name = refl }) later are refl refl)) (λ lint.
+    decide (bytes_eq word (codes "serve")) (λ t. as_name goal word (codes "serve") t (named_is (codes "serve") options_of_serve refl refl later (behind_name (codes "serve") options_of_serve later are unfit_serve same_serve))) (λ serve.
+    decide (bytes_eq word (codes "replay")) (λ t. as_name goal word (codes "replay") t (named_is (codes "replay") options_of_replay refl refl later (behind_name (codes "replay") options_of_replay later are unfit_replay same_replay))) (λ replay.
     decide (bytes_eq word (codes "trial")) (λ t. as_name goal word (codes "trial") t (plain_name (codes "trial") (record { no_serve_name = refl; no_replay_name = refl }) later are refl refl)) (λ trial.
     decide (bytes_eq word (codes "help")) (λ t. as_name goal word (codes "help") t (plain_name (codes "help") (record { no_serve_name = refl; no_replay_name = refl }) later are refl refl)) (λ help.
     decide (bytes_eq word (codes "version")) (λ t. as_name goal word (codes "version") t (plain_name (codes "version") (record { no_serve_name = refl; no_replay_name = refl }) later are refl refl)) (λ version.
-    no_name word later is v (record { page = page; build = build; data_name = data_word; explain = explain; schema = schema; check = check; serve = serve; replay = replay; trial = trial; help = help; version = version }))))))))))))
+    no_name word later is v (record { page = page; build = build; data_name = data_word; explain = explain; schema = schema; check = check; lint = lint; serve = serve; replay = replay; trial = trial; help = help; version = version })))))))))))))
   where
     goal : Text → Type 0
     goal w = parsed.command (w ∷ later) ≡ word_command (w ∷ later)

@@ -14,15 +14,20 @@ use Rattle.clap.specs.declared.builder.command.Command.TheViews.{out-Command}
 use Rattle.clap.specs.declared.parser.matches.ArgMatches.{ArgMatches}
 use Rattle.std.specs.Borrow.{Bor}
 use Rattle.command_spec.specs.declared.numbers.NumberOption.{NumberOption}
+use Rattle.command_spec.specs.declared.options.ValueOption.{ValueOption}
 use Rattle.command_spec.specs.declared.numbers.NumberOption.TheVariants.{Port, Connections}
-use Rattle.command_spec.specs.declared.numbers.NumberOption.TheVariants.{Requests, Turns, Cache, Idle, Stall, Watch, Every}
+use Rattle.command_spec.specs.declared.numbers.NumberOption.TheVariants.{Requests, Turns, Cache, Idle, Stall, Every}
+use Rattle.command_spec.specs.declared.options.PathOption.TheVariants.{Watch}
+use Rattle.command_spec.specs.declared.options.ValueOption.TheVariants.{Number, Path}
 use Rattle.command_spec.specs.declared.RunLimits.{RunLimits}
 use Rattle.command_spec.specs.declared.ServeOptions.{ServeOptions}
 use Rattle.command_spec.specs.declared.ServeWaits.{ServeWaits}
 use Rattle.command_spec.specs.declared.WatchOptions.{WatchOptions}
 use Rattle.command_spec.specs.declared.Command.{Command}
-use Rattle.command_spec.specs.Numbers.{option_name, default_of, greatest, number}
-use Rattle.command_spec.specs.Words.{is_word, serve_command, replay_command, plain_command}
+use Rattle.command_spec.specs.Numbers.{default_of, greatest, number}
+use Rattle.command_spec.specs.Values.{number_name, option_name}
+use Rattle.command_spec.specs.Words.{is_word, options_of_serve, options_of_replay}
+use Rattle.command_spec.specs.Words.{serve_command, replay_command, plain_command}
 
 -- the first answer, and then the second of it
 infixl 10 ◌>>=◌
@@ -41,25 +46,16 @@ abbrev pub words_rule : Rule
 words_rule = record (new_rule (codes "words")) { action = Some Append }
 
 -- the subcommand of this name with these options
-abbrev pub leaf : List ℕ → List NumberOption → Shape
+abbrev pub leaf : List ℕ → List ValueOption → Shape
 leaf name options = record (new_shape name) {
   rules = words_rule ∷ map (λ option. option_rule (option_name option)) options;
 }
 
 -- a command line that is such a subcommand alone
-abbrev pub IsLeaf : List ℕ → List NumberOption → Program → Type 0
+abbrev pub IsLeaf : List ℕ → List ValueOption → Program → Type 0
 IsLeaf name options c =
     (app_of c ≡ record { top = leaf name options; subs = [] })
     × ((out-Command c).has_globals ≡ false)
-
--- the options of `serve`
-abbrev pub serve_numbers : List NumberOption
-serve_numbers =
-    Port ∷ Connections ∷ Requests ∷ Turns ∷ Cache ∷ Idle ∷ Stall ∷ Watch ∷ Every ∷ []
-
--- the options of `replay`
-abbrev pub run_numbers : List NumberOption
-run_numbers = Requests ∷ Turns ∷ Cache ∷ []
 
 -- the program itself, which has no options, and prints neither help nor a version
 abbrev pub top : Shape
@@ -79,8 +75,8 @@ program = record {
   subs =
       leaf (codes "page") [] ∷ leaf (codes "build") [] ∷ leaf (codes "data") []
       ∷ leaf (codes "explain") [] ∷ leaf (codes "schema") [] ∷ leaf (codes "check") []
-      ∷ leaf (codes "serve") serve_numbers
-      ∷ leaf (codes "replay") run_numbers ∷ leaf (codes "trial") []
+      ∷ leaf (codes "lint") [] ∷ leaf (codes "serve") options_of_serve
+      ∷ leaf (codes "replay") options_of_replay ∷ leaf (codes "trial") []
       ∷ leaf (codes "help") [] ∷ leaf (codes "version") [] ∷ [];
 }
 
@@ -93,7 +89,7 @@ number_or_default option (Some text) = number (greatest option) text
 
 -- the number of an option among what was found
 abbrev pub number_in : NumberOption → List Row → Option ℕ
-number_in option rows = number_or_default option (first_of (option_name option) rows)
+number_in option rows = number_or_default option (first_of (number_name option) rows)
 
 -- the limits of a run
 abbrev pub run_limits : List Row → Option RunLimits
@@ -110,14 +106,20 @@ serve_waits rows = do
   stall ← number_in Stall rows
   Some (record { idle = idle; stall = stall })
 
--- the numbers of `serve`
+-- the numbers of `serve`, its flag aside
 abbrev pub serve_options : List Row → Option ServeOptions
 serve_options rows = do
   port ← number_in Port rows
   connections ← number_in Connections rows
   limits ← run_limits rows
   waits ← serve_waits rows
-  Some (record { port = port; connections = connections; limits = limits; waits = waits })
+  Some (record {
+    port = port;
+    connections = connections;
+    limits = limits;
+    waits = waits;
+    whole = false;
+  })
 
 -- the file that is watched, if one is, by what was found of `--watch` and of `--every`
 abbrev pub watch_in : Option Text → Option Text → Option (Option WatchOptions)
@@ -128,12 +130,12 @@ watch_in (Some path) text =
     (number_or_default Every text)
 
 -- the text of an option among what was found
-abbrev pub text_in : NumberOption → List Row → Option Text
+abbrev pub text_in : ValueOption → List Row → Option Text
 text_in option rows = first_of (option_name option) rows
 
 -- the file that `serve` watches
 abbrev pub serve_watch : List Row → Option (Option WatchOptions)
-serve_watch rows = watch_in (text_in Watch rows) (text_in Every rows)
+serve_watch rows = watch_in (text_in (Path Watch) rows) (text_in (Number Every) rows)
 
 -- `serve` with these words
 abbrev pub serve_with_words : List Row → List Text → Option Command

@@ -5,7 +5,7 @@ ghost use Rattle.clap.specs.Walk.{texts};
 ghost use Rattle.command_spec.specs.Ranges.{IsInRange};
 ghost use Rattle.command_spec.specs.Words as specs;
 
-use command_spec::{Command, SchemaCommand};
+use command_spec::{Command, SchemaCommand, ServeCommand, ServeOptions};
 use sd_value::NoMemory;
 use std::alloc::Global;
 
@@ -16,6 +16,7 @@ pub fn flag_of(name: &str) -> Option<&'static str>
     match name {
         "schema" => Some("--dot"),
         "check" => Some("--here"),
+        "serve" => Some("--whole"),
         _ => None,
     }
 }
@@ -57,6 +58,13 @@ fn with_flag(set: bool, command: Command) -> Option<Command>
         Command::Schema(command) => Some(Command::Schema(SchemaCommand {
             query: command.query,
             dot: set,
+        })),
+        Command::Serve(command) => Some(Command::Serve(ServeCommand {
+            options: ServeOptions {
+                whole: set,
+                ..command.options
+            },
+            ..command
         })),
         Command::Check(command) => {
             if set {

@@ -20,8 +20,9 @@ use clap::error::ErrorKind;
 use clap::{ArgMatches, Error};
 use command_spec::{
     BuildCommand, CheckAllCommand, Command, CommandName, DataCommand, ExplainCommand, HelpCommand,
-    HereCommand, NumberOption, PageCommand, Paths, ReplayCommand, RunLimits, SchemaCommand,
-    ServeCommand, ServeOptions, ServeWaits, TrialCommand, WatchOptions,
+    HereCommand, LintCommand, NumberOption, PageCommand, PathOption, Paths, ReplayCommand,
+    RunLimits, SchemaCommand, ServeCommand, ServeOptions, ServeWaits, TrialCommand, ValueOption,
+    WatchOptions,
 };
 use flags::{flag_of, flag_place, marked, without};
 use numbers::{number, number_of, text_in};
@@ -130,6 +131,23 @@ fn check_command(alloc: Global, words: &[&str]) -> Result<Option<Command>, NoMem
     })))
 }
 
+fn lint_command(alloc: Global, words: &[&str]) -> Result<Option<Command>, NoMemory>
+    ensures exact { IfOk result (λ given. given ≡ specs.lint_command (texts words.now)) }
+    ensures ranges { IfOk result (λ given. IfSome given IsInRange) }
+{
+    let [query, templates, sources @ ..] = words else {
+        return Ok(None);
+    };
+    if sources.is_empty() {
+        return Ok(None);
+    }
+    Ok(Some(Command::Lint(LintCommand {
+        query: Str::new(alloc, query.as_bytes())?,
+        templates: Str::new(alloc, templates.as_bytes())?,
+        sources: Paths::of(alloc, sources)?,
+    })))
+}
+
 fn trial_command(words: &[&str]) -> Option<Command>
     ensures exact { result ≡ specs.trial_command (texts words.now) }
     ensures ranges { IfSome result IsInRange }
@@ -198,6 +216,7 @@ fn serve_options(matches: &ArgMatches<'_>) -> Option<ServeOptions>
         connections: number_of(NumberOption::Connections, matches)?,
         limits: run_limits(matches)?,
         waits: serve_waits(matches)?,
+        whole: false,
     })
 }
 
@@ -229,9 +248,9 @@ fn serve_watch(
         ≡ parsed.serve_watch (rows_of (found_of matches.now))) }
     ensures ranges { IfOk result (λ watch. IfSome watch (λ w. IfSome w IsWatchInRange)) }
 {
-    match text_in(NumberOption::Watch, matches) {
+    match text_in(ValueOption::Path(PathOption::Watch), matches) {
         Some(path) => watched(alloc, path, number_of(NumberOption::Every, matches)),
-        None => match text_in(NumberOption::Every, matches) {
+        None => match text_in(ValueOption::Number(NumberOption::Every), matches) {
             Some(_) => Ok(None),
             None => Ok(Some(None)),
         },
@@ -301,6 +320,7 @@ fn plain_command(alloc: Global, name: &str, words: &[&str]) -> Result<Option<Com
         "explain" => explain_command(alloc, words),
         "schema" => schema_command(alloc, words),
         "check" => check_command(alloc, words),
+        "lint" => lint_command(alloc, words),
         "trial" => Ok(trial_command(words)),
         "help" => Ok(help_command(words)),
         "version" => Ok(version_command(words)),
@@ -478,8 +498,8 @@ fn texts_of<'a>(alloc: Global, words: &'a [Str]) -> Result<Option<Vec<&'a str>>,
 /// with a dash are options: `--name=value`, or `--name` with the next word as its value, which is no option itself. The
 /// first `--` is dropped, and the words behind it are no options. Each option is one of the command's, occurs at most
 /// once, and has a number of 1 to 10 digits within its range, but for `--watch`, whose value is a path, and without which
-/// `--every` doesn't stand. `--dot` of `schema` and `--here` of `check`, which `check` wants exactly where it has data, have
-/// no value. The other words are as many as the command wants. Every word is a text, and none is empty.
+/// `--every` doesn't stand. `--dot` of `schema`, `--whole` of `serve`, and `--here` of `check`, which `check` wants exactly
+/// where it has data, have no value. The other words are as many as the command wants. Every word is a text, and none is empty.
 pub fn read_command(alloc: Global, words: &[Str]) -> Result<Option<Command>, NoMemory>
     ensures exact { IfOk result (λ given. given ≡ specs.command words.now) }
     ensures ranges { IfOk result (λ given. IfSome given IsInRange) }

@@ -1,6 +1,6 @@
 //! The numbers of options, and of a trial.
 
-ghost use Rattle.std.specs.Prelude.{◌≡◌, ◌≤◌, IfSome, MatchOption, length, true, option_map};
+ghost use Rattle.std.specs.Prelude.{◌≡◌, IfSome, MatchOption, length, true, option_map};
 ghost use Rattle.std.specs.Char.{is_ascii_digit};
 ghost use Rattle.std.specs.List.{list_all};
 ghost use Rattle.std.specs.Str.Parse.{digits_value};
@@ -10,7 +10,7 @@ ghost use Rattle.clap.specs.Words.{found_of, rows_of};
 ghost use Rattle.command_words.specs.Parsed as parsed;
 
 use clap::ArgMatches;
-use command_spec::NumberOption;
+use command_spec::{NumberOption, ValueOption};
 use std::str;
 
 fn are_digits(text: &[u8]) -> bool
@@ -62,20 +62,19 @@ pub fn number(most: u64, text: &[u8]) -> Option<u64>
 }
 
 /// The text of the option, where it is given.
-pub fn text_in<'m>(option: NumberOption, matches: &'m ArgMatches<'_>) -> Option<&'m str>
+pub fn text_in<'m>(option: ValueOption, matches: &'m ArgMatches<'_>) -> Option<&'m str>
     ensures { option_map (λ text. text.now) result
         ≡ parsed.text_in option (rows_of (found_of matches.now)) }
 {
     matches.get_str(option.name())
 }
 
-/// What an option of numbers is: its default where it isn't given, and nothing where its value is no such number.
+/// The number of the option: its default where it isn't given, and nothing where its value is no such number.
 pub fn number_of(option: NumberOption, matches: &ArgMatches<'_>) -> Option<u64>
-    requires { 1 ≤ specs.greatest option }
     ensures exact { result ≡ parsed.number_in option (rows_of (found_of matches.now)) }
     ensures range { IfSome result (IsFrom1To (specs.greatest option)) }
 {
-    match text_in(option, matches) {
+    match text_in(ValueOption::Number(option), matches) {
         None => Some(option.otherwise()),
         Some(text) => number(option.greatest(), text.as_bytes()),
     }

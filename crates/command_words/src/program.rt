@@ -6,7 +6,7 @@ ghost use Rattle.command_words.specs.Parsed as specs;
 
 use clap::builder::ValueParser;
 use clap::{Arg, ArgAction, Command};
-use command_spec::NumberOption;
+use command_spec::{NumberOption, PathOption, ValueOption};
 use sd_value::NoMemory;
 use std::alloc::Global;
 
@@ -33,7 +33,7 @@ fn words_arg<'a>(alloc: Global) -> Arg<'a>
 fn command_of<'a>(
     alloc: Global,
     name: &'a str,
-    options: &[NumberOption],
+    options: &[ValueOption],
 ) -> Result<Command<'a>, NoMemory>
     ensures { IfOk result (specs.IsLeaf name.entry.now options.now) }
 {
@@ -49,20 +49,20 @@ pub fn program<'a>(alloc: Global) -> Result<Command<'a>, NoMemory>
     ensures { IfOk result (λ c. app_of c ≡ specs.program) }
 {
     let run = [
-        NumberOption::Requests,
-        NumberOption::Turns,
-        NumberOption::Cache,
+        ValueOption::Number(NumberOption::Requests),
+        ValueOption::Number(NumberOption::Turns),
+        ValueOption::Number(NumberOption::Cache),
     ];
     let serve = [
-        NumberOption::Port,
-        NumberOption::Connections,
-        NumberOption::Requests,
-        NumberOption::Turns,
-        NumberOption::Cache,
-        NumberOption::Idle,
-        NumberOption::Stall,
-        NumberOption::Watch,
-        NumberOption::Every,
+        ValueOption::Number(NumberOption::Port),
+        ValueOption::Number(NumberOption::Connections),
+        ValueOption::Number(NumberOption::Requests),
+        ValueOption::Number(NumberOption::Turns),
+        ValueOption::Number(NumberOption::Cache),
+        ValueOption::Number(NumberOption::Idle),
+        ValueOption::Number(NumberOption::Stall),
+        ValueOption::Path(PathOption::Watch),
+        ValueOption::Number(NumberOption::Every),
     ];
     let program = Command::new(alloc, "strudel")
         .no_binary_name(true)
@@ -76,6 +76,7 @@ pub fn program<'a>(alloc: Global) -> Result<Command<'a>, NoMemory>
         .subcommand(command_of(alloc, "explain", &[])?)?
         .subcommand(command_of(alloc, "schema", &[])?)?
         .subcommand(command_of(alloc, "check", &[])?)?
+        .subcommand(command_of(alloc, "lint", &[])?)?
         .subcommand(command_of(alloc, "serve", &serve)?)?
         .subcommand(command_of(alloc, "replay", &run)?)?
         .subcommand(command_of(alloc, "trial", &[])?)?

@@ -55,7 +55,7 @@ pub record Stops (Q : Statement → Type 0) (b : Building) (e : GraphRefusal) : 
   pub one : Q next
   pub over : IsOver next reached e
 
--- what an answer says: all statements with Q were put in, or there was no room, or no memory
+-- what an answer says: all statements with Q were put in, or there was no room, or it was out of memory
 abbrev pub AddsAll : (Statement → Type 0) → Building → Building → Result ⊤ GraphRefusal → Type 0
 AddsAll Q b c (Ok u) = Gains Q b c
 AddsAll Q b c (Err TooManyNodes) = Stops Q b TooManyNodes

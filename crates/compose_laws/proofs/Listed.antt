@@ -18,17 +18,18 @@ use Rattle.query_spec.specs.declared.Variable.{Variable}
 use Rattle.query_spec.specs.Query.{variable, constant, Target, plain, made}
 use Rattle.query_spec.specs.Mentions.{same_name}
 use Rattle.query_spec.specs.Rows.{value_in, IsInDomain}
-use Rattle.site_spec.specs.Site.{SomeOf, IsTargetUnder, IsNamed, InSite, IsJoined, Linked, IsPut, CollectedBy, SiteEdge, terms_of, ends_of, target_terms}
+use Rattle.site_spec.specs.Site.{SomeOf, IsTargetUnder, IsNamed, InSite, IsJoined, Linked, IsPut, CollectedBy}
+use Rattle.site_spec.specs.Site.{SiteEdge, terms_of, ends_of, target_terms}
 use Rattle.struql_ast.specs.Reading.{link_of}
 use Rattle.query_blocks.specs.declared.QueryBlocks.{QueryBlocks}
-use Rattle.query_blocks.specs.Blocks.{AreCheckedBlocks, body_of, scope_of}
+use Rattle.query_blocks.specs.Blocks.{AreCheckedBlocks, IsNodeWritten, body_of, scope_of}
 use Rattle.weight_spec.specs.Site.{site_of}
 use Rattle.site_lookups.proofs.Some.{some_from}
 use Rattle.site_lookups.proofs.Blocks.{bodies_from, bodies_to, contains_link}
 use Rattle.site_lookups.proofs.Targets.{source_to}
 use Rattle.site_lookups.proofs.Stays.{edge_stays, collected_stays}
 use Rattle.compose.specs.Listed.{IsListed}
-use Rattle.compose_laws.specs.Named.{IsNodeWritten, NamesNoNode, AreNames}
+use Rattle.compose_laws.specs.Named.{IsCollectName}
 
 -- ---- a node in a row is declared
 
@@ -79,7 +80,7 @@ node_inside : (a b : Name) → Data (Node a) ≡ Data (Node b) → a ≡ b
 node_inside a b h = cc
 
 module _ (graph : DataGraph) (scopes : QueryBlocks) (well : IsWellFormed graph)
-    (checked : AreCheckedBlocks scopes.version scopes.blocks.items) (no_node : NamesNoNode scopes) where
+    (checked : AreCheckedBlocks scopes.version scopes.blocks.items) where
   starts_in_site : (p : Term) (label : Label) (v : Value) → Linked graph (scope_of scopes) (Page p) label v
       → InSite graph (scope_of scopes) p
   starts_in_site p label v linked =
@@ -124,7 +125,7 @@ module _ (graph : DataGraph) (scopes : QueryBlocks) (well : IsWellFormed graph)
       scopes.blocks.items checked refl linked in
       let j = s.holds in
       node_declared graph s.item.chain.variables j.holds.row j.item.target n j.holds.is_row.in_domain
-      (no_node.links s.item s.within j.item j.within) j.holds.holds.to
+      ((checked s.item s.within).no_linked_node j.item j.within) j.holds.holds.to
 
   put_declared : (c n : Name) → CollectedBy graph (scope_of scopes) c (Data (Node n)) → Contains graph.nodes n
   put_declared c n put =
@@ -133,45 +134,47 @@ module _ (graph : DataGraph) (scopes : QueryBlocks) (well : IsWellFormed graph)
       let j = s.holds in
       let r = j.holds.1 in
       node_declared graph s.item.chain.variables r.row j.item.target n r.is_row.in_domain
-      (no_node.collects s.item s.within j.item j.within) r.holds
+      ((checked s.item s.within).no_put_node j.item j.within) r.holds
 
-  put_named : (names : List Name) → AreNames scopes names → (c : Name) (v : Value) → CollectedBy graph (scope_of scopes)
-      c v → Contains names c
+  put_named : (names : List Name) → ListsExactly bytes_cmp (IsCollectName (scope_of scopes)) names → (c : Name)
+      (v : Value) → CollectedBy graph (scope_of scopes) c v → Contains names c
   put_named names all c v put =
-      let s = bodies_to (λ k b. SomeOf (IsPut graph k c v) b.collects) (scope_of scopes) scopes.blocks.items checked
-      refl put in
-      let j = s.holds in
-      subst (Contains names) j.holds.0 (all s.item s.within j.item j.within)
+      let j = put.holds in
+      all.complete c
+      (record {
+        item = put.item;
+        within = put.within;
+        holds = record { item = j.item; within = j.within; holds = j.holds.0 };
+      })
 
 pub listed_query : (graph : DataGraph) (scopes : QueryBlocks) (terms : List Term) (labels : List Label)
     (collections : List Name) → IsWellFormed graph
-    → AreCheckedBlocks scopes.version scopes.blocks.items → NamesNoNode scopes → ListsExactly term_cmp
-    (InSite graph (scope_of scopes)) terms
+    → AreCheckedBlocks scopes.version scopes.blocks.items → ListsExactly term_cmp (InSite graph (scope_of scopes)) terms
     → ListsExactly bytes_cmp (λ l. (u : Value) × (v : Value) × Linked graph (scope_of scopes) u l v) labels
-    → AreNames scopes collections
+    → ListsExactly bytes_cmp (IsCollectName (scope_of scopes)) collections
     → IsListed (site_of graph (scope_of scopes)) graph terms labels collections
-listed_query graph scopes terms labels collections well checked no_node all_terms all_labels names = record {
+listed_query graph scopes terms labels collections well checked all_terms all_labels names = record {
   sound = all_terms.sound;
   complete = all_terms.complete;
-  starts = λ p label v e. starts_in_site graph scopes well checked no_node p label v
-      (link_from graph scopes well checked no_node p label v e);
+  starts = λ p label v e. starts_in_site graph scopes well checked p label v
+      (link_from graph scopes well checked p label v e);
   labelled = λ p label v e. all_labels.complete label (
     Page p,
     v,
-    link_from graph scopes well checked no_node p label v
+    link_from graph scopes well checked p label v
         e,
   );
   edges = λ e h. inr h;
-  from_nodes = λ n label v e. ⊎_elim (λ l. absurd (no_link_from graph scopes well checked no_node (Node n) label v l))
+  from_nodes = λ n label v e. ⊎_elim (λ l. absurd (no_link_from graph scopes well checked (Node n) label v l))
       (λ h. h) e;
   members = λ m h. inr (m.node, h, refl);
-  collected = λ c v h. ⊎_elim (λ by. inl (put_named graph scopes well checked no_node collections names c v by))
+  collected = λ c v h. ⊎_elim (λ by. inl (put_named graph scopes well checked collections names c v by))
       (λ k. inr k) h;
   ends_in_site = λ u label t e. edge_stays graph (scope_of scopes) scopes.blocks.items u label t checked refl well e;
-  ends_declared = λ u label n e. ⊎_elim (linked_end graph scopes well checked no_node u label n)
+  ends_declared = λ u label n e. ⊎_elim (linked_end graph scopes well checked u label n)
       (edge_end graph well u label n) e;
   collected_in_site = λ c t h. collected_stays graph (scope_of scopes) scopes.blocks.items c t checked refl h;
-  collected_declared = λ c n h. ⊎_elim (put_declared graph scopes well checked no_node c n)
+  collected_declared = λ c n h. ⊎_elim (put_declared graph scopes well checked c n)
       (λ k. subst (Contains graph.nodes) (sym (node_inside n k.0 k.2))
       (well.members_are_nodes (record { collection = c; node = k.0 }) k.1)) h;
 }

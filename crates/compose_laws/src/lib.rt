@@ -13,17 +13,17 @@ ghost use Rattle.query_blocks.specs.declared.QueryBlocks.{QueryBlocks as AnyBloc
 ghost use Rattle.query_blocks.specs.Blocks.{AreCheckedBlocks, scope_of};
 ghost use Rattle.weight_spec.specs.Site.{site_of};
 ghost use Rattle.compose.specs.Listed.{IsListed};
-ghost use Rattle.compose_laws.specs.Named.{NamesNoNode, AreNames};
+ghost use Rattle.compose_laws.specs.Named.{IsCollectName};
 
 /// The site of a query's checked blocks over a data graph, with its terms, the labels of its links and the names of its
-/// COLLECTs, is as the graph of a site asks, where no target of a LINK or COLLECT is a node that is written out.
+/// COLLECTs, is as the graph of a site asks.
 pub fn a_querys_site_is_listed()
     ensures { (graph : DataGraph) (scopes : AnyBlocks) (terms : List AnyTerm)
         (labels : List Label) (collections : List Name) → IsWellFormed graph
-        → AreCheckedBlocks scopes.version scopes.blocks.items → NamesNoNode scopes
+        → AreCheckedBlocks scopes.version scopes.blocks.items
         → ListsExactly term_cmp (InSite graph (scope_of scopes)) terms
         → ListsExactly bytes_cmp (λ l. (u : AnyValue) × (v : AnyValue)
         × Linked graph (scope_of scopes) u l v) labels
-        → AreNames scopes collections
+        → ListsExactly bytes_cmp (IsCollectName (scope_of scopes)) collections
         → IsListed (site_of graph (scope_of scopes)) graph terms labels collections }
 {}

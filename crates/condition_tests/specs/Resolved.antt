@@ -5,7 +5,8 @@ use Rattle.rpe.specs.Regex.{Regex, Word, label}
 use Rattle.rpe.specs.Language.{InLanguage}
 use Rattle.graph_spec.specs.DataGraph.{DataGraph}
 use Rattle.query_spec.specs.declared.Variable.{Variable}
-use Rattle.query_spec.specs.Query.{Chain, Operand, variable, constant, Condition, PathStep, arc_variable, expression, member, path, compare, one_of, kind, negation}
+use Rattle.query_spec.specs.Query.{Chain, Operand, variable, constant, Condition, PathStep, arc_variable, expression}
+use Rattle.query_spec.specs.Query.{member, path, compare, one_of, kind, negation}
 use Rattle.query_spec.specs.Mentions.{IsDeclared, IsFlat, condition_positions}
 use Rattle.query_spec.specs.Holds.{Holds, operand_value}
 use Rattle.query_spec.specs.Rows.{value_in}

@@ -4,7 +4,8 @@ use Rattle.sd_value.specs.declared.Datum.TheVariants.{Int}
 use Rattle.sd_value.specs.declared.Value.{Value}
 use Rattle.sd_value.specs.declared.Value.TheVariants.{Data}
 use Rattle.graph_spec.specs.DataGraph.{Name}
-use Rattle.query_spec.specs.Query.{variable, arc_variable, Condition, member, path, one_of, SkolemTerm, plain, made, label_variable, Link, Query, no_blocks, block}
+use Rattle.query_spec.specs.Query.{variable, arc_variable, Condition, member, path, one_of, SkolemTerm, plain, made}
+use Rattle.query_spec.specs.Query.{label_variable, Link, Query, no_blocks, block}
 use Rattle.site_spec.specs.Site.{Scope, scope_of}
 
 abbrev pub f : Name

@@ -1,5 +1,6 @@
 -- Whether a certificate is one.
-use Rattle.std.specs.Prelude.{ℕ, zero, suc, Bool, true, false, not, ◌&&◌, ◌||◌, nat_le, List, [], ◌∷◌, length, slice_get, if◌then◌else◌, Option, Some, None}
+use Rattle.std.specs.Prelude.{ℕ, zero, suc, Bool, true, false, not, ◌&&◌, ◌||◌, nat_le, List, [], ◌∷◌, length}
+use Rattle.std.specs.Prelude.{slice_get, if◌then◌else◌, Option, Some, None}
 use Rattle.std.specs.List.{list_any, list_all}
 use Rattle.sd_value.specs.declared.Datum.TheVariants.{Text}
 use Rattle.sd_value.specs.declared.Value.{Value}
@@ -7,7 +8,8 @@ use Rattle.sd_value.specs.declared.Value.TheVariants.{Data}
 use Rattle.graph_spec.specs.DataGraph.{Name, text}
 use Rattle.query_spec.specs.declared.Op.TheVariants.{Ne}
 use Rattle.query_spec.specs.declared.Variable.{Variable}
-use Rattle.query_spec.specs.Query.{variable, constant, Condition, compare, one_of, SkolemTerm, Target, plain, made, LinkLabel, quoted, label_variable}
+use Rattle.query_spec.specs.Query.{variable, constant, Condition, compare, one_of, SkolemTerm, Target, plain, made}
+use Rattle.query_spec.specs.Query.{LinkLabel, quoted, label_variable}
 use Rattle.query_spec.specs.Mentions.{same_name, variables_of}
 use Rattle.site_spec.specs.Site.{Scope}
 use Rattle.constraint_spec.specs.declared.Constraint.{Constraint}

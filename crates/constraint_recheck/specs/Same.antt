@@ -9,7 +9,8 @@ use Rattle.query_spec.specs.declared.Op.{Op}
 use Rattle.query_spec.specs.declared.Op.TheVariants.{Eq, Ne, Lt, Le, Gt, Ge}
 use Rattle.query_spec.specs.declared.Test.{Test}
 use Rattle.query_spec.specs.declared.Test.TheVariants.{IsInt, IsText, IsUrl, IsFile, IsNode}
-use Rattle.query_spec.specs.Query.{Operand, variable, constant, PathStep, arc_variable, expression, Condition, member, path, compare, one_of, kind, negation, SkolemTerm, Target, plain, made}
+use Rattle.query_spec.specs.Query.{Operand, variable, constant, PathStep, arc_variable, expression, Condition, member}
+use Rattle.query_spec.specs.Query.{path, compare, one_of, kind, negation, SkolemTerm, Target, plain, made}
 use Rattle.query_spec.specs.Mentions.{same_name}
 
 -- the lists are the same, item by item

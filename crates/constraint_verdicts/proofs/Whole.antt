@@ -6,10 +6,8 @@ use Rattle.std.proofs.lemmas.List.Elements.{All-nil, All-cons, All-head, All-tai
 use Rattle.query_spec.specs.Query.{Query}
 use Rattle.site_spec.specs.Site.{scope_of}
 use Rattle.constraint_spec.specs.declared.Constraint.{Constraint}
-use Rattle.certificates.specs.declared.Verdict.{Verdict}
-use Rattle.certificates.specs.declared.Verdict.TheVariants.{Yes, Unknown}
-use Rattle.constraint_prover.specs.Verdicts.{IsVerdict, HoldsOverAll}
-use Rattle.constraint_verdicts.specs.Told.{is_yes, HasCertificate, IsMetOverAll, AreTold}
+use Rattle.constraint_verdicts.specs.Told.{Finding, yes, no, unknown, is_yes, IsFinding, HoldsOfSites}
+use Rattle.constraint_verdicts.specs.Told.{HasCertificate, IsMetOverAll, AreTold}
 
 -- lists that belong together are of one length
 pub zip_length : {A B : Type 0} (R : A → B → Type 0) (xs : List A) (ys : List B) → AllZip R xs ys → length ys ≡ length xs
@@ -19,32 +17,37 @@ zip_length R (a ∷ xs) [] h = absurd h
 zip_length R (a ∷ xs) (b ∷ ys) h = ap suc (zip_length R xs ys h.1)
 
 module _ (q : Query) where
-  all_shown : (cs : List Constraint) (vs : List Verdict) → AllZip (IsVerdict (scope_of q)) cs vs → IsTrue (list_all is_yes vs) → All (HasCertificate q) cs
+  all_shown : (cs : List Constraint) (fs : List Finding) → AllZip (IsFinding (scope_of q)) cs fs → IsTrue (list_all is_yes fs) → All (HasCertificate q) cs
   all_shown [] [] h t = All-nil (HasCertificate q)
-  all_shown [] (v ∷ vs) h t = absurd h
+  all_shown [] (f ∷ fs) h t = absurd h
   all_shown (c ∷ cs) [] h t = absurd h
-  all_shown (c ∷ cs) (Yes x ∷ vs) h t = All-cons (HasCertificate q) c cs (x, h.0) (all_shown cs vs h.1 t)
-  all_shown (c ∷ cs) (Unknown ∷ vs) h t = (let f : false ≡ true = t in let no : ⊥ = cc in absurd no)
+  all_shown (c ∷ cs) (yes x ∷ fs) h t = All-cons (HasCertificate q) c cs (x, h.0) (all_shown cs fs h.1 t)
+  all_shown (c ∷ cs) (no G ∷ fs) h t = (let f : false ≡ true = t in let none : ⊥ = cc in absurd none)
+  all_shown (c ∷ cs) (unknown ∷ fs) h t = (let f : false ≡ true = t in let none : ⊥ = cc in absurd none)
 
-  all_answered : (cs : List Constraint) (vs : List Verdict) → AllZip (IsVerdict (scope_of q)) cs vs → All (HasCertificate q) cs → IsTrue (list_all is_yes vs)
+  all_answered : (cs : List Constraint) (fs : List Finding) → AllZip (IsFinding (scope_of q)) cs fs → All (HasCertificate q) cs → IsTrue (list_all is_yes fs)
   all_answered [] [] h t = refl
-  all_answered [] (v ∷ vs) h t = absurd h
+  all_answered [] (f ∷ fs) h t = absurd h
   all_answered (c ∷ cs) [] h t = absurd h
-  all_answered (c ∷ cs) (Yes x ∷ vs) h t = all_answered cs vs h.1 (All-tail (HasCertificate q) c cs t)
-  all_answered (c ∷ cs) (Unknown ∷ vs) h t =
+  all_answered (c ∷ cs) (yes x ∷ fs) h t = all_answered cs fs h.1 (All-tail (HasCertificate q) c cs t)
+  all_answered (c ∷ cs) (no G ∷ fs) h t =
       let shown = All-head (HasCertificate q) c cs t in
-      absurd (h.0 shown.0 shown.1)
+      absurd (h.0.0 shown.0 shown.1)
+  all_answered (c ∷ cs) (unknown ∷ fs) h t =
+      let shown = All-head (HasCertificate q) c cs t in
+      absurd (h.0.0 shown.0 shown.1)
 
-  all_met : (cs : List Constraint) (vs : List Verdict) → AllZip (HoldsOverAll (scope_of q)) cs vs → IsTrue (list_all is_yes vs) → All (IsMetOverAll q) cs
+  all_met : (cs : List Constraint) (fs : List Finding) → AllZip (HoldsOfSites (scope_of q)) cs fs → IsTrue (list_all is_yes fs) → All (IsMetOverAll q) cs
   all_met [] [] h t = All-nil (IsMetOverAll q)
-  all_met [] (v ∷ vs) h t = absurd h
+  all_met [] (f ∷ fs) h t = absurd h
   all_met (c ∷ cs) [] h t = absurd h
-  all_met (c ∷ cs) (Yes x ∷ vs) h t = All-cons (IsMetOverAll q) c cs h.0 (all_met cs vs h.1 t)
-  all_met (c ∷ cs) (Unknown ∷ vs) h t = (let f : false ≡ true = t in let no : ⊥ = cc in absurd no)
+  all_met (c ∷ cs) (yes x ∷ fs) h t = All-cons (IsMetOverAll q) c cs h.0 (all_met cs fs h.1 t)
+  all_met (c ∷ cs) (no G ∷ fs) h t = (let f : false ≡ true = t in let none : ⊥ = cc in absurd none)
+  all_met (c ∷ cs) (unknown ∷ fs) h t = (let f : false ≡ true = t in let none : ⊥ = cc in absurd none)
 
 pub yes_is_shown : (q : Query) (cs : List Constraint) (text : List ℕ) (all_yes : Bool) → AreTold q cs text all_yes → IsTrue all_yes ↔ All (HasCertificate q) cs
 yes_is_shown q cs text all_yes t =
-    (λ answered. all_shown q cs t.verdicts t.exact (subst IsTrue t.all answered), λ shown. subst IsTrue (sym t.all) (all_answered q cs t.verdicts t.exact shown))
+    (λ answered. all_shown q cs t.findings t.exact (subst IsTrue t.all answered), λ shown. subst IsTrue (sym t.all) (all_answered q cs t.findings t.exact shown))
 
 pub yes_is_met : (q : Query) (cs : List Constraint) (text : List ℕ) (all_yes : Bool) → AreTold q cs text all_yes → IsTrue all_yes → All (IsMetOverAll q) cs
-yes_is_met q cs text all_yes t answered = all_met q cs t.verdicts t.holds (subst IsTrue t.all answered)
+yes_is_met q cs text all_yes t answered = all_met q cs t.findings t.holds (subst IsTrue t.all answered)

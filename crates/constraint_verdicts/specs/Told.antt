@@ -1,43 +1,88 @@
 -- What is told of a query's constraints: of each in order `K yes` with the lines of a certificate where
--- there is one, and else `K unknown`.
+-- there is one. Where there is none, it is `K no` with the text of a data graph whose site breaks the
+-- constraint, or `K unknown`.
 use Rattle.std.specs.Prelude.{◌≡◌, ℕ, suc, Bool, true, false, List, [], ◌∷◌, ◌++◌}
+use Rattle.std.specs.Prelude.{codes, nat_eq, if◌then◌else◌, Some, None, ⊤}
+use Rattle.std.specs.Fmt.{decimal}
 use Rattle.std.specs.List.{AllZip, list_all}
 use Rattle.graph_spec.specs.DataGraph.{DataGraph}
 use Rattle.query_spec.specs.Query.{Query}
-use Rattle.site_spec.specs.Site.{scope_of}
+use Rattle.site_spec.specs.Site.{Scope, scope_of}
 use Rattle.constraint_spec.specs.declared.Constraint.{Constraint}
 use Rattle.constraint_spec.specs.Certificate.{Certificate, IsCertificate}
 use Rattle.constraint_spec.specs.Meets.{Meets}
+use Rattle.counterexample_spec.specs.First.{IsFirstBroken}
+use Rattle.sd_ddl.specs.Written.{graph_text}
 use Rattle.certificate_text.specs.Lines.{yes_text, unknown_text}
-use Rattle.certificates.specs.declared.Verdict.{Verdict}
-use Rattle.certificates.specs.declared.Verdict.TheVariants.{Yes, Unknown}
-use Rattle.constraint_prover.specs.Verdicts.{IsVerdict, HoldsOverAll}
+
+-- ---- what is found of a constraint
+
+-- a certificate, a data graph whose site breaks it, or neither
+pub data Finding : Type 0 where
+  yes : Certificate → Finding
+  no : DataGraph → Finding
+  unknown : Finding
+
+-- no certificate shows the constraint
+abbrev pub HasNoCertificate : Scope → Constraint → Type 0
+HasNoCertificate q c = (x : Certificate) → IsCertificate q c x → ⊥
+
+-- A certificate of the constraint. Where it has none, the first candidate whose site breaks it, and
+-- unknown where there is no such candidate.
+abbrev pub IsFinding : Scope → Constraint → Finding → Type 0
+IsFinding q c (yes x) = IsCertificate q c x
+IsFinding q c (no G) = HasNoCertificate q c × IsFirstBroken q c (Some G)
+IsFinding q c unknown = HasNoCertificate q c × IsFirstBroken q c None
+
+-- At a yes, the query's site over every data graph meets the constraint. At a no, its site over the
+-- graph that is found doesn't.
+abbrev pub HoldsOfSites : Scope → Constraint → Finding → Type 0
+HoldsOfSites q c (yes x) = (G : DataGraph) → Meets G q c
+HoldsOfSites q c (no G) = ¬ Meets G q c
+HoldsOfSites q c unknown = ⊤
+
+-- whether it is a certificate
+abbrev pub is_yes : Finding → Bool
+is_yes (yes x) = true
+is_yes (no G) = false
+is_yes unknown = false
+
+-- ---- its lines
+
+-- a text, with two spaces before each of its lines, and before what comes first where a line begins
+-- there
+abbrev pub indented : (begins : Bool) → List ℕ → List ℕ
+indented begins [] = []
+indented begins (b ∷ text) =
+    (if begins then codes "  " else []) ++ b ∷ indented (nat_eq b 10) text
+
+-- `K no` and the canonical text of the graph, each of its lines behind two spaces
+abbrev pub no_text : ℕ → DataGraph → List ℕ
+no_text number G = decimal number ++ codes " no\n" ++ indented true (graph_text G)
 
 -- the lines of the constraint of this number
-abbrev pub lines_of : Query → ℕ → Constraint → Verdict → List ℕ
-lines_of q number c (Yes x) = yes_text q number c x
-lines_of q number c Unknown = unknown_text number
+abbrev pub lines_of : Query → ℕ → Constraint → Finding → List ℕ
+lines_of q number c (yes x) = yes_text q number c x
+lines_of q number c (no G) = no_text number G
+lines_of q number c unknown = unknown_text number
 
 -- the lines of these constraints, the first of which has this number
-abbrev pub verdict_lines : Query → ℕ → List Constraint → List Verdict → List ℕ
-verdict_lines q number (c ∷ cs) (v ∷ vs) =
-    lines_of q number c v ++ verdict_lines q (suc number) cs vs
-verdict_lines q number cs vs = []
+abbrev pub finding_lines : Query → ℕ → List Constraint → List Finding → List ℕ
+finding_lines q number (c ∷ cs) (f ∷ fs) =
+    lines_of q number c f ++ finding_lines q (suc number) cs fs
+finding_lines q number cs fs = []
 
--- the constraint has a certificate
-abbrev pub is_yes : Verdict → Bool
-is_yes (Yes x) = true
-is_yes Unknown = false
+-- ---- what is told
 
--- The text tells of each of the constraints, in order, whether it has a certificate, and `all_yes`
--- says whether all of them have one. What has one is met by the query's site over every data graph.
+-- The text tells of each of the constraints, in order, what is found of it, and `all_yes` says whether
+-- each has a certificate. What is found holds of the query's sites.
 pub record AreTold (q : Query) (constraints : List Constraint) (text : List ℕ) (all_yes : Bool)
     : Type 0 where
-  pub verdicts : List Verdict
-  pub exact : AllZip (IsVerdict (scope_of q)) constraints verdicts
-  pub holds : AllZip (HoldsOverAll (scope_of q)) constraints verdicts
-  pub told : text ≡ verdict_lines q 1 constraints verdicts
-  pub all : all_yes ≡ list_all is_yes verdicts
+  pub findings : List Finding
+  pub exact : AllZip (IsFinding (scope_of q)) constraints findings
+  pub holds : AllZip (HoldsOfSites (scope_of q)) constraints findings
+  pub told : text ≡ finding_lines q 1 constraints findings
+  pub all : all_yes ≡ list_all is_yes findings
 
 -- some certificate shows the constraint
 abbrev pub HasCertificate : Query → Constraint → Type 0

@@ -1,5 +1,5 @@
-//! Which of some integrity constraints a query's site meets over every data graph, and the lines that
-//! say so.
+//! Which of some integrity constraints a query's site meets over every data graph, which it breaks
+//! over some data graph, and the lines that say so.
 #![tactic(auto)]
 
 ghost use Rattle.std.specs.Prelude.{◌↔◌, ℕ, List, Bool, IsTrue, All};
@@ -7,9 +7,11 @@ ghost use Rattle.query_spec.specs.Query.{Query};
 ghost use Rattle.constraint_spec.specs.declared.Constraint.{Constraint as TheConstraint};
 ghost use Rattle.constraint_verdicts.specs.Told.{AreTold, HasCertificate, IsMetOverAll};
 
+mod finding;
 mod lines;
+mod verdicts;
 
-pub use lines::{Verdicts, verdicts_of};
+pub use verdicts::{Verdicts, verdicts_of};
 
 /// All are answered yes exactly where each has a certificate.
 pub fn all_yes_means_certificates()

@@ -1,50 +1,89 @@
-// The lines of verdicts on constraints.
-ghost use Rattle.std.specs.Prelude.{◌≡◌, IfOk, length};
-ghost use Rattle.std.specs.List.{list_all};
-ghost use Rattle.constraint_verdicts.specs.Told.{verdict_lines, is_yes as yes_of, AreTold};
+// The lines of what is found of constraints.
+ghost use Rattle.std.specs.Prelude.{◌≡◌, ◌++◌, IfOk, length, map, true};
+ghost use Rattle.std.specs.Fmt.{decimal};
+ghost use Rattle.query_blocks.specs.Blocks.{scope_of, AreCheckedBlocks};
+ghost use Rattle.constraint_verdicts.specs.Told.{finding_lines, indented, no_text};
+ghost use Rattle.constraint_verdicts.specs.Written.{found_in, text_by};
 
+use crate::finding::Finding;
 use block_paths::paths_of;
-use certificate_text::print_verdict;
-use certificates::Verdict;
-use constraint_prover::prove_all;
+use certificate_text::{print_unknown, print_yes};
 use constraint_spec::Constraint;
+use itoa::Buffer;
+use query_blocks::QueryBlocks;
 use query_scoping::scopes;
+use sd_ddl::write_ddl;
+use sd_graph::Graph;
 use sd_value::{NoMemory, Str};
 use std::alloc::Global;
 use struql_check::Checked;
+use token_writer::put;
 
-/// What is printed of constraints, and whether all of them are answered yes.
-#[derive(Debug, Drop)]
-pub struct Verdicts {
-    pub text: Str,
-    pub all_yes: bool,
+// Appends the text, with two spaces before each of its lines.
+fn put_indented(text: &[u8], out: &mut Vec<u8>) -> Result<(), NoMemory>
+    ensures { IfOk result (λ _. out.new.items ≡ out.old.items ++ indented true text.now) }
+{
+    let mut begins = true;
+    for byte in text {
+        if begins {
+            put(b"  ", out)?;
+        }
+        out.push(*byte)?;
+        begins = *byte == b'\n';
+    }
+    Ok(())
 }
 
-fn is_yes(verdict: &Verdict) -> bool
-    ensures { result ≡ yes_of verdict.now }
+// Appends `K no` and the graph.
+fn print_no(alloc: Global, number: usize, graph: &Graph, out: &mut Vec<u8>) -> Result<(), NoMemory>
+    ensures { IfOk result (λ _. out.new.items ≡ out.old.items ++ no_text number graph.now) }
 {
-    match verdict {
-        Verdict::Yes(_) => true,
-        Verdict::Unknown => false,
+    let mut text = Vec::new(alloc);
+    write_ddl(alloc, graph, &mut text)?;
+    let mut buffer = Buffer::new();
+    put(buffer.format(number).as_bytes(), out)?;
+    put(b" no\n", out)?;
+    put_indented(&text, out)
+}
+
+// Appends the lines of what is found of the constraint of this number. The paths are those of the
+// blocks.
+fn print_finding(
+    alloc: Global,
+    blocks: &QueryBlocks,
+    paths: &[Str],
+    number: usize,
+    constraint: &Constraint,
+    finding: &Finding,
+    out: &mut Vec<u8>,
+) -> Result<(), NoMemory>
+    requires paths { length paths.now ≡ length blocks.now.blocks.items }
+    requires checked { AreCheckedBlocks blocks.now.version blocks.now.blocks.items }
+    ensures { IfOk result (λ _. out.new.items ≡ out.old.items
+        ++ text_by blocks.now.version paths.now (scope_of blocks.now).bodies number
+        constraint.now (found_in finding.now)) }
+{
+    match finding {
+        Finding::Yes(certificate) => {
+            print_yes(alloc, blocks, paths, number, constraint, certificate, out)
+        }
+        Finding::No(graph) => print_no(alloc, number, graph, out),
+        Finding::Unknown => print_unknown(number, out),
     }
 }
 
-fn are_all_yes(verdicts: &[Verdict]) -> bool
-    ensures { result ≡ list_all yes_of verdicts.now }
-{
-    verdicts.iter().all(|verdict| is_yes(verdict))
-}
-
-// The lines of a query's constraints with these verdicts.
-fn lines_of(
+/// The lines of a query's constraints, of which this is found.
+/// # Errors
+/// Out of memory.
+pub(crate) fn lines_of(
     alloc: Global,
     query: &Checked,
     constraints: &[Constraint],
-    verdicts: &[Verdict],
+    findings: &[Finding],
 ) -> Result<Vec<u8>, NoMemory>
-    requires { length verdicts.now ≡ length constraints.now }
+    requires { length findings.now ≡ length constraints.now }
     ensures { IfOk result (λ text. text.items
-        ≡ verdict_lines query.now 1 constraints.now verdicts.now) }
+        ≡ finding_lines query.now 1 constraints.now (map found_in findings.now)) }
 {
     let blocks = scopes(alloc, query)?;
     let all_paths = paths_of(alloc, &query.query().blocks)?;
@@ -52,34 +91,15 @@ fn lines_of(
     let mut text = Vec::new(alloc);
     for i in 0..constraints.len() {
         let number = i + 1;
-        print_verdict(
+        print_finding(
             alloc,
             &blocks,
             paths,
             number,
             &constraints[i],
-            &verdicts[i],
+            &findings[i],
             &mut text,
         )?;
     }
     Ok(text)
-}
-
-/// For each of the constraints, in order, `K yes` with the lines of a certificate where it has one,
-/// and else `K unknown`, with its number from 1; and whether all of them have one.
-/// # Errors
-/// Out of memory.
-pub fn verdicts_of(
-    alloc: Global,
-    query: &Checked,
-    constraints: &[Constraint],
-) -> Result<Verdicts, NoMemory>
-    ensures { IfOk result (λ r. AreTold query.now constraints.now r.text r.all_yes) }
-{
-    let all_verdicts = prove_all(alloc, query, constraints)?;
-    let verdicts = all_verdicts.as_slice();
-    let lines = lines_of(alloc, query, constraints, verdicts)?;
-    let text = Str::of(alloc, lines)?;
-    let all_yes = are_all_yes(verdicts);
-    Ok(Verdicts { text, all_yes })
 }

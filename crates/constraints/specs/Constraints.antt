@@ -12,7 +12,9 @@ use Rattle.constraints.specs.declared.reading.Phrase.{Phrase}
 use Rattle.constraints.specs.declared.refusal.NameFault.{NameFault}
 use Rattle.constraints.specs.declared.refusal.NameFault.TheVariants.{Unknown, HasArguments}
 use Rattle.constraints.specs.declared.refusal.ConstraintRefusal.{ConstraintRefusal}
-use Rattle.constraints.specs.declared.refusal.ConstraintRefusal.TheVariants.{TooLong, BadByte, OpenString, IntOutOfRange, Expected, UnknownFunction, RootHasArguments, NoMemory}
+use Rattle.constraints.specs.declared.refusal.ConstraintRefusal.TheVariants.{TooLong, BadByte, OpenString}
+use Rattle.constraints.specs.declared.refusal.ConstraintRefusal.TheVariants.{IntOutOfRange, Expected, UnknownFunction}
+use Rattle.constraints.specs.declared.refusal.ConstraintRefusal.TheVariants.{RootHasArguments, NoMemory}
 use Rattle.constraints.specs.ConstraintText.{phrases, constraint_of}
 use Rattle.constraints.specs.Names.{FirstFaulty}
 

@@ -6,7 +6,9 @@ use Rattle.constraints.specs.declared.refusal.Refusal.TheVariants as grammar
 use Rattle.constraints.specs.declared.refusal.NameFault.{NameFault}
 use Rattle.constraints.specs.declared.refusal.NameFault.TheVariants as names
 use Rattle.constraints.specs.declared.refusal.ConstraintRefusal.{ConstraintRefusal}
-use Rattle.constraints.specs.declared.refusal.ConstraintRefusal.TheVariants.{TooLong, BadByte, OpenString, IntOutOfRange, Expected, UnknownFunction, RootHasArguments, NoMemory}
+use Rattle.constraints.specs.declared.refusal.ConstraintRefusal.TheVariants.{TooLong, BadByte, OpenString}
+use Rattle.constraints.specs.declared.refusal.ConstraintRefusal.TheVariants.{IntOutOfRange, Expected, UnknownFunction}
+use Rattle.constraints.specs.declared.refusal.ConstraintRefusal.TheVariants.{RootHasArguments, NoMemory}
 
 abbrev pub of_lexer : LexRefusal → ConstraintRefusal
 of_lexer (lexer.TooLong at) = TooLong at

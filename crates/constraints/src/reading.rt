@@ -4,7 +4,8 @@ ghost use Rattle.std.specs.Prelude.{◌≡◌, [], true};
 ghost use Rattle.grammar.specs.Reading.{take_one, repeat, starts};
 ghost use Rattle.token_reader.specs.Gives.{Gives};
 ghost use Rattle.constraints.specs.Terminals.{bare_value};
-ghost use Rattle.constraints.specs.Reading.{read_reachable, read_each, read_only, read_never, read_one, read_phrase, begins_phrase, read_phrases};
+ghost use Rattle.constraints.specs.Reading.{read_reachable, read_each, read_only, read_never, read_one, read_phrase};
+ghost use Rattle.constraints.specs.Reading.{begins_phrase, read_phrases};
 ghost use Rattle.constraints.specs.Spelled.{Spells};
 
 use crate::refusal::Refusal;

@@ -1,6 +1,6 @@
 -- A data graph in which a chain is frozen: what its conditions ask for of the values of its
 -- variables, and nothing else.
-use Rattle.std.specs.Prelude.{ℕ, suc, Bool, List, [], ◌∷◌, ◌++◌, fold, codes, if◌then◌else◌, Option, Some, None}
+use Rattle.std.specs.Prelude.{ℕ, suc, Bool, List, [], ◌∷◌, ◌++◌, codes, if◌then◌else◌, Option, Some, None}
 use Rattle.std.specs.List.{flat_map}
 use Rattle.std.specs.Fmt.{decimal}
 use Rattle.sd_value.specs.declared.Datum.TheVariants.{Text, Node}
@@ -10,24 +10,11 @@ use Rattle.sd_value.specs.Names.{Name, Label, Word}
 use Rattle.rpe.specs.Regex as rpe
 use Rattle.rpe.specs.Regex.{Regex}
 use Rattle.graph_spec.specs.DataGraph.{DataGraph, node}
-use Rattle.graph_spec.specs.Statement.{Statement, a_node, a_member, an_edge, graph_with}
+use Rattle.graph_spec.specs.Statement.{Statement, a_node, a_member, an_edge}
+pub use Rattle.graph_spec.specs.Statement.{with_all, empty_graph, graph_of}
 use Rattle.query_spec.specs.Query.{arc_variable, expression, Condition, member, path}
 use Rattle.query_spec.specs.Holds.{Assignment, operand_value}
 use Rattle.counterexample_spec.specs.Values.{Copy, first_copy, second_copy, Pattern, assigned, values_of}
-
--- ---- graphs of what is stated
-
--- the graph with what is stated besides
-abbrev pub with_all : DataGraph → List Statement → DataGraph
-with_all graph all = fold (λ G s. graph_with s G) graph all
-
--- the graph in which nothing is stated
-abbrev pub empty_graph : DataGraph
-empty_graph = record { nodes = []; edges = []; members = [] }
-
--- the graph of what is stated
-abbrev pub graph_of : List Statement → DataGraph
-graph_of all = with_all empty_graph all
 
 -- ---- what is stated of values
 

@@ -16,7 +16,7 @@ use Rattle.data_source.specs.declared.refusal.SourceRefusal.TheVariants.{NoMemor
 use Rattle.data_source.specs.Formats.{is_slash, behind_slashes}
 use Rattle.data_source.specs.Takes.{TakesAs}
 
--- want of memory before anything is read
+-- out of memory before anything is read
 pub no_memory_first : (format : Format) (limit : ℕ) (bytes : List ℕ) (b : Building) → TakesAs format limit bytes b b (Err NoMemory)
 no_memory_first DataText limit bytes b = (Err ddl.NoMemory, inl refl, refl)
 no_memory_first (Csv stem) limit bytes b = (Err csv.NoMemory, ([], text_steps stem (records_of bytes), refl, refl), refl)

@@ -17,7 +17,7 @@ States tokens text_end (Err (Expected at)) =
     (rest : List Token) × FirstFault IsReal file file tokens rest × (at ≡ place text_end rest)
 States tokens text_end (Err NoMemory) = Unit {0}
 
--- What is spelled is the answer, unless memory runs out.
+-- What is spelled is the answer, unless it is out of memory.
 abbrev pub IsOnly : List Token → Result (Vec Statement) Refusal → Type 0
 IsOnly tokens (Ok v) = (statements : List Statement) → file tokens statements → v.items ≡ statements
 IsOnly tokens (Err (Expected at)) = (statements : List Statement) → file tokens statements → ⊥

@@ -26,7 +26,7 @@ TextStates limit bytes (Err (Expected at)) =
     × FirstFault IsReal file file tokens rest × (at ≡ place (length bytes) rest)
 TextStates limit bytes (Err NoMemory) = Unit {0}
 
--- What a text spells is the answer, unless memory runs out.
+-- What a text spells is the answer, unless it is out of memory.
 abbrev pub TextGives : List Statement → Result (Vec Statement) TextRefusal → Type 0
 TextGives statements (Ok v) = v.items ≡ statements
 TextGives statements (Err (TooLong at)) = ⊥

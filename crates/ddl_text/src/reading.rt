@@ -8,7 +8,9 @@ ghost use Rattle.grammar.specs.Fault.{Every};
 ghost use Rattle.ddl_text.specs.Stated.{States, IsOnly};
 ghost use Rattle.token_reader.specs.Terminals.{is_name, is_sign, is_word};
 ghost use Rattle.ddl_text.specs.Terminals.{kind_value};
-ghost use Rattle.ddl_text.specs.Reading.{read_entry, read_directive, read_kinded, read_node, read_value, read_field, read_further_name, read_collections, read_in, read_object, read_statement, read_file, begins_statement};
+ghost use Rattle.ddl_text.specs.Reading.{read_entry, read_directive, read_kinded, read_node, read_value, read_field};
+ghost use Rattle.ddl_text.specs.Reading.{read_further_name, read_collections, read_in, read_object, read_statement};
+ghost use Rattle.ddl_text.specs.Reading.{read_file, begins_statement};
 
 use crate::refusal::Refusal;
 use crate::tree::{

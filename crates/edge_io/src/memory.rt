@@ -1,5 +1,7 @@
 // Files and a sink in memory, which fail by a list.
-ghost use Rattle.std.specs.Prelude.{◌≡◌, ◌⊎◌, ◌↔◌, Contains, ℕ, List, ◌+◌, ◌<◌, ◌≤◌, ◌^◌, ◌++◌, ◌∷◌, [], length, take, Some, MatchOption, None, OnOk, OnErr, IfOk, IfSome, IsErr, IsErrOf, vec_len, min, option_copied, true, false};
+ghost use Rattle.std.specs.Prelude.{◌≡◌, ◌⊎◌, ◌↔◌, Contains, ℕ, List, ◌+◌, ◌<◌, ◌≤◌, ◌^◌, ◌++◌, ◌∷◌, [], length};
+ghost use Rattle.std.specs.Prelude.{take, Some, MatchOption, None, OnOk, OnErr, IfOk, IfSome, IsErr, IsErrOf};
+ghost use Rattle.std.specs.Prelude.{vec_len, min, option_copied, true, false};
 ghost use Rattle.std.specs.Bool.{OnTrue};
 ghost use Rattle.std.specs.Option.{ForSome};
 ghost use Rattle.edge_io.specs.Files.{IsStartOf, HasReadCause, HasWriteCause, PutsFile, LeavesOthers};

@@ -23,7 +23,8 @@ use Rattle.graph_spec.specs.declared.Step.{Step}
 use Rattle.list_lookup.specs.Picked.{picked, in_place, IsPlaced, HasOne}
 use Rattle.list_lookup.specs.PickedLaws.{picked-lists, picked-sound, picked-complete}
 use Rattle.list_lookup.proofs.Placed.{then_tied, after_tie, first_not_above, two_not_above, not_both, names_tied, values_tied, placed}
-use Rattle.edge_queries.specs.Places.{at_start, at_label, at_end, at_start_label, at_edge, at_end_label, at_collection, at_member, step_from, step_to}
+use Rattle.edge_queries.specs.Places.{at_start, at_label, at_end, at_start_label, at_edge, at_end_label}
+use Rattle.edge_queries.specs.Places.{at_collection, at_member, step_from, step_to}
 use Rattle.edge_queries.specs.Ordered.{by_end_cmp, by_label_cmp}
 
 -- nodes are in the order of their names

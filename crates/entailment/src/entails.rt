@@ -10,7 +10,9 @@ ghost use Rattle.struql_ast.specs.Reading.{operand_of, condition_of};
 ghost use Rattle.constraint_spec.specs.Entailed.{turned};
 ghost use Rattle.constraint_recheck.specs.Same.{same_condition, same_operand, same_test};
 ghost use Rattle.query_spec.specs.declared.Test.TheVariants.{IsText};
-ghost use Rattle.constraint_recheck.specs.Entails.{Tests, twins, equal, among, without_twin, has_kind as kind_of, contains, below, stricter, narrower, on_constant, fixes, fewer, follows, plainly, negates, follows_turned, entails};
+ghost use Rattle.constraint_recheck.specs.Entails.{Tests, twins, equal, among, without_twin, has_kind as kind_of};
+ghost use Rattle.constraint_recheck.specs.Entails.{contains, below, stricter, narrower, on_constant, fixes, fewer};
+ghost use Rattle.constraint_recheck.specs.Entails.{follows, plainly, negates, follows_turned, entails};
 
 use crate::{number_of_op, number_of_test, same_conditions, same_operands};
 use query_spec::{Op, Test};

@@ -41,7 +41,7 @@ module _ (site : Site) (templates : TemplateFile) where
         × PagesWritten ts (put_file old (page_path folder t) text) new
 
     -- Writing stops at this term's page: at its fault nothing is written, a file that can't be written holds anything,
-    -- and where memory runs out nothing is written.
+    -- and where it is out of memory nothing is written.
     abbrev pub StopsAt : Term → FileMap → FileMap → Stop → Type 0
     StopsAt t old new (Faulty term kind) = (term ≡ t) × IsFaulty t kind × (new ≡ old)
     StopsAt t old new Unwritten =

@@ -2,7 +2,7 @@
 use run_report::PageKind;
 use sd_value::{NoMemory, Term};
 
-/// Why writing a site stops: a page has no text or no file, a file can't be written, or memory ran out.
+/// Why writing a site stops: a page has no text or no file, a file can't be written, or it was out of memory.
 #[derive(Debug, Drop)]
 pub enum Stop {
     Faulty { term: Term, kind: PageKind },

@@ -1,6 +1,7 @@
 // The bytes of a reply.
 ghost use Rattle.std.specs.Prelude.{◌≡◌, ◌++◌, OnOk, OnErr, IfOk, string_bytes};
-ghost use Rattle.http_spec.specs.Replies.{status, page_status, content_type, page_type, allow_line, reply_body, page_body, connection, head_bytes, reply_bytes, no_memory_bytes};
+ghost use Rattle.http_spec.specs.Replies.{status, page_status, content_type, page_type, allow_line, reply_body};
+ghost use Rattle.http_spec.specs.Replies.{page_body, connection, head_bytes, reply_bytes, no_memory_bytes};
 
 use address::show;
 use http_spec::{ParsedRequest, RequestKind};

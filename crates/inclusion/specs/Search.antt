@@ -1,5 +1,6 @@
 -- Lists of pairs, and the marks that tell which pairs a list has.
-use Rattle.std.specs.Prelude.{◌≡◌, ℕ, ◌+◌, ◌*◌, ◌<◌, ◌≤◌, Bool, true, false, cond, List, ◌++◌, length, Contains, slice_index, sum_by, bit_and}
+use Rattle.std.specs.Prelude.{◌≡◌, ℕ, ◌+◌, ◌*◌, ◌<◌, ◌≤◌, Bool, true, false, cond, List, ◌++◌, length, Contains}
+use Rattle.std.specs.Prelude.{slice_index, sum_by, bit_and}
 use Rattle.std.specs.List.{slice_index_or}
 use Rattle.automaton.specs.PositionSet.{Has}
 use Rattle.inclusion.specs.declared.search.Pair.{Pair}

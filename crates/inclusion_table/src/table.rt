@@ -4,7 +4,8 @@ ghost use Rattle.std.specs.Prelude.{◌≡◌, ◌↔◌, IfOk, IsTrue, Option, 
 ghost use Rattle.constraint_spec.specs.Entailed.{IsIncluded};
 ghost use Rattle.rpe.specs.Reading.{regex_of};
 ghost use Rattle.query_blocks.specs.Blocks.{scope_of};
-ghost use Rattle.inclusion_table.specs.Answers.{IsRow, AreRows, bits_of, number_of as placed, bit_at, table_bit, has_empty, tests_of, IsTableOf};
+ghost use Rattle.inclusion_table.specs.Answers.{IsRow, AreRows, bits_of, number_of as placed, bit_at, table_bit};
+ghost use Rattle.inclusion_table.specs.Answers.{has_empty, tests_of, IsTableOf};
 
 use crate::expressions::expressions_of;
 use crate::twins::{has_twin, spells};

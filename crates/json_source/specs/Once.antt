@@ -6,7 +6,8 @@ use Rattle.sd_graph.specs.Statement.{Building}
 use Rattle.sd_graph.specs.Stating.{Ending, done, fault, too_many_nodes, too_many_edges, no_memory}
 use Rattle.source_steps.specs.Once.{IsTold, ends_once}
 use Rattle.json_source.specs.declared.refusal.JsonRefusal.{JsonRefusal}
-use Rattle.json_source.specs.declared.refusal.JsonRefusal.TheVariants.{NotJson, NotInteger, NotRecords, TooManyEdges, TooManyNodes, NoMemory}
+use Rattle.json_source.specs.declared.refusal.JsonRefusal.TheVariants.{NotJson, NotInteger, NotRecords, TooManyEdges}
+use Rattle.json_source.specs.declared.refusal.JsonRefusal.TheVariants.{TooManyNodes, NoMemory}
 use Rattle.json_source.specs.Names.{Pointer}
 use Rattle.json_source.specs.Text.{text_steps, json_ending}
 use Rattle.json_source.specs.Reads.{HasOneAnswer}

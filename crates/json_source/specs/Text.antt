@@ -12,7 +12,8 @@ use Rattle.sd_graph.specs.Stating.{Step, says, fails, Ending, done, fault, too_m
 use Rattle.source_steps.specs.Names.{without_mark}
 use Rattle.json_source.specs.Names.{Pointer, item_place, member_place, item_name, member_name}
 use Rattle.json_source.specs.declared.refusal.JsonRefusal.{JsonRefusal}
-use Rattle.json_source.specs.declared.refusal.JsonRefusal.TheVariants.{NotJson, NotInteger, NotRecords, TooManyEdges, TooManyNodes, NoMemory}
+use Rattle.json_source.specs.declared.refusal.JsonRefusal.TheVariants.{NotJson, NotInteger, NotRecords, TooManyEdges}
+use Rattle.json_source.specs.declared.refusal.JsonRefusal.TheVariants.{TooManyNodes, NoMemory}
 
 abbrev pub JsonStep : Type 0
 JsonStep = Step Pointer JsonRefusal

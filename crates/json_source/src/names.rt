@@ -1,7 +1,8 @@
 // Places of values, and names of objects that are nodes.
 ghost use Rattle.std.specs.Prelude.{◌≡◌, ◌++◌, ◌<◌, IfOk, OnOk};
 ghost use Rattle.std.specs.List.{flat_map};
-ghost use Rattle.json_source.specs.Names.{member_place, item_place, member_name, pointer_byte, name_byte, is_kept as is_kept_byte, hexadecimal as hexadecimal_code};
+ghost use Rattle.json_source.specs.Names.{member_place, item_place, member_name, pointer_byte, name_byte};
+ghost use Rattle.json_source.specs.Names.{is_kept as is_kept_byte, hexadecimal as hexadecimal_code};
 
 use itoa::Buffer;
 use sd_value::{NoMemory, Str};

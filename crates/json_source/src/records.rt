@@ -1,7 +1,8 @@
 // Records, and lists of records.
 ghost use Rattle.sd_graph.specs.Stating.{Ends};
 ghost use Rattle.serde_json.specs.View.{view, items_view, members_view};
-ghost use Rattle.json_source.specs.Text.{json_ending, record_statements, record_steps, records_steps, collection_steps, collections_steps, top_steps};
+ghost use Rattle.json_source.specs.Text.{json_ending, record_statements, record_steps, records_steps};
+ghost use Rattle.json_source.specs.Text.{collection_steps, collections_steps, top_steps};
 
 use crate::names::{name_of_member, place_of_item, place_of_member};
 use crate::refusal::JsonRefusal;

@@ -61,7 +61,8 @@ module _ (q : Scope) where
   abbrev pub NoLinkOf : Name → Label → Type 0
   NoLinkOf f l = (number : ℕ) (k : PlacedLink) → MayCarry q f l number k → ⊥
 
-module _ (graph : DataGraph) (q : Scope) (templates : TemplateFile) where
+-- `further`: the labels by which the words of the templates go on from what they have reached
+module _ (graph : DataGraph) (q : Scope) (templates : TemplateFile) (further : List Label) where
   -- what is asked for isn't there
   abbrev pub IsMistake : Asked → Type 0
   -- the data have no member of the collection, and no COLLECT names it
@@ -83,8 +84,11 @@ module _ (graph : DataGraph) (q : Scope) (templates : TemplateFile) where
   IsMistake (asked.Created f) =
       (Contains (linked q.bodies ++ put q.bodies) f → ⊥)
       × (root_of q.bodies ≡ Some f → ⊥)
-  -- no template presents the function's pages
-  IsMistake (asked.Linked f) = Contains (presented templates) f → ⊥
+  -- no template presents the function's pages, and no word goes on from them: no link of the
+  -- function may carry a label by which words go on
+  IsMistake (asked.Linked f) =
+      (Contains (presented templates) f → ⊥)
+      × ((l : Label) → Contains further l → NoLinkOf q f l)
   -- no CREATE names the function
   IsMistake (asked.Presented f) = Contains (created q.bodies) f → ⊥
   -- no link of the function may carry the label

@@ -74,6 +74,28 @@ abbrev pub of_page : Option Name → Label → Asked
 of_page None l = asked.Step l
 of_page (Some f) l = asked.LinkOf f l
 
+-- ---- labels by which words go on
+
+-- the label, if there is one
+abbrev pub one_label : Option Label → List Label
+one_label None = []
+one_label (Some l) = l ∷ []
+
+-- the label that the items begin with, if they do
+abbrev pub first_label : List Item → List Label
+first_label [] = []
+first_label (i ∷ items) = one_label (label_of i.kind)
+
+-- the label behind an item that is `.`
+abbrev pub label_behind : ItemKind → List Item → List Label
+label_behind (kinds.Token (tokens.Sign signs.Dot)) items = first_label items
+label_behind k items = []
+
+-- the labels by which words go on from what they have reached: those behind a `.`
+abbrev pub further_labels : List Item → List Label
+further_labels [] = []
+further_labels (i ∷ items) = label_behind i.kind items ++ further_labels items
+
 -- ---- templates
 
 -- the name behind a first name, which is then the word COLLECTION

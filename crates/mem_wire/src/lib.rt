@@ -1,14 +1,16 @@
 //! A wire in memory, for scripts and tests.
 #![tactic(auto)]
 
-ghost use Rattle.std.specs.Prelude.{◌≡◌, ◌≢◌, ◌≤◌, ◌⊎◌, All, take, ℕ, Bool, true, false, Some, None, List, [], IfOk, IfSome, IsSome, OnOk, OnErr, Err, is_err, IsErrOf, if◌then◌else◌};
+ghost use Rattle.std.specs.Prelude.{◌≡◌, ◌≢◌, ◌≤◌, ◌⊎◌, All, take, ℕ, Bool, true, false, Some, None, List, [], IfOk};
+ghost use Rattle.std.specs.Prelude.{IfSome, IsSome, OnOk, OnErr, Err, is_err, IsErrOf, if◌then◌else◌};
 ghost use Rattle.std.specs.Ordering.{nat_cmp};
 ghost use Rattle.std.specs.BTreeMap.{get};
 ghost use Rattle.edge_io.specs.Counts.{Rose};
 ghost use Rattle.wire.specs.Accounts.{up, send_to};
 ghost use Rattle.wire.specs.Events.{add_event, add_listen, IsWatched, IsNextOf};
 ghost use Rattle.wire.specs.Told.{EventsStay, OtherAccountsStay, OtherFaultsStay};
-ghost use Rattle.mem_wire.specs.WireInMemory.{is_named, cut_of, told_of, faults_in, fails_next, next_cut, taken_of, is_closed, entry_of, HasEntry, IsNew};
+ghost use Rattle.mem_wire.specs.WireInMemory.{is_named, cut_of, told_of, faults_in, fails_next, next_cut, taken_of};
+ghost use Rattle.mem_wire.specs.WireInMemory.{is_closed, entry_of, HasEntry, IsNew};
 
 mod entry;
 

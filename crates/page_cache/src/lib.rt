@@ -1,7 +1,8 @@
 //! Keeps the pages that were shown last.
 #![tactic(auto)]
 
-ghost use Rattle.std.specs.Prelude.{◌≡◌, ◌≤◌, ◌<◌, ◌++◌, ◌↔◌, ℕ, List, [], length, drop, map, IfOk, OnErr, OnOk, Ok, true, false, if◌then◌else◌, Contains};
+ghost use Rattle.std.specs.Prelude.{◌≡◌, ◌≤◌, ◌<◌, ◌++◌, ◌↔◌, ℕ, List, [], length, drop, map, IfOk, OnErr, OnOk, Ok};
+ghost use Rattle.std.specs.Prelude.{true, false, if◌then◌else◌, Contains};
 ghost use Rattle.std.specs.Map.{keys_of, lookup};
 ghost use Rattle.std.specs.NonZero.{non_zero_usize_get};
 ghost use Rattle.lru.specs.LruCache.{lru_cache, demoted};

@@ -1,5 +1,6 @@
 -- Plans: which condition is used next, and when a variable takes its whole domain.
-use Rattle.std.specs.Prelude.{◌≡◌, ◌⊎◌, ◌≤◌, ◌<◌, ℕ, List, [], ◌∷◌, length, Option, None, Some, Bool, true, false, slice_get, slice_set, slice_index_or, if◌then◌else◌, ⊤}
+use Rattle.std.specs.Prelude.{◌≡◌, ◌⊎◌, ◌≤◌, ◌<◌, ℕ, List, [], ◌∷◌, length, Option, None, Some, Bool, true, false}
+use Rattle.std.specs.Prelude.{slice_get, slice_set, slice_index_or, if◌then◌else◌, ⊤}
 use Rattle.store.specs.declared.Sizes.{Sizes}
 use Rattle.plan_spec.specs.declared.Shape.{Shape}
 use Rattle.plan_spec.specs.declared.PlanStep.{PlanStep}

@@ -9,7 +9,8 @@ use Rattle.graph_spec.specs.Steps.{IsCountOf, IsLabelled, IsMemberValue}
 use Rattle.query_spec.specs.declared.Variable.{Variable}
 use Rattle.query_spec.specs.declared.Op.{Op}
 use Rattle.query_spec.specs.declared.Op.TheVariants.{Eq}
-use Rattle.query_spec.specs.Query.{Chain, Operand, variable, constant, arc_variable, expression, Condition, member, path, compare, one_of, kind, negation}
+use Rattle.query_spec.specs.Query.{Chain, Operand, variable, constant, arc_variable, expression, Condition, member}
+use Rattle.query_spec.specs.Query.{path, compare, one_of, kind, negation}
 use Rattle.query_spec.specs.Mentions.{same_name}
 use Rattle.plan_spec.specs.declared.Counted.{Counted}
 use Rattle.plan_spec.specs.declared.Counts.{Counts}

@@ -1,5 +1,6 @@
 //! Plans.
-ghost use Rattle.std.specs.Prelude.{◌≡◌, ◌↔◌, ◌<◌, ◌≤◌, ◌^◌, IsTrue, ℕ, length, IfOk, MatchOption, Option, None, Some, slice_get, slice_set, true, false, if◌then◌else◌};
+ghost use Rattle.std.specs.Prelude.{◌≡◌, ◌↔◌, ◌<◌, ◌≤◌, ◌^◌, IsTrue, ℕ, length, IfOk, MatchOption, Option, None};
+ghost use Rattle.std.specs.Prelude.{Some, slice_get, slice_set, true, false, if◌then◌else◌};
 ghost use Rattle.plan_spec.specs.Cost.{cost_of};
 ghost use Rattle.planner.specs.Ranges.{SideInRange, ShapeInRange, ShapesInRange};
 ghost use Rattle.plan_spec.specs.Plan.{CanUse, IsBest, IsFirstFree, AllFalse, Uses, IsPlan, bind, bind_all};

@@ -1,7 +1,9 @@
 -- The blocks of a checked query, each with its whole chain.
 use Rattle.std.specs.Prelude.{◌≡◌, ℕ, List, map, All, Contains}
 use Rattle.sd_value.specs.declared.Term.{Term}
-use Rattle.sd_value.specs.declared.Value.TheVariants.{Page}
+use Rattle.sd_value.specs.declared.Datum.TheVariants.{Node}
+use Rattle.sd_value.specs.declared.Value.TheVariants.{Data, Page}
+use Rattle.sd_value.specs.Names.{Name}
 use Rattle.query_spec.specs.declared.Variable.{Variable}
 use Rattle.query_spec.specs.Query.{SkolemTerm, constant, Target, plain, made, Link, Collect, Body}
 use Rattle.query_spec.specs.Mentions.{IsDeclared, IsWellMade, chain_of}
@@ -35,6 +37,10 @@ IsMade target = (t : SkolemTerm) × (target ≡ made t)
 abbrev pub IsOfData : Target → Type 0
 IsOfData target = (p : Term) → target ≡ plain (constant (Page p)) → ⊥
 
+-- a node that is written out as a constant
+abbrev pub IsNodeWritten : Target → Type 0
+IsNodeWritten target = (n : Name) × (target ≡ plain (constant (Data (Node n))))
+
 -- what is checked of a block
 pub record IsCheckedBlock (version : ℕ) (s : QueryBlock) : Type 0 where
   pub chain : s.chain ≡ chain_of version s.chain.conditions
@@ -43,6 +49,10 @@ pub record IsCheckedBlock (version : ℕ) (s : QueryBlock) : Type 0 where
   pub sources : (k : Link) → Contains (map link_of s.links.items) k → IsMade k.source
   pub targets : (k : Link) → Contains (map link_of s.links.items) k → IsOfData k.target
   pub puts : (k : Collect) → Contains (map collect_of s.collects.items) k → IsOfData k.target
+  pub no_linked_node : (k : Link) → Contains (map link_of s.links.items) k
+      → IsNodeWritten k.target → ⊥
+  pub no_put_node : (k : Collect) → Contains (map collect_of s.collects.items) k
+      → IsNodeWritten k.target → ⊥
 
 -- all of that of each block
 abbrev pub AreCheckedBlocks : ℕ → List QueryBlock → Type 0

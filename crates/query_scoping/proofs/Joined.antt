@@ -4,15 +4,17 @@ use Rattle.std.specs.Prelude.{Contains, All}
 use Rattle.std.specs.List.{flat_map}
 use Rattle.std.proofs.lemmas.List.Elements.{Contains-append_left, Contains-append_right, Contains-append_cases}
 use Rattle.sd_value.specs.declared.Value.{Value}
-use Rattle.sd_value.specs.declared.Value.TheVariants.{Page}
+use Rattle.sd_value.specs.Names.{Name}
+use Rattle.sd_value.specs.declared.Datum.TheVariants.{Node}
+use Rattle.sd_value.specs.declared.Value.TheVariants.{Data, Page}
 use Rattle.sd_value.specs.Members.{Contains-nil, Contains-here, Contains-there, Contains-cons_cases, Contains-mapped, Contains-flat_mapped}
-use Rattle.query_spec.specs.Query.{Target, Link, Collect, Condition, Body, Chain, Blocks, no_blocks, block, Query, with_outer, blocks_in_scope}
+use Rattle.query_spec.specs.Query.{Target, plain, constant, Link, Collect, Condition, Body, Chain, Blocks, no_blocks, block, Query, with_outer, blocks_in_scope}
 use Rattle.query_spec.specs.Mentions.{IsDeclared, IsWellMade, chain_of}
 use Rattle.site_spec.specs.Site.{Scope}
 use Rattle.struql_check.specs.Parsed.{IsParsed, IsWritable, constants, condition_constants, term_constants, link_constants, target_constants, bodies_within}
 use Rattle.query_scoping.specs.Blocks.{IsSafe, HaveChains}
 use Rattle.query_blocks.specs.declared.QueryBlock.{QueryBlock}
-use Rattle.query_blocks.specs.Blocks.{body_of, IsCheckedBlock, AreCheckedBlocks, IsOfData}
+use Rattle.query_blocks.specs.Blocks.{body_of, IsCheckedBlock, AreCheckedBlocks, IsOfData, IsNodeWritten}
 
 at_of : {X : Type 0} (P : X → Type 0) (xs : List X) (x : X) → All P xs → Contains xs x → P x
 at_of P xs x all h = subst P h.2 (all h.0 x h.1)
@@ -37,8 +39,16 @@ own outer (block body inner after) b h =
     (Contains-append_cases (with_outer within inner) (with_outer outer after) b k))
     (Contains-cons_cases (record body { conditions = outer ++ body.conditions }) (with_outer within inner ++ with_outer outer after) b h)
 
-of_data : (t : Target) → ((v : Value) → Contains (target_constants t) v → IsWritable v) → IsOfData t
-of_data t w p e = let at = subst (λ (t : Target). (v : Value) → Contains (target_constants t) v → IsWritable v) e w in at (Page p) (Contains-here (Page p) [])
+module _ (t : Target) (w : (v : Value) → Contains (target_constants t) v → IsWritable v) where
+  writable_constant : (v : Value) → t ≡ plain (constant v) → IsWritable v
+  writable_constant v e =
+      subst (λ (t : Target). (v : Value) → Contains (target_constants t) v → IsWritable v) e w v (Contains-here v [])
+
+  of_data : IsOfData t
+  of_data p e = writable_constant (Page p) e
+
+  no_node : IsNodeWritten t → ⊥
+  no_node (n, e) = writable_constant (Data (Node n)) e
 
 abbrev puts_constants : Collect → List Value
 puts_constants o = target_constants o.target
@@ -58,15 +68,16 @@ put_constant o k v h i =
 writable_at : (q : Query) (o : Body) (v : Value) → IsParsed q → Contains (bodies_within q.blocks) o → Contains (constants o) v → IsWritable v
 writable_at q o v p h i = at_of IsWritable (constants o) v (at_of (λ b. All IsWritable (constants b)) (bodies_within q.blocks) o p.writable h) i
 
-link_of_data : (q : Query) (b : Body) (k : Link) → IsParsed q → Contains (blocks_in_scope q) b → Contains b.links k → IsOfData k.target
-link_of_data q b k p h i =
-    let o = own [] q.blocks b h in
-    of_data k.target (λ v c. writable_at q o.0 v p o.1 (link_constant o.0 k v (subst (λ (ks : List Link). Contains ks k) (sym o.2) i) c))
+module _ (q : Query) (b : Body) (p : IsParsed q) (h : Contains (blocks_in_scope q) b) where
+  link_writable : (k : Link) → Contains b.links k → (v : Value) → Contains (target_constants k.target) v → IsWritable v
+  link_writable k i v c =
+      let o = own [] q.blocks b h in
+      writable_at q o.0 v p o.1 (link_constant o.0 k v (subst (λ (ks : List Link). Contains ks k) (sym o.2) i) c)
 
-put_of_data : (q : Query) (b : Body) (k : Collect) → IsParsed q → Contains (blocks_in_scope q) b → Contains b.collects k → IsOfData k.target
-put_of_data q b k p h i =
-    let o = own [] q.blocks b h in
-    of_data k.target (λ v c. writable_at q o.0 v p o.1 (put_constant o.0 k v (subst (λ (ks : List Collect). Contains ks k) (sym o.3) i) c))
+  put_writable : (k : Collect) → Contains b.collects k → (v : Value) → Contains (target_constants k.target) v → IsWritable v
+  put_writable k i v c =
+      let o = own [] q.blocks b h in
+      writable_at q o.0 v p o.1 (put_constant o.0 k v (subst (λ (ks : List Collect). Contains ks k) (sym o.3) i) c)
 
 -- ---- one block
 
@@ -76,8 +87,10 @@ scoped_one q b p h e s = record {
   well_made = subst IsWellMade (sym e) s.well_made;
   terms = λ t i. subst (λ (c : Chain). All (IsDeclared c.variables) t.args) (sym e) (s.terms t i);
   sources = λ k i. s.sources k i;
-  targets = λ k i. link_of_data q (body_of b) k p h i;
-  puts = λ k i. put_of_data q (body_of b) k p h i;
+  targets = λ k i. of_data k.target (link_writable q (body_of b) p h k i);
+  puts = λ k i. of_data k.target (put_writable q (body_of b) p h k i);
+  no_linked_node = λ k i. no_node k.target (link_writable q (body_of b) p h k i);
+  no_put_node = λ k i. no_node k.target (put_writable q (body_of b) p h k i);
 }
 
 pub all_scoped : (q : Query) (xs : List QueryBlock) → IsParsed q → map body_of xs ≡ blocks_in_scope q → HaveChains q.version xs

@@ -1,5 +1,6 @@
 // The page of a term.
-ghost use Rattle.std.specs.Prelude.{◌≡◌, ◌↔◌, ◌≤◌, ◌<◌, ◌++◌, ◌+◌, ℕ, Bool, true, false, List, [], All, Contains, IfOk, IsTrue, MatchOption, Some, None, length, if◌then◌else◌, is_some, ◌^◌};
+ghost use Rattle.std.specs.Prelude.{◌≡◌, ◌↔◌, ◌≤◌, ◌<◌, ◌++◌, ◌+◌, ℕ, Bool, true, false, List, [], All, Contains};
+ghost use Rattle.std.specs.Prelude.{IfOk, IsTrue, MatchOption, Some, None, length, if◌then◌else◌, is_some, ◌^◌};
 ghost use Rattle.std.specs.BTreeMap.{get, btree_map_len};
 ghost use Rattle.sd_value.specs.declared.Value.{Value as AnyValue};
 ghost use Rattle.sd_value.specs.Order.{value_cmp};

@@ -11,7 +11,9 @@ use Rattle.ddl_text.specs.Text.{TextStates}
 use Rattle.sd_ddl.specs.declared.conflict.Stop.{Stop}
 use Rattle.sd_ddl.specs.declared.conflict.Stop.TheVariants as stops
 use Rattle.sd_ddl.specs.declared.refusal.DdlRefusal.{DdlRefusal}
-use Rattle.sd_ddl.specs.declared.refusal.DdlRefusal.TheVariants.{TooLong, BadByte, OpenString, IntOutOfRange, Expected, KindConflict, TooManyEdges, TooManyNodes, NoMemory}
+use Rattle.sd_ddl.specs.declared.refusal.DdlRefusal.TheVariants.{TooLong, BadByte, OpenString, IntOutOfRange}
+use Rattle.sd_ddl.specs.declared.refusal.DdlRefusal.TheVariants.{Expected, KindConflict, TooManyEdges, TooManyNodes}
+use Rattle.sd_ddl.specs.declared.refusal.DdlRefusal.TheVariants.{NoMemory}
 use Rattle.sd_ddl.specs.Parts.{parts}
 use Rattle.sd_ddl.specs.Stops.{Takes}
 

@@ -9,7 +9,7 @@ use sd_graph::GraphBuilder;
 use std::alloc::Global;
 
 /// Adds what a text of at most `limit` bytes states. A text that is refused for its bytes, its tokens or a conflict of
-/// kinds leaves the graph as it was; where something doesn't fit or memory runs out, the graph has what was before.
+/// kinds leaves the graph as it was; where something doesn't fit or it is out of memory, the graph has what was before.
 pub fn read_ddl(
     alloc: Global,
     bytes: &[u8],

@@ -4,7 +4,8 @@ ghost use Rattle.std.specs.List.{flat_map};
 ghost use Rattle.std.specs.Fmt.{signed_decimal};
 ghost use Rattle.sd_ddl.specs.Kinds.{Name};
 ghost use Rattle.sd_ddl.specs.Groups.{items_of};
-ghost use Rattle.sd_ddl.specs.Written.{quoted_byte, quoted, value_text, step_line, further_text, in_text, object_text, collections_of, steps_out, graph_text};
+ghost use Rattle.sd_ddl.specs.Written.{quoted_byte, quoted, value_text, step_line, further_text, in_text};
+ghost use Rattle.sd_ddl.specs.Written.{object_text, collections_of, steps_out, graph_text};
 
 use crate::groups::{Groups, group_edges, group_members};
 use itoa::Buffer;

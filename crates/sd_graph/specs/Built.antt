@@ -1,5 +1,6 @@
 -- What is stated keeps a graph well formed.
-use Rattle.std.specs.Prelude.{◌≡◌, ◌⊎◌, ◌≤◌, ◌+◌, ℕ, List, [], length, Contains, Result, Ok, Err, Some, ⊤, is_ok, is_err, false, if◌then◌else◌}
+use Rattle.std.specs.Prelude.{◌≡◌, ◌⊎◌, ◌≤◌, ◌+◌, ℕ, List, [], length, Contains, Result, Ok, Err, Some, ⊤, is_ok}
+use Rattle.std.specs.Prelude.{is_err, false, if◌then◌else◌}
 use Rattle.std.specs.List.Sorted.{IsStrictlySortedBy}
 use Rattle.std.proofs.Common.{refl, sym, ap, subst, ◌∙◌, inl, inr, arith}
 use Rattle.sd_value.specs.declared.Datum.TheVariants.{Node}
@@ -12,7 +13,8 @@ use Rattle.graph_spec.specs.DataGraph.{DataGraph, Name, IsWellFormed, IsEnd}
 use Rattle.graph_spec.specs.Orders.{edge_cmp, edge_cmp-total, member_cmp, member_cmp-total}
 use Rattle.graph_spec.specs.declared.Edge.{Edge}
 use Rattle.graph_spec.specs.declared.Member.{Member}
-use Rattle.sd_graph.specs.Statement.{Statement, a_node, a_member, an_edge, Building, building_with, graph_with, with_name, with_end, Adds, Fits, IsData, IsBuilt, IsStatedIn, Refuses}
+use Rattle.sd_graph.specs.Statement.{Statement, a_node, a_member, an_edge, Building, building_with, graph_with}
+use Rattle.sd_graph.specs.Statement.{with_name, with_end, Adds, Fits, IsData, IsBuilt, IsStatedIn, Refuses}
 use Rattle.sd_graph.specs.Inserted.{inserted-there, inserted-cases, inserted-here, inserted-known, inserted-ascends}
 use Rattle.sd_graph.specs.declared.Limits.{Limits}
 use Rattle.sd_graph.specs.declared.GraphRefusal.{GraphRefusal}
@@ -179,7 +181,7 @@ module _ (G : DataGraph) (well : IsWellFormed G) where
       }) G.edges well.edges_ascend h in
       λ i. record { nodes = nodes i; edges = edges i; members = G.members }
 
--- what a graph says already is accepted, unless memory runs out, and changes nothing
+-- what a graph says already is accepted, unless it is out of memory, and changes nothing
 pub known_accepted : (s : Statement) (b c : Building) (r : Result ⊤ GraphRefusal) → IsBuilt b
     → IsStatedIn b.graph s → Adds s b c r → (c ≡ b) × ((r ≡ Ok tt) ⊎ (r ≡ Err NoMemory))
 known_accepted s b c (Ok u) built h a = (

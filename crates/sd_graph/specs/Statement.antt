@@ -70,7 +70,7 @@ Refuses l nodes edges (Some TooManyNodes) = l.nodes < nodes
 Refuses l nodes edges (Some TooManyEdges) = (nodes ≤ l.nodes) × (l.edges < edges)
 Refuses l nodes edges (Some NoMemory) = ⊥
 
--- the same of an answer that may also report that memory ran out
+-- the same of an answer that may also be out of memory
 abbrev pub Fits : Limits → ℕ → ℕ → Result ⊤ GraphRefusal → Type 0
 Fits l nodes edges (Ok u) = (nodes ≤ l.nodes) × (edges ≤ l.edges)
 Fits l nodes edges (Err TooManyNodes) = l.nodes < nodes

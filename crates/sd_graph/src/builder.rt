@@ -3,7 +3,8 @@ ghost use Rattle.std.specs.Prelude.{◌≡◌, ◌⊎◌, IfOk, Ok, Err, ⊤, if
 ghost use Rattle.std.specs.Result.{is_ok};
 ghost use Rattle.sd_graph.specs.declared.GraphRefusal.{GraphRefusal as Refusal};
 ghost use Rattle.sd_graph.specs.declared.GraphRefusal.TheVariants.{NoMemory as OutOfMemory};
-ghost use Rattle.sd_graph.specs.Statement.{Statement, Building, a_node, a_member, an_edge, Adds, IsData, IsStatedIn, with_name, with_end, IsEmpty, IsBuilt};
+ghost use Rattle.sd_graph.specs.Statement.{Statement, Building, a_node, a_member, an_edge, Adds, IsData, IsStatedIn};
+ghost use Rattle.sd_graph.specs.Statement.{with_name, with_end, IsEmpty, IsBuilt};
 ghost use Rattle.sd_graph.specs.Undone.{without, without_end};
 
 use crate::gathered::{Gathered, listed};
@@ -247,7 +248,7 @@ impl GraphBuilder {
     }
 }
 
-/// What a graph says already is accepted, unless memory runs out, and changes nothing.
+/// What a graph says already is accepted, unless it is out of memory, and changes nothing.
 pub fn known_statements_change_nothing()
     ensures { (s : Statement) (b c : Building) (r : Result ⊤ Refusal) → IsBuilt b
         → IsStatedIn b.graph s

@@ -4,7 +4,8 @@ use Rattle.edge_io.specs.Sink.{Gains, GainsPart}
 use Rattle.serving_spec.specs.declared.HubEnd.{HubEnd}
 use Rattle.serving_spec.specs.declared.HubEnd.TheVariants as end
 use Rattle.run_report.specs.declared.status.Status.{Status}
-use Rattle.run_report.specs.declared.status.Status.TheVariants.{Ok, NotAllYes, Usage, Refused, ReadFault, WriteFault, WireFault, PageFault, NoMemory, NotFound, TurnsSpent}
+use Rattle.run_report.specs.declared.status.Status.TheVariants.{Ok, NotAllYes, Usage, Refused, ReadFault, WriteFault}
+use Rattle.run_report.specs.declared.status.Status.TheVariants.{WireFault, PageFault, NoMemory, NotFound, TurnsSpent}
 
 -- the text was put whole, or the output failed in it
 abbrev pub IsPut : Type 0 → Option (List ℕ) → Option (List ℕ) → List ℕ → Type 0

@@ -91,7 +91,7 @@ module _ {D : Type 0} (site : D → Site) (templates : D → TemplateFile) (text
       (between : Kept) × Keeps (LooksAt current) (RenewsAt current) event made before between
       × AllKept (state_after texts.changed event current) events makes between after
 
--- Which of the events were taken: all, but for a text at the end that memory ran out for.
+-- Which of the events were taken: all, but for a text at the end that it was out of memory for.
 abbrev pub AreTaken : HubEnd → List WireEvent → List WireEvent → Type 0
 AreTaken ended events taken =
     (taken ≡ events)

@@ -5,7 +5,8 @@ use Rattle.std.specs.Cmp.{IsTotalOrder}
 use Rattle.std.specs.FinMap.{IsAntisymmetric}
 use Rattle.std.proofs.lemmas.Cmp.{on_total, then_total}
 use Rattle.sd_value.specs.Order.{bytes_cmp, term_cmp, value_cmp}
-use Rattle.sd_value.specs.OrderLaws.{bytes_cmp-total, bytes_cmp-exact, term_cmp-total, term_cmp-exact, value_cmp-total, value_cmp-exact, both_tie}
+use Rattle.sd_value.specs.OrderLaws.{bytes_cmp-total, bytes_cmp-exact, term_cmp-total, term_cmp-exact}
+use Rattle.sd_value.specs.OrderLaws.{value_cmp-total, value_cmp-exact, both_tie}
 use Rattle.site_build.specs.declared.ordered.Joined.{Joined}
 use Rattle.site_build.specs.declared.ordered.Put.{Put}
 

@@ -7,7 +7,7 @@ use Rattle.files_spec.specs.Paths.{file_name, page_path}
 use Rattle.files_spec.specs.declared.stop.Stop.{Stop}
 use Rattle.files_spec.specs.declared.stop.Stop.TheVariants.{Faulty, Unwritten, NoMemory}
 
--- the page has no file, or memory ran out
+-- the page has no file, or it was out of memory
 abbrev pub IsNameless : Term → Stop → Type 0
 IsNameless t (Faulty term kind) = (term ≡ t) × (kind ≡ LongName) × HasLongSegment (file_name t)
 IsNameless t Unwritten = ⊥

@@ -42,7 +42,7 @@ pub then_decides : {A B : Type 0} (First : Result A Fault → Type 0) (Next : A 
     → Decides First → ((a : A) → Decides (Next a)) → Decides (Then First Next)
 then_decides First Next first next = record { once = then_once First Next first next }
 
--- want of memory is no decided end
+-- out of memory is no decided end
 pub no_memory : {A : Type 0} (result : Result A Fault) → result ≡ Err NoMemory → IsDecided result → ⊥
 no_memory result is decided = rw is at decided
 

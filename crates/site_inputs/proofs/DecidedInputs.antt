@@ -187,6 +187,14 @@ module _ (path bytes : List ℕ) where
   templates_once one (Err NotFound) s t d e = absurd t
   templates_once one (Err (Faulty term kind)) s t d e = absurd t
 
+-- the text of a query
+pub query_taken_decides : (path bytes : List ℕ) → Decides (QueryTaken path bytes)
+query_taken_decides path bytes = record { once = query_once path bytes }
+
+-- and that of templates
+pub templates_taken_decides : (path bytes : List ℕ) → Decides (TemplatesTaken path bytes)
+templates_taken_decides path bytes = record { once = templates_once path bytes }
+
 templates_decides : (map : FileMap) (path : List ℕ) → Decides (TemplatesEnd map path)
 templates_decides map path = then_decides (FileEnds text_limit map path) (TemplatesTaken path) (file_decides text_limit map path) (λ bytes. record { once = templates_once path bytes })
 

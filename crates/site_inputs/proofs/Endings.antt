@@ -23,7 +23,7 @@ err_ok f a same = cc
 pub not_both : {A : Type 0} (Ends : Result A Fault → Type 0) → Decides Ends → (a : A) (reason : Fault) → Ends (Ok a) → Ends (Err reason) → IsDecidedFault reason → ⊥
 not_both Ends decides a reason taken refused decided = err_ok reason a (decides.once (Err reason) (Ok a) refused taken decided tt)
 
--- the reason that a run ended for, where no read failed: it is the one that the inputs decide, or want of memory
+-- the reason that a run ended for, where no read failed: it is the one that the inputs decide, or out of memory
 pub by_reason : {A : Type 0} (Ends : Result A Fault → Type 0) → Decides Ends → (paths : List (List ℕ)) (before after : Host) → AllRead paths before after → (given : Fault) → ReadRose paths before.failed_reads after.failed_reads (status_of given) → Ends (Err given)
     → (reason : Fault) → Ends (Err reason) → IsDecidedFault reason → HasStatus (status_of reason) (status_of given)
 by_reason {A} Ends decides paths before after all (fault.Refused r) read ended reason refused decided = inl (ap status_of (err_same A (fault.Refused r) reason (decides.once (Err (fault.Refused r)) (Err reason) ended refused tt decided)))

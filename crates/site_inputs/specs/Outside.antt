@@ -55,6 +55,6 @@ AllRead paths before after =
     (path : List ℕ) → Contains paths path
     → ¬ Rose (before.failed_reads path) (after.failed_reads path)
 
--- the run has this status, or memory ran out
+-- the run has this status, or it was out of memory
 abbrev pub HasStatus : (wanted reached : Status) → Type 0
 HasStatus wanted reached = (reached ≡ wanted) ⊎ (reached ≡ status.NoMemory)

@@ -21,7 +21,7 @@ abbrev pub Then
 Then First Next (Ok b) = Both First Next (Ok b)
 Then First Next (Err fault) = First (Err fault) ⊎ Both First Next (Err fault)
 
--- a part that ends with this value, unless memory runs out
+-- a part that ends with this value, unless it is out of memory
 abbrev pub Gives : {A : Type 0} → A → Result A Fault → Type 0
 Gives value result = (result ≡ Ok value) ⊎ (result ≡ Err NoMemory)
 

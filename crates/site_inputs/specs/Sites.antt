@@ -27,7 +27,7 @@ use Rattle.site_inputs.specs.Sources.{GraphEnds, empty_building}
 
 -- ---- the query
 
--- the number and the place of a refused spelling; none where memory ran out
+-- the number and the place of a refused spelling; none where it was out of memory
 abbrev pub parse_told : ParseRefusal → Option Told
 parse_told (parse.TooLong at) = Some (record { number = 24; at = at })
 parse_told (parse.BadByte at) = Some (record { number = 21; at = at })

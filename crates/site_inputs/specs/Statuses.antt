@@ -2,7 +2,8 @@
 use Rattle.std.specs.Prelude.{ℕ, List, Contains, ⊤}
 use Rattle.edge_io.specs.Counts.{Rose}
 use Rattle.run_report.specs.declared.status.Status.{Status}
-use Rattle.run_report.specs.declared.status.Status.TheVariants.{Ok, Refused, ReadFault, WriteFault, PageFault, NoMemory, NotFound, NotAllYes, WireFault, TurnsSpent}
+use Rattle.run_report.specs.declared.status.Status.TheVariants.{Ok, Refused, ReadFault, WriteFault, PageFault}
+use Rattle.run_report.specs.declared.status.Status.TheVariants.{NoMemory, NotFound, NotAllYes, WireFault, TurnsSpent}
 use Rattle.site_inputs.specs.declared.fault.Fault.{Fault}
 use Rattle.site_inputs.specs.declared.fault.Fault.TheVariants as fault
 

@@ -8,5 +8,5 @@ mod told;
 
 pub use fault::{Fault, Refusal, refused, unread};
 pub use inputs::{load_graph, read_file};
-pub use site::{SiteInputs, load_inputs, load_query};
+pub use site::{SiteInputs, load_inputs, load_query, take_query, take_templates};
 pub use told::Told;

@@ -30,7 +30,10 @@ pub struct SiteInputs {
     pub templates: Templates,
 }
 
-fn take_query(alloc: Global, path: &Str, bytes: &[u8]) -> Result<Checked, Fault>
+/// The checked query that a text spells.
+/// # Errors
+/// A text that is refused, with the file's path, or out of memory.
+pub fn take_query(alloc: Global, path: &Str, bytes: &[u8]) -> Result<Checked, Fault>
     ensures { QueryTaken path.now bytes.now result }
 {
     match read_query(alloc, bytes, TEXT_LIMIT) {
@@ -56,7 +59,10 @@ pub fn load_query<F: Files>(alloc: Global, files: &mut F, path: &Str) -> Result<
     take_query(alloc, path, bytes.bytes())
 }
 
-fn take_templates(alloc: Global, path: &Str, bytes: &[u8]) -> Result<Templates, Fault>
+/// The templates that a text spells.
+/// # Errors
+/// A text that is refused, with the file's path, or out of memory.
+pub fn take_templates(alloc: Global, path: &Str, bytes: &[u8]) -> Result<Templates, Fault>
     ensures { TemplatesTaken path.now bytes.now (file_result result) }
 {
     match read_templates(alloc, bytes, TEXT_LIMIT) {

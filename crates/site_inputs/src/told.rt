@@ -96,7 +96,7 @@ fn told_of_check(refusal: &CheckRefusal) -> Option<Told>
     }
 }
 
-/// What a refused query reports; none where memory ran out.
+/// What a refused query reports; none where it was out of memory.
 pub fn told_of_query(refusal: &QueryRefusal) -> Option<Told>
     ensures { result ≡ query_told refusal.now }
 {
@@ -106,7 +106,7 @@ pub fn told_of_query(refusal: &QueryRefusal) -> Option<Told>
     }
 }
 
-/// What a refused file of templates reports; none where memory ran out.
+/// What a refused file of templates reports; none where it was out of memory.
 pub fn told_of_templates(refusal: &TmplRefusal) -> Option<Told>
     ensures { result ≡ templates_told refusal.now }
 {

@@ -64,7 +64,8 @@ pub fn findings_of<S: Store, L: LinkAnswers>(
     requires rows { AreWithoutRows (S.graph site.now.store.now)
         site.now.blocks.now.blocks.items site.now.without_rows.now }
     ensures { IfOk result (λ found. AreFindings (IsMistake (S.graph site.now.store.now)
-        (scope_of site.now.blocks.now) (file_of site.now.templates.now)) claims.now found.items) }
+        (scope_of site.now.blocks.now) (file_of site.now.templates.now) site.now.further.now)
+        claims.now found.items) }
 {
     let mut found = Vec::new(alloc);
     for claim in claims {

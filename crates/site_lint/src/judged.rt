@@ -21,14 +21,15 @@ use std::alloc::Global;
 use store::Store;
 use tmpl::Templates;
 
-/// A site whose texts are judged: its data, what answers for its links, its blocks, its templates
-/// and its names, and for each block whether it has no row.
+/// A site whose texts are judged: its data, what answers for its links, its blocks, its templates and
+/// the labels by which their words go on, its names, and for each block whether it has no row.
 #[derive(Drop)]
 pub struct LintedSite<'a, S, L> {
     pub store: &'a S,
     pub links: &'a L,
     pub blocks: &'a QueryBlocks,
     pub templates: &'a Templates,
+    pub further: &'a [Str],
     pub names: &'a SiteNames,
     pub without_rows: &'a [bool],
 }
@@ -119,6 +120,45 @@ fn is_unknown_step<S: Store, L: LinkAnswers>(
     }
 }
 
+// Whether no link of the function may carry one of the labels.
+fn has_no_link<L: LinkAnswers>(
+    alloc: Global,
+    links: &L,
+    function: &Str,
+    labels: &[Str],
+) -> Result<bool, NoMemory>
+    requires { L.Own links.now }
+    ensures { IfOk result (λ none. IsTrue none ↔ ((l : List ℕ) → Contains labels.now l
+        → NoLinkOf (L.query links.now) function.now l)) }
+{
+    for label in labels {
+        if !links.has_none(alloc, function, label)? {
+            return Ok(false);
+        }
+    }
+    Ok(true)
+}
+
+// Whether no template presents the function's pages, and no word goes on from them.
+fn leads_nowhere<L: LinkAnswers>(
+    alloc: Global,
+    links: &L,
+    presented: &[Str],
+    further: &[Str],
+    function: &Str,
+) -> Result<bool, NoMemory>
+    requires { L.Own links.now }
+    ensures { IfOk result (λ b. IsTrue b ↔ (Contains presented.now function.now → ⊥)
+        × ((l : List ℕ) → Contains further.now l
+        → NoLinkOf (L.query links.now) function.now l)) }
+{
+    if is_absent(presented, function) {
+        has_no_link(alloc, links, function, further)
+    } else {
+        Ok(false)
+    }
+}
+
 /// Whether what is asked for isn't there.
 /// # Errors
 /// Out of memory.
@@ -136,7 +176,8 @@ pub(crate) fn is_mistake<S: Store, L: LinkAnswers>(
     requires rows { AreWithoutRows (S.graph site.now.store.now)
         site.now.blocks.now.blocks.items site.now.without_rows.now }
     ensures { IfOk result (λ b. IsTrue b ↔ IsMistake (S.graph site.now.store.now)
-        (scope_of site.now.blocks.now) (file_of site.now.templates.now) what.now) }
+        (scope_of site.now.blocks.now) (file_of site.now.templates.now) site.now.further.now
+        what.now) }
 {
     let names = site.names;
     match what {
@@ -156,7 +197,9 @@ pub(crate) fn is_mistake<S: Store, L: LinkAnswers>(
         Asked::Created(function) => {
             Ok(is_absent(&names.reached, function) && is_other(&names.root, function))
         }
-        Asked::Linked(function) => Ok(is_absent(&names.presented, function)),
+        Asked::Linked(function) => {
+            leads_nowhere(alloc, site.links, &names.presented, site.further, function)
+        }
         Asked::Presented(function) => Ok(is_absent(&names.created, function)),
         Asked::LinkOf { function, label } => site.links.has_none(alloc, function, label),
         Asked::Step(label) => {

@@ -17,6 +17,11 @@ changed = (data_texts the_reader).changed
 abbrev pub accepts : PageFixed → List ℕ → Bool
 accepts = (data_texts the_reader).accepts
 
+-- pages over the same data, query and templates have one meaning
+pub same_fixed : (f : PageFixed) (graph : DataGraph) (scope : Scope) (templates : TemplateFile) → f.graph ≡ graph → f.scope ≡ scope → f.templates ≡ templates
+    → f ≡ record { graph = graph; scope = scope; templates = templates }
+same_fixed f graph scope templates graph_is scope_is templates_are = λ i. record { graph = graph_is i; scope = scope_is i; templates = templates_are i }
+
 -- the data where the reader accepts the text or not
 abbrev pub by_test : PageFixed → List ℕ → Bool → PageFixed
 by_test f text test = record f { graph = if test then the_reader.stated text else f.graph }

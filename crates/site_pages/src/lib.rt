@@ -8,10 +8,11 @@ ghost use Rattle.click_time.specs.Page.{PageFixed, page_site};
 ghost use Rattle.data_change.proofs.TheReader.{the_reader};
 ghost use Rattle.site_pages.specs.Texts.{data_texts};
 
-use bindings::StoreAsker;
-use click_time::Click;
+mod made;
+
 use data_change::read_change;
-use index_store::IndexStore;
+pub use made::PageSource;
+use made::{MadePages, pages_over};
 use page_spec::Outcome;
 use query_blocks::QueryBlocks;
 use sd_graph::Graph;
@@ -21,33 +22,13 @@ use std::alloc::Global;
 use tmpl::Templates;
 use versions::{Changed, Same, Versions};
 
-/// The pages of a query's site, each from its own demand, over data that an accepted data text replaces.
+/// The pages of a query's site, over data that an accepted data text replaces.
 #[derive(Drop)]
 pub struct SitePages<'q> {
-    click: Click<'q, StoreAsker<IndexStore>>,
+    pages: MadePages<'q>,
+    source: PageSource,
     scopes: &'q QueryBlocks,
     templates: &'q Templates,
-}
-
-// The pages over these data.
-fn click_over<'q>(
-    alloc: Global,
-    graph: Graph,
-    scopes: &'q QueryBlocks,
-    templates: &'q Templates,
-) -> Result<Click<'q, StoreAsker<IndexStore>>, NoMemory>
-    requires { AreCheckedBlocks scopes.now.version scopes.now.blocks.items }
-    ensures fixed { IfOk result (λ click.
-        ⟦<Click<'q, StoreAsker<IndexStore>> as Pages>⟧.fixed click ≡ record {
-          graph = graph;
-          scope = scope_of scopes.now;
-          templates = file_of templates.now;
-        }) }
-    ensures own { IfOk result (λ click.
-        ⟦<Click<'q, StoreAsker<IndexStore>> as Pages>⟧.Own click) }
-{
-    let store = IndexStore::of(alloc, graph)?;
-    Ok(Click::of(alloc, StoreAsker::of(store), scopes, templates))
 }
 
 // As many times false as there are terms.
@@ -72,6 +53,7 @@ impl<'q> SitePages<'q> {
         graph: Graph,
         scopes: &'q QueryBlocks,
         templates: &'q Templates,
+        source: PageSource,
     ) -> Result<SitePages<'q>, NoMemory>
         requires { AreCheckedBlocks scopes.now.version scopes.now.blocks.items }
         ensures state { IfOk result (λ pages. ⟦<SitePages<'q> as Versions>⟧.state pages ≡ record {
@@ -81,9 +63,10 @@ impl<'q> SitePages<'q> {
         }) }
         ensures own { IfOk result (λ pages. ⟦<SitePages<'q> as Versions>⟧.Own pages) }
     {
-        let click = click_over(alloc, graph, scopes, templates)?;
+        let pages = pages_over(alloc, graph, scopes, templates, source)?;
         Ok(SitePages {
-            click,
+            pages,
+            source,
             scopes,
             templates,
         })
@@ -95,7 +78,7 @@ impl<'q> Versions for SitePages<'q> {
 
     ghost Cache = { Unit {0} };
 
-    ghost state = { λ s. ⟦<Click<'q, StoreAsker<IndexStore>> as Pages>⟧.fixed s.click };
+    ghost state = { λ s. ⟦<MadePages<'q> as Pages>⟧.fixed s.pages };
 
     ghost cache = { λ s. record {} };
 
@@ -115,24 +98,24 @@ impl<'q> Versions for SitePages<'q> {
 
     ghost found = { λ cache. 0 };
 
-    ghost Own = { λ s. ⟦<Click<'q, StoreAsker<IndexStore>> as Pages>⟧.Own s.click
+    ghost Own = { λ s. ⟦<MadePages<'q> as Pages>⟧.Own s.pages
         × AreCheckedBlocks s.scopes.now.version s.scopes.now.blocks.items
-        × ((⟦<Click<'q, StoreAsker<IndexStore>> as Pages>⟧.fixed s.click).scope
+        × ((⟦<MadePages<'q> as Pages>⟧.fixed s.pages).scope
         ≡ scope_of s.scopes.now)
-        × ((⟦<Click<'q, StoreAsker<IndexStore>> as Pages>⟧.fixed s.click).templates
+        × ((⟦<MadePages<'q> as Pages>⟧.fixed s.pages).templates
         ≡ file_of s.templates.now) };
 
     fn page(&mut self, alloc: Global, term: &Term) -> Result<Outcome, NoMemory> {
-        self.click.page(alloc, term)
+        self.pages.page(alloc, term)
     }
 
-    /// The new data are loaded and indexed whole before the old ones go.
+    /// The new data are loaded and indexed before the old ones go, and so is the site made whole, where pages come from it.
     fn change(&mut self, alloc: Global, text: &Str, kept: &[Term]) -> Result<Changed, NoMemory> {
         let Some(graph) = read_change(alloc, text)? else {
             return Ok(Changed::Refused);
         };
         let flags = none_stays(alloc, kept)?;
-        self.click = click_over(alloc, graph, self.scopes, self.templates)?;
+        self.pages = pages_over(alloc, graph, self.scopes, self.templates, self.source)?;
         Ok(Changed::Taken(Same { flags }))
     }
 

@@ -1,4 +1,4 @@
-//! The pages of a site over data that texts may change, each from its own demand, served over a wire.
+//! The pages of a site over data that texts may change, served over a wire.
 #![tactic(auto)]
 
 ghost use Rattle.std.specs.Prelude.{◌≡◌, ◌⊎◌, IfOk, OnErr};
@@ -17,6 +17,7 @@ use sd_value::{NoMemory, Str};
 use serve_run::{NO_TALLY, serve_pages};
 use serving_spec::{HubEnd, Served};
 use site_inputs::SiteInputs;
+pub use site_pages::PageSource;
 use site_pages::SitePages;
 use std::alloc::Global;
 use wire::Wire;
@@ -36,6 +37,7 @@ fn serve_inputs<W: Wire>(
     alloc: Global,
     inputs: SiteInputs,
     limits: &RunLimits,
+    source: PageSource,
     wire: &mut W,
 ) -> Result<Served, NoMemory>
     requires { AreLimits limits.now }
@@ -51,7 +53,7 @@ fn serve_inputs<W: Wire>(
 {
     let scopes = scopes(alloc, &inputs.query)?;
     let root = root_function(alloc, &scopes)?;
-    let pages = SitePages::of(alloc, inputs.graph, &scopes, &inputs.templates)?;
+    let pages = SitePages::of(alloc, inputs.graph, &scopes, &inputs.templates, source)?;
     let served = serve_pages(
         alloc,
         pages,
@@ -65,11 +67,13 @@ fn serve_inputs<W: Wire>(
 }
 
 /// Serves the pages of the site of the query over the data to the connections of a wire, within the limits. A text that is
-/// an accepted data text replaces all data, and any other changes nothing. It never calls `listen` and `watch`.
+/// an accepted data text replaces all data, and any other changes nothing. Whatever the pages are made from, their bytes are
+/// the same. It never calls `listen` and `watch`.
 pub fn serve_site<W: Wire>(
     alloc: Global,
     inputs: SiteInputs,
     limits: &RunLimits,
+    source: PageSource,
     wire: &mut W,
 ) -> Served
     requires { AreLimits limits.now }
@@ -82,7 +86,7 @@ pub fn serve_site<W: Wire>(
     ensures failed { result.end ≡ HubEnd.WireFailed
         → Rose (W.told wire.old).next_faults (W.told wire.new).next_faults }
 {
-    match serve_inputs(alloc, inputs, limits, wire) {
+    match serve_inputs(alloc, inputs, limits, source, wire) {
         Ok(served) => served,
         Err(NoMemory) => Served {
             end: HubEnd::NoMemory,

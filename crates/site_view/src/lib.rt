@@ -10,7 +10,8 @@ ghost use Rattle.tmpl.specs.Body.{TemplateFile};
 ghost use Rattle.page_spec.specs.Site.{Site, MayStart};
 ghost use Rattle.page_spec.specs.Pieces.{HasTemplate};
 ghost use Rattle.page_spec.specs.Page.{IsOutcome};
-ghost use Rattle.page_spec.specs.Question.{Question, MayKeep, in_site as asks_term, out as asks_out, collected as asks_collected, template as asks_template};
+ghost use Rattle.page_spec.specs.Question.{Question, MayKeep, in_site as asks_term, out as asks_out};
+ghost use Rattle.page_spec.specs.Question.{collected as asks_collected, template as asks_template};
 
 use page_spec::Outcome;
 use sd_value::{NoMemory, Str, Term, Value};

@@ -8,7 +8,9 @@ use Rattle.struql_ast.specs.Written.{query_written}
 use Rattle.struql_check.specs.declared.faults.Check.TheVariants as checks
 use Rattle.struql_check.specs.declared.faults.Check.{Check}
 use Rattle.struql_check.specs.declared.refusal.CheckRefusal.{CheckRefusal}
-use Rattle.struql_check.specs.declared.refusal.CheckRefusal.TheVariants.{TooManyPositions, Unbound, NeverCreated, Arity, LinkFromData, ArcAsNode, NotLabel, Reserved, TooManyVariables, NoMemory}
+use Rattle.struql_check.specs.declared.refusal.CheckRefusal.TheVariants.{TooManyPositions, Unbound, NeverCreated}
+use Rattle.struql_check.specs.declared.refusal.CheckRefusal.TheVariants.{Arity, LinkFromData, ArcAsNode, NotLabel}
+use Rattle.struql_check.specs.declared.refusal.CheckRefusal.TheVariants.{Reserved, TooManyVariables, NoMemory}
 use Rattle.struql_check.specs.Faults.{Faulty, IsLeastFault, IsFaultless}
 
 -- the refusal of a check at a place
@@ -29,7 +31,7 @@ ReportsFirst q NoMemory = Unit {0}
 ReportsFirst q refusal =
     (check : Check) × (at : ℕ) × IsLeastFault (Faulty q) check at × (refusal ≡ told check at)
 
--- Ok exactly where the query has no fault, with that query; else its first fault, unless memory ran out
+-- Ok exactly where the query has no fault, with that query; else its first fault, unless it was out of memory
 abbrev pub Answers : Query → Result plain.Query CheckRefusal → Type 0
 Answers query (Ok checked) = IsFaultless (query_written query) × (checked ≡ query_of query)
 Answers query (Err refusal) = ReportsFirst (query_written query) refusal

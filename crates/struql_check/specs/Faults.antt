@@ -1,12 +1,15 @@
 -- What a query that is spelled has to keep besides, and where it is if it doesn't.
-use Rattle.std.specs.Prelude.{◌≡◌, ◌≢◌, ◌⊎◌, ℕ, ◌<◌, ◌≤◌, Bool, true, false, not, ◌&&◌, ◌||◌, List, ◌∷◌, ◌++◌, length, map, find, Contains, if◌then◌else◌, nat_lt, Option, Some, None, option_map, codes}
+use Rattle.std.specs.Prelude.{◌≡◌, ◌≢◌, ◌⊎◌, ℕ, ◌<◌, ◌≤◌, Bool, true, false, not, ◌&&◌, ◌||◌, List, ◌∷◌, ◌++◌, length}
+use Rattle.std.specs.Prelude.{map, find, Contains, if◌then◌else◌, nat_lt, Option, Some, None, option_map, codes}
 use Rattle.std.specs.List.{list_any}
 use Rattle.std.specs.Str.{bytes_eq}
 use Rattle.rpe.specs.Language.{positions}
 use Rattle.query_spec.specs.Mentions.{same_name, first_mentions}
 use Rattle.struql_ast.specs.Written.{Name, expression, Condition, path, negation, Target, plain, made, Link, Collect, Query}
 use Rattle.struql_check.specs.declared.faults.Check.{Check}
-use Rattle.struql_check.specs.declared.faults.Check.TheVariants.{TooManyPositions, Unbound, NeverCreated, Arity, LinkFromData, ArcAsNode, NotLabel, Reserved, TooManyVariables}
+use Rattle.struql_check.specs.declared.faults.Check.TheVariants.{TooManyPositions, Unbound, NeverCreated, Arity}
+use Rattle.struql_check.specs.declared.faults.Check.TheVariants.{LinkFromData, ArcAsNode, NotLabel, Reserved}
+use Rattle.struql_check.specs.declared.faults.Check.TheVariants.{TooManyVariables}
 use Rattle.struql_check.specs.declared.mentions.Mention.{Mention}
 use Rattle.struql_check.specs.declared.mentions.Role.{Role}
 use Rattle.struql_check.specs.declared.mentions.Role.TheVariants.{Arc, End, Label, Other}

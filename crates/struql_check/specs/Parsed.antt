@@ -4,7 +4,9 @@ use Rattle.std.specs.List.{flat_map}
 use Rattle.sd_value.specs.declared.Datum.TheVariants.{Int, Text}
 use Rattle.sd_value.specs.declared.Value.{Value}
 use Rattle.sd_value.specs.declared.Value.TheVariants.{Data}
-use Rattle.query_spec.specs.Query.{Operand, variable, constant, Condition, member, path, compare, one_of, kind, negation, SkolemTerm, Target, plain, made, Link, Body, Blocks, no_blocks, block, Query}
+use Rattle.query_spec.specs.Query.{Operand, variable, constant, Condition, member, path, compare, one_of, kind}
+use Rattle.query_spec.specs.Query.{negation, SkolemTerm, Target, plain, made, Link, Body, Blocks, no_blocks, block}
+use Rattle.query_spec.specs.Query.{Query}
 use Rattle.query_spec.specs.Mentions.{IsFlat}
 
 -- the constant that an operand is

@@ -6,7 +6,9 @@ use Rattle.struql_ast.specs.declared.Operand.{Operand}
 use Rattle.struql_ast.specs.declared.Operand.TheVariants.{Variable, Constant}
 use Rattle.struql_ast.specs.declared.LinkLabel.{LinkLabel}
 use Rattle.struql_ast.specs.declared.LinkLabel.TheVariants as label
-use Rattle.struql_ast.specs.Written.{Name, Step, arc_variable, expression, Condition, member, path, compare, one_of, kind, negation, Term, Target, plain, made, Link, Collect, Clauses, Blocks, no_blocks, block, Query}
+use Rattle.struql_ast.specs.Written.{Name, Step, arc_variable, expression, Condition, member, path, compare, one_of}
+use Rattle.struql_ast.specs.Written.{kind, negation, Term, Target, plain, made, Link, Collect, Clauses, Blocks}
+use Rattle.struql_ast.specs.Written.{no_blocks, block, Query}
 use Rattle.struql_check.specs.declared.mentions.Mention.{Mention}
 use Rattle.struql_check.specs.declared.mentions.Role.{Role}
 use Rattle.struql_check.specs.declared.terms.SeenTerm.{SeenTerm}

@@ -3,7 +3,8 @@
 ghost use Rattle.std.specs.Prelude.{◌≡◌, [], ◌∷◌, ◌++◌, IfOk, map};
 ghost use Rattle.std.specs.List.{flat_map};
 ghost use Rattle.struql_ast.specs.Written.{condition_written, step_written, target_written, term_written, link_written, collect_written};
-ghost use Rattle.struql_check.specs.Scope.{operand_mentions, step_mentions, mentions, term_mentions, target_mentions, label_mentions, link_mentions, collect_mentions};
+ghost use Rattle.struql_check.specs.Scope.{operand_mentions, step_mentions, mentions, term_mentions, target_mentions};
+ghost use Rattle.struql_check.specs.Scope.{label_mentions, link_mentions, collect_mentions};
 ghost use Rattle.struql_check.specs.declared.mentions.Role.TheVariants.{Other};
 
 use sd_value::{NoMemory, Str};

@@ -8,7 +8,8 @@ use Rattle.struql_text.specs.declared.keyword.Keyword.{Keyword}
 use Rattle.struql_text.specs.declared.keyword.Keyword.TheVariants as words
 use Rattle.struql_text.specs.Terminals.{from_to, is_keyword, is_head, head_value, version_value, is_other_version}
 use Rattle.token_reader.specs.Terminals.{is_sign}
-use Rattle.struql_parse.specs.Blocks.{Body, Placed, onto_end, Groups, no_groups, grouped, Item, conditions_item, creates_item, links_item, collects_item, join, nest, levels}
+use Rattle.struql_parse.specs.Blocks.{Body, Placed, onto_end, Groups, no_groups, grouped, Item, conditions_item}
+use Rattle.struql_parse.specs.Blocks.{creates_item, links_item, collects_item, join, nest, levels}
 use Rattle.struql_text.specs.Reading.{read_sign, read_keyword, read_name, read_listed, read_condition, read_term, read_link, read_collect}
 
 -- a clause: its word, and its items

@@ -4,7 +4,8 @@ use Rattle.sd_lex.specs.declared.refusal.LexRefusal.TheVariants as lexer
 use Rattle.struql_parse.specs.declared.refusal.TokenRefusal.{TokenRefusal}
 use Rattle.struql_parse.specs.declared.refusal.TokenRefusal.TheVariants as grammar
 use Rattle.struql_parse.specs.declared.refusal.ParseRefusal.{ParseRefusal}
-use Rattle.struql_parse.specs.declared.refusal.ParseRefusal.TheVariants.{TooLong, BadByte, OpenString, IntOutOfRange, Expected, TooDeep, BadVersion, NoMemory}
+use Rattle.struql_parse.specs.declared.refusal.ParseRefusal.TheVariants.{TooLong, BadByte, OpenString, IntOutOfRange}
+use Rattle.struql_parse.specs.declared.refusal.ParseRefusal.TheVariants.{Expected, TooDeep, BadVersion, NoMemory}
 
 -- a refusal of the lexer
 abbrev pub of_lexer : LexRefusal → ParseRefusal

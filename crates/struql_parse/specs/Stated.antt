@@ -28,7 +28,7 @@ States tokens text_end (Err (BadVersion at)) =
     × (starts is_other_version rest ≡ true) × (at ≡ place text_end rest)
 States tokens text_end (Err NoMemory) = Unit {0}
 
--- What is spelled within the limits is the answer, unless memory runs out.
+-- What is spelled within the limits is the answer, unless it is out of memory.
 abbrev pub IsOnly : List Token → Result declared.Query TokenRefusal → Type 0
 IsOnly tokens (Ok q) = (value : Query) → query_within tokens value → query_written q ≡ value
 IsOnly tokens (Err (Expected at)) = (value : Query) → query_spelled tokens value → ⊥

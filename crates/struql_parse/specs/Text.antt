@@ -10,7 +10,8 @@ use Rattle.struql_ast.specs.declared.Query as declared
 use Rattle.struql_ast.specs.Written.{Query, query_written}
 use Rattle.struql_text.specs.Terminals.{is_other_version}
 use Rattle.struql_parse.specs.declared.refusal.ParseRefusal.{ParseRefusal}
-use Rattle.struql_parse.specs.declared.refusal.ParseRefusal.TheVariants.{TooLong, BadByte, OpenString, IntOutOfRange, Expected, TooDeep, BadVersion, NoMemory}
+use Rattle.struql_parse.specs.declared.refusal.ParseRefusal.TheVariants.{TooLong, BadByte, OpenString, IntOutOfRange}
+use Rattle.struql_parse.specs.declared.refusal.ParseRefusal.TheVariants.{Expected, TooDeep, BadVersion, NoMemory}
 use Rattle.struql_parse.specs.Blocks.{query_within, query_spelled}
 
 -- `Ok` has the query that the text's tokens spell within the limits, with all its places. A text that has no tokens has
@@ -39,7 +40,7 @@ TextStates limit bytes (Err (BadVersion at)) =
     × (starts is_other_version rest ≡ true) × (at ≡ place (length bytes) rest)
 TextStates limit bytes (Err NoMemory) = Unit {0}
 
--- The query that a text spells is the answer, unless memory runs out.
+-- The query that a text spells is the answer, unless it is out of memory.
 abbrev pub TextGives : Query → Result declared.Query ParseRefusal → Type 0
 TextGives query (Ok q) = query_written q ≡ query
 TextGives query (Err (TooLong at)) = ⊥

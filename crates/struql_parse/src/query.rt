@@ -2,9 +2,14 @@
 
 ghost use Rattle.std.specs.Prelude.{◌≡◌, IfOk, [], ◌∷◌, map};
 ghost use Rattle.grammar.specs.Reading.{iterate, starts};
-ghost use Rattle.struql_ast.specs.Written.{query_written, blocks_written, no_blocks, condition_written, term_written, link_written, collect_written};
+ghost use Rattle.struql_ast.specs.Written.{query_written, blocks_written, no_blocks, condition_written, term_written};
+ghost use Rattle.struql_ast.specs.Written.{link_written, collect_written};
 ghost use Rattle.struql_text.specs.Terminals.{is_head, is_other_version};
-ghost use Rattle.struql_parse.specs.Blocks.{onto_end, empty_clauses, no_groups, join as plain_join, grouped as plain_grouped, nest as plain_nest, with_item as plain_with_item, stage_of as plain_stage_of, item_end as plain_item_end, condition_span as plain_condition_span, last_span};
+ghost use Rattle.struql_parse.specs.Blocks.{onto_end, empty_clauses, no_groups, join as plain_join};
+ghost use Rattle.struql_parse.specs.Blocks.{grouped as plain_grouped, nest as plain_nest};
+ghost use Rattle.struql_parse.specs.Blocks.{with_item as plain_with_item, stage_of as plain_stage_of};
+ghost use Rattle.struql_parse.specs.Blocks.{item_end as plain_item_end, condition_span as plain_condition_span};
+ghost use Rattle.struql_parse.specs.Blocks.{last_span};
 ghost use Rattle.token_reader.specs.Gives.{Gives, place};
 ghost use Rattle.struql_parse.specs.Found.{body_found, placed_found, groups_found, bare_found, item_found};
 ghost use Rattle.struql_parse.specs.Reading.{read_top_braces, read_item_step, begins_item, read_version, read_head, read_query};

@@ -7,7 +7,8 @@ use Rattle.sd_value.specs.declared.Value.TheVariants.{Data, Page}
 use Rattle.sd_lex.specs.declared.token.Token.{Token}
 use Rattle.sd_lex.specs.declared.token.TokenKind.TheVariants as kinds
 use Rattle.sd_lex.specs.declared.token.Sign.TheVariants as signs
-use Rattle.query_spec.specs.Query.{Operand, variable, constant, PathStep, arc_variable, expression, Condition, member, path, compare, one_of, kind, negation, SkolemTerm}
+use Rattle.query_spec.specs.Query.{Operand, variable, constant, PathStep, arc_variable, expression, Condition, member}
+use Rattle.query_spec.specs.Query.{path, compare, one_of, kind, negation, SkolemTerm}
 use Rattle.token_reader.specs.Terminals.{is_sign}
 use Rattle.struql_ast.specs.Reading.{operand_of}
 use Rattle.struql_ast.specs.Written as tree

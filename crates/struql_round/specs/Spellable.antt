@@ -6,7 +6,9 @@ use Rattle.sd_value.specs.declared.Datum.TheVariants as datum
 use Rattle.sd_value.specs.declared.Value.{Value}
 use Rattle.sd_value.specs.declared.Value.TheVariants.{Data, Page}
 use Rattle.sd_lex.specs.Lexing.{IsName}
-use Rattle.query_spec.specs.Query.{Operand, variable, constant, PathStep, arc_variable, expression, Condition, member, path, compare, one_of, kind, negation, SkolemTerm, Target, plain, made, LinkLabel, quoted, label_variable, Link, Collect, Body, Blocks, no_blocks, block, Query}
+use Rattle.query_spec.specs.Query.{Operand, variable, constant, PathStep, arc_variable, expression, Condition, member}
+use Rattle.query_spec.specs.Query.{path, compare, one_of, kind, negation, SkolemTerm, Target, plain, made, LinkLabel}
+use Rattle.query_spec.specs.Query.{quoted, label_variable, Link, Collect, Body, Blocks, no_blocks, block, Query}
 use Rattle.struql_text.specs.Terminals.{keyword_of, test_of}
 use Rattle.struql_round.specs.Shown.{Fits}
 

@@ -13,7 +13,8 @@ use Rattle.grammar.specs.Reading.{Outcome, Past, ◌>>=◌, ◌>>◌, give, take
 use Rattle.struql_text.specs.declared.keyword.Keyword.{Keyword}
 use Rattle.struql_text.specs.declared.keyword.Keyword.TheVariants as words
 use Rattle.struql_text.specs.declared.keyword.Word.{Word}
-use Rattle.struql_text.specs.Terminals.{from_to, sign_value, keyword_value, is_keyword, is_name, name_value, operand_value, operand_span, constant_value, label_value, op_value, test_of}
+use Rattle.struql_text.specs.Terminals.{from_to, sign_value, keyword_value, is_keyword, is_name, name_value}
+use Rattle.struql_text.specs.Terminals.{operand_value, operand_span, constant_value, label_value, op_value, test_of}
 use Rattle.token_reader.specs.Terminals.{is_sign}
 use Rattle.struql_text.specs.Expression.{leaf_value, Counted, bounded}
 use Rattle.struql_text.specs.Grammar.{term_of, variable_of, target_span, call_with, between}

@@ -7,7 +7,10 @@ ghost use Rattle.struql_ast.specs.Written.{step_written, condition_written};
 ghost use Rattle.token_reader.specs.Terminals.{is_sign};
 ghost use Rattle.struql_text.specs.Terminals.{test_of, constant_value, operand_span};
 ghost use Rattle.token_reader.specs.Gives.{Gives};
-ghost use Rattle.struql_text.specs.Reading.{read_further, read_next, read_listed, read_call, read_comparison, read_membership, read_arc_step, read_expression_step, read_step, read_path, read_relation, read_behind, read_plain, read_negated, read_condition};
+ghost use Rattle.struql_text.specs.Reading.{read_further, read_next, read_listed, read_call, read_comparison};
+ghost use Rattle.struql_text.specs.Reading.{read_membership, read_arc_step, read_expression_step, read_step};
+ghost use Rattle.struql_text.specs.Reading.{read_path, read_relation, read_behind, read_plain, read_negated};
+ghost use Rattle.struql_text.specs.Reading.{read_condition};
 
 use crate::expression::{alt_at, from_to};
 use crate::keyword::{Keyword, Word};

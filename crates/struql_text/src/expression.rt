@@ -9,7 +9,8 @@ ghost use Rattle.struql_text.specs.Terminals.{from_to};
 ghost use Rattle.token_reader.specs.Gives.{Gives};
 ghost use Rattle.struql_text.specs.Found.{found};
 ghost use Rattle.struql_text.specs.Expression.{bounded, stars as star_count};
-ghost use Rattle.struql_text.specs.Reading.{read_leaf, read_post, read_seq, read_alt, read_atom, read_star_step, read_dot_step, read_bar_step, read_paren};
+ghost use Rattle.struql_text.specs.Reading.{read_leaf, read_post, read_seq, read_alt, read_atom, read_star_step};
+ghost use Rattle.struql_text.specs.Reading.{read_dot_step, read_bar_step, read_paren};
 
 use crate::keyword::{Keyword, keyword_of};
 use crate::tokens::sign_at;

@@ -7,7 +7,9 @@ ghost use Rattle.struql_ast.specs.Written.{term_written, target_written, link_wr
 ghost use Rattle.token_reader.specs.Terminals.{is_sign};
 ghost use Rattle.struql_text.specs.Grammar.{target_span as span_of_target};
 ghost use Rattle.token_reader.specs.Gives.{Gives};
-ghost use Rattle.struql_text.specs.Reading.{read_operand, read_further, read_next, read_listed, read_arguments, read_term, read_made, read_named_target, read_source, read_operand_target, read_target, read_link, read_collect};
+ghost use Rattle.struql_text.specs.Reading.{read_operand, read_further, read_next, read_listed, read_arguments};
+ghost use Rattle.struql_text.specs.Reading.{read_term, read_made, read_named_target, read_source};
+ghost use Rattle.struql_text.specs.Reading.{read_operand_target, read_target, read_link, read_collect};
 
 use crate::expression::from_to;
 use crate::keyword::Word;

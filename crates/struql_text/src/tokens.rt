@@ -3,7 +3,8 @@
 ghost use Rattle.std.specs.Prelude.{◌≡◌, true};
 ghost use Rattle.grammar.specs.Reading.{take_one, starts};
 ghost use Rattle.token_reader.specs.Gives.{Gives};
-ghost use Rattle.struql_text.specs.Terminals.{sign_value, keyword_value, is_keyword, is_name, name_value, operand_value, constant_value, label_value, op_value};
+ghost use Rattle.struql_text.specs.Terminals.{sign_value, keyword_value, is_keyword, is_name, name_value};
+ghost use Rattle.struql_text.specs.Terminals.{operand_value, constant_value, label_value, op_value};
 ghost use Rattle.token_reader.specs.Terminals.{is_sign};
 
 use crate::keyword::{Keyword, Word, keyword_of};

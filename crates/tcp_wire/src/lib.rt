@@ -1,14 +1,16 @@
 //! A wire over the system's sockets: one connection after another.
 #![tactic(auto)]
 
-ghost use Rattle.std.specs.Prelude.{◌≡◌, ◌≤◌, ℕ, take, Some, None, Err, IfOk, IfErr, OnOk, OnErr, IsErrOf, IfSome, IsSome, MatchResult, option_map};
+ghost use Rattle.std.specs.Prelude.{◌≡◌, ◌≤◌, ℕ, take, Some, None, Err, IfOk, IfErr, OnOk, OnErr, IsErrOf, IfSome};
+ghost use Rattle.std.specs.Prelude.{IsSome, MatchResult, option_map};
 ghost use Rattle.std.specs.declared.net.socket_addr.SocketAddr.TheVariants.{V4};
 ghost use Rattle.edge_io.specs.Counts.{Rose};
 ghost use Rattle.wire.specs.Accounts.{send_to, close_to, up};
 ghost use Rattle.wire.specs.Events.{add_event, IsNextOf, add_listen, IsWatched};
 ghost use Rattle.wire.specs.Told.{EventsStay, OtherAccountsStay, OtherFaultsStay};
 ghost use Rattle.tcp_wire.specs.Waits.{first_wait};
-ghost use Rattle.tcp_wire.specs.TcpState.{IsPieceOf, GivesChange, IsNextIn, IsSent, MissesNext, HasRead, kept, let_go, local_address, parting_of, told_of, without_change};
+ghost use Rattle.tcp_wire.specs.TcpState.{IsPieceOf, GivesChange, IsNextIn, IsSent, MissesNext, HasRead, kept};
+ghost use Rattle.tcp_wire.specs.TcpState.{let_go, local_address, parting_of, told_of, without_change};
 ghost use Rattle.tcp_wire.specs.Watching.{passed};
 
 mod accepting;
@@ -41,17 +43,17 @@ struct Place<L> {
     address: SocketAddr,
 }
 
-/// Connections to 127.0.0.1, one after another. A connection is opened only once it has sent something, or its input has
-/// ended: until then it waits beside others, at most 64 in all, and holds up none; one that sends nothing for long enough
-/// (`Waits`) is let go and never opened. Where 64 wait and none of them has sent anything, the one that came first is let go
-/// for the next, and so is at once one that memory is refused for. One that is opened stays in hand until it is closed, a send to it fails or it is
-/// lost, or until the event after the end of its input is asked for; only then the next one is opened. It is lost where
-/// nothing comes for long enough, where too many pieces come without a reply, where it has sent nothing since its last
-/// reply and another one has sent something, and where memory is refused for what it sent. A file that is watched is read
-/// after each so many connections that ended, when the next one has come and before it is opened, and gives a change where it
-/// holds another text than at the last read; where the read fails it gives none. The wire reports nothing of
-/// what its connections send and take, and the count of failed sends of each is at its last value, where every failure
-/// counts as a rise.
+/// Connections to 127.0.0.1, one after another. A connection is opened only once it has sent something, or its input
+/// has ended: until then it waits beside others, at most 64 in all, and holds up none; one that sends nothing for long
+/// enough (`Waits`) is let go and never opened. Where 64 wait and none of them has sent anything, the one that came
+/// first is let go for the next, and so is at once one that memory is refused for. One that is opened stays in hand
+/// until it is closed, a send to it fails or it is lost, or until the event after the end of its input is asked for;
+/// only then the next one is opened. It is lost where nothing comes for long enough, where too many pieces come without
+/// a reply, where it has sent nothing since its last reply and another one has sent something, and where memory is
+/// refused for what it sent. A file that is watched is read after each so many connections that ended, when the next
+/// one has come and before it is opened, and gives a change where it holds another text than at the last read; where
+/// the read fails it gives none. The wire reports nothing of what its connections send and take, and the count of
+/// failed sends of each is at its last value, where every failure counts as a rise.
 #[derive(Drop)]
 pub struct TcpWire<'r, R: Net + Clock, F> {
     system: &'r R,

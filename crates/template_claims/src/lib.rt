@@ -2,7 +2,9 @@
 #![tactic(auto)]
 
 mod claims;
+mod further;
 mod tags;
 mod words;
 
 pub use claims::claims_of;
+pub use further::further_labels;

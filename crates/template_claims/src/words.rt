@@ -35,8 +35,8 @@ fn name_of(item: &Item) -> Option<&Str>
     }
 }
 
-// The label that an item is: a name or a quoted text.
-fn label_of(item: &Item) -> Option<&Str>
+/// The label that an item is: a name or a quoted text.
+pub(crate) fn label_of(item: &Item) -> Option<&Str>
     ensures { option_copied result ≡ label_of item.now.kind }
 {
     match &item.kind {

@@ -1,5 +1,6 @@
 -- How the bytes of a file of templates split into items.
-use Rattle.std.specs.Prelude.{◌≡◌, ℕ, ◌+◌, ◌<◌, ◌≤◌, Bool, true, false, ◌||◌, ◌&&◌, List, [], ◌∷◌, length, take, drop, codes, nat_eq, nat_le, if◌then◌else◌, Option, Some, None, Result, Ok, Err}
+use Rattle.std.specs.Prelude.{◌≡◌, ℕ, ◌+◌, ◌<◌, ◌≤◌, Bool, true, false, ◌||◌, ◌&&◌, List, [], ◌∷◌, length, take, drop}
+use Rattle.std.specs.Prelude.{codes, nat_eq, nat_le, if◌then◌else◌, Option, Some, None, Result, Ok, Err}
 use Rattle.std.specs.Str.{bytes_eq}
 use Rattle.sd_lex.specs.declared.refusal.LexRefusal.{LexRefusal}
 use Rattle.sd_lex.specs.declared.refusal.LexRefusal.TheVariants.{TooLong, BadByte, OpenString, IntOutOfRange, NoMemory}
@@ -7,7 +8,9 @@ use Rattle.sd_lex.specs.declared.token.Token as token
 use Rattle.sd_lex.specs.Bytes.{is_blank, is_letter}
 use Rattle.sd_lex.specs.Reading.{lexeme}
 use Rattle.template_items.specs.declared.item.Mark.{Mark}
-use Rattle.template_items.specs.declared.item.Mark.TheVariants.{OpenTemplate, OpenFormat, OpenChoice, OpenRepeat, Close, Otherwise, EndChoice, EndRepeat, EndTemplate, Here, HereOf, Hash, Fault}
+use Rattle.template_items.specs.declared.item.Mark.TheVariants.{OpenTemplate, OpenFormat, OpenChoice, OpenRepeat}
+use Rattle.template_items.specs.declared.item.Mark.TheVariants.{Close, Otherwise, EndChoice, EndRepeat, EndTemplate}
+use Rattle.template_items.specs.declared.item.Mark.TheVariants.{Here, HereOf, Hash, Fault}
 use Rattle.template_items.specs.declared.item.ItemKind.{ItemKind}
 use Rattle.template_items.specs.declared.item.ItemKind.TheVariants as kinds
 use Rattle.template_items.specs.declared.item.Item.{Item}

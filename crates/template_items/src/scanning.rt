@@ -5,7 +5,10 @@ ghost use Rattle.sd_lex.specs.Bytes.{is_blank, is_letter};
 ghost use Rattle.sd_lex.specs.Lexing.{Answers};
 ghost use Rattle.sd_lex.specs.Reading.{lexeme};
 ghost use Rattle.template_items.specs.declared.item.Item.{Item as AnyItem};
-ghost use Rattle.template_items.specs.Scanning.{begins, starts_blank, opens, tag_at, text_run, made, fault_at, moved, front_between, behind_tag, front_tag, front_body, front_token, starts_label, fault_place, front_inside, front, first_state, last_items, AreItems, GoesOn, Scans};
+ghost use Rattle.template_items.specs.Scanning.{begins, starts_blank, opens, tag_at, text_run, made, fault_at, moved};
+ghost use Rattle.template_items.specs.Scanning.{front_between, behind_tag, front_tag, front_body, front_token};
+ghost use Rattle.template_items.specs.Scanning.{starts_label, fault_place, front_inside, front, first_state};
+ghost use Rattle.template_items.specs.Scanning.{last_items, AreItems, GoesOn, Scans};
 
 use crate::item::{Front, Item, ItemKind, Mark, Mode, State};
 use sd_lex::{LexRefusal, Token, token_at};

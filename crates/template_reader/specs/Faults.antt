@@ -1,5 +1,6 @@
 -- Names that occur twice, tags that are never closed, and what a file of templates is answered.
-use Rattle.std.specs.Prelude.{◌≡◌, ◌⊎◌, ℕ, ◌-◌, ◌≤◌, ◌<◌, Bool, true, false, ◌||◌, List, [], ◌∷◌, ◌++◌, length, take, nat_lt, if◌then◌else◌, Option, Some, None, Result, Ok, Err}
+use Rattle.std.specs.Prelude.{◌≡◌, ◌⊎◌, ℕ, ◌-◌, ◌≤◌, ◌<◌, Bool, true, false, ◌||◌, List, [], ◌∷◌, ◌++◌, length, take}
+use Rattle.std.specs.Prelude.{nat_lt, if◌then◌else◌, Option, Some, None, Result, Ok, Err}
 use Rattle.std.specs.Ordering.{eq_by_cmp}
 use Rattle.std.specs.BTreeSet.{contains}
 use Rattle.grammar.specs.Fault.{FirstFault, FirstPast}
@@ -13,7 +14,8 @@ use Rattle.tmpl.specs.declared.Templates.{Templates}
 use Rattle.template_reader.specs.declared.titles.Title.{Title}
 use Rattle.template_reader.specs.declared.titles.Names.{Names}
 use Rattle.template_reader.specs.declared.refusal.TmplRefusal.{TmplRefusal}
-use Rattle.template_reader.specs.declared.refusal.TmplRefusal.TheVariants.{TooLong, Expected, Unclosed, Twice, TooDeep, UnknownVariable, NoMemory}
+use Rattle.template_reader.specs.declared.refusal.TmplRefusal.TheVariants.{TooLong, Expected, Unclosed, Twice}
+use Rattle.template_reader.specs.declared.refusal.TmplRefusal.TheVariants.{TooDeep, UnknownVariable, NoMemory}
 use Rattle.template_tags.specs.Terminals.{is_mark, name_value, IsReal}
 use Rattle.template_reader.specs.Template.{Entry, named_value, within, spelled}
 use Rattle.template_reader.specs.Reading.{is_block}
@@ -203,20 +205,20 @@ IsAnswer limit bytes r =
     ((limit < length bytes) × (r ≡ Err (TooLong limit)))
     ⊎ ((length bytes ≤ limit) × (items : List Item) × AreItems bytes items × IsItemsAnswer items r)
 
--- what is said of the answer, unless memory ran out
+-- what is said of the answer, unless it was out of memory
 abbrev pub UnlessNoMemory : (Result TemplateFile TmplRefusal → Type 0)
     → Result Templates TmplRefusal → Type 0
 UnlessNoMemory P (Ok t) = P (Ok (file_of t))
 UnlessNoMemory P (Err NoMemory) = Unit {0}
 UnlessNoMemory P (Err e) = P (Err e)
 
--- This is the answer, unless memory ran out.
+-- This is the answer, unless it was out of memory.
 abbrev pub Answers : Result TemplateFile TmplRefusal → Result Templates TmplRefusal → Type 0
 Answers r (Ok t) = r ≡ Ok (file_of t)
 Answers r (Err NoMemory) = Unit {0}
 Answers r (Err e) = r ≡ Err e
 
--- it is this refusal, or memory ran out
+-- it is this refusal, or it was out of memory
 abbrev pub OrNoMemory : TmplRefusal → TmplRefusal → Type 0
 OrNoMemory NoMemory refusal = Unit {0}
 OrNoMemory found refusal = found ≡ refusal

@@ -11,7 +11,9 @@ use Rattle.tmpl.specs.declared.Cmp.{Cmp}
 use Rattle.tmpl.specs.declared.Expr.{Expr}
 use Rattle.tmpl.specs.declared.Order.{Order}
 use Rattle.template_tags.specs.declared.words.Bound.{Bound}
-use Rattle.template_tags.specs.Terminals.{is_mark, is_text, text_value, name_value, constant_value, is_not, not_value, in_value, is_compare, compare_value, mode_of, order_of, no_settings, loop_settings, variable_value}
+use Rattle.template_tags.specs.Terminals.{is_mark, is_text, text_value, name_value, constant_value, is_not, not_value}
+use Rattle.template_tags.specs.Terminals.{in_value, is_compare, compare_value, mode_of, order_of, no_settings}
+use Rattle.template_tags.specs.Terminals.{loop_settings, variable_value}
 use Rattle.template_reader.specs.Template.{chain, Entry, Head, named_value}
 use Rattle.template_tags.specs.Reading.{read_mark, read_expr, read_settings}
 

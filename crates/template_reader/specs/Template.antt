@@ -20,7 +20,8 @@ use Rattle.tmpl.specs.declared.Cmp.{Cmp}
 use Rattle.tmpl.specs.declared.Expr.{Expr}
 use Rattle.tmpl.specs.declared.Part.{Part}
 use Rattle.template_tags.specs.declared.words.Bound.{Bound}
-use Rattle.template_tags.specs.Terminals.{text_value, name_value, constant_value, not_value, in_value, compare_value, mode_of, order_of, no_settings, loop_settings, variable_value}
+use Rattle.template_tags.specs.Terminals.{text_value, name_value, constant_value, not_value, in_value, compare_value}
+use Rattle.template_tags.specs.Terminals.{mode_of, order_of, no_settings, loop_settings, variable_value}
 use Rattle.template_tags.specs.Tag.{mark, expr, any_expr, settings}
 
 -- ---- bodies

@@ -8,7 +8,12 @@ ghost use Rattle.template_reader.specs.Template.{single};
 ghost use Rattle.token_reader.specs.Gives.{Gives};
 ghost use Rattle.template_tags.specs.Terminals.{no_settings, loop_settings};
 ghost use Rattle.template_reader.specs.Template.{chain};
-ghost use Rattle.template_reader.specs.Reading.{read_text, read_format, read_leaf, read_compared, read_not_compared, read_comparing, read_comparison, read_other_branch, read_no_other, read_ending, read_branches, read_tested, read_negated, read_choice_rest, read_repeated, read_repeat_rest, read_choice, read_repeat, read_block, is_block, is_part, read_part, read_body_of, read_body, read_block_at};
+ghost use Rattle.template_reader.specs.Reading.{read_text, read_format, read_leaf, read_compared, read_not_compared};
+ghost use Rattle.template_reader.specs.Reading.{read_comparing, read_comparison, read_other_branch, read_no_other};
+ghost use Rattle.template_reader.specs.Reading.{read_ending, read_branches, read_tested, read_negated};
+ghost use Rattle.template_reader.specs.Reading.{read_choice_rest, read_repeated, read_repeat_rest, read_choice};
+ghost use Rattle.template_reader.specs.Reading.{read_repeat, read_block, is_block, is_part, read_part, read_body_of};
+ghost use Rattle.template_reader.specs.Reading.{read_body, read_block_at};
 
 use sd_value::{NoMemory, Str};
 use std::alloc::Global;

@@ -8,7 +8,8 @@ ghost use Rattle.token_reader.specs.Gives.{Gives};
 ghost use Rattle.template_tags.specs.Terminals.{is_mark};
 ghost use Rattle.template_reader.specs.Template.{is_sort, named_value};
 ghost use Rattle.template_reader.specs.Entries.{head_of, entry_of, GivesAll};
-ghost use Rattle.template_reader.specs.Reading.{read_collection_head, read_function_head, read_named_head, is_named, read_head_rest, read_template, read_file};
+ghost use Rattle.template_reader.specs.Reading.{read_collection_head, read_function_head, read_named_head, is_named};
+ghost use Rattle.template_reader.specs.Reading.{read_head_rest, read_template, read_file};
 
 use crate::body::body_at;
 use sd_lex::TokenKind;

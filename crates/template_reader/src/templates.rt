@@ -7,7 +7,9 @@ ghost use Rattle.tmpl.specs.Reading.{file_of};
 ghost use Rattle.template_reader.specs.Template.{Entry as PlainEntry, within};
 ghost use Rattle.template_reader.specs.Reading.{is_block};
 ghost use Rattle.template_reader.specs.Entries.{entry_of, file_from};
-ghost use Rattle.template_reader.specs.Faults.{twice, unless_before, unless_twice, past_at, whole_answer, unfit_answer, beyond_answer, IsItemsAnswer, IsAnswer, UnlessNoMemory, Answers, OrNoMemory};
+ghost use Rattle.template_reader.specs.Faults.{twice, unless_before, unless_twice, past_at, whole_answer};
+ghost use Rattle.template_reader.specs.Faults.{unfit_answer, beyond_answer, IsItemsAnswer, IsAnswer, UnlessNoMemory};
+ghost use Rattle.template_reader.specs.Faults.{Answers, OrNoMemory};
 ghost use Rattle.template_reader.specs.Filed.{Filed};
 
 use crate::file::{Entry, file_at};

@@ -2,7 +2,9 @@
 
 ghost use Rattle.std.specs.Prelude.{◌≡◌, not, IfOk, None, []};
 ghost use Rattle.template_tags.specs.Terminals.{is_mark};
-ghost use Rattle.template_reader.specs.Faults.{second_name, title_of, titles, Seen, is_seen, see, first_twice, nothing_seen, Holds, twice, opens_body, closes_body, open_tags, last_of, innermost};
+ghost use Rattle.template_reader.specs.Faults.{second_name, title_of, titles, Seen, is_seen, see, first_twice};
+ghost use Rattle.template_reader.specs.Faults.{nothing_seen, Holds, twice, opens_body, closes_body, open_tags};
+ghost use Rattle.template_reader.specs.Faults.{last_of, innermost};
 
 use crate::file::is_sort;
 use sd_lex::TokenKind;

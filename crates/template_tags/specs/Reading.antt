@@ -12,7 +12,9 @@ use Rattle.template_tags.specs.declared.words.Bound.{Bound}
 use Rattle.template_tags.specs.declared.settings.Setting.{Setting}
 use Rattle.template_tags.specs.declared.settings.Setting.TheVariants as setting
 use Rattle.template_tags.specs.declared.settings.Settings.{Settings}
-use Rattle.template_tags.specs.Terminals.{is_mark, mark_value, is_dot, dot_value, is_equals, equals_value, quoted_value, label_value, joined_value, direction_value, is_setting, setting_value, is_known, known_value, is_unknown}
+use Rattle.template_tags.specs.Terminals.{is_mark, mark_value, is_dot, dot_value, is_equals, equals_value}
+use Rattle.template_tags.specs.Terminals.{quoted_value, label_value, joined_value, direction_value, is_setting}
+use Rattle.template_tags.specs.Terminals.{setting_value, is_known, known_value, is_unknown}
 use Rattle.template_tags.specs.Tag.{from, with_embed, with_link}
 
 -- the reader of a mark

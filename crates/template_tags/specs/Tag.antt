@@ -17,7 +17,8 @@ use Rattle.template_tags.specs.declared.words.Bound.{Bound}
 use Rattle.template_tags.specs.declared.settings.Setting.{Setting}
 use Rattle.template_tags.specs.declared.settings.Setting.TheVariants as setting
 use Rattle.template_tags.specs.declared.settings.Settings.{Settings}
-use Rattle.template_tags.specs.Terminals.{mark_value, dot_value, equals_value, quoted_value, label_value, joined_value, direction_value, setting_value, known_value, unknown_value}
+use Rattle.template_tags.specs.Terminals.{mark_value, dot_value, equals_value, quoted_value, label_value}
+use Rattle.template_tags.specs.Terminals.{joined_value, direction_value, setting_value, known_value, unknown_value}
 
 -- which lists of items spell which values
 abbrev pub Grammar : Type 0 → Type 1

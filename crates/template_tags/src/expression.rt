@@ -4,7 +4,10 @@ ghost use Rattle.std.specs.Prelude.{◌≡◌, true, Some};
 ghost use Rattle.grammar.specs.Reading.{take_one, repeat, with_front, choose};
 ghost use Rattle.token_reader.specs.Gives.{Gives};
 ghost use Rattle.template_tags.specs.Terminals.{is_dot, is_setting};
-ghost use Rattle.template_tags.specs.Reading.{read_dotted, read_word, read_joined_word, read_here, read_here_of, read_collection, read_of_loop, read_loop, read_place, read_expr, read_key, read_order, read_delimiter, read_label, read_link, read_set, read_close, read_next, read_settings};
+ghost use Rattle.template_tags.specs.Reading.{read_dotted, read_word, read_joined_word, read_here, read_here_of};
+ghost use Rattle.template_tags.specs.Reading.{read_collection, read_of_loop, read_loop, read_place, read_expr};
+ghost use Rattle.template_tags.specs.Reading.{read_key, read_order, read_delimiter, read_label, read_link, read_set};
+ghost use Rattle.template_tags.specs.Reading.{read_close, read_next, read_settings};
 
 use crate::settings::{Setting, Settings};
 use crate::tokens::{

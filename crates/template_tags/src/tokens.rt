@@ -4,7 +4,12 @@ ghost use Rattle.std.specs.Prelude.{◌≡◌, true};
 ghost use Rattle.grammar.specs.Reading.{take_one, starts};
 ghost use Rattle.token_reader.specs.Gives.{Gives};
 ghost use Rattle.template_tags.specs.Reading.{read_mark};
-ghost use Rattle.template_tags.specs.Terminals.{is_mark, is_text, text_value, token_of, is_sign_of, name_value, quoted_value, label_value, joined_value, is_dot, dot_value, is_equals, equals_value, constant_value, direction_value, keyword_at, is_not, not_value, is_in, in_value, is_compare, compare_of, compare_value, setting_of, is_setting, setting_value, variable_value, is_known, known_value, is_unknown};
+ghost use Rattle.template_tags.specs.Terminals.{is_mark, is_text, text_value, token_of, is_sign_of, name_value};
+ghost use Rattle.template_tags.specs.Terminals.{quoted_value, label_value, joined_value, is_dot, dot_value};
+ghost use Rattle.template_tags.specs.Terminals.{is_equals, equals_value, constant_value, direction_value, keyword_at};
+ghost use Rattle.template_tags.specs.Terminals.{is_not, not_value, is_in, in_value, is_compare, compare_of};
+ghost use Rattle.template_tags.specs.Terminals.{compare_value, setting_of, is_setting, setting_value, variable_value};
+ghost use Rattle.template_tags.specs.Terminals.{is_known, known_value, is_unknown};
 
 use crate::settings::{Setting, Settings, allows};
 use crate::words::{Bound, Keyword, find, keyword_of};

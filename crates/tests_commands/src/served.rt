@@ -6,3 +6,4 @@ mod long_heads;
 mod requests;
 mod runs;
 mod sites;
+mod whole;

@@ -1,7 +1,7 @@
 // The texts of `help` beside what the commands take: each of its operands and options, and no other.
 use crate::inputs::{check, check_text, words_of};
 use command_help::usage;
-use command_spec::{CommandName, NumberOption};
+use command_spec::{CommandName, NumberOption, PathOption, ValueOption};
 use command_words::read_command;
 use sd_value::{NoMemory, Str};
 use std::alloc::Global;
@@ -22,7 +22,7 @@ struct UsageRow {
     fewest: usize,
     operands: &'static str,
     flag: Flag,
-    options: &'static [NumberOption],
+    options: &'static [ValueOption],
 }
 
 const ROWS: &[UsageRow] = &[
@@ -83,21 +83,29 @@ const ROWS: &[UsageRow] = &[
         options: &[],
     },
     UsageRow {
+        name: CommandName::Lint,
+        words: &["lint", "q", "t", "d"],
+        fewest: 4,
+        operands: "QUERY TEMPLATES DATA..",
+        flag: Flag::None,
+        options: &[],
+    },
+    UsageRow {
         name: CommandName::Serve,
         words: &["serve", "q", "t", "d"],
         fewest: 4,
         operands: "QUERY TEMPLATES DATA..",
-        flag: Flag::None,
+        flag: Flag::May("--whole"),
         options: &[
-            NumberOption::Port,
-            NumberOption::Connections,
-            NumberOption::Requests,
-            NumberOption::Turns,
-            NumberOption::Cache,
-            NumberOption::Idle,
-            NumberOption::Stall,
-            NumberOption::Watch,
-            NumberOption::Every,
+            ValueOption::Number(NumberOption::Port),
+            ValueOption::Number(NumberOption::Connections),
+            ValueOption::Number(NumberOption::Requests),
+            ValueOption::Number(NumberOption::Turns),
+            ValueOption::Number(NumberOption::Cache),
+            ValueOption::Number(NumberOption::Idle),
+            ValueOption::Number(NumberOption::Stall),
+            ValueOption::Path(PathOption::Watch),
+            ValueOption::Number(NumberOption::Every),
         ],
     },
     UsageRow {
@@ -107,9 +115,9 @@ const ROWS: &[UsageRow] = &[
         operands: "QUERY TEMPLATES SCRIPT DATA..",
         flag: Flag::None,
         options: &[
-            NumberOption::Requests,
-            NumberOption::Turns,
-            NumberOption::Cache,
+            ValueOption::Number(NumberOption::Requests),
+            ValueOption::Number(NumberOption::Turns),
+            ValueOption::Number(NumberOption::Cache),
         ],
     },
     UsageRow {
@@ -138,19 +146,19 @@ const ROWS: &[UsageRow] = &[
     },
 ];
 
-const OPTIONS: &[NumberOption] = &[
-    NumberOption::Port,
-    NumberOption::Connections,
-    NumberOption::Requests,
-    NumberOption::Turns,
-    NumberOption::Cache,
-    NumberOption::Idle,
-    NumberOption::Stall,
-    NumberOption::Watch,
+const OPTIONS: &[ValueOption] = &[
+    ValueOption::Number(NumberOption::Port),
+    ValueOption::Number(NumberOption::Connections),
+    ValueOption::Number(NumberOption::Requests),
+    ValueOption::Number(NumberOption::Turns),
+    ValueOption::Number(NumberOption::Cache),
+    ValueOption::Number(NumberOption::Idle),
+    ValueOption::Number(NumberOption::Stall),
+    ValueOption::Path(PathOption::Watch),
 ];
 
 // All options without a value.
-const FLAGS: &[&str] = &["--dot", "--here"];
+const FLAGS: &[&str] = &["--dot", "--here", "--whole"];
 
 // Whether the form may have this flag beside its words.
 fn may_have(row: &UsageRow, flag: &str) -> bool {
@@ -192,7 +200,7 @@ fn gives_command(alloc: Global, words: &[&str], last: Option<Str>) -> Result<boo
 }
 
 // The option with the value 1.
-fn option_word(alloc: Global, option: NumberOption) -> Result<Str, NoMemory> {
+fn option_word(alloc: Global, option: ValueOption) -> Result<Str, NoMemory> {
     let mut word = Vec::new(alloc);
     push_parts(&mut word, &["--", option.name(), "=1"])?;
     Str::of(alloc, word)
@@ -301,20 +309,23 @@ fn push_operands(out: &mut Vec<u8>, operands: &str) -> Result<(), NoMemory> {
     Ok(())
 }
 
-fn push_options(
-    alloc: Global,
-    out: &mut Vec<u8>,
-    options: &[NumberOption],
-) -> Result<(), NoMemory> {
+fn push_range(alloc: Global, out: &mut Vec<u8>, option: NumberOption) -> Result<(), NoMemory> {
+    let greatest = option.greatest().to_string(alloc)?;
+    let otherwise = option.otherwise().to_string(alloc)?;
+    push_parts(out, &[" 1 to ", &greatest, " (", &otherwise, ")"])
+}
+
+fn push_option(alloc: Global, out: &mut Vec<u8>, option: ValueOption) -> Result<(), NoMemory> {
+    push_parts(out, &["--", option.name()])?;
+    if let ValueOption::Number(option) = option {
+        push_range(alloc, out, option)?;
+    }
+    push_parts(out, &["\n"])
+}
+
+fn push_options(alloc: Global, out: &mut Vec<u8>, options: &[ValueOption]) -> Result<(), NoMemory> {
     for option in options {
-        if *option == NumberOption::Watch {
-            push_parts(out, &["--watch\n"])?;
-            continue;
-        }
-        let greatest = option.greatest().to_string(alloc)?;
-        let otherwise = option.otherwise().to_string(alloc)?;
-        push_parts(out, &["--", option.name(), " 1 to ", &greatest])?;
-        push_parts(out, &[" (", &otherwise, ")\n"])?;
+        push_option(alloc, out, *option)?;
     }
     Ok(())
 }
@@ -353,10 +364,10 @@ fn push_words(
 // The words of the form as its usage has them.
 fn push_form(out: &mut Vec<u8>, row: &UsageRow) -> Result<(), NoMemory> {
     match row.flag {
+        _ if !row.options.is_empty() => push_words(out, row, " ", "[OPTION..]", ""),
         Flag::May(flag) => push_words(out, row, " [", flag, "]"),
         Flag::Has(flag) => push_words(out, row, " ", flag, ""),
-        Flag::None if row.options.is_empty() => push_words(out, row, "", "", ""),
-        Flag::None => push_words(out, row, " ", "[OPTION..]", ""),
+        Flag::None => push_words(out, row, "", "", ""),
     }
 }
 

@@ -2,14 +2,15 @@
 use crate::checks::{check, check_text};
 use block_paths::paths_of;
 use certificate_check::recheck;
-use certificate_text::print_verdict;
-use certificates::{Certificate, LinkUse, MentionProof, Verdict};
+use certificate_text::{print_unknown, print_yes};
+use certificates::{Certificate, LinkUse, MentionProof};
 use constraint_spec::Constraint;
 use constraint_verdicts::{Verdicts, verdicts_of};
 use constraints::parse_constraints;
 use query_reader::read_query;
 use query_scoping::scopes;
 use sd_value::{NoMemory, Str};
+use site_trial::SiteTrial;
 use std::alloc::Global;
 use std::test::Fail;
 use struql_check::Checked;
@@ -59,13 +60,13 @@ fn text_of(
     alloc: Global,
     query: &Checked,
     constraint: &Constraint,
-    verdict: &Verdict,
+    certificate: &Certificate,
 ) -> Result<Vec<u8>, Fail> {
     let blocks = scopes(alloc, query)?;
     let paths = paths_of(alloc, &query.query().blocks)?;
     let mut out = Vec::new(alloc);
     if paths.len() == blocks.blocks.len() {
-        print_verdict(alloc, &blocks, &paths, 2, constraint, verdict, &mut out)?;
+        print_yes(alloc, &blocks, &paths, 2, constraint, certificate, &mut out)?;
     }
     Ok(out)
 }
@@ -82,10 +83,11 @@ fn a_certificate_has_its_lines(rt: HostRuntime) -> Result<(), Fail> {
         recheck(alloc, &query, &constraint, &certificate)?,
         "link 3 shows it",
     )?;
-    let text = text_of(alloc, &query, &constraint, &Verdict::Yes(certificate))?;
+    let text = text_of(alloc, &query, &constraint, &certificate)?;
     check_text(&text, YEARS)?;
-    let text = text_of(alloc, &query, &constraint, &Verdict::Unknown)?;
-    check_text(&text, b"2 unknown\n")
+    let mut unknown = Vec::new(alloc);
+    print_unknown(2, &mut unknown)?;
+    check_text(&unknown, b"2 unknown\n")
 }
 
 // Link 4 is by another label, and three mentions are too few.
@@ -108,11 +110,12 @@ fn other_uses_are_no_certificate(rt: HostRuntime) -> Result<(), Fail> {
     )
 }
 
-// What is told of the constraints of the text, and whether all are answered yes.
-fn told(alloc: Global, query: &[u8], constraints: &[u8]) -> Result<Verdicts, Fail> {
+/// What is told of the constraints of the text, and whether all are answered yes.
+pub fn told(alloc: Global, query: &[u8], constraints: &[u8]) -> Result<Verdicts, Fail> {
     let query = read_query(alloc, query, 65_536)?;
     let constraints = parse_constraints(alloc, constraints, 65_536, &query)?;
-    Ok(verdicts_of(alloc, &query, &constraints)?)
+    let mut trial = SiteTrial::of(alloc, &query)?;
+    Ok(verdicts_of(alloc, &query, &constraints, &mut trial)?)
 }
 
 const THREE: &[u8] = b"ONLY YearPage LINKS \"Paper\" TO PaperPage
@@ -126,7 +129,12 @@ const THREE_TOLD: &[u8] = b"1 yes
   2.1 YearPage(v): link 3 {x=x, l=l, v=v}
   2.1 YearPage(v): link 3 {x=x, l=l, v=v}
   2.1 YearPage(v): link 3 {x=x, l=l, v=v}
-3 unknown
+3 no
+  object \"v\" {
+  }
+  object \"x\" in \"Publications\" {
+    \"x\" &\"v\"
+  }
 ";
 
 // The first asks for no use of a link. A link of a paper's page carries whatever label l is.
@@ -134,7 +142,7 @@ const THREE_TOLD: &[u8] = b"1 yes
 fn constraints_are_told_in_order(rt: HostRuntime) -> Result<(), Fail> {
     let verdicts = told(rt.alloc(), PAPERS, THREE)?;
     check_text(verdicts.text.bytes(), THREE_TOLD)?;
-    check(!verdicts.all_yes, "the third is unknown")
+    check(!verdicts.all_yes, "the third is no")
 }
 
 const PAPERS_ARE_REACHED: &[u8] = b"REACHABLE PaperPage FROM RootPage";
@@ -154,6 +162,14 @@ const TITLED: &[u8] = b"INPUT Bib { CREATE RootPage() } \
     LINK YearPage(v) -> \"Year\" -> v, YearPage(v) -> \"Paper\" -> PaperPage(x), \
     RootPage() -> \"Year\" -> YearPage(v) } } OUTPUT Home";
 
+const A_PAPER_WITHOUT_A_TITLE: &[u8] = b"1 no
+  object \"v\" {
+  }
+  object \"x\" in \"Publications\" {
+    \"l\" &\"v\"
+  }
+";
+
 // A paper's page is mentioned by the CREATE, as the source of link 1 and as the target of links 2
 // and 4. Where link 2 asks for a title, a paper without one may have a page that nothing leads to.
 #[test]
@@ -163,6 +179,6 @@ fn the_way_to_a_page_is_told(rt: HostRuntime) -> Result<(), Fail> {
     check_text(verdicts.text.bytes(), PAPERS_TOLD)?;
     check(verdicts.all_yes, "the only one is yes")?;
     let verdicts = told(alloc, TITLED, PAPERS_ARE_REACHED)?;
-    check_text(verdicts.text.bytes(), b"1 unknown\n")?;
-    check(!verdicts.all_yes, "the only one is unknown")
+    check_text(verdicts.text.bytes(), A_PAPER_WITHOUT_A_TITLE)?;
+    check(!verdicts.all_yes, "the only one is no")
 }

@@ -1,6 +1,7 @@
 // The constraints of a file, in the site over data by the words `check --here`, and over every data graph without them.
 use crate::inputs::{BIB, FileRow, files_of, no_connections, texts};
-use crate::site::SITE;
+use crate::lints::SLIPS;
+use crate::site::{LOOKS, SITE};
 use command_run::strudel;
 use edge_io::MemSink;
 use std::alloc::Global;
@@ -15,6 +16,14 @@ const FILES: &[FileRow] = &[
     FileRow {
         path: "q",
         text: SITE,
+    },
+    FileRow {
+        path: "looks",
+        text: LOOKS,
+    },
+    FileRow {
+        path: "slips",
+        text: SLIPS,
     },
     FileRow {
         path: "reached",
@@ -61,6 +70,14 @@ const FILES: &[FileRow] = &[
         text: FIVE_COERCED,
     },
     FileRow {
+        path: "negated",
+        text: NEGATED,
+    },
+    FileRow {
+        path: "turned",
+        text: "EACH F LINKS \"l\" TO G",
+    },
+    FileRow {
         path: "fives",
         text: "NONE F LINKS \"5\"",
     },
@@ -91,6 +108,10 @@ const FIVE: &str =
 
 const FIVE_COERCED: &str =
     "STRUQL 2 INPUT D WHERE C(x), x -> a -> y, a in {5} CREATE F(x) LINK F(x) -> a -> y OUTPUT S";
+
+// A page of F without a link is over an edge by d, which only the last condition names.
+const NEGATED: &str = "INPUT D { WHERE C(x), x -> \"a\" -> y, not(x -> \"c\" -> y) CREATE F(x) }
+{ WHERE C(u), u -> \"a\" -> w, not(u -> \"c\"|\"d\" -> w) CREATE G(u) LINK F(u) -> \"l\" -> G(u) } OUTPUT S";
 
 // The words of a run, the calls of its files and of its output that fail, its exit code, and what it puts on the output
 // and the standard error.
@@ -135,7 +156,8 @@ fn check_row<R: AllocGlobal + Abort>(rt: &R, row: &CheckRow) -> Result<(), Fail>
     Ok(())
 }
 
-fn check_run<R: AllocGlobal + Abort>(
+/// A run of these words, in which no call fails, has this exit code and puts these texts.
+pub fn check_run<R: AllocGlobal + Abort>(
     rt: &R,
     words: &'static [&'static str],
     code: u8,
@@ -242,23 +264,51 @@ const THREE_ANSWERED: &str = "1 yes
   2.1 YearPage(v): link 3 {x=x, l=l, v=v}
   2.1 YearPage(v): link 3 {x=x, l=l, v=v}
   2.1 YearPage(v): link 3 {x=x, l=l, v=v}
-3 unknown
+3 no
+  object \"v\" {
+  }
+  object \"x\" in \"Publications\" {
+    \"x\" &\"v\"
+  }
+";
+
+const A_PAPER_WITHOUT_A_TITLE: &str = "1 no
+  object \"v\" {
+  }
+  object \"x\" in \"Publications\" {
+    \"l\" &\"v\"
+  }
 ";
 
 // Status 1 where a constraint has no certificate: the lines are put all the same, and nothing is reported.
 #[test]
 fn constraints_are_proved(rt: HostRuntime) -> Result<(), Fail> {
     check_run(&rt, &["check", "q", "reached"], 0, PAPERS_PROVED, "")?;
-    check_run(&rt, &["check", "titled", "reached"], 1, "1 unknown\n", "")?;
+    check_run(
+        &rt,
+        &["check", "titled", "reached"],
+        1,
+        A_PAPER_WITHOUT_A_TITLE,
+        "",
+    )?;
+    check_run(&rt, &["check", "negated", "turned"], 1, "1 unknown\n", "")?;
     check_run(&rt, &["check", "q", "three"], 1, THREE_ANSWERED, "")?;
     check_run(&rt, &["check", "q", "empty"], 0, "", "")
 }
+
+const FIVE_IS_A_LABEL: &str = "1 no
+  object \"x\" in \"C\" {
+    \"5\" &\"y\"
+  }
+  object \"y\" {
+  }
+";
 
 // Where texts are compared with integers by the text of the number, the label `5` is one of 5.
 #[test]
 fn the_versions_compare_otherwise(rt: HostRuntime) -> Result<(), Fail> {
     check_run(&rt, &["check", "five", "fives"], 0, "1 yes\n", "")?;
-    check_run(&rt, &["check", "five2", "fives"], 1, "1 unknown\n", "")
+    check_run(&rt, &["check", "five2", "fives"], 1, FIVE_IS_A_LABEL, "")
 }
 
 // The query is read first, and then the constraints.

@@ -12,6 +12,8 @@ mod inputs;
 #[cfg(test)]
 mod large;
 #[cfg(test)]
+mod lints;
+#[cfg(test)]
 mod pages;
 #[cfg(test)]
 mod refusing;

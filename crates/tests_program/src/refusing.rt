@@ -1,4 +1,4 @@
-// Files for which no memory is left.
+// Files for which the program is out of memory.
 use crate::inputs::{no_connections, texts};
 use command_run::strudel;
 use edge_io::{Failed, Files, MemSink, ReadEnd};

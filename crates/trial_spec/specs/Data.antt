@@ -1,12 +1,12 @@
 -- The data of a trial: entries whose years and authors a linear congruential generator draws.
 use Rattle.std.specs.Prelude.{ℕ, zero, suc, ◌+◌, ◌*◌, ◌/◌, ◌%◌, pos}
 use Rattle.std.specs.Prelude.{List, [], ◌∷◌, ◌++◌, codes, decimal}
-use Rattle.std.specs.List.{flat_map, fold}
+use Rattle.std.specs.List.{flat_map}
 use Rattle.sd_value.specs.declared.Datum.TheVariants.{Int}
 use Rattle.sd_value.specs.declared.Value.{Value}
 use Rattle.sd_value.specs.declared.Value.TheVariants.{Data}
 use Rattle.graph_spec.specs.DataGraph.{DataGraph, Name, text}
-use Rattle.graph_spec.specs.Statement.{Statement, a_member, an_edge, graph_with}
+use Rattle.graph_spec.specs.Statement.{Statement, a_member, an_edge, graph_of}
 use Rattle.trial_spec.specs.declared.Entry.{Entry}
 
 -- the numbers below one, ascending
@@ -62,15 +62,7 @@ statements e =
     ∷ an_edge (node_name e.number) (codes "author") (text (numbered (codes "Author ") e.second))
     ∷ []
 
--- the graph with what is stated besides
-abbrev pub with_all : DataGraph → List Statement → DataGraph
-with_all graph all = fold (λ G s. graph_with s G) graph all
-
--- a graph in which nothing is stated
-abbrev pub empty_graph : DataGraph
-empty_graph = record { nodes = []; edges = []; members = [] }
-
 -- the data of a trial: what its entries state, and nothing else
 abbrev pub made_graph : ℕ → DataGraph
 made_graph entries =
-    with_all empty_graph (flat_map (λ made. statements (entry entries made)) (below entries))
+    graph_of (flat_map (λ made. statements (entry entries made)) (below entries))

@@ -5,7 +5,8 @@ ghost use Rattle.sd_value.specs.Ascending.{ListsExactly};
 ghost use Rattle.sd_value.specs.Order.{value_cmp};
 ghost use Rattle.walks.specs.Joins.{Joins};
 ghost use Rattle.walks.specs.Directions.{JoinsBy, origin};
-ghost use Rattle.walks.specs.Search.{Explores, Sorts, At, Ahead, Leads, LeadsFirst, Searches, IsStart, IsEnd, HasEnd, IsDone, IsUnderWay, Advances};
+ghost use Rattle.walks.specs.Search.{Explores, Sorts, At, Ahead, Leads, LeadsFirst, Searches, IsStart, IsEnd, HasEnd};
+ghost use Rattle.walks.specs.Search.{IsDone, IsUnderWay, Advances};
 
 use crate::direction::Direction;
 use automaton::{Automaton, PositionSet};

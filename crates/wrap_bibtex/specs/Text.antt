@@ -66,7 +66,7 @@ IsFaultOf whole (Read item rest) e = ⊥
 IsFaultOf whole (Stuck rest) e = e ≡ Expected (whole - length rest)
 IsFaultOf whole (Past rest) e = e ≡ limit_fault whole rest
 
--- why no item was read: its fault, or want of memory at any time
+-- why no item was read: its fault, or out of memory, at any time
 abbrev pub IsItemFault : ℕ → Outcome ℕ Item → BibRefusal → Type 0
 IsItemFault whole read e = (e ≡ NoMemory) ⊎ IsFaultOf whole read e
 

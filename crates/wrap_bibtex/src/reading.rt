@@ -3,7 +3,10 @@ ghost use Rattle.std.specs.Prelude.{◌≡◌, ◌<◌, ◌≤◌, ◌∷◌, []
 ghost use Rattle.grammar.specs.Reading.{repeat, with_front, starts};
 ghost use Rattle.bibtex_spec.specs.Bytes as specs;
 ghost use Rattle.wrap_bibtex.specs.Gives.{Gives};
-ghost use Rattle.bibtex_spec.specs.Reading.{read_mark, read_open, read_class, read_name, read_key, read_digits, nesting as nesting_by, opened, read_enclosed, read_macro, read_piece, read_further, read_value, read_field, read_fields, read_entry, read_definition, read_preamble, read_rest, read_item};
+ghost use Rattle.bibtex_spec.specs.Reading.{read_mark, read_open, read_class, read_name, read_key, read_digits};
+ghost use Rattle.bibtex_spec.specs.Reading.{nesting as nesting_by, opened, read_enclosed, read_macro, read_piece};
+ghost use Rattle.bibtex_spec.specs.Reading.{read_further, read_value, read_field, read_fields, read_entry};
+ghost use Rattle.bibtex_spec.specs.Reading.{read_definition, read_preamble, read_rest, read_item};
 
 use crate::bytes::{
     behind_blanks, digits, is_digit, is_key_byte, is_letter, key_bytes, letters, name_bytes,

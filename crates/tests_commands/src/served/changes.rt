@@ -5,11 +5,12 @@ use crate::run::{End, check_replayed, check_served};
 use std::alloc::Global;
 use std::test::Fail;
 
-const NOT_FOUND: &str =
+/// The reply where no page has the address, but for the line feed at its end.
+pub const NOT_FOUND: &str =
     "HTTP/1.1 404 Not Found|Content-Type: text/plain; charset=utf-8|Content-Length: 10|Connection: close||not found";
 
-// A head of 98 bytes and a page of 52.
-const NEW_REPLY: &str =
+/// The page of 1996 among the new data: a head of 98 bytes and a page of 52.
+pub const NEW_REPLY: &str =
     "HTTP/1.1 200 OK|Content-Type: text/html; charset=utf-8|Content-Length: 52|Connection: close||<h1>1996</h1><a href=\"/PaperPage/npub9.html\">New</a>";
 
 // What a connection is sent, with `|` for each line end of the protocol, and its length as it is printed.
@@ -89,8 +90,8 @@ const ROWS: &[Row] = &[
     },
 ];
 
-// The reply with the line ends of HTTP. The text of a not-found page ends in a line feed alone.
-fn reply_text(alloc: Global, text: &str) -> Result<Vec<u8>, Fail> {
+/// The reply with the line ends of HTTP. The text of a not-found page ends in a line feed alone.
+pub fn reply_text(alloc: Global, text: &str) -> Result<Vec<u8>, Fail> {
     let mut reply = with_line_ends(alloc, text)?;
     if text == NOT_FOUND {
         reply.push(b'\n')?;

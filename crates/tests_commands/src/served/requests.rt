@@ -1,6 +1,8 @@
 // Requests of one connection, in one piece and byte by byte.
 use super::exchange::{Exchange, ONE_REPLY, check_bytes, check_script};
-use super::sites::{BAD_REPLY, BIBLIOGRAPHY, CYCLE, HOME_REPLY, YEAR_REPLY, YEAR_REQUEST};
+use super::sites::{
+    BAD_REPLY, BIBLIOGRAPHY, CYCLE, CYCLIC_REPLY, HOME_REPLY, YEAR_REPLY, YEAR_REQUEST,
+};
 use crate::inputs::{Site, in_quotes, push_all, with_line_ends};
 use sd_value::NoMemory;
 use std::alloc::Global;
@@ -135,7 +137,7 @@ const CYCLIC: &[Request] = &[Request {
     options: &[],
     last: "",
     length: "146",
-    reply: "HTTP/1.1 500 Internal Server Error|Content-Type: text/plain; charset=utf-8|Content-Length: 28|Connection: close||cyclic embedding at /A.html\n",
+    reply: CYCLIC_REPLY,
     counts: ONE_REPLY,
 }];
 

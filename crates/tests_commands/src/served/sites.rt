@@ -15,6 +15,10 @@ pub const CYCLE: Site = Site {
     templates: b"<TEMPLATE A>[<SFMT @e EMBED>]</TEMPLATE><TEMPLATE B>(<SFMT @e EMBED>)</TEMPLATE>",
 };
 
+/// The reply to a request for the first of them, of 146 bytes.
+pub const CYCLIC_REPLY: &str =
+    "HTTP/1.1 500 Internal Server Error|Content-Type: text/plain; charset=utf-8|Content-Length: 28|Connection: close||cyclic embedding at /A.html\n";
+
 /// A request for the page of 1998, of 46 bytes.
 pub const YEAR_REQUEST: &str = "GET /YearPage/i1998.html HTTP/1.1|Host: a||";
 

@@ -52,6 +52,7 @@ fn name_text(name: CommandName) -> &'static [u8] {
         CommandName::Explain => b"help explain",
         CommandName::Schema => b"help schema",
         CommandName::Check => b"help check",
+        CommandName::Lint => b"help lint",
         CommandName::Serve => b"help serve",
         CommandName::Replay => b"help replay",
         CommandName::Trial => b"help trial",
@@ -79,16 +80,21 @@ fn serve_text(alloc: Global, c: &ServeCommand) -> Result<Vec<u8>, NoMemory> {
         u64::from(c.options.waits.idle),
         u64::from(c.options.waits.stall),
     ];
+    let name: &[u8] = if c.options.whole {
+        b"serve whole"
+    } else {
+        b"serve"
+    };
     match &c.watch {
         Some(watch) => {
             let paths = [&c.query, &c.templates, &watch.path];
             let mut all = Vec::from_slice(alloc, &numbers)?;
             all.push(watch.every)?;
-            named(alloc, b"serve", &paths, c.sources.items(), &all)
+            named(alloc, name, &paths, c.sources.items(), &all)
         }
         None => {
             let paths = [&c.query, &c.templates];
-            named(alloc, b"serve", &paths, c.sources.items(), &numbers)
+            named(alloc, name, &paths, c.sources.items(), &numbers)
         }
     }
 }
@@ -117,6 +123,10 @@ pub fn command_text(alloc: Global, command: &Command) -> Result<Vec<u8>, NoMemor
         Command::CheckAll(c) => {
             let paths = [&c.query, &c.constraints];
             named(alloc, b"check all", &paths, &[], &[])
+        }
+        Command::Lint(c) => {
+            let paths = [&c.query, &c.templates];
+            named(alloc, b"lint", &paths, c.sources.items(), &[])
         }
         Command::Serve(c) => serve_text(alloc, c),
         Command::Replay(c) => {

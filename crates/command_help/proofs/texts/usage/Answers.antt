@@ -12,3 +12,6 @@ returns-in-Serve c = rw (c.in-Some.is, c.in-Serve.is) refl
 
 pub returns-in-Replay : goal.returns-in-Replay
 returns-in-Replay c = rw (c.in-Some.is, c.in-Replay.is) refl
+
+pub returns-in-Lint : goal.returns-in-Lint
+returns-in-Lint c = rw (c.in-Some.is, c.in-Lint.is) refl

@@ -1,5 +1,5 @@
 use Rattle.std.proofs.Common.{refl}
-use Rattle.command_run.proofs.Ends.{page_told, data_told, explain_told, schema_told, check_told, check_all_told, check_all_read_rose, check_all_write_rose, build_told, serve_told, replay_told, build_writes, serve_uses, serve_read_rose, replay_read_rose, serve_write_rose, replay_write_rose, page_read_rose, data_read_rose, explain_read_rose, schema_read_rose, check_read_rose, build_read_rose, page_write_rose, data_write_rose, explain_write_rose, schema_write_rose, check_write_rose, build_write_rose, trial_told, trial_read_rose, trial_write_rose, help_told, help_read_rose, help_write_rose, version_told, version_read_rose, version_write_rose}
+use Rattle.command_run.proofs.Ends.{page_told, data_told, explain_told, schema_told, check_told, check_all_told, check_all_read_rose, check_all_write_rose, lint_told, lint_read_rose, lint_write_rose, build_told, serve_told, replay_told, build_writes, serve_uses, serve_read_rose, replay_read_rose, serve_write_rose, replay_write_rose, page_read_rose, data_read_rose, explain_read_rose, schema_read_rose, check_read_rose, build_read_rose, page_write_rose, data_write_rose, explain_write_rose, schema_write_rose, check_write_rose, build_write_rose, trial_told, trial_read_rose, trial_write_rose, help_told, help_read_rose, help_write_rose, version_told, version_read_rose, version_write_rose}
 use Rattle.command_run.proofs.top.run_command.Goals as goal
 
 pub returns-in-Page-clause-ends : goal.returns-in-Page-clause-ends
@@ -67,6 +67,15 @@ returns-in-CheckAll-clause-read_cause g c = check_all_read_rose c.args.command.n
 
 pub returns-in-CheckAll-clause-write_cause : goal.returns-in-CheckAll-clause-write_cause
 returns-in-CheckAll-clause-write_cause g c = λ e. check_all_write_rose c.args.command.now c.in-CheckAll.command (g.F.Files.contents c.args.files.now) _ _ _ c.in-CheckAll.is (c.put_report-in-CheckAll.ensures.write_cause e)
+
+pub returns-in-Lint-clause-ends : goal.returns-in-Lint-clause-ends
+returns-in-Lint-clause-ends g c = λ map told. lint_told (g.F.Files.failed_reads c.args.files.now) (g.F.Files.failed_reads c.lint-answer.new.files) (g.F.Files.failed_writes c.args.files.now) (g.F.Files.failed_writes c.lint-answer.new.files) (g.O.Sink.text c.args.out.now) (g.O.Sink.text c.put_report-in-Lint.new.out) (g.O.Sink.failed c.args.out.now) (g.O.Sink.failed c.put_report-in-Lint.new.out) (g.W.Wire.told c.args.wire.now) (g.W.Wire.told c.args.wire.now) _ _ map c.args.command.now c.in-Lint.command _ c.lint-answer.result _ c.lint-answer.ensures.same told c.in-Lint.is c.items-sources-in-Lint.ensures (c.lint-answer.ensures.ends map told) c.put_report-in-Lint.ensures.ends
+
+pub returns-in-Lint-clause-read_cause : goal.returns-in-Lint-clause-read_cause
+returns-in-Lint-clause-read_cause g c = lint_read_rose c.args.command.now c.in-Lint.command _ c.lint-answer.result _ _ _ _ _ c.in-Lint.is c.items-sources-in-Lint.ensures c.put_report-in-Lint.ensures.ends c.lint-answer.ensures.cause
+
+pub returns-in-Lint-clause-write_cause : goal.returns-in-Lint-clause-write_cause
+returns-in-Lint-clause-write_cause g c = λ e. lint_write_rose c.args.command.now c.in-Lint.command (g.F.Files.contents c.args.files.now) _ _ _ c.in-Lint.is (c.put_report-in-Lint.ensures.write_cause e)
 
 pub returns-in-Serve-clause-ends : goal.returns-in-Serve-clause-ends
 returns-in-Serve-clause-ends g c = λ map told. serve_told (g.F.Files.failed_reads c.args.files.now) (g.F.Files.failed_reads c.serve.new.files) (g.F.Files.failed_writes c.args.files.now) (g.F.Files.failed_writes c.serve.new.files) (g.O.Sink.text c.args.out.now) (g.O.Sink.text c.serve.new.out) (g.O.Sink.failed c.args.out.now) (g.O.Sink.failed c.serve.new.out) (g.W.Wire.told c.args.wire.now) (g.W.Wire.told c.serve.new.wire) _ _ map c.args.command.now c.in-Serve.command _ c.serve.ensures.same told c.in-Serve.is (c.serve.ensures.ends map told)

@@ -3,6 +3,7 @@ use Rattle.command_run.proofs.Ends.{reported_told, reported_silent}
 use Rattle.command_run.proofs.Complete.{complete_told}
 use Rattle.command_run.proofs.Exact.{exact_told}
 use Rattle.command_run.proofs.Checked.{held_told}
+use Rattle.command_run.proofs.Linted.{found_told}
 use Rattle.command_run.proofs.top.strudel.Goals as goal
 
 pub returns-clause-ends : goal.returns-clause-ends
@@ -20,6 +21,10 @@ returns-clause-exact g c = λ map told command is_given.
 pub returns-clause-holds : goal.returns-clause-holds
 returns-clause-holds g c = λ map told command is_given.
     held_told (g.F.Files.failed_reads c.args.files.now) (g.F.Files.failed_reads c.run-status.new.files) (g.F.Files.failed_writes c.args.files.now) (g.F.Files.failed_writes c.run-status.new.files) (g.O.Sink.text c.args.out.now) (g.O.Sink.text c.run-status.new.out) (g.O.Sink.failed c.args.out.now) (g.O.Sink.failed c.run-status.new.out) (g.W.Wire.told c.args.wire.now) (g.W.Wire.told c.run-status.new.wire) _ map _ command _ is_given (returns-clause-ends g c map told)
+
+pub returns-clause-found : goal.returns-clause-found
+returns-clause-found g c = λ map told command is_given.
+    found_told (g.F.Files.failed_reads c.args.files.now) (g.F.Files.failed_reads c.run-status.new.files) (g.F.Files.failed_writes c.args.files.now) (g.F.Files.failed_writes c.run-status.new.files) (g.O.Sink.text c.args.out.now) (g.O.Sink.text c.run-status.new.out) (g.O.Sink.failed c.args.out.now) (g.O.Sink.failed c.run-status.new.out) (g.W.Wire.told c.args.wire.now) (g.W.Wire.told c.run-status.new.wire) _ map _ command _ is_given (returns-clause-ends g c map told)
 
 pub returns-clause-quiet : goal.returns-clause-quiet
 returns-clause-quiet g c = reported_silent _ _ c.run-status.ensures.quiet c.report.ensures.status

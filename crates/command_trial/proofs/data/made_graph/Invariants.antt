@@ -1,5 +1,6 @@
 use Rattle.std.proofs.Common.{◌≡◌, ◌<◌, flat_map}
-use Rattle.trial_spec.specs.Data.{below, entry, statements, state_at, with_all, empty_graph}
+use Rattle.trial_spec.specs.Data.{below, entry, statements, state_at}
+use Rattle.graph_spec.specs.Statement.{with_all, empty_graph}
 use Rattle.command_trial.proofs.data.made_graph.Given as goal
 
 abbrev pub invariant-loop-made : goal.invariant-loop-made

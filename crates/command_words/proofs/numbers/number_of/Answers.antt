@@ -1,22 +1,21 @@
-use Rattle.std.proofs.Common.{◌∙◌, ◌≤◌, arith, List, ℕ, Some, option_map, refl, sym, ap, subst}
+use Rattle.std.proofs.Common.{◌∙◌, arith, List, ℕ, Some, option_map, refl, sym, ap, subst}
 use Rattle.std.specs.Borrow.{Bor}
 use Rattle.command_words.specs.Parsed.{number_or_default}
 use Rattle.command_spec.specs.declared.numbers.NumberOption.{NumberOption}
-use Rattle.command_spec.specs.declared.numbers.NumberOption.TheVariants.{Port, Connections, Requests, Turns, Cache, Idle, Stall, Watch, Every}
+use Rattle.command_spec.specs.declared.numbers.NumberOption.TheVariants.{Port, Connections, Requests, Turns, Cache, Idle, Stall, Every}
 use Rattle.command_spec.specs.Numbers.{default_of, greatest}
 use Rattle.command_spec.specs.Ranges.{IsFrom1To}
 use Rattle.command_words.proofs.numbers.number_of.Goals as goal
 
-default_within : (o : NumberOption) → 1 ≤ greatest o → IsFrom1To (greatest o) (default_of o)
-default_within Port some = (omega arith, omega arith)
-default_within Connections some = (omega arith, omega arith)
-default_within Requests some = (omega arith, omega arith)
-default_within Turns some = (omega arith, omega arith)
-default_within Cache some = (omega arith, omega arith)
-default_within Idle some = (omega arith, omega arith)
-default_within Stall some = (omega arith, omega arith)
-default_within Watch none = absurd (omega arith)
-default_within Every some = (omega arith, omega arith)
+default_within : (o : NumberOption) → IsFrom1To (greatest o) (default_of o)
+default_within Port = (omega arith, omega arith)
+default_within Connections = (omega arith, omega arith)
+default_within Requests = (omega arith, omega arith)
+default_within Turns = (omega arith, omega arith)
+default_within Cache = (omega arith, omega arith)
+default_within Idle = (omega arith, omega arith)
+default_within Stall = (omega arith, omega arith)
+default_within Every = (omega arith, omega arith)
 
 pub returns-in-None-clause-exact : goal.returns-in-None-clause-exact
 returns-in-None-clause-exact c =
@@ -31,4 +30,4 @@ returns-in-Some-clause-exact c =
 
 pub returns-in-None-clause-range : goal.returns-in-None-clause-range
 returns-in-None-clause-range c =
-    subst (IsFrom1To (greatest c.args.option)) (sym c.otherwise.ensures) (default_within c.args.option c.requires)
+    subst (IsFrom1To (greatest c.args.option)) (sym c.otherwise.ensures) (default_within c.args.option)

@@ -1,7 +1,7 @@
 use Rattle.std.proofs.Common.{◌∙◌, ap}
 use Rattle.clap.proofs.WalkLemmas.{first_value-rows}
 use Rattle.clap.specs.Words.{first_value, found_of}
-use Rattle.command_spec.specs.Numbers.{option_name}
+use Rattle.command_spec.specs.Values.{option_name}
 use Rattle.command_words.proofs.numbers.text_in.Goals as goal
 
 pub returns : goal.returns

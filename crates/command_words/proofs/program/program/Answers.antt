@@ -1,6 +1,7 @@
 use Rattle.std.proofs.Common.{◌≡◌, ◌∙◌, ap, true, codes, []}
 use Rattle.clap.specs.Simple.{app_of, app_of_fields, new_app, on_top}
-use Rattle.command_words.specs.Parsed.{run_numbers, serve_numbers, top}
+use Rattle.command_spec.specs.Words.{options_of_serve, options_of_replay}
+use Rattle.command_words.specs.Parsed.{top}
 use Rattle.command_words.proofs.Subcommands.{alone, next_command}
 use Rattle.command_words.proofs.program.program.Goals as goal
 
@@ -17,8 +18,9 @@ returns c =
     let s4 = next_command _ _ _ _ (codes "explain") [] c.in_ok-subcommand-4.ensures c.in_ok-command_of-4.ensures s3 in
     let s5 = next_command _ _ _ _ (codes "schema") [] c.in_ok-subcommand-5.ensures c.in_ok-command_of-5.ensures s4 in
     let s6 = next_command _ _ _ _ (codes "check") [] c.in_ok-subcommand-6.ensures c.in_ok-command_of-6.ensures s5 in
-    let s7 = next_command _ _ _ _ (codes "serve") serve_numbers c.in_ok-subcommand-7.ensures c.in_ok-command_of-7.ensures s6 in
-    let s8 = next_command _ _ _ _ (codes "replay") run_numbers c.in_ok-subcommand-8.ensures c.in_ok-command_of-8.ensures s7 in
-    let s9 = next_command _ _ _ _ (codes "trial") [] c.in_ok-subcommand-9.ensures c.in_ok-command_of-9.ensures s8 in
-    let s10 = next_command _ _ _ _ (codes "help") [] c.in_ok-subcommand-10.ensures c.in_ok-command_of-10.ensures s9 in
-    next_command _ _ _ _ (codes "version") [] c.in_ok-program.ensures c.in_ok-command_of-11.ensures s10
+    let s7 = next_command _ _ _ _ (codes "lint") [] c.in_ok-subcommand-7.ensures c.in_ok-command_of-7.ensures s6 in
+    let s8 = next_command _ _ _ _ (codes "serve") options_of_serve c.in_ok-subcommand-8.ensures c.in_ok-command_of-8.ensures s7 in
+    let s9 = next_command _ _ _ _ (codes "replay") options_of_replay c.in_ok-subcommand-9.ensures c.in_ok-command_of-9.ensures s8 in
+    let s10 = next_command _ _ _ _ (codes "trial") [] c.in_ok-subcommand-10.ensures c.in_ok-command_of-10.ensures s9 in
+    let s11 = next_command _ _ _ _ (codes "help") [] c.in_ok-subcommand-11.ensures c.in_ok-command_of-11.ensures s10 in
+    next_command _ _ _ _ (codes "version") [] c.in_ok-program.ensures c.in_ok-command_of-12.ensures s11

@@ -1,0 +1,5 @@
+pub mod Pieces
+pub mod Once
+pub mod Law
+pub mod Taken
+pub mod Judged

@@ -1,0 +1,23 @@
+-- The lines of findings, as a refusal is reported: the file, the number, the name and the place.
+use Rattle.std.specs.Prelude.{ℕ, List, ◌++◌, ◌==◌, codes, if◌then◌else◌}
+use Rattle.std.specs.Fmt.{decimal}
+use Rattle.lint_spec.specs.declared.Finding.{Finding}
+
+-- the name of a mistake of this number
+abbrev pub name_of : ℕ → List ℕ
+name_of n =
+    if n == 141 then codes "UnknownCollection" else (
+    if n == 142 then codes "UnknownLabel" else (
+    if n == 143 then codes "NoSuchLink" else (
+    if n == 144 then codes "NeverCreated" else (
+    if n == 145 then codes "NoTemplate" else (
+    if n == 146 then codes "NeverReached" else (
+    if n == 147 then codes "Unbounded" else (
+    if n == 148 then codes "NoRow" else (
+    if n == 149 then codes "MisspelledTag" else codes ""))))))))
+
+-- the line of a finding in the file
+abbrev pub finding_line : List ℕ → Finding → List ℕ
+finding_line path f =
+    path ++ codes ": " ++ decimal f.number ++ codes " " ++ name_of f.number ++ codes " at "
+    ++ decimal f.at ++ codes "\n"

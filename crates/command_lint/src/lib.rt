@@ -1,0 +1,65 @@
+//! The command `lint`: what a site's texts ask for and isn't there.
+#![tactic(auto)]
+
+ghost use Rattle.std.specs.Prelude.{◌≡◌};
+ghost use Rattle.std.specs.Option.{ForSome};
+ghost use Rattle.command_spec.specs.Inputs.{input_paths};
+ghost use Rattle.site_inputs.specs.Runs.{ReadsHaveCause};
+ghost use Rattle.command_lint.specs.Ends.{LintEnds};
+
+mod laws;
+mod lines;
+mod texts;
+
+use crate::texts::{InputText, report_of};
+use constraint_report::Report;
+use edge_io::Files;
+pub use laws::reports_are_decided;
+use sd_value::Str;
+use site_inputs::{Fault, load_graph, read_file, take_query, take_templates};
+use std::alloc::Global;
+
+// The most bytes of a query, and of a file of templates.
+const TEXT_LIMIT: u64 = 1_048_576;
+
+/// What a query and its templates ask for and isn't there, over the data: a line for each finding, those in the query
+/// first, each text's in its order, and whether all that they ask for is there.
+/// # Errors
+/// The first of the data files, the query and the templates that is refused or unread, or out of memory.
+pub fn lint<F: Files>(
+    alloc: Global,
+    files: &mut F,
+    sources: &[Str],
+    query_path: &Str,
+    templates_path: &Str,
+) -> Result<Report, Fault>
+    ensures ends { ForSome (F.contents files.old) (λ map.
+        LintEnds map sources.now query_path.now templates_path.now result) }
+    ensures same { F.contents files.new ≡ F.contents files.old }
+    ensures cause { ReadsHaveCause (input_paths sources.now query_path.now templates_path.now)
+        (F.failed_reads files.old) (F.failed_reads files.new) result }
+    ensures writes { F.failed_writes files.new ≡ F.failed_writes files.old }
+{
+    let graph = load_graph(alloc, files, sources)?;
+    let query_bytes = read_file(alloc, files, query_path, TEXT_LIMIT)?;
+    let query = take_query(alloc, query_path, query_bytes.bytes())?;
+    let template_bytes = read_file(alloc, files, templates_path, TEXT_LIMIT)?;
+    let templates = take_templates(alloc, templates_path, template_bytes.bytes())?;
+    let query_text = InputText {
+        path: query_path,
+        bytes: query_bytes.bytes(),
+    };
+    let template_text = InputText {
+        path: templates_path,
+        bytes: template_bytes.bytes(),
+    };
+    let report = report_of(
+        alloc,
+        graph,
+        &query,
+        &query_text,
+        &templates,
+        &template_text,
+    )?;
+    Ok(report)
+}

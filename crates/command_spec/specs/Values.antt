@@ -1,0 +1,59 @@
+-- The options that have a value: their names, and the values that they are given.
+use Rattle.std.specs.Prelude.{ℕ, List, [], ◌∷◌, ◌++◌, map, filter, Bool, Option, None, Some, codes}
+use Rattle.std.specs.List.{list_all, list_any}
+use Rattle.std.specs.Str.{bytes_eq}
+use Rattle.command_spec.specs.Options.{Setting}
+use Rattle.command_spec.specs.declared.numbers.NumberOption.{NumberOption}
+use Rattle.command_spec.specs.declared.numbers.NumberOption.TheVariants.{Port, Connections, Requests, Turns, Cache}
+use Rattle.command_spec.specs.declared.numbers.NumberOption.TheVariants.{Idle, Stall, Every}
+use Rattle.command_spec.specs.declared.options.PathOption.{PathOption}
+use Rattle.command_spec.specs.declared.options.PathOption.TheVariants.{Watch}
+use Rattle.command_spec.specs.declared.options.ValueOption.{ValueOption}
+use Rattle.command_spec.specs.declared.options.ValueOption.TheVariants.{Number, Path}
+
+-- the name of an option whose value is a number
+abbrev pub number_name : NumberOption → List ℕ
+number_name Port = codes "port"
+number_name Connections = codes "connections"
+number_name Requests = codes "requests"
+number_name Turns = codes "turns"
+number_name Cache = codes "cache"
+number_name Idle = codes "idle"
+number_name Stall = codes "stall"
+number_name Every = codes "every"
+
+-- the name of an option whose value is a path
+abbrev pub path_name : PathOption → List ℕ
+path_name Watch = codes "watch"
+
+-- the option's name
+abbrev pub option_name : ValueOption → List ℕ
+option_name (Number option) = number_name option
+option_name (Path option) = path_name option
+
+-- how the option is written
+abbrev pub option_word : ValueOption → List ℕ
+option_word option = codes "--" ++ option_name option
+
+-- the option's values, one for each time that it is given
+abbrev pub values_of : ValueOption → List Setting → List (List ℕ)
+values_of option settings =
+    map (λ s. s.value) (filter (λ s. bytes_eq s.name (option_word option)) settings)
+
+-- the path of an option with these values, if it has one: nothing where it is given twice
+abbrev pub one_path : List (List ℕ) → Option (Option (List ℕ))
+one_path [] = Some None
+one_path (path ∷ []) = Some (Some path)
+one_path (path ∷ other ∷ more) = None
+
+-- the path of the option, if it is given
+abbrev pub path_of : PathOption → List Setting → Option (Option (List ℕ))
+path_of option settings = one_path (values_of (Path option) settings)
+
+-- whether the name is that of one of these options
+abbrev pub is_among : List ValueOption → List ℕ → Bool
+is_among options name = list_any (λ option. bytes_eq name (option_word option)) options
+
+-- whether each option is one of these
+abbrev pub are_among : List ValueOption → List Setting → Bool
+are_among options settings = list_all (λ setting. is_among options setting.name) settings

@@ -1,0 +1,10 @@
+//! What a first query makes of data: its site, seen as a data graph, over which a second query may be asked.
+#![tactic(auto)]
+
+mod graph;
+mod made;
+mod names;
+
+pub use graph::site_data;
+pub use made::composed_data;
+pub use names::collect_names;

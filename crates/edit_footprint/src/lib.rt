@@ -1,0 +1,129 @@
+//! What the pages of a function rest on.
+#![tactic(auto)]
+
+ghost use Rattle.std.specs.Prelude.{◌≡◌, ◌<◌, ◌^◌, IfOk, length, map};
+ghost use Rattle.tmpl.specs.Reading.{file_of, named_of};
+ghost use Rattle.query_blocks.specs.Blocks.{body_of, scope_of};
+ghost use Rattle.edit_footprint.specs.Rests as tests;
+ghost use Rattle.edit_footprint.specs.Numbers.{number_of, numbers_from, AreReads, AreParts};
+ghost use Rattle.tmpl.specs.Body.{TemplateFile};
+
+mod blocks;
+mod reads;
+
+use blocks::rests_on;
+use edit_touches::FootprintParts;
+use query_blocks::QueryBlocks;
+use reads::{Reads, gather};
+use sd_value::{NoMemory, Str, sort_and_dedup};
+use std::alloc::Global;
+use tmpl::{NamedTemplate, Templates};
+
+// Numbers of blocks have 32 bits.
+const MOST_BLOCKS: usize = 4_294_967_296;
+
+// The number of the function's template.
+fn number_of(names: &[NamedTemplate], function: &Str) -> Option<u32>
+    ensures { result ≡ number_of function.now (map named_of names.now) }
+{
+    for named in names {
+        if named.name == *function {
+            return Some(named.template);
+        }
+    }
+    None
+}
+
+// What the function's template reads: nothing, where it has none.
+fn reads_of(alloc: Global, templates: &Templates, function: &Str) -> Result<Reads, NoMemory>
+    ensures { IfOk result (AreReads (file_of templates.now) function.now) }
+{
+    let mut reads = Reads {
+        embeds: false,
+        own: Vec::new(alloc),
+        others: Vec::new(alloc),
+        collections: Vec::new(alloc),
+    };
+    match number_of(templates.functions(), function) {
+        None => Ok(reads),
+        Some(number) => {
+            let parts = templates.template(number).parts.as_slice();
+            gather(alloc, parts, &mut reads)?;
+            Ok(reads)
+        }
+    }
+}
+
+// The numbers of the blocks on which the pages rest.
+fn blocks_of(
+    alloc: Global,
+    function: &Str,
+    reads: &Reads,
+    scopes: &QueryBlocks,
+) -> Result<Vec<u32>, NoMemory>
+    requires { length scopes.now.blocks.items < 2 ^ 32 }
+    ensures { IfOk result (λ ns. ns.items ≡ numbers_from
+        (tests.rests_on function.now reads.now.own.items reads.now.others.items
+        reads.now.collections.items) 0 (scope_of scopes.now).bodies) }
+{
+    let mut numbers = Vec::new(alloc);
+    let mut number = 0;
+    for block in scopes.blocks.as_slice() {
+        if rests_on(function, reads, block) {
+            numbers.push(number)?;
+        }
+        number += 1;
+    }
+    Ok(numbers)
+}
+
+fn parts_of(
+    alloc: Global,
+    scopes: &QueryBlocks,
+    function: &Str,
+    reads: Reads,
+) -> Result<FootprintParts, NoMemory>
+    requires { length scopes.now.blocks.items < 2 ^ 32 }
+    ensures { IfOk result (λ p. (f : TemplateFile) → AreReads f function.now reads
+        → AreParts f (scope_of scopes.now) function.now p) }
+{
+    if reads.embeds {
+        return Ok(FootprintParts {
+            every: true,
+            blocks: Vec::new(alloc),
+            labels: Vec::new(alloc),
+            collections: Vec::new(alloc),
+        });
+    }
+    let blocks = blocks_of(alloc, function, &reads, scopes)?;
+    let Reads {
+        embeds: _,
+        own: _own,
+        others: mut labels,
+        mut collections,
+    } = reads;
+    sort_and_dedup(&mut labels);
+    sort_and_dedup(&mut collections);
+    Ok(FootprintParts {
+        every: false,
+        blocks,
+        labels,
+        collections,
+    })
+}
+
+/// What the pages of the function rest on. A query of 2^32 blocks or more is out of memory.
+pub fn footprint(
+    alloc: Global,
+    scopes: &QueryBlocks,
+    templates: &Templates,
+    function: &Str,
+) -> Result<FootprintParts, NoMemory>
+    ensures { IfOk result (AreParts (file_of templates.now) (scope_of scopes.now) function.now) }
+{
+    if scopes.blocks.len() >= MOST_BLOCKS {
+        return Err(NoMemory);
+    }
+    let reads = reads_of(alloc, templates, function)?;
+    parts_of(alloc, scopes, function, reads)
+}

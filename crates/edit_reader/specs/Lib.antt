@@ -1,0 +1,5 @@
+pub mod EditText
+pub mod Reading
+pub mod Spelled
+pub mod Refused
+pub mod Reads

@@ -1,0 +1,7 @@
+pub mod Decide
+pub mod Reaching
+pub mod Conditions
+pub mod Lists
+pub mod Rows
+pub mod Sites
+pub mod Graphs
