@@ -158,6 +158,8 @@ def bench_sites(folder):
     site(folder, PAPERS, PAPERS_PAGES, shapes.papers(20_000))
     seconds, memory = built(folder)
     rows.append(("build, 20,000 papers", seconds, memory, "memory at most what it was"))
+    composed, memory = least(["data", "--over", "q", "d.ddl"], folder, limit=LIMIT)
+    rows.append(("the same site as the data of another query (`data --over`)", composed, memory, told(composed, "twice the build")))
     return rows
 
 

@@ -10,7 +10,7 @@ _strudel() {
     return
   fi
   usage=$("$strudel" help "${COMP_WORDS[1]}" 2>/dev/null)
-  if [[ $before = --* ]] && grep -q -e "^  $before [A-Z]" <<<"$usage"; then return; fi
+  if [[ $before = --* ]] && grep -qE -e "^  $before (N|MS) " <<<"$usage"; then return; fi
   if [[ $word = -* ]]; then
     mapfile -t COMPREPLY < <(compgen -W "$(grep -o -e '^  --[a-z]*' <<<"$usage")" -- "$word")
     return

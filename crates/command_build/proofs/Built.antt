@@ -90,19 +90,19 @@ unbuilt_told o n s folder old end same told is =
 -- an input that isn't taken ends the run, and nothing is written or put
 refused_ends : (command : BuildCommand) (before after : Host) (reason : Fault)
     → after.files ≡ before.files → after.output ≡ before.output
-    → InputsEnd before.files command.sources command.query command.templates (Err reason)
+    → InputsEnd before.files command.sources command.over command.query command.templates (Err reason)
     → BuildEnds command before after (status_of reason)
 refused_ends command before after (fault.Refused refusal) files out h = (h, files)
 refused_ends command before after (fault.Unread path) files out h = (h, files)
 refused_ends command before after (fault.Faulty term kind) files out h =
-    absurd ((inputs_none before.files command.sources command.query command.templates).none (fault.Faulty term kind) tt h)
+    absurd ((inputs_none before.files command.sources command.over command.query command.templates).none (fault.Faulty term kind) tt h)
 refused_ends command before after fault.NotFound files out h =
-    absurd ((inputs_none before.files command.sources command.query command.templates).none fault.NotFound tt h)
+    absurd ((inputs_none before.files command.sources command.over command.query command.templates).none fault.NotFound tt h)
 refused_ends command before after fault.NoMemory files out h = (inl files, out)
 
 stopped_ends : (command : BuildCommand) (before after : Host) (s : Inputs) (reason : Stop)
     → after.output ≡ before.output
-    → InputsEnd before.files command.sources command.query command.templates (Ok s)
+    → InputsEnd before.files command.sources command.over command.query command.templates (Ok s)
     → BuiltEnds s command.folder before.files after.files (Err reason)
     → (reason ≡ stop.Unwritten → SiteRose s command.folder before.failed_writes after.failed_writes)
     → BuildEnds command before after (stop_status reason)
@@ -120,7 +120,7 @@ module _ (reads reads_now writes writes_now : List ℕ → ℕ) (output output_n
 
   pub refused_told : (o n : Option FileMap) (map : FileMap) (command : BuildCommand) (reason : Fault) (ended : Status)
       → output_now ≡ output → n ≡ o → o ≡ Some map → ended ≡ status_of reason
-      → InputsEnd map command.sources command.query command.templates (Err reason)
+      → InputsEnd map command.sources command.over command.query command.templates (Err reason)
       → IsSomeAnd n (λ now. BuildEnds command (Before map) (After now) ended)
   refused_told o n map command reason ended out same told is h =
       let at : n ≡ Some map = same ∙ told in
@@ -129,7 +129,7 @@ module _ (reads reads_now writes writes_now : List ℕ → ℕ) (output output_n
 
   pub stopped_told : (n : Option FileMap) (old : FileMap) (command : BuildCommand) (s : Inputs) (reason : Stop) (ended : Status)
       → output_now ≡ output → ended ≡ stop_status reason
-      → InputsEnd old command.sources command.query command.templates (Ok s)
+      → InputsEnd old command.sources command.over command.query command.templates (Ok s)
       → IsSomeAnd n (λ new. BuiltEnds s command.folder old new (Err reason))
       → (reason ≡ stop.Unwritten → SiteRose s command.folder writes writes_now)
       → IsSomeAnd n (λ new. BuildEnds command (Before old) (After new) ended)
@@ -138,14 +138,14 @@ module _ (reads reads_now writes writes_now : List ℕ → ℕ) (output output_n
       subst (BuildEnds command (Before old) (After new)) (sym is) (stopped_ends command (Before old) (After new) s reason out taken h rose)
 
   pub whole_told : (n : Option FileMap) (old : FileMap) (command : BuildCommand) (s : Inputs) (line : List ℕ)
-      → InputsEnd old command.sources command.query command.templates (Ok s)
+      → InputsEnd old command.sources command.over command.query command.templates (Ok s)
       → IsSomeAnd n (λ new. BuiltEnds s command.folder old new (Ok line)) → Gains output output_now line
       → IsSomeAnd n (λ new. BuildEnds command (Before old) (After new) status.Ok)
   whole_told None old command s line taken h gained = h
   whole_told (Some new) old command s line taken h gained = (line, record { inputs = s; taken = taken; built = h }, gained)
 
   pub part_told : (n : Option FileMap) (old : FileMap) (command : BuildCommand) (s : Inputs) (line : List ℕ)
-      → InputsEnd old command.sources command.query command.templates (Ok s)
+      → InputsEnd old command.sources command.over command.query command.templates (Ok s)
       → IsSomeAnd n (λ new. BuiltEnds s command.folder old new (Ok line)) → GainsPart output output_now line → Rose puts puts_now
       → IsSomeAnd n (λ new. BuildEnds command (Before old) (After new) status.WriteFault)
   part_told None old command s line taken h gained rose = h

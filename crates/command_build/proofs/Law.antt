@@ -22,7 +22,7 @@ use Rattle.files_spec.specs.Files.{IsPageText, IsFaulty, StopsIn, SiteEnds, Root
 use Rattle.site_inputs.specs.declared.fault.Fault.{Fault}
 use Rattle.site_inputs.specs.declared.fault.Fault.TheVariants as fault
 use Rattle.site_inputs.specs.Runs.{IsDecidedFault, Decides}
-use Rattle.command_spec.specs.Inputs.{input_paths}
+use Rattle.command_spec.specs.Inputs.{data_paths, input_paths}
 use Rattle.site_inputs.specs.Sites.{Inputs, InputsEnd, site_at}
 use Rattle.site_inputs.specs.Statuses.{ReadRose, status_of}
 use Rattle.site_inputs.proofs.DecidedInputs.{inputs_decide}
@@ -60,13 +60,13 @@ module _ (s : Inputs) (writable : AllCanBeWritten s) where
 
 module _ (command : BuildCommand) (before after : Host) where
   abbrev Ended : Result Inputs Fault → Type 0
-  Ended = InputsEnd before.files command.sources command.query command.templates
+  Ended = InputsEnd before.files command.sources command.over command.query command.templates
 
   abbrev Paths : List (List ℕ)
-  Paths = input_paths command.sources command.query command.templates
+  Paths = input_paths (data_paths command.sources command.over) command.query command.templates
 
   decides : Decides Ended
-  decides = inputs_decide before.files command.sources command.query command.templates
+  decides = inputs_decide before.files command.sources command.over command.query command.templates
 
   -- the site was built from the inputs that were accepted, and from no others
   no_fault : (s : Inputs) → Ended (Ok s) → AllCanBeWritten s → (term : Term) (kind : PageKind) → Builds before.files after.files command (Err (stop.Faulty term kind)) → ⊥

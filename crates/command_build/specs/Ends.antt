@@ -51,13 +51,14 @@ BuiltEnds s folder old new end =
 pub record Builds (old new : FileMap) (command : BuildCommand)
     (end : Result (List ℕ) Stop) : Type 0 where
   pub inputs : Inputs
-  pub taken : InputsEnd old command.sources command.query command.templates (Ok inputs)
+  pub taken : InputsEnd old command.sources command.over command.query command.templates (Ok inputs)
   pub built : BuiltEnds inputs command.folder old new end
 
 -- an input was refused or unread, and nothing was written
 abbrev pub IsRefused : (old new : FileMap) → BuildCommand → Fault → Type 0
 IsRefused old new command reason =
-    InputsEnd old command.sources command.query command.templates (Err reason) × (new ≡ old)
+    InputsEnd old command.sources command.over command.query command.templates (Err reason)
+    × (new ≡ old)
 
 -- the path is that of one of the files, under the folder, of the site of these inputs
 pub record IsSiteFile (s : Inputs) (folder path : List ℕ) : Type 0 where
@@ -76,7 +77,8 @@ pub record FileRose (contents : Option FileMap) (command : BuildCommand)
     (before now : List ℕ → ℕ) : Type 0 where
   pub inputs : Inputs
   pub taken : ForSome contents
-      (λ map. InputsEnd map command.sources command.query command.templates (Ok inputs))
+      (λ map. InputsEnd map command.sources command.over command.query command.templates
+      (Ok inputs))
   pub rose : SiteRose inputs command.folder before now
 
 -- one of the site's files could not be written, which was counted, and nothing was put

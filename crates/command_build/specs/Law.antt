@@ -6,7 +6,7 @@ use Rattle.files_spec.specs.Files.{IsPageText}
 use Rattle.run_report.specs.declared.status.Status.{Status}
 use Rattle.run_report.specs.declared.status.Status.TheVariants as status
 use Rattle.command_spec.specs.declared.BuildCommand.{BuildCommand}
-use Rattle.command_spec.specs.Inputs.{input_paths}
+use Rattle.command_spec.specs.Inputs.{data_paths, input_paths}
 use Rattle.site_inputs.specs.declared.fault.Fault.{Fault}
 use Rattle.site_inputs.specs.Runs.{IsDecidedFault}
 use Rattle.site_inputs.specs.Sites.{Inputs, InputsEnd, site_at}
@@ -24,19 +24,24 @@ module _ (command : BuildCommand) (before after : Host) (reached : Status) where
   -- Where the inputs are read, they decide how a build ends that nothing outside fails.
   pub record BuildIsDecided : Type 0 where
     pub accepted : (s : Inputs)
-        → InputsEnd before.files command.sources command.query command.templates (Ok s)
+        → InputsEnd before.files command.sources command.over command.query command.templates
+        (Ok s)
         → AllCanBeWritten s → ¬ PutsRose before after
         → ¬ SiteRose s command.folder before.failed_writes after.failed_writes
         → HasStatus status.Ok reached
     pub refused : (reason : Fault)
-        → InputsEnd before.files command.sources command.query command.templates (Err reason)
+        → InputsEnd before.files command.sources command.over command.query command.templates
+        (Err reason)
         → IsDecidedFault reason → HasStatus (status_of reason) reached
 
   -- the law of the command
   abbrev pub BuildEndsWell : Type 0
   BuildEndsWell =
       BuildEnds command before after reached
-      → ReadRose (input_paths command.sources command.query command.templates)
+      → ReadRose
+      (input_paths (data_paths command.sources command.over) command.query command.templates)
       before.failed_reads after.failed_reads reached
-      → AllRead (input_paths command.sources command.query command.templates) before after
+      → AllRead
+      (input_paths (data_paths command.sources command.over) command.query command.templates)
+      before after
       → BuildIsDecided

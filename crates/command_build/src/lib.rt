@@ -6,7 +6,7 @@ ghost use Rattle.std.specs.Option.{ForSome, IsSomeAnd};
 ghost use Rattle.edge_io.specs.Counts.{Rose};
 ghost use Rattle.files_spec.specs.Causes.{WritesHaveCause};
 ghost use Rattle.site_inputs.specs.Values.{inputs_of};
-ghost use Rattle.command_spec.specs.Inputs.{input_paths};
+ghost use Rattle.command_spec.specs.Inputs.{data_paths, input_paths};
 ghost use Rattle.site_inputs.specs.Statuses.{ReadRose, IsSilent};
 ghost use Rattle.site_inputs.specs.Outside.{host};
 ghost use Rattle.command_build.specs.Ends.{build_text, BuiltEnds, BuildEnds};
@@ -96,7 +96,8 @@ pub fn build<F: Files, O: Sink>(
     ensures words { result ≡ Status.Usage → ⊥ }
     ensures no_wire { result ≡ Status.WireFault → ⊥ }
     ensures read_cause { ReadRose
-        (input_paths command.now.sources command.now.query command.now.templates)
+        (input_paths (data_paths command.now.sources command.now.over)
+        command.now.query command.now.templates)
         (F.failed_reads files.old) (F.failed_reads files.new) result }
     ensures write_cause { result ≡ Status.WriteFault
         → Rose (O.failed out.old) (O.failed out.new)
@@ -107,6 +108,7 @@ pub fn build<F: Files, O: Sink>(
         alloc,
         files,
         command.sources.items(),
+        &command.over,
         &command.query,
         &command.templates,
     ) {

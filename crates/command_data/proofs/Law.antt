@@ -3,12 +3,12 @@ use Rattle.edge_io.specs.Files.{FileMap}
 use Rattle.sd_ddl.specs.Written.{graph_text}
 use Rattle.command_spec.specs.declared.DataCommand.{DataCommand}
 use Rattle.site_inputs.specs.Runs.{Gives, Decides}
-use Rattle.site_inputs.specs.Sources.{GraphEnds, empty_building}
+use Rattle.site_inputs.specs.Sites.{DataInputsEnd}
 use Rattle.site_inputs.proofs.Decided.{then_decides, gives_decides}
-use Rattle.site_inputs.proofs.DecidedInputs.{graph_decides}
+use Rattle.site_inputs.proofs.DecidedInputs.{data_decides}
 use Rattle.command_data.specs.Ends.{DataEnds}
 
-pub data_decides : (map : FileMap) (command : DataCommand) → Decides (DataEnds map command)
-data_decides map command =
-    then_decides (GraphEnds map empty_building command.sources) (λ graph. Gives (graph_text graph))
-    (graph_decides map empty_building command.sources) (λ graph. gives_decides (graph_text graph))
+pub text_decides : (map : FileMap) (command : DataCommand) → Decides (DataEnds map command)
+text_decides map command =
+    then_decides (DataInputsEnd map command.sources command.over) (λ found. Gives (graph_text found.graph))
+    (data_decides map command.sources command.over) (λ found. gives_decides (graph_text found.graph))

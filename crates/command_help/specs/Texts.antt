@@ -12,7 +12,7 @@ program_usage =
     ++ codes "usage: strudel COMMAND\n\n"
     ++ codes "  page QUERY TEMPLATES ADDRESS DATA..    prints one page\n"
     ++ codes "  build QUERY TEMPLATES DIR DATA..       writes every page to its file under a folder\n"
-    ++ codes "  data DATA..                            prints the union of the data\n"
+    ++ codes "  data DATA..                            prints the data\n"
     ++ codes "  explain QUERY DATA..                   prints the plan of each block of the query\n"
     ++ codes "  schema QUERY                           prints the functions and the links of the site\n"
     ++ codes "  check QUERY CONSTRAINTS                prints which constraints are proved for all data\n"
@@ -28,29 +28,32 @@ program_usage =
 -- that of `page`
 abbrev pub page_usage : List ℕ
 page_usage =
-    codes "usage: strudel page QUERY TEMPLATES ADDRESS DATA..\n\n"
+    codes "usage: strudel page [OPTION..] QUERY TEMPLATES ADDRESS DATA..\n\n"
     ++ codes "Prints the page of the site that has this address.\n\n"
     ++ codes "  QUERY            the file of the query\n"
     ++ codes "  TEMPLATES        the file of the templates\n"
     ++ codes "  ADDRESS          the address of the page, from its first slash on\n"
     ++ codes "  DATA             a data file: data text, CSV, JSON or BibTeX\n"
+    ++ codes "  --over FILE      a first query, whose site over the data files is the data\n"
 
 -- that of `build`
 abbrev pub build_usage : List ℕ
 build_usage =
-    codes "usage: strudel build QUERY TEMPLATES DIR DATA..\n\n"
+    codes "usage: strudel build [OPTION..] QUERY TEMPLATES DIR DATA..\n\n"
     ++ codes "Writes every page of the site to its file, and prints how many there are.\n\n"
     ++ codes "  QUERY            the file of the query\n"
     ++ codes "  TEMPLATES        the file of the templates\n"
     ++ codes "  DIR              the folder of the files\n"
     ++ codes "  DATA             a data file: data text, CSV, JSON or BibTeX\n"
+    ++ codes "  --over FILE      a first query, whose site over the data files is the data\n"
 
 -- that of `data`
 abbrev pub data_usage : List ℕ
 data_usage =
-    codes "usage: strudel data DATA..\n\n"
-    ++ codes "Prints the union of the data as one data text.\n\n"
+    codes "usage: strudel data [OPTION..] DATA..\n\n"
+    ++ codes "Prints the data as one data text.\n\n"
     ++ codes "  DATA             a data file: data text, CSV, JSON or BibTeX\n"
+    ++ codes "  --over FILE      a first query, whose site over the data files is the data\n"
 
 -- that of `explain`
 abbrev pub explain_usage : List ℕ
@@ -107,6 +110,7 @@ serve_usage =
     ++ codes "(10000)\n"
     ++ codes "  --watch PATH     a file of data text that replaces the data when it has changed\n"
     ++ codes "  --every N        connections after which it is read, 1 to 4294967296 (1)\n"
+    ++ codes "  --over FILE      a first query, whose site over the data files is the data\n"
     ++ codes "  --whole          makes the whole site first and takes its pages from there\n"
 
 -- that of `replay`
@@ -121,6 +125,7 @@ replay_usage =
     ++ codes "  --requests N     replies of one connection, 1 to 4294967296 (1)\n"
     ++ codes "  --turns N        events that are taken, 1 to 4294967296 (4294967296)\n"
     ++ codes "  --cache N        pages that are kept, 1 to 4096 (256)\n"
+    ++ codes "  --over FILE      a first query, whose site over the data files is the data\n"
 
 -- that of `trial`
 abbrev pub trial_usage : List ℕ

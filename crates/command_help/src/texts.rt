@@ -11,7 +11,7 @@ usage: strudel COMMAND\n\
 \n\
 \x20 page QUERY TEMPLATES ADDRESS DATA..    prints one page\n\
 \x20 build QUERY TEMPLATES DIR DATA..       writes every page to its file under a folder\n\
-\x20 data DATA..                            prints the union of the data\n\
+\x20 data DATA..                            prints the data\n\
 \x20 explain QUERY DATA..                   prints the plan of each block of the query\n\
 \x20 schema QUERY                           prints the functions and the links of the site\n\
 \x20 check QUERY CONSTRAINTS                prints which constraints are proved for all data\n\
@@ -26,31 +26,34 @@ usage: strudel COMMAND\n\
 An option is --name=VALUE, or --name VALUE. Behind a word -- no word is an option.\n";
 
 const PAGE_USAGE: &[u8] = b"\
-usage: strudel page QUERY TEMPLATES ADDRESS DATA..\n\
+usage: strudel page [OPTION..] QUERY TEMPLATES ADDRESS DATA..\n\
 \n\
 Prints the page of the site that has this address.\n\
 \n\
 \x20 QUERY            the file of the query\n\
 \x20 TEMPLATES        the file of the templates\n\
 \x20 ADDRESS          the address of the page, from its first slash on\n\
-\x20 DATA             a data file: data text, CSV, JSON or BibTeX\n";
+\x20 DATA             a data file: data text, CSV, JSON or BibTeX\n\
+\x20 --over FILE      a first query, whose site over the data files is the data\n";
 
 const BUILD_USAGE: &[u8] = b"\
-usage: strudel build QUERY TEMPLATES DIR DATA..\n\
+usage: strudel build [OPTION..] QUERY TEMPLATES DIR DATA..\n\
 \n\
 Writes every page of the site to its file, and prints how many there are.\n\
 \n\
 \x20 QUERY            the file of the query\n\
 \x20 TEMPLATES        the file of the templates\n\
 \x20 DIR              the folder of the files\n\
-\x20 DATA             a data file: data text, CSV, JSON or BibTeX\n";
+\x20 DATA             a data file: data text, CSV, JSON or BibTeX\n\
+\x20 --over FILE      a first query, whose site over the data files is the data\n";
 
 const DATA_USAGE: &[u8] = b"\
-usage: strudel data DATA..\n\
+usage: strudel data [OPTION..] DATA..\n\
 \n\
-Prints the union of the data as one data text.\n\
+Prints the data as one data text.\n\
 \n\
-\x20 DATA             a data file: data text, CSV, JSON or BibTeX\n";
+\x20 DATA             a data file: data text, CSV, JSON or BibTeX\n\
+\x20 --over FILE      a first query, whose site over the data files is the data\n";
 
 const EXPLAIN_USAGE: &[u8] = b"\
 usage: strudel explain QUERY DATA..\n\
@@ -106,6 +109,7 @@ Serves the pages of the site on 127.0.0.1 over HTTP.\n\
 \x20 --stall MS       milliseconds that a reply waits for its client, 1 to 4294967295 (10000)\n\
 \x20 --watch PATH     a file of data text that replaces the data when it has changed\n\
 \x20 --every N        connections after which it is read, 1 to 4294967296 (1)\n\
+\x20 --over FILE      a first query, whose site over the data files is the data\n\
 \x20 --whole          makes the whole site first and takes its pages from there\n";
 
 const REPLAY_USAGE: &[u8] = b"\
@@ -119,7 +123,8 @@ Serves the pages of the site to the connections of a script, and prints the repl
 \x20 DATA             a data file: data text, CSV, JSON or BibTeX\n\
 \x20 --requests N     replies of one connection, 1 to 4294967296 (1)\n\
 \x20 --turns N        events that are taken, 1 to 4294967296 (4294967296)\n\
-\x20 --cache N        pages that are kept, 1 to 4096 (256)\n";
+\x20 --cache N        pages that are kept, 1 to 4096 (256)\n\
+\x20 --over FILE      a first query, whose site over the data files is the data\n";
 
 const TRIAL_USAGE: &[u8] = b"\
 usage: strudel trial N\n\

@@ -28,5 +28,5 @@ module _ (s : Inputs) (address : List ℕ) where
 
 pub page_decides : (map : FileMap) (command : PageCommand) → Decides (PageEnds map command)
 page_decides map command =
-    then_decides (InputsEnd map command.sources command.query command.templates) (λ s. PageTaken s command.address)
-    (inputs_decide map command.sources command.query command.templates) (λ s. record { once = page_once s command.address })
+    then_decides (InputsEnd map command.sources command.over command.query command.templates) (λ s. PageTaken s command.address)
+    (inputs_decide map command.sources command.over command.query command.templates) (λ s. record { once = page_once s command.address })

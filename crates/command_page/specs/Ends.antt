@@ -43,5 +43,5 @@ PageTaken s address answer =
 -- How the command ends: the inputs are read, and then the page is taken from their site.
 abbrev pub PageEnds : FileMap → PageCommand → Result (List ℕ) Fault → Type 0
 PageEnds map command =
-    Then (InputsEnd map command.sources command.query command.templates)
+    Then (InputsEnd map command.sources command.over command.query command.templates)
     (λ s. PageTaken s command.address)

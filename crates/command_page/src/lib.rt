@@ -8,7 +8,7 @@ ghost use Rattle.page_spec.specs.Page.{IsOutcome};
 ghost use Rattle.weight_spec.specs.Site.{site_of};
 ghost use Rattle.query_blocks.specs.Blocks.{scope_of, AreCheckedBlocks};
 ghost use Rattle.site_inputs.specs.Runs.{ReadsHaveCause};
-ghost use Rattle.command_spec.specs.Inputs.{input_paths};
+ghost use Rattle.command_spec.specs.Inputs.{data_paths, input_paths};
 ghost use Rattle.site_inputs.specs.Values.{inputs_of};
 ghost use Rattle.command_page.specs.Ends.{answer_of, PageTaken, PageEnds};
 
@@ -89,13 +89,15 @@ pub fn page<F: Files>(alloc: Global, files: &mut F, command: &PageCommand) -> Re
     ensures ends { ForSome (F.contents files.old) (λ map. PageEnds map command.now result) }
     ensures same { F.contents files.new ≡ F.contents files.old }
     ensures cause { ReadsHaveCause
-        (input_paths command.now.sources command.now.query command.now.templates)
+        (input_paths (data_paths command.now.sources command.now.over)
+        command.now.query command.now.templates)
         (F.failed_reads files.old) (F.failed_reads files.new) result }
 {
     let inputs = load_inputs(
         alloc,
         files,
         command.sources.items(),
+        &command.over,
         &command.query,
         &command.templates,
     )?;

@@ -79,8 +79,8 @@ script_decides map path = then_decides (FileEnds script_limit map path) (ScriptT
 
 scripted_decides : (map : FileMap) (command : ReplayCommand) → Decides (ScriptedEnd map command)
 scripted_decides map command =
-    then_decides (InputsEnd map command.sources command.query command.templates) (λ site. Then (ScriptEnds map command.script) (λ events. Gives (record { site = site; events = events })))
-    (inputs_decide map command.sources command.query command.templates)
+    then_decides (InputsEnd map command.sources command.over command.query command.templates) (λ site. Then (ScriptEnds map command.script) (λ events. Gives (record { site = site; events = events })))
+    (inputs_decide map command.sources command.over command.query command.templates)
     (λ site. then_decides (ScriptEnds map command.script) (λ events. Gives (record { site = site; events = events })) (script_decides map command.script) (λ events. gives_decides (record { site = site; events = events })))
 
 -- ---- how the run ends

@@ -14,12 +14,12 @@ use Rattle.serving_spec.specs.declared.Served.{Served}
 use Rattle.serving_spec.specs.Openings.{opened_in}
 use Rattle.serve_run.specs.Texts.{replay_text}
 use Rattle.site_serving.specs.Served.{ServesSite}
-use Rattle.command_spec.specs.Inputs.{input_paths, replay_paths}
+use Rattle.command_spec.specs.Inputs.{data_paths, input_paths, replay_paths}
 use Rattle.command_replay.specs.Scripts.{Scripted}
 use Rattle.command_replay.specs.Ends.{nothing_sent, ReportsOpened, IsFresh, is_change, run_end, IsReplayed}
 
 pub of_script : (command : ReplayCommand) (path : List ℕ) → Contains (command.script ∷ []) path → Contains (replay_paths command) path
-of_script command path h = Contains-append_right (input_paths command.sources command.query command.templates) (command.script ∷ []) path h
+of_script command path h = Contains-append_right (input_paths (data_paths command.sources command.over) command.query command.templates) (command.script ∷ []) path h
 
 new_account : (entry : Option Sent) → IfSome entry IsNew → IfSome (account_of entry) (λ account. account ≡ nothing_sent)
 new_account None new = tt

@@ -47,7 +47,7 @@ pub record Scripted : Type 0 where
 -- the inputs of the site, and then the script
 abbrev pub ScriptedEnd : FileMap → ReplayCommand → Result Scripted Fault → Type 0
 ScriptedEnd map command =
-    Then (InputsEnd map command.sources command.query command.templates)
+    Then (InputsEnd map command.sources command.over command.query command.templates)
     (λ site. Then (ScriptEnds map command.script)
     (λ events. Gives (record { site = site; events = events })))
 

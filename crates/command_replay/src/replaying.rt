@@ -54,6 +54,7 @@ fn load_all<F: Files>(
         alloc,
         files,
         command.sources.items(),
+        &command.over,
         &command.query,
         &command.templates,
     )?;

@@ -6,7 +6,7 @@ use Rattle.command_spec.specs.declared.LintCommand.{LintCommand}
 use Rattle.command_spec.specs.declared.Command.TheVariants.{Page, Build, Data, Explain, Schema, Check, CheckAll, Lint, Serve, Replay, Trial, Help, Version}
 use Rattle.site_inputs.specs.Runs.{Decides}
 use Rattle.command_page.proofs.Law.{page_decides}
-use Rattle.command_data.proofs.Law.{data_decides}
+use Rattle.command_data.proofs.Law.{text_decides}
 use Rattle.command_explain.proofs.Law.{explain_decides}
 use Rattle.command_schema.proofs.Law.{schema_decides}
 use Rattle.command_check.proofs.Law.{here_decides}
@@ -17,7 +17,7 @@ use Rattle.command_run.specs.Top.{Answers, CheckAnswers, LintAnswers}
 
 pub answer_decides : (map : FileMap) (command : Command) → Decides (Answers map command)
 answer_decides map (Page command) = page_decides map command
-answer_decides map (Data command) = data_decides map command
+answer_decides map (Data command) = text_decides map command
 answer_decides map (Explain command) = explain_decides map command
 answer_decides map (Schema command) = schema_decides map command
 answer_decides map (Trial command) = trial_decides command

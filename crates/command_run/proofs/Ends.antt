@@ -23,7 +23,7 @@ use Rattle.command_spec.specs.declared.ServeCommand.{ServeCommand}
 use Rattle.command_spec.specs.declared.ReplayCommand.{ReplayCommand}
 use Rattle.command_spec.specs.declared.TrialCommand.{TrialCommand}
 use Rattle.command_spec.specs.declared.HelpCommand.{HelpCommand}
-use Rattle.site_inputs.specs.Sites.{InputsEnd}
+use Rattle.site_inputs.specs.Sites.{DataInputsEnd, InputsEnd}
 use Rattle.site_inputs.specs.Sources.{GraphEnds, empty_building}
 use Rattle.sd_graph.specs.Statement.{Building}
 use Rattle.command_spec.specs.Inputs.{replay_paths}
@@ -34,7 +34,7 @@ use Rattle.site_inputs.specs.Outside.{Host, Outside, host, outside}
 use Rattle.wire.specs.Told.{Told}
 use Rattle.run_report.specs.Report.{IsFixed}
 use Rattle.site_inputs.specs.Runs.{Gives, ReadsHaveCause, UnreadRose}
-use Rattle.command_spec.specs.Inputs.{input_paths}
+use Rattle.command_spec.specs.Inputs.{data_paths, input_paths}
 use Rattle.site_inputs.specs.Statuses.{ReadRose, IsSilent, status_of}
 use Rattle.command_page.specs.Ends.{PageEnds}
 use Rattle.command_build.specs.Ends.{BuildEnds, FileRose}
@@ -95,14 +95,14 @@ text_read_rose paths answer old new before now (ReadFault path) h cause =
 text_read_rose paths answer old new before now status h cause = tt
 
 pub page_read_rose : (command : Command) (c : PageCommand) (answer : Result (List ℕ) Fault) (old new : Option (List ℕ)) (before now : List ℕ → ℕ) (status : Status) → command ≡ Page c
-    → TextEnds (λ a. a ≡ answer) old new status → ReadsHaveCause (input_paths c.sources c.query c.templates) before now answer → ReadRose (inputs_of_command command) before now status
+    → TextEnds (λ a. a ≡ answer) old new status → ReadsHaveCause (input_paths (data_paths c.sources c.over) c.query c.templates) before now answer → ReadRose (inputs_of_command command) before now status
 page_read_rose command c answer old new before now status is h cause =
-    subst (λ (d : Command). ReadRose (inputs_of_command d) before now status) (sym is) (text_read_rose (input_paths c.sources c.query c.templates) answer old new before now status h cause)
+    subst (λ (d : Command). ReadRose (inputs_of_command d) before now status) (sym is) (text_read_rose (input_paths (data_paths c.sources c.over) c.query c.templates) answer old new before now status h cause)
 
 pub data_read_rose : (command : Command) (c : DataCommand) (answer : Result (List ℕ) Fault) (old new : Option (List ℕ)) (before now : List ℕ → ℕ) (status : Status) → command ≡ Data c
-    → TextEnds (λ a. a ≡ answer) old new status → ReadsHaveCause c.sources before now answer → ReadRose (inputs_of_command command) before now status
+    → TextEnds (λ a. a ≡ answer) old new status → ReadsHaveCause (data_paths c.sources c.over) before now answer → ReadRose (inputs_of_command command) before now status
 data_read_rose command c answer old new before now status is h cause =
-    subst (λ (d : Command). ReadRose (inputs_of_command d) before now status) (sym is) (text_read_rose c.sources answer old new before now status h cause)
+    subst (λ (d : Command). ReadRose (inputs_of_command d) before now status) (sym is) (text_read_rose (data_paths c.sources c.over) answer old new before now status h cause)
 
 pub explain_read_rose : (command : Command) (c : ExplainCommand) (answer : Result (List ℕ) Fault) (old new : Option (List ℕ)) (before now : List ℕ → ℕ) (status : Status) → command ≡ Explain c
     → TextEnds (λ a. a ≡ answer) old new status → ReadsHaveCause (explain_paths c) before now answer → ReadRose (inputs_of_command command) before now status
@@ -172,11 +172,11 @@ pub version_read_rose : (command : Command) (answer : Result (List ℕ) Fault) (
 version_read_rose command answer old new before now status h ends = fixed_read_rose version_text answer old new (inputs_of_command command) before now status h ends
 
 pub build_read_rose : (command : Command) (c : BuildCommand) (before now : List ℕ → ℕ) (status : Status) → command ≡ Build c
-    → ReadRose (input_paths c.sources c.query c.templates) before now status → ReadRose (inputs_of_command command) before now status
+    → ReadRose (input_paths (data_paths c.sources c.over) c.query c.templates) before now status → ReadRose (inputs_of_command command) before now status
 build_read_rose command c before now status is h = subst (λ (d : Command). ReadRose (inputs_of_command d) before now status) (sym is) h
 
 pub serve_read_rose : (command : Command) (c : ServeCommand) (before now : List ℕ → ℕ) (status : Status) → command ≡ Serve c
-    → ReadRose (input_paths c.sources c.query c.templates) before now status → ReadRose (inputs_of_command command) before now status
+    → ReadRose (input_paths (data_paths c.sources c.over) c.query c.templates) before now status → ReadRose (inputs_of_command command) before now status
 serve_read_rose command c before now status is h = subst (λ (d : Command). ReadRose (inputs_of_command d) before now status) (sym is) h
 
 pub replay_read_rose : (command : Command) (c : ReplayCommand) (before now : List ℕ → ℕ) (status : Status) → command ≡ Replay c
@@ -192,17 +192,21 @@ graph_no_memory : (map : FileMap) (b : Building) (sources : List (List ℕ)) →
 graph_no_memory map b [] = inr refl
 graph_no_memory map b (path ∷ paths) = inl (inl tt)
 
-inputs_no_memory : (map : FileMap) (sources : List (List ℕ)) (query templates : List ℕ) → InputsEnd map sources query templates (prelude.Err fault.NoMemory)
-inputs_no_memory map sources query templates = inl (graph_no_memory map empty_building sources)
+data_no_memory : (map : FileMap) (sources : List (List ℕ)) (over : Option (List ℕ)) → DataInputsEnd map sources over (prelude.Err fault.NoMemory)
+data_no_memory map sources None = inl (graph_no_memory map empty_building sources)
+data_no_memory map sources (Some path) = inl (graph_no_memory map empty_building sources)
+
+inputs_no_memory : (map : FileMap) (sources : List (List ℕ)) (over : Option (List ℕ)) (query templates : List ℕ) → InputsEnd map sources over query templates (prelude.Err fault.NoMemory)
+inputs_no_memory map sources over query templates = inl (data_no_memory map sources over)
 
 replay_no_memory : (command : ReplayCommand) (before after : Host) → after.output ≡ before.output → ReplayEnds command before after NoMemory
 replay_no_memory command before after out =
-    let none : ScriptedEnd before.files command (prelude.Err fault.NoMemory) = inl (inputs_no_memory before.files command.sources command.query command.templates) in
+    let none : ScriptedEnd before.files command (prelude.Err fault.NoMemory) = inl (inputs_no_memory before.files command.sources command.over command.query command.templates) in
     inr (record { reason = fault.NoMemory; taken = none; its = refl; out = out })
 
 serve_no_memory : (command : ServeCommand) (before after : Outside) → after.wire ≡ before.wire → after.host.output ≡ before.host.output → ServeEnds command before after NoMemory
 serve_no_memory command before after wire out =
-    inr (record { reason = fault.NoMemory; taken = inputs_no_memory before.host.files command.sources command.query command.templates; its = refl; wire = wire; out = out })
+    inr (record { reason = fault.NoMemory; taken = inputs_no_memory before.host.files command.sources command.over command.query command.templates; its = refl; wire = wire; out = out })
 
 no_memory_ends : (given : Option Command) (before after : Outside)
     → after.host.files ≡ before.host.files → after.host.output ≡ before.host.output → after.wire ≡ before.wire → RunEnds given before after NoMemory

@@ -8,7 +8,7 @@ use Rattle.command_spec.specs.declared.ServeCommand.{ServeCommand}
 use Rattle.site_serving.proofs.TurnsLeft.{turns_left}
 use Rattle.site_inputs.specs.declared.fault.Fault.{Fault}
 use Rattle.site_inputs.specs.Runs.{IsDecidedFault, Decides}
-use Rattle.command_spec.specs.Inputs.{input_paths}
+use Rattle.command_spec.specs.Inputs.{data_paths, input_paths}
 use Rattle.site_inputs.specs.Sites.{Inputs, InputsEnd}
 use Rattle.site_inputs.specs.Statuses.{ReadRose, status_of}
 use Rattle.site_inputs.proofs.DecidedInputs.{inputs_decide}
@@ -20,13 +20,13 @@ use Rattle.command_serve.proofs.Told.{watched_left}
 
 module _ (command : ServeCommand) (before after : Outside) where
   abbrev Ended : Result Inputs Fault → Type 0
-  Ended = InputsEnd before.host.files command.sources command.query command.templates
+  Ended = InputsEnd before.host.files command.sources command.over command.query command.templates
 
   abbrev Paths : List (List ℕ)
-  Paths = input_paths command.sources command.query command.templates
+  Paths = input_paths (data_paths command.sources command.over) command.query command.templates
 
   decides : Decides Ended
-  decides = inputs_decide before.host.files command.sources command.query command.templates
+  decides = inputs_decide before.host.files command.sources command.over command.query command.templates
 
   over : (s : Inputs) (reached : Status) → OverEnds s command.watch command.options before after reached → (reached ≡ status.WriteFault → PutsRose before.host after.host) → (reached ≡ status.WireFault → EventsRose before.wire after.wire)
       → HasTurns before.wire command.options.limits.turns → ¬ PutsRose before.host after.host → ¬ EventsRose before.wire after.wire → HasStatus status.Ok reached

@@ -133,15 +133,15 @@ module _ (command : ServeCommand) (before after : Outside) (reached : Status) wh
   -- the inputs were read, and the run over them ended so
   pub record IsOver : Type 0 where
     pub inputs : Inputs
-    pub taken : InputsEnd before.host.files command.sources command.query command.templates
-        (Ok inputs)
+    pub taken : InputsEnd before.host.files command.sources command.over command.query
+        command.templates (Ok inputs)
     pub ends : OverEnds inputs command.watch command.options before after reached
 
   -- an input was refused or unread, or it was out of memory for one, and nothing was done
   pub record IsUnread : Type 0 where
     pub reason : Fault
-    pub taken : InputsEnd before.host.files command.sources command.query command.templates
-        (Err reason)
+    pub taken : InputsEnd before.host.files command.sources command.over command.query
+        command.templates (Err reason)
     pub its : reached ≡ status_of reason
     pub wire : after.wire ≡ before.wire
     pub out : after.host.output ≡ before.host.output

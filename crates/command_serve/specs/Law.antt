@@ -5,7 +5,7 @@ use Rattle.wire.specs.declared.WireEvent.{WireEvent}
 use Rattle.run_report.specs.declared.status.Status.{Status}
 use Rattle.run_report.specs.declared.status.Status.TheVariants as status
 use Rattle.command_spec.specs.declared.ServeCommand.{ServeCommand}
-use Rattle.command_spec.specs.Inputs.{input_paths}
+use Rattle.command_spec.specs.Inputs.{data_paths, input_paths}
 use Rattle.site_inputs.specs.declared.fault.Fault.{Fault}
 use Rattle.site_inputs.specs.Runs.{IsDecidedFault}
 use Rattle.site_inputs.specs.Sites.{Inputs, InputsEnd}
@@ -22,21 +22,26 @@ module _ (command : ServeCommand) (before after : Outside) (reached : Status) wh
   -- Where the inputs are read, they decide how a run over connections ends that nothing outside fails.
   pub record ServingIsDecided : Type 0 where
     pub accepted : (s : Inputs)
-        → InputsEnd before.host.files command.sources command.query command.templates (Ok s)
+        → InputsEnd before.host.files command.sources command.over command.query command.templates
+        (Ok s)
         → HasTurns before.wire command.options.limits.turns
         → ¬ PutsRose before.host after.host → ¬ EventsRose before.wire after.wire
         → HasStatus status.Ok reached
     pub refused : (reason : Fault)
-        → InputsEnd before.host.files command.sources command.query command.templates (Err reason)
+        → InputsEnd before.host.files command.sources command.over command.query command.templates
+        (Err reason)
         → IsDecidedFault reason → HasStatus (status_of reason) reached
 
   -- the law of the command
   abbrev pub ServingEndsWell : Type 0
   ServingEndsWell =
       ServeEnds command before after reached
-      → ReadRose (input_paths command.sources command.query command.templates)
+      → ReadRose
+      (input_paths (data_paths command.sources command.over) command.query command.templates)
       before.host.failed_reads after.host.failed_reads reached
       → (reached ≡ status.WriteFault → PutsRose before.host after.host)
       → (reached ≡ status.WireFault → EventsRose before.wire after.wire)
-      → AllRead (input_paths command.sources command.query command.templates) before.host after.host
+      → AllRead
+      (input_paths (data_paths command.sources command.over) command.query command.templates)
+      before.host after.host
       → ServingIsDecided

@@ -6,7 +6,7 @@ ghost use Rattle.std.specs.Option.{ForSome};
 ghost use Rattle.edge_io.specs.Counts.{Rose};
 ghost use Rattle.edge_io.specs.Files.{FileMap};
 ghost use Rattle.command_spec.specs.Ranges.{AreServeOptions};
-ghost use Rattle.command_spec.specs.Inputs.{input_paths};
+ghost use Rattle.command_spec.specs.Inputs.{data_paths, input_paths};
 ghost use Rattle.site_inputs.specs.Statuses.{ReadRose, IsSilent};
 ghost use Rattle.site_inputs.specs.Outside.{host, outside};
 ghost use Rattle.site_inputs.specs.Values.{inputs_of};
@@ -230,7 +230,8 @@ pub fn serve<F: Files, O: Sink, W: Wire>(
     ensures quiet { IsSilent result → wire.new ≡ wire.old }
     ensures words { result ≡ Status.Usage → ⊥ }
     ensures read_cause { ReadRose
-        (input_paths command.now.sources command.now.query command.now.templates)
+        (input_paths (data_paths command.now.sources command.now.over)
+        command.now.query command.now.templates)
         (F.failed_reads files.old) (F.failed_reads files.new) result }
     ensures write_cause { result ≡ Status.WriteFault → Rose (O.failed out.old) (O.failed out.new) }
     ensures wire_cause { result ≡ Status.WireFault
@@ -240,6 +241,7 @@ pub fn serve<F: Files, O: Sink, W: Wire>(
         alloc,
         files,
         command.sources.items(),
+        &command.over,
         &command.query,
         &command.templates,
     ) {

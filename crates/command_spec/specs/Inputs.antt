@@ -6,9 +6,14 @@ use Rattle.command_spec.specs.declared.Command.{Command}
 use Rattle.command_spec.specs.declared.Command.TheVariants.{Page, Build, Data, Explain, Schema, Check, CheckAll}
 use Rattle.command_spec.specs.declared.Command.TheVariants.{Lint, Serve, Replay, Trial, Help, Version}
 
--- the inputs of a site: the data, the query and the templates
-abbrev pub input_paths : (sources : List (List ℕ)) (query templates : List ℕ) → List (List ℕ)
-input_paths sources query templates = sources ++ (query ∷ templates ∷ [])
+-- the inputs of the data: the data files, and then the first query, if there is one
+abbrev pub data_paths : (sources : List (List ℕ)) (over : Option (List ℕ)) → List (List ℕ)
+data_paths sources None = sources
+data_paths sources (Some first) = sources ++ (first ∷ [])
+
+-- the inputs of a site: those of the data, the query and the templates
+abbrev pub input_paths : (of_data : List (List ℕ)) (query templates : List ℕ) → List (List ℕ)
+input_paths of_data query templates = of_data ++ (query ∷ templates ∷ [])
 
 -- those of `explain`: the data and the query
 abbrev pub explain_paths : ExplainCommand → List (List ℕ)
@@ -25,19 +30,23 @@ check_paths query constraints = query ∷ constraints ∷ []
 -- those of `replay`: the inputs of its site, and then the script
 abbrev pub replay_paths : ReplayCommand → List (List ℕ)
 replay_paths command =
-    input_paths command.sources command.query command.templates ++ (command.script ∷ [])
+    input_paths (data_paths command.sources command.over) command.query command.templates
+    ++ (command.script ∷ [])
 
 -- the paths of a command's own files
 abbrev pub inputs_of_command : Command → List (List ℕ)
-inputs_of_command (Page command) = input_paths command.sources command.query command.templates
-inputs_of_command (Build command) = input_paths command.sources command.query command.templates
-inputs_of_command (Data command) = command.sources
+inputs_of_command (Page command) =
+    input_paths (data_paths command.sources command.over) command.query command.templates
+inputs_of_command (Build command) =
+    input_paths (data_paths command.sources command.over) command.query command.templates
+inputs_of_command (Data command) = data_paths command.sources command.over
 inputs_of_command (Explain command) = explain_paths command
 inputs_of_command (Schema command) = command.query ∷ []
 inputs_of_command (Check command) = here_paths command.sources command.query command.constraints
 inputs_of_command (CheckAll command) = check_paths command.query command.constraints
 inputs_of_command (Lint command) = input_paths command.sources command.query command.templates
-inputs_of_command (Serve command) = input_paths command.sources command.query command.templates
+inputs_of_command (Serve command) =
+    input_paths (data_paths command.sources command.over) command.query command.templates
 inputs_of_command (Replay command) = replay_paths command
 inputs_of_command (Trial command) = []
 inputs_of_command (Help command) = []

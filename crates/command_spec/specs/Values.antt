@@ -7,7 +7,7 @@ use Rattle.command_spec.specs.declared.numbers.NumberOption.{NumberOption}
 use Rattle.command_spec.specs.declared.numbers.NumberOption.TheVariants.{Port, Connections, Requests, Turns, Cache}
 use Rattle.command_spec.specs.declared.numbers.NumberOption.TheVariants.{Idle, Stall, Every}
 use Rattle.command_spec.specs.declared.options.PathOption.{PathOption}
-use Rattle.command_spec.specs.declared.options.PathOption.TheVariants.{Watch}
+use Rattle.command_spec.specs.declared.options.PathOption.TheVariants.{Watch, Over}
 use Rattle.command_spec.specs.declared.options.ValueOption.{ValueOption}
 use Rattle.command_spec.specs.declared.options.ValueOption.TheVariants.{Number, Path}
 
@@ -25,6 +25,7 @@ number_name Every = codes "every"
 -- the name of an option whose value is a path
 abbrev pub path_name : PathOption → List ℕ
 path_name Watch = codes "watch"
+path_name Over = codes "over"
 
 -- the option's name
 abbrev pub option_name : ValueOption → List ℕ

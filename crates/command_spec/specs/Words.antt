@@ -6,7 +6,7 @@ use Rattle.std.specs.Str.{bytes_eq, is_utf8}
 use Rattle.command_spec.specs.Limits.{entry_limit}
 use Rattle.command_spec.specs.declared.numbers.NumberOption.TheVariants.{Port, Connections, Requests}
 use Rattle.command_spec.specs.declared.numbers.NumberOption.TheVariants.{Turns, Cache, Idle, Stall, Every}
-use Rattle.command_spec.specs.declared.options.PathOption.TheVariants.{Watch}
+use Rattle.command_spec.specs.declared.options.PathOption.TheVariants.{Watch, Over}
 use Rattle.command_spec.specs.declared.options.ValueOption.{ValueOption}
 use Rattle.command_spec.specs.declared.options.ValueOption.TheVariants.{Number, Path}
 use Rattle.command_spec.specs.declared.RunLimits.{RunLimits}
@@ -30,32 +30,35 @@ found >>= next = option_and_then next found
 abbrev pub is_word : List ℕ → Bool
 is_word word = is_utf8 word && not (is_empty word)
 
--- the words after `page`
-abbrev pub page_command : List (List ℕ) → Option Command
-page_command (query ∷ templates ∷ address ∷ source ∷ sources) =
+-- the words after `page`, over this first query, if any
+abbrev pub page_command : Option (List ℕ) → List (List ℕ) → Option Command
+page_command over (query ∷ templates ∷ address ∷ source ∷ sources) =
     Some (Page (record {
       query = query;
       templates = templates;
       address = address;
       sources = source ∷ sources;
+      over = over;
     }))
-page_command words = None
+page_command over words = None
 
 -- the words after `build`
-abbrev pub build_command : List (List ℕ) → Option Command
-build_command (query ∷ templates ∷ folder ∷ source ∷ sources) =
+abbrev pub build_command : Option (List ℕ) → List (List ℕ) → Option Command
+build_command over (query ∷ templates ∷ folder ∷ source ∷ sources) =
     Some (Build (record {
       query = query;
       templates = templates;
       folder = folder;
       sources = source ∷ sources;
+      over = over;
     }))
-build_command words = None
+build_command over words = None
 
 -- the words after `data`
-abbrev pub data_command : List (List ℕ) → Option Command
-data_command (source ∷ sources) = Some (Data (record { sources = source ∷ sources }))
-data_command [] = None
+abbrev pub data_command : Option (List ℕ) → List (List ℕ) → Option Command
+data_command over (source ∷ sources) =
+    Some (Data (record { sources = source ∷ sources; over = over }))
+data_command over [] = None
 
 -- the words after `explain`
 abbrev pub explain_command : List (List ℕ) → Option Command
@@ -150,11 +153,15 @@ are_none (setting ∷ settings) = false
 abbrev pub options_of_serve : List ValueOption
 options_of_serve =
     Number Port ∷ Number Connections ∷ Number Requests ∷ Number Turns ∷ Number Cache
-    ∷ Number Idle ∷ Number Stall ∷ Path Watch ∷ Number Every ∷ []
+    ∷ Number Idle ∷ Number Stall ∷ Path Watch ∷ Number Every ∷ Path Over ∷ []
 
 -- the options that `replay` has
 abbrev pub options_of_replay : List ValueOption
-options_of_replay = Number Requests ∷ Number Turns ∷ Number Cache ∷ []
+options_of_replay = Number Requests ∷ Number Turns ∷ Number Cache ∷ Path Over ∷ []
+
+-- the options that `page`, `build` and `data` have
+abbrev pub options_of_page : List ValueOption
+options_of_page = Path Over ∷ []
 
 -- the options of `serve`
 abbrev pub serve_options : List Setting → Option ServeOptions
@@ -179,37 +186,37 @@ abbrev pub replay_options : List Setting → Option RunLimits
 replay_options settings =
     if are_among options_of_replay settings then run_limits settings else None
 
--- the words after `serve`
-abbrev pub serve_command : ServeOptions → Option WatchOptions → List (List ℕ) → Option Command
-serve_command options watch (query ∷ templates ∷ source ∷ sources) =
+-- the words after `serve`, its options aside
+abbrev pub serve_command
+    : ServeOptions → Option WatchOptions → Option (List ℕ) → List (List ℕ) → Option Command
+serve_command options watch over (query ∷ templates ∷ source ∷ sources) =
     Some (Serve (record {
       query = query;
       templates = templates;
       sources = source ∷ sources;
+      over = over;
       options = options;
       watch = watch;
     }))
-serve_command options watch words = None
+serve_command options watch over words = None
 
--- the words after `replay`
-abbrev pub replay_command : RunLimits → List (List ℕ) → Option Command
-replay_command limits (query ∷ templates ∷ script ∷ source ∷ sources) =
+-- the words after `replay`, its options aside
+abbrev pub replay_command : RunLimits → Option (List ℕ) → List (List ℕ) → Option Command
+replay_command limits over (query ∷ templates ∷ script ∷ source ∷ sources) =
     Some (Replay (record {
       query = query;
       templates = templates;
       script = script;
       sources = source ∷ sources;
+      over = over;
       limits = limits;
     }))
-replay_command limits words = None
+replay_command limits over words = None
 
 -- a command without options
 abbrev pub plain_command : List ℕ → List (List ℕ) → Option Command
 plain_command name words =
-    if bytes_eq name (codes "page") then page_command words
-    else if bytes_eq name (codes "build") then build_command words
-    else if bytes_eq name (codes "data") then data_command words
-    else if bytes_eq name (codes "explain") then explain_command words
+    if bytes_eq name (codes "explain") then explain_command words
     else if bytes_eq name (codes "schema") then schema_command words
     else if bytes_eq name (codes "check") then check_command words
     else if bytes_eq name (codes "lint") then lint_command words
@@ -223,12 +230,25 @@ abbrev pub serve_parts : Parts → Option Command
 serve_parts parts = do
   options ← serve_options parts.settings
   watch ← serve_watch parts.settings
-  serve_command options watch parts.words
+  over ← path_of Over parts.settings
+  serve_command options watch over parts.words
 
 -- the parts behind `replay`
 abbrev pub replay_parts : Parts → Option Command
-replay_parts parts =
-    option_and_then (λ limits. replay_command limits parts.words) (replay_options parts.settings)
+replay_parts parts = do
+  limits ← replay_options parts.settings
+  over ← path_of Over parts.settings
+  replay_command limits over parts.words
+
+-- the first query of `page`, `build` or `data`, if there is one
+abbrev pub page_over : List Setting → Option (Option (List ℕ))
+page_over settings = if are_among options_of_page settings then path_of Over settings else None
+
+-- the parts behind `page`, `build` or `data`, by what is made of the words
+abbrev pub page_parts
+    : (Option (List ℕ) → List (List ℕ) → Option Command) → Parts → Option Command
+page_parts made parts =
+    option_and_then (λ over. made over parts.words) (page_over parts.settings)
 
 -- the parts behind a command without options
 abbrev pub plain_parts : List ℕ → Parts → Option Command
@@ -241,6 +261,9 @@ named_command name None = None
 named_command name (Some parts) =
     if bytes_eq name (codes "serve") then serve_parts parts
     else if bytes_eq name (codes "replay") then replay_parts parts
+    else if bytes_eq name (codes "page") then page_parts page_command parts
+    else if bytes_eq name (codes "build") then page_parts build_command parts
+    else if bytes_eq name (codes "data") then page_parts data_command parts
     else plain_parts name parts
 
 -- what the words say, where no word is a flag

@@ -48,28 +48,34 @@ impl Paths {
     }
 }
 
-/// `page QUERY TEMPLATES ADDRESS DATA..`: one page is printed.
+/// `page [--over FILE] QUERY TEMPLATES ADDRESS DATA..`: one page is printed.
 #[derive(Debug, Drop)]
 pub struct PageCommand {
     pub query: Str,
     pub templates: Str,
     pub address: Str,
     pub sources: Paths,
+    /// The file of the first query, if there is one: its site over the data files is the data.
+    pub over: Option<Str>,
 }
 
-/// `build QUERY TEMPLATES DIR DATA..`: the whole site is written to files under a folder.
+/// `build [--over FILE] QUERY TEMPLATES DIR DATA..`: the whole site is written to files under a folder.
 #[derive(Debug, Drop)]
 pub struct BuildCommand {
     pub query: Str,
     pub templates: Str,
     pub folder: Str,
     pub sources: Paths,
+    /// The file of the first query, as for `page`.
+    pub over: Option<Str>,
 }
 
-/// `data DATA..`: the union of the data is printed.
+/// `data [--over FILE] DATA..`: the data are printed, the union of the data files or a first query's site over it.
 #[derive(Debug, Drop)]
 pub struct DataCommand {
     pub sources: Paths,
+    /// The file of the first query, as for `page`.
+    pub over: Option<Str>,
 }
 
 /// `explain QUERY DATA..`: the plan of each block of the query over the data is printed.
@@ -153,24 +159,28 @@ pub struct WatchOptions {
     pub every: u64,
 }
 
-/// `serve [--whole] QUERY TEMPLATES DATA..`: pages are served over HTTP.
+/// `serve [--over FILE] [--whole] QUERY TEMPLATES DATA..`: pages are served over HTTP.
 #[derive(Debug, Drop)]
 pub struct ServeCommand {
     pub query: Str,
     pub templates: Str,
     pub sources: Paths,
+    /// The file of the first query, as for `page`.
+    pub over: Option<Str>,
     pub options: ServeOptions,
     /// The file that is watched, if one is.
     pub watch: Option<WatchOptions>,
 }
 
-/// `replay QUERY TEMPLATES SCRIPT DATA..`: the same over the events of a script.
+/// `replay [--over FILE] QUERY TEMPLATES SCRIPT DATA..`: the same over the events of a script.
 #[derive(Debug, Drop)]
 pub struct ReplayCommand {
     pub query: Str,
     pub templates: Str,
     pub script: Str,
     pub sources: Paths,
+    /// The file of the first query, as for `page`.
+    pub over: Option<Str>,
     pub limits: RunLimits,
 }
 

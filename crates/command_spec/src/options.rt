@@ -8,6 +8,7 @@ use crate::numbers::NumberOption;
 #[derive(Clone, Copy, Debug, PartialEq, Eq)]
 pub enum PathOption {
     Watch,
+    Over,
 }
 
 impl PathOption {
@@ -17,6 +18,7 @@ impl PathOption {
     {
         match self {
             PathOption::Watch => "watch",
+            PathOption::Over => "over",
         }
     }
 }

@@ -39,10 +39,11 @@ ok_is A E a b same = cc
 one_site : (entries : ℕ) (a b : Inputs) → IsMadeSite entries a → IsMadeSite entries b → a ≡ b
 one_site entries a b p q =
     let graphs : a.graph ≡ b.graph = p.graph ∙ sym q.graph in
+    let firsts : a.first ≡ b.first = p.first ∙ sym q.first in
     let queries : a.query ≡ b.query = ok_is plain.Query QueryRefusal a.query b.query (query_law.one_answer text_limit query_text (Ok a.query) (Ok b.query) p.query q.query tt tt) in
     let files : a.templates ≡ b.templates =
     ok_is TemplateFile TmplRefusal a.templates b.templates (templates_law.one_answer text_limit templates_text (Ok a.templates) (Ok b.templates) p.templates q.templates) in
-    λ i. record { graph = graphs i; query = queries i; templates = files i }
+    λ i. record { graph = graphs i; first = firsts i; query = queries i; templates = files i }
 
 -- ---- what is kept
 

@@ -1,5 +1,5 @@
 -- The command `trial`.
-use Rattle.std.specs.Prelude.{◌≡◌, ℕ, List, Result, Ok, Err, ⊤}
+use Rattle.std.specs.Prelude.{◌≡◌, ℕ, List, Result, Ok, Err, None, ⊤}
 use Rattle.query_reader.specs.Reads.{IsAccepted}
 use Rattle.template_reader.specs.Faults.{IsAnswer}
 use Rattle.site_spec.specs.Root.{root_function}
@@ -12,9 +12,10 @@ use Rattle.trial_spec.specs.Asked.{IsTrialText}
 use Rattle.trial_spec.specs.Data.{made_graph}
 use Rattle.trial_spec.specs.Texts.{query_text, templates_text}
 
--- the site of the trial's query and templates over its data
+-- the site of the trial's query and templates over its data, which are no first query's site
 pub record IsMadeSite (entries : ℕ) (site : Inputs) : Type 0 where
   pub graph : site.graph ≡ made_graph entries
+  pub first : site.first ≡ None
   pub query : IsAccepted text_limit query_text site.query
   pub templates : IsAnswer text_limit templates_text (Ok site.templates)
 

@@ -53,6 +53,7 @@ pub(crate) fn made_site(alloc: Global, entries: u32) -> Result<SiteInputs, NoMem
 {
     Ok(SiteInputs {
         graph: made_graph(alloc, entries)?,
+        first: None,
         query: made_query(alloc)?,
         templates: made_templates(alloc)?,
     })

@@ -7,7 +7,7 @@ use Rattle.clap.specs.Walk.{Rule, Text, arg_by_id, arg_by_long, arg_by_short, ha
 use Rattle.clap.specs.declared.builder.value_parser.ValueParser.TheVariants.{String}
 use Rattle.command_spec.specs.declared.options.ValueOption.{ValueOption}
 use Rattle.command_spec.specs.declared.numbers.NumberOption.TheVariants.{Port, Connections, Requests, Turns, Cache, Idle, Stall, Every}
-use Rattle.command_spec.specs.declared.options.PathOption.TheVariants.{Watch}
+use Rattle.command_spec.specs.declared.options.PathOption.TheVariants.{Watch, Over}
 use Rattle.command_spec.specs.declared.options.ValueOption.TheVariants.{Number, Path}
 use Rattle.command_spec.specs.Values.{option_name, option_word, is_among}
 use Rattle.command_words.specs.Parsed.{option_rule, words_rule}
@@ -62,6 +62,7 @@ dashed (Number Idle) = refl
 dashed (Number Stall) = refl
 dashed (Path Watch) = refl
 dashed (Number Every) = refl
+dashed (Path Over) = refl
 
 pub own_name : (option : ValueOption) → bytes_eq (codes "words") (option_name option) ≡ false
 own_name (Number Port) = refl
@@ -73,6 +74,7 @@ own_name (Number Idle) = refl
 own_name (Number Stall) = refl
 own_name (Path Watch) = refl
 own_name (Number Every) = refl
+own_name (Path Over) = refl
 
 -- the option of a name
 which : Text → Option ValueOption
@@ -86,6 +88,7 @@ which name =
     else if bytes_eq name (codes "stall") then Some (Number Stall)
     else if bytes_eq name (codes "watch") then Some (Path Watch)
     else if bytes_eq name (codes "every") then Some (Number Every)
+    else if bytes_eq name (codes "over") then Some (Path Over)
     else None
 
 which_own : (option : ValueOption) → which (option_name option) ≡ Some option
@@ -99,6 +102,7 @@ which_own (Number Idle) = refl
 which_own (Number Stall) = refl
 which_own (Path Watch) = refl
 which_own (Number Every) = refl
+which_own (Path Over) = refl
 
 -- options of one name are one
 pub one_option : (a b : ValueOption) → option_name a ≡ option_name b → a ≡ b

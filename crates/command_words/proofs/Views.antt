@@ -13,7 +13,7 @@ use Rattle.clap.specs.Walk.{Text}
 use Rattle.clap.specs.Lexer.{has_byte, long_of, name_and_value, short_of}
 use Rattle.command_spec.specs.declared.options.ValueOption.{ValueOption}
 use Rattle.command_spec.specs.declared.numbers.NumberOption.TheVariants.{Port, Connections, Requests, Turns, Cache, Idle, Stall, Every}
-use Rattle.command_spec.specs.declared.options.PathOption.TheVariants.{Watch}
+use Rattle.command_spec.specs.declared.options.PathOption.TheVariants.{Watch, Over}
 use Rattle.command_spec.specs.declared.options.ValueOption.TheVariants.{Number, Path}
 use Rattle.command_spec.specs.Values.{option_word, is_among}
 use Rattle.command_spec.specs.Options.{Setting, Role, Complete, Open, Misplaced, is_equals, is_option, joined, option_role, word_role}
@@ -136,6 +136,7 @@ one_dash first rest d (Number Idle) = rw d refl
 one_dash first rest d (Number Stall) = rw d refl
 one_dash first rest d (Path Watch) = rw d refl
 one_dash first rest d (Number Every) = rw d refl
+one_dash first rest d (Path Over) = rw d refl
 
 dash_alone : (o : ValueOption) → bytes_eq (45 ∷ []) (option_word o) ≡ false
 dash_alone (Number Port) = refl
@@ -147,6 +148,7 @@ dash_alone (Number Idle) = refl
 dash_alone (Number Stall) = refl
 dash_alone (Path Watch) = refl
 dash_alone (Number Every) = refl
+dash_alone (Path Over) = refl
 
 dash_before : (first : ℕ) (rest : Text) → nat_eq first 45 ≡ false → (n : ℕ) → IsNoOption (take n (first ∷ rest)) → IsNoOption (45 ∷ take n (first ∷ rest))
 dash_before first rest d zero h = no_option (45 ∷ []) dash_alone

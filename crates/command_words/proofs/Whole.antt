@@ -19,13 +19,14 @@ use Rattle.command_words.specs.Parsed as parsed
 use Rattle.command_spec.specs.Values.{option_name}
 use Rattle.command_words.specs.Parsed.{command_in_rows, program, top}
 use Rattle.command_spec.specs.Words as words
-use Rattle.command_spec.specs.Words.{is_word, named_command, word_command, options_of_serve, options_of_replay}
+use Rattle.command_spec.specs.Words.{is_word, named_command, word_command, options_of_serve, options_of_replay, options_of_page}
 use Rattle.command_words.proofs.Lookups.{built_option, built_rules, not_true, same, turned}
 use Rattle.command_words.proofs.Views.{View, first_char, is_dashes, is_long, is_plain, is_short, view}
 use Rattle.command_words.proofs.Settings.{IsUnfit, carried}
 use Rattle.command_words.proofs.Steps.{Fails, fails_first, faults, found, leaf_shape, walk_at}
 use Rattle.command_words.proofs.Behind.{Agrees, AreWords, Holds, IsWord, Outcome, accepted, free_idle, reads, refused, unset}
-use Rattle.command_words.proofs.Named.{IsPlainName, same_plain, same_replay, same_serve, unfit_plain, unfit_replay, unfit_serve}
+use Rattle.command_words.proofs.Named.{IsPlainName, same_plain, same_replay, same_serve, same_page, same_build, same_data}
+use Rattle.command_words.proofs.Named.{unfit_plain, unfit_replay, unfit_serve, unfit_page, unfit_build, unfit_data}
 
 pub fails_some : (kinds : Kinds) → Fails kinds → is_empty kinds ≡ false
 fails_some kinds f = ap is_empty f.are ∙ not_true (is_empty (f.kind ∷ f.more)) (λ t. let e : suc (length f.more) ≡ 0 = (unsigned_Decides (suc (length f.more)) 0).0 t in absurd (omega (arith, e)))
@@ -107,7 +108,7 @@ built_top = record top { is_built = true }
 abbrev built_program : App
 built_program = record {
   top = built_top;
-  subs = leaf_shape (codes "page") [] ∷ leaf_shape (codes "build") [] ∷ leaf_shape (codes "data") [] ∷ leaf_shape (codes "explain") []
+  subs = leaf_shape (codes "page") options_of_page ∷ leaf_shape (codes "build") options_of_page ∷ leaf_shape (codes "data") options_of_page ∷ leaf_shape (codes "explain") []
       ∷ leaf_shape (codes "schema") [] ∷ leaf_shape (codes "check") [] ∷ leaf_shape (codes "lint") []
       ∷ leaf_shape (codes "serve") options_of_serve ∷ leaf_shape (codes "replay") options_of_replay ∷ leaf_shape (codes "trial") []
       ∷ leaf_shape (codes "help") [] ∷ leaf_shape (codes "version") [] ∷ [];
@@ -193,7 +194,7 @@ no_such word (is_short s) later is none =
 
 no_command_named : (word : Text) (parts : Option Parts) → IsNoName word → named_command word parts ≡ None
 no_command_named word None n = refl
-no_command_named word (Some p) n = rw (n.serve, n.replay) (when_some (words.are_none p.settings) _ (rw (n.page, n.build, n.data_name, n.explain, n.schema, n.check, n.lint, n.trial, n.help, n.version) refl))
+no_command_named word (Some p) n = rw (n.serve, n.replay, n.page, n.build, n.data_name) (when_some (words.are_none p.settings) _ (rw (n.explain, n.schema, n.check, n.lint, n.trial, n.help, n.version) refl))
   where
     when_some : (b : Bool) (x : Option Command) → x ≡ None → cond b x None ≡ None
     when_some true x e = e
@@ -233,18 +234,18 @@ decide false held failed = failed refl
 
 by_name : (word : Text) (later : List Text) → IsWord word → View word → AreWords later → parsed.command (word ∷ later) ≡ word_command (word ∷ later)
 by_name word later is v are =
-    decide (bytes_eq word (codes "page")) (λ t. as_name goal word (codes "page") t (plain_name (codes "page") (record { no_serve_name = refl; no_replay_name = refl }) later are refl refl)) (λ page.
-    decide (bytes_eq word (codes "build")) (λ t. as_name goal word (codes "build") t (plain_name (codes "build") (record { no_serve_name = refl; no_replay_name = refl }) later are refl refl)) (λ build.
-    decide (bytes_eq word (codes "data")) (λ t. as_name goal word (codes "data") t (plain_name (codes "data") (record { no_serve_name = refl; no_replay_name = refl }) later are refl refl)) (λ data_word.
-    decide (bytes_eq word (codes "explain")) (λ t. as_name goal word (codes "explain") t (plain_name (codes "explain") (record { no_serve_name = refl; no_replay_name = refl }) later are refl refl)) (λ explain.
-    decide (bytes_eq word (codes "schema")) (λ t. as_name goal word (codes "schema") t (plain_name (codes "schema") (record { no_serve_name = refl; no_replay_name = refl }) later are refl refl)) (λ schema.
-    decide (bytes_eq word (codes "check")) (λ t. as_name goal word (codes "check") t (plain_name (codes "check") (record { no_serve_name = refl; no_replay_name = refl }) later are refl refl)) (λ check.
-    decide (bytes_eq word (codes "lint")) (λ t. as_name goal word (codes "lint") t (plain_name (codes "lint") (record { no_serve_name = refl; no_replay_name = refl }) later are refl refl)) (λ lint.
+    decide (bytes_eq word (codes "page")) (λ t. as_name goal word (codes "page") t (named_is (codes "page") options_of_page refl refl later (behind_name (codes "page") options_of_page later are unfit_page same_page))) (λ page.
+    decide (bytes_eq word (codes "build")) (λ t. as_name goal word (codes "build") t (named_is (codes "build") options_of_page refl refl later (behind_name (codes "build") options_of_page later are unfit_build same_build))) (λ build.
+    decide (bytes_eq word (codes "data")) (λ t. as_name goal word (codes "data") t (named_is (codes "data") options_of_page refl refl later (behind_name (codes "data") options_of_page later are unfit_data same_data))) (λ data_word.
+    decide (bytes_eq word (codes "explain")) (λ t. as_name goal word (codes "explain") t (plain_name (codes "explain") (record { no_serve_name = refl; no_replay_name = refl; no_page_name = refl; no_build_name = refl; no_data_name = refl }) later are refl refl)) (λ explain.
+    decide (bytes_eq word (codes "schema")) (λ t. as_name goal word (codes "schema") t (plain_name (codes "schema") (record { no_serve_name = refl; no_replay_name = refl; no_page_name = refl; no_build_name = refl; no_data_name = refl }) later are refl refl)) (λ schema.
+    decide (bytes_eq word (codes "check")) (λ t. as_name goal word (codes "check") t (plain_name (codes "check") (record { no_serve_name = refl; no_replay_name = refl; no_page_name = refl; no_build_name = refl; no_data_name = refl }) later are refl refl)) (λ check.
+    decide (bytes_eq word (codes "lint")) (λ t. as_name goal word (codes "lint") t (plain_name (codes "lint") (record { no_serve_name = refl; no_replay_name = refl; no_page_name = refl; no_build_name = refl; no_data_name = refl }) later are refl refl)) (λ lint.
     decide (bytes_eq word (codes "serve")) (λ t. as_name goal word (codes "serve") t (named_is (codes "serve") options_of_serve refl refl later (behind_name (codes "serve") options_of_serve later are unfit_serve same_serve))) (λ serve.
     decide (bytes_eq word (codes "replay")) (λ t. as_name goal word (codes "replay") t (named_is (codes "replay") options_of_replay refl refl later (behind_name (codes "replay") options_of_replay later are unfit_replay same_replay))) (λ replay.
-    decide (bytes_eq word (codes "trial")) (λ t. as_name goal word (codes "trial") t (plain_name (codes "trial") (record { no_serve_name = refl; no_replay_name = refl }) later are refl refl)) (λ trial.
-    decide (bytes_eq word (codes "help")) (λ t. as_name goal word (codes "help") t (plain_name (codes "help") (record { no_serve_name = refl; no_replay_name = refl }) later are refl refl)) (λ help.
-    decide (bytes_eq word (codes "version")) (λ t. as_name goal word (codes "version") t (plain_name (codes "version") (record { no_serve_name = refl; no_replay_name = refl }) later are refl refl)) (λ version.
+    decide (bytes_eq word (codes "trial")) (λ t. as_name goal word (codes "trial") t (plain_name (codes "trial") (record { no_serve_name = refl; no_replay_name = refl; no_page_name = refl; no_build_name = refl; no_data_name = refl }) later are refl refl)) (λ trial.
+    decide (bytes_eq word (codes "help")) (λ t. as_name goal word (codes "help") t (plain_name (codes "help") (record { no_serve_name = refl; no_replay_name = refl; no_page_name = refl; no_build_name = refl; no_data_name = refl }) later are refl refl)) (λ help.
+    decide (bytes_eq word (codes "version")) (λ t. as_name goal word (codes "version") t (plain_name (codes "version") (record { no_serve_name = refl; no_replay_name = refl; no_page_name = refl; no_build_name = refl; no_data_name = refl }) later are refl refl)) (λ version.
     no_name word later is v (record { page = page; build = build; data_name = data_word; explain = explain; schema = schema; check = check; lint = lint; serve = serve; replay = replay; trial = trial; help = help; version = version })))))))))))))
   where
     goal : Text → Type 0

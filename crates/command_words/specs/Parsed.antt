@@ -17,7 +17,7 @@ use Rattle.command_spec.specs.declared.numbers.NumberOption.{NumberOption}
 use Rattle.command_spec.specs.declared.options.ValueOption.{ValueOption}
 use Rattle.command_spec.specs.declared.numbers.NumberOption.TheVariants.{Port, Connections}
 use Rattle.command_spec.specs.declared.numbers.NumberOption.TheVariants.{Requests, Turns, Cache, Idle, Stall, Every}
-use Rattle.command_spec.specs.declared.options.PathOption.TheVariants.{Watch}
+use Rattle.command_spec.specs.declared.options.PathOption.TheVariants.{Watch, Over}
 use Rattle.command_spec.specs.declared.options.ValueOption.TheVariants.{Number, Path}
 use Rattle.command_spec.specs.declared.RunLimits.{RunLimits}
 use Rattle.command_spec.specs.declared.ServeOptions.{ServeOptions}
@@ -26,8 +26,9 @@ use Rattle.command_spec.specs.declared.WatchOptions.{WatchOptions}
 use Rattle.command_spec.specs.declared.Command.{Command}
 use Rattle.command_spec.specs.Numbers.{default_of, greatest, number}
 use Rattle.command_spec.specs.Values.{number_name, option_name}
-use Rattle.command_spec.specs.Words.{is_word, options_of_serve, options_of_replay}
+use Rattle.command_spec.specs.Words.{is_word, options_of_serve, options_of_replay, options_of_page}
 use Rattle.command_spec.specs.Words.{serve_command, replay_command, plain_command}
+use Rattle.command_spec.specs.Words.{page_command, build_command, data_command}
 
 -- the first answer, and then the second of it
 infixl 10 ◌>>=◌
@@ -73,8 +74,9 @@ abbrev pub program : App
 program = record {
   top = top;
   subs =
-      leaf (codes "page") [] ∷ leaf (codes "build") [] ∷ leaf (codes "data") []
-      ∷ leaf (codes "explain") [] ∷ leaf (codes "schema") [] ∷ leaf (codes "check") []
+      leaf (codes "page") options_of_page ∷ leaf (codes "build") options_of_page
+      ∷ leaf (codes "data") options_of_page ∷ leaf (codes "explain") []
+      ∷ leaf (codes "schema") [] ∷ leaf (codes "check") []
       ∷ leaf (codes "lint") [] ∷ leaf (codes "serve") options_of_serve
       ∷ leaf (codes "replay") options_of_replay ∷ leaf (codes "trial") []
       ∷ leaf (codes "help") [] ∷ leaf (codes "version") [] ∷ [];
@@ -137,23 +139,30 @@ text_in option rows = first_of (option_name option) rows
 abbrev pub serve_watch : List Row → Option (Option WatchOptions)
 serve_watch rows = watch_in (text_in (Path Watch) rows) (text_in (Number Every) rows)
 
+-- the file of the first query, if there is one
+abbrev pub first_query : List Row → Option Text
+first_query rows = text_in (Path Over) rows
+
 -- `serve` with these words
 abbrev pub serve_with_words : List Row → List Text → Option Command
 serve_with_words rows words = do
   options ← serve_options rows
   watch ← serve_watch rows
-  serve_command options watch words
+  serve_command options watch (first_query rows) words
 
 -- `replay` with these words
 abbrev pub replay_with_words : List Row → List Text → Option Command
 replay_with_words rows words =
-    option_and_then (λ limits. replay_command limits words) (run_limits rows)
+    option_and_then (λ limits. replay_command limits (first_query rows) words) (run_limits rows)
 
 -- the command of this name with these words
 abbrev pub command_with_words : List ℕ → List Row → List Text → Option Command
 command_with_words name rows words =
     if bytes_eq name (codes "serve") then serve_with_words rows words
     else if bytes_eq name (codes "replay") then replay_with_words rows words
+    else if bytes_eq name (codes "page") then page_command (first_query rows) words
+    else if bytes_eq name (codes "build") then build_command (first_query rows) words
+    else if bytes_eq name (codes "data") then data_command (first_query rows) words
     else plain_command name words
 
 -- the words that are no options

@@ -34,8 +34,12 @@ use std::str;
 // The most entries of a trial.
 const MAX_ENTRIES: u64 = 20_000;
 
-fn page_command(alloc: Global, words: &[&str]) -> Result<Option<Command>, NoMemory>
-    ensures exact { IfOk result (λ given. given ≡ specs.page_command (texts words.now)) }
+fn page_command(
+    alloc: Global,
+    over: Option<Str>,
+    words: &[&str],
+) -> Result<Option<Command>, NoMemory>
+    ensures exact { IfOk result (λ given. given ≡ specs.page_command over (texts words.now)) }
     ensures ranges { IfOk result (λ given. IfSome given IsInRange) }
 {
     let [query, templates, address, sources @ ..] = words else {
@@ -49,11 +53,16 @@ fn page_command(alloc: Global, words: &[&str]) -> Result<Option<Command>, NoMemo
         templates: Str::new(alloc, templates.as_bytes())?,
         address: Str::new(alloc, address.as_bytes())?,
         sources: Paths::of(alloc, sources)?,
+        over,
     })))
 }
 
-fn build_command(alloc: Global, words: &[&str]) -> Result<Option<Command>, NoMemory>
-    ensures exact { IfOk result (λ given. given ≡ specs.build_command (texts words.now)) }
+fn build_command(
+    alloc: Global,
+    over: Option<Str>,
+    words: &[&str],
+) -> Result<Option<Command>, NoMemory>
+    ensures exact { IfOk result (λ given. given ≡ specs.build_command over (texts words.now)) }
     ensures ranges { IfOk result (λ given. IfSome given IsInRange) }
 {
     let [query, templates, folder, sources @ ..] = words else {
@@ -67,11 +76,16 @@ fn build_command(alloc: Global, words: &[&str]) -> Result<Option<Command>, NoMem
         templates: Str::new(alloc, templates.as_bytes())?,
         folder: Str::new(alloc, folder.as_bytes())?,
         sources: Paths::of(alloc, sources)?,
+        over,
     })))
 }
 
-fn data_command(alloc: Global, words: &[&str]) -> Result<Option<Command>, NoMemory>
-    ensures exact { IfOk result (λ given. given ≡ specs.data_command (texts words.now)) }
+fn data_command(
+    alloc: Global,
+    over: Option<Str>,
+    words: &[&str],
+) -> Result<Option<Command>, NoMemory>
+    ensures exact { IfOk result (λ given. given ≡ specs.data_command over (texts words.now)) }
     ensures ranges { IfOk result (λ given. IfSome given IsInRange) }
 {
     if words.is_empty() {
@@ -79,6 +93,7 @@ fn data_command(alloc: Global, words: &[&str]) -> Result<Option<Command>, NoMemo
     }
     Ok(Some(Command::Data(DataCommand {
         sources: Paths::of(alloc, words)?,
+        over,
     })))
 }
 
@@ -257,16 +272,27 @@ fn serve_watch(
     }
 }
 
+// The file of the first query, if the option is given.
+fn first_query(alloc: Global, matches: &ArgMatches<'_>) -> Result<Option<Str>, NoMemory>
+    ensures { IfOk result (λ over. over ≡ parsed.first_query (rows_of (found_of matches.now))) }
+{
+    match text_in(ValueOption::Path(PathOption::Over), matches) {
+        Some(path) => Ok(Some(Str::new(alloc, path.as_bytes())?)),
+        None => Ok(None),
+    }
+}
+
 fn serve_command(
     alloc: Global,
     options: ServeOptions,
     watch: Option<WatchOptions>,
+    over: Option<Str>,
     words: &[&str],
 ) -> Result<Option<Command>, NoMemory>
     requires options { AreServeOptions options }
     requires watch { IfSome watch IsWatchInRange }
     ensures exact { IfOk result (λ given. given
-        ≡ specs.serve_command options watch (texts words.now)) }
+        ≡ specs.serve_command options watch over (texts words.now)) }
     ensures ranges { IfOk result (λ given. IfSome given IsInRange) }
 {
     let [query, templates, sources @ ..] = words else {
@@ -279,6 +305,7 @@ fn serve_command(
         query: Str::new(alloc, query.as_bytes())?,
         templates: Str::new(alloc, templates.as_bytes())?,
         sources: Paths::of(alloc, sources)?,
+        over,
         options,
         watch,
     })))
@@ -287,10 +314,12 @@ fn serve_command(
 fn replay_command(
     alloc: Global,
     limits: RunLimits,
+    over: Option<Str>,
     words: &[&str],
 ) -> Result<Option<Command>, NoMemory>
     requires { AreLimits limits }
-    ensures exact { IfOk result (λ given. given ≡ specs.replay_command limits (texts words.now)) }
+    ensures exact { IfOk result
+        (λ given. given ≡ specs.replay_command limits over (texts words.now)) }
     ensures ranges { IfOk result (λ given. IfSome given IsInRange) }
 {
     let [query, templates, script, sources @ ..] = words else {
@@ -304,6 +333,7 @@ fn replay_command(
         templates: Str::new(alloc, templates.as_bytes())?,
         script: Str::new(alloc, script.as_bytes())?,
         sources: Paths::of(alloc, sources)?,
+        over,
         limits,
     })))
 }
@@ -314,9 +344,6 @@ fn plain_command(alloc: Global, name: &str, words: &[&str]) -> Result<Option<Com
     ensures ranges { IfOk result (λ given. IfSome given IsInRange) }
 {
     match name {
-        "page" => page_command(alloc, words),
-        "build" => build_command(alloc, words),
-        "data" => data_command(alloc, words),
         "explain" => explain_command(alloc, words),
         "schema" => schema_command(alloc, words),
         "check" => check_command(alloc, words),
@@ -341,10 +368,11 @@ fn serve_with_words(
     let Some(options) = serve_options(matches) else {
         return Ok(None);
     };
-    match serve_watch(alloc, matches)? {
-        Some(watch) => serve_command(alloc, options, watch, words),
-        None => Ok(None),
-    }
+    let Some(watch) = serve_watch(alloc, matches)? else {
+        return Ok(None);
+    };
+    let over = first_query(alloc, matches)?;
+    serve_command(alloc, options, watch, over, words)
 }
 
 fn replay_with_words(
@@ -357,10 +385,11 @@ fn replay_with_words(
         ≡ parsed.replay_with_words (rows_of (found_of matches.now)) (texts words.now)) }
     ensures ranges { IfOk result (λ given. IfSome given IsInRange) }
 {
-    match run_limits(matches) {
-        Some(limits) => replay_command(alloc, limits, words),
-        None => Ok(None),
-    }
+    let Some(limits) = run_limits(matches) else {
+        return Ok(None);
+    };
+    let over = first_query(alloc, matches)?;
+    replay_command(alloc, limits, over, words)
 }
 
 /// The command of this name, with the options of the matches and these words.
@@ -378,6 +407,9 @@ fn command_with_words(
     match name {
         "serve" => serve_with_words(alloc, matches, words),
         "replay" => replay_with_words(alloc, matches, words),
+        "page" => page_command(alloc, first_query(alloc, matches)?, words),
+        "build" => build_command(alloc, first_query(alloc, matches)?, words),
+        "data" => data_command(alloc, first_query(alloc, matches)?, words),
         _ => plain_command(alloc, name, words),
     }
 }
@@ -497,8 +529,8 @@ fn texts_of<'a>(alloc: Global, words: &'a [Str]) -> Result<Option<Vec<&'a str>>,
 /// The first word is a command's name. Of the words behind it, those before `--` that have two bytes or more and begin
 /// with a dash are options: `--name=value`, or `--name` with the next word as its value, which is no option itself. The
 /// first `--` is dropped, and the words behind it are no options. Each option is one of the command's, occurs at most
-/// once, and has a number of 1 to 10 digits within its range, but for `--watch`, whose value is a path, and without which
-/// `--every` doesn't stand. `--dot` of `schema`, `--whole` of `serve`, and `--here` of `check`, which `check` wants exactly
+/// once, and has a number of 1 to 10 digits within its range, but for `--over` and `--watch`, whose values are paths;
+/// `--every` doesn't stand without `--watch`. `--dot` of `schema`, `--whole` of `serve`, and `--here` of `check`, which `check` wants exactly
 /// where it has data, have no value. The other words are as many as the command wants. Every word is a text, and none is empty.
 pub fn read_command(alloc: Global, words: &[Str]) -> Result<Option<Command>, NoMemory>
     ensures exact { IfOk result (λ given. given ≡ specs.command words.now) }

@@ -48,10 +48,12 @@ fn command_of<'a>(
 pub fn program<'a>(alloc: Global) -> Result<Command<'a>, NoMemory>
     ensures { IfOk result (λ c. app_of c ≡ specs.program) }
 {
+    let page = [ValueOption::Path(PathOption::Over)];
     let run = [
         ValueOption::Number(NumberOption::Requests),
         ValueOption::Number(NumberOption::Turns),
         ValueOption::Number(NumberOption::Cache),
+        ValueOption::Path(PathOption::Over),
     ];
     let serve = [
         ValueOption::Number(NumberOption::Port),
@@ -63,6 +65,7 @@ pub fn program<'a>(alloc: Global) -> Result<Command<'a>, NoMemory>
         ValueOption::Number(NumberOption::Stall),
         ValueOption::Path(PathOption::Watch),
         ValueOption::Number(NumberOption::Every),
+        ValueOption::Path(PathOption::Over),
     ];
     let program = Command::new(alloc, "strudel")
         .no_binary_name(true)
@@ -70,9 +73,9 @@ pub fn program<'a>(alloc: Global) -> Result<Command<'a>, NoMemory>
         .disable_help_subcommand(true)
         .disable_version_flag(true)
         .subcommand_required(true)
-        .subcommand(command_of(alloc, "page", &[])?)?
-        .subcommand(command_of(alloc, "build", &[])?)?
-        .subcommand(command_of(alloc, "data", &[])?)?
+        .subcommand(command_of(alloc, "page", &page)?)?
+        .subcommand(command_of(alloc, "build", &page)?)?
+        .subcommand(command_of(alloc, "data", &page)?)?
         .subcommand(command_of(alloc, "explain", &[])?)?
         .subcommand(command_of(alloc, "schema", &[])?)?
         .subcommand(command_of(alloc, "check", &[])?)?

@@ -33,7 +33,7 @@ unfolding accepts_by
 refused_by text (inl found) is G states = absurd cc
 refused_by text (inr never) is G states = never states.0 states.1
 
-pub the_reader : Reader
+pub the_reader : Reader States
 the_reader = record {
   accepts = λ text. accepts_by text (decided data_limit text no_data);
   stated = λ text. states_by text (decided data_limit text no_data);
@@ -72,17 +72,19 @@ none_from text bytes b left e bytes_are limits empty reads other =
     let is : b ≡ no_data = λ i. record { limits = limits i; graph = record { nodes = empty.0 i; edges = empty.1 i; members = empty.2 i } } in
     none_stated text left e (subst (λ (x : Building). Reads data_limit text x left (Err e)) is (subst (λ (t : List ℕ). Reads data_limit t b left (Err e)) bytes_are reads)) (settled e other)
 
--- what the reader accepts, and what it makes of a text
-pub accepts_stated : (reader : Reader) (text : List ℕ) (G : DataGraph) → States text G → (reader.accepts text ≡ true) × (reader.stated text ≡ G)
-accepts_stated reader text G states = by (reader.accepts text) refl
-  where
-    by : (test : Bool) → reader.accepts text ≡ test → (reader.accepts text ≡ true) × (reader.stated text ≡ G)
-    by true is = (is, one_graph text (reader.stated text) G (reader.accepted text is) states)
-    by false is = absurd (reader.refused text is G states)
+-- what a reader accepts, and what it makes of a text, where a text makes no other data
+module _ (Makes : List ℕ → DataGraph → Type 0) (reader : Reader Makes) (text : List ℕ) where
+  pub accepts_made : ((G H : DataGraph) → Makes text G → Makes text H → G ≡ H) → (G : DataGraph) → Makes text G
+      → (reader.accepts text ≡ true) × (reader.stated text ≡ G)
+  accepts_made one G makes = by (reader.accepts text) refl
+    where
+      by : (test : Bool) → reader.accepts text ≡ test → (reader.accepts text ≡ true) × (reader.stated text ≡ G)
+      by true is = (is, one (reader.stated text) G (reader.accepted text is) makes)
+      by false is = absurd (reader.refused text is G makes)
 
-pub accepts_none : (reader : Reader) (text : List ℕ) → ((G : DataGraph) → ¬ States text G) → reader.accepts text ≡ false
-accepts_none reader text none = by (reader.accepts text) refl
-  where
-    by : (test : Bool) → reader.accepts text ≡ test → reader.accepts text ≡ false
-    by true is = absurd (none (reader.stated text) (reader.accepted text is))
-    by false is = is
+  pub accepts_none : ((G : DataGraph) → ¬ Makes text G) → reader.accepts text ≡ false
+  accepts_none none = by (reader.accepts text) refl
+    where
+      by : (test : Bool) → reader.accepts text ≡ test → reader.accepts text ≡ false
+      by true is = absurd (none (reader.stated text) (reader.accepted text is))
+      by false is = is

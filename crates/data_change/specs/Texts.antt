@@ -17,18 +17,20 @@ abbrev pub States : List ℕ → DataGraph → Type 0
 States text G =
     (built : Building) × Reads data_limit text no_data built (Ok tt) × (built.graph ≡ G)
 
--- a reader of data texts: which texts it accepts, exactly, and the data that each of them states
-pub record Reader : Type 0 where
+-- A reader of texts, where this says which data a text makes: which texts it accepts, exactly, and the data that each of
+-- them makes.
+pub record Reader (Makes : List ℕ → DataGraph → Type 0) : Type 0 where
   pub accepts : List ℕ → Bool
   pub stated : List ℕ → DataGraph
-  pub accepted : (text : List ℕ) → accepts text ≡ true → States text (stated text)
-  pub refused : (text : List ℕ) → accepts text ≡ false → (G : DataGraph) → ¬ States text G
+  pub accepted : (text : List ℕ) → accepts text ≡ true → Makes text (stated text)
+  pub refused : (text : List ℕ) → accepts text ≡ false → (G : DataGraph) → ¬ Makes text G
 
--- the data after a text: those that it states, where it is accepted
-abbrev pub data_after : Reader → DataGraph → List ℕ → DataGraph
+-- the data after a text: those that it makes, where it is accepted
+abbrev pub data_after : {Makes : List ℕ → DataGraph → Type 0} → Reader Makes → DataGraph → List ℕ
+    → DataGraph
 data_after reader G text = if reader.accepts text then reader.stated text else G
 
 -- what reading a text gives: its data, or none where it isn't accepted
-abbrev pub IsRead : List ℕ → Option DataGraph → Type 0
-IsRead text None = (G : DataGraph) → ¬ States text G
-IsRead text (Some G) = States text G
+abbrev pub IsRead : (List ℕ → DataGraph → Type 0) → List ℕ → Option DataGraph → Type 0
+IsRead Makes text None = (G : DataGraph) → ¬ Makes text G
+IsRead Makes text (Some G) = Makes text G

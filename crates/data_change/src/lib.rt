@@ -2,7 +2,7 @@
 #![tactic(auto)]
 
 ghost use Rattle.std.specs.Prelude.{◌≡◌, ◌≢◌, IfOk, false};
-ghost use Rattle.data_change.specs.Texts.{IsRead};
+ghost use Rattle.data_change.specs.Texts.{States, IsRead};
 
 use sd_ddl::{DdlRefusal, read_ddl};
 use sd_graph::{Graph, GraphBuilder, PROGRAM_LIMITS};
@@ -20,7 +20,7 @@ fn is_out_of_memory(refusal: &DdlRefusal) -> bool
 
 /// The data that a text states, where it is an accepted data text; none where it isn't.
 pub fn read_change(alloc: Global, text: &Str) -> Result<Option<Graph>, NoMemory>
-    ensures { IfOk result (IsRead text.now) }
+    ensures { IfOk result (IsRead States text.now) }
 {
     let mut graph = GraphBuilder::new(alloc, PROGRAM_LIMITS);
     match read_ddl(alloc, text.bytes(), DATA_LIMIT, &mut graph) {

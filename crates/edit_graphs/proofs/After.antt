@@ -38,7 +38,7 @@ tie Equal e = refl
 tie Greater e = cc
 
 module _ {X : Type 0} (R : X → X → Ordering) (total : IsTotalOrder R) (exact : IsAntisymmetric R) where
-  inserted_exactly : (k : X) (xs : List X) → IsStrictlySortedBy R xs → ListsExactly R (λ z. Contains xs z ⊎ (z ≡ k))
+  pub inserted_exactly : (k : X) (xs : List X) → IsStrictlySortedBy R xs → ListsExactly R (λ z. Contains xs z ⊎ (z ≡ k))
       (insert_key R xs k)
   inserted_exactly k xs up = record {
     ascending = inserted-ascends R total k xs up;
@@ -57,7 +57,7 @@ module _ {X : Type 0} (R : X → X → Ordering) (total : IsTotalOrder R) (exact
   other_at k x f e = let t : is_at (R k) x ≡ true = subst (λ z. is_at (R k) z ≡ true) (sym e)
       (ap is_eq (tied_itself total k)) in cc
 
-  removed_exactly : (k : X) (xs : List X) → IsStrictlySortedBy R xs → ListsExactly R (λ z. Contains xs z × (z ≢ k))
+  pub removed_exactly : (k : X) (xs : List X) → IsStrictlySortedBy R xs → ListsExactly R (λ z. Contains xs z × (z ≢ k))
       (remove_key (is_at (R k)) xs)
   unfolding IsStrictlySortedBy
   removed_exactly k [] up = record { ascending = tt; sound = λ z c. absurd (Contains-nil z c); complete = λ z h. h.0 }

@@ -5,7 +5,8 @@ use Rattle.rpe.specs.Regex.{Regex, label, any, empty, seq, alt, star}
 use Rattle.rpe.specs.Language.{InLanguage}
 use Rattle.graph_spec.specs.DataGraph.{Name}
 use Rattle.query_spec.specs.declared.Variable.{Variable}
-use Rattle.query_spec.specs.Query.{Operand, variable, constant, PathStep, arc_variable, expression, Condition, member, path, compare, one_of, kind, negation, Chain}
+use Rattle.query_spec.specs.Query.{Operand, variable, constant, PathStep, arc_variable, expression}
+use Rattle.query_spec.specs.Query.{Condition, member, path, compare, one_of, kind, negation, Chain}
 use Rattle.site_spec.specs.Site.{SomeOf}
 use Rattle.edit_spec.specs.declared.Edit.{Edit}
 use Rattle.edit_spec.specs.declared.Edit.TheVariants.{Add, Remove, Enter, Leave}

@@ -75,6 +75,13 @@ impl IndexStore {
             labels,
         })
     }
+
+    /// The graph that the store has.
+    pub fn graph(&self) -> &Graph
+        ensures { result.now ≡ self.now }
+    {
+        &self.graph
+    }
 }
 
 impl Store for IndexStore {

@@ -1,5 +1,5 @@
 -- A part's unread path is one of the whole's.
-use Rattle.std.proofs.Common.{◌≡◌, ℕ, ◌<◌, List, [], ◌∷◌, length, get_or, arith, subst, sym, ⊎_elim}
+use Rattle.std.proofs.Common.{◌≡◌, ℕ, ◌<◌, List, [], ◌∷◌, ◌++◌, length, get_or, arith, subst, sym, ⊎_elim}
 use Rattle.std.proofs.lemmas.List.Elements.{Contains-append_left, Contains-append_right, Contains-push_cases, Contains-get_or}
 use Rattle.std.specs.Prelude.{Contains, Err}
 use Rattle.edge_io.specs.Counts.{NoneFell}
@@ -38,3 +38,10 @@ of_query sources query templates path h = Contains-append_right sources (query �
 
 pub of_templates : (sources : List (List ℕ)) (query templates path : List ℕ) → Contains (templates ∷ []) path → Contains (input_paths sources query templates) path
 of_templates sources query templates path h = Contains-append_right sources (query ∷ templates ∷ []) path (Contains-append_right (query ∷ []) (templates ∷ []) path h)
+
+-- a data file is one of the inputs of data over a first query, and so is that query
+pub of_files : (sources : List (List ℕ)) (first path : List ℕ) → Contains sources path → Contains (sources ++ (first ∷ [])) path
+of_files sources first path h = Contains-append_left sources (first ∷ []) path h
+
+pub of_first : (sources : List (List ℕ)) (first path : List ℕ) → Contains (first ∷ []) path → Contains (sources ++ (first ∷ [])) path
+of_first sources first path h = Contains-append_right sources (first ∷ []) path h

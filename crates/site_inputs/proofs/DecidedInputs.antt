@@ -27,8 +27,9 @@ use Rattle.site_inputs.specs.Runs.{FileEnds, IsDecided, Decides}
 use Rattle.command_spec.specs.Limits.{data_limit}
 use Rattle.site_inputs.specs.Sources.{empty_building, IsRefusedFor, TextTaken, SourceEnds, GraphEnds}
 use Rattle.command_spec.specs.Limits.{text_limit}
-use Rattle.site_inputs.specs.Sites.{query_told, QueryTaken, QueryEnds, TemplatesTaken, TemplatesEnd, InputsEnd, templates_told}
+use Rattle.site_inputs.specs.Sites.{query_told, QueryTaken, QueryEnds, DataInputsEnd, TemplatesTaken, TemplatesEnd, InputsEnd, inputs_with, templates_told}
 use Rattle.site_inputs.proofs.Decided.{then_decides, gives_decides}
+use Rattle.site_inputs.proofs.SiteData.{site_decides}
 
 -- ---- equal answers have equal parts
 
@@ -200,9 +201,17 @@ templates_decides map path = then_decides (FileEnds text_limit map path) (Templa
 
 -- ---- all three
 
-pub inputs_decide : (map : FileMap) (sources : List (List ℕ)) (query_path templates_path : List ℕ) → Decides (InputsEnd map sources query_path templates_path)
-inputs_decide map sources query_path templates_path =
-    then_decides (GraphEnds map empty_building sources) _ (graph_decides map empty_building sources) (λ graph.
+pub data_decides : (map : FileMap) (sources : List (List ℕ)) (over : Option (List ℕ)) → Decides (DataInputsEnd map sources over)
+data_decides map sources None =
+    then_decides (GraphEnds map empty_building sources) _ (graph_decides map empty_building sources) (λ raw.
+    gives_decides (record { graph = raw; first = None }))
+data_decides map sources (Some path) =
+    then_decides (GraphEnds map empty_building sources) _ (graph_decides map empty_building sources) (λ raw.
+    then_decides (QueryEnds map path) _ (query_decides map path) (λ first. site_decides path raw first))
+
+pub inputs_decide : (map : FileMap) (sources : List (List ℕ)) (over : Option (List ℕ)) (query_path templates_path : List ℕ) → Decides (InputsEnd map sources over query_path templates_path)
+inputs_decide map sources over query_path templates_path =
+    then_decides (DataInputsEnd map sources over) _ (data_decides map sources over) (λ found.
     then_decides (QueryEnds map query_path) _ (query_decides map query_path) (λ query.
     then_decides (TemplatesEnd map templates_path) _ (templates_decides map templates_path) (λ templates.
-    gives_decides (record { graph = graph; query = query; templates = templates }))))
+    gives_decides (inputs_with found query templates))))

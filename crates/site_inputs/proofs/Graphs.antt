@@ -1,5 +1,5 @@
 -- One data file after another.
-use Rattle.std.proofs.Common.{◌≡◌, ℕ, ◌+◌, ◌<◌, List, ◌∷◌, length, drop, get_or, inl, inr, sym, ap, ◌∙◌}
+use Rattle.std.proofs.Common.{◌≡◌, ℕ, ◌+◌, ◌<◌, List, [], ◌∷◌, length, drop, get_or, inl, inr, refl, sym, ap, ◌∙◌}
 use Rattle.std.proofs.lemmas.List.{drop_more}
 use Rattle.std.specs.Prelude.{Result, Ok, Err}
 use Rattle.edge_io.specs.Files.{FileMap}
@@ -8,8 +8,9 @@ use Rattle.sd_graph.specs.Statement.{Building}
 use Rattle.site_inputs.specs.Runs.{Then}
 use Rattle.site_inputs.specs.Sources.{SourceEnds, GraphEnds}
 use Rattle.site_inputs.specs.declared.fault.Fault.{Fault}
+use Rattle.site_inputs.specs.declared.fault.Fault.TheVariants.{NoMemory}
 
-then_next : {A B : Type 0} (First : Result A Fault → Type 0) (Next : A → Result B Fault → Type 0) (value : A) (result : Result B Fault) → First (Ok value) → Next value result → Then First Next result
+pub then_next : {A B : Type 0} (First : Result A Fault → Type 0) (Next : A → Result B Fault → Type 0) (value : A) (result : Result B Fault) → First (Ok value) → Next value result → Then First Next result
 then_next First Next value (Ok b) first next = record { value = value; first = first; next = next }
 then_next First Next value (Err fault) first next = inr (record { value = value; first = first; next = next })
 
@@ -26,3 +27,9 @@ pub graph_fault : (map : FileMap) (b : Building) (sources : List (List ℕ)) (i 
 graph_fault map b sources i path fault within is source =
     let split : drop i sources ≡ path ∷ drop (i + 1) sources = drop_more sources i path within ∙ ap (λ p. p ∷ drop (i + 1) sources) (sym is) in
     rw split (inl source)
+
+-- where all files are taken, it may be out of memory behind them
+pub graph_no_memory : (map : FileMap) (b : Building) (paths : List (List ℕ)) (G : DataGraph) → GraphEnds map b paths (Ok G) → GraphEnds map b paths (Err NoMemory)
+graph_no_memory map b [] G h = inr refl
+graph_no_memory map b (path ∷ paths) G h =
+    inr (record { value = h.value; first = h.first; next = graph_no_memory map h.value paths G h.next })

@@ -6,3 +6,4 @@ pub mod Sites
 pub mod Decided
 pub mod DecidedInputs
 pub mod Endings
+pub mod SiteData

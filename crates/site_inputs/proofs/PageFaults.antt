@@ -1,7 +1,9 @@
 -- Reading the inputs of a site ends with no fault of a page.
 use Rattle.std.proofs.Common.{ℕ, List, [], ◌∷◌, inl, inr}
-use Rattle.std.specs.Prelude.{Result, Err, ⊤}
+use Rattle.std.specs.Prelude.{Result, Err, Option, None, Some, ⊤}
 use Rattle.edge_io.specs.Files.{FileMap}
+use Rattle.graph_spec.specs.DataGraph.{DataGraph}
+use Rattle.query_spec.specs.Query as plain
 use Rattle.sd_graph.specs.Statement.{Building}
 use Rattle.site_inputs.specs.declared.fault.Fault.{Fault}
 use Rattle.site_inputs.specs.declared.fault.Fault.TheVariants.{Refused, Unread, Faulty, NotFound, NoMemory}
@@ -9,7 +11,7 @@ use Rattle.site_inputs.specs.Runs.{Then, Gives, FileEnds}
 use Rattle.command_spec.specs.Limits.{data_limit}
 use Rattle.site_inputs.specs.Sources.{TextTaken, SourceEnds, GraphEnds, empty_building}
 use Rattle.command_spec.specs.Limits.{text_limit}
-use Rattle.site_inputs.specs.Sites.{InputsEnd, QueryTaken, QueryEnds, TemplatesTaken, TemplatesEnd}
+use Rattle.site_inputs.specs.Sites.{DataInputsEnd, InputsEnd, QueryTaken, QueryEnds, SiteTaken, TemplatesTaken, TemplatesEnd, inputs_with}
 
 -- a fault of a page, and not of an input
 abbrev pub IsOfPage : Fault → Type 0
@@ -85,14 +87,36 @@ graph_none : (map : FileMap) (b : Building) (paths : List (List ℕ)) → NoPage
 graph_none map b [] = gives_none b.graph
 graph_none map b (path ∷ paths) = then_none (SourceEnds map path b) (λ c. GraphEnds map c paths) (source_none map path b) (λ c. graph_none map c paths)
 
-pub inputs_none : (map : FileMap) (sources : List (List ℕ)) (query_path templates_path : List ℕ) → NoPageFault (InputsEnd map sources query_path templates_path)
-inputs_none map sources query_path templates_path =
-    then_none (GraphEnds map empty_building sources)
-    (λ graph. Then (QueryEnds map query_path) (λ query. Then (TemplatesEnd map templates_path) (λ templates. Gives (record { graph = graph; query = query; templates = templates }))))
+query_file_none : (map : FileMap) (path : List ℕ) → NoPageFault (QueryEnds map path)
+query_file_none map path = then_none (FileEnds text_limit map path) (QueryTaken path) (file_none text_limit map path) (λ bytes. query_none path bytes)
+
+site_none : (path : List ℕ) (raw : DataGraph) (first : plain.Query) → NoPageFault (SiteTaken path raw first)
+site_none path raw first = record { none = by }
+  where
+    by : (fault : Fault) → IsOfPage fault → SiteTaken path raw first (Err fault) → ⊥
+    by (Faulty term kind) p e = e
+    by NotFound p e = e
+    by (Refused refusal) p e = p
+    by (Unread path) p e = p
+    by NoMemory p e = p
+
+data_none : (map : FileMap) (sources : List (List ℕ)) (over : Option (List ℕ)) → NoPageFault (DataInputsEnd map sources over)
+data_none map sources None =
+    then_none (GraphEnds map empty_building sources) (λ raw. Gives (record { graph = raw; first = None }))
+    (graph_none map empty_building sources) (λ raw. gives_none (record { graph = raw; first = None }))
+data_none map sources (Some path) =
+    then_none (GraphEnds map empty_building sources) (λ raw. Then (QueryEnds map path) (λ first. SiteTaken path raw first))
     (graph_none map empty_building sources)
-    (λ graph. then_none (QueryEnds map query_path)
-    (λ query. Then (TemplatesEnd map templates_path) (λ templates. Gives (record { graph = graph; query = query; templates = templates })))
-    (then_none (FileEnds text_limit map query_path) (QueryTaken query_path) (file_none text_limit map query_path) (λ bytes. query_none query_path bytes))
-    (λ query. then_none (TemplatesEnd map templates_path) (λ templates. Gives (record { graph = graph; query = query; templates = templates }))
+    (λ raw. then_none (QueryEnds map path) (λ first. SiteTaken path raw first) (query_file_none map path) (λ first. site_none path raw first))
+
+pub inputs_none : (map : FileMap) (sources : List (List ℕ)) (over : Option (List ℕ)) (query_path templates_path : List ℕ) → NoPageFault (InputsEnd map sources over query_path templates_path)
+inputs_none map sources over query_path templates_path =
+    then_none (DataInputsEnd map sources over)
+    (λ found. Then (QueryEnds map query_path) (λ query. Then (TemplatesEnd map templates_path) (λ templates. Gives (inputs_with found query templates))))
+    (data_none map sources over)
+    (λ found. then_none (QueryEnds map query_path)
+    (λ query. Then (TemplatesEnd map templates_path) (λ templates. Gives (inputs_with found query templates)))
+    (query_file_none map query_path)
+    (λ query. then_none (TemplatesEnd map templates_path) (λ templates. Gives (inputs_with found query templates))
     (then_none (FileEnds text_limit map templates_path) (TemplatesTaken templates_path) (file_none text_limit map templates_path) (λ bytes. templates_none templates_path bytes))
-    (λ templates. gives_none (record { graph = graph; query = query; templates = templates }))))
+    (λ templates. gives_none (inputs_with found query templates))))

@@ -1,4 +1,5 @@
--- The three inputs of a site: the data, the query and the templates, taken in this order.
+-- The inputs of a site, taken in this order: the data, the query and the templates. The data are what the data files state
+-- or, where there is a first query, that query's site over it, seen as data.
 use Rattle.std.specs.Prelude.{◌≡◌, ℕ, List, Result, Ok, Err, Option, Some, None, ⊤}
 use Rattle.edge_io.specs.Files.{FileMap}
 use Rattle.command_spec.specs.Limits.{text_limit}
@@ -7,7 +8,10 @@ use Rattle.query_spec.specs.Query as plain
 use Rattle.tmpl.specs.Body.{TemplateFile}
 use Rattle.site_spec.specs.Site.{scope_of}
 use Rattle.weight_spec.specs.Site.{site_of}
+use Rattle.composed_data.specs.SiteData.{IsDecided}
 use Rattle.page_spec.specs.Site.{Site}
+use Rattle.sd_graph.specs.declared.GraphRefusal.{GraphRefusal}
+use Rattle.sd_graph.specs.declared.GraphRefusal.TheVariants as over
 use Rattle.struql_parse.specs.declared.refusal.ParseRefusal.{ParseRefusal}
 use Rattle.struql_parse.specs.declared.refusal.ParseRefusal.TheVariants as parse
 use Rattle.struql_check.specs.declared.refusal.CheckRefusal.{CheckRefusal}
@@ -19,8 +23,10 @@ use Rattle.template_reader.specs.declared.refusal.TmplRefusal.{TmplRefusal}
 use Rattle.template_reader.specs.declared.refusal.TmplRefusal.TheVariants as templates
 use Rattle.template_reader.specs.Faults.{IsAnswer}
 use Rattle.run_report.specs.declared.status.Place.TheVariants.{At}
+use Rattle.site_inputs.specs.declared.data.DataInputs.{DataInputs}
 use Rattle.site_inputs.specs.declared.fault.Fault.{Fault}
 use Rattle.site_inputs.specs.declared.fault.Fault.TheVariants.{Refused, NoMemory}
+use Rattle.site_inputs.specs.declared.fault.Refusal.{Refusal}
 use Rattle.site_inputs.specs.declared.told.Told.{Told}
 use Rattle.site_inputs.specs.Runs.{Then, Gives, FileEnds}
 use Rattle.site_inputs.specs.Sources.{GraphEnds, empty_building}
@@ -69,6 +75,50 @@ QueryTaken path bytes (Err fault) = ⊥
 abbrev pub QueryEnds : FileMap → List ℕ → Result plain.Query Fault → Type 0
 QueryEnds map path = Then (FileEnds text_limit map path) (QueryTaken path)
 
+-- ---- the data
+
+-- The graph of the first query's site over what the files state: there is one such graph, and the end says whether it is
+-- within the program's limits.
+abbrev pub SiteIsDecided : DataGraph → plain.Query → Result DataGraph GraphRefusal → Type 0
+SiteIsDecided raw first end = IsDecided empty_building.limits raw (scope_of first) end
+
+-- the number of a graph that is over the limits; none where it was out of memory
+abbrev pub graph_number : GraphRefusal → Option ℕ
+graph_number over.TooManyNodes = Some 12
+graph_number over.TooManyEdges = Some 11
+graph_number over.NoMemory = None
+
+-- the first query is refused, at its start, since its site is over the limits for this reason
+pub record IsTooLarge (path : List ℕ) (raw : DataGraph) (first : plain.Query)
+    (refusal : Refusal) : Type 0 where
+  pub reason : GraphRefusal
+  pub decided : SiteIsDecided raw first (Err reason)
+  pub its : refusal.file ≡ path
+  pub told : graph_number reason ≡ Some refusal.number
+  pub place : refusal.place ≡ At 0
+
+-- the data are the site of this first query over what the files state
+pub record AreOfSite (raw : DataGraph) (first : plain.Query) (found : DataInputs) : Type 0 where
+  pub decided : SiteIsDecided raw first (Ok found.graph)
+  pub its : found.first ≡ Some first
+
+-- How a first query ends that was read and checked: with its site as the data, or refused.
+abbrev pub SiteTaken : List ℕ → DataGraph → plain.Query → Result DataInputs Fault → Type 0
+SiteTaken path raw first (Ok found) = AreOfSite raw first found
+SiteTaken path raw first (Err (Refused refusal)) = IsTooLarge path raw first refusal
+SiteTaken path raw first (Err NoMemory) = ⊤
+SiteTaken path raw first (Err fault) = ⊥
+
+-- How the data end: the data files are taken, and then the first query, if there is one.
+abbrev pub DataInputsEnd
+    : FileMap → List (List ℕ) → (first : Option (List ℕ)) → Result DataInputs Fault → Type 0
+DataInputsEnd map sources None =
+    Then (GraphEnds map empty_building sources)
+    (λ raw. Gives (record { graph = raw; first = None }))
+DataInputsEnd map sources (Some path) =
+    Then (GraphEnds map empty_building sources)
+    (λ raw. Then (QueryEnds map path) (λ first. SiteTaken path raw first))
+
 -- ---- the templates
 
 -- those of a refused text of templates
@@ -96,19 +146,31 @@ TemplatesEnd map path = Then (FileEnds text_limit map path) (TemplatesTaken path
 
 -- ---- all three
 
--- what a site is made of
+-- what a site is made of: the data, the first query whose site they are, if there is one, the query and the templates
 pub record Inputs : Type 0 where
   pub graph : DataGraph
+  pub first : Option plain.Query
   pub query : plain.Query
   pub templates : TemplateFile
 
--- How the three inputs end: each is taken behind those before it.
-abbrev pub InputsEnd : FileMap → List (List ℕ) → List ℕ → List ℕ → Result Inputs Fault → Type 0
-InputsEnd map sources query_path templates_path =
-    Then (GraphEnds map empty_building sources)
-    (λ graph. Then (QueryEnds map query_path)
+-- the inputs with these data
+abbrev pub inputs_with : DataInputs → plain.Query → TemplateFile → Inputs
+inputs_with found query templates = record {
+  graph = found.graph;
+  first = found.first;
+  query = query;
+  templates = templates;
+}
+
+-- How the inputs end: each is taken behind those before it.
+abbrev pub InputsEnd
+    : FileMap → List (List ℕ) → (first : Option (List ℕ)) → (query templates : List ℕ)
+    → Result Inputs Fault → Type 0
+InputsEnd map sources first query_path templates_path =
+    Then (DataInputsEnd map sources first)
+    (λ found. Then (QueryEnds map query_path)
     (λ query. Then (TemplatesEnd map templates_path)
-    (λ templates. Gives (record { graph = graph; query = query; templates = templates }))))
+    (λ templates. Gives (inputs_with found query templates))))
 
 -- the whole site of the query over the data
 abbrev pub site_at : Inputs → Site

@@ -46,3 +46,8 @@ GraphEnds map b (path ∷ paths) = Then (SourceEnds map path b) (λ c. GraphEnds
 abbrev pub with_building : Building → Result ⊤ Fault → Result Building Fault
 with_building c (Ok u) = Ok c
 with_building c (Err fault) = Err fault
+
+-- the graph of what was gathered, or the same fault
+abbrev pub graph_result : Result Building Fault → Result DataGraph Fault
+graph_result (Ok b) = Ok b.graph
+graph_result (Err fault) = Err fault

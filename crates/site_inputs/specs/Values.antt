@@ -14,7 +14,12 @@ file_result (Err fault) = Err fault
 
 -- the inputs as plain ones
 abbrev pub inputs_of : SiteInputs → Inputs
-inputs_of s = record { graph = s.graph; query = s.query; templates = file_of s.templates }
+inputs_of s = record {
+  graph = s.graph;
+  first = s.first;
+  query = s.query;
+  templates = file_of s.templates;
+}
 
 -- the inputs as plain ones, or the same fault
 abbrev pub inputs_result : Result SiteInputs Fault → Result Inputs Fault

@@ -3,7 +3,7 @@ ghost use Rattle.std.specs.Prelude.{◌≡◌, ◌⊎◌, ◌<◌, ◌^◌, ◌�
 ghost use Rattle.std.specs.Option.{ForSome};
 ghost use Rattle.sd_graph.specs.Statement.{Building};
 ghost use Rattle.site_inputs.specs.Runs.{FileEnds, ReadsHaveCause};
-ghost use Rattle.site_inputs.specs.Sources.{TextTaken, SourceEnds, GraphEnds, empty_building, with_building};
+ghost use Rattle.site_inputs.specs.Sources.{TextTaken, SourceEnds, GraphEnds, empty_building, graph_result, with_building};
 
 use crate::fault::{Fault, refused, unread};
 use data_source::{SourceRefusal, read_source};
@@ -71,6 +71,28 @@ fn take_source<F: Files>(
     take_text(alloc, path, bytes.bytes(), graph)
 }
 
+/// What the data files state together, gathered.
+/// # Errors
+/// The first file in their order that is refused or unread, or out of memory.
+pub(crate) fn gather<F: Files>(
+    alloc: Global,
+    files: &mut F,
+    sources: &[Str],
+) -> Result<GraphBuilder, Fault>
+    ensures ends { ForSome (F.contents files.old) (λ map.
+        GraphEnds map empty_building sources.now (graph_result result)) }
+    ensures same { F.contents files.new ≡ F.contents files.old }
+    ensures cause { ReadsHaveCause sources.now
+        (F.failed_reads files.old) (F.failed_reads files.new) result }
+    ensures writes { F.failed_writes files.new ≡ F.failed_writes files.old }
+{
+    let mut graph = GraphBuilder::new(alloc, PROGRAM_LIMITS);
+    for path in sources {
+        take_source(alloc, files, path, &mut graph)?;
+    }
+    Ok(graph)
+}
+
 /// The union of what the data files state.
 /// # Errors
 /// The first file in their order that is refused or unread, or out of memory.
@@ -82,10 +104,7 @@ pub fn load_graph<F: Files>(alloc: Global, files: &mut F, sources: &[Str]) -> Re
         (F.failed_reads files.old) (F.failed_reads files.new) result }
     ensures writes { F.failed_writes files.new ≡ F.failed_writes files.old }
 {
-    let mut graph = GraphBuilder::new(alloc, PROGRAM_LIMITS);
-    for path in sources {
-        take_source(alloc, files, path, &mut graph)?;
-    }
-    let graph = graph.finish(alloc)?;
+    let gathered = gather(alloc, files, sources)?;
+    let graph = gathered.finish(alloc)?;
     Ok(graph)
 }

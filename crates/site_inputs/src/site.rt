@@ -1,13 +1,14 @@
-// The three inputs of a site, each read and decoded before the next.
+// The inputs of a site, each read and decoded before the next.
 ghost use Rattle.std.specs.Prelude.{◌≡◌, ◌∷◌, []};
 ghost use Rattle.std.specs.Option.{ForSome};
 ghost use Rattle.site_inputs.specs.Runs.{ReadsHaveCause};
-ghost use Rattle.command_spec.specs.Inputs.{input_paths};
+ghost use Rattle.command_spec.specs.Inputs.{data_paths, input_paths};
 ghost use Rattle.site_inputs.specs.Sites.{QueryTaken, QueryEnds, TemplatesTaken, TemplatesEnd, InputsEnd};
 ghost use Rattle.site_inputs.specs.Values.{file_result, inputs_result};
 
+use crate::data::load_data;
 use crate::fault::{Fault, refused};
-use crate::inputs::{load_graph, read_file};
+use crate::inputs::read_file;
 use crate::told::{told_of_query, told_of_templates};
 use edge_io::Files;
 use query_reader::read_query;
@@ -25,7 +26,10 @@ const TEXT_LIMIT: u64 = 1_048_576;
 /// What a site is made of.
 #[derive(Drop)]
 pub struct SiteInputs {
+    /// The data.
     pub graph: Graph,
+    /// The first query, if the data are its site.
+    pub first: Option<Checked>,
     pub query: Checked,
     pub templates: Templates,
 }
@@ -87,28 +91,31 @@ fn load_templates<F: Files>(alloc: Global, files: &mut F, path: &Str) -> Result<
     take_templates(alloc, path, bytes.bytes())
 }
 
-/// The data, the query and the templates, in this order.
+/// The data files, the first query, if there is one, the query and the templates, in this order.
 /// # Errors
-/// The first of these files that is refused or unread, or out of memory.
+/// The first of these files that is refused or unread, as `load_data` refuses a first query for its site; or out of memory.
 pub fn load_inputs<F: Files>(
     alloc: Global,
     files: &mut F,
     sources: &[Str],
+    over: &Option<Str>,
     query: &Str,
     templates: &Str,
 ) -> Result<SiteInputs, Fault>
     ensures ends { ForSome (F.contents files.old) (λ map.
-        InputsEnd map sources.now query.now templates.now (inputs_result result)) }
+        InputsEnd map sources.now over.now query.now templates.now (inputs_result result)) }
     ensures same { F.contents files.new ≡ F.contents files.old }
-    ensures cause { ReadsHaveCause (input_paths sources.now query.now templates.now)
+    ensures cause { ReadsHaveCause
+        (input_paths (data_paths sources.now over.now) query.now templates.now)
         (F.failed_reads files.old) (F.failed_reads files.new) result }
     ensures writes { F.failed_writes files.new ≡ F.failed_writes files.old }
 {
-    let graph = load_graph(alloc, files, sources)?;
+    let data = load_data(alloc, files, sources, over)?;
     let query = load_query(alloc, files, query)?;
     let templates = load_templates(alloc, files, templates)?;
     Ok(SiteInputs {
-        graph,
+        graph: data.graph,
+        first: data.first,
         query,
         templates,
     })

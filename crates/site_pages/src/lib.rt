@@ -1,16 +1,15 @@
-//! The pages of a query's site over data that a text replaces.
+//! The pages of a query's site over data that a text replaces, which may be the site of a first query.
 #![tactic(auto)]
 
 ghost use Rattle.std.specs.Prelude.{◌≡◌, IfOk, false, map};
 ghost use Rattle.tmpl.specs.Reading.{file_of};
 ghost use Rattle.query_blocks.specs.Blocks.{AreCheckedBlocks, scope_of};
-ghost use Rattle.click_time.specs.Page.{PageFixed, page_site};
-ghost use Rattle.data_change.proofs.TheReader.{the_reader};
-ghost use Rattle.site_pages.specs.Texts.{data_texts};
+ghost use Rattle.composed_change.proofs.Readers.{the_readers};
+ghost use Rattle.site_pages.specs.Texts.{Current, current_site, current_templates, data_texts};
 
 mod made;
 
-use data_change::read_change;
+use composed_change::read_text;
 pub use made::PageSource;
 use made::{MadePages, pages_over};
 use page_spec::Outcome;
@@ -19,14 +18,17 @@ use sd_graph::Graph;
 use sd_value::{NoMemory, Str, Term};
 use site_view::Pages;
 use std::alloc::Global;
+use struql_check::Checked;
 use tmpl::Templates;
 use versions::{Changed, Same, Versions};
 
-/// The pages of a query's site, over data that an accepted data text replaces.
+/// The pages of a query's site, over data that an accepted text replaces.
 #[derive(Drop)]
 pub struct SitePages<'q> {
     pages: MadePages<'q>,
     source: PageSource,
+    // Of whose site the data are the graph.
+    first: &'q Option<Checked>,
     scopes: &'q QueryBlocks,
     templates: &'q Templates,
 }
@@ -47,19 +49,23 @@ impl<'q> SitePages<'q> {
     ghost use Rattle.tmpl.specs.Reading.{file_of};
     ghost use Rattle.query_blocks.specs.Blocks.{AreCheckedBlocks, scope_of};
 
-    /// The pages over these data.
+    /// The pages over these data. With a first query, texts make the graph of its site.
     pub fn of(
         alloc: Global,
         graph: Graph,
+        first: &'q Option<Checked>,
         scopes: &'q QueryBlocks,
         templates: &'q Templates,
         source: PageSource,
     ) -> Result<SitePages<'q>, NoMemory>
         requires { AreCheckedBlocks scopes.now.version scopes.now.blocks.items }
         ensures state { IfOk result (λ pages. ⟦<SitePages<'q> as Versions>⟧.state pages ≡ record {
-          graph = graph;
-          scope = scope_of scopes.now;
-          templates = file_of templates.now;
+          first = first.now;
+          pages = record {
+            graph = graph;
+            scope = scope_of scopes.now;
+            templates = file_of templates.now;
+          };
         }) }
         ensures own { IfOk result (λ pages. ⟦<SitePages<'q> as Versions>⟧.Own pages) }
     {
@@ -67,6 +73,7 @@ impl<'q> SitePages<'q> {
         Ok(SitePages {
             pages,
             source,
+            first,
             scopes,
             templates,
         })
@@ -74,23 +81,26 @@ impl<'q> SitePages<'q> {
 }
 
 impl<'q> Versions for SitePages<'q> {
-    ghost State = { PageFixed };
+    ghost State = { Current };
 
     ghost Cache = { Unit {0} };
 
-    ghost state = { λ s. ⟦<MadePages<'q> as Pages>⟧.fixed s.pages };
+    ghost state = { λ s. record {
+      first = s.first.now;
+      pages = ⟦<MadePages<'q> as Pages>⟧.fixed s.pages;
+    } };
 
     ghost cache = { λ s. record {} };
 
-    ghost site = { page_site };
+    ghost site = { current_site };
 
-    ghost templates = { λ f. f.templates };
+    ghost templates = { current_templates };
 
-    ghost changed = { (data_texts the_reader).changed };
+    ghost changed = { (data_texts the_readers).changed };
 
-    ghost accepts = { (data_texts the_reader).accepts };
+    ghost accepts = { (data_texts the_readers).accepts };
 
-    ghost stays = { (data_texts the_reader).stays };
+    ghost stays = { (data_texts the_readers).stays };
 
     ghost looks = { λ state before term after. Unit {0} };
 
@@ -111,7 +121,7 @@ impl<'q> Versions for SitePages<'q> {
 
     /// The new data are loaded and indexed before the old ones go, and so is the site made whole, where pages come from it.
     fn change(&mut self, alloc: Global, text: &Str, kept: &[Term]) -> Result<Changed, NoMemory> {
-        let Some(graph) = read_change(alloc, text)? else {
+        let Some(graph) = read_text(alloc, text, self.first)? else {
             return Ok(Changed::Refused);
         };
         let flags = none_stays(alloc, kept)?;

@@ -17,7 +17,8 @@ fn the_worked_text(rt: HostRuntime) -> Result<(), Fail> {
     check_stated(
         rt.alloc(),
         b"@string{s = \"ACM\"}\n@article{k1, author = {Dan and {Mary and Co}}, title = \"A {B}\" # s, year = 1998, month = jan,}",
-        b"object \"k1\" in \"article\", \"b\" {\n  \"author\" \"Dan\"\n  \"author\" \"{Mary and Co}\"\n  \"month\" \"jan\"\n  \"title\" \"A {B}ACM\"\n  \"year\" 1998\n}\n",
+        b"object \"k1\" in \"article\", \"b\" {\n  \"author\" \"Dan\"\n  \"author\" \"{Mary and Co}\"\n  \
+            \"month\" \"jan\"\n  \"title\" \"A {B}ACM\"\n  \"year\" 1998\n}\n",
     )
 }
 
@@ -53,7 +54,9 @@ fn people_are_split_outside_braces(rt: HostRuntime) -> Result<(), Fail> {
     check_stated(
         rt.alloc(),
         b"@misc{k, author = {A and B AND C and {D and E} and  and F and\nG}, editor = \"H and I\", note = {J and K}}",
-        b"object \"k\" in \"b\", \"misc\" {\n  \"author\" \"A\"\n  \"author\" \"B AND C\"\n  \"author\" \"F\"\n  \"author\" \"G\"\n  \"author\" \"{D and E}\"\n  \"editor\" \"H\"\n  \"editor\" \"I\"\n  \"note\" \"J and K\"\n}\n",
+        b"object \"k\" in \"b\", \"misc\" {\n  \"author\" \"A\"\n  \"author\" \"B AND C\"\n  \"author\" \
+            \"F\"\n  \"author\" \"G\"\n  \"author\" \"{D and E}\"\n  \"editor\" \"H\"\n  \"editor\" \
+            \"I\"\n  \"note\" \"J and K\"\n}\n",
     )
 }
 
@@ -71,7 +74,8 @@ fn integers_of_64_bits_are_numbers(rt: HostRuntime) -> Result<(), Fail> {
     check_stated(
         rt.alloc(),
         b"@misc{k, a = 9223372036854775807, b = 9223372036854775808, c = {-7}, d = 007, e = 1 # 2}",
-        b"object \"k\" in \"b\", \"misc\" {\n  \"a\" 9223372036854775807\n  \"b\" \"9223372036854775808\"\n  \"c\" -7\n  \"d\" \"007\"\n  \"e\" 12\n}\n",
+        b"object \"k\" in \"b\", \"misc\" {\n  \"a\" 9223372036854775807\n  \"b\" \
+            \"9223372036854775808\"\n  \"c\" -7\n  \"d\" \"007\"\n  \"e\" 12\n}\n",
     )
 }
 

@@ -1,5 +1,6 @@
 // The commands `serve` and `replay` over files and a wire in memory.
 mod changes;
+mod composed;
 mod exchange;
 mod large;
 mod long_heads;

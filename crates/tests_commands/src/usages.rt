@@ -32,7 +32,7 @@ const ROWS: &[UsageRow] = &[
         fewest: 5,
         operands: "QUERY TEMPLATES ADDRESS DATA..",
         flag: Flag::None,
-        options: &[],
+        options: &[ValueOption::Path(PathOption::Over)],
     },
     UsageRow {
         name: CommandName::Build,
@@ -40,7 +40,7 @@ const ROWS: &[UsageRow] = &[
         fewest: 5,
         operands: "QUERY TEMPLATES DIR DATA..",
         flag: Flag::None,
-        options: &[],
+        options: &[ValueOption::Path(PathOption::Over)],
     },
     UsageRow {
         name: CommandName::Data,
@@ -48,7 +48,7 @@ const ROWS: &[UsageRow] = &[
         fewest: 2,
         operands: "DATA..",
         flag: Flag::None,
-        options: &[],
+        options: &[ValueOption::Path(PathOption::Over)],
     },
     UsageRow {
         name: CommandName::Explain,
@@ -106,6 +106,7 @@ const ROWS: &[UsageRow] = &[
             ValueOption::Number(NumberOption::Stall),
             ValueOption::Path(PathOption::Watch),
             ValueOption::Number(NumberOption::Every),
+            ValueOption::Path(PathOption::Over),
         ],
     },
     UsageRow {
@@ -118,6 +119,7 @@ const ROWS: &[UsageRow] = &[
             ValueOption::Number(NumberOption::Requests),
             ValueOption::Number(NumberOption::Turns),
             ValueOption::Number(NumberOption::Cache),
+            ValueOption::Path(PathOption::Over),
         ],
     },
     UsageRow {
@@ -155,6 +157,7 @@ const OPTIONS: &[ValueOption] = &[
     ValueOption::Number(NumberOption::Idle),
     ValueOption::Number(NumberOption::Stall),
     ValueOption::Path(PathOption::Watch),
+    ValueOption::Path(PathOption::Over),
 ];
 
 // All options without a value.
@@ -288,7 +291,9 @@ fn push_listed(out: &mut Vec<u8>, line: &str) -> Result<(), NoMemory> {
         return push_parts(out, &[line, "\n"]);
     };
     match about.rsplit_once(", ") {
-        Some((_, range)) if name.starts_with("--") => push_parts(out, &[name, " ", range, "\n"]),
+        Some((_, range)) if name.starts_with("--") && range.starts_with("1 to ") => {
+            push_parts(out, &[name, " ", range, "\n"])
+        }
         _ => push_parts(out, &[name, "\n"]),
     }
 }

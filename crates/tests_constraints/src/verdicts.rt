@@ -191,7 +191,8 @@ pub const CONDITIONS_THAT_FOLLOW: &[VerdictRow] = &[VerdictRow {
     query: WIDER,
     constraint: "EACH F LINKS \"l\" TO G",
     yes: true,
-    reason: "With u = x and w = y: each word of \"a\".\"b\" is one of any labels; below 5 is at most 5; and where no c or d leads to y, no c does.",
+    reason: "With u = x and w = y: each word of \"a\".\"b\" is one of any labels; below 5 is at most 5; and \
+        where no c or d leads to y, no c does.",
 }];
 
 #[test]

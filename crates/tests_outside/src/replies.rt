@@ -31,14 +31,16 @@ const YEAR_PAGE: &[u8] = b"<h1>1998</h1><a href=\"/PaperPage/npub1.html\">Strude
 #[test]
 fn a_page_on_a_connection_that_closes(rt: HostRuntime) -> Result<(), Fail> {
     let wanted =
-        b"HTTP/1.1 200 OK\r\nContent-Type: text/html; charset=utf-8\r\nContent-Length: 56\r\nConnection: close\r\n\r\n<h1>1998</h1><a href=\"/PaperPage/npub1.html\">Strudel</a>";
+        b"HTTP/1.1 200 OK\r\nContent-Type: text/html; charset=utf-8\r\nContent-Length: 56\r\nConnection: \
+            close\r\n\r\n<h1>1998</h1><a href=\"/PaperPage/npub1.html\">Strudel</a>";
     check_page(rt.alloc(), YEAR_PAGE, true, wanted)
 }
 
 #[test]
 fn a_page_on_a_connection_that_stays_open(rt: HostRuntime) -> Result<(), Fail> {
     let wanted =
-        b"HTTP/1.1 200 OK\r\nContent-Type: text/html; charset=utf-8\r\nContent-Length: 56\r\nConnection: keep-alive\r\n\r\n<h1>1998</h1><a href=\"/PaperPage/npub1.html\">Strudel</a>";
+        b"HTTP/1.1 200 OK\r\nContent-Type: text/html; charset=utf-8\r\nContent-Length: 56\r\nConnection: \
+            keep-alive\r\n\r\n<h1>1998</h1><a href=\"/PaperPage/npub1.html\">Strudel</a>";
     check_page(rt.alloc(), YEAR_PAGE, false, wanted)
 }
 
@@ -52,14 +54,16 @@ fn a_head_of_no_page(rt: HostRuntime) -> Result<(), Fail> {
 #[test]
 fn a_bad_request(rt: HostRuntime) -> Result<(), Fail> {
     let wanted =
-        b"HTTP/1.1 400 Bad Request\r\nContent-Type: text/plain; charset=utf-8\r\nContent-Length: 12\r\nConnection: close\r\n\r\nbad request\n";
+        b"HTTP/1.1 400 Bad Request\r\nContent-Type: text/plain; charset=utf-8\r\nContent-Length: 12\r\n\
+            Connection: close\r\n\r\nbad request\n";
     check_reply(rt.alloc(), &BAD, &Outcome::Missing, true, wanted)
 }
 
 #[test]
 fn a_wrong_method(rt: HostRuntime) -> Result<(), Fail> {
     let wanted =
-        b"HTTP/1.1 405 Method Not Allowed\r\nContent-Type: text/plain; charset=utf-8\r\nAllow: GET, HEAD\r\nContent-Length: 19\r\nConnection: close\r\n\r\nmethod not allowed\n";
+        b"HTTP/1.1 405 Method Not Allowed\r\nContent-Type: text/plain; charset=utf-8\r\nAllow: GET, HEAD\r\n\
+            Content-Length: 19\r\nConnection: close\r\n\r\nmethod not allowed\n";
     check_reply(rt.alloc(), &WRONG, &Outcome::TooLong, true, wanted)
 }
 
@@ -67,7 +71,8 @@ fn a_wrong_method(rt: HostRuntime) -> Result<(), Fail> {
 fn a_cyclic_page(rt: HostRuntime) -> Result<(), Fail> {
     let cyclic = Outcome::Cyclic(Value::Data(Datum::Int(-3)));
     let wanted =
-        b"HTTP/1.1 500 Internal Server Error\r\nContent-Type: text/plain; charset=utf-8\r\nContent-Length: 23\r\nConnection: keep-alive\r\n\r\ncyclic embedding at -3\n";
+        b"HTTP/1.1 500 Internal Server Error\r\nContent-Type: text/plain; charset=utf-8\r\nContent-Length: \
+            23\r\nConnection: keep-alive\r\n\r\ncyclic embedding at -3\n";
     check_reply(rt.alloc(), &GET, &cyclic, false, wanted)
 }
 

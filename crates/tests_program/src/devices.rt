@@ -70,7 +70,9 @@ const FILES: &[FileRow] = &[
     },
     FileRow {
         path: "deep.tmpl",
-        text: "<TEMPLATE F><SIF @a><SIF @a><SIF @a><SIF @a><SIF @a><SIF @a><SIF @a><SIF @a><SIF @a><SIF @a><SIF @a><SIF @a><SIF @a><SIF @a><SIF @a><SIF @a><SIF @a><SIF @a><SIF @a><SIF @a><SIF @a><SIF @a><SIF @a><SIF @a><SIF @a><SIF @a><SIF @a><SIF @a><SIF @a><SIF @a><SIF @a><SIF @a><SIF @a>",
+        text: "<TEMPLATE F><SIF @a><SIF @a><SIF @a><SIF @a><SIF @a><SIF @a><SIF @a><SIF @a><SIF @a><SIF \
+            @a><SIF @a><SIF @a><SIF @a><SIF @a><SIF @a><SIF @a><SIF @a><SIF @a><SIF @a><SIF @a><SIF @a><SIF \
+            @a><SIF @a><SIF @a><SIF @a><SIF @a><SIF @a><SIF @a><SIF @a><SIF @a><SIF @a><SIF @a><SIF @a>",
     },
     FileRow {
         path: "open.ddl",
@@ -273,7 +275,8 @@ fn a_failing_file_or_output_ends_the_run(rt: HostRuntime) -> Result<(), Fail> {
 const SOURCE_FAILED: &str = "strudel: connection source failed\n";
 
 const YEAR_REPLY: &str =
-    "HTTP/1.1 200 OK\r\nContent-Type: text/html; charset=utf-8\r\nContent-Length: 56\r\nConnection: close\r\n\r\n<h1>1998</h1><a href=\"/PaperPage/npub1.html\">Strudel</a>";
+    "HTTP/1.1 200 OK\r\nContent-Type: text/html; charset=utf-8\r\nContent-Length: 56\r\nConnection: \
+        close\r\n\r\n<h1>1998</h1><a href=\"/PaperPage/npub1.html\">Strudel</a>";
 
 const BAD_REPLY: &str =
     "HTTP/1.1 400 Bad Request\r\nContent-Type: text/plain; charset=utf-8\r\nContent-Length: 12\r\nConnection: close\r\n\r\nbad request\n";
@@ -316,7 +319,8 @@ fn a_failing_connection_source_ends_the_run(rt: HostRuntime) -> Result<(), Fail>
 }
 
 const ASKED_TWICE: &str =
-    "open 1 open 2 bytes 1 \"GET /YearPage/i1998.html HTTP/1.1\\r\\nHost: a\\r\\n\\r\\n\" bytes 2 \"GET /YearPage/i1998.html HTTP/1.1\\r\\nHost: a\\r\\n\\r\\n\"";
+    "open 1 open 2 bytes 1 \"GET /YearPage/i1998.html HTTP/1.1\\r\\nHost: a\\r\\n\\r\\n\" bytes 2 \"GET \
+        /YearPage/i1998.html HTTP/1.1\\r\\nHost: a\\r\\n\\r\\n\"";
 
 #[test]
 fn a_failed_send_takes_no_page_from_another(rt: HostRuntime) -> Result<(), Fail> {

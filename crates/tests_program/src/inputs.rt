@@ -6,7 +6,8 @@ use std::alloc::Global;
 
 /// The data of two papers.
 pub const BIB: &str =
-    "object pub1 in Publications { title \"Strudel\" year 1998 author \"Mary\" author \"Dan\" }\nobject pub2 in Publications { title \"Lorel <1>\" year 1997 author \"Dan\" }\n";
+    "object pub1 in Publications { title \"Strudel\" year 1998 author \"Mary\" author \"Dan\" }\nobject \
+        pub2 in Publications { title \"Lorel <1>\" year 1997 author \"Dan\" }\n";
 
 /// The words of a command.
 pub fn texts(alloc: Global, words: &[&str]) -> Result<Vec<Str>, NoMemory> {

@@ -1,10 +1,12 @@
 //! Whole runs by worked rows, over files, outputs and a wire in memory: runs of each command beside their status, the
-//! files that a build leaves, pages with the first fault of inputs that are refused, runs of which a device fails, and
-//! one page of a site that is never made.
+//! files that a build leaves, pages with the first fault of inputs that are refused, runs of which a device fails,
+//! one page of a site that is never made, and runs over a first query.
 #![tactic(auto)]
 
 #[cfg(test)]
 mod checks;
+#[cfg(test)]
+mod composed;
 #[cfg(test)]
 mod devices;
 #[cfg(test)]

@@ -228,9 +228,14 @@ const PAGES: &[PageRow] = &[
         err: "",
     },
     PageRow {
-        data_text: "object n1 in Ns { next &n2 } object n2 in Ns { next &n3 } object n3 in Ns { next &n4 } object n4 in Ns { next &n5 } object n5 in Ns { next &n6 } object n6 in Ns { next &n7 } object n7 in Ns { next &n8 } object n8 in Ns { next &n9 } object n9 in Ns { next &n10 } object n10 in Ns { next &n11 } object n11 in Ns { next &n12 } object n12 in Ns { next &n13 } object n13 in Ns { next &n14 } object n14 in Ns { } object n1 in Top { }",
+        data_text: "object n1 in Ns { next &n2 } object n2 in Ns { next &n3 } object n3 in Ns { next &n4 } \
+            object n4 in Ns { next &n5 } object n5 in Ns { next &n6 } object n6 in Ns { next &n7 } object \
+            n7 in Ns { next &n8 } object n8 in Ns { next &n9 } object n9 in Ns { next &n10 } object n10 in \
+            Ns { next &n11 } object n11 in Ns { next &n12 } object n12 in Ns { next &n13 } object n13 in Ns \
+            { next &n14 } object n14 in Ns { } object n1 in Top { }",
         query: "INPUT D WHERE Top(x) CREATE R() LINK R() -> \"top\" -> x OUTPUT S",
-        templates: "<TEMPLATE R><SFMT @top EMBED></TEMPLATE><TEMPLATE COLLECTION Ns>x<SFMT @next EMBED><SFMT @next EMBED><SFMT @next EMBED><SFMT @next EMBED></TEMPLATE>",
+        templates: "<TEMPLATE R><SFMT @top EMBED></TEMPLATE><TEMPLATE COLLECTION Ns>x<SFMT @next \
+            EMBED><SFMT @next EMBED><SFMT @next EMBED><SFMT @next EMBED></TEMPLATE>",
         address: "/R.html",
         code: 7,
         out: "",
@@ -440,7 +445,10 @@ const REFUSALS: &[PageRow] = &[
     PageRow {
         data_text: "",
         query: SITE,
-        templates: "<TEMPLATE F><SIF @a><SIF @a><SIF @a><SIF @a><SIF @a><SIF @a><SIF @a><SIF @a><SIF @a><SIF @a><SIF @a><SIF @a><SIF @a><SIF @a><SIF @a><SIF @a><SIF @a><SIF @a><SIF @a><SIF @a><SIF @a><SIF @a><SIF @a><SIF @a><SIF @a><SIF @a><SIF @a><SIF @a><SIF @a><SIF @a><SIF @a><SIF @a><SIF @a>",
+        templates: "<TEMPLATE F><SIF @a><SIF @a><SIF @a><SIF @a><SIF @a><SIF @a><SIF @a><SIF @a><SIF \
+            @a><SIF @a><SIF @a><SIF @a><SIF @a><SIF @a><SIF @a><SIF @a><SIF @a><SIF @a><SIF @a><SIF @a><SIF \
+            @a><SIF @a><SIF @a><SIF @a><SIF @a><SIF @a><SIF @a><SIF @a><SIF @a><SIF @a><SIF @a><SIF @a><SIF \
+            @a>",
         address: "/",
         code: 3,
         out: "",

@@ -142,7 +142,8 @@ fn other_formats_are_read(rt: HostRuntime) -> Result<(), Fail> {
         "object \"a\" in \"C\" {\n  \"n\" 1\n}\nobject \"bib_1\" in \"bib\" {\n  \"title\" \"Two\\nlines\"\n  \"year\" 1999\n}\n";
     check_row(&rt, &expects(&["data", "d/bib.csv", "a"], 0, both, ""))?;
     let b =
-        "object \"k1\" in \"article\", \"b\" {\n  \"author\" \"Dan\"\n  \"author\" \"{Mary and Co}\"\n  \"month\" \"jan\"\n  \"title\" \"A {B}ACM\"\n  \"year\" 1998\n}\n";
+        "object \"k1\" in \"article\", \"b\" {\n  \"author\" \"Dan\"\n  \"author\" \"{Mary and Co}\"\n  \
+            \"month\" \"jan\"\n  \"title\" \"A {B}ACM\"\n  \"year\" 1998\n}\n";
     check_row(&rt, &expects(&["data", "b.bib"], 0, b, ""))
 }
 
@@ -223,7 +224,10 @@ fn failing_files_and_outputs_are_reported(rt: HostRuntime) -> Result<(), Fail> {
 }
 
 const DATED: &str =
-    "INPUT Bib { CREATE RootPage() } { WHERE Publications(x), x -> l -> v CREATE PaperPage(x) LINK PaperPage(x) -> l -> v, RootPage() -> \"Paper\" -> PaperPage(x) { WHERE l = \"year\" CREATE YearPage(v) LINK YearPage(v) -> \"Year\" -> v, YearPage(v) -> \"Paper\" -> PaperPage(x), RootPage() -> \"Year\" -> YearPage(v) } } OUTPUT Home";
+    "INPUT Bib { CREATE RootPage() } { WHERE Publications(x), x -> l -> v CREATE PaperPage(x) LINK \
+        PaperPage(x) -> l -> v, RootPage() -> \"Paper\" -> PaperPage(x) { WHERE l = \"year\" CREATE \
+        YearPage(v) LINK YearPage(v) -> \"Year\" -> v, YearPage(v) -> \"Paper\" -> PaperPage(x), RootPage() \
+        -> \"Year\" -> YearPage(v) } } OUTPUT Home";
 
 const DATED_TEMPLATES: &str =
     "<TEMPLATE RootPage>Home</TEMPLATE><TEMPLATE PaperPage><h1><SFMT @title></h1></TEMPLATE><TEMPLATE YearPage><SFMT @Year></TEMPLATE>";
@@ -380,7 +384,8 @@ fn a_build_ends_at_the_first_write_that_fails(rt: HostRuntime) -> Result<(), Fai
 }
 
 const PLANS: &str =
-    "block 1\nblock 2\n  use Publications(x) cost 2\n  use x -> l -> v cost 4\nblock 2.1\n  use l = \"year\" cost 1\n  use Publications(x) cost 2\n  use x -> l -> v cost 4\n";
+    "block 1\nblock 2\n  use Publications(x) cost 2\n  use x -> l -> v cost 4\nblock 2.1\n  use l = \
+        \"year\" cost 1\n  use Publications(x) cost 2\n  use x -> l -> v cost 4\n";
 
 #[test]
 fn plans_are_printed(rt: HostRuntime) -> Result<(), Fail> {

@@ -7,7 +7,8 @@ use std::test::Fail;
 
 // Two publications that cite each other, and one that is in no collection. A year is a number or a text.
 const PUBLICATIONS: &str =
-    "object a in P { title 'A' year 1998 by 'Dan' by 'Mary' cites &b } object b in P, Q { year '1998' by 'Dan' cites &a next &c } object c { year 7 }";
+    "object a in P { title 'A' year 1998 by 'Dan' by 'Mary' cites &b } object b in P, Q { year '1998' by \
+        'Dan' cites &a next &c } object c { year 7 }";
 
 // An object that refers to itself, and one of which nothing is said.
 const LOOP: &str = "object a in P { e &a } object b { }";

@@ -16,7 +16,8 @@ struct Example {
 }
 
 const BIBLIOGRAPHY: &str =
-    "object pub1 in Publications { title 'Strudel' year 1998 author 'Mary' author 'Dan' } object pub2 in Publications { title 'Lorel <1>' year 1997 author 'Dan' }";
+    "object pub1 in Publications { title 'Strudel' year 1998 author 'Mary' author 'Dan' } object pub2 in \
+        Publications { title 'Lorel <1>' year 1997 author 'Dan' }";
 
 const SEVENS: &str = "object o { v 7 v '7' v '07' }";
 
@@ -24,9 +25,15 @@ const EXAMPLES: &[Example] = &[
     // Seven edges and two nodes: an arc from a known node costs 7 div 2 + 1.
     Example {
         data_text: BIBLIOGRAPHY,
-        query: "INPUT Bib { CREATE RootPage() } { WHERE Publications(x), x -> l -> v CREATE PaperPage(x) LINK PaperPage(x) -> l -> v, RootPage() -> 'Paper' -> PaperPage(x) { WHERE l = 'year' CREATE YearPage(v) LINK YearPage(v) -> 'Year' -> v, YearPage(v) -> 'Paper' -> PaperPage(x), RootPage() -> 'Year' -> YearPage(v) } } OUTPUT Home",
-        plans: "block 1\nblock 2\n  use Publications(x) cost 2\n  use x -> l -> v cost 4\nblock 2.1\n  use l = 'year' cost 1\n  use Publications(x) cost 2\n  use x -> l -> v cost 4\n",
-        rows: "|;| &pub1 'author' 'Dan'; &pub1 'author' 'Mary'; &pub1 'title' 'Strudel'; &pub1 'year' 1998; &pub2 'author' 'Dan'; &pub2 'title' 'Lorel <1>'; &pub2 'year' 1997;| &pub1 'year' 1998; &pub2 'year' 1997;",
+        query: "INPUT Bib { CREATE RootPage() } { WHERE Publications(x), x -> l -> v CREATE PaperPage(x) \
+            LINK PaperPage(x) -> l -> v, RootPage() -> 'Paper' -> PaperPage(x) { WHERE l = 'year' CREATE \
+            YearPage(v) LINK YearPage(v) -> 'Year' -> v, YearPage(v) -> 'Paper' -> PaperPage(x), RootPage() \
+            -> 'Year' -> YearPage(v) } } OUTPUT Home",
+        plans: "block 1\nblock 2\n  use Publications(x) cost 2\n  use x -> l -> v cost 4\nblock 2.1\n  use \
+            l = 'year' cost 1\n  use Publications(x) cost 2\n  use x -> l -> v cost 4\n",
+        rows: "|;| &pub1 'author' 'Dan'; &pub1 'author' 'Mary'; &pub1 'title' 'Strudel'; &pub1 'year' 1998; \
+            &pub2 'author' 'Dan'; &pub2 'title' 'Lorel <1>'; &pub2 'year' 1997;| &pub1 'year' 1998; &pub2 \
+            'year' 1997;",
     },
     // A negation can't be used before its variables are bound, so they take their domains.
     Example {

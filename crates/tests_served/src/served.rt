@@ -16,20 +16,27 @@ use wire::Wire;
 
 /// The data of the worked site.
 pub const BIB: &[u8] =
-    b"object pub1 in Publications { title \"Strudel\" year 1998 author \"Mary\" author \"Dan\" }\nobject pub2 in Publications { title \"Lorel <1>\" year 1997 author \"Dan\" }\n";
+    b"object pub1 in Publications { title \"Strudel\" year 1998 author \"Mary\" author \"Dan\" }\nobject \
+        pub2 in Publications { title \"Lorel <1>\" year 1997 author \"Dan\" }\n";
 
 const QUERY: &[u8] =
-    b"INPUT Bib\n{ CREATE RootPage() }\n{ WHERE Publications(x), x -> l -> v\n  CREATE PaperPage(x)\n  LINK PaperPage(x) -> l -> v, RootPage() -> \"Paper\" -> PaperPage(x)\n  { WHERE l = \"year\"\n    CREATE YearPage(v)\n    LINK YearPage(v) -> \"Year\" -> v, YearPage(v) -> \"Paper\" -> PaperPage(x),\n         RootPage() -> \"Year\" -> YearPage(v) } }\nOUTPUT Home\n";
+    b"INPUT Bib\n{ CREATE RootPage() }\n{ WHERE Publications(x), x -> l -> v\n  CREATE PaperPage(x)\n  LINK \
+        PaperPage(x) -> l -> v, RootPage() -> \"Paper\" -> PaperPage(x)\n  { WHERE l = \"year\"\n    CREATE \
+        YearPage(v)\n    LINK YearPage(v) -> \"Year\" -> v, YearPage(v) -> \"Paper\" -> \
+        PaperPage(x),\n         RootPage() -> \"Year\" -> YearPage(v) } }\nOUTPUT Home\n";
 
 const TEMPLATES: &[u8] =
-    b"<TEMPLATE RootPage><h1>Home</h1><SFMT @Paper LINK=title DELIM=\", \"></TEMPLATE>\n<TEMPLATE PaperPage><h1><SFMT @title></h1><SFMT @author DELIM=\" and \"></TEMPLATE>\n<TEMPLATE YearPage><h1><SFMT @Year></h1><SFMT @Paper LINK=title DELIM=\", \"></TEMPLATE>\n";
+    b"<TEMPLATE RootPage><h1>Home</h1><SFMT @Paper LINK=title DELIM=\", \"></TEMPLATE>\n<TEMPLATE \
+        PaperPage><h1><SFMT @title></h1><SFMT @author DELIM=\" and \"></TEMPLATE>\n<TEMPLATE \
+        YearPage><h1><SFMT @Year></h1><SFMT @Paper LINK=title DELIM=\", \"></TEMPLATE>\n";
 
 /// A request for the page of 1998.
 pub const REQUEST: &[u8] = b"GET /YearPage/i1998.html HTTP/1.1\r\nHost: a\r\n\r\n";
 
 // A head of 98 bytes and a page of 56.
 const REPLY: &[u8] =
-    b"HTTP/1.1 200 OK\r\nContent-Type: text/html; charset=utf-8\r\nContent-Length: 56\r\nConnection: close\r\n\r\n<h1>1998</h1><a href=\"/PaperPage/npub1.html\">Strudel</a>";
+    b"HTTP/1.1 200 OK\r\nContent-Type: text/html; charset=utf-8\r\nContent-Length: 56\r\nConnection: \
+        close\r\n\r\n<h1>1998</h1><a href=\"/PaperPage/npub1.html\">Strudel</a>";
 
 const WAITS: Waits = Waits {
     idle: 5_000,
@@ -110,7 +117,8 @@ fn the_worked_page_is_served_at_the_port_that_was_asked_for(rt: HostRuntime) -> 
 
 // The page with the title that the edited file gives it.
 const EDITED: &[u8] =
-    b"HTTP/1.1 200 OK\r\nContent-Type: text/html; charset=utf-8\r\nContent-Length: 56\r\nConnection: close\r\n\r\n<h1>1998</h1><a href=\"/PaperPage/npub1.html\">Edited!</a>";
+    b"HTTP/1.1 200 OK\r\nContent-Type: text/html; charset=utf-8\r\nContent-Length: 56\r\nConnection: \
+        close\r\n\r\n<h1>1998</h1><a href=\"/PaperPage/npub1.html\">Edited!</a>";
 
 // A path of the system's temporary folder that no other process has.
 fn fresh_path(rt: &HostRuntime) -> Result<String, Fail> {

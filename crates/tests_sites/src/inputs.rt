@@ -14,6 +14,7 @@ use sd_value::{NoMemory, Term};
 use std::alloc::Global;
 use std::process::Abort;
 use std::test::Fail;
+use struql_check::Checked;
 use template_reader::read_templates;
 use tmpl::Templates;
 
@@ -22,7 +23,8 @@ const LIMIT: u64 = 4096;
 
 /// The bibliography of two publications.
 pub const BIBLIOGRAPHY: &str =
-    "object pub1 in Publications { title 'Strudel' year 1998 author 'Mary' author 'Dan' } object pub2 in Publications { title 'Lorel <1>' year 1997 author 'Dan' }";
+    "object pub1 in Publications { title 'Strudel' year 1998 author 'Mary' author 'Dan' } object pub2 in \
+        Publications { title 'Lorel <1>' year 1997 author 'Dan' }";
 
 /// The text with its quotes.
 pub fn quoted(alloc: Global, text: &str) -> Result<Vec<u8>, NoMemory> {
@@ -36,10 +38,16 @@ pub fn quoted(alloc: Global, text: &str) -> Result<Vec<u8>, NoMemory> {
     Ok(out)
 }
 
-fn graph_of(alloc: Global, text: &str) -> Result<Graph, Fail> {
+/// The builder of the graph that a data text states.
+pub fn builder_of(alloc: Global, text: &str) -> Result<GraphBuilder, Fail> {
     let text = quoted(alloc, text)?;
     let mut builder = GraphBuilder::new(alloc, PROGRAM_LIMITS);
     read_ddl(alloc, text.as_slice(), LIMIT, &mut builder)?;
+    Ok(builder)
+}
+
+fn graph_of(alloc: Global, text: &str) -> Result<Graph, Fail> {
+    let builder = builder_of(alloc, text)?;
     Ok(builder.finish(alloc)?)
 }
 
@@ -53,12 +61,17 @@ pub fn asker_of(alloc: Global, text: &str) -> Result<StoreAsker<IndexStore>, Fai
     Ok(StoreAsker::of(index_of(alloc, text)?))
 }
 
+/// The query that the text spells.
+pub fn query_of(alloc: Global, query: &str) -> Result<Checked, Fail> {
+    let text = quoted(alloc, query)?;
+    Ok(read_query(alloc, text.as_slice(), LIMIT)?)
+}
+
 /// The blocks of the query that the text spells.
 pub fn scopes_of(alloc: Global, query: &str) -> Result<QueryBlocks, Fail>
     ensures { IfOk result (λ s. AreCheckedBlocks s.version s.blocks.items) }
 {
-    let text = quoted(alloc, query)?;
-    let checked = read_query(alloc, text.as_slice(), LIMIT)?;
+    let checked = query_of(alloc, query)?;
     let scopes = scopes(alloc, &checked)?;
     Ok(scopes)
 }

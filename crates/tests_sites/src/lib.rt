@@ -1,7 +1,9 @@
-//! Pages of small sites of each kind, from their own demand and from the whole site, constraints in small sites, and queries
-//! that are refused: each beside an answer worked by hand.
+//! Pages of small sites of each kind, from their own demand and from the whole site, constraints in small sites, sites as data
+//! of a second query, and queries that are refused: each beside an answer worked by hand.
 #![tactic(auto)]
 
+#[cfg(test)]
+mod composed;
 #[cfg(test)]
 mod encodings;
 #[cfg(test)]

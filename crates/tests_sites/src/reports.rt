@@ -12,7 +12,10 @@ const LIMIT: u64 = 4096;
 
 /// Two publications, each with a page, one for each year, and the root page.
 const PUBLICATIONS: &str =
-    "INPUT Bib { CREATE RootPage() } { WHERE Publications(x), x -> l -> v CREATE PaperPage(x) LINK PaperPage(x) -> l -> v, RootPage() -> 'Paper' -> PaperPage(x) { WHERE l = 'year' CREATE YearPage(v) LINK YearPage(v) -> 'Year' -> v, YearPage(v) -> 'Paper' -> PaperPage(x), RootPage() -> 'Year' -> YearPage(v) } } OUTPUT Home";
+    "INPUT Bib { CREATE RootPage() } { WHERE Publications(x), x -> l -> v CREATE PaperPage(x) LINK \
+        PaperPage(x) -> l -> v, RootPage() -> 'Paper' -> PaperPage(x) { WHERE l = 'year' CREATE YearPage(v) \
+        LINK YearPage(v) -> 'Year' -> v, YearPage(v) -> 'Paper' -> PaperPage(x), RootPage() -> 'Year' -> \
+        YearPage(v) } } OUTPUT Home";
 
 struct ReportRow {
     data: &'static str,
@@ -41,7 +44,8 @@ const REPORTS: &[ReportRow] = &[
     ReportRow {
         data: BIBLIOGRAPHY,
         query: PUBLICATIONS,
-        constraints: "ONLY RootPage LINKS 'Paper' TO PaperPage ONLY PaperPage LINKS 'title' TO YearPage ONE PaperPage LINKS 'author' ONE PaperPage LINKS 'title'",
+        constraints: "ONLY RootPage LINKS 'Paper' TO PaperPage ONLY PaperPage LINKS 'title' TO YearPage ONE \
+            PaperPage LINKS 'author' ONE PaperPage LINKS 'title'",
         lines: "1 met\n2 broken\n3 broken\n4 met\n",
         all_met: false,
     },
@@ -71,7 +75,8 @@ const REPORTS: &[ReportRow] = &[
     // The second page is reached through the first one.
     ReportRow {
         data: "object o in C { }",
-        query: "INPUT D { CREATE R() } { WHERE C(x) CREATE A(x), B(x) LINK R() -> 'a' -> A(x), A(x) -> 'b' -> B(x), B(x) -> 'r' -> R() } OUTPUT S",
+        query: "INPUT D { CREATE R() } { WHERE C(x) CREATE A(x), B(x) LINK R() -> 'a' -> A(x), A(x) -> 'b' \
+            -> B(x), B(x) -> 'r' -> R() } OUTPUT S",
         constraints: "REACHABLE B FROM R REACHABLE A FROM R",
         lines: "1 met\n2 met\n",
         all_met: true,

@@ -13,7 +13,8 @@ const LIMIT: u64 = 4096;
 
 /// The bibliography of two publications.
 pub const BIBLIOGRAPHY: &str =
-    "object pub1 in Publications { title 'Strudel' year 1998 author 'Mary' author 'Dan' } object pub2 in Publications { title 'Lorel <1>' year 1997 author 'Dan' }";
+    "object pub1 in Publications { title 'Strudel' year 1998 author 'Mary' author 'Dan' } object pub2 in \
+        Publications { title 'Lorel <1>' year 1997 author 'Dan' }";
 
 // The text with its quotes.
 fn quoted(alloc: Global, text: &str) -> Result<Vec<u8>, NoMemory> {

@@ -30,6 +30,6 @@ pub returns-in-Ok-clause-ends : goal.returns-in-Ok-clause-ends
 returns-in-Ok-clause-ends g c = λ x e.
     inl (record {
       inputs = inputs_of c.in-Ok.inputs;
-      taken = subst (λ (ss : List (List ℕ)). InputsEnd x ss c.args.command.now.query c.args.command.now.templates (Ok (inputs_of c.in-Ok.inputs))) c.items.ensures (c.in-Ok.ensures.ends x e);
+      taken = subst (λ (ss : List (List ℕ)). InputsEnd x ss c.args.command.now.over c.args.command.now.query c.args.command.now.templates (Ok (inputs_of c.in-Ok.inputs))) c.items.ensures (c.in-Ok.ensures.ends x e);
       ends = c.serve_over.ensures.ends x x (g.F.Files.failed_reads c.args.files.now) (g.F.Files.failed_reads c.load_inputs.new.files) (g.F.Files.failed_writes c.args.files.now) (g.F.Files.failed_writes c.load_inputs.new.files);
     })

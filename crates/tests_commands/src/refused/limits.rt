@@ -157,7 +157,9 @@ fn check_each_repeated(alloc: Global, rows: &[RepeatedRow]) -> Result<(), Fail> 
 const LABEL: &[u8] = b"INPUT D CREATE F() WHERE x -> \"a\"";
 
 const CHAIN: &[u8] =
-    b"INPUT D CREATE F() WHERE C(a1), C(a2), C(a3), C(a4), C(a5), C(a6), C(a7), C(a8), C(a9), C(a10), C(a11), C(a12), C(a13), C(a14), C(a15), C(a16), C(a17), C(a18), C(a19), C(a20), C(a21), C(a22), C(a23), C(a24), C(a25), C(a26), C(a27), C(a28), C(a29), C(a30), C(a31), C(a32)";
+    b"INPUT D CREATE F() WHERE C(a1), C(a2), C(a3), C(a4), C(a5), C(a6), C(a7), C(a8), C(a9), C(a10), \
+        C(a11), C(a12), C(a13), C(a14), C(a15), C(a16), C(a17), C(a18), C(a19), C(a20), C(a21), C(a22), \
+        C(a23), C(a24), C(a25), C(a26), C(a27), C(a28), C(a29), C(a30), C(a31), C(a32)";
 
 const QUERIES: &[RepeatedRow] = &[
     // An expression that has the label once, and then this many times more.
@@ -236,8 +238,11 @@ const EDGES: RepeatedRow = RepeatedRow {
     words: PAGE_OF_CSV,
     path: b"d.csv",
     content: Repeated {
-        head: b"c0,c1,c2,c3,c4,c5,c6,c7,c8,c9,c10,c11,c12,c13,c14,c15,c16,c17,c18,c19,c20,c21,c22,c23,c24,c25,c26,c27,c28,c29,c30,c31,c32,c33,c34,c35,c36,c37,c38,c39,c40,c41,c42,c43,c44,c45,c46,c47,c48,c49,c50,c51,c52,c53,c54,c55,c56,c57,c58,c59,c60,c61,c62\n",
-        text: b"1,1,1,1,1,1,1,1,1,1,1,1,1,1,1,1,1,1,1,1,1,1,1,1,1,1,1,1,1,1,1,1,1,1,1,1,1,1,1,1,1,1,1,1,1,1,1,1,1,1,1,1,1,1,1,1,1,1,1,1,1,1,1\n",
+        head: b"c0,c1,c2,c3,c4,c5,c6,c7,c8,c9,c10,c11,c12,c13,c14,c15,c16,c17,c18,c19,c20,c21,c22,c23,c24,\
+            c25,c26,c27,c28,c29,c30,c31,c32,c33,c34,c35,c36,c37,c38,c39,c40,c41,c42,c43,c44,c45,c46,c47,c48,\
+            c49,c50,c51,c52,c53,c54,c55,c56,c57,c58,c59,c60,c61,c62\n",
+        text: b"1,1,1,1,1,1,1,1,1,1,1,1,1,1,1,1,1,1,1,1,1,1,1,1,1,1,1,1,1,1,1,1,1,1,1,1,1,1,1,1,1,1,1,1,1,1,\
+            1,1,1,1,1,1,1,1,1,1,1,1,1,1,1,1,1\n",
         count: 65_537,
         tail: b"",
     },

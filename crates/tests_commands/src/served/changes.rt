@@ -11,7 +11,8 @@ pub const NOT_FOUND: &str =
 
 /// The page of 1996 among the new data: a head of 98 bytes and a page of 52.
 pub const NEW_REPLY: &str =
-    "HTTP/1.1 200 OK|Content-Type: text/html; charset=utf-8|Content-Length: 52|Connection: close||<h1>1996</h1><a href=\"/PaperPage/npub9.html\">New</a>";
+    "HTTP/1.1 200 OK|Content-Type: text/html; charset=utf-8|Content-Length: 52|Connection: \
+        close||<h1>1996</h1><a href=\"/PaperPage/npub9.html\">New</a>";
 
 // What a connection is sent, with `|` for each line end of the protocol, and its length as it is printed.
 #[derive(Drop)]
@@ -31,7 +32,10 @@ struct Row<'a> {
 
 const ROWS: &[Row] = &[
     Row {
-        script: "open 1 bytes 1 \"GET /YearPage/i1998.html HTTP/1.1\\r\\nHost: a\\r\\n\\r\\n\" change \"object pub9 in Publications { title \\\"New\\\" year 1996 }\" open 2 bytes 2 \"GET /YearPage/i1998.html HTTP/1.1\\r\\nHost: a\\r\\n\\r\\n\" open 3 bytes 3 \"GET /YearPage/i1996.html HTTP/1.1\\r\\nHost: a\\r\\n\\r\\n\"",
+        script: "open 1 bytes 1 \"GET /YearPage/i1998.html HTTP/1.1\\r\\nHost: a\\r\\n\\r\\n\" change \
+            \"object pub9 in Publications { title \\\"New\\\" year 1996 }\" open 2 bytes 2 \"GET \
+            /YearPage/i1998.html HTTP/1.1\\r\\nHost: a\\r\\n\\r\\n\" open 3 bytes 3 \"GET \
+            /YearPage/i1996.html HTTP/1.1\\r\\nHost: a\\r\\n\\r\\n\"",
         replies: &[
             Reply {
                 connection: "1",
@@ -53,7 +57,8 @@ const ROWS: &[Row] = &[
     },
     // The last byte of the head comes behind the change.
     Row {
-        script: "open 1 bytes 1 \"GET /YearPage/i1998.html HTTP/1.1\\r\\nHost: a\\r\\n\\r\" change \"object pub9 in Publications { title \\\"New\\\" year 1996 }\" bytes 1 \"\\n\"",
+        script: "open 1 bytes 1 \"GET /YearPage/i1998.html HTTP/1.1\\r\\nHost: a\\r\\n\\r\" change \"object \
+            pub9 in Publications { title \\\"New\\\" year 1996 }\" bytes 1 \"\\n\"",
         replies: &[Reply {
             connection: "1",
             length: "116",
@@ -63,7 +68,8 @@ const ROWS: &[Row] = &[
     },
     // The text is no data text.
     Row {
-        script: "open 1 bytes 1 \"GET /YearPage/i1998.html HTTP/1.1\\r\\nHost: a\\r\\n\\r\\n\" change \"object\" open 2 bytes 2 \"GET /YearPage/i1998.html HTTP/1.1\\r\\nHost: a\\r\\n\\r\\n\"",
+        script: "open 1 bytes 1 \"GET /YearPage/i1998.html HTTP/1.1\\r\\nHost: a\\r\\n\\r\\n\" change \
+            \"object\" open 2 bytes 2 \"GET /YearPage/i1998.html HTTP/1.1\\r\\nHost: a\\r\\n\\r\\n\"",
         replies: &[
             Reply {
                 connection: "1",

@@ -81,7 +81,8 @@ const REQUESTS: &[Request] = &[
         options: &["--requests=2"],
         last: "",
         length: "152",
-        reply: "HTTP/1.1 405 Method Not Allowed|Content-Type: text/plain; charset=utf-8|Allow: GET, HEAD|Content-Length: 19|Connection: close||method not allowed\n",
+        reply: "HTTP/1.1 405 Method Not Allowed|Content-Type: text/plain; charset=utf-8|Allow: GET, \
+            HEAD|Content-Length: 19|Connection: close||method not allowed\n",
         counts: ONE_REPLY,
     },
     Request {
@@ -115,7 +116,10 @@ const REQUESTS: &[Request] = &[
         options: &["--requests", "2"],
         last: "",
         length: "313",
-        reply: "HTTP/1.1 200 OK|Content-Type: text/html; charset=utf-8|Content-Length: 56|Connection: keep-alive||<h1>1998</h1><a href=\"/PaperPage/npub1.html\">Strudel</a>HTTP/1.1 200 OK|Content-Type: text/html; charset=utf-8|Content-Length: 56|Connection: close||<h1>1998</h1><a href=\"/PaperPage/npub1.html\">Strudel</a>",
+        reply: "HTTP/1.1 200 OK|Content-Type: text/html; charset=utf-8|Content-Length: 56|Connection: \
+            keep-alive||<h1>1998</h1><a href=\"/PaperPage/npub1.html\">Strudel</a>HTTP/1.1 200 \
+            OK|Content-Type: text/html; charset=utf-8|Content-Length: 56|Connection: close||<h1>1998</h1><a \
+            href=\"/PaperPage/npub1.html\">Strudel</a>",
         counts: "connections 1\nreplies 2\nhits 1\n",
     },
 ];

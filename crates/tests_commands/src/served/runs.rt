@@ -192,7 +192,8 @@ const RUNS: &[Run] = &[
     },
     // Two connections ask for the page, and the first send to the first of them fails without a byte.
     Run {
-        script: "open 1 open 2 bytes 1 \"GET /YearPage/i1998.html HTTP/1.1\\r\\nHost: a\\r\\n\\r\\n\" bytes 2 \"GET /YearPage/i1998.html HTTP/1.1\\r\\nHost: a\\r\\n\\r\\n\"",
+        script: "open 1 open 2 bytes 1 \"GET /YearPage/i1998.html HTTP/1.1\\r\\nHost: a\\r\\n\\r\\n\" bytes \
+            2 \"GET /YearPage/i1998.html HTTP/1.1\\r\\nHost: a\\r\\n\\r\\n\"",
         options: &[],
         failing: &[],
         sends: &[FailingSend {
@@ -217,7 +218,10 @@ const RUNS: &[Run] = &[
     // Connection 1 asks for the page three times in one piece, and the third send to it fails after five bytes: it is
     // sent two whole replies of 159 bytes, and five bytes of the third.
     Run {
-        script: "open 1 open 2 bytes 1 \"GET /YearPage/i1998.html HTTP/1.1\\r\\nHost: a\\r\\n\\r\\nGET /YearPage/i1998.html HTTP/1.1\\r\\nHost: a\\r\\n\\r\\nGET /YearPage/i1998.html HTTP/1.1\\r\\nHost: a\\r\\n\\r\\n\" bytes 2 \"GET /YearPage/i1998.html HTTP/1.1\\r\\nHost: a\\r\\n\\r\\n\"",
+        script: "open 1 open 2 bytes 1 \"GET /YearPage/i1998.html HTTP/1.1\\r\\nHost: a\\r\\n\\r\\nGET \
+            /YearPage/i1998.html HTTP/1.1\\r\\nHost: a\\r\\n\\r\\nGET /YearPage/i1998.html \
+            HTTP/1.1\\r\\nHost: a\\r\\n\\r\\n\" bytes 2 \"GET /YearPage/i1998.html HTTP/1.1\\r\\nHost: \
+            a\\r\\n\\r\\n\"",
         options: &["--requests", "3"],
         failing: &[],
         sends: &[FailingSend {
@@ -231,7 +235,11 @@ const RUNS: &[Run] = &[
         sent: &[
             Sent {
                 connection: 1,
-                text: "HTTP/1.1 200 OK|Content-Type: text/html; charset=utf-8|Content-Length: 56|Connection: keep-alive||<h1>1998</h1><a href=\"/PaperPage/npub1.html\">Strudel</a>HTTP/1.1 200 OK|Content-Type: text/html; charset=utf-8|Content-Length: 56|Connection: keep-alive||<h1>1998</h1><a href=\"/PaperPage/npub1.html\">Strudel</a>HTTP/",
+                text: "HTTP/1.1 200 OK|Content-Type: text/html; charset=utf-8|Content-Length: \
+                    56|Connection: keep-alive||<h1>1998</h1><a \
+                    href=\"/PaperPage/npub1.html\">Strudel</a>HTTP/1.1 200 OK|Content-Type: text/html; \
+                    charset=utf-8|Content-Length: 56|Connection: keep-alive||<h1>1998</h1><a \
+                    href=\"/PaperPage/npub1.html\">Strudel</a>HTTP/",
             },
             Sent {
                 connection: 2,

@@ -24,7 +24,10 @@ struct Row<'a> {
 
 const ROWS: &[Row] = &[
     Row {
-        script: "open 1 bytes 1 \"GET /YearPage/i1998.html HTTP/1.1\\r\\nHost: a\\r\\n\\r\\n\" open 2 bytes 2 \"GET / HTTP/1.1\\r\\nHost: a\\r\\n\\r\\n\" open 3 bytes 3 \"GET /YearPage/i1996.html HTTP/1.1\\r\\nHost: a\\r\\n\\r\\n\" open 4 bytes 4 \"GET /YearPage/i1998.html HTTP/1.1\\r\\nHost: a\\r\\n\\r\\n\"",
+        script: "open 1 bytes 1 \"GET /YearPage/i1998.html HTTP/1.1\\r\\nHost: a\\r\\n\\r\\n\" open 2 bytes \
+            2 \"GET / HTTP/1.1\\r\\nHost: a\\r\\n\\r\\n\" open 3 bytes 3 \"GET /YearPage/i1996.html \
+            HTTP/1.1\\r\\nHost: a\\r\\n\\r\\n\" open 4 bytes 4 \"GET /YearPage/i1998.html \
+            HTTP/1.1\\r\\nHost: a\\r\\n\\r\\n\"",
         options: [&[], &["--whole"]],
         printed: "serving 8080\nconnections 4\nreplies 4\nhits 1\n",
         sent: &[
@@ -48,7 +51,10 @@ const ROWS: &[Row] = &[
     },
     // The data change, and then a text changes nothing.
     Row {
-        script: "open 1 bytes 1 \"GET /YearPage/i1998.html HTTP/1.1\\r\\nHost: a\\r\\n\\r\\n\" change \"object pub9 in Publications { title \\\"New\\\" year 1996 }\" open 2 bytes 2 \"GET /YearPage/i1998.html HTTP/1.1\\r\\nHost: a\\r\\n\\r\\n\" change \"object\" open 3 bytes 3 \"GET /YearPage/i1996.html HTTP/1.1\\r\\nHost: a\\r\\n\\r\\n\"",
+        script: "open 1 bytes 1 \"GET /YearPage/i1998.html HTTP/1.1\\r\\nHost: a\\r\\n\\r\\n\" change \
+            \"object pub9 in Publications { title \\\"New\\\" year 1996 }\" open 2 bytes 2 \"GET \
+            /YearPage/i1998.html HTTP/1.1\\r\\nHost: a\\r\\n\\r\\n\" change \"object\" open 3 bytes 3 \"GET \
+            /YearPage/i1996.html HTTP/1.1\\r\\nHost: a\\r\\n\\r\\n\"",
         options: [&["--watch", "w"], &["--watch", "w", "--whole"]],
         printed: "serving 8080\nconnections 3\nreplies 3\nhits 0\nchanges 2\nrefused 1\n",
         sent: &[

@@ -128,7 +128,9 @@ fn letters_without_a_line_are_a_bad_request(rt: HostRuntime) -> Result<(), Fail>
 // Replies of 121 and 116 bytes.
 const BOTH: &[Sent] = &[Sent {
     connection: 1,
-    bytes: b"HTTP/1.1 404 Not Found\r\nContent-Type: text/plain; charset=utf-8\r\nContent-Length: 10\r\nConnection: keep-alive\r\n\r\nnot found\nHTTP/1.1 404 Not Found\r\nContent-Type: text/plain; charset=utf-8\r\nContent-Length: 10\r\nConnection: close\r\n\r\nnot found\n",
+    bytes: b"HTTP/1.1 404 Not Found\r\nContent-Type: text/plain; charset=utf-8\r\nContent-Length: 10\r\n\
+        Connection: keep-alive\r\n\r\nnot found\nHTTP/1.1 404 Not Found\r\nContent-Type: text/plain; \
+        charset=utf-8\r\nContent-Length: 10\r\nConnection: close\r\n\r\nnot found\n",
     is_closed: true,
 }];
 

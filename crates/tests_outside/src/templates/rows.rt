@@ -147,9 +147,20 @@ const CLOSING: &[Refused] = &[
     Refused {
         number: 84,
         texts: &[
-            "<TEMPLATE F><SIF @a><SIF @a><SIF @a><SIF @a><SIF @a><SIF @a><SIF @a><SIF @a><SIF @a><SIF @a><SIF @a><SIF @a><SIF @a><SIF @a><SIF @a><SIF @a><SIF @a><SIF @a><SIF @a><SIF @a><SIF @a><SIF @a><SIF @a><SIF @a><SIF @a><SIF @a><SIF @a><SIF @a><SIF @a><SIF @a><SIF @a><SIF @a>^<SIF @a>",
-            "<TEMPLATE F><SFOR v IN @a><SFOR v IN @a><SFOR v IN @a><SFOR v IN @a><SFOR v IN @a><SFOR v IN @a><SFOR v IN @a><SFOR v IN @a><SFOR v IN @a><SFOR v IN @a><SFOR v IN @a><SFOR v IN @a><SFOR v IN @a><SFOR v IN @a><SFOR v IN @a><SFOR v IN @a><SFOR v IN @a><SFOR v IN @a><SFOR v IN @a><SFOR v IN @a><SFOR v IN @a><SFOR v IN @a><SFOR v IN @a><SFOR v IN @a><SFOR v IN @a><SFOR v IN @a><SFOR v IN @a><SFOR v IN @a><SFOR v IN @a><SFOR v IN @a><SFOR v IN @a><SFOR v IN @a>^<SIF v>",
-            "<TEMPLATE F><SIF @a><SIF @a><SIF @a><SIF @a><SIF @a><SIF @a><SIF @a><SIF @a><SIF @a><SIF @a><SIF @a><SIF @a><SIF @a><SIF @a><SIF @a><SIF @a><SIF @a><SIF @a><SIF @a><SIF @a><SIF @a><SIF @a><SIF @a><SIF @a><SIF @a><SIF @a><SIF @a><SIF @a><SIF @a><SIF @a><SIF @a></SIF><SFOR v IN @a><SFOR v IN @a>^<SFOR v IN v>",
+            "<TEMPLATE F><SIF @a><SIF @a><SIF @a><SIF @a><SIF @a><SIF @a><SIF @a><SIF @a><SIF @a><SIF \
+                @a><SIF @a><SIF @a><SIF @a><SIF @a><SIF @a><SIF @a><SIF @a><SIF @a><SIF @a><SIF @a><SIF \
+                @a><SIF @a><SIF @a><SIF @a><SIF @a><SIF @a><SIF @a><SIF @a><SIF @a><SIF @a><SIF @a><SIF \
+                @a>^<SIF @a>",
+            "<TEMPLATE F><SFOR v IN @a><SFOR v IN @a><SFOR v IN @a><SFOR v IN @a><SFOR v IN @a><SFOR v IN \
+                @a><SFOR v IN @a><SFOR v IN @a><SFOR v IN @a><SFOR v IN @a><SFOR v IN @a><SFOR v IN \
+                @a><SFOR v IN @a><SFOR v IN @a><SFOR v IN @a><SFOR v IN @a><SFOR v IN @a><SFOR v IN \
+                @a><SFOR v IN @a><SFOR v IN @a><SFOR v IN @a><SFOR v IN @a><SFOR v IN @a><SFOR v IN \
+                @a><SFOR v IN @a><SFOR v IN @a><SFOR v IN @a><SFOR v IN @a><SFOR v IN @a><SFOR v IN \
+                @a><SFOR v IN @a><SFOR v IN @a>^<SIF v>",
+            "<TEMPLATE F><SIF @a><SIF @a><SIF @a><SIF @a><SIF @a><SIF @a><SIF @a><SIF @a><SIF @a><SIF \
+                @a><SIF @a><SIF @a><SIF @a><SIF @a><SIF @a><SIF @a><SIF @a><SIF @a><SIF @a><SIF @a><SIF \
+                @a><SIF @a><SIF @a><SIF @a><SIF @a><SIF @a><SIF @a><SIF @a><SIF @a><SIF @a><SIF \
+                @a></SIF><SFOR v IN @a><SFOR v IN @a>^<SFOR v IN v>",
         ],
     },
 ];
@@ -162,7 +173,12 @@ const ACCEPTED: &[&str] = &[
     "<TEMPLATE F><SFMT @a.'b c' DELIM=', ' KEY=b.c ORDER=descend LINK=d></TEMPLATE>",
     "<TEMPLATE F><SIF NOT #C.a LE -1>x<SELSE>y</SIF></TEMPLATE>",
     "<TEMPLATE F><SFOR v IN #C><SFOR v IN v.a><SFMT v EMBED></SFOR></SFOR></TEMPLATE>",
-    "<TEMPLATE F><SIF @a><SIF @a><SIF @a><SIF @a><SIF @a><SIF @a><SIF @a><SIF @a><SIF @a><SIF @a><SIF @a><SIF @a><SIF @a><SIF @a><SIF @a><SIF @a><SIF @a><SIF @a><SIF @a><SIF @a><SIF @a><SIF @a><SIF @a><SIF @a><SIF @a><SIF @a><SIF @a><SIF @a><SIF @a><SIF @a><SIF @a><SIF @a></SIF></SIF></SIF></SIF></SIF></SIF></SIF></SIF></SIF></SIF></SIF></SIF></SIF></SIF></SIF></SIF></SIF></SIF></SIF></SIF></SIF></SIF></SIF></SIF></SIF></SIF></SIF></SIF></SIF></SIF></SIF></SIF></TEMPLATE>",
+    "<TEMPLATE F><SIF @a><SIF @a><SIF @a><SIF @a><SIF @a><SIF @a><SIF @a><SIF @a><SIF @a><SIF @a><SIF \
+        @a><SIF @a><SIF @a><SIF @a><SIF @a><SIF @a><SIF @a><SIF @a><SIF @a><SIF @a><SIF @a><SIF @a><SIF \
+        @a><SIF @a><SIF @a><SIF @a><SIF @a><SIF @a><SIF @a><SIF @a><SIF @a><SIF \
+        @a></SIF></SIF></SIF></SIF></SIF></SIF></SIF></SIF></SIF></SIF></SIF></SIF></SIF></SIF></SIF></SIF>\
+        </SIF></SIF></SIF></SIF></SIF></SIF></SIF></SIF></SIF></SIF></SIF></SIF></SIF></SIF></SIF></SIF>\
+        </TEMPLATE>",
     "<TEMPLATE F><SFMT @a DELIM='>'></TEMPLATE>",
 ];
 

@@ -105,6 +105,7 @@ fn printed(alloc: Global) -> Result<Vec<u8>, NoMemory> {
 fn parts_that_no_text_gave_are_printed(rt: HostRuntime) -> Result<(), Fail> {
     let out = printed(rt.alloc())?;
     let wanted =
-        "not(x -> ('a'|true).true* -> y)F(x, 1) -> 'l' -> ySTRUQL 2\nINPUT D\n{ WHERE x -> ('a'|true).true* -> y LINK F(x, 1) -> 'l' -> y, F(x, 1) -> 'l' -> y }\nOUTPUT S\n";
+        "not(x -> ('a'|true).true* -> y)F(x, 1) -> 'l' -> ySTRUQL 2\nINPUT D\n{ WHERE x -> ('a'|true).true* \
+            -> y LINK F(x, 1) -> 'l' -> y, F(x, 1) -> 'l' -> y }\nOUTPUT S\n";
     Ok(check_text(&rt, out.as_slice(), wanted)?)
 }

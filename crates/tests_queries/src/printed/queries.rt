@@ -48,8 +48,14 @@ const QUERIES: &[QueryRow] = &[
     },
     // The bibliography's.
     QueryRow {
-        text: "INPUT Bib\n{ CREATE RootPage() }\n{ WHERE Publications(x), x -> l -> v\n  CREATE PaperPage(x)\n  LINK PaperPage(x) -> l -> v, RootPage() -> 'Paper' -> PaperPage(x)\n  { WHERE l = 'year'\n    CREATE YearPage(v)\n    LINK YearPage(v) -> 'Year' -> v, YearPage(v) -> 'Paper' -> PaperPage(x),\n         RootPage() -> 'Year' -> YearPage(v) } }\nOUTPUT Home\n",
-        canonical: "INPUT Bib\n{ CREATE RootPage() }\n{ WHERE Publications(x), x -> l -> v CREATE PaperPage(x) LINK PaperPage(x) -> l -> v, RootPage() -> 'Paper' -> PaperPage(x) { WHERE l = 'year' CREATE YearPage(v) LINK YearPage(v) -> 'Year' -> v, YearPage(v) -> 'Paper' -> PaperPage(x), RootPage() -> 'Year' -> YearPage(v) } }\nOUTPUT Home\n",
+        text: "INPUT Bib\n{ CREATE RootPage() }\n{ WHERE Publications(x), x -> l -> v\n  CREATE \
+            PaperPage(x)\n  LINK PaperPage(x) -> l -> v, RootPage() -> 'Paper' -> PaperPage(x)\n  { WHERE l \
+            = 'year'\n    CREATE YearPage(v)\n    LINK YearPage(v) -> 'Year' -> v, YearPage(v) -> 'Paper' \
+            -> PaperPage(x),\n         RootPage() -> 'Year' -> YearPage(v) } }\nOUTPUT Home\n",
+        canonical: "INPUT Bib\n{ CREATE RootPage() }\n{ WHERE Publications(x), x -> l -> v CREATE \
+            PaperPage(x) LINK PaperPage(x) -> l -> v, RootPage() -> 'Paper' -> PaperPage(x) { WHERE l = \
+            'year' CREATE YearPage(v) LINK YearPage(v) -> 'Year' -> v, YearPage(v) -> 'Paper' -> \
+            PaperPage(x), RootPage() -> 'Year' -> YearPage(v) } }\nOUTPUT Home\n",
     },
 ];
 

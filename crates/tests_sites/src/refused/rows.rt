@@ -181,8 +181,14 @@ const REFUSED: &[Refused] = &[
     Refused {
         number: 68,
         texts: &[
-            "INPUT D WHERE C(a1), C(a2), C(a3), C(a4), C(a5), C(a6), C(a7), C(a8), C(a9), C(a10), C(a11), C(a12), C(a13), C(a14), C(a15), C(a16), C(a17), C(a18), C(a19), C(a20), C(a21), C(a22), C(a23), C(a24), C(a25), C(a26), C(a27), C(a28), C(a29), C(a30), C(a31), C(a32), C(^b) OUTPUT S",
-            "INPUT D WHERE C(a1), C(a2), C(a3), C(a4), C(a5), C(a6), C(a7), C(a8), C(a9), C(a10), C(a11), C(a12), C(a13), C(a14), C(a15), C(a16), C(a17), C(a18), C(a19), C(a20), C(a21), C(a22), C(a23), C(a24), C(a25), C(a26), C(a27), C(a28), C(a29), C(a30), C(a31), C(a32) { WHERE a1 -> 'a' -> ^b } OUTPUT S",
+            "INPUT D WHERE C(a1), C(a2), C(a3), C(a4), C(a5), C(a6), C(a7), C(a8), C(a9), C(a10), C(a11), \
+                C(a12), C(a13), C(a14), C(a15), C(a16), C(a17), C(a18), C(a19), C(a20), C(a21), C(a22), \
+                C(a23), C(a24), C(a25), C(a26), C(a27), C(a28), C(a29), C(a30), C(a31), C(a32), C(^b) \
+                OUTPUT S",
+            "INPUT D WHERE C(a1), C(a2), C(a3), C(a4), C(a5), C(a6), C(a7), C(a8), C(a9), C(a10), C(a11), \
+                C(a12), C(a13), C(a14), C(a15), C(a16), C(a17), C(a18), C(a19), C(a20), C(a21), C(a22), \
+                C(a23), C(a24), C(a25), C(a26), C(a27), C(a28), C(a29), C(a30), C(a31), C(a32) { WHERE a1 \
+                -> 'a' -> ^b } OUTPUT S",
         ],
     },
 ];
@@ -214,9 +220,12 @@ const QUERIES: &[&str] = &[
     "INPUT D WHERE C(x) CREATE F(x) WHERE C(y) CREATE G(y) OUTPUT S",
     "INPUT D {} OUTPUT S",
     "INPUT D {{{{{{{{{{{{{{{{}}}}}}}}}}}}}}}} OUTPUT S",
-    "INPUT D WHERE x -> (((((((((((((((((((((((((((((((((((((((((((((((((((((((((((((((('a')))))))))))))))))))))))))))))))))))))))))))))))))))))))))))))))) -> y OUTPUT S",
+    "INPUT D WHERE x -> (((((((((((((((((((((((((((((((((((((((((((((((((((((((((((((((('a')))))))))))))))))\
+        ))))))))))))))))))))))))))))))))))))))))))))))) -> y OUTPUT S",
     "INPUT D WHERE x -> 'a'**************************************************************** -> y OUTPUT S",
-    "INPUT D WHERE C(a1), C(a2), C(a3), C(a4), C(a5), C(a6), C(a7), C(a8), C(a9), C(a10), C(a11), C(a12), C(a13), C(a14), C(a15), C(a16), C(a17), C(a18), C(a19), C(a20), C(a21), C(a22), C(a23), C(a24), C(a25), C(a26), C(a27), C(a28), C(a29), C(a30), C(a31), C(a32) OUTPUT S",
+    "INPUT D WHERE C(a1), C(a2), C(a3), C(a4), C(a5), C(a6), C(a7), C(a8), C(a9), C(a10), C(a11), C(a12), \
+        C(a13), C(a14), C(a15), C(a16), C(a17), C(a18), C(a19), C(a20), C(a21), C(a22), C(a23), C(a24), \
+        C(a25), C(a26), C(a27), C(a28), C(a29), C(a30), C(a31), C(a32) OUTPUT S",
     "INPUT D CREATE F() COLLECT index(F()) OUTPUT S",
     "INPUT D WHERE x = 9223372036854775807, y = -9223372036854775808 OUTPUT S",
 ];

@@ -11,7 +11,8 @@ pub const SITES: &[SiteRow] = &[
         query: "INPUT D WHERE C(x), C(y), not(x -> 'e' -> y) CREATE F(x, y) OUTPUT S",
         templates: OK,
         outside: &["/F/na/nb.html", "/F/nc/nc.html", "/F/na/nd.html"],
-        outcomes: "/F/na/na.html ok;/F/na/nc.html ok;/F/nb/na.html ok;/F/nb/nb.html ok;/F/nb/nc.html ok;/F/nc/na.html ok;/F/nc/nb.html ok;/F/na/nb.html -;/F/nc/nc.html -;/F/na/nd.html -;",
+        outcomes: "/F/na/na.html ok;/F/na/nc.html ok;/F/nb/na.html ok;/F/nb/nb.html ok;/F/nb/nc.html \
+            ok;/F/nc/na.html ok;/F/nc/nb.html ok;/F/na/nb.html -;/F/nc/nc.html -;/F/na/nd.html -;",
     },
     // A negation alone: its variables range over their whole domains.
     SiteRow {
@@ -35,7 +36,9 @@ pub const SITES: &[SiteRow] = &[
         query: "INPUT D WHERE C(x), x -> ()|'e'|'g' -> y, x -> true -> z CREATE F(y, z) OUTPUT S",
         templates: OK,
         outside: &["/F/i2/i1.html", "/F/na/na.html"],
-        outcomes: "/F/i1/i1.html ok;/F/i1/i2.html ok;/F/i1/i3.html ok;/F/i3/i1.html ok;/F/i3/i2.html ok;/F/i3/i3.html ok;/F/na/i1.html ok;/F/na/i2.html ok;/F/na/i3.html ok;/F/i2/i1.html -;/F/na/na.html -;",
+        outcomes: "/F/i1/i1.html ok;/F/i1/i2.html ok;/F/i1/i3.html ok;/F/i3/i1.html ok;/F/i3/i2.html \
+            ok;/F/i3/i3.html ok;/F/na/i1.html ok;/F/na/i2.html ok;/F/na/i3.html ok;/F/i2/i1.html \
+            -;/F/na/na.html -;",
     },
     // A number and its text are equal under version 2.
     SiteRow {

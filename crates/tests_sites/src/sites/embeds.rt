@@ -37,9 +37,13 @@ pub const SITES: &[SiteRow] = &[
     },
     // A text of 111,111,111 bytes.
     SiteRow {
-        data_text: "object n1 in N, Top { next &n2 } object n2 in N { next &n3 } object n3 in N { next &n4 } object n4 in N { next &n5 } object n5 in N { next &n6 } object n6 in N { next &n7 } object n7 in N { next &n8 } object n8 in N { next &n9 } object n9 in N { }",
+        data_text: "object n1 in N, Top { next &n2 } object n2 in N { next &n3 } object n3 in N { next &n4 \
+            } object n4 in N { next &n5 } object n5 in N { next &n6 } object n6 in N { next &n7 } object n7 \
+            in N { next &n8 } object n8 in N { next &n9 } object n9 in N { }",
         query: "INPUT D WHERE Top(x) CREATE R() LINK R() -> 'top' -> x OUTPUT S",
-        templates: "<TEMPLATE R><SFMT @top EMBED></TEMPLATE><TEMPLATE COLLECTION N>x<SFMT @next EMBED><SFMT @next EMBED><SFMT @next EMBED><SFMT @next EMBED><SFMT @next EMBED><SFMT @next EMBED><SFMT @next EMBED><SFMT @next EMBED><SFMT @next EMBED><SFMT @next EMBED></TEMPLATE>",
+        templates: "<TEMPLATE R><SFMT @top EMBED></TEMPLATE><TEMPLATE COLLECTION N>x<SFMT @next EMBED><SFMT \
+            @next EMBED><SFMT @next EMBED><SFMT @next EMBED><SFMT @next EMBED><SFMT @next EMBED><SFMT @next \
+            EMBED><SFMT @next EMBED><SFMT @next EMBED><SFMT @next EMBED></TEMPLATE>",
         outside: &["/R/i1.html"],
         outcomes: "/R.html +;/R/i1.html -;",
     },

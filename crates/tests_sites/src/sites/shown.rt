@@ -33,7 +33,9 @@ pub const SITES: &[SiteRow] = &[
         query: "INPUT D WHERE x -> l -> v CREATE F(v) LINK F(v) -> 'v' -> v OUTPUT S",
         templates: "<TEMPLATE F><SFMT @v LINK></TEMPLATE>",
         outside: &["/F/t5.html", "/F/tp.html"],
-        outcomes: "/F/i5.html 5;/F/tT.html T;/F/uhttp~3A~2F~2Fa~2F.html <a href='http://a/'>http://a/</a>;/F/fx~2Etxt.html <a href='x.txt'>x.txt</a>;/F/np.html p;/F/t5.html -;/F/tp.html -;",
+        outcomes: "/F/i5.html 5;/F/tT.html T;/F/uhttp~3A~2F~2Fa~2F.html <a \
+            href='http://a/'>http://a/</a>;/F/fx~2Etxt.html <a href='x.txt'>x.txt</a>;/F/np.html \
+            p;/F/t5.html -;/F/tp.html -;",
     },
     // Collected values, beside the members of the data.
     SiteRow {
@@ -55,7 +57,8 @@ pub const SITES: &[SiteRow] = &[
     SiteRow {
         data_text: "object o { a 1 a 2 } object s { a &p a &q a &r } object p { k 2 } object q { k 1 } object r { }",
         query: "INPUT D WHERE x -> 'a' -> y CREATE F(x) LINK F(x) -> 'a' -> y OUTPUT S",
-        templates: "<TEMPLATE F><SFOR v IN @a ORDER=descend DELIM=', '><SIF v GT 1>big<SELSE><SFMT v></SIF></SFOR>;<SFMT @a KEY=k DELIM=' '></TEMPLATE>",
+        templates: "<TEMPLATE F><SFOR v IN @a ORDER=descend DELIM=', '><SIF v GT 1>big<SELSE><SFMT \
+            v></SIF></SFOR>;<SFMT @a KEY=k DELIM=' '></TEMPLATE>",
         outside: &["/F/np.html"],
         outcomes: "/F/no.html big, 1;1 2;/F/ns.html r, q, p;q p r;/F/np.html -;",
     },

@@ -183,6 +183,32 @@ const COMMANDS: &[CommandRow] = &[
         command: "serve q t --whole 8080 4294967296 1 4294967296 256 5000 10000",
     },
     CommandRow {
+        words: &["page", "--over", "f", "q", "t", "a", "d"],
+        command: "page q t a d over f",
+    },
+    CommandRow {
+        words: &["page", "q", "t", "a", "d", "e", "--over=f=g"],
+        command: "page q t a d e over f=g",
+    },
+    CommandRow {
+        words: &["build", "q", "--over", "f", "t", "o", "d"],
+        command: "build q t o d over f",
+    },
+    CommandRow {
+        words: &["data", "--over=f", "--", "d", "--over=g"],
+        command: "data d --over=g over f",
+    },
+    CommandRow {
+        words: &[
+            "serve", "q", "t", "--over", "f", "--watch", "w", "d", "--whole",
+        ],
+        command: "serve whole q t w d 8080 4294967296 1 4294967296 256 5000 10000 1 over f",
+    },
+    CommandRow {
+        words: &["replay", "q", "t", "s", "d", "--cache=2", "--over", "f"],
+        command: "replay q t s d 1 4294967296 2 over f",
+    },
+    CommandRow {
         words: &["lint", "q", "t", "d"],
         command: "lint q t d",
     },
@@ -462,6 +488,28 @@ const STRAY_WORDS: &[&[&str]] = &[
     &["version", "--", "x"],
 ];
 
+// A first query that isn't named, or is named twice, or of a command that has none.
+const WORDS_WITH_OVER: &[&[&str]] = &[
+    &["page", "--over", "q", "t", "a"],
+    &["page", "q", "t", "a", "d", "--over"],
+    &["page", "--over=", "q", "t", "a", "d"],
+    &["page", "--over", "--", "q", "t", "a", "d"],
+    &["page", "--over=f", "--over=f", "q", "t", "a", "d"],
+    &["page", "--over=f", "--watch=w", "q", "t", "a", "d"],
+    &["build", "--over=f", "--over", "g", "q", "t", "o", "d"],
+    &["data", "--over", "d"],
+    &["data", "--Over=f", "d"],
+    &["--over=f", "data", "d"],
+    &["serve", "--over=f", "--over=f", "q", "t", "d"],
+    &["replay", "--over=f", "--over=f", "q", "t", "s", "d"],
+    &["explain", "--over=f", "q", "d"],
+    &["schema", "--over=f", "q"],
+    &["check", "--over=f", "--here", "q", "c", "d"],
+    &["lint", "--over=f", "q", "t", "d"],
+    &["trial", "--over=f", "1"],
+    &["help", "--over=f"],
+];
+
 fn check_no_commands(alloc: Global, rows: &[&[&str]]) -> Result<(), Fail> {
     for words in rows {
         check_command(alloc, words, "")?;
@@ -477,6 +525,11 @@ fn other_words_give_no_command(rt: HostRuntime) -> Result<(), Fail> {
 #[test]
 fn stray_words_give_no_command(rt: HostRuntime) -> Result<(), Fail> {
     check_no_commands(rt.alloc(), STRAY_WORDS)
+}
+
+#[test]
+fn a_first_query_is_named_once_and_where_there_is_one(rt: HostRuntime) -> Result<(), Fail> {
+    check_no_commands(rt.alloc(), WORDS_WITH_OVER)
 }
 
 // The word `data`, and behind it one that is no text.

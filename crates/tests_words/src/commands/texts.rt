@@ -44,6 +44,16 @@ fn named(
     Ok(out)
 }
 
+// The text of a command, with the file of its first query, if there is one, behind the word `over`.
+fn over_text(text: Vec<u8>, over: &Option<Str>) -> Result<Vec<u8>, NoMemory> {
+    let mut out = text;
+    if let Some(first) = over {
+        push(&mut out, b"over")?;
+        push(&mut out, first.bytes())?;
+    }
+    Ok(out)
+}
+
 fn name_text(name: CommandName) -> &'static [u8] {
     match name {
         CommandName::Page => b"help page",
@@ -99,18 +109,23 @@ fn serve_text(alloc: Global, c: &ServeCommand) -> Result<Vec<u8>, NoMemory> {
     }
 }
 
-/// The command as a text: its paths as they are in it, and behind them its numbers.
+/// The command as a text: its paths as they are in it, behind them its numbers, and last the file of a first query.
 pub fn command_text(alloc: Global, command: &Command) -> Result<Vec<u8>, NoMemory> {
     match command {
         Command::Page(c) => {
             let paths = [&c.query, &c.templates, &c.address];
-            named(alloc, b"page", &paths, c.sources.items(), &[])
+            let text = named(alloc, b"page", &paths, c.sources.items(), &[])?;
+            over_text(text, &c.over)
         }
         Command::Build(c) => {
             let paths = [&c.query, &c.templates, &c.folder];
-            named(alloc, b"build", &paths, c.sources.items(), &[])
+            let text = named(alloc, b"build", &paths, c.sources.items(), &[])?;
+            over_text(text, &c.over)
         }
-        Command::Data(c) => named(alloc, b"data", &[], c.sources.items(), &[]),
+        Command::Data(c) => {
+            let text = named(alloc, b"data", &[], c.sources.items(), &[])?;
+            over_text(text, &c.over)
+        }
         Command::Explain(c) => named(alloc, b"explain", &[&c.query], c.sources.items(), &[]),
         Command::Schema(c) => {
             let numbers: &[u64] = if c.dot { &[1] } else { &[] };
@@ -128,12 +143,13 @@ pub fn command_text(alloc: Global, command: &Command) -> Result<Vec<u8>, NoMemor
             let paths = [&c.query, &c.templates];
             named(alloc, b"lint", &paths, c.sources.items(), &[])
         }
-        Command::Serve(c) => serve_text(alloc, c),
+        Command::Serve(c) => over_text(serve_text(alloc, c)?, &c.over),
         Command::Replay(c) => {
             let paths = [&c.query, &c.templates, &c.script];
             let limits = &c.limits;
             let numbers = [limits.requests, limits.turns, u64::from(limits.cache)];
-            named(alloc, b"replay", &paths, c.sources.items(), &numbers)
+            let text = named(alloc, b"replay", &paths, c.sources.items(), &numbers)?;
+            over_text(text, &c.over)
         }
         Command::Trial(c) => named(alloc, b"trial", &[], &[], &[u64::from(c.entries)]),
         Command::Help(c) => named(alloc, help_text(c), &[], &[], &[]),

@@ -107,6 +107,7 @@ fn a_row_of_a_spreadsheet_is_an_object(rt: HostRuntime) -> Result<(), Fail> {
 fn only_canonical_decimals_are_numbers(rt: HostRuntime) -> Result<(), Fail> {
     let text = b"n,n,n,n,n,n\n-9223372036854775808,0,-0,07,9223372036854775808, 1\n";
     let graph =
-        b"object \"bib_1\" in \"bib\" {\n  \"n\" -9223372036854775808\n  \"n\" 0\n  \"n\" \" 1\"\n  \"n\" \"-0\"\n  \"n\" \"07\"\n  \"n\" \"9223372036854775808\"\n}\n";
+        b"object \"bib_1\" in \"bib\" {\n  \"n\" -9223372036854775808\n  \"n\" 0\n  \"n\" \" 1\"\n  \"n\" \
+            \"-0\"\n  \"n\" \"07\"\n  \"n\" \"9223372036854775808\"\n}\n";
     check_text_of(rt.alloc(), text, graph)
 }

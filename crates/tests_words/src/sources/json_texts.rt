@@ -157,6 +157,7 @@ fn check_text_of(alloc: Global, text: &[u8], wanted: &[u8]) -> Result<(), Fail> 
 fn nested_records_are_objects(rt: HostRuntime) -> Result<(), Fail> {
     let text = b"{\"P\": [{\"a\": [1, null, {\"b\": true}], \"x y\": [[{}]]}]}";
     let graph =
-        b"object \"p_P_1\" in \"P\" {\n  \"a\" 1\n  \"a\" &\"p_P_1_a_3\"\n  \"x y\" &\"p_P_1_x~20y_1_1\"\n}\nobject \"p_P_1_a_3\" {\n  \"b\" \"true\"\n}\nobject \"p_P_1_x~20y_1_1\" {\n}\n";
+        b"object \"p_P_1\" in \"P\" {\n  \"a\" 1\n  \"a\" &\"p_P_1_a_3\"\n  \"x y\" &\"p_P_1_x~20y_1_1\"\n\
+            }\nobject \"p_P_1_a_3\" {\n  \"b\" \"true\"\n}\nobject \"p_P_1_x~20y_1_1\" {\n}\n";
     check_text_of(rt.alloc(), text, graph)
 }

@@ -1,16 +1,15 @@
 use Rattle.std.proofs.Common.{List, All, ap, subst, ◌∙◌}
 use Rattle.site_spec.specs.Root.{root_function}
-use Rattle.click_time.specs.Page.{PageFixed, page_site}
 use Rattle.mem_wire.specs.WireInMemory.{WireInMemory, entry_of, HasEntry}
 use Rattle.site_inputs.specs.Values.{inputs_of}
-use Rattle.site_pages.specs.Texts.{data_texts}
+use Rattle.site_pages.specs.Texts.{current_site, current_templates, data_texts}
 use Rattle.site_serving.specs.Served.{first_data}
 use Rattle.command_trial.proofs.Runs.{are_counted}
 use Rattle.command_trial.proofs.running.ask_for.Goals as goal
 
 pub returns-in-Done : goal.returns-in-Done
 returns-in-Done c =
-    are_counted (root_function (inputs_of c.args.site).query) page_site (λ (f : PageFixed). f.templates) (data_texts c.serve_site-served.ensures.steps.0) (first_data (inputs_of c.args.site)) 4294967296 c.args.targets.now c.in_ok-wire.wire c.serve_site-served.new.wire c.serve_site-served.result c.in_ok-count-in-Done.field-0
+    are_counted (root_function (inputs_of c.args.site).query) current_site current_templates (data_texts c.serve_site-served.ensures.steps.0) (first_data (inputs_of c.args.site)) 4294967296 c.args.targets.now c.in_ok-wire.wire c.serve_site-served.new.wire c.serve_site-served.result c.in_ok-count-in-Done.field-0
     c.requires
     (ap (λ (w : WireInMemory). w.events) c.in_ok-wire.ensures.told ∙ c.in_ok-events.ensures) (ap (λ (w : WireInMemory). w.count) c.in_ok-wire.ensures.told) c.in_ok-wire.ensures.entries
     (subst (All (HasEntry (entry_of c.in_ok-wire.wire))) c.in_ok-events.ensures c.in_ok-wire.ensures.opened)

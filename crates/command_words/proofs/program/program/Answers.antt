@@ -1,6 +1,6 @@
 use Rattle.std.proofs.Common.{◌≡◌, ◌∙◌, ap, true, codes, []}
 use Rattle.clap.specs.Simple.{app_of, app_of_fields, new_app, on_top}
-use Rattle.command_spec.specs.Words.{options_of_serve, options_of_replay}
+use Rattle.command_spec.specs.Words.{options_of_serve, options_of_replay, options_of_page}
 use Rattle.command_words.specs.Parsed.{top}
 use Rattle.command_words.proofs.Subcommands.{alone, next_command}
 use Rattle.command_words.proofs.program.program.Goals as goal
@@ -12,9 +12,9 @@ returns c =
     let d = ap app_of_fields c.disable_help_subcommand.ensures ∙ ap (on_top (λ s. record s { disable_help_subcommand = true })) b in
     let e = ap app_of_fields c.disable_version_flag.ensures ∙ ap (on_top (λ s. record s { disable_version_flag = true })) d in
     let start : app_of c.subcommand_required.result ≡ alone (record top { is_leaf = true }) = ap app_of_fields c.subcommand_required.ensures ∙ ap (on_top (λ s. record s { subcommand_required = true })) e in
-    let s1 = next_command _ _ _ _ (codes "page") [] c.in_ok-subcommand.ensures c.in_ok-command_of.ensures start in
-    let s2 = next_command _ _ _ _ (codes "build") [] c.in_ok-subcommand-2.ensures c.in_ok-command_of-2.ensures s1 in
-    let s3 = next_command _ _ _ _ (codes "data") [] c.in_ok-subcommand-3.ensures c.in_ok-command_of-3.ensures s2 in
+    let s1 = next_command _ _ _ _ (codes "page") options_of_page c.in_ok-subcommand.ensures c.in_ok-command_of.ensures start in
+    let s2 = next_command _ _ _ _ (codes "build") options_of_page c.in_ok-subcommand-2.ensures c.in_ok-command_of-2.ensures s1 in
+    let s3 = next_command _ _ _ _ (codes "data") options_of_page c.in_ok-subcommand-3.ensures c.in_ok-command_of-3.ensures s2 in
     let s4 = next_command _ _ _ _ (codes "explain") [] c.in_ok-subcommand-4.ensures c.in_ok-command_of-4.ensures s3 in
     let s5 = next_command _ _ _ _ (codes "schema") [] c.in_ok-subcommand-5.ensures c.in_ok-command_of-5.ensures s4 in
     let s6 = next_command _ _ _ _ (codes "check") [] c.in_ok-subcommand-6.ensures c.in_ok-command_of-6.ensures s5 in

@@ -5,7 +5,7 @@ use Rattle.edge_io.specs.Files.{FileMap}
 use Rattle.edge_io.specs.Counts.{NoneFell}
 use Rattle.site_inputs.specs.Sources.{GraphEnds, empty_building}
 use Rattle.site_inputs.specs.declared.fault.Fault.{Fault}
-use Rattle.site_inputs.proofs.inputs.load_graph.Given as goal
+use Rattle.site_inputs.proofs.inputs.gather.Given as goal
 
 -- the end of the files that are left is the end of all
 abbrev pub invariant-loop-path : goal.invariant-loop-path

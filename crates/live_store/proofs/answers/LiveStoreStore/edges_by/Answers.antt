@@ -1,0 +1,15 @@
+use Rattle.std.proofs.Common.{subst}
+use Rattle.std.proofs.lemmas.Result.{IfOk-weaker}
+use Rattle.sd_value.specs.Ascending.{ListsExactly}
+use Rattle.graph_spec.specs.Orders.{edge_cmp}
+use Rattle.graph_spec.specs.Steps.{IsLabelled}
+use Rattle.sd_graph.specs.Statement.{Building}
+use Rattle.live_store.proofs.Questions.{labelled_listed}
+use Rattle.live_store.proofs.answers.LiveStoreStore.edges_by.Goals as goal
+
+pub returns : goal.returns
+returns c = IfOk-weaker c.shifted.result _ _
+    (λ found is. subst (λ (b : Building). ListsExactly edge_cmp (IsLabelled b.graph c.args.label.now) found.items) c.self.view_is
+    (labelled_listed c.self.inside.base c.self.inside.came c.self.inside.gone c.self.inside.nodes.items _ c.self.invariant.layers
+    c.args.label.now _ _ _ found.items c.in_ok-base.ensures c.in_ok-gone.ensures c.in_ok-came.ensures is))
+    c.shifted.ensures

@@ -1,0 +1,15 @@
+use Rattle.std.proofs.Common.{subst}
+use Rattle.std.proofs.lemmas.Result.{IfOk-weaker}
+use Rattle.sd_value.specs.Ascending.{ListsExactly}
+use Rattle.sd_value.specs.Order.{value_cmp}
+use Rattle.graph_spec.specs.Steps.{IsMemberValue}
+use Rattle.sd_graph.specs.Statement.{Building}
+use Rattle.live_store.proofs.Questions.{member_listed}
+use Rattle.live_store.proofs.answers.LiveStoreStore.members.Goals as goal
+
+pub returns : goal.returns
+returns c = IfOk-weaker c.shifted.result _ _
+    (λ found is. subst (λ (b : Building). ListsExactly value_cmp (IsMemberValue b.graph c.args.collection.now) found.items) c.self.view_is
+    (member_listed c.self.inside.base c.self.inside.came c.self.inside.gone c.self.inside.nodes.items _ c.self.invariant.layers
+    c.args.collection.now _ _ _ found.items c.in_ok-base.ensures c.in_ok-gone.ensures c.in_ok-came.ensures is))
+    c.shifted.ensures

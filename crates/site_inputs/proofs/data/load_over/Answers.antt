@@ -1,0 +1,50 @@
+use Rattle.std.proofs.Common.{◌∙◌, ◌∷◌, [], ◌++◌, inl, inr, arith}
+use Rattle.std.proofs.lemmas.Result.{err_from_is_err_and}
+use Rattle.site_inputs.specs.Sources.{GraphEnds, empty_building}
+use Rattle.site_inputs.specs.Sites.{QueryEnds, SiteTaken}
+use Rattle.site_inputs.specs.Runs.{Then}
+use Rattle.site_inputs.proofs.Runs.{none_fell}
+use Rattle.site_inputs.proofs.Graphs.{then_next}
+use Rattle.site_inputs.proofs.Causes.{cause_within, of_files, of_first}
+use Rattle.site_inputs.proofs.SiteData.{no_unread}
+use Rattle.site_inputs.proofs.data.load_over.Goals as goal
+
+pub returns-clause-ends : goal.returns-clause-ends
+returns-clause-ends g c = λ map told.
+    let path = c.args.path.now in
+    let raw = c.in_ok-gathered.gathered.graph in
+    let first = c.in_ok-first.first in
+    then_next (GraphEnds map empty_building c.args.sources.now) (λ raw. Then (QueryEnds map path) (λ first. SiteTaken path raw first)) raw c.take_site.result
+    (c.in_ok-gathered.ensures.ends map told)
+    (then_next (QueryEnds map path) (λ first. SiteTaken path raw first) first c.take_site.result
+    (c.in_ok-first.ensures.ends map (c.in_ok-gathered.ensures.same ∙ told)) c.take_site.ensures)
+
+pub returns-in_err-first-clause-ends : goal.returns-in_err-first-clause-ends
+returns-in_err-first-clause-ends g c = λ map told.
+    let p = err_from_is_err_and c.from_residual-in_err-first.result c.from_residual-in_err-first.ensures.1 in
+    rw (p.1, p.2)
+    (inr (record {
+      value = c.in_ok-gathered.gathered.graph;
+      first = c.in_ok-gathered.ensures.ends map told;
+      next = inl (c.in_err-first.ensures.ends map (c.in_ok-gathered.ensures.same ∙ told));
+    }))
+
+pub returns-in_err-gathered-clause-cause : goal.returns-in_err-gathered-clause-cause
+returns-in_err-gathered-clause-cause g c =
+    let p = err_from_is_err_and c.from_residual.result c.from_residual.ensures.1 in
+    rw (p.1, p.2)
+    (cause_within c.args.sources.now (c.args.sources.now ++ (c.args.path.now ∷ [])) _ _ _ c.in_err-gathered.field-0.0
+    (of_files c.args.sources.now c.args.path.now) (λ path. omega arith) c.in_err-gathered.ensures.cause)
+
+pub returns-in_err-first-clause-cause : goal.returns-in_err-first-clause-cause
+returns-in_err-first-clause-cause g c =
+    let p = err_from_is_err_and c.from_residual-in_err-first.result c.from_residual-in_err-first.ensures.1 in
+    rw (p.1, p.2)
+    (cause_within (c.args.path.now ∷ []) (c.args.sources.now ++ (c.args.path.now ∷ [])) _ _ _ c.in_err-first.field-0.0
+    (of_first c.args.sources.now c.args.path.now) c.in_ok-gathered.ensures.cause.later c.in_err-first.ensures.cause)
+
+pub returns-clause-cause : goal.returns-clause-cause
+returns-clause-cause g c = record {
+  later = none_fell c.in_ok-gathered.ensures.cause.later c.in_ok-first.ensures.cause.later;
+  failed = no_unread c.args.path.now c.in_ok-gathered.gathered.graph c.in_ok-first.first (c.args.sources.now ++ (c.args.path.now ∷ [])) _ _ c.take_site.result c.take_site.ensures;
+}

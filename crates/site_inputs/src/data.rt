@@ -1,0 +1,92 @@
+// The data of a command: its data files, and the site of a first query over them.
+ghost use Rattle.std.specs.Prelude.{◌≡◌, ◌∷◌, [], ◌++◌};
+ghost use Rattle.std.specs.Option.{ForSome};
+ghost use Rattle.command_spec.specs.Inputs.{data_paths};
+ghost use Rattle.site_inputs.specs.Runs.{ReadsHaveCause, Then};
+ghost use Rattle.site_inputs.specs.Sources.{GraphEnds, empty_building};
+ghost use Rattle.site_inputs.specs.Sites.{QueryEnds, SiteTaken, DataInputsEnd};
+
+use crate::fault::{Fault, refused};
+use crate::inputs::{gather, load_graph};
+use crate::site::load_query;
+use composed_data::composed_data;
+use edge_io::Files;
+use run_report::Place;
+use sd_graph::{Graph, GraphBuilder, GraphRefusal, PROGRAM_LIMITS};
+use sd_value::Str;
+use std::alloc::Global;
+use struql_check::Checked;
+
+/// The data of a command, and the first query whose site they are, if there is one.
+#[derive(Drop)]
+pub struct DataInputs {
+    pub graph: Graph,
+    pub first: Option<Checked>,
+}
+
+// The first query's site over the gathered data, as data.
+fn take_site(
+    alloc: Global,
+    path: &Str,
+    gathered: GraphBuilder,
+    first: Checked,
+) -> Result<DataInputs, Fault>
+    ensures { SiteTaken path.now gathered.graph first result }
+{
+    match composed_data(alloc, gathered, &first, PROGRAM_LIMITS) {
+        Ok(graph) => Ok(DataInputs {
+            graph,
+            first: Some(first),
+        }),
+        Err(GraphRefusal::TooManyNodes) => Err(refused(alloc, path, 12, Place::At(0))),
+        Err(GraphRefusal::TooManyEdges) => Err(refused(alloc, path, 11, Place::At(0))),
+        Err(GraphRefusal::NoMemory) => Err(Fault::NoMemory),
+    }
+}
+
+// The data files, then the first query, and then its site over the data.
+fn load_over<F: Files>(
+    alloc: Global,
+    files: &mut F,
+    sources: &[Str],
+    path: &Str,
+) -> Result<DataInputs, Fault>
+    ensures ends { ForSome (F.contents files.old) (λ map.
+        Then (GraphEnds map empty_building sources.now)
+        (λ raw. Then (QueryEnds map path.now) (λ first. SiteTaken path.now raw first)) result) }
+    ensures same { F.contents files.new ≡ F.contents files.old }
+    ensures cause { ReadsHaveCause (sources.now ++ (path.now ∷ []))
+        (F.failed_reads files.old) (F.failed_reads files.new) result }
+    ensures writes { F.failed_writes files.new ≡ F.failed_writes files.old }
+{
+    let gathered = gather(alloc, files, sources)?;
+    let first = load_query(alloc, files, path)?;
+    take_site(alloc, path, gathered, first)
+}
+
+/// The data of a command: the union of what the data files state or, where there is a first query, its site over that union,
+/// seen as data. The first query is read after the data files.
+/// # Errors
+/// The first file in this order that is refused or unread; a first query whose site has too many nodes is refused at its
+/// start with 12, and else one whose site has too many edges and members with 11; or out of memory.
+pub fn load_data<F: Files>(
+    alloc: Global,
+    files: &mut F,
+    sources: &[Str],
+    over: &Option<Str>,
+) -> Result<DataInputs, Fault>
+    ensures ends { ForSome (F.contents files.old) (λ map.
+        DataInputsEnd map sources.now over.now result) }
+    ensures same { F.contents files.new ≡ F.contents files.old }
+    ensures cause { ReadsHaveCause (data_paths sources.now over.now)
+        (F.failed_reads files.old) (F.failed_reads files.new) result }
+    ensures writes { F.failed_writes files.new ≡ F.failed_writes files.old }
+{
+    match over {
+        None => {
+            let graph = load_graph(alloc, files, sources)?;
+            Ok(DataInputs { graph, first: None })
+        }
+        Some(path) => load_over(alloc, files, sources, path),
+    }
+}

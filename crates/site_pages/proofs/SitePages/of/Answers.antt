@@ -1,0 +1,5 @@
+use Rattle.site_pages.proofs.PagesLemmas.{same_current}
+use Rattle.site_pages.proofs.SitePages.of.Goals as goal
+
+pub returns-clause-state : goal.returns-clause-state
+returns-clause-state c = same_current c.args.first.now _ _ _ _ c.in_ok-pages.ensures.fixed

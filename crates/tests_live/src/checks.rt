@@ -1,0 +1,10 @@
+// How answers are compared with a row.
+use std::test::Fail;
+
+/// Fails with the reason where a row doesn't hold.
+pub fn check(holds: bool, reason: &str) -> Result<(), Fail> {
+    if holds {
+        return Ok(());
+    }
+    Err(Fail::new(reason))
+}

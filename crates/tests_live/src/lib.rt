@@ -1,0 +1,17 @@
+//! Edits of the data: their texts, and which pages each can touch, beside answers worked by hand.
+#![tactic(auto)]
+
+#[cfg(test)]
+mod checks;
+#[cfg(test)]
+mod footprints;
+#[cfg(test)]
+mod mirrored;
+#[cfg(test)]
+mod random_edits;
+#[cfg(test)]
+mod same_answers;
+#[cfg(test)]
+mod texts;
+#[cfg(test)]
+mod touched;
