@@ -122,7 +122,7 @@ explain_operands() {
   first=${usage%%$'\n'*}
   # A second form of the command, in the line below, has a flag that the first has not.
   second=$(sed -n -E '2s/^ +(strudel .*)/usage: \1/p' <<<"$usage")
-  flag=$(grep -o -e '--[a-z]*' <<<"$second")
+  flag=$(grep -o -e '--[a-z]*' <<<"$second" | head -n 1)
   if [ -n "$second" ] && [[ " $* " = *" $flag "* ]]; then first=$second second=; fi
   read -r -a wanted <<<"$(sed -e 's/^usage: strudel [a-z]*//' -e 's/\[[^]]*\]//g' -e 's/ --[a-z]*//g' <<<"$first")"
   [[ ${wanted[*]-} = *..* ]] && many=1 || many=

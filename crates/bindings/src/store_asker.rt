@@ -24,7 +24,9 @@ pub struct StoreAsker<S> {
 
 impl<S: Store> StoreAsker<S> {
     ghost use Rattle.std.specs.Prelude.{◌≡◌};
+    ghost use Rattle.std.specs.Borrow.{sem};
     ghost use Rattle.bindings.specs.Asked.{store_of, handed_out};
+    ghost use Rattle.bindings.specs.Lends.{lends_store};
 
     /// An asker over the store. It takes no memory.
     pub fn of(store: S) -> StoreAsker<S>
@@ -39,6 +41,14 @@ impl<S: Store> StoreAsker<S> {
         ensures { result.now ≡ store_of self.now }
     {
         &self.store
+    }
+
+    /// The store that it asks, for writing. How much was handed out stays as it is.
+    pub fn store_mut(&mut self) -> &mut S
+        ensures* writes_back { sem 𝓛 (lends_store S.row self.entry result) }
+        ensures value { result.now ≡ store_of self.old }
+    {
+        &mut self.store
     }
 }
 

@@ -1,3 +1,4 @@
+pub mod Asks
 pub mod Fixed
 pub mod Keys
 pub mod Known

@@ -53,6 +53,7 @@ impl<'q, A: Asker> Click<'q, A> {
     ghost use Rattle.graph_spec.specs.DataGraph.{IsWellFormed};
     ghost use Rattle.tmpl.specs.Reading.{file_of};
     ghost use Rattle.query_blocks.specs.Blocks.{AreCheckedBlocks, scope_of};
+    ghost use Rattle.click_time.specs.Asks.{asker_of};
 
     /// A view of the site. It asks nothing yet.
     pub fn of(
@@ -78,6 +79,20 @@ impl<'q, A: Asker> Click<'q, A> {
             memo: Memo::new(alloc),
             start: 0,
         }
+    }
+
+    /// The asker, back from the view: over another graph behind it another view is made.
+    pub fn into_asker(self) -> A
+        ensures { result ≡ asker_of self.entry }
+    {
+        let Click {
+            asker,
+            scopes: _,
+            templates: _,
+            memo: _memo,
+            start: _,
+        } = self;
+        asker
     }
 }
 

@@ -1,40 +1,39 @@
 //! What a page in hand knows already, by key.
-ghost use Rattle.std.specs.Prelude.{◌≡◌, [], Contains, MatchOption, MatchResult};
-ghost use Rattle.std.specs.declared.cmp.Ordering.TheVariants.{Equal};
+ghost use Rattle.std.specs.Prelude.{◌≡◌, [], Contains, MatchOption, MatchResult, true};
 ghost use Rattle.std.specs.Map.{keys_of};
-ghost use Rattle.sd_value.specs.OrderLaws.{bytes_cmp-exact, term_cmp-exact, value_cmp-exact};
-ghost use Rattle.click_time.specs.Keys.{edge_key-exact};
+ghost use Rattle.click_time.specs.Keys.{name_key, term_key, value_key, edge_key};
 ghost use Rattle.click_time.specs.Known.{Puts};
 
+use indexmap::IndexMap;
 use sd_value::{NoMemory, Str, Term, Value};
 use std::alloc::Global;
-use std::collections::BTreeMap;
+use std::hash::Hash;
 
-/// Keys whose order ties only equal keys.
-pub(crate) trait ExactKey: Ord {
-    ghost exact: { (x y : Self) → Self.cmp x y ≡ Equal → x ≡ y };
+/// Keys of which no two that differ are called equal.
+pub(crate) trait ExactKey: Eq + Hash {
+    ghost exact: { (x y : Self) → Self.eq x y ≡ true → x ≡ y };
 }
 
 impl ExactKey for Str {
-    ghost exact = { bytes_cmp-exact };
+    ghost exact = { name_key };
 }
 
 impl ExactKey for Term {
-    ghost exact = { term_cmp-exact };
+    ghost exact = { term_key };
 }
 
 impl ExactKey for Value {
-    ghost exact = { value_cmp-exact };
+    ghost exact = { value_key };
 }
 
 impl ExactKey for (Value, Str) {
-    ghost exact = { edge_key-exact };
+    ghost exact = { edge_key };
 }
 
 /// What was reported by key. A key without an answer was asked, and memory was wanted.
 #[derive(Drop)]
 pub(crate) struct Known<K: ExactKey, T> {
-    told: BTreeMap<K, Option<T>>,
+    told: IndexMap<K, Option<T>>,
 }
 
 impl<K: ExactKey + Drop, T: Drop> Known<K, T> {
@@ -43,7 +42,7 @@ impl<K: ExactKey + Drop, T: Drop> Known<K, T> {
         ensures { result.told.entries ≡ [] }
     {
         Known {
-            told: BTreeMap::new(alloc),
+            told: IndexMap::new(alloc),
         }
     }
 

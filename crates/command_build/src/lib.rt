@@ -107,7 +107,7 @@ pub fn build<F: Files, O: Sink>(
     let inputs = match load_inputs(
         alloc,
         files,
-        command.sources.items(),
+        &command.sources,
         &command.over,
         &command.query,
         &command.templates,

@@ -2,6 +2,7 @@
 use Rattle.std.proofs.Common.{◌≡◌, ℕ, List, ap}
 use Rattle.std.specs.Prelude.{Result, Ok, Err}
 use Rattle.edge_io.specs.Files.{FileMap}
+use Rattle.command_spec.specs.declared.DataFiles.{DataFiles}
 use Rattle.graph_spec.specs.DataGraph.{DataGraph}
 use Rattle.query_spec.specs.Query as plain
 use Rattle.site_spec.specs.Site.{scope_of}
@@ -33,7 +34,7 @@ module _ (graph : DataGraph) (query : plain.Query) (constraints : List Constrain
   report_once one (Err NotFound) s t d e = absurd t
   report_once one (Err NoMemory) s t d e = absurd e
 
-pub here_decides : (map : FileMap) (sources : List (List ℕ)) (query constraints : List ℕ) → Decides (HereEnds map sources query constraints)
+pub here_decides : (map : FileMap) (sources : DataFiles) (query constraints : List ℕ) → Decides (HereEnds map sources query constraints)
 here_decides map sources query_path constraints_path =
     then_decides (GraphEnds map empty_building sources) (λ graph. Then (QueryEnds map query_path) (λ query. Then (ConstraintsEnd query map constraints_path) (ReportTaken graph query))) (graph_decides map empty_building sources) (λ graph.
     then_decides (QueryEnds map query_path) (λ query. Then (ConstraintsEnd query map constraints_path) (ReportTaken graph query)) (query_decides map query_path) (λ query.

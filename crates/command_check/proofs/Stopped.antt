@@ -3,6 +3,7 @@ use Rattle.std.proofs.Common.{◌≡◌, ℕ, List, inl, inr}
 use Rattle.std.specs.Prelude.{Result, Ok, Err}
 use Rattle.edge_io.specs.Files.{FileMap}
 use Rattle.edge_io.specs.Counts.{NoneFell}
+use Rattle.command_spec.specs.declared.DataFiles.{DataFiles}
 use Rattle.graph_spec.specs.DataGraph.{DataGraph}
 use Rattle.query_spec.specs.Query as plain
 use Rattle.constraint_spec.specs.declared.Constraint.{Constraint}
@@ -20,7 +21,7 @@ then_next First Next a (Ok b) first next = record { value = a; first = first; ne
 then_next First Next a (Err fault) first next = inr record { value = a; first = first; next = next }
 
 -- all inputs were accepted
-pub all_taken : (map : FileMap) (sources : List (List ℕ)) (query_path constraints_path : List ℕ) (graph : DataGraph) (query : plain.Query) (constraints : List Constraint) (result : Result Report Fault)
+pub all_taken : (map : FileMap) (sources : DataFiles) (query_path constraints_path : List ℕ) (graph : DataGraph) (query : plain.Query) (constraints : List Constraint) (result : Result Report Fault)
     → GraphEnds map empty_building sources (Ok graph) → QueryEnds map query_path (Ok query) → ConstraintsEnd query map constraints_path (Ok constraints) → ReportTaken graph query constraints result
     → HereEnds map sources query_path constraints_path result
 all_taken map sources query_path constraints_path graph query constraints result g q c r =
@@ -29,7 +30,7 @@ all_taken map sources query_path constraints_path graph query constraints result
     (then_next (ConstraintsEnd query map constraints_path) (ReportTaken graph query) constraints result c r))
 
 -- a fault of the constraints, after data and a query
-pub constraints_fault : (map : FileMap) (sources : List (List ℕ)) (query_path constraints_path : List ℕ) (graph : DataGraph) (query : plain.Query) (fault : Fault)
+pub constraints_fault : (map : FileMap) (sources : DataFiles) (query_path constraints_path : List ℕ) (graph : DataGraph) (query : plain.Query) (fault : Fault)
     → GraphEnds map empty_building sources (Ok graph) → QueryEnds map query_path (Ok query) → ConstraintsEnd query map constraints_path (Err fault)
     → HereEnds map sources query_path constraints_path (Err fault)
 constraints_fault map sources query_path constraints_path graph query fault g q refused =

@@ -1,6 +1,7 @@
 -- The command `check --here`: whether the query's site over the data meets each of the constraints of a file.
 use Rattle.std.specs.Prelude.{ℕ, List, Result, Ok, Err, ⊤}
 use Rattle.edge_io.specs.Files.{FileMap}
+use Rattle.command_spec.specs.declared.DataFiles.{DataFiles}
 use Rattle.graph_spec.specs.DataGraph.{DataGraph}
 use Rattle.query_spec.specs.Query as plain
 use Rattle.site_spec.specs.Site.{scope_of}
@@ -24,7 +25,7 @@ ReportTaken graph query constraints (Err NoMemory) = ⊤
 ReportTaken graph query constraints (Err fault) = ⊥
 
 -- How the command ends: with the report of the file's constraints over the graph that all data files state.
-abbrev pub HereEnds : FileMap → (sources : List (List ℕ)) (query constraints : List ℕ)
+abbrev pub HereEnds : FileMap → (sources : DataFiles) (query constraints : List ℕ)
     → Result Report Fault → Type 0
 HereEnds map sources query_path constraints_path =
     Then (GraphEnds map empty_building sources)

@@ -7,6 +7,7 @@ ghost use Rattle.command_check.specs.Ends.{ReportTaken, HereEnds};
 
 use crate::constraint_file::load_constraints;
 use bindings::StoreAsker;
+use command_spec::DataFiles;
 use constraint_report::{Report, report_of};
 use constraint_spec::Constraint;
 use edge_io::Files;
@@ -40,7 +41,7 @@ fn report_over(
 pub fn check_here<F: Files>(
     alloc: Global,
     files: &mut F,
-    sources: &[Str],
+    sources: &DataFiles,
     query: &Str,
     constraints: &Str,
 ) -> Result<Report, Fault>

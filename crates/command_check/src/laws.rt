@@ -1,6 +1,7 @@
 // The laws of the command: the inputs decide its answer.
 ghost use Rattle.std.specs.Prelude.{◌≡◌, ℕ, List, Result};
 ghost use Rattle.edge_io.specs.Files.{FileMap};
+ghost use Rattle.command_spec.specs.declared.DataFiles.{DataFiles};
 ghost use Rattle.site_inputs.specs.declared.fault.Fault.{Fault};
 ghost use Rattle.site_inputs.specs.Runs.{IsDecided, Decides};
 ghost use Rattle.constraint_report.specs.declared.report.Report.{Report};
@@ -9,7 +10,7 @@ ghost use Rattle.command_check.specs.Ends.{HereEnds};
 
 /// The data, the query and the constraints decide the report.
 pub fn reports_are_decided()
-    ensures { (map : FileMap) (sources : List (List ℕ)) (query constraints : List ℕ)
+    ensures { (map : FileMap) (sources : DataFiles) (query constraints : List ℕ)
         → Decides (HereEnds map sources query constraints) }
 {}
 

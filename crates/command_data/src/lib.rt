@@ -26,7 +26,7 @@ pub fn data<F: Files>(alloc: Global, files: &mut F, command: &DataCommand) -> Re
     ensures cause { ReadsHaveCause (data_paths command.now.sources command.now.over)
         (F.failed_reads files.old) (F.failed_reads files.new) result }
 {
-    let data = load_data(alloc, files, command.sources.items(), &command.over)?;
+    let data = load_data(alloc, files, &command.sources, &command.over)?;
     let mut text = Vec::new(alloc);
     write_ddl(alloc, &data.graph, &mut text)?;
     Ok(Str::of(alloc, text)?)

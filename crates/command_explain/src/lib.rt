@@ -44,7 +44,7 @@ pub fn explain<F: Files>(
     ensures cause { ReadsHaveCause (explain_paths command.now)
         (F.failed_reads files.old) (F.failed_reads files.new) result }
 {
-    let graph = load_graph(alloc, files, command.sources.items())?;
+    let graph = load_graph(alloc, files, &command.sources)?;
     let query = load_query(alloc, files, &command.query)?;
     plans_over(alloc, graph, &query)
 }

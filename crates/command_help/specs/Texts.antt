@@ -35,6 +35,7 @@ page_usage =
     ++ codes "  ADDRESS          the address of the page, from its first slash on\n"
     ++ codes "  DATA             a data file: data text, CSV, JSON or BibTeX\n"
     ++ codes "  --over FILE      a first query, whose site over the data files is the data\n"
+    ++ codes "  --lenient        reads CSV and JSON by the lenient rules\n"
 
 -- that of `build`
 abbrev pub build_usage : List ℕ
@@ -46,6 +47,7 @@ build_usage =
     ++ codes "  DIR              the folder of the files\n"
     ++ codes "  DATA             a data file: data text, CSV, JSON or BibTeX\n"
     ++ codes "  --over FILE      a first query, whose site over the data files is the data\n"
+    ++ codes "  --lenient        reads CSV and JSON by the lenient rules\n"
 
 -- that of `data`
 abbrev pub data_usage : List ℕ
@@ -54,14 +56,16 @@ data_usage =
     ++ codes "Prints the data as one data text.\n\n"
     ++ codes "  DATA             a data file: data text, CSV, JSON or BibTeX\n"
     ++ codes "  --over FILE      a first query, whose site over the data files is the data\n"
+    ++ codes "  --lenient        reads CSV and JSON by the lenient rules\n"
 
 -- that of `explain`
 abbrev pub explain_usage : List ℕ
 explain_usage =
-    codes "usage: strudel explain QUERY DATA..\n\n"
+    codes "usage: strudel explain [--lenient] QUERY DATA..\n\n"
     ++ codes "Prints the plan of each block of the query over the data.\n\n"
     ++ codes "  QUERY            the file of the query\n"
     ++ codes "  DATA             a data file: data text, CSV, JSON or BibTeX\n"
+    ++ codes "  --lenient        reads CSV and JSON by the lenient rules\n"
 
 -- that of `schema`
 abbrev pub schema_usage : List ℕ
@@ -75,22 +79,24 @@ schema_usage =
 abbrev pub check_usage : List ℕ
 check_usage =
     codes "usage: strudel check QUERY CONSTRAINTS\n"
-    ++ codes "       strudel check --here QUERY CONSTRAINTS DATA..\n\n"
+    ++ codes "       strudel check --here [--lenient] QUERY CONSTRAINTS DATA..\n\n"
     ++ codes "Prints of each constraint whether it is proved for all data, and its certificate.\n"
     ++ codes "With --here: whether the site of these data meets it.\n\n"
     ++ codes "  QUERY            the file of the query\n"
     ++ codes "  CONSTRAINTS      the file of the constraints\n"
     ++ codes "  DATA             a data file: data text, CSV, JSON or BibTeX\n"
     ++ codes "  --here           says that the constraints are tested over these data\n"
+    ++ codes "  --lenient        reads CSV and JSON by the lenient rules\n"
 
 -- that of `lint`
 abbrev pub lint_usage : List ℕ
 lint_usage =
-    codes "usage: strudel lint QUERY TEMPLATES DATA..\n\n"
+    codes "usage: strudel lint [--lenient] QUERY TEMPLATES DATA..\n\n"
     ++ codes "Prints likely mistakes in the query and the templates, each with its place.\n\n"
     ++ codes "  QUERY            the file of the query\n"
     ++ codes "  TEMPLATES        the file of the templates\n"
     ++ codes "  DATA             a data file: data text, CSV, JSON or BibTeX\n"
+    ++ codes "  --lenient        reads CSV and JSON by the lenient rules\n"
 
 -- that of `serve`
 abbrev pub serve_usage : List ℕ
@@ -112,6 +118,7 @@ serve_usage =
     ++ codes "  --every N        connections after which it is read, 1 to 4294967296 (1)\n"
     ++ codes "  --over FILE      a first query, whose site over the data files is the data\n"
     ++ codes "  --whole          makes the whole site first and takes its pages from there\n"
+    ++ codes "  --lenient        reads CSV and JSON by the lenient rules\n"
 
 -- that of `replay`
 abbrev pub replay_usage : List ℕ
@@ -126,6 +133,7 @@ replay_usage =
     ++ codes "  --turns N        events that are taken, 1 to 4294967296 (4294967296)\n"
     ++ codes "  --cache N        pages that are kept, 1 to 4096 (256)\n"
     ++ codes "  --over FILE      a first query, whose site over the data files is the data\n"
+    ++ codes "  --lenient        reads CSV and JSON by the lenient rules\n"
 
 -- that of `trial`
 abbrev pub trial_usage : List ℕ

@@ -34,7 +34,8 @@ Prints the page of the site that has this address.\n\
 \x20 TEMPLATES        the file of the templates\n\
 \x20 ADDRESS          the address of the page, from its first slash on\n\
 \x20 DATA             a data file: data text, CSV, JSON or BibTeX\n\
-\x20 --over FILE      a first query, whose site over the data files is the data\n";
+\x20 --over FILE      a first query, whose site over the data files is the data\n\
+\x20 --lenient        reads CSV and JSON by the lenient rules\n";
 
 const BUILD_USAGE: &[u8] = b"\
 usage: strudel build [OPTION..] QUERY TEMPLATES DIR DATA..\n\
@@ -45,7 +46,8 @@ Writes every page of the site to its file, and prints how many there are.\n\
 \x20 TEMPLATES        the file of the templates\n\
 \x20 DIR              the folder of the files\n\
 \x20 DATA             a data file: data text, CSV, JSON or BibTeX\n\
-\x20 --over FILE      a first query, whose site over the data files is the data\n";
+\x20 --over FILE      a first query, whose site over the data files is the data\n\
+\x20 --lenient        reads CSV and JSON by the lenient rules\n";
 
 const DATA_USAGE: &[u8] = b"\
 usage: strudel data [OPTION..] DATA..\n\
@@ -53,15 +55,17 @@ usage: strudel data [OPTION..] DATA..\n\
 Prints the data as one data text.\n\
 \n\
 \x20 DATA             a data file: data text, CSV, JSON or BibTeX\n\
-\x20 --over FILE      a first query, whose site over the data files is the data\n";
+\x20 --over FILE      a first query, whose site over the data files is the data\n\
+\x20 --lenient        reads CSV and JSON by the lenient rules\n";
 
 const EXPLAIN_USAGE: &[u8] = b"\
-usage: strudel explain QUERY DATA..\n\
+usage: strudel explain [--lenient] QUERY DATA..\n\
 \n\
 Prints the plan of each block of the query over the data.\n\
 \n\
 \x20 QUERY            the file of the query\n\
-\x20 DATA             a data file: data text, CSV, JSON or BibTeX\n";
+\x20 DATA             a data file: data text, CSV, JSON or BibTeX\n\
+\x20 --lenient        reads CSV and JSON by the lenient rules\n";
 
 const SCHEMA_USAGE: &[u8] = b"\
 usage: strudel schema [--dot] QUERY\n\
@@ -73,7 +77,7 @@ Prints the functions and the links of the site.\n\
 
 const CHECK_USAGE: &[u8] = b"\
 usage: strudel check QUERY CONSTRAINTS\n\
-\x20      strudel check --here QUERY CONSTRAINTS DATA..\n\
+\x20      strudel check --here [--lenient] QUERY CONSTRAINTS DATA..\n\
 \n\
 Prints of each constraint whether it is proved for all data, and its certificate.\n\
 With --here: whether the site of these data meets it.\n\
@@ -81,16 +85,18 @@ With --here: whether the site of these data meets it.\n\
 \x20 QUERY            the file of the query\n\
 \x20 CONSTRAINTS      the file of the constraints\n\
 \x20 DATA             a data file: data text, CSV, JSON or BibTeX\n\
-\x20 --here           says that the constraints are tested over these data\n";
+\x20 --here           says that the constraints are tested over these data\n\
+\x20 --lenient        reads CSV and JSON by the lenient rules\n";
 
 const LINT_USAGE: &[u8] = b"\
-usage: strudel lint QUERY TEMPLATES DATA..\n\
+usage: strudel lint [--lenient] QUERY TEMPLATES DATA..\n\
 \n\
 Prints likely mistakes in the query and the templates, each with its place.\n\
 \n\
 \x20 QUERY            the file of the query\n\
 \x20 TEMPLATES        the file of the templates\n\
-\x20 DATA             a data file: data text, CSV, JSON or BibTeX\n";
+\x20 DATA             a data file: data text, CSV, JSON or BibTeX\n\
+\x20 --lenient        reads CSV and JSON by the lenient rules\n";
 
 const SERVE_USAGE: &[u8] = b"\
 usage: strudel serve [OPTION..] QUERY TEMPLATES DATA..\n\
@@ -110,7 +116,8 @@ Serves the pages of the site on 127.0.0.1 over HTTP.\n\
 \x20 --watch PATH     a file of data text that replaces the data when it has changed\n\
 \x20 --every N        connections after which it is read, 1 to 4294967296 (1)\n\
 \x20 --over FILE      a first query, whose site over the data files is the data\n\
-\x20 --whole          makes the whole site first and takes its pages from there\n";
+\x20 --whole          makes the whole site first and takes its pages from there\n\
+\x20 --lenient        reads CSV and JSON by the lenient rules\n";
 
 const REPLAY_USAGE: &[u8] = b"\
 usage: strudel replay [OPTION..] QUERY TEMPLATES SCRIPT DATA..\n\
@@ -124,7 +131,8 @@ Serves the pages of the site to the connections of a script, and prints the repl
 \x20 --requests N     replies of one connection, 1 to 4294967296 (1)\n\
 \x20 --turns N        events that are taken, 1 to 4294967296 (4294967296)\n\
 \x20 --cache N        pages that are kept, 1 to 4096 (256)\n\
-\x20 --over FILE      a first query, whose site over the data files is the data\n";
+\x20 --over FILE      a first query, whose site over the data files is the data\n\
+\x20 --lenient        reads CSV and JSON by the lenient rules\n";
 
 const TRIAL_USAGE: &[u8] = b"\
 usage: strudel trial N\n\

@@ -4,6 +4,7 @@ use Rattle.std.specs.Prelude.{IsTrue, Result, Ok, Err, Option}
 use Rattle.edge_io.specs.Files.{FileMap}
 use Rattle.edge_io.specs.Sink.{Gains}
 use Rattle.command_spec.specs.Limits.{text_limit}
+use Rattle.command_spec.specs.declared.DataFiles.{DataFiles}
 use Rattle.graph_spec.specs.DataGraph.{DataGraph}
 use Rattle.query_spec.specs.Query as plain
 use Rattle.tmpl.specs.Body.{TemplateFile}
@@ -35,7 +36,7 @@ module _ (graph : DataGraph) (query : plain.Query) (templates : TemplateFile) (t
   report_once one (Err NotFound) s t d e = absurd t
   report_once one (Err NoMemory) s t d e = absurd e
 
-module _ (map : FileMap) (sources : List (List ℕ)) (query_path templates_path : List ℕ) where
+module _ (map : FileMap) (sources : DataFiles) (query_path templates_path : List ℕ) where
   -- the parts of the command, from the last on
   abbrev pub Judged : DataGraph → List ℕ → plain.Query → List ℕ → TemplateFile → Result Report Fault → Type 0
   Judged graph query_bytes query template_bytes templates = LintTaken graph query templates (texts_of query_path query_bytes templates_path template_bytes)

@@ -4,6 +4,7 @@ use Rattle.std.specs.Prelude.{Result, Ok, Err}
 use Rattle.edge_io.specs.Files.{FileMap}
 use Rattle.edge_io.specs.Counts.{NoneFell}
 use Rattle.command_spec.specs.Limits.{text_limit}
+use Rattle.command_spec.specs.declared.DataFiles.{DataFiles}
 use Rattle.graph_spec.specs.DataGraph.{DataGraph}
 use Rattle.query_spec.specs.Query as plain
 use Rattle.tmpl.specs.Body.{TemplateFile}
@@ -28,7 +29,7 @@ judged_as graph query templates query_path q query_bytes templates_path t templa
     subst (λ (x : List ℕ). LintTaken graph query templates (texts_of query_path query_bytes templates_path x) result) other
     (subst (λ (x : List ℕ). LintTaken graph query templates (texts_of query_path x templates_path t) result) one h)
 
-module _ (map : FileMap) (sources : List (List ℕ)) (query_path templates_path : List ℕ) (graph : DataGraph) (is_graph : GraphEnds map empty_building sources (Ok graph)) where
+module _ (map : FileMap) (sources : DataFiles) (query_path templates_path : List ℕ) (graph : DataGraph) (is_graph : GraphEnds map empty_building sources (Ok graph)) where
   -- behind the data
   pub graph_next : (result : Result Report Fault) → WithGraph map sources query_path templates_path graph result → LintEnds map sources query_path templates_path result
   graph_next result next = then_next (GraphEnds map empty_building sources) (WithGraph map sources query_path templates_path) graph result is_graph next

@@ -3,6 +3,7 @@ use Rattle.std.specs.Prelude.{◌≡◌, ℕ, List, [], ◌++◌, Bool, ◌↔�
 use Rattle.std.specs.List.{flat_map}
 use Rattle.edge_io.specs.Files.{FileMap}
 use Rattle.command_spec.specs.Limits.{text_limit}
+use Rattle.command_spec.specs.declared.DataFiles.{DataFiles}
 use Rattle.graph_spec.specs.DataGraph.{DataGraph}
 use Rattle.query_spec.specs.Query as plain
 use Rattle.site_spec.specs.Site.{scope_of}
@@ -79,7 +80,7 @@ texts_of query_path query templates_path templates = record {
 
 -- How the command ends: the data, the query and the templates are read as a build reads them, and
 -- then the texts are judged.
-abbrev pub LintEnds : FileMap → (sources : List (List ℕ)) → (query templates : List ℕ)
+abbrev pub LintEnds : FileMap → (sources : DataFiles) → (query templates : List ℕ)
     → Result Report Fault → Type 0
 LintEnds map sources query_path templates_path =
     Then (GraphEnds map empty_building sources)

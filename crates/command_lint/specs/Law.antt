@@ -3,6 +3,7 @@ use Rattle.std.specs.Prelude.{◌≡◌, ◌↔◌, ℕ, List, [], ◌++◌, Boo
 use Rattle.edge_io.specs.Files.{FileMap}
 use Rattle.edge_io.specs.Sink.{Gains}
 use Rattle.command_spec.specs.Limits.{text_limit}
+use Rattle.command_spec.specs.declared.DataFiles.{DataFiles}
 use Rattle.graph_spec.specs.DataGraph.{DataGraph}
 use Rattle.query_spec.specs.Query as plain
 use Rattle.tmpl.specs.Body.{TemplateFile}
@@ -13,7 +14,7 @@ use Rattle.site_inputs.specs.Sources.{GraphEnds, empty_building}
 use Rattle.site_inputs.specs.Sites.{QueryTaken, TemplatesTaken}
 use Rattle.command_lint.specs.Ends.{SiteTexts, IsLintReport}
 
-module _ (map : FileMap) (sources : List (List ℕ)) (query_path templates_path : List ℕ) where
+module _ (map : FileMap) (sources : DataFiles) (query_path templates_path : List ℕ) where
   -- the files spell these data, this query and these templates, and these are the texts of the last two
   pub record AreInputs (graph : DataGraph) (query : plain.Query) (templates : TemplateFile)
       (texts : SiteTexts) : Type 0 where

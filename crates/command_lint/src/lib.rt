@@ -12,6 +12,7 @@ mod lines;
 mod texts;
 
 use crate::texts::{InputText, report_of};
+use command_spec::DataFiles;
 use constraint_report::Report;
 use edge_io::Files;
 pub use laws::reports_are_decided;
@@ -29,14 +30,14 @@ const TEXT_LIMIT: u64 = 1_048_576;
 pub fn lint<F: Files>(
     alloc: Global,
     files: &mut F,
-    sources: &[Str],
+    sources: &DataFiles,
     query_path: &Str,
     templates_path: &Str,
 ) -> Result<Report, Fault>
     ensures ends { ForSome (F.contents files.old) (λ map.
         LintEnds map sources.now query_path.now templates_path.now result) }
     ensures same { F.contents files.new ≡ F.contents files.old }
-    ensures cause { ReadsHaveCause (input_paths sources.now query_path.now templates_path.now)
+    ensures cause { ReadsHaveCause (input_paths sources.now.paths query_path.now templates_path.now)
         (F.failed_reads files.old) (F.failed_reads files.new) result }
     ensures writes { F.failed_writes files.new ≡ F.failed_writes files.old }
 {

@@ -96,7 +96,7 @@ pub fn page<F: Files>(alloc: Global, files: &mut F, command: &PageCommand) -> Re
     let inputs = load_inputs(
         alloc,
         files,
-        command.sources.items(),
+        &command.sources,
         &command.over,
         &command.query,
         &command.templates,

@@ -53,7 +53,7 @@ fn load_all<F: Files>(
     let site = load_inputs(
         alloc,
         files,
-        command.sources.items(),
+        &command.sources,
         &command.over,
         &command.query,
         &command.templates,

@@ -1,6 +1,6 @@
 -- How a run ends, from how its parts end.
 use Rattle.std.proofs.Common.{◌≡◌, ◌⊎◌, ℕ, List, [], ◌∷◌, inl, inr, refl, sym, subst, ◌∙◌}
-use Rattle.std.specs.Prelude.{Option, None, Some, Result, IfErr}
+use Rattle.std.specs.Prelude.{Bool, Option, None, Some, Result, IfErr}
 use Rattle.std.specs.Prelude as prelude
 use Rattle.std.specs.Option.{IsSomeAnd}
 use Rattle.edge_io.specs.Files.{FileMap}
@@ -10,6 +10,7 @@ use Rattle.run_report.specs.declared.status.Status.{Status}
 use Rattle.run_report.specs.declared.status.Status.TheVariants.{Ok, NotAllYes, Usage, Refused, ReadFault, WriteFault, WireFault, PageFault, NoMemory, NotFound, TurnsSpent}
 use Rattle.command_spec.specs.declared.Command.{Command}
 use Rattle.command_spec.specs.declared.Command.TheVariants.{Page, Build, Data, Explain, Schema, Check, CheckAll, Lint, Serve, Replay, Trial, Help, Version}
+use Rattle.command_spec.specs.declared.DataFiles.{DataFiles}
 use Rattle.command_spec.specs.declared.BuildCommand.{BuildCommand}
 use Rattle.command_spec.specs.declared.PageCommand.{PageCommand}
 use Rattle.command_spec.specs.declared.DataCommand.{DataCommand}
@@ -24,7 +25,7 @@ use Rattle.command_spec.specs.declared.ReplayCommand.{ReplayCommand}
 use Rattle.command_spec.specs.declared.TrialCommand.{TrialCommand}
 use Rattle.command_spec.specs.declared.HelpCommand.{HelpCommand}
 use Rattle.site_inputs.specs.Sites.{DataInputsEnd, InputsEnd}
-use Rattle.site_inputs.specs.Sources.{GraphEnds, empty_building}
+use Rattle.site_inputs.specs.Sources.{FilesEnd, GraphEnds, empty_building}
 use Rattle.sd_graph.specs.Statement.{Building}
 use Rattle.command_spec.specs.Inputs.{replay_paths}
 use Rattle.command_replay.specs.Scripts.{ScriptedEnd}
@@ -114,17 +115,17 @@ pub schema_read_rose : (command : Command) (c : SchemaCommand) (answer : Result 
 schema_read_rose command c answer old new before now status is h cause =
     subst (λ (d : Command). ReadRose (inputs_of_command d) before now status) (sym is) (text_read_rose (c.query ∷ []) answer old new before now status h cause)
 
-pub check_read_rose : (command : Command) (c : HereCommand) (sources : List (List ℕ)) (answer : Result Report Fault) (old new : Option (List ℕ)) (before now : List ℕ → ℕ) (status : Status) → command ≡ Check c → sources ≡ c.sources
-    → ReportEnds (λ a. a ≡ answer) old new status → ReadsHaveCause (here_paths sources c.query c.constraints) before now answer → ReadRose (inputs_of_command command) before now status
-check_read_rose command c sources answer old new before now status is same h cause =
+pub check_read_rose : (command : Command) (c : HereCommand) (answer : Result Report Fault) (old new : Option (List ℕ)) (before now : List ℕ → ℕ) (status : Status) → command ≡ Check c
+    → ReportEnds (λ a. a ≡ answer) old new status → ReadsHaveCause (here_paths c.sources c.query c.constraints) before now answer → ReadRose (inputs_of_command command) before now status
+check_read_rose command c answer old new before now status is h cause =
     subst (λ (d : Command). ReadRose (inputs_of_command d) before now status) (sym is)
-    (report_read_rose (here_paths c.sources c.query c.constraints) answer old new before now status h (subst (λ (s : List (List ℕ)). ReadsHaveCause (here_paths s c.query c.constraints) before now answer) same cause))
+    (report_read_rose (here_paths c.sources c.query c.constraints) answer old new before now status h cause)
 
-pub lint_read_rose : (command : Command) (c : LintCommand) (sources : List (List ℕ)) (answer : Result Report Fault) (old new : Option (List ℕ)) (before now : List ℕ → ℕ) (status : Status) → command ≡ Lint c → sources ≡ c.sources
-    → ReportEnds (λ a. a ≡ answer) old new status → ReadsHaveCause (input_paths sources c.query c.templates) before now answer → ReadRose (inputs_of_command command) before now status
-lint_read_rose command c sources answer old new before now status is same h cause =
+pub lint_read_rose : (command : Command) (c : LintCommand) (answer : Result Report Fault) (old new : Option (List ℕ)) (before now : List ℕ → ℕ) (status : Status) → command ≡ Lint c
+    → ReportEnds (λ a. a ≡ answer) old new status → ReadsHaveCause (input_paths c.sources.paths c.query c.templates) before now answer → ReadRose (inputs_of_command command) before now status
+lint_read_rose command c answer old new before now status is h cause =
     subst (λ (d : Command). ReadRose (inputs_of_command d) before now status) (sym is)
-    (report_read_rose (input_paths c.sources c.query c.templates) answer old new before now status h (subst (λ (s : List (List ℕ)). ReadsHaveCause (input_paths s c.query c.templates) before now answer) same cause))
+    (report_read_rose (input_paths c.sources.paths c.query c.templates) answer old new before now status h cause)
 
 pub check_all_read_rose : (command : Command) (c : CheckAllCommand) (answer : Result Report Fault) (old new : Option (List ℕ)) (before now : List ℕ → ℕ) (status : Status) → command ≡ CheckAll c
     → ReportEnds (λ a. a ≡ answer) old new status → ReadsHaveCause (check_paths c.query c.constraints) before now answer → ReadRose (inputs_of_command command) before now status
@@ -188,15 +189,18 @@ pub given_read_rose : (given : Option Command) (command : Command) (before now :
 given_read_rose given command before now status is h = subst (λ (g : Option Command). ReadRose (given_inputs g) before now status) (sym is) h
 
 -- out of memory before anything was done
-graph_no_memory : (map : FileMap) (b : Building) (sources : List (List ℕ)) → GraphEnds map b sources (prelude.Err fault.NoMemory)
-graph_no_memory map b [] = inr refl
-graph_no_memory map b (path ∷ paths) = inl (inl tt)
+files_no_memory : (lenient : Bool) (map : FileMap) (b : Building) (paths : List (List ℕ)) → FilesEnd lenient map b paths (prelude.Err fault.NoMemory)
+files_no_memory lenient map b [] = inr refl
+files_no_memory lenient map b (path ∷ paths) = inl (inl tt)
 
-data_no_memory : (map : FileMap) (sources : List (List ℕ)) (over : Option (List ℕ)) → DataInputsEnd map sources over (prelude.Err fault.NoMemory)
+graph_no_memory : (map : FileMap) (b : Building) (sources : DataFiles) → GraphEnds map b sources (prelude.Err fault.NoMemory)
+graph_no_memory map b sources = files_no_memory sources.lenient map b sources.paths
+
+data_no_memory : (map : FileMap) (sources : DataFiles) (over : Option (List ℕ)) → DataInputsEnd map sources over (prelude.Err fault.NoMemory)
 data_no_memory map sources None = inl (graph_no_memory map empty_building sources)
 data_no_memory map sources (Some path) = inl (graph_no_memory map empty_building sources)
 
-inputs_no_memory : (map : FileMap) (sources : List (List ℕ)) (over : Option (List ℕ)) (query templates : List ℕ) → InputsEnd map sources over query templates (prelude.Err fault.NoMemory)
+inputs_no_memory : (map : FileMap) (sources : DataFiles) (over : Option (List ℕ)) (query templates : List ℕ) → InputsEnd map sources over query templates (prelude.Err fault.NoMemory)
 inputs_no_memory map sources over query templates = inl (data_no_memory map sources over)
 
 replay_no_memory : (command : ReplayCommand) (before after : Host) → after.output ≡ before.output → ReplayEnds command before after NoMemory
@@ -388,11 +392,10 @@ module _ (reads reads_now writes writes_now : List ℕ → ℕ) (output output_n
       → SchemaEnds map c answer → TextEnds (λ a. a ≡ answer) output output_now status → IsSomeAnd n (λ now. Ends command (Before map) (After now) status)
   schema_told o n map command c answer status same told is ends put = stays o n map command (Schema c) status same told is (answered (SchemaEnds map c) answer status ends put)
 
-  pub check_told : (o n : Option FileMap) (map : FileMap) (command : Command) (c : HereCommand) (sources : List (List ℕ)) (answer : Result Report Fault) (status : Status) → n ≡ o → o ≡ Some map → command ≡ Check c → sources ≡ c.sources
-      → HereEnds map sources c.query c.constraints answer → ReportEnds (λ a. a ≡ answer) output output_now status → IsSomeAnd n (λ now. Ends command (Before map) (After now) status)
-  check_told o n map command c sources answer status same told is given ends put =
-      let its : CheckAnswers map c answer = subst (λ (s : List (List ℕ)). HereEnds map s c.query c.constraints answer) given ends in
-      stays o n map command (Check c) status same told is (report_as (λ a. a ≡ answer) (CheckAnswers map c) output output_now status (λ a e. subst (CheckAnswers map c) (sym e) its) put)
+  pub check_told : (o n : Option FileMap) (map : FileMap) (command : Command) (c : HereCommand) (answer : Result Report Fault) (status : Status) → n ≡ o → o ≡ Some map → command ≡ Check c
+      → HereEnds map c.sources c.query c.constraints answer → ReportEnds (λ a. a ≡ answer) output output_now status → IsSomeAnd n (λ now. Ends command (Before map) (After now) status)
+  check_told o n map command c answer status same told is ends put =
+      stays o n map command (Check c) status same told is (report_as (λ a. a ≡ answer) (CheckAnswers map c) output output_now status (λ a e. subst (CheckAnswers map c) (sym e) ends) put)
 
   pub check_all_told : (o n : Option FileMap) (map : FileMap) (command : Command) (c : CheckAllCommand) (answer : Result Report Fault) (status : Status) → n ≡ o → o ≡ Some map → command ≡ CheckAll c
       → CheckEnds map c.query c.constraints answer → ReportEnds (λ a. a ≡ answer) output output_now status → IsSomeAnd n (λ now. Ends command (Before map) (After now) status)
@@ -400,11 +403,10 @@ module _ (reads reads_now writes writes_now : List ℕ → ℕ) (output output_n
       stays o n map command (CheckAll c) status same told is
       (report_as (λ a. a ≡ answer) (CheckEnds map c.query c.constraints) output output_now status (λ a e. subst (CheckEnds map c.query c.constraints) (sym e) ends) put)
 
-  pub lint_told : (o n : Option FileMap) (map : FileMap) (command : Command) (c : LintCommand) (sources : List (List ℕ)) (answer : Result Report Fault) (status : Status) → n ≡ o → o ≡ Some map → command ≡ Lint c → sources ≡ c.sources
-      → LintEnds map sources c.query c.templates answer → ReportEnds (λ a. a ≡ answer) output output_now status → IsSomeAnd n (λ now. Ends command (Before map) (After now) status)
-  lint_told o n map command c sources answer status same told is given ends put =
-      let its : LintAnswers map c answer = subst (λ (s : List (List ℕ)). LintEnds map s c.query c.templates answer) given ends in
-      stays o n map command (Lint c) status same told is (report_as (λ a. a ≡ answer) (LintAnswers map c) output output_now status (λ a e. subst (LintAnswers map c) (sym e) its) put)
+  pub lint_told : (o n : Option FileMap) (map : FileMap) (command : Command) (c : LintCommand) (answer : Result Report Fault) (status : Status) → n ≡ o → o ≡ Some map → command ≡ Lint c
+      → LintEnds map c.sources c.query c.templates answer → ReportEnds (λ a. a ≡ answer) output output_now status → IsSomeAnd n (λ now. Ends command (Before map) (After now) status)
+  lint_told o n map command c answer status same told is ends put =
+      stays o n map command (Lint c) status same told is (report_as (λ a. a ≡ answer) (LintAnswers map c) output output_now status (λ a e. subst (LintAnswers map c) (sym e) ends) put)
 
   pub trial_told : (o n : Option FileMap) (map : FileMap) (command : Command) (c : TrialCommand) (answer : Result (List ℕ) Fault) (status : Status) → n ≡ o → o ≡ Some map → command ≡ Trial c
       → TrialEnds c answer → TextEnds (λ a. a ≡ answer) output output_now status → IsSomeAnd n (λ now. Ends command (Before map) (After now) status)

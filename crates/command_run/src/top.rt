@@ -6,7 +6,6 @@ ghost use Rattle.edge_io.specs.Sink.{Gains, GainsPart};
 ghost use Rattle.command_spec.specs.Words.{command};
 ghost use Rattle.command_spec.specs.Ranges.{IsInRange};
 ghost use Rattle.run_report.specs.Report.{line};
-ghost use Rattle.site_inputs.specs.Runs.{ReadsHaveCause};
 ghost use Rattle.site_inputs.specs.Statuses.{ReadRose, IsSilent};
 ghost use Rattle.site_inputs.specs.Outside.{host, outside};
 ghost use Rattle.command_run.specs.Complete.{IsComplete};
@@ -124,8 +123,13 @@ fn run_command<F: Files, O: Sink, W: Wire>(
             put_answer(answer, out)
         }
         Command::Check(command) => {
-            let sources = command.sources.items();
-            let answer = check_here(alloc, files, sources, &command.query, &command.constraints);
+            let answer = check_here(
+                alloc,
+                files,
+                &command.sources,
+                &command.query,
+                &command.constraints,
+            );
             put_report(answer, out)
         }
         Command::CheckAll(command) => {
@@ -133,8 +137,13 @@ fn run_command<F: Files, O: Sink, W: Wire>(
             put_report(answer, out)
         }
         Command::Lint(command) => {
-            let sources = command.sources.items();
-            let answer = lint(alloc, files, sources, &command.query, &command.templates);
+            let answer = lint(
+                alloc,
+                files,
+                &command.sources,
+                &command.query,
+                &command.templates,
+            );
             put_report(answer, out)
         }
         Command::Trial(command) => {

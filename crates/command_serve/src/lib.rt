@@ -240,7 +240,7 @@ pub fn serve<F: Files, O: Sink, W: Wire>(
     match load_inputs(
         alloc,
         files,
-        command.sources.items(),
+        &command.sources,
         &command.over,
         &command.query,
         &command.templates,

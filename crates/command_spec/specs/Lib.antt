@@ -3,6 +3,7 @@ pub mod Options
 pub mod Values
 pub mod Numbers
 pub mod Names
+pub mod DataFiles
 pub mod Words
 pub mod Ranges
 pub mod Inputs

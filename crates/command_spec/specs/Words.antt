@@ -16,6 +16,7 @@ use Rattle.command_spec.specs.declared.WatchOptions.{WatchOptions}
 use Rattle.command_spec.specs.declared.Command.{Command}
 use Rattle.command_spec.specs.declared.Command.TheVariants.{Page, Build, Data, Explain, Schema, Check, CheckAll}
 use Rattle.command_spec.specs.declared.Command.TheVariants.{Lint, Serve, Replay, Trial, Help, Version}
+use Rattle.command_spec.specs.DataFiles.{data_files, read_leniently}
 use Rattle.command_spec.specs.Names.{name_of}
 use Rattle.command_spec.specs.Options.{Parts, Setting, is_empty, parts_of}
 use Rattle.command_spec.specs.Numbers.{number, number_of, one_number}
@@ -37,7 +38,7 @@ page_command over (query ∷ templates ∷ address ∷ source ∷ sources) =
       query = query;
       templates = templates;
       address = address;
-      sources = source ∷ sources;
+      sources = data_files (source ∷ sources);
       over = over;
     }))
 page_command over words = None
@@ -49,7 +50,7 @@ build_command over (query ∷ templates ∷ folder ∷ source ∷ sources) =
       query = query;
       templates = templates;
       folder = folder;
-      sources = source ∷ sources;
+      sources = data_files (source ∷ sources);
       over = over;
     }))
 build_command over words = None
@@ -57,13 +58,13 @@ build_command over words = None
 -- the words after `data`
 abbrev pub data_command : Option (List ℕ) → List (List ℕ) → Option Command
 data_command over (source ∷ sources) =
-    Some (Data (record { sources = source ∷ sources; over = over }))
+    Some (Data (record { sources = data_files (source ∷ sources); over = over }))
 data_command over [] = None
 
 -- the words after `explain`
 abbrev pub explain_command : List (List ℕ) → Option Command
 explain_command (query ∷ source ∷ sources) =
-    Some (Explain (record { query = query; sources = source ∷ sources }))
+    Some (Explain (record { query = query; sources = data_files (source ∷ sources) }))
 explain_command words = None
 
 -- the words after `schema`, its flag aside
@@ -80,7 +81,7 @@ check_command (query ∷ constraints ∷ source ∷ sources) =
     Some (Check (record {
       query = query;
       constraints = constraints;
-      sources = source ∷ sources;
+      sources = data_files (source ∷ sources);
     }))
 check_command words = None
 
@@ -90,7 +91,7 @@ lint_command (query ∷ templates ∷ source ∷ sources) =
     Some (Lint (record {
       query = query;
       templates = templates;
-      sources = source ∷ sources;
+      sources = data_files (source ∷ sources);
     }))
 lint_command words = None
 
@@ -193,7 +194,7 @@ serve_command options watch over (query ∷ templates ∷ source ∷ sources) =
     Some (Serve (record {
       query = query;
       templates = templates;
-      sources = source ∷ sources;
+      sources = data_files (source ∷ sources);
       over = over;
       options = options;
       watch = watch;
@@ -207,7 +208,7 @@ replay_command limits over (query ∷ templates ∷ script ∷ source ∷ source
       query = query;
       templates = templates;
       script = script;
-      sources = source ∷ sources;
+      sources = data_files (source ∷ sources);
       over = over;
       limits = limits;
     }))
@@ -271,7 +272,7 @@ abbrev pub word_command : List (List ℕ) → Option Command
 word_command [] = None
 word_command (name ∷ words) = named_command name (parts_of None words)
 
--- ---- flags: options without a value
+-- ---- flags of one command: options without a value
 
 -- the flag of the command of this name, if it has one
 abbrev pub flag_of : List ℕ → Option (List ℕ)
@@ -311,11 +312,36 @@ abbrev pub marked_command : List ℕ → List (List ℕ) → Option (List ℕ) �
 marked_command name words None = word_command (name ∷ words)
 marked_command name words (Some flag) = placed_command name words (flag_place flag words)
 
--- what the words say, each of which is a text
+-- what the words say, where none is `--lenient`
 abbrev pub flagged_command : List (List ℕ) → Option Command
 flagged_command [] = None
 flagged_command (name ∷ words) = marked_command name words (flag_of name)
 
+-- ---- `--lenient`: the flag of every command that reads data
+
+-- the command with its data read leniently; none where it reads no data
+abbrev pub leniently : Command → Option Command
+leniently (Page c) = Some (Page (record c { sources = read_leniently c.sources }))
+leniently (Build c) = Some (Build (record c { sources = read_leniently c.sources }))
+leniently (Data c) = Some (Data (record c { sources = read_leniently c.sources }))
+leniently (Explain c) = Some (Explain (record c { sources = read_leniently c.sources }))
+leniently (Check c) = Some (Check (record c { sources = read_leniently c.sources }))
+leniently (Lint c) = Some (Lint (record c { sources = read_leniently c.sources }))
+leniently (Serve c) = Some (Serve (record c { sources = read_leniently c.sources }))
+leniently (Replay c) = Some (Replay (record c { sources = read_leniently c.sources }))
+leniently command = None
+
+-- the command of this name, where `--lenient` stands at this place among the words after the name
+abbrev pub lenient_at : List ℕ → List (List ℕ) → Option ℕ → Option Command
+lenient_at name words None = flagged_command (name ∷ words)
+lenient_at name words (Some at) =
+    option_and_then leniently (flagged_command (name ∷ (take at words ++ drop (at + 1) words)))
+
+-- what the words say, each of which is a text
+abbrev pub given_command : List (List ℕ) → Option Command
+given_command [] = None
+given_command (name ∷ words) = lenient_at name words (flag_place (codes "--lenient") words)
+
 -- the command that the words give
 abbrev pub command : List (List ℕ) → Option Command
-command words = if list_all is_word words then flagged_command words else None
+command words = if list_all is_word words then given_command words else None

@@ -2,6 +2,7 @@
 #![tactic(auto)]
 
 ghost use Rattle.std.specs.Prelude.{◌≡◌, IfOk, map};
+ghost use Rattle.command_spec.specs.DataFiles.{data_files, read_leniently};
 
 mod names;
 mod numbers;
@@ -48,41 +49,71 @@ impl Paths {
     }
 }
 
-/// `page [--over FILE] QUERY TEMPLATES ADDRESS DATA..`: one page is printed.
+/// Data files, in the order of the words.
+#[derive(Debug, Drop)]
+pub struct DataFiles {
+    pub paths: Paths,
+    /// Whether CSV and JSON are read leniently.
+    pub lenient: bool,
+}
+
+impl DataFiles {
+    /// Data files at copies of these paths, read by the strict rules.
+    pub fn of(alloc: Global, paths: &[&str]) -> Result<DataFiles, NoMemory>
+        ensures { IfOk result (λ files. files ≡ data_files (map (λ path. path.now) paths.now)) }
+    {
+        Ok(DataFiles {
+            paths: Paths::of(alloc, paths)?,
+            lenient: false,
+        })
+    }
+
+    /// The same files, with CSV and JSON read leniently.
+    pub fn leniently(self) -> DataFiles
+        ensures { result ≡ read_leniently self }
+    {
+        DataFiles {
+            lenient: true,
+            ..self
+        }
+    }
+}
+
+/// `page [--lenient] [--over FILE] QUERY TEMPLATES ADDRESS DATA..`: one page is printed.
 #[derive(Debug, Drop)]
 pub struct PageCommand {
     pub query: Str,
     pub templates: Str,
     pub address: Str,
-    pub sources: Paths,
+    pub sources: DataFiles,
     /// The file of the first query, if there is one: its site over the data files is the data.
     pub over: Option<Str>,
 }
 
-/// `build [--over FILE] QUERY TEMPLATES DIR DATA..`: the whole site is written to files under a folder.
+/// `build [--lenient] [--over FILE] QUERY TEMPLATES DIR DATA..`: the whole site is written to files under a folder.
 #[derive(Debug, Drop)]
 pub struct BuildCommand {
     pub query: Str,
     pub templates: Str,
     pub folder: Str,
-    pub sources: Paths,
+    pub sources: DataFiles,
     /// The file of the first query, as for `page`.
     pub over: Option<Str>,
 }
 
-/// `data [--over FILE] DATA..`: the data are printed, the union of the data files or a first query's site over it.
+/// `data [--lenient] [--over FILE] DATA..`: the data are printed, the union of the data files or a first query's site over it.
 #[derive(Debug, Drop)]
 pub struct DataCommand {
-    pub sources: Paths,
+    pub sources: DataFiles,
     /// The file of the first query, as for `page`.
     pub over: Option<Str>,
 }
 
-/// `explain QUERY DATA..`: the plan of each block of the query over the data is printed.
+/// `explain [--lenient] QUERY DATA..`: the plan of each block of the query over the data is printed.
 #[derive(Debug, Drop)]
 pub struct ExplainCommand {
     pub query: Str,
-    pub sources: Paths,
+    pub sources: DataFiles,
 }
 
 /// `schema [--dot] QUERY`: the schema of the site is printed, or a picture of it.
@@ -93,13 +124,13 @@ pub struct SchemaCommand {
     pub dot: bool,
 }
 
-/// `check --here QUERY CONSTRAINTS DATA..`: the constraints of a file are tested in the query's site over the data.
+/// `check --here [--lenient] QUERY CONSTRAINTS DATA..`: the constraints of a file are tested in the query's site over the data.
 #[derive(Debug, Drop)]
 pub struct HereCommand {
     pub query: Str,
     /// The file of the constraints.
     pub constraints: Str,
-    pub sources: Paths,
+    pub sources: DataFiles,
 }
 
 /// `check QUERY CONSTRAINTS`: the constraints of a file are proved of the query's site over every data graph.
@@ -110,12 +141,12 @@ pub struct CheckAllCommand {
     pub constraints: Str,
 }
 
-/// `lint QUERY TEMPLATES DATA..`: what the query and the templates ask for, and the data don't have, is printed.
+/// `lint [--lenient] QUERY TEMPLATES DATA..`: what the query and the templates ask for, and the data don't have, is printed.
 #[derive(Debug, Drop)]
 pub struct LintCommand {
     pub query: Str,
     pub templates: Str,
-    pub sources: Paths,
+    pub sources: DataFiles,
 }
 
 /// The limits of a run over connections.
@@ -159,12 +190,12 @@ pub struct WatchOptions {
     pub every: u64,
 }
 
-/// `serve [--over FILE] [--whole] QUERY TEMPLATES DATA..`: pages are served over HTTP.
+/// `serve [--lenient] [--over FILE] [--whole] QUERY TEMPLATES DATA..`: pages are served over HTTP.
 #[derive(Debug, Drop)]
 pub struct ServeCommand {
     pub query: Str,
     pub templates: Str,
-    pub sources: Paths,
+    pub sources: DataFiles,
     /// The file of the first query, as for `page`.
     pub over: Option<Str>,
     pub options: ServeOptions,
@@ -172,13 +203,13 @@ pub struct ServeCommand {
     pub watch: Option<WatchOptions>,
 }
 
-/// `replay [--over FILE] QUERY TEMPLATES SCRIPT DATA..`: the same over the events of a script.
+/// `replay [--lenient] [--over FILE] QUERY TEMPLATES SCRIPT DATA..`: the same over the events of a script.
 #[derive(Debug, Drop)]
 pub struct ReplayCommand {
     pub query: Str,
     pub templates: Str,
     pub script: Str,
-    pub sources: Paths,
+    pub sources: DataFiles,
     /// The file of the first query, as for `page`.
     pub over: Option<Str>,
     pub limits: RunLimits,

@@ -15,7 +15,8 @@ use Rattle.command_words.proofs.FlagWords.{words_but}
 same_words : (given : List Text) → list_all is_word given ≡ true → parsed.command given ≡ word_command given
 same_words given all = by_words given (are_words given all)
 
-cut : (x : Text) (xs : List Text) (at : ℕ) → take (at + 1) (x ∷ xs) ++ drop (at + 1 + 1) (x ∷ xs) ≡ x ∷ (take at xs ++ drop (suc at) xs)
+-- the words but the one at this place behind the name
+pub cut : (x : Text) (xs : List Text) (at : ℕ) → take (at + 1) (x ∷ xs) ++ drop (at + 1 + 1) (x ∷ xs) ≡ x ∷ (take at xs ++ drop (suc at) xs)
 cut x xs at =
     let next : at + 1 ≡ suc at = omega arith in
     let after : at + 1 + 1 ≡ suc (suc at) = omega arith in

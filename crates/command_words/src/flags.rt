@@ -5,9 +5,15 @@ ghost use Rattle.clap.specs.Walk.{texts};
 ghost use Rattle.command_spec.specs.Ranges.{IsInRange};
 ghost use Rattle.command_spec.specs.Words as specs;
 
-use command_spec::{Command, SchemaCommand, ServeCommand, ServeOptions};
+use command_spec::{
+    BuildCommand, Command, DataCommand, ExplainCommand, HereCommand, LintCommand, PageCommand,
+    ReplayCommand, SchemaCommand, ServeCommand, ServeOptions,
+};
 use sd_value::NoMemory;
 use std::alloc::Global;
+
+/// The flag of every command that reads data.
+pub const LENIENT: &str = "--lenient";
 
 /// The flag of the command of this name, if it has one.
 pub fn flag_of(name: &str) -> Option<&'static str>
@@ -92,6 +98,65 @@ pub fn marked(set: bool, given: Option<Command>) -> Option<Command>
 {
     match given {
         Some(command) => with_flag(set, command),
+        None => None,
+    }
+}
+
+/// The command with its data read leniently; none where it reads no data.
+fn leniently(command: Command) -> Option<Command>
+    requires { IsInRange command }
+    ensures exact { result ≡ specs.leniently command }
+    ensures ranges { IfSome result IsInRange }
+{
+    match command {
+        Command::Page(command) => Some(Command::Page(PageCommand {
+            sources: command.sources.leniently(),
+            ..command
+        })),
+        Command::Build(command) => Some(Command::Build(BuildCommand {
+            sources: command.sources.leniently(),
+            ..command
+        })),
+        Command::Data(command) => Some(Command::Data(DataCommand {
+            sources: command.sources.leniently(),
+            ..command
+        })),
+        Command::Explain(command) => Some(Command::Explain(ExplainCommand {
+            sources: command.sources.leniently(),
+            ..command
+        })),
+        Command::Check(command) => Some(Command::Check(HereCommand {
+            sources: command.sources.leniently(),
+            ..command
+        })),
+        Command::Lint(command) => Some(Command::Lint(LintCommand {
+            sources: command.sources.leniently(),
+            ..command
+        })),
+        Command::Serve(command) => Some(Command::Serve(ServeCommand {
+            sources: command.sources.leniently(),
+            ..command
+        })),
+        Command::Replay(command) => Some(Command::Replay(ReplayCommand {
+            sources: command.sources.leniently(),
+            ..command
+        })),
+        Command::Schema(_)
+        | Command::CheckAll(_)
+        | Command::Trial(_)
+        | Command::Help(_)
+        | Command::Version => None,
+    }
+}
+
+/// What was given, with its data read leniently.
+pub fn read_leniently(given: Option<Command>) -> Option<Command>
+    requires { IfSome given IsInRange }
+    ensures exact { result ≡ option_and_then specs.leniently given }
+    ensures ranges { IfSome result IsInRange }
+{
+    match given {
+        Some(command) => leniently(command),
         None => None,
     }
 }

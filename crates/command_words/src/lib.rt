@@ -19,12 +19,12 @@ mod program;
 use clap::error::ErrorKind;
 use clap::{ArgMatches, Error};
 use command_spec::{
-    BuildCommand, CheckAllCommand, Command, CommandName, DataCommand, ExplainCommand, HelpCommand,
-    HereCommand, LintCommand, NumberOption, PageCommand, PathOption, Paths, ReplayCommand,
+    BuildCommand, CheckAllCommand, Command, CommandName, DataCommand, DataFiles, ExplainCommand,
+    HelpCommand, HereCommand, LintCommand, NumberOption, PageCommand, PathOption, ReplayCommand,
     RunLimits, SchemaCommand, ServeCommand, ServeOptions, ServeWaits, TrialCommand, ValueOption,
     WatchOptions,
 };
-use flags::{flag_of, flag_place, marked, without};
+use flags::{LENIENT, flag_of, flag_place, marked, read_leniently, without};
 use numbers::{number, number_of, text_in};
 use program::{WORDS, program};
 use sd_value::{NoMemory, Str};
@@ -52,7 +52,7 @@ fn page_command(
         query: Str::new(alloc, query.as_bytes())?,
         templates: Str::new(alloc, templates.as_bytes())?,
         address: Str::new(alloc, address.as_bytes())?,
-        sources: Paths::of(alloc, sources)?,
+        sources: DataFiles::of(alloc, sources)?,
         over,
     })))
 }
@@ -75,7 +75,7 @@ fn build_command(
         query: Str::new(alloc, query.as_bytes())?,
         templates: Str::new(alloc, templates.as_bytes())?,
         folder: Str::new(alloc, folder.as_bytes())?,
-        sources: Paths::of(alloc, sources)?,
+        sources: DataFiles::of(alloc, sources)?,
         over,
     })))
 }
@@ -92,7 +92,7 @@ fn data_command(
         return Ok(None);
     }
     Ok(Some(Command::Data(DataCommand {
-        sources: Paths::of(alloc, words)?,
+        sources: DataFiles::of(alloc, words)?,
         over,
     })))
 }
@@ -109,7 +109,7 @@ fn explain_command(alloc: Global, words: &[&str]) -> Result<Option<Command>, NoM
     }
     Ok(Some(Command::Explain(ExplainCommand {
         query: Str::new(alloc, query.as_bytes())?,
-        sources: Paths::of(alloc, sources)?,
+        sources: DataFiles::of(alloc, sources)?,
     })))
 }
 
@@ -142,7 +142,7 @@ fn check_command(alloc: Global, words: &[&str]) -> Result<Option<Command>, NoMem
     Ok(Some(Command::Check(HereCommand {
         query: Str::new(alloc, query.as_bytes())?,
         constraints: Str::new(alloc, constraints.as_bytes())?,
-        sources: Paths::of(alloc, sources)?,
+        sources: DataFiles::of(alloc, sources)?,
     })))
 }
 
@@ -159,7 +159,7 @@ fn lint_command(alloc: Global, words: &[&str]) -> Result<Option<Command>, NoMemo
     Ok(Some(Command::Lint(LintCommand {
         query: Str::new(alloc, query.as_bytes())?,
         templates: Str::new(alloc, templates.as_bytes())?,
-        sources: Paths::of(alloc, sources)?,
+        sources: DataFiles::of(alloc, sources)?,
     })))
 }
 
@@ -304,7 +304,7 @@ fn serve_command(
     Ok(Some(Command::Serve(ServeCommand {
         query: Str::new(alloc, query.as_bytes())?,
         templates: Str::new(alloc, templates.as_bytes())?,
-        sources: Paths::of(alloc, sources)?,
+        sources: DataFiles::of(alloc, sources)?,
         over,
         options,
         watch,
@@ -332,7 +332,7 @@ fn replay_command(
         query: Str::new(alloc, query.as_bytes())?,
         templates: Str::new(alloc, templates.as_bytes())?,
         script: Str::new(alloc, script.as_bytes())?,
-        sources: Paths::of(alloc, sources)?,
+        sources: DataFiles::of(alloc, sources)?,
         over,
         limits,
     })))
@@ -465,7 +465,8 @@ fn text_command(alloc: Global, words: &[&str]) -> Result<Option<Command>, NoMemo
     }
 }
 
-/// The command that these words give, or none: its flag is taken out before `clap` reads the other words.
+/// The command that these words give, or none, where none is `--lenient`: its flag is taken out before `clap` reads the
+/// other words.
 fn flagged_command(alloc: Global, words: &[&str]) -> Result<Option<Command>, NoMemory>
     requires { list_all specs.is_word (texts words.now) ≡ true }
     ensures exact { IfOk result (λ given. given ≡ specs.flagged_command (texts words.now)) }
@@ -486,6 +487,25 @@ fn flagged_command(alloc: Global, words: &[&str]) -> Result<Option<Command>, NoM
             let rest = without(alloc, words, at + 1)?;
             let given = text_command(alloc, &rest)?;
             Ok(marked(true, given))
+        }
+    }
+}
+
+/// The command that these words give, or none: `--lenient` is taken out before the command's own flag.
+fn given_command(alloc: Global, words: &[&str]) -> Result<Option<Command>, NoMemory>
+    requires { list_all specs.is_word (texts words.now) ≡ true }
+    ensures exact { IfOk result (λ given. given ≡ specs.given_command (texts words.now)) }
+    ensures ranges { IfOk result (λ given. IfSome given IsInRange) }
+{
+    let [_, later @ ..] = words else {
+        return Ok(None);
+    };
+    match flag_place(LENIENT, later) {
+        None => flagged_command(alloc, words),
+        Some(at) => {
+            let rest = without(alloc, words, at + 1)?;
+            let given = flagged_command(alloc, &rest)?;
+            Ok(read_leniently(given))
         }
     }
 }
@@ -530,14 +550,14 @@ fn texts_of<'a>(alloc: Global, words: &'a [Str]) -> Result<Option<Vec<&'a str>>,
 /// with a dash are options: `--name=value`, or `--name` with the next word as its value, which is no option itself. The
 /// first `--` is dropped, and the words behind it are no options. Each option is one of the command's, occurs at most
 /// once, and has a number of 1 to 10 digits within its range, but for `--over` and `--watch`, whose values are paths;
-/// `--every` doesn't stand without `--watch`. `--dot` of `schema`, `--whole` of `serve`, and `--here` of `check`, which `check` wants exactly
-/// where it has data, have no value. The other words are as many as the command wants. Every word is a text, and none is empty.
+/// `--every` doesn't stand without `--watch`. `--lenient` of every command that reads data, `--dot` of `schema`, `--whole` of
+/// `serve`, and `--here` of `check`, which `check` wants exactly where it has data, have no value. The other words are as many as the command wants. Every word is a text, and none is empty.
 pub fn read_command(alloc: Global, words: &[Str]) -> Result<Option<Command>, NoMemory>
     ensures exact { IfOk result (λ given. given ≡ specs.command words.now) }
     ensures ranges { IfOk result (λ given. IfSome given IsInRange) }
 {
     match texts_of(alloc, words)? {
-        Some(texts) => flagged_command(alloc, &texts),
+        Some(texts) => given_command(alloc, &texts),
         None => Ok(None),
     }
 }

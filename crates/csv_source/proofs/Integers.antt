@@ -1,17 +1,18 @@
 -- A field that is an integer's decimal form.
-use Rattle.std.specs.Prelude.{◌≡◌, ◌^◌, ◌&&◌, ℕ, ℤ, Bool, true, false, nat_lt, nat_eq, List, Result, Ok, Err, ⊤}
-use Rattle.std.proofs.Common.{refl, sym, ◌∙◌, ap, subst, inl, inr, FitsSigned, w64}
+use Rattle.std.specs.Prelude.{◌≡◌, ◌^◌, ◌&&◌, ◌⊎◌, ◌<◌, ◌≤◌, ℕ, ℤ, pos, negsuc, IsTrue, length, Bool, true, false, nat_lt, nat_eq, List, [], ◌∷◌, Result, Ok, Err, ⊤}
+use Rattle.std.proofs.Common.{arith, get_or, refl, sym, ◌∙◌, ap, subst, inl, inr, FitsSigned, w64}
 use Rattle.std.specs.Cmp.Lexicographic.{pointwise, same_text, other_text}
 use Rattle.std.specs.Cmp.Derive.{both_true}
-use Rattle.std.specs.Fmt.{signed_decimal}
+use Rattle.std.specs.Fmt.{decimal, signed_decimal}
 use Rattle.std.specs.Int.Signed.{mag}
 use Rattle.std.specs.Ordering.{int_eq}
 use Rattle.std.specs.Str.{IsUtf8}
-use Rattle.std.specs.Str.Parse.{ParsesSigned, IsNumeral, without_leading_sign}
+use Rattle.std.specs.Str.Parse.{AllDigits, ParsesSigned, IsNumeral, without_leading_sign}
 use Rattle.std.proofs.lemmas.Bool.{cases_Bool, ltb-true, lt-ltb}
 use Rattle.std.proofs.lemmas.Bool.Decides.{Decides-int_eq}
-use Rattle.std.proofs.lemmas.Fmt.{IsAscii-signed, parse-signed_decimal}
+use Rattle.std.proofs.lemmas.Fmt.{IsAscii-signed, decimal_is_IsNumeral, length_signed_le, parse-signed_decimal}
 use Rattle.std.proofs.lemmas.Str.{IsUtf8-from_ascii}
+use Rattle.std.proofs.lemmas.Str.Parse.{digit_from_value}
 use Rattle.csv_source.specs.Fields.{Field, IsI64, number_of, is_integer, value_of, IsFieldValue}
 
 both : (s t : Bool) → (s && t) ≡ true → (s ≡ true) × (t ≡ true)
@@ -91,3 +92,25 @@ has_value f = elim (cases_Bool (is_integer f)) [
         let n : number_of f ≡ z = ap number_of e ∙ number_back z small in
         let is = is_an_integer f (subst IsI64 (sym n) small) (e ∙ ap signed_decimal (sym n)) in
         cc
+
+-- its decimal form has at most 20 bytes, and begins with a digit or a minus
+pub is_short : (f : Field) → is_integer f ≡ true → length f ≤ 20
+is_short f is = let p = integer_is f is in omega (arith, ap length p.1, length_signed_le 19 (number_of f) (omega (arith, p.0)) p.0)
+
+digit_first : (ds : List ℕ) → 0 < length ds → AllDigits 10 ds → (48 ≤ get_or ds 0 0) × (get_or ds 0 0 ≤ 57)
+digit_first [] some digits = absurd (omega arith)
+digit_first (c ∷ cs) some digits = digit_from_value c digits.0
+
+begins : (z : ℤ) → IsI64 z → (0 < length (signed_decimal z)) × ((get_or (signed_decimal z) 0 0 ≡ 45) ⊎ ((48 ≤ get_or (signed_decimal z) 0 0) × (get_or (signed_decimal z) 0 0 ≤ 57)))
+begins (pos n) small = let d = (decimal_is_IsNumeral n (omega (arith, small))).0 in (d.0, inr (digit_first (decimal n) d.0 d.1))
+begins (negsuc n) small = (omega arith, inl refl)
+
+pub is_begun : (f : Field) → is_integer f ≡ true → (0 < length f) × ((get_or f 0 0 ≡ 45) ⊎ ((48 ≤ get_or f 0 0) × (get_or f 0 0 ≤ 57)))
+is_begun f is = let p = integer_is f is in subst (λ (g : Field). (0 < length g) × ((get_or g 0 0 ≡ 45) ⊎ ((48 ≤ get_or g 0 0) × (get_or g 0 0 ≤ 57)))) (sym p.1) (begins (number_of f) p.0)
+
+-- what doesn't begin so, or is longer, is no integer
+pub not_begun : (f : Field) (may : Bool) → (is_integer f ≡ true → IsTrue may) → may ≡ false → is_integer f ≡ false
+not_begun f may only none = elim (cases_Bool (is_integer f)) [
+  | inl is ↦ let yes = only is in cc
+  | inr other ↦ other
+]

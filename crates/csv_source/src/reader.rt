@@ -11,7 +11,7 @@ use std::alloc::Global;
 fn copied_fields(alloc: Global, row: &ByteRecord) -> Result<Vec<Str>, NoMemory>
     ensures { IfOk result (λ fields. fields.items ≡ fields_of row.now) }
 {
-    let mut fields = Vec::new(alloc);
+    let mut fields = Vec::with_capacity(alloc, row.len())?;
     for field in row.iter() {
         fields.push(Str::new(alloc, field)?)?;
     }

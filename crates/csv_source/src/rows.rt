@@ -10,7 +10,7 @@ ghost use Rattle.csv_source.specs.Reader.{IsOpen, records_left, bytes_left};
 
 use crate::reader::next_fields;
 use crate::refusal::CsvRefusal;
-use crate::value::value_of;
+use crate::value::value_of_text;
 use csv::Reader;
 use sd_graph::{GraphBuilder, GraphRefusal};
 use sd_value::{Str, Value};
@@ -103,7 +103,7 @@ fn add_field(
     if field.bytes().is_empty() {
         return Ok(());
     }
-    let value = value_of(alloc, field.bytes())?;
+    let value = value_of_text(alloc, field)?;
     state_edge(alloc, graph, row, name, label, &value)
 }
 

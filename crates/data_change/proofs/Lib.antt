@@ -1,3 +1,3 @@
-mod Lexed
+pub mod Lexed
 mod Decided
 pub mod TheReader

@@ -1,5 +1,5 @@
 -- The format that a path reports.
-use Rattle.std.specs.Prelude.{◌-◌, ℕ, Bool, nat_eq, List, [], ◌∷◌, length, drop, take, codes, if◌then◌else◌}
+use Rattle.std.specs.Prelude.{◌-◌, ◌||◌, ℕ, Bool, nat_eq, List, [], ◌∷◌, length, drop, take, codes, if◌then◌else◌}
 use Rattle.std.specs.List.{list_any}
 use Rattle.std.specs.Cmp.Lexicographic.{pointwise}
 use Rattle.data_source.specs.declared.format.Format.{Format}
@@ -26,4 +26,18 @@ format_of path =
     if ends_with path (codes ".csv") then Csv (stem_of path (codes ".csv"))
     else if ends_with path (codes ".json") then Json (stem_of path (codes ".json"))
     else if ends_with path (codes ".bib") then BibTex (stem_of path (codes ".bib"))
+    else DataText
+
+-- the ends of paths in capitals count as the small ones
+abbrev pub ends_with_either : List ℕ → List ℕ → List ℕ → Bool
+ends_with_either path small capital = ends_with path small || ends_with path capital
+
+-- the format that a path reports where the file is read leniently
+abbrev pub lenient_format_of : List ℕ → Format
+lenient_format_of path =
+    if ends_with_either path (codes ".csv") (codes ".CSV") then Csv (stem_of path (codes ".csv"))
+    else if ends_with_either path (codes ".json") (codes ".JSON")
+    then Json (stem_of path (codes ".json"))
+    else if ends_with_either path (codes ".bib") (codes ".BIB")
+    then BibTex (stem_of path (codes ".bib"))
     else DataText

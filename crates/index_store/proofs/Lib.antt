@@ -1,3 +1,7 @@
 pub mod PositionLaws
 pub mod RankLaws
-pub mod SetLaws
+pub mod JoinedLaws
+pub mod FirstLaws
+pub mod KeyedLaws
+pub mod ValueLaws
+pub mod IndexLaws

@@ -2,35 +2,39 @@
 //! is a look-up by halves.
 #![tactic(auto)]
 
-ghost use Rattle.std.specs.Prelude.{◌≡◌, IfOk};
+ghost use Rattle.std.specs.Prelude.{◌≡◌, ◌↔◌, ◌<◌, ◌+◌, IfOk, IsTrue, All, length, map};
+ghost use Rattle.std.specs.List.Sorted.{IsStrictlySortedBy};
+ghost use Rattle.sd_value.specs.Order.{bytes_cmp};
+ghost use Rattle.index_store.specs.Indexed.{value_at, IsNodeOf};
 
 mod orders;
 mod positions;
 mod ranks;
 
-use crate::orders::{by_end, by_label};
+use crate::orders::{by_end, label_ranks, labels_at, node_values, value_ranks};
 use crate::positions::{count_at, first_at, pick_at};
-use crate::ranks::{is_among, sorted_set};
+use crate::ranks::{Ranked, by_rank};
 use edge_queries::{
-    EdgeAt, Incoming, IncomingBy, Labelled, MemberAt, Members, Out, OutAll, all_labels, all_values,
-    copy_names, copy_values,
+    EdgeAt, Incoming, IncomingBy, Labelled, MemberAt, Members, NameAt, Out, OutAll, copy_names,
 };
-use indexmap::IndexSet;
 use list_lookup::{first, give_all, has, part};
 use sd_graph::{Edge, Graph, Sizes, Step, Store};
-use sd_value::{NoMemory, Str, Value};
+use sd_value::{Datum, NoMemory, Str, Value, copy};
 use std::alloc::Global;
 use std::marker::Model;
 
-/// A graph with the positions of its edges in two more orders, and its values and labels. A value's index is its rank
-/// among them. Names are shared and not copied.
+// From so many nodes or edges on a store is refused, as its positions are numbers of 32 bits.
+const MOST: usize = 0x8000_0000;
+
+/// A graph with the positions of its edges in two more orders, its labels, and where each of its values is: below the
+/// number of nodes a node, and from there on an edge's end. Names are shared and not copied.
 #[derive(Debug)]
 pub struct IndexStore {
     graph: Graph,
-    by_end: Vec<usize>,
-    by_label: Vec<usize>,
-    values: IndexSet<Value>,
-    labels: IndexSet<Str>,
+    by_end: Vec<u32>,
+    by_label: Vec<u32>,
+    values: Vec<u32>,
+    labels: Vec<Str>,
 }
 
 // Written out, so that it is proved here once, and not again in each crate that drops one.
@@ -54,8 +58,8 @@ impl Model for IndexStore {
 
     ghost view = { λ s. s.graph };
 
-    ghost invariant = { λ s. IsIndexed s.graph s.by_end.items s.by_label.items s.values.keys
-        s.labels.keys };
+    ghost invariant = { λ s. IsIndexed s.graph s.by_end.items s.by_label.items s.values.items
+        s.labels.items };
 }
 
 impl IndexStore {
@@ -63,10 +67,18 @@ impl IndexStore {
     pub fn of(alloc: Global, graph: Graph) -> Result<IndexStore, NoMemory>
         ensures { IfOk result (λ store. store ≡ graph) }
     {
-        let labels = sorted_set(alloc, all_labels(alloc, &graph)?)?;
-        let values = sorted_set(alloc, all_values(alloc, &graph)?)?;
-        let by_label = by_label(alloc, graph.edges(), &labels)?;
-        let by_end = by_end(alloc, graph.edges(), by_label.as_slice(), &values)?;
+        let nodes = graph.nodes();
+        let edges = graph.edges();
+        if nodes.len() >= MOST || edges.len() >= MOST {
+            return Err(NoMemory);
+        }
+        let label_ranks = label_ranks(alloc, edges)?;
+        let labels = labels_at(alloc, edges, label_ranks.firsts.as_slice())?;
+        let by_label = by_rank(alloc, label_ranks.ranks.as_slice())?;
+        let node_values = node_values(alloc, nodes)?;
+        let Ranked { firsts, ranks } = value_ranks(alloc, node_values.as_slice(), edges)?;
+        let by_end = by_end(alloc, &ranks.as_slice()[nodes.len()..], by_label.as_slice())?;
+        let values = firsts;
         Ok(IndexStore {
             graph,
             by_end,
@@ -123,7 +135,7 @@ impl Store for IndexStore {
     }
 
     fn values(&self, alloc: Global) -> Result<Vec<Value>, NoMemory> {
-        copy_values(alloc, self.values.as_slice())
+        values_at(alloc, &self.graph, self.values.as_slice())
     }
 
     fn labels(&self, alloc: Global) -> Result<Vec<Str>, NoMemory> {
@@ -139,11 +151,11 @@ impl Store for IndexStore {
     }
 
     fn is_value(&self, value: &Value) -> bool {
-        is_among(&self.values, value)
+        is_node(self.graph.nodes(), value) || self.degree_incoming(value) > 0
     }
 
     fn is_label(&self, label: &Str) -> bool {
-        is_among(&self.labels, label)
+        has(self.labels.as_slice(), &NameAt { name: label })
     }
 
     fn sizes(&self) -> Sizes {
@@ -223,6 +235,37 @@ impl Store for IndexStore {
     }
 
     fn first_values(&self, alloc: Global, most: usize) -> Result<Vec<Value>, NoMemory> {
-        copy_values(alloc, first(self.values.as_slice(), most))
+        values_at(alloc, &self.graph, first(self.values.as_slice(), most))
     }
+}
+
+// Whether the value is one of the nodes.
+fn is_node(nodes: &[Str], value: &Value) -> bool
+    requires { IsStrictlySortedBy bytes_cmp nodes.now }
+    ensures { IsTrue result ↔ IsNodeOf nodes.now value.now }
+{
+    match value {
+        Value::Data(Datum::Node(name)) => has(nodes, &NameAt { name }),
+        Value::Data(Datum::Int(_) | Datum::Text(_) | Datum::Url(_) | Datum::File(_)) => false,
+        Value::Page(_) => false,
+    }
+}
+
+// The values at places among the nodes and then the edges' ends.
+fn values_at(alloc: Global, graph: &Graph, places: &[u32]) -> Result<Vec<Value>, NoMemory>
+    requires { All (λ i. i < length graph.now.nodes + length graph.now.edges) places.now }
+    ensures { IfOk result (λ values. values.items ≡ map (value_at graph.now) places.now) }
+{
+    let nodes = graph.nodes();
+    let edges = graph.edges();
+    let mut values = Vec::with_capacity(alloc, places.len())?;
+    for place in places {
+        let at = *place as usize;
+        values.push(if at < nodes.len() {
+            Value::Data(Datum::Node(nodes[at].copy(alloc)?))
+        } else {
+            copy(alloc, &edges[at - nodes.len()].to)?
+        })?;
+    }
+    Ok(values)
 }

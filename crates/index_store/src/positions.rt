@@ -16,15 +16,15 @@ struct AtPositions<'a, Q> {
     query: &'a Q,
 }
 
-impl<'a, Q: Query<Edge>> Query<usize> for AtPositions<'a, Q> {
-    type Given = usize;
+impl<'a, Q: Query<Edge>> Query<u32> for AtPositions<'a, Q> {
+    type Given = u32;
 
     ghost at = { λ q i. place_at (Q.at q.query.now) q.edges.now i };
 
     ghost gives = { λ i. i };
 
-    fn place(&self, item: &usize) -> Ordering {
-        let position = *item;
+    fn place(&self, item: &u32) -> Ordering {
+        let position = *item as usize;
         if position < self.edges.len() {
             self.query.place(&self.edges[position])
         } else {
@@ -32,7 +32,7 @@ impl<'a, Q: Query<Edge>> Query<usize> for AtPositions<'a, Q> {
         }
     }
 
-    fn give(&self, _alloc: Global, item: &usize) -> Result<usize, NoMemory> {
+    fn give(&self, _alloc: Global, item: &u32) -> Result<u32, NoMemory> {
         Ok(*item)
     }
 }
@@ -41,7 +41,7 @@ impl<'a, Q: Query<Edge>> Query<usize> for AtPositions<'a, Q> {
 fn give_at<Q: Query<Edge>>(
     alloc: Global,
     edges: &[Edge],
-    positions: &[usize],
+    positions: &[u32],
     query: &Q,
 ) -> Result<Vec<Q::Given>, NoMemory>
 where
@@ -51,7 +51,7 @@ where
 {
     let mut given = Vec::new(alloc);
     for position in positions {
-        given.push(query.give(alloc, &edges[*position])?)?;
+        given.push(query.give(alloc, &edges[*position as usize])?)?;
     }
     Ok(given)
 }
@@ -60,7 +60,7 @@ where
 pub(crate) fn pick_at<Q: Query<Edge> + Drop>(
     alloc: Global,
     edges: &[Edge],
-    positions: &[usize],
+    positions: &[u32],
     query: &Q,
 ) -> Result<Vec<Q::Given>, NoMemory>
 where
@@ -78,7 +78,7 @@ where
 pub(crate) fn first_at<Q: Query<Edge> + Drop>(
     alloc: Global,
     edges: &[Edge],
-    positions: &[usize],
+    positions: &[u32],
     query: &Q,
     most: usize,
 ) -> Result<Vec<Q::Given>, NoMemory>
@@ -94,7 +94,7 @@ where
 }
 
 /// How many of the edges lie in the query's place.
-pub(crate) fn count_at<Q: Query<Edge> + Drop>(edges: &[Edge], positions: &[usize], query: &Q) -> u64
+pub(crate) fn count_at<Q: Query<Edge> + Drop>(edges: &[Edge], positions: &[u32], query: &Q) -> u64
     requires fits { All (λ i. i < length edges.now) positions.now }
     requires placed { IsPlaced (Q.at query.now) (edges_at edges.now positions.now) }
     ensures { result ≡ length (in_place (Q.at query.now) (edges_at edges.now positions.now)) }

@@ -14,12 +14,14 @@ mod refusal;
 mod statements;
 mod values;
 
+pub use names::{name_of_member, place_of_item, place_of_member};
 use records::add_top;
 pub use refusal::JsonRefusal;
 use sd_graph::GraphBuilder;
 use sd_value::Str;
 use serde_json::Value as Json;
 use source_steps::without_mark;
+pub use statements::{state_child, state_edge, state_member, state_node, state_number, state_text};
 use std::alloc::Global;
 
 // The value that bytes are.

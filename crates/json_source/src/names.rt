@@ -9,7 +9,7 @@ use sd_value::{NoMemory, Str};
 use std::alloc::{AllocError, Global};
 
 /// An item's place.
-pub(crate) fn place_of_item(alloc: Global, at: &Str, index: u64) -> Result<Str, NoMemory>
+pub fn place_of_item(alloc: Global, at: &Str, index: u64) -> Result<Str, NoMemory>
     ensures { IfOk result (λ s. s ≡ item_place at.now index) }
 {
     let mut place = Vec::from_slice(alloc, at.bytes())?;
@@ -81,7 +81,7 @@ fn push_name_key(out: &mut Vec<u8>, key: &[u8]) -> Result<(), AllocError>
 }
 
 /// A member's place.
-pub(crate) fn place_of_member(alloc: Global, at: &Str, key: &Str) -> Result<Str, NoMemory>
+pub fn place_of_member(alloc: Global, at: &Str, key: &Str) -> Result<Str, NoMemory>
     ensures { IfOk result (λ s. s ≡ member_place at.now key.now) }
 {
     let mut place = Vec::from_slice(alloc, at.bytes())?;
@@ -91,7 +91,7 @@ pub(crate) fn place_of_member(alloc: Global, at: &Str, key: &Str) -> Result<Str,
 }
 
 /// The name of an object that is a member.
-pub(crate) fn name_of_member(alloc: Global, name: &Str, key: &Str) -> Result<Str, NoMemory>
+pub fn name_of_member(alloc: Global, name: &Str, key: &Str) -> Result<Str, NoMemory>
     ensures { IfOk result (λ s. s ≡ member_name name.now key.now) }
 {
     let mut member = Vec::from_slice(alloc, name.bytes())?;

@@ -26,8 +26,9 @@ fn at_place(alloc: Global, answer: Result<(), GraphRefusal>, at: &Str) -> Result
     }
 }
 
+/// An edge.
 #[tactic(auto, using(crate::proofs::Steps::stated))]
-fn state_edge(
+pub fn state_edge(
     alloc: Global,
     graph: &mut GraphBuilder,
     at: &Str,
@@ -42,7 +43,8 @@ fn state_edge(
     at_place(alloc, graph.add_edge(alloc, node, label, value), at)
 }
 
-pub(crate) fn state_text(
+/// An edge to a text.
+pub fn state_text(
     alloc: Global,
     graph: &mut GraphBuilder,
     at: &Str,
@@ -59,7 +61,7 @@ pub(crate) fn state_text(
 }
 
 /// An edge to another node.
-pub(crate) fn state_child(
+pub fn state_child(
     alloc: Global,
     graph: &mut GraphBuilder,
     at: &Str,
@@ -75,8 +77,9 @@ pub(crate) fn state_child(
     state_edge(alloc, graph, at, node, label, &value)
 }
 
+/// A node.
 #[tactic(auto, using(crate::proofs::Steps::stated))]
-pub(crate) fn state_node(
+pub fn state_node(
     alloc: Global,
     graph: &mut GraphBuilder,
     at: &Str,
@@ -87,8 +90,9 @@ pub(crate) fn state_node(
     at_place(alloc, graph.add_node(alloc, node), at)
 }
 
+/// A member of a collection.
 #[tactic(auto, using(crate::proofs::Steps::stated))]
-pub(crate) fn state_member(
+pub fn state_member(
     alloc: Global,
     graph: &mut GraphBuilder,
     at: &Str,
@@ -101,7 +105,8 @@ pub(crate) fn state_member(
     at_place(alloc, graph.add_member(alloc, collection, node), at)
 }
 
-pub(crate) fn state_number(
+/// An edge to a number, where it is an integer of 64 bits.
+pub fn state_number(
     alloc: Global,
     graph: &mut GraphBuilder,
     at: &Str,

@@ -98,15 +98,15 @@ further_labels (i ∷ items) = label_behind i.kind items ++ further_labels items
 
 -- ---- templates
 
--- the name behind a first name, which is then the word COLLECTION
-abbrev pub has_name : List Item → Bool
-has_name [] = false
-has_name (i ∷ items) = is_some (name_of i.kind)
+-- the collection's name behind a first name, which is then the word COLLECTION
+abbrev pub has_label : List Item → Bool
+has_label [] = false
+has_label (i ∷ items) = is_some (label_of i.kind)
 
 -- the function of a template whose first name is this: none where it is a collection's
 abbrev pub function_of : Name → List Item → Option Name
 function_of n items =
-    if bytes_eq n (codes "COLLECTION") && has_name items then None else Some n
+    if bytes_eq n (codes "COLLECTION") && has_label items then None else Some n
 
 -- the same of a template with these items behind `<TEMPLATE`
 abbrev pub named_function : Option Name → List Item → Option Name

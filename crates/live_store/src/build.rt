@@ -7,7 +7,8 @@ ghost use Rattle.graph_spec.specs.Orders.{edge_cmp, member_cmp};
 ghost use Rattle.graph_spec.specs.Statement.{empty_graph};
 ghost use Rattle.sd_graph.specs.Statement.{IsData};
 ghost use Rattle.live_store.specs.Shift.{Pushed};
-ghost use Rattle.live_store.specs.Live.{IsEdgeOf, IsMemberOf, HasItem, HasItems, IsPlain, puts as puts_in, turned, with_edges, with_members};
+ghost use Rattle.live_store.specs.Live.{IsEdgeOf, IsMemberOf, HasItem, HasItems, IsPlain};
+ghost use Rattle.live_store.specs.Live.{puts as puts_in, turned, with_edges, with_members};
 
 use crate::lists::is_among;
 use edit_spec::Edit;

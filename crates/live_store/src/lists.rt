@@ -6,7 +6,7 @@ ghost use Rattle.std.specs.List.Sorted.{IsStrictlySortedBy};
 ghost use Rattle.sd_value.specs.Ascending.{ListsExactly};
 ghost use Rattle.live_store.specs.Shift.{IsShifted};
 
-use list_lookup::{Query, any, has};
+use list_lookup::{Query, has};
 use sd_value::{ExactOrd, NoMemory, sort_and_dedup};
 use std::alloc::Global;
 use std::cmp::Ordering;
@@ -42,25 +42,23 @@ pub(crate) fn is_among<K: ExactOrd>(items: &[K], item: &K) -> bool
     has(items, &ItemAt { item })
 }
 
-// The same of a list in any order.
-fn is_one_of<K: ExactOrd>(items: &[K], item: &K) -> bool
-    ensures { result ≡ list_any (is_at (K.cmp item.now)) items.now }
-{
-    any(items, &ItemAt { item })
-}
-
-/// The items without those that went, and with those that came.
+/// The items without those that went, which are in their order, and with those that came.
 pub(crate) fn shifted<K: ExactOrd + Drop>(
     base: Vec<K>,
     gone: Vec<K>,
     came: Vec<K>,
 ) -> Result<Vec<K>, NoMemory>
+    requires { IsStrictlySortedBy K.cmp gone.items }
     ensures { IfOk result
         (λ items. ListsExactly K.cmp (IsShifted base.items gone.items came.items) items.items) }
 {
     let mut items = base;
     let mut more = came;
-    items.retain(|item| !is_one_of(gone.as_slice(), item));
+    items.retain(
+        |item|
+            requires { IsStrictlySortedBy K.cmp gone.items }
+        { !is_among(gone.as_slice(), item) },
+    );
     items.append(&mut more)?;
     sort_and_dedup(&mut items);
     Ok(items)

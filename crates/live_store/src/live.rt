@@ -202,6 +202,13 @@ impl LiveStore {
         })
     }
 
+    /// How large the graph may become.
+    pub fn limits(&self) -> Limits
+        ensures { result ≡ self.now.limits }
+    {
+        self.limits
+    }
+
     /// Makes an edit of the graph. Adding what is there and removing what isn't changes nothing.
     ///
     /// `TooManyNodes` comes exactly where the graph would have more nodes than the limit, and `TooManyEdges` exactly

@@ -176,8 +176,15 @@ module _ (expression : List Token → Counted → Type 0) where
   behind_good : (t : Operand) (tokens : List Token) (c : tree.Condition) → GoodOperand t → behind expression t tokens c → GoodPlain c
   behind_good (Variable x span) tokens c good (inl (a, b, s, e, opening, (d, f, y, g, phrase, (h, i, close, j, closing, (nil, is))))) =
       subst GoodPlain (sym is) (call_good (test_of x) (record { text = x; span = span }) y close)
+  behind_good (Constant (Data (datum.Text q)) span) tokens c good (inl (a, b, s, e, opening, (d, f, y, g, phrase, (h, i, close, j, closing, (nil, is))))) =
+      subst GoodPlain (sym is) (call_good None (record { text = q; span = span }) y close)
+  behind_good (Constant (Data (datum.Text q)) span) tokens c good (inr rest) = relation_good (Constant (Data (datum.Text q)) span) tokens c good rest
   behind_good (Variable x span) tokens c good (inr rest) = relation_good (Variable x span) tokens c good rest
-  behind_good (Constant v span) tokens c good rest = relation_good (Constant v span) tokens c good rest
+  behind_good (Constant (Data (datum.Int n)) span) tokens c good rest = relation_good (Constant (Data (datum.Int n)) span) tokens c good rest
+  behind_good (Constant (Data (datum.Url u)) span) tokens c good rest = relation_good (Constant (Data (datum.Url u)) span) tokens c good rest
+  behind_good (Constant (Data (datum.File u)) span) tokens c good rest = relation_good (Constant (Data (datum.File u)) span) tokens c good rest
+  behind_good (Constant (Data (datum.Node u)) span) tokens c good rest = relation_good (Constant (Data (datum.Node u)) span) tokens c good rest
+  behind_good (Constant (Page p) span) tokens c good rest = relation_good (Constant (Page p) span) tokens c good rest
 
   plain_good : (tokens : List Token) (c : tree.Condition) → grammar.plain expression tokens c → (1 ≤ length tokens) × GoodPlain c
   plain_good tokens c (a, b, t, e, phrase, rest) =

@@ -2,3 +2,4 @@ pub mod Told
 pub mod Maps
 pub mod Conflicts
 pub mod Grouped
+pub mod StartLaws

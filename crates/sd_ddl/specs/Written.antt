@@ -55,8 +55,12 @@ collection_if n m = if same_name m.node n then m.collection ∷ [] else []
 abbrev pub collections_of : List Member → Name → List Name
 collections_of members n = flat_map (collection_if n) members
 
+-- an edge as its start's object has it
+abbrev pub step_of : Edge → Step
+step_of e = record { label = e.label; end = e.to }
+
 abbrev pub step_if : Name → Edge → List Step
-step_if n e = if same_name e.from n then record { label = e.label; end = e.to } ∷ [] else []
+step_if n e = if same_name e.from n then step_of e ∷ [] else []
 
 -- the labels and ends of a node's edges, in their order
 abbrev pub steps_out : List Edge → Name → List Step

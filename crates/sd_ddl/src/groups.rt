@@ -2,10 +2,10 @@
 ghost use Rattle.std.specs.Prelude.{◌≡◌, ◌∷◌, ◌++◌, [], OnOk, IfOk, false};
 ghost use Rattle.sd_ddl.specs.Kinds.{Name, same_name};
 ghost use Rattle.sd_ddl.specs.Groups.{items_of};
-ghost use Rattle.sd_ddl.specs.Written.{collections_of, steps_out};
+ghost use Rattle.sd_ddl.specs.Written.{collections_of};
 
-use sd_graph::{Edge, Member, Step};
-use sd_value::{NoMemory, Str, copy};
+use sd_graph::Member;
+use sd_value::{NoMemory, Str};
 use std::alloc::Global;
 use std::collections::BTreeMap;
 
@@ -57,19 +57,6 @@ pub(crate) fn group_members(alloc: Global, members: &[Member]) -> Result<Groups<
     let mut groups = Groups::new(alloc);
     for member in members {
         groups.add(alloc, &member.node, member.collection.copy(alloc)?)?;
-    }
-    Ok(groups)
-}
-
-/// The labels and ends of each node's edges.
-pub(crate) fn group_edges(alloc: Global, edges: &[Edge]) -> Result<Groups<Step>, NoMemory>
-    ensures { IfOk result (λ groups. (n : Name) → items_of groups n ≡ steps_out edges.now n) }
-{
-    let mut groups = Groups::new(alloc);
-    for edge in edges {
-        let label = edge.label.copy(alloc)?;
-        let end = copy(alloc, &edge.to)?;
-        groups.add(alloc, &edge.from, Step { label, end })?;
     }
     Ok(groups)
 }

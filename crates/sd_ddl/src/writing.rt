@@ -1,15 +1,17 @@
 // A data graph as it is written.
-ghost use Rattle.std.specs.Prelude.{◌≡◌, ◌∷◌, ◌++◌, [], OnOk, IfSome, IfNone};
+ghost use Rattle.std.specs.Prelude.{◌≡◌, ◌∷◌, ◌++◌, [], OnOk, IfOk, IfSome, IfNone, map};
 ghost use Rattle.std.specs.List.{flat_map};
 ghost use Rattle.std.specs.Fmt.{signed_decimal};
 ghost use Rattle.sd_ddl.specs.Kinds.{Name};
 ghost use Rattle.sd_ddl.specs.Groups.{items_of};
-ghost use Rattle.sd_ddl.specs.Written.{quoted_byte, quoted, value_text, step_line, further_text, in_text};
+ghost use Rattle.sd_ddl.specs.Written.{quoted_byte, quoted, value_text, step_of, step_line, further_text, in_text};
 ghost use Rattle.sd_ddl.specs.Written.{object_text, collections_of, steps_out, graph_text};
 
-use crate::groups::{Groups, group_edges, group_members};
+use crate::groups::{Groups, group_members};
+use edge_queries::OutAll;
 use itoa::Buffer;
-use sd_graph::{Graph, Step};
+use list_lookup::part;
+use sd_graph::{Edge, Graph};
 use sd_value::{Datum, NoMemory, Str, Value};
 use std::alloc::Global;
 
@@ -78,12 +80,12 @@ fn push_value(out: &mut Vec<u8>, value: &Value) -> Result<(), NoMemory>
     }
 }
 
-fn push_step(out: &mut Vec<u8>, step: &Step) -> Result<(), NoMemory>
-    ensures { OnOk result (out.new.items ≡ out.old.items ++ step_line step.now) }
+fn push_edge(out: &mut Vec<u8>, edge: &Edge) -> Result<(), NoMemory>
+    ensures { OnOk result (out.new.items ≡ out.old.items ++ step_line (step_of edge.now)) }
 {
-    push_kinded(out, b"  ", &step.label)?;
+    push_kinded(out, b"  ", &edge.label)?;
     out.extend_from_slice(b" ")?;
-    push_value(out, &step.end)?;
+    push_value(out, &edge.to)?;
     out.extend_from_slice(b"\n")?;
     Ok(())
 }
@@ -115,11 +117,12 @@ fn push_collections(out: &mut Vec<u8>, names: &[Str]) -> Result<(), NoMemory>
     }
 }
 
-fn push_steps(out: &mut Vec<u8>, steps: &[Step]) -> Result<(), NoMemory>
-    ensures { OnOk result (out.new.items ≡ out.old.items ++ flat_map step_line steps.now) }
+fn push_edges(out: &mut Vec<u8>, edges: &[Edge]) -> Result<(), NoMemory>
+    ensures { OnOk result
+        (out.new.items ≡ out.old.items ++ flat_map step_line (map step_of edges.now)) }
 {
-    for step in steps {
-        push_step(out, step)?;
+    for edge in edges {
+        push_edge(out, edge)?;
     }
     Ok(())
 }
@@ -128,33 +131,44 @@ fn push_object(
     out: &mut Vec<u8>,
     node: &Str,
     collections: &[Str],
-    steps: &[Step],
+    edges: &[Edge],
 ) -> Result<(), NoMemory>
-    ensures { OnOk result
-        (out.new.items ≡ out.old.items ++ object_text node.now collections.now steps.now) }
+    ensures { OnOk result (out.new.items
+        ≡ out.old.items ++ object_text node.now collections.now (map step_of edges.now)) }
 {
     push_kinded(out, b"object ", node)?;
     push_collections(out, collections)?;
     out.extend_from_slice(b" {\n")?;
-    push_steps(out, steps)?;
+    push_edges(out, edges)?;
     out.extend_from_slice(b"}\n")?;
     Ok(())
 }
 
-// The objects of a graph, whose edges and members are grouped.
+// The edges from a node, which stand together, as edges are by their starts.
+fn edges_from<'a>(alloc: Global, graph: &'a Graph, node: &Str) -> Result<&'a [Edge], NoMemory>
+    ensures { IfOk result (λ edges. map step_of edges.now ≡ steps_out graph.now.edges node.now) }
+{
+    let from = Value::Data(Datum::Node(node.copy(alloc)?));
+    Ok(part(graph.edges(), &OutAll { from: &from }))
+}
+
+// The objects of a graph, whose members are grouped.
 fn push_nodes(
+    alloc: Global,
     out: &mut Vec<u8>,
     graph: &Graph,
     collections: &Groups<Str>,
-    steps: &Groups<Step>,
 ) -> Result<(), NoMemory>
-    requires collections { (n : Name)
-        → items_of collections.now n ≡ collections_of graph.now.members n }
-    requires steps { (n : Name) → items_of steps.now n ≡ steps_out graph.now.edges n }
+    requires { (n : Name) → items_of collections.now n ≡ collections_of graph.now.members n }
     ensures { OnOk result (out.new.items ≡ out.old.items ++ graph_text graph.now) }
 {
     for node in graph.nodes() {
-        push_object(out, node, collections.at(node), steps.at(node))?;
+        push_object(
+            out,
+            node,
+            collections.at(node),
+            edges_from(alloc, graph, node)?,
+        )?;
     }
     Ok(())
 }
@@ -164,6 +178,5 @@ pub fn write_ddl(alloc: Global, graph: &Graph, out: &mut Vec<u8>) -> Result<(), 
     ensures { OnOk result (out.new.items ≡ out.old.items ++ graph_text graph.now) }
 {
     let collections = group_members(alloc, graph.member_pairs())?;
-    let steps = group_edges(alloc, graph.edges())?;
-    push_nodes(out, graph, &collections, &steps)
+    push_nodes(alloc, out, graph, &collections)
 }

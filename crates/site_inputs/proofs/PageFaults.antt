@@ -1,6 +1,6 @@
 -- Reading the inputs of a site ends with no fault of a page.
 use Rattle.std.proofs.Common.{ℕ, List, [], ◌∷◌, inl, inr}
-use Rattle.std.specs.Prelude.{Result, Err, Option, None, Some, ⊤}
+use Rattle.std.specs.Prelude.{Bool, Result, Err, Option, None, Some, ⊤}
 use Rattle.edge_io.specs.Files.{FileMap}
 use Rattle.graph_spec.specs.DataGraph.{DataGraph}
 use Rattle.query_spec.specs.Query as plain
@@ -9,7 +9,8 @@ use Rattle.site_inputs.specs.declared.fault.Fault.{Fault}
 use Rattle.site_inputs.specs.declared.fault.Fault.TheVariants.{Refused, Unread, Faulty, NotFound, NoMemory}
 use Rattle.site_inputs.specs.Runs.{Then, Gives, FileEnds}
 use Rattle.command_spec.specs.Limits.{data_limit}
-use Rattle.site_inputs.specs.Sources.{TextTaken, SourceEnds, GraphEnds, empty_building}
+use Rattle.command_spec.specs.declared.DataFiles.{DataFiles}
+use Rattle.site_inputs.specs.Sources.{TextTaken, SourceEnds, FilesEnd, GraphEnds, empty_building}
 use Rattle.command_spec.specs.Limits.{text_limit}
 use Rattle.site_inputs.specs.Sites.{DataInputsEnd, InputsEnd, QueryTaken, QueryEnds, SiteTaken, TemplatesTaken, TemplatesEnd, inputs_with}
 
@@ -50,10 +51,10 @@ file_none limit map path = record { none = by }
     by (Unread path) p e = p
     by NoMemory p e = p
 
-text_none : (path : List ℕ) (b : Building) (bytes : List ℕ) → NoPageFault (TextTaken path b bytes)
-text_none path b bytes = record { none = by }
+text_none : (lenient : Bool) (path : List ℕ) (b : Building) (bytes : List ℕ) → NoPageFault (TextTaken lenient path b bytes)
+text_none lenient path b bytes = record { none = by }
   where
-    by : (fault : Fault) → IsOfPage fault → TextTaken path b bytes (Err fault) → ⊥
+    by : (fault : Fault) → IsOfPage fault → TextTaken lenient path b bytes (Err fault) → ⊥
     by (Faulty term kind) p e = e
     by NotFound p e = e
     by (Refused refusal) p e = p
@@ -80,12 +81,15 @@ templates_none path bytes = record { none = by }
     by (Unread path) p e = p
     by NoMemory p e = p
 
-source_none : (map : FileMap) (path : List ℕ) (b : Building) → NoPageFault (SourceEnds map path b)
-source_none map path b = then_none (FileEnds data_limit map path) (TextTaken path b) (file_none data_limit map path) (λ bytes. text_none path b bytes)
+source_none : (lenient : Bool) (map : FileMap) (path : List ℕ) (b : Building) → NoPageFault (SourceEnds lenient map path b)
+source_none lenient map path b = then_none (FileEnds data_limit map path) (TextTaken lenient path b) (file_none data_limit map path) (λ bytes. text_none lenient path b bytes)
 
-graph_none : (map : FileMap) (b : Building) (paths : List (List ℕ)) → NoPageFault (GraphEnds map b paths)
-graph_none map b [] = gives_none b.graph
-graph_none map b (path ∷ paths) = then_none (SourceEnds map path b) (λ c. GraphEnds map c paths) (source_none map path b) (λ c. graph_none map c paths)
+files_none : (lenient : Bool) (map : FileMap) (b : Building) (paths : List (List ℕ)) → NoPageFault (FilesEnd lenient map b paths)
+files_none lenient map b [] = gives_none b.graph
+files_none lenient map b (path ∷ paths) = then_none (SourceEnds lenient map path b) (λ c. FilesEnd lenient map c paths) (source_none lenient map path b) (λ c. files_none lenient map c paths)
+
+graph_none : (map : FileMap) (b : Building) (sources : DataFiles) → NoPageFault (GraphEnds map b sources)
+graph_none map b sources = files_none sources.lenient map b sources.paths
 
 query_file_none : (map : FileMap) (path : List ℕ) → NoPageFault (QueryEnds map path)
 query_file_none map path = then_none (FileEnds text_limit map path) (QueryTaken path) (file_none text_limit map path) (λ bytes. query_none path bytes)
@@ -100,7 +104,7 @@ site_none path raw first = record { none = by }
     by (Unread path) p e = p
     by NoMemory p e = p
 
-data_none : (map : FileMap) (sources : List (List ℕ)) (over : Option (List ℕ)) → NoPageFault (DataInputsEnd map sources over)
+data_none : (map : FileMap) (sources : DataFiles) (over : Option (List ℕ)) → NoPageFault (DataInputsEnd map sources over)
 data_none map sources None =
     then_none (GraphEnds map empty_building sources) (λ raw. Gives (record { graph = raw; first = None }))
     (graph_none map empty_building sources) (λ raw. gives_none (record { graph = raw; first = None }))
@@ -109,7 +113,7 @@ data_none map sources (Some path) =
     (graph_none map empty_building sources)
     (λ raw. then_none (QueryEnds map path) (λ first. SiteTaken path raw first) (query_file_none map path) (λ first. site_none path raw first))
 
-pub inputs_none : (map : FileMap) (sources : List (List ℕ)) (over : Option (List ℕ)) (query_path templates_path : List ℕ) → NoPageFault (InputsEnd map sources over query_path templates_path)
+pub inputs_none : (map : FileMap) (sources : DataFiles) (over : Option (List ℕ)) (query_path templates_path : List ℕ) → NoPageFault (InputsEnd map sources over query_path templates_path)
 inputs_none map sources over query_path templates_path =
     then_none (DataInputsEnd map sources over)
     (λ found. Then (QueryEnds map query_path) (λ query. Then (TemplatesEnd map templates_path) (λ templates. Gives (inputs_with found query templates))))

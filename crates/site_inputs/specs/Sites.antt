@@ -3,6 +3,7 @@
 use Rattle.std.specs.Prelude.{◌≡◌, ℕ, List, Result, Ok, Err, Option, Some, None, ⊤}
 use Rattle.edge_io.specs.Files.{FileMap}
 use Rattle.command_spec.specs.Limits.{text_limit}
+use Rattle.command_spec.specs.declared.DataFiles.{DataFiles}
 use Rattle.graph_spec.specs.DataGraph.{DataGraph}
 use Rattle.query_spec.specs.Query as plain
 use Rattle.tmpl.specs.Body.{TemplateFile}
@@ -111,7 +112,7 @@ SiteTaken path raw first (Err fault) = ⊥
 
 -- How the data end: the data files are taken, and then the first query, if there is one.
 abbrev pub DataInputsEnd
-    : FileMap → List (List ℕ) → (first : Option (List ℕ)) → Result DataInputs Fault → Type 0
+    : FileMap → DataFiles → (first : Option (List ℕ)) → Result DataInputs Fault → Type 0
 DataInputsEnd map sources None =
     Then (GraphEnds map empty_building sources)
     (λ raw. Gives (record { graph = raw; first = None }))
@@ -164,7 +165,7 @@ inputs_with found query templates = record {
 
 -- How the inputs end: each is taken behind those before it.
 abbrev pub InputsEnd
-    : FileMap → List (List ℕ) → (first : Option (List ℕ)) → (query templates : List ℕ)
+    : FileMap → DataFiles → (first : Option (List ℕ)) → (query templates : List ℕ)
     → Result Inputs Fault → Type 0
 InputsEnd map sources first query_path templates_path =
     Then (DataInputsEnd map sources first)

@@ -1,10 +1,12 @@
 -- The data files, taken one after another, and the union of what they state.
-use Rattle.std.specs.Prelude.{◌≡◌, ℕ, List, [], ◌∷◌, Result, Ok, Err, ⊤}
+use Rattle.std.specs.Prelude.{◌≡◌, ℕ, Bool, true, false, List, [], ◌∷◌, Result, Ok, Err, ⊤}
 use Rattle.edge_io.specs.Files.{FileMap}
 use Rattle.command_spec.specs.Limits.{data_limit, node_limit, edge_limit}
+use Rattle.command_spec.specs.declared.DataFiles.{DataFiles}
 use Rattle.graph_spec.specs.DataGraph.{DataGraph}
 use Rattle.sd_graph.specs.Statement.{Building}
-use Rattle.data_source.specs.Takes.{Takes}
+use Rattle.data_source.specs.Takes.{Takes, TakesLeniently}
+use Rattle.data_source.specs.declared.refusal.SourceRefusal.{SourceRefusal}
 use Rattle.data_source.specs.declared.refusal.SourceRefusal.TheVariants as source
 use Rattle.site_inputs.specs.declared.fault.Fault.{Fault}
 use Rattle.site_inputs.specs.declared.fault.Fault.TheVariants.{Refused, NoMemory}
@@ -18,29 +20,40 @@ empty_building = record {
   graph = record { nodes = []; edges = []; members = [] };
 }
 
--- the file is refused for this, and leaves some graph
-pub record IsRefusedFor (path : List ℕ) (b : Building) (bytes : List ℕ)
-    (refusal : Refusal) : Type 0 where
-  pub left : Building
-  pub takes : Takes path data_limit bytes b left (Err (source.Refused refusal.number refusal.place))
-  pub its : refusal.file ≡ path
+-- the bytes of the file of this path are read by the strict rules, or leniently
+abbrev pub TakesIn : (lenient : Bool) → List ℕ → List ℕ → Building → Building
+    → Result ⊤ SourceRefusal → Type 0
+TakesIn false path bytes b c result = Takes path data_limit bytes b c result
+TakesIn true path bytes b c result = TakesLeniently path data_limit bytes b c result
 
--- How the bytes of a data file end, behind what the files before it state: with the graph that has what they state too,
--- or refused. They are read by the format that the end of the path reports.
-abbrev pub TextTaken : List ℕ → Building → List ℕ → Result Building Fault → Type 0
-TextTaken path b bytes (Ok c) = Takes path data_limit bytes b c (Ok tt)
-TextTaken path b bytes (Err (Refused refusal)) = IsRefusedFor path b bytes refusal
-TextTaken path b bytes (Err NoMemory) = ⊤
-TextTaken path b bytes (Err fault) = ⊥
+module _ (lenient : Bool) where
+  -- the file is refused for this, and leaves some graph
+  pub record IsRefusedFor (path : List ℕ) (b : Building) (bytes : List ℕ)
+      (refusal : Refusal) : Type 0 where
+    pub left : Building
+    pub takes : TakesIn lenient path bytes b left (Err (source.Refused refusal.number refusal.place))
+    pub its : refusal.file ≡ path
 
--- How a data file ends: it is read, and then its bytes are taken.
-abbrev pub SourceEnds : FileMap → List ℕ → Building → Result Building Fault → Type 0
-SourceEnds map path b = Then (FileEnds data_limit map path) (TextTaken path b)
+  -- How the bytes of a data file end, behind what the files before it state: with the graph that has what they state
+  -- too, or refused. They are read by the format that the end of the path reports.
+  abbrev pub TextTaken : List ℕ → Building → List ℕ → Result Building Fault → Type 0
+  TextTaken path b bytes (Ok c) = TakesIn lenient path bytes b c (Ok tt)
+  TextTaken path b bytes (Err (Refused refusal)) = IsRefusedFor path b bytes refusal
+  TextTaken path b bytes (Err NoMemory) = ⊤
+  TextTaken path b bytes (Err fault) = ⊥
 
--- each file behind those before it, and then the graph
-abbrev pub GraphEnds : FileMap → Building → List (List ℕ) → Result DataGraph Fault → Type 0
-GraphEnds map b [] = Gives b.graph
-GraphEnds map b (path ∷ paths) = Then (SourceEnds map path b) (λ c. GraphEnds map c paths)
+  -- How a data file ends: it is read, and then its bytes are taken.
+  abbrev pub SourceEnds : FileMap → List ℕ → Building → Result Building Fault → Type 0
+  SourceEnds map path b = Then (FileEnds data_limit map path) (TextTaken path b)
+
+  -- each file behind those before it, and then the graph
+  abbrev pub FilesEnd : FileMap → Building → List (List ℕ) → Result DataGraph Fault → Type 0
+  FilesEnd map b [] = Gives b.graph
+  FilesEnd map b (path ∷ paths) = Then (SourceEnds map path b) (λ c. FilesEnd map c paths)
+
+-- How the data files of a command end: each is read as the command says.
+abbrev pub GraphEnds : FileMap → Building → DataFiles → Result DataGraph Fault → Type 0
+GraphEnds map b files = FilesEnd files.lenient map b files.paths
 
 -- the building that a file leaves, with how it ended
 abbrev pub with_building : Building → Result ⊤ Fault → Result Building Fault

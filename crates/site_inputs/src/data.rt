@@ -9,6 +9,7 @@ ghost use Rattle.site_inputs.specs.Sites.{QueryEnds, SiteTaken, DataInputsEnd};
 use crate::fault::{Fault, refused};
 use crate::inputs::{gather, load_graph};
 use crate::site::load_query;
+use command_spec::DataFiles;
 use composed_data::composed_data;
 use edge_io::Files;
 use run_report::Place;
@@ -48,14 +49,14 @@ fn take_site(
 fn load_over<F: Files>(
     alloc: Global,
     files: &mut F,
-    sources: &[Str],
+    sources: &DataFiles,
     path: &Str,
 ) -> Result<DataInputs, Fault>
     ensures ends { ForSome (F.contents files.old) (λ map.
         Then (GraphEnds map empty_building sources.now)
         (λ raw. Then (QueryEnds map path.now) (λ first. SiteTaken path.now raw first)) result) }
     ensures same { F.contents files.new ≡ F.contents files.old }
-    ensures cause { ReadsHaveCause (sources.now ++ (path.now ∷ []))
+    ensures cause { ReadsHaveCause (sources.now.paths ++ (path.now ∷ []))
         (F.failed_reads files.old) (F.failed_reads files.new) result }
     ensures writes { F.failed_writes files.new ≡ F.failed_writes files.old }
 {
@@ -72,7 +73,7 @@ fn load_over<F: Files>(
 pub fn load_data<F: Files>(
     alloc: Global,
     files: &mut F,
-    sources: &[Str],
+    sources: &DataFiles,
     over: &Option<Str>,
 ) -> Result<DataInputs, Fault>
     ensures ends { ForSome (F.contents files.old) (λ map.

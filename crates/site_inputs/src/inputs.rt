@@ -1,12 +1,12 @@
 // The inputs, each read and decoded before the next.
 ghost use Rattle.std.specs.Prelude.{◌≡◌, ◌⊎◌, ◌<◌, ◌^◌, ◌∷◌, [], ℕ, length, Ok, Err, ⊤, Result};
 ghost use Rattle.std.specs.Option.{ForSome};
-ghost use Rattle.sd_graph.specs.Statement.{Building};
 ghost use Rattle.site_inputs.specs.Runs.{FileEnds, ReadsHaveCause};
-ghost use Rattle.site_inputs.specs.Sources.{TextTaken, SourceEnds, GraphEnds, empty_building, graph_result, with_building};
+ghost use Rattle.site_inputs.specs.Sources.{TakesIn, TextTaken, SourceEnds, FilesEnd, GraphEnds, empty_building, graph_result, with_building};
 
 use crate::fault::{Fault, refused, unread};
-use data_source::{SourceRefusal, read_source};
+use command_spec::DataFiles;
+use data_source::{SourceRefusal, read_source, read_source_leniently};
 use edge_io::{Files, ReadEnd};
 use run_report::Place;
 use sd_graph::{Graph, GraphBuilder, PROGRAM_LIMITS};
@@ -42,11 +42,34 @@ pub fn read_file<F: Files>(
     }
 }
 
-// Takes what the bytes of a data file state into the graph, read by the format that the path reports.
-fn take_text(alloc: Global, path: &Str, bytes: &[u8], graph: &mut GraphBuilder) -> Result<(), Fault>
-    ensures { TextTaken path.now graph.old bytes.now (with_building graph.new result) }
+// Adds what the bytes of a data file state to the graph, read by the strict rules or leniently.
+fn read_in(
+    alloc: Global,
+    lenient: bool,
+    path: &Str,
+    bytes: &[u8],
+    graph: &mut GraphBuilder,
+) -> Result<(), SourceRefusal>
+    ensures { TakesIn lenient path.now bytes.now graph.old graph.new result }
 {
-    match read_source(alloc, path, bytes, DATA_LIMIT, graph) {
+    if lenient {
+        read_source_leniently(alloc, path, bytes, DATA_LIMIT, graph)
+    } else {
+        read_source(alloc, path, bytes, DATA_LIMIT, graph)
+    }
+}
+
+// Takes what the bytes of a data file state into the graph, read by the format that the path reports.
+fn take_text(
+    alloc: Global,
+    lenient: bool,
+    path: &Str,
+    bytes: &[u8],
+    graph: &mut GraphBuilder,
+) -> Result<(), Fault>
+    ensures { TextTaken lenient path.now graph.old bytes.now (with_building graph.new result) }
+{
+    match read_in(alloc, lenient, path, bytes, graph) {
         Ok(()) => Ok(()),
         Err(SourceRefusal::Refused { number, place }) => Err(refused(alloc, path, number, place)),
         Err(SourceRefusal::NoMemory) => Err(Fault::NoMemory),
@@ -57,18 +80,40 @@ fn take_text(alloc: Global, path: &Str, bytes: &[u8], graph: &mut GraphBuilder) 
 fn take_source<F: Files>(
     alloc: Global,
     files: &mut F,
+    lenient: bool,
     path: &Str,
     graph: &mut GraphBuilder,
 ) -> Result<(), Fault>
     ensures ends { ForSome (F.contents files.old) (λ map.
-        SourceEnds map path.now graph.old (with_building graph.new result)) }
+        SourceEnds lenient map path.now graph.old (with_building graph.new result)) }
     ensures same { F.contents files.new ≡ F.contents files.old }
     ensures cause { ReadsHaveCause (path.now ∷ [])
         (F.failed_reads files.old) (F.failed_reads files.new) result }
     ensures writes { F.failed_writes files.new ≡ F.failed_writes files.old }
 {
     let bytes = read_file(alloc, files, path, DATA_LIMIT)?;
-    take_text(alloc, path, bytes.bytes(), graph)
+    take_text(alloc, lenient, path, bytes.bytes(), graph)
+}
+
+// What the files at these paths state together, gathered.
+fn gather_files<F: Files>(
+    alloc: Global,
+    files: &mut F,
+    lenient: bool,
+    paths: &[Str],
+) -> Result<GraphBuilder, Fault>
+    ensures ends { ForSome (F.contents files.old) (λ map.
+        FilesEnd lenient map empty_building paths.now (graph_result result)) }
+    ensures same { F.contents files.new ≡ F.contents files.old }
+    ensures cause { ReadsHaveCause paths.now
+        (F.failed_reads files.old) (F.failed_reads files.new) result }
+    ensures writes { F.failed_writes files.new ≡ F.failed_writes files.old }
+{
+    let mut graph = GraphBuilder::new(alloc, PROGRAM_LIMITS);
+    for path in paths {
+        take_source(alloc, files, lenient, path, &mut graph)?;
+    }
+    Ok(graph)
 }
 
 /// What the data files state together, gathered.
@@ -77,30 +122,30 @@ fn take_source<F: Files>(
 pub(crate) fn gather<F: Files>(
     alloc: Global,
     files: &mut F,
-    sources: &[Str],
+    sources: &DataFiles,
 ) -> Result<GraphBuilder, Fault>
     ensures ends { ForSome (F.contents files.old) (λ map.
         GraphEnds map empty_building sources.now (graph_result result)) }
     ensures same { F.contents files.new ≡ F.contents files.old }
-    ensures cause { ReadsHaveCause sources.now
+    ensures cause { ReadsHaveCause sources.now.paths
         (F.failed_reads files.old) (F.failed_reads files.new) result }
     ensures writes { F.failed_writes files.new ≡ F.failed_writes files.old }
 {
-    let mut graph = GraphBuilder::new(alloc, PROGRAM_LIMITS);
-    for path in sources {
-        take_source(alloc, files, path, &mut graph)?;
-    }
-    Ok(graph)
+    gather_files(alloc, files, sources.lenient, sources.paths.items())
 }
 
 /// The union of what the data files state.
 /// # Errors
 /// The first file in their order that is refused or unread, or out of memory.
-pub fn load_graph<F: Files>(alloc: Global, files: &mut F, sources: &[Str]) -> Result<Graph, Fault>
+pub fn load_graph<F: Files>(
+    alloc: Global,
+    files: &mut F,
+    sources: &DataFiles,
+) -> Result<Graph, Fault>
     ensures ends { ForSome (F.contents files.old) (λ map.
         GraphEnds map empty_building sources.now result) }
     ensures same { F.contents files.new ≡ F.contents files.old }
-    ensures cause { ReadsHaveCause sources.now
+    ensures cause { ReadsHaveCause sources.now.paths
         (F.failed_reads files.old) (F.failed_reads files.new) result }
     ensures writes { F.failed_writes files.new ≡ F.failed_writes files.old }
 {

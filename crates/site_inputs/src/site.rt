@@ -10,6 +10,7 @@ use crate::data::load_data;
 use crate::fault::{Fault, refused};
 use crate::inputs::read_file;
 use crate::told::{told_of_query, told_of_templates};
+use command_spec::DataFiles;
 use edge_io::Files;
 use query_reader::read_query;
 use run_report::Place;
@@ -97,7 +98,7 @@ fn load_templates<F: Files>(alloc: Global, files: &mut F, path: &Str) -> Result<
 pub fn load_inputs<F: Files>(
     alloc: Global,
     files: &mut F,
-    sources: &[Str],
+    sources: &DataFiles,
     over: &Option<Str>,
     query: &Str,
     templates: &Str,

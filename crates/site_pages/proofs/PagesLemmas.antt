@@ -1,23 +1,35 @@
 -- What a text makes of a site's data.
-use Rattle.std.proofs.Common.{◌≡◌, ◌↔◌, ℕ, Bool, true, false, List, Option, refl, sym, ap, ◌∙◌, true≢false, if◌then◌else◌}
+use Rattle.std.proofs.Common.{◌≡◌, ◌↔◌, ℕ, Bool, true, false, List, Option, map, refl, sym, ap, subst, ◌∙◌, true≢false, if◌then◌else◌}
+use Rattle.std.specs.Prelude.{◌&&◌, ◌||◌, not, Some}
+use Rattle.sd_value.specs.declared.Term.{Term}
 use Rattle.graph_spec.specs.DataGraph.{DataGraph}
 use Rattle.query_spec.specs.Query as plain
 use Rattle.tmpl.specs.Body.{TemplateFile}
 use Rattle.site_spec.specs.Site.{Scope}
 use Rattle.click_time.specs.Page.{PageFixed}
-use Rattle.versions.specs.declared.Changed.TheVariants.{Taken, Refused}
-use Rattle.versions.specs.declared.Same.{Same}
+use Rattle.versions.specs.declared.Changed.{Changed}
+use Rattle.versions.specs.declared.Changed.TheVariants.{Refused}
+use Rattle.versions.specs.Changes.{TellsEach}
 use Rattle.data_change.proofs.TheReader.{accepts_made, accepts_none}
 use Rattle.composed_change.specs.Texts.{MakesData}
 use Rattle.composed_change.proofs.Reading.{one_data}
-use Rattle.composed_change.proofs.Readers.{the_readers}
-use Rattle.site_pages.specs.Texts.{Current, data_texts}
+use Rattle.edit_spec.specs.declared.Edit.{Edit}
+use Rattle.edit_change.specs.Edits.{edit_under, is_taken, edited}
+use Rattle.edit_change.proofs.TheTouching.{the_touching}
+use Rattle.site_pages.specs.declared.made.MadePages.{MadePages}
+use Rattle.site_pages.specs.declared.made.MadePages.TheVariants.{Demanded, FromWhole}
+use Rattle.site_pages.specs.Made.{fixed_of, store_in}
+use Rattle.site_pages.specs.Rules.{the_rules}
+use Rattle.site_pages.specs.Texts.{Current, over_data, edit_stays, data_texts}
 
 abbrev pub changed : Current → List ℕ → Current
-changed = (data_texts the_readers).changed
+changed = (data_texts the_rules).changed
 
 abbrev pub accepts : Current → List ℕ → Bool
-accepts = (data_texts the_readers).accepts
+accepts = (data_texts the_rules).accepts
+
+abbrev pub stays : Current → List ℕ → Term → Bool
+stays = (data_texts the_rules).stays
 
 -- pages over the same data, query and templates have one meaning
 pub same_fixed : (f : PageFixed) (graph : DataGraph) (scope : Scope) (templates : TemplateFile) → f.graph ≡ graph → f.scope ≡ scope → f.templates ≡ templates
@@ -29,36 +41,103 @@ pub same_current : (first : Option plain.Query) (f : PageFixed) (graph : DataGra
     → ◌≡◌ {A = Current} (record { first = first; pages = f }) (record { first = first; pages = record { graph = graph; scope = scope; templates = templates } })
 same_current first f graph scope templates is = λ i. record { first = first; pages = is i }
 
--- the data where the reader accepts the text or not
-abbrev pub by_test : Current → List ℕ → Bool → Current
-by_test now text test = record now { pages = record now.pages { graph = if test then (the_readers now.first).stated text else now.pages.graph } }
+-- pages over other data, with the query and the templates of before
+pub over_is : (before : Current) (now : PageFixed) (G : DataGraph) (scope : Scope) (templates : TemplateFile) → before.pages.scope ≡ scope → before.pages.templates ≡ templates
+    → now ≡ record { graph = G; scope = scope; templates = templates } → ◌≡◌ {A = Current} (record { first = before.first; pages = now }) (over_data before G)
+over_is before now G scope templates scope_is templates_are is =
+    same_current before.first now G scope templates is
+    ∙ (λ i. record { first = before.first; pages = record { graph = G; scope = sym scope_is i; templates = sym templates_are i } })
 
-module _ (before : Current) (text : List ℕ) (none : (G : DataGraph) → ¬ MakesData before.first text G) where
-  -- a text that makes no data is refused, and changes nothing
-  pub is_refused : accepts before text ≡ false
-  is_refused = accepts_none (MakesData before.first) (the_readers before.first) text none
+module _ (before : Current) (text : List ℕ) where
+  abbrev is_data : Bool
+  is_data = (the_rules.data_readers before.first).accepts text
 
-  pub refused_state : before ≡ changed before text
-  refused_state = sym (ap (by_test before text) is_refused)
+  abbrev stated : DataGraph
+  stated = (the_rules.data_readers before.first).stated text
 
-  pub refused_iff : (Refused ≡ Refused) ↔ (accepts before text ≡ false)
-  refused_iff = (λ same. is_refused, λ is. refl)
+  abbrev found : Option Edit
+  found = edit_under the_rules.edits before.first text
 
-module _ (before : Current) (text : List ℕ) (G : DataGraph) (makes : MakesData before.first text G) where
-  abbrev Accepted : Type 0
-  Accepted = (accepts before text ≡ true) × ((the_readers before.first).stated text ≡ G)
+  abbrev left : DataGraph
+  left = edited found before.pages.graph
 
-  -- a text that makes data is accepted
-  is_accepted : Accepted
-  is_accepted = accepts_made (MakesData before.first) (the_readers before.first) text (one_data before.first text) G makes
+  abbrev stays_by : Bool → Term → Bool
+  stays_by b t = if b then false else edit_stays the_rules before found t
 
-  pub taken_iff : (same : Same) → (Taken same ≡ Refused) ↔ (accepts before text ≡ false)
-  taken_iff same = (λ never. absurd cc, λ is. absurd (true≢false (sym is_accepted.0 ∙ is)))
+  -- ---- a text that makes data is accepted, and its data are the current ones
 
-  -- and its data are the current ones
-  pub taken_state : (now : PageFixed) (scope : Scope) (templates : TemplateFile) → before.pages.scope ≡ scope → before.pages.templates ≡ templates
-      → now ≡ record { graph = G; scope = scope; templates = templates } → ◌≡◌ {A = Current} (record { first = before.first; pages = now }) (changed before text)
-  taken_state now scope templates scope_is templates_are is =
-      same_current before.first now G scope templates is
-      ∙ (λ i. record { first = before.first; pages = record { graph = sym is_accepted.1 i; scope = sym scope_is i; templates = sym templates_are i } })
-      ∙ sym (ap (by_test before text) is_accepted.0)
+  module _ (G : DataGraph) (makes : MakesData before.first text G) where
+    read : (is_data ≡ true) × (stated ≡ G)
+    read = accepts_made (MakesData before.first) (the_rules.data_readers before.first) text (one_data before.first text) G makes
+
+    pub data_changed : (now : Current) → now ≡ over_data before G → now ≡ changed before text
+    data_changed now is =
+        is ∙ sym (ap (λ (b : Bool). over_data before (if b then stated else left)) read.0 ∙ ap (over_data before) read.1)
+
+    pub data_accepted : accepts before text ≡ true
+    data_accepted = ap (λ (b : Bool). b || is_taken found before.pages.graph) read.0
+
+    pub data_refused : (c : Changed) → (c ≡ Refused → ⊥) → (c ≡ Refused) ↔ (accepts before text ≡ false)
+    data_refused c never = (λ e. absurd (never e), λ f. absurd (true≢false (sym data_accepted ∙ f)))
+
+    none_stays_so : ◌≡◌ {A = Term → Bool} (λ t. false) (stays before text)
+    none_stays_so = sym (ap stays_by read.0)
+
+    pub data_flags : (kept : List Term) (c : Changed) → TellsEach (λ t. false) kept c → TellsEach (stays before text) kept c
+    data_flags kept c tells = subst (λ (s : Term → Bool). TellsEach s kept c) none_stays_so tells
+
+    pub data_stays : (t : Term) → stays before text t ≡ false
+    data_stays t = ap (λ (b : Bool). if b then false else edit_stays the_rules before found t) read.0
+
+  -- ---- any other text may be an edit
+
+  module _ (none : (G : DataGraph) → ¬ MakesData before.first text G) where
+    not_data : is_data ≡ false
+    not_data = accepts_none (MakesData before.first) (the_rules.data_readers before.first) text none
+
+    pub edit_changed : (now : Current) → now ≡ over_data before left → now ≡ changed before text
+    edit_changed now is = is ∙ sym (ap (λ (b : Bool). over_data before (if b then stated else left)) not_data)
+
+    taken_is : accepts before text ≡ is_taken found before.pages.graph
+    taken_is = ap (λ (b : Bool). b || is_taken found before.pages.graph) not_data
+
+    pub edit_refused : (c : Changed) → (c ≡ Refused) ↔ (is_taken found before.pages.graph ≡ false) → (c ≡ Refused) ↔ (accepts before text ≡ false)
+    edit_refused c h = (λ e. taken_is ∙ h.0 e, λ f. h.1 (sym taken_is ∙ f))
+
+    stays_so : ◌≡◌ {A = Term → Bool} (edit_stays the_rules before found) (stays before text)
+    stays_so = sym (ap stays_by not_data)
+
+    pub edit_flags : (kept : List Term) (c : Changed) → TellsEach (edit_stays the_rules before found) kept c → TellsEach (stays before text) kept c
+    edit_flags kept c tells = subst (λ (s : Term → Bool). TellsEach s kept c) stays_so tells
+
+    pub edit_stays_is : (t : Term) → stays before text t ≡ edit_stays the_rules before found t
+    edit_stays_is t = ap (λ (b : Bool). if b then false else edit_stays the_rules before found t) not_data
+
+-- ---- an edit of the pages' own store
+
+graph_in : (pages : MadePages) → (store_in pages).graph ≡ (fixed_of pages).graph
+graph_in (Demanded click) = refl
+graph_in (FromWhole whole) = refl
+
+module _ (first : Option plain.Query) (old taken : MadePages) (same : taken ≡ old) where
+  graph_is : (store_in taken).graph ≡ (fixed_of old).graph
+  graph_is = ap (λ (p : MadePages). (store_in p).graph) same ∙ graph_in old
+
+  abbrev Before : Current
+  Before = record { first = first; pages = fixed_of old }
+
+  pub edit_state : (o : Option Edit) (new : PageFixed) (scope : Scope) (templates : TemplateFile) → (fixed_of old).scope ≡ scope → (fixed_of old).templates ≡ templates
+      → new ≡ record { graph = edited o (store_in taken).graph; scope = scope; templates = templates }
+      → ◌≡◌ {A = Current} (record { first = first; pages = new }) (over_data Before (edited o (fixed_of old).graph))
+  edit_state o new scope templates scope_is templates_are is =
+      over_is Before new (edited o (fixed_of old).graph) scope templates scope_is templates_are
+      (is ∙ (λ i. record { graph = edited o (graph_is i); scope = scope; templates = templates }))
+
+  pub edit_room : (o : Option Edit) (room : Bool) → room ≡ is_taken o (store_in taken).graph → room ≡ is_taken o (fixed_of old).graph
+  edit_room o room is = is ∙ ap (is_taken o) graph_is
+
+pub edit_told : (before : Current) (e : Edit) (scope : Scope) (templates : TemplateFile) (kept : List Term) (flags : List Bool) → before.pages.scope ≡ scope
+    → before.pages.templates ≡ templates → is_taken (Some e) before.pages.graph ≡ true
+    → flags ≡ map (λ (t : Term). not (the_touching.touches e scope templates t.function)) kept → flags ≡ map (edit_stays the_rules before (Some e)) kept
+edit_told before e scope templates kept flags scope_is templates_are room is =
+    is ∙ (λ i. map (λ (t : Term). sym room i && not (the_touching.touches e (sym scope_is i) (sym templates_are i) t.function)) kept)

@@ -1,11 +1,15 @@
 -- What texts do to the data of a site.
-use Rattle.std.specs.Prelude.{false, Option}
+use Rattle.std.specs.Prelude.{◌||◌, Bool, false, Option, if◌then◌else◌}
+use Rattle.sd_value.specs.declared.Term.{Term}
+use Rattle.graph_spec.specs.DataGraph.{DataGraph}
 use Rattle.query_spec.specs.Query as plain
 use Rattle.tmpl.specs.Body.{TemplateFile}
 use Rattle.page_spec.specs.Site.{Site}
 use Rattle.click_time.specs.Page.{PageFixed, page_site}
-use Rattle.data_change.specs.Texts.{data_after}
-use Rattle.composed_change.specs.Texts.{Readers}
+use Rattle.edit_spec.specs.declared.Edit.{Edit}
+use Rattle.edit_change.specs.Edits.{edit_under, is_taken, edited}
+use Rattle.edit_change.specs.Touching.{spares}
+use Rattle.site_pages.specs.Rules.{TextRules}
 use Rattle.serving_spec.specs.Changes.{Changes}
 
 -- What is current in a run: the data, the query and the templates of its pages, and the first query, if there is one, of
@@ -22,15 +26,28 @@ current_site current = page_site current.pages
 abbrev pub current_templates : Current → TemplateFile
 current_templates current = current.pages.templates
 
--- What texts do to the data of a site: the data that an accepted text makes replace them all, and any other text changes
--- nothing. No page is said to stay.
-abbrev pub data_texts : Readers → Changes Current
-data_texts readers = record {
-  changed = λ current text. record current {
-    pages = record current.pages {
-      graph = data_after (readers current.first) current.pages.graph text;
-    };
-  };
-  accepts = λ current text. (readers current.first).accepts text;
-  stays = λ current text term. false;
+-- the same over other data
+abbrev pub over_data : Current → DataGraph → Current
+over_data current G = record current { pages = record current.pages { graph = G } }
+
+-- whether the pages of the term surely stay at an edit
+abbrev pub edit_stays : TextRules → Current → Option Edit → Term → Bool
+edit_stays rules current o term =
+    spares rules.touching o current.pages.graph current.pages.scope current.pages.templates
+    term.function
+
+-- What texts do to the data of a site: the data that an accepted data text makes replace them all, and no page is said to
+-- stay. Any other text that spells an edit for whose graph there is room makes that edit, and exactly the pages are said
+-- to stay that rest on nothing which it touches. Any other text changes nothing.
+abbrev pub data_texts : TextRules → Changes Current
+data_texts rules = record {
+  changed = λ current text. over_data current
+      (if (rules.data_readers current.first).accepts text
+      then (rules.data_readers current.first).stated text
+      else edited (edit_under rules.edits current.first text) current.pages.graph);
+  accepts = λ current text. (rules.data_readers current.first).accepts text
+      || is_taken (edit_under rules.edits current.first text) current.pages.graph;
+  stays = λ current text term.
+      if (rules.data_readers current.first).accepts text then false
+      else edit_stays rules current (edit_under rules.edits current.first text) term;
 }

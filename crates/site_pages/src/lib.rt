@@ -4,17 +4,20 @@
 ghost use Rattle.std.specs.Prelude.{◌≡◌, IfOk, false, map};
 ghost use Rattle.tmpl.specs.Reading.{file_of};
 ghost use Rattle.query_blocks.specs.Blocks.{AreCheckedBlocks, scope_of};
-ghost use Rattle.composed_change.proofs.Readers.{the_readers};
+ghost use Rattle.site_pages.specs.Rules.{TextRules, the_rules};
 ghost use Rattle.site_pages.specs.Texts.{Current, current_site, current_templates, data_texts};
 
+mod live;
 mod made;
 
 use composed_change::read_text;
+use edit_change::{read_text_edit, spared};
+use edit_spec::Edit;
 pub use made::PageSource;
-use made::{MadePages, pages_over};
+use made::{MadePages, pages_after, pages_over};
 use page_spec::Outcome;
 use query_blocks::QueryBlocks;
-use sd_graph::Graph;
+use sd_graph::{Graph, GraphBuilder, PROGRAM_LIMITS};
 use sd_value::{NoMemory, Str, Term};
 use site_view::Pages;
 use std::alloc::Global;
@@ -80,6 +83,108 @@ impl<'q> SitePages<'q> {
     }
 }
 
+// Pages over no data, which stand in for others that are being changed.
+fn no_pages<'q>(
+    alloc: Global,
+    scopes: &'q QueryBlocks,
+    templates: &'q Templates,
+) -> Result<MadePages<'q>, NoMemory>
+    requires { AreCheckedBlocks scopes.now.version scopes.now.blocks.items }
+    ensures scope { IfOk result (λ pages.
+        (⟦<MadePages<'q> as Pages>⟧.fixed pages).scope ≡ scope_of scopes.now) }
+    ensures templates { IfOk result (λ pages.
+        (⟦<MadePages<'q> as Pages>⟧.fixed pages).templates ≡ file_of templates.now) }
+    ensures own { IfOk result (λ pages. ⟦<MadePages<'q> as Pages>⟧.Own pages) }
+{
+    let nothing = GraphBuilder::new(alloc, PROGRAM_LIMITS).finish(alloc)?;
+    let pages = pages_over(alloc, nothing, scopes, templates, PageSource::Demand)?;
+    Ok(pages)
+}
+
+impl<'q> SitePages<'q> {
+    ghost use Rattle.std.specs.Prelude.{◌≡◌, ◌↔◌, false, IfOk, Some};
+    ghost use Rattle.edit_spec.specs.Edited.{IsOfData};
+    ghost use Rattle.edit_change.specs.Edits.{edit_under, edited, is_taken};
+    ghost use Rattle.edit_change.proofs.TheEdits.{the_edits};
+    ghost use Rattle.site_pages.specs.Rules.{the_rules};
+    ghost use Rattle.versions.specs.Changes.{TellsEach};
+    ghost use Rattle.site_pages.specs.Texts.{edit_stays, over_data};
+
+    // Takes other data. The new ones are indexed before the old ones go, and so is the site made whole, where pages come
+    // from it.
+    fn take_data(&mut self, alloc: Global, graph: Graph, kept: &[Term]) -> Result<Changed, NoMemory>
+        requires own { ⟦<SitePages<'q> as Versions>⟧.Own self.old }
+        ensures own { ⟦<SitePages<'q> as Versions>⟧.Own self.new }
+        ensures state { IfOk result (λ c. ⟦<SitePages<'q> as Versions>⟧.state self.new
+            ≡ over_data (⟦<SitePages<'q> as Versions>⟧.state self.old) graph) }
+        ensures taken { IfOk result (λ c. c ≡ Changed.Refused → ⊥) }
+        ensures flags { IfOk result (TellsEach (λ t. false) kept.now) }
+    {
+        let flags = none_stays(alloc, kept)?;
+        self.pages = pages_over(alloc, graph, self.scopes, self.templates, self.source)?;
+        Ok(Changed::Taken(Same { flags }))
+    }
+
+    // Makes an edit, where there is room for the graph after it.
+    fn take_edit(&mut self, alloc: Global, edit: &Edit, kept: &[Term]) -> Result<Changed, NoMemory>
+        requires own { ⟦<SitePages<'q> as Versions>⟧.Own self.old }
+        requires of_data { IsOfData edit.now }
+        ensures own { ⟦<SitePages<'q> as Versions>⟧.Own self.new }
+        ensures state { IfOk result (λ c. ⟦<SitePages<'q> as Versions>⟧.state self.new
+            ≡ over_data (⟦<SitePages<'q> as Versions>⟧.state self.old) (edited (Some edit.now)
+            (⟦<SitePages<'q> as Versions>⟧.state self.old).pages.graph)) }
+        ensures refused { IfOk result (λ c. (c ≡ Changed.Refused) ↔ (is_taken (Some edit.now)
+            (⟦<SitePages<'q> as Versions>⟧.state self.old).pages.graph ≡ false)) }
+        ensures flags { IfOk result (TellsEach (edit_stays the_rules
+            (⟦<SitePages<'q> as Versions>⟧.state self.old) (Some edit.now)) kept.now) }
+    {
+        let flags = spared(alloc, self.scopes, self.templates, edit, kept)?;
+        let nothing = no_pages(alloc, self.scopes, self.templates)?;
+        let pages = std::mem::replace(&mut self.pages, nothing);
+        let (pages, room) = pages_after(
+            alloc,
+            pages,
+            self.scopes,
+            self.templates,
+            self.source,
+            edit,
+        )?;
+        self.pages = pages;
+        if room {
+            Ok(Changed::Taken(Same { flags }))
+        } else {
+            Ok(Changed::Refused)
+        }
+    }
+
+    // Makes the edit that a text spells, if it spells one that is taken.
+    fn take_text_edit(
+        &mut self,
+        alloc: Global,
+        text: &Str,
+        kept: &[Term],
+    ) -> Result<Changed, NoMemory>
+        requires own { ⟦<SitePages<'q> as Versions>⟧.Own self.old }
+        ensures own { ⟦<SitePages<'q> as Versions>⟧.Own self.new }
+        ensures state { IfOk result (λ c. ⟦<SitePages<'q> as Versions>⟧.state self.new
+            ≡ over_data (⟦<SitePages<'q> as Versions>⟧.state self.old) (edited
+            (edit_under the_edits (⟦<SitePages<'q> as Versions>⟧.state self.old).first text.now)
+            (⟦<SitePages<'q> as Versions>⟧.state self.old).pages.graph)) }
+        ensures refused { IfOk result (λ c. (c ≡ Changed.Refused) ↔ (is_taken
+            (edit_under the_edits (⟦<SitePages<'q> as Versions>⟧.state self.old).first text.now)
+            (⟦<SitePages<'q> as Versions>⟧.state self.old).pages.graph ≡ false)) }
+        ensures flags { IfOk result (TellsEach (edit_stays the_rules
+            (⟦<SitePages<'q> as Versions>⟧.state self.old)
+            (edit_under the_edits (⟦<SitePages<'q> as Versions>⟧.state self.old).first text.now))
+            kept.now) }
+    {
+        match read_text_edit(alloc, text, self.first)? {
+            Some(edit) => self.take_edit(alloc, &edit, kept),
+            None => Ok(Changed::Refused),
+        }
+    }
+}
+
 impl<'q> Versions for SitePages<'q> {
     ghost State = { Current };
 
@@ -96,11 +201,11 @@ impl<'q> Versions for SitePages<'q> {
 
     ghost templates = { current_templates };
 
-    ghost changed = { (data_texts the_readers).changed };
+    ghost changed = { (data_texts the_rules).changed };
 
-    ghost accepts = { (data_texts the_readers).accepts };
+    ghost accepts = { (data_texts the_rules).accepts };
 
-    ghost stays = { (data_texts the_readers).stays };
+    ghost stays = { (data_texts the_rules).stays };
 
     ghost looks = { λ state before term after. Unit {0} };
 
@@ -119,17 +224,20 @@ impl<'q> Versions for SitePages<'q> {
         self.pages.page(alloc, term)
     }
 
-    /// The new data are loaded and indexed before the old ones go, and so is the site made whole, where pages come from it.
+    /// A text that states data replaces them all. Any other may be an edit of them.
     fn change(&mut self, alloc: Global, text: &Str, kept: &[Term]) -> Result<Changed, NoMemory> {
-        let Some(graph) = read_text(alloc, text, self.first)? else {
-            return Ok(Changed::Refused);
-        };
-        let flags = none_stays(alloc, kept)?;
-        self.pages = pages_over(alloc, graph, self.scopes, self.templates, self.source)?;
-        Ok(Changed::Taken(Same { flags }))
+        match read_text(alloc, text, self.first)? {
+            Some(graph) => self.take_data(alloc, graph, kept),
+            None => self.take_text_edit(alloc, text, kept),
+        }
     }
 
     fn hits(&self) -> u64 {
         0
     }
 }
+
+/// All texts of a run are read by rules that are functions.
+pub fn texts_have_rules()
+    ensures { TextRules }
+{}

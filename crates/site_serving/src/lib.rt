@@ -7,7 +7,7 @@ ghost use Rattle.command_spec.specs.Ranges.{AreLimits};
 ghost use Rattle.query_blocks.specs.Blocks.{scope_of};
 ghost use Rattle.query_blocks.specs.Roots.{root_of_bodies};
 ghost use Rattle.site_inputs.specs.Values.{inputs_of};
-ghost use Rattle.composed_change.proofs.Readers.{the_readers};
+ghost use Rattle.site_pages.specs.Rules.{the_rules};
 ghost use Rattle.site_serving.specs.Served.{ServesSite, ServesSiteBy, ServesSiteInSteps, StepsBy};
 
 use command_spec::RunLimits;
@@ -41,9 +41,9 @@ fn serve_inputs<W: Wire>(
     wire: &mut W,
 ) -> Result<Served, NoMemory>
     requires { AreLimits limits.now }
-    ensures serves { IfOk result (ServesSiteBy the_readers (inputs_of inputs) limits.now
+    ensures serves { IfOk result (ServesSiteBy the_rules (inputs_of inputs) limits.now
         (W.told wire.old) (W.told wire.new)) }
-    ensures steps { IfOk result (StepsBy the_readers (inputs_of inputs) limits.now
+    ensures steps { IfOk result (StepsBy the_rules (inputs_of inputs) limits.now
         (W.told wire.old) (W.told wire.new)) }
     ensures listens { (W.told wire.new).listens ≡ (W.told wire.old).listens }
     ensures watches { (W.told wire.new).watches ≡ (W.told wire.old).watches }
@@ -74,8 +74,9 @@ fn serve_inputs<W: Wire>(
 }
 
 /// Serves the pages of the site of the query over the data to the connections of a wire, within the limits. The data that an
-/// accepted text makes replace all data, and any other text changes nothing. With a first query these are the graph of its
-/// site over the data that the text states. Whatever the pages are made from, their bytes are the same. It never calls
+/// accepted data text makes replace all data; with a first query these are the graph of its site over the data that the
+/// text states. Without one an edit for whose graph there is room is made of the current data, and the kept pages that it
+/// can touch are dropped, and no others. Any other text changes nothing. Whatever the pages are made from, their bytes are the same. It never calls
 /// `listen` and `watch`.
 pub fn serve_site<W: Wire>(
     alloc: Global,

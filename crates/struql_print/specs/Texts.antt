@@ -1,11 +1,13 @@
 -- The canonical text of a query and of its parts.
-use Rattle.std.specs.Prelude.{ℕ, Bool, true, false, List, [], ◌∷◌, ◌++◌, map, codes, nat_eq, if◌then◌else◌}
+use Rattle.std.specs.Prelude.{ℕ, Bool, true, false, ◌&&◌, List, [], ◌∷◌, ◌++◌, map, codes, nat_eq, if◌then◌else◌}
 use Rattle.std.specs.Fmt.{signed_decimal}
-use Rattle.std.specs.List.{flat_map}
+use Rattle.std.specs.List.{flat_map, list_all}
+use Rattle.std.specs.Option.{is_none}
 use Rattle.sd_value.specs.declared.Datum.{Datum}
 use Rattle.sd_value.specs.declared.Datum.TheVariants as datum
 use Rattle.sd_value.specs.declared.Value.{Value}
 use Rattle.sd_value.specs.declared.Value.TheVariants.{Data, Page}
+use Rattle.sd_lex.specs.Bytes.{is_letter, is_name_byte}
 use Rattle.token_writer.specs.Writing.{quoted_text}
 use Rattle.rpe.specs.Regex.{Regex, label, any, empty, seq, alt, star}
 use Rattle.query_spec.specs.declared.Op.{Op}
@@ -15,6 +17,7 @@ use Rattle.query_spec.specs.declared.Test.TheVariants as test
 use Rattle.query_spec.specs.Query.{Operand, variable, constant, PathStep, arc_variable, expression, Condition, member}
 use Rattle.query_spec.specs.Query.{path, compare, one_of, kind, negation, SkolemTerm, Target, plain, made, LinkLabel}
 use Rattle.query_spec.specs.Query.{quoted, label_variable, Link, Collect, Body, Blocks, no_blocks, block, Query}
+use Rattle.struql_text.specs.Terminals.{keyword_of, test_of}
 
 -- the texts, with commas between them
 abbrev pub further : List (List ℕ) → List ℕ
@@ -61,6 +64,21 @@ regex_text (seq r s) =
 regex_text (alt r s) = regex_text r ++ (codes "|" ++ enclosed (is_alt s) (regex_text s))
 regex_text (star r) = enclosed (is_alt_or_seq r) (regex_text r) ++ codes "*"
 
+-- ---- collections
+
+-- a letter or `_`, then letters, digits and `_`
+abbrev pub is_name : List ℕ → Bool
+is_name [] = false
+is_name (b ∷ bytes) = is_letter b && list_all is_name_byte bytes
+
+-- as it is, it is read as a collection's name: it is a name, and neither a keyword nor a test
+abbrev pub is_bare : List ℕ → Bool
+is_bare c = is_name c && (is_none (keyword_of c) && is_none (test_of c))
+
+-- a collection's name, in quotes where it would else be read as something else
+abbrev pub collection_text : List ℕ → List ℕ
+collection_text c = if is_bare c then c else quoted_text c
+
 -- ---- terms and links
 
 -- Only numbers and texts are constants that a query can spell. Another value is by its bytes.
@@ -103,7 +121,8 @@ link_text k =
 
 -- `C(x)`
 abbrev pub collect_text : Collect → List ℕ
-collect_text c = c.collection ++ (codes "(" ++ (target_text c.target ++ codes ")"))
+collect_text c =
+    collection_text c.collection ++ (codes "(" ++ (target_text c.target ++ codes ")"))
 
 -- ---- conditions
 
@@ -131,7 +150,7 @@ test_text test.IsNode = codes "isNode"
 
 -- the text of a condition
 abbrev pub condition_text : Condition → List ℕ
-condition_text (member collection x) = collection ++ (codes "(" ++ (x ++ codes ")"))
+condition_text (member c x) = collection_text c ++ (codes "(" ++ (x ++ codes ")"))
 condition_text (path t s u) =
     operand_text t ++ (codes " -> " ++ (step_text s ++ (codes " -> " ++ operand_text u)))
 condition_text (compare t o u) =

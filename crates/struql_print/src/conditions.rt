@@ -5,6 +5,7 @@ ghost use Rattle.query_spec.specs.Query.{path, compare};
 ghost use Rattle.struql_ast.specs.Reading.{operand_of, step_of, condition_of};
 ghost use Rattle.struql_print.specs.Texts.{step_text, op_text, test_text, condition_text};
 
+use crate::collections::print_collection;
 use crate::listed::{Print, print_listed};
 use crate::regex::print_regex;
 use query_spec::{Op, Test};
@@ -46,12 +47,11 @@ fn test_word(test: Test) -> &'static [u8]
     }
 }
 
-// A collection's name or a test's word, and the variable behind it in parentheses.
-fn print_applied(word: &[u8], variable: &Str, out: &mut Vec<u8>) -> Result<(), NoMemory>
+// The variable in parentheses, behind a collection's name or a test's word.
+fn print_applied(variable: &Str, out: &mut Vec<u8>) -> Result<(), NoMemory>
     ensures { IfOk result (λ _. out.new.items ≡ out.old.items
-        ++ (word.now ++ (codes "(" ++ (variable.now ++ codes ")")))) }
+        ++ (codes "(" ++ (variable.now ++ codes ")"))) }
 {
-    put(word, out)?;
     put(b"(", out)?;
     put(variable.bytes(), out)?;
     put(b")", out)
@@ -100,7 +100,10 @@ pub fn print_condition(condition: &Condition, out: &mut Vec<u8>) -> Result<(), N
             collection,
             variable,
             ..
-        } => print_applied(collection.bytes(), variable, out),
+        } => {
+            print_collection(collection.bytes(), out)?;
+            print_applied(variable, out)
+        }
         Condition::Path { from, step, to, .. } => print_path(from, step, to, out),
         Condition::Compare {
             left,
@@ -118,7 +121,10 @@ pub fn print_condition(condition: &Condition, out: &mut Vec<u8>) -> Result<(), N
             print_listed(constants.items(), out)?;
             put(b"}", out)
         }
-        Condition::Kind { test, variable, .. } => print_applied(test_word(*test), variable, out),
+        Condition::Kind { test, variable, .. } => {
+            put(test_word(*test), out)?;
+            print_applied(variable, out)
+        }
         Condition::Not(inner, _) => {
             put(b"not(", out)?;
             print_condition(inner, out)?;

@@ -1,6 +1,7 @@
 //! The canonical text of queries, conditions, terms and links.
 #![tactic(auto)]
 
+mod collections;
 mod conditions;
 mod listed;
 mod query;

@@ -4,6 +4,7 @@ ghost use Rattle.std.specs.Prelude.{◌≡◌, ◌++◌, IfOk, ℕ, List, map};
 ghost use Rattle.struql_ast.specs.Reading.{operand_of, term_of, target_of, label_of, link_of, collect_of};
 ghost use Rattle.struql_print.specs.Texts.{joined, value_text, operand_text, term_text, target_text, label_text, link_text, collect_text};
 
+use crate::collections::print_collection;
 use crate::listed::{Print, print_listed};
 use sd_value::{Datum, NoMemory, Value};
 use struql_ast::{Collect, Link, LinkLabel, Operand, SkolemTerm, Target};
@@ -105,7 +106,7 @@ impl Print for Collect {
     ghost text = { λ c. collect_text (collect_of c) };
 
     fn print(&self, out: &mut Vec<u8>) -> Result<(), NoMemory> {
-        put(self.collection.bytes(), out)?;
+        print_collection(self.collection.bytes(), out)?;
         put(b"(", out)?;
         print_target(&self.target, out)?;
         put(b")", out)

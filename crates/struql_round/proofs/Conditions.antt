@@ -1,5 +1,6 @@
 -- The tokens of a condition's canonical text spell it.
 use Rattle.std.proofs.Common.{◌≡◌, ℕ, suc, true, List, [], ◌∷◌, ◌++◌, Some, None, refl, sym, ap, subst, append_assoc, inl, inr}
+use Rattle.std.specs.Prelude.{Option}
 use Rattle.std.proofs.lemmas.List.{append-nil}
 use Rattle.sd_value.specs.declared.Datum.TheVariants as datum
 use Rattle.sd_value.specs.declared.Value.{Value}
@@ -11,19 +12,25 @@ use Rattle.struql_ast.specs.declared.Operand as declared
 use Rattle.struql_ast.specs.declared.Operand.TheVariants as operand_kinds
 use Rattle.struql_ast.specs.Reading.{operand_of}
 use Rattle.struql_ast.specs.Written as tree
+use Rattle.query_spec.specs.declared.Test.{Test}
+use Rattle.token_reader.specs.Terminals.{is_sign}
 use Rattle.query_spec.specs.Query.{Operand, variable, constant, PathStep, arc_variable, expression, Condition, member, path, compare, one_of, kind, negation}
 use Rattle.grammar.specs.Grammar.{one, iterated}
 use Rattle.struql_text.specs.declared.keyword.Keyword.{Keyword}
 use Rattle.struql_text.specs.declared.keyword.Keyword.TheVariants as words
-use Rattle.struql_text.specs.Terminals.{from_to, is_keyword, name_value, operand_value, operand_span, constant_value}
+use Rattle.struql_text.specs.Terminals.{from_to, is_keyword, name_value, collection_value, test_of, operand_value, operand_span, constant_value}
 use Rattle.struql_text.specs.Expression.{expression_within, keyword}
 use Rattle.struql_text.specs.Grammar as text
 use Rattle.struql_text.proofs.TokenParts.{is_that}
-use Rattle.struql_round.specs.ShownParts.{step_kept, condition_kept, ShowsName, ShowsValue, ShowsOperand, ShowsStep, ShowsMore, ShowsListed, ShowsPlain, ShowsCondition}
+use Rattle.struql_round.specs.ShownParts.{step_kept, condition_kept, ShowsName, ShowsCollection, ShowsValue, ShowsOperand, ShowsStep, ShowsMore, ShowsListed, ShowsPlain, ShowsCondition}
 use Rattle.struql_round.proofs.Spelled.{spelt_within}
 
 pub name_is : (x : List ℕ) (t : Token) → ShowsName x t → name_value t ≡ Some (record { text = x; span = t.span })
 name_is x t h = rw (h.0, h.1) refl
+
+pub collection_is : (c : List ℕ) (t : Token) → ShowsCollection c t → collection_value t ≡ Some (record { text = c; span = t.span })
+collection_is c t (inl quoted) = rw quoted refl
+collection_is c t (inr (name, free)) = rw (name.0, name.1) refl
 
 -- the operand that a token shows, with its place
 abbrev pub placed : Operand → Span → declared.Operand
@@ -77,7 +84,33 @@ Spelt P k ts = (w : tree.Condition) × P ts w × (condition_kept w ≡ k)
 -- behind an operand that is a name, a parenthesis begins a call, and anything else a relation
 behind_operand : (o : Operand) (span : Span) (ts : List Token) (w : tree.Condition) → text.relation expression_within (placed o span) ts w → text.behind expression_within (placed o span) ts w
 behind_operand (variable x) span ts w h = inr h
-behind_operand (constant v) span ts w h = h
+behind_operand (constant (Data (datum.Text s))) span ts w h = inr h
+behind_operand (constant (Data (datum.Int n))) span ts w h = h
+behind_operand (constant (Data (datum.Url s))) span ts w h = h
+behind_operand (constant (Data (datum.File s))) span ts w h = h
+behind_operand (constant (Data (datum.Node s))) span ts w h = h
+behind_operand (constant (Page p)) span ts w h = h
+
+-- a name or a text, and a variable in parentheses behind it
+called : (test : Option Test) (c x : List ℕ) (span : Span) (opening inner close : Token) → is_sign signs.OpenParen opening ≡ true → ShowsName x inner → is_sign signs.CloseParen close ≡ true
+    → text.call test (record { text = c; span = span }) (opening ∷ inner ∷ close ∷ []) (text.call_with test (record { text = c; span = span }) (record { text = x; span = inner.span }) close.span)
+called test c x span opening inner close is name ends = (
+  opening ∷ [],
+  inner ∷ close ∷ [],
+  opening.span,
+  refl,
+  is_that signs.OpenParen opening is,
+  (inner ∷ [], close ∷ [], record { text = x; span = inner.span }, refl, (inner, refl, name_is x inner name), (close ∷ [], [], close.span, refl, is_that signs.CloseParen close ends, (refl, refl))),
+)
+
+member_spelt : (c x : List ℕ) (name opening inner close : Token) → ShowsCollection c name → is_sign signs.OpenParen opening ≡ true → ShowsName x inner → is_sign signs.CloseParen close ≡ true
+    → text.plain expression_within (name ∷ opening ∷ inner ∷ close ∷ []) (text.call_with None (record { text = c; span = name.span }) (record { text = x; span = inner.span }) close.span)
+member_spelt c x name opening inner close (inl quoted) is argument ends =
+    (name ∷ [], opening ∷ inner ∷ close ∷ [], operand_kinds.Constant (Data (datum.Text c)) name.span, refl, (name, refl, operand_is (constant (Data (datum.Text c))) name quoted), inl (called None c x name.span opening inner close is argument ends))
+member_spelt c x name opening inner close (inr (shown, free)) is argument ends =
+    let call : text.call (test_of c) (record { text = c; span = name.span }) (opening ∷ inner ∷ close ∷ []) (text.call_with None (record { text = c; span = name.span }) (record { text = x; span = inner.span }) close.span) =
+    rw free (called None c x name.span opening inner close is argument ends) in
+    (name ∷ [], opening ∷ inner ∷ close ∷ [], operand_kinds.Variable c name.span, refl, (name, refl, operand_is (variable c) name shown), inl call)
 
 plain_spelt : (k : Condition) (ts : List Token) → ShowsPlain k ts → Spelt (text.plain expression_within) k ts
 plain_spelt (compare t o u) ts h =
@@ -109,26 +142,12 @@ plain_spelt (path t s u) ts h =
 plain_spelt (member c x) ts h =
     let name = h.0 in let opening = h.1 in let inner = h.2 in let close = h.3 in
     let w = text.call_with None (record { text = c; span = name.span }) (record { text = x; span = inner.span }) close.span in
-    let call : text.call (record { text = c; span = name.span }) (opening ∷ inner ∷ close ∷ []) w = (
-      opening ∷ [],
-      inner ∷ close ∷ [],
-      opening.span,
-      refl,
-      is_that signs.OpenParen opening h.7,
-      (inner ∷ [], close ∷ [], record { text = x; span = inner.span }, refl, (inner, refl, name_is x inner h.8), (close ∷ [], [], close.span, refl, is_that signs.CloseParen close h.9, (refl, rw h.6 refl))),
-    ) in
-    (w, (name ∷ [], opening ∷ inner ∷ close ∷ [], operand_kinds.Variable c name.span, h.4, (name, refl, operand_is (variable c) name h.5), inl call), refl)
+    (w, subst (λ all. text.plain expression_within all w) (sym h.4) (member_spelt c x name opening inner close h.5 h.6 h.7 h.8), refl)
 plain_spelt (kind k x) ts h =
     let name = h.1 in let opening = h.2 in let inner = h.3 in let close = h.4 in
     let w = text.call_with (Some k) (record { text = h.0; span = name.span }) (record { text = x; span = inner.span }) close.span in
-    let call : text.call (record { text = h.0; span = name.span }) (opening ∷ inner ∷ close ∷ []) w = (
-      opening ∷ [],
-      inner ∷ close ∷ [],
-      opening.span,
-      refl,
-      is_that signs.OpenParen opening h.8,
-      (inner ∷ [], close ∷ [], record { text = x; span = inner.span }, refl, (inner, refl, name_is x inner h.9), (close ∷ [], [], close.span, refl, is_that signs.CloseParen close h.10, (refl, rw h.7 refl))),
-    ) in
+    let call : text.call (test_of h.0) (record { text = h.0; span = name.span }) (opening ∷ inner ∷ close ∷ []) w =
+    rw h.7 (called (Some k) h.0 x name.span opening inner close h.8 h.9 h.10) in
     (w, (name ∷ [], opening ∷ inner ∷ close ∷ [], operand_kinds.Variable h.0 name.span, h.5, (name, refl, operand_is (variable h.0) name h.6), inl call), refl)
 plain_spelt (one_of t vs) ts h =
     let a = h.0 in let word = h.1 in let opening = h.2 in let inner = h.3 in let close = h.4 in

@@ -20,12 +20,12 @@ use Rattle.struql_text.specs.Grammar as text
 use Rattle.struql_text.proofs.TokenParts.{is_that}
 use Rattle.struql_parse.specs.Blocks as blocks
 use Rattle.struql_print.specs.Texts.{label_text, link_text, collect_text, clause_text}
-use Rattle.struql_round.specs.ShownParts.{ShowsName}
-use Rattle.struql_round.proofs.Conditions.{name_is}
+use Rattle.struql_round.specs.ShownParts.{ShowsCollection}
+use Rattle.struql_round.proofs.Conditions.{collection_is}
 use Rattle.struql_round.specs.Spellable.{Every, IsLabel, IsLink, IsCollect}
 use Rattle.struql_round.specs.Kept.{target_kept, link_kept, collect_kept}
 use Rattle.struql_round.proofs.Lexing.{Lexing, Safe, Nil, Cons, Both, shown, nothing_more, gap, both, cons_shown, sign_then, sign_last}
-use Rattle.struql_round.proofs.Texts.{word_then, name_then, quoted_then}
+use Rattle.struql_round.proofs.Texts.{word_then, name_then, collection_then, quoted_then}
 use Rattle.struql_round.proofs.QueryTerms.{Spelt, source_lexing, target_lexing, listed_lexing}
 
 -- a token that is this label
@@ -78,7 +78,7 @@ link_lexing k is =
 abbrev Sign : AnySign → Token → Type 0
 Sign s t = is_sign s t ≡ true
 
-collect_spelt : (c : Collect) (tokens : List Token) → Cons (ShowsName c.collection) (Cons (Sign signs.OpenParen) (Both (Spelt text.source target_kept c.target) (Cons (Sign signs.CloseParen) Nil))) tokens → Spelt text.collect collect_kept c tokens
+collect_spelt : (c : Collect) (tokens : List Token) → Cons (ShowsCollection c.collection) (Cons (Sign signs.OpenParen) (Both (Spelt text.source target_kept c.target) (Cons (Sign signs.CloseParen) Nil))) tokens → Spelt text.collect collect_kept c tokens
 collect_spelt c tokens (n, rest, is, shows, (o, rest2, is2, opening, (front, back, parts, (t, target, same), (x, rest3, is3, closing, none)))) =
     let whole : tree.Collect = record { collection = c.collection; target = t; span = from_to n.span x.span } in (
       whole,
@@ -87,7 +87,7 @@ collect_spelt c tokens (n, rest, is, shows, (o, rest2, is2, opening, (front, bac
         rest,
         record { text = c.collection; span = n.span },
         is,
-        (n, refl, name_is c.collection n shows),
+        (n, refl, collection_is c.collection n shows),
         (
           o ∷ [],
           rest2,
@@ -103,7 +103,7 @@ collect_spelt c tokens (n, rest, is, shows, (o, rest2, is2, opening, (front, bac
 pub collect_lexing : (c : Collect) → IsCollect c → Lexing (Spelt text.collect collect_kept c) Safe (collect_text c)
 collect_lexing c is =
     shown (collect_spelt c)
-    (name_then c.collection is.0 (λ later w. (refl, refl, refl)) (sign_then signs.OpenParen (λ later w. tt) (both (source_lexing c.target is.1) (λ later w. (refl, refl, refl)) (sign_last signs.CloseParen (λ later w. tt)))))
+    (collection_then c.collection (λ later w. (refl, refl, refl)) (sign_then signs.OpenParen (λ later w. tt) (both (source_lexing c.target is) (λ later w. (refl, refl, refl)) (sign_last signs.CloseParen (λ later w. tt)))))
 
 -- ---- clauses
 

@@ -1,6 +1,8 @@
 -- Conditions that were read can be spelled.
-use Rattle.std.proofs.Common.{◌≡◌, List, refl, sym, subst, inl, inr}
+use Rattle.std.proofs.Common.{List, sym, subst, inl, inr}
 use Rattle.std.specs.Prelude.{Option, Some, None}
+use Rattle.sd_value.specs.declared.Datum.TheVariants as datum
+use Rattle.sd_value.specs.declared.Value.TheVariants.{Data, Page}
 use Rattle.sd_lex.specs.declared.token.Span.{Span}
 use Rattle.sd_lex.specs.declared.token.Token.{Token}
 use Rattle.query_spec.specs.declared.Test.{Test}
@@ -24,14 +26,14 @@ PlainKept c = IsPlain (condition_kept c)
 abbrev pub ConditionKept : tree.Condition → Type 0
 ConditionKept c = IsCondition (condition_kept c)
 
-called : (k : Option Test) (c x : Word) (close : Span) → test_of c.text ≡ k → IsWord c.text → IsWord x.text → PlainKept (text.call_with k c x close)
-called None c x close e word argument = (word, e, argument)
-called (Some t) c x close e word argument = argument
+called : (k : Option Test) (c x : Word) (close : Span) → IsWord x.text → PlainKept (text.call_with k c x close)
+called None c x close argument = argument
+called (Some t) c x close argument = argument
 
-call_plain : (c : Word) → IsWord c.text → (ts : List Token) (condition : tree.Condition) → Real ts → text.call c ts condition → PlainKept condition
-call_plain c word ts condition real (f1, b1, opening, cut1, sign1, (f2, b2, x, cut2, named, (f3, b3, close, cut3, sign2, (none, same)))) =
+call_plain : (test : Option Test) (c : Word) (ts : List Token) (condition : tree.Condition) → Real ts → text.call test c ts condition → PlainKept condition
+call_plain test c ts condition real (f1, b1, opening, cut1, sign1, (f2, b2, x, cut2, named, (f3, b3, close, cut3, sign2, (none, same)))) =
     let argument = is_word f2 x (front_real b1 f2 b2 cut2 (back_real ts f1 b1 cut1 real)) named in
-    subst PlainKept (sym same) (called (test_of c.text) c x close refl word argument)
+    subst PlainKept (sym same) (called test c x close argument)
 
 comparison_plain : (t : Operand) → OperandKept t → (ts : List Token) (condition : tree.Condition) → Real ts → text.comparison t ts condition → PlainKept condition
 comparison_plain t kept ts condition real (f1, b1, o, cut1, op, (f2, b2, u, cut2, operand, (none, same))) =
@@ -66,9 +68,15 @@ relation_plain t kept ts condition real (inr (inl h)) = membership_plain t kept 
 relation_plain t kept ts condition real (inr (inr h)) = comparison_plain t kept ts condition real h
 
 behind_plain : (t : Operand) → OperandKept t → (ts : List Token) (condition : tree.Condition) → Real ts → text.behind expression_within t ts condition → PlainKept condition
-behind_plain (Variable x span) kept ts condition real (inl h) = call_plain (record { text = x; span = span }) kept ts condition real h
+behind_plain (Variable x span) kept ts condition real (inl h) = call_plain (test_of x) (record { text = x; span = span }) ts condition real h
 behind_plain (Variable x span) kept ts condition real (inr h) = relation_plain (Variable x span) kept ts condition real h
-behind_plain (Constant v span) kept ts condition real h = relation_plain (Constant v span) kept ts condition real h
+behind_plain (Constant (Data (datum.Text q)) span) kept ts condition real (inl h) = call_plain None (record { text = q; span = span }) ts condition real h
+behind_plain (Constant (Data (datum.Text q)) span) kept ts condition real (inr h) = relation_plain (Constant (Data (datum.Text q)) span) kept ts condition real h
+behind_plain (Constant (Data (datum.Int n)) span) kept ts condition real h = relation_plain (Constant (Data (datum.Int n)) span) kept ts condition real h
+behind_plain (Constant (Data (datum.Url u)) span) kept ts condition real h = absurd kept
+behind_plain (Constant (Data (datum.File f)) span) kept ts condition real h = absurd kept
+behind_plain (Constant (Data (datum.Node n)) span) kept ts condition real h = absurd kept
+behind_plain (Constant (Page p) span) kept ts condition real h = absurd kept
 
 is_plain : (ts : List Token) (condition : tree.Condition) → Real ts → text.plain expression_within ts condition → PlainKept condition
 is_plain ts condition real (front, back, t, cut, operand, rest) =

@@ -223,6 +223,5 @@ pub is_collect : (ts : List Token) (c : tree.Collect) → Real ts → text.colle
 is_collect ts c real (f1, b1, name, cut1, named, (f2, b2, opening, cut2, sign1, (f3, b3, t, cut3, source, (f4, b4, close, cut4, sign2, (none, same))))) =
     let real1 = back_real ts f1 b1 cut1 real in
     let real2 = back_real b1 f2 b2 cut2 real1 in
-    let word = is_word f1 name (front_real ts f1 b1 cut1 real) named in
     let member = is_source f3 t (front_real b2 f3 b3 cut3 real2) source in
-    subst CollectKept (sym same) (word, member)
+    subst CollectKept (sym same) member

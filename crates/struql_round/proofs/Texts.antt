@@ -1,8 +1,10 @@
 -- The canonical texts of expressions and conditions split into tokens that show them.
-use Rattle.std.proofs.Common.{◌≡◌, ℕ, Bool, true, false, List, [], ◌∷◌, ◌++◌, Some, refl, sym, ap, ◌∙◌}
-use Rattle.std.specs.Prelude.{codes, map}
+use Rattle.std.proofs.Common.{◌≡◌, ℕ, Bool, true, false, List, [], ◌∷◌, ◌++◌, Some, None, refl, sym, ap, ◌∙◌, inl, inr}
+use Rattle.std.specs.Prelude.{codes, map, ◌&&◌, Option, if◌then◌else◌}
+use Rattle.std.specs.Option.{is_none}
+use Rattle.std.proofs.lemmas.Bool.{and_parts}
 use Rattle.std.specs.Fmt.{signed_decimal}
-use Rattle.std.specs.List.{flat_map}
+use Rattle.std.specs.List.{flat_map, list_all}
 use Rattle.std.proofs.lemmas.List.{append-nil}
 use Rattle.sd_value.specs.declared.Datum.TheVariants as datum
 use Rattle.sd_value.specs.declared.Value.{Value}
@@ -10,6 +12,7 @@ use Rattle.sd_value.specs.declared.Value.TheVariants.{Data, Page}
 use Rattle.sd_lex.specs.declared.token.Token.{Token}
 use Rattle.sd_lex.specs.declared.token.TokenKind.TheVariants as kinds
 use Rattle.sd_lex.specs.declared.token.Sign.TheVariants as signs
+use Rattle.sd_lex.specs.Bytes.{is_letter, is_name_byte, Each}
 use Rattle.sd_lex.specs.Lexing.{Spells, IsName}
 use Rattle.rpe.specs.Regex.{Regex, label, any, empty, seq, alt, star}
 use Rattle.token_writer.specs.Writing.{quoted_text, escaped_byte}
@@ -22,9 +25,9 @@ use Rattle.query_spec.specs.declared.Test.TheVariants as test
 use Rattle.query_spec.specs.Query.{Operand, variable, constant, PathStep, arc_variable, expression, Condition, member, path, compare, one_of, kind, negation}
 use Rattle.struql_text.specs.declared.keyword.Keyword.TheVariants as words
 use Rattle.struql_text.specs.Terminals.{keyword_of, is_keyword, op_value, test_of}
-use Rattle.struql_print.specs.Texts.{is_alt, is_alt_or_seq, enclosed, regex_text, value_text, operand_text, further, joined, step_text, op_text, test_text, condition_text}
+use Rattle.struql_print.specs.Texts.{is_alt, is_alt_or_seq, enclosed, regex_text, is_name, is_bare, collection_text, value_text, operand_text, further, joined, step_text, op_text, test_text, condition_text}
 use Rattle.struql_round.specs.Shown.{Wrapped, Shows}
-use Rattle.struql_round.specs.ShownParts.{ShowsName, ShowsValue, ShowsOperand, ShowsStep, ShowsMore, ShowsListed, ShowsPlain, ShowsCondition}
+use Rattle.struql_round.specs.ShownParts.{ShowsName, ShowsCollection, ShowsValue, ShowsOperand, ShowsStep, ShowsMore, ShowsListed, ShowsPlain, ShowsCondition}
 use Rattle.struql_round.specs.Spellable.{Every, IsSome, IsWord, IsConstant, IsOperand, IsStep, IsPlain, IsCondition}
 use Rattle.struql_round.proofs.Lexing.{Lexing, Safe, Nil, Cons, shown, same_text, nothing_more, gap, both, token_then, cons_shown, token_last, sign_then, sign_last}
 
@@ -43,6 +46,35 @@ name_then x is ends h = cons_shown (λ t e. (e, is.1)) (word_then x is.0 ends h)
 
 pub quoted_then : {T : List Token → Type 0} {W : List ℕ → Type 0} {others : List ℕ} (s : List ℕ) → Lexing T W others → Lexing (Cons (λ t. t.kind ≡ kinds.Quoted s) T) W (quoted_text s ++ others)
 quoted_then s h = token_then (kinds.Quoted s) (quoted_text s) (quoted_spells s) (λ later w. tt) h
+
+-- ---- names of collections
+
+each_is : (bytes : List ℕ) → list_all is_name_byte bytes ≡ true → Each is_name_byte bytes
+each_is [] e = tt
+each_is (b ∷ bytes) e = let both = and_parts (is_name_byte b) (list_all is_name_byte bytes) e in (both.0, each_is bytes both.1)
+
+name_is : (c : List ℕ) → is_name c ≡ true → IsName c
+name_is [] e = absurd cc
+name_is (b ∷ bytes) e = let both = and_parts (is_letter b) (list_all is_name_byte bytes) e in (both.0, each_is bytes both.1)
+
+none_is : {A : Type 0} (o : Option A) → is_none o ≡ true → o ≡ None
+none_is None e = refl
+none_is (Some a) e = absurd cc
+
+bare_then : {T : List Token → Type 0} {W : List ℕ → Type 0} {others : List ℕ} (c : List ℕ) (b : Bool) → is_bare c ≡ b → ((later : List ℕ) → W later → Safe (others ++ later)) → Lexing T W others
+    → Lexing (Cons (ShowsCollection c) T) W ((if b then c else quoted_text c) ++ others)
+bare_then c true e ends h =
+    let both = and_parts (is_name c) (is_none (keyword_of c) && is_none (test_of c)) e in
+    let free = and_parts (is_none (keyword_of c)) (is_none (test_of c)) both.1 in
+    let word : IsWord c = (name_is c both.0, none_is (keyword_of c) free.0) in
+    cons_shown (λ t shows. inr (shows, none_is (test_of c) free.1)) (name_then c word ends h)
+bare_then c false e ends h = cons_shown (λ t quoted. inl quoted) (quoted_then c h)
+
+pub collection_then : {T : List Token → Type 0} {W : List ℕ → Type 0} {others : List ℕ} (c : List ℕ) → ((later : List ℕ) → W later → Safe (others ++ later)) → Lexing T W others
+    → Lexing (Cons (ShowsCollection c) T) W (collection_text c ++ others)
+collection_then c ends h = bare_then c (is_bare c) refl ends h
+
+-- ---- values and operands
 
 pub value_then : {T : List Token → Type 0} {W : List ℕ → Type 0} {others : List ℕ} (v : Value) → IsConstant v → ((later : List ℕ) → W later → Safe (others ++ later)) → Lexing T W others
     → Lexing (Cons (ShowsValue v) T) W (value_text v ++ others)
@@ -147,8 +179,8 @@ not_shown t e = rw e refl
 
 plain_lexing : (k : Condition) → IsPlain k → Lexing (ShowsPlain k) Safe (condition_text k)
 plain_lexing (member c x) is =
-    shown (λ tokens h. (h.0, h.4.0, h.4.4.0, h.4.4.4.0, h.2 ∙ ap (λ y. h.0 ∷ y) (h.4.2 ∙ ap (λ y. h.4.0 ∷ y) (h.4.4.2 ∙ ap (λ y. h.4.4.0 ∷ y) (h.4.4.4.2 ∙ ap (λ y. h.4.4.4.0 ∷ y) h.4.4.4.4))), h.3, is.1, h.4.3, h.4.4.3, h.4.4.4.3))
-    (name_then c is.0 (λ later w. (refl, refl, refl)) (sign_then signs.OpenParen (λ later w. tt) (name_then x is.2 (λ later w. (refl, refl, refl)) (sign_last signs.CloseParen (λ later w. tt)))))
+    shown (λ tokens h. (h.0, h.4.0, h.4.4.0, h.4.4.4.0, h.2 ∙ ap (λ y. h.0 ∷ y) (h.4.2 ∙ ap (λ y. h.4.0 ∷ y) (h.4.4.2 ∙ ap (λ y. h.4.4.0 ∷ y) (h.4.4.4.2 ∙ ap (λ y. h.4.4.4.0 ∷ y) h.4.4.4.4))), h.3, h.4.3, h.4.4.3, h.4.4.4.3))
+    (collection_then c (λ later w. (refl, refl, refl)) (sign_then signs.OpenParen (λ later w. tt) (name_then x is (λ later w. (refl, refl, refl)) (sign_last signs.CloseParen (λ later w. tt)))))
 plain_lexing (kind k x) is =
     shown (λ tokens h. (test_text k, h.0, h.4.0, h.4.4.0, h.4.4.4.0, h.2 ∙ ap (λ y. h.0 ∷ y) (h.4.2 ∙ ap (λ y. h.4.0 ∷ y) (h.4.4.2 ∙ ap (λ y. h.4.4.0 ∷ y) (h.4.4.4.2 ∙ ap (λ y. h.4.4.4.0 ∷ y) h.4.4.4.4))), h.3, test_known k, h.4.3, h.4.4.3, h.4.4.4.3))
     (name_then (test_text k) (test_word k) (λ later w. (refl, refl, refl)) (sign_then signs.OpenParen (λ later w. tt) (name_then x is (λ later w. (refl, refl, refl)) (sign_last signs.CloseParen (λ later w. tt)))))

@@ -1,6 +1,6 @@
 -- The tokens of the canonical texts of terms, links and conditions, wherever they are, and these parts without their
 -- places.
-use Rattle.std.specs.Prelude.{◌≡◌, ℕ, true, Some, None, List, [], ◌∷◌, ◌++◌, map}
+use Rattle.std.specs.Prelude.{◌≡◌, ◌⊎◌, ℕ, true, Some, None, List, [], ◌∷◌, ◌++◌, map}
 use Rattle.sd_value.specs.declared.Datum.TheVariants as datum
 use Rattle.sd_value.specs.declared.Value.{Value}
 use Rattle.sd_value.specs.declared.Value.TheVariants.{Data, Page}
@@ -33,6 +33,10 @@ condition_kept (tree.negation c span) = negation (condition_kept c)
 -- a word that is no keyword
 abbrev pub ShowsName : List ℕ → Token → Type 0
 ShowsName x t = (t.kind ≡ kinds.Name x) × (keyword_of x ≡ None)
+
+-- a collection's name: a quoted text, or a word that is neither a keyword nor a test
+abbrev pub ShowsCollection : List ℕ → Token → Type 0
+ShowsCollection c t = (t.kind ≡ kinds.Quoted c) ⊎ (ShowsName c t × (test_of c ≡ None))
 
 abbrev pub ShowsValue : Value → Token → Type 0
 ShowsValue (Data (datum.Int n)) t = t.kind ≡ kinds.Int n
@@ -67,7 +71,7 @@ ShowsListed (v ∷ values) tokens =
 abbrev pub ShowsPlain : Condition → List Token → Type 0
 ShowsPlain (member c x) tokens =
     (name : Token) × (opening : Token) × (inner : Token) × (close : Token)
-    × (tokens ≡ name ∷ opening ∷ inner ∷ close ∷ []) × ShowsName c name × (test_of c ≡ None)
+    × (tokens ≡ name ∷ opening ∷ inner ∷ close ∷ []) × ShowsCollection c name
     × (is_sign signs.OpenParen opening ≡ true) × ShowsName x inner
     × (is_sign signs.CloseParen close ≡ true)
 ShowsPlain (kind k x) tokens =

@@ -1,5 +1,5 @@
 -- Which queries the grammar can spell: names are names and no keywords, constants are numbers of 64 bits and texts, and the
--- limits are kept.
+-- limits are kept. A collection may have any name: where it is none of the grammar, it is quoted.
 use Rattle.std.specs.Prelude.{◌≡◌, ℕ, zero, suc, ◌<◌, ◌^◌, ◌⊎◌, List, [], ◌∷◌, None}
 use Rattle.std.specs.Int.Signed.{mag}
 use Rattle.sd_value.specs.declared.Datum.TheVariants as datum
@@ -9,7 +9,7 @@ use Rattle.sd_lex.specs.Lexing.{IsName}
 use Rattle.query_spec.specs.Query.{Operand, variable, constant, PathStep, arc_variable, expression, Condition, member}
 use Rattle.query_spec.specs.Query.{path, compare, one_of, kind, negation, SkolemTerm, Target, plain, made, LinkLabel}
 use Rattle.query_spec.specs.Query.{quoted, label_variable, Link, Collect, Body, Blocks, no_blocks, block, Query}
-use Rattle.struql_text.specs.Terminals.{keyword_of, test_of}
+use Rattle.struql_text.specs.Terminals.{keyword_of}
 use Rattle.struql_round.specs.Shown.{Fits}
 
 abbrev pub Every : {A : Type 0} → (A → Type 0) → List A → Type 0
@@ -41,7 +41,7 @@ IsSome P [] = ⊥
 IsSome P (x ∷ xs) = P x × Every P xs
 
 abbrev pub IsPlain : Condition → Type 0
-IsPlain (member c x) = IsWord c × (test_of c ≡ None) × IsWord x
+IsPlain (member c x) = IsWord x
 IsPlain (path t s u) = IsOperand t × IsStep s × IsOperand u
 IsPlain (compare t o u) = IsOperand t × IsOperand u
 IsPlain (one_of t vs) = IsOperand t × IsSome IsConstant vs
@@ -78,7 +78,7 @@ abbrev pub IsLink : Link → Type 0
 IsLink k = IsSource k.source × IsLabel k.label × IsTarget k.target
 
 abbrev pub IsCollect : Collect → Type 0
-IsCollect c = IsWord c.collection × IsSource c.target
+IsCollect c = IsSource c.target
 
 abbrev pub IsBody : Body → Type 0
 IsBody b =

@@ -1,5 +1,9 @@
 -- Conditions, with their readers.
 use Rattle.std.proofs.Common.{◌≡◌, true, false, List, refl}
+use Rattle.std.specs.Prelude.{Option, None}
+use Rattle.sd_value.specs.declared.Datum.TheVariants as datum
+use Rattle.sd_value.specs.declared.Value.TheVariants.{Data, Page}
+use Rattle.query_spec.specs.declared.Test.{Test}
 use Rattle.sd_lex.specs.declared.token.Token.{Token}
 use Rattle.sd_lex.specs.declared.token.Sign.TheVariants as signs
 use Rattle.struql_ast.specs.declared.Operand.{Operand}
@@ -30,13 +34,13 @@ E = expression_within
 abbrev pub S : List Token → Counted → Type 0
 S = expression_spelled
 
-call_part : (c : Word) → Part IsReal (call c) (call c) Always (read_call c)
+call_part : (test : Option Test) (c : Word) → Part IsReal (call test c) (call test c) Always (read_call test c)
 unfolding read_call
-call_part c = do
+call_part test c = do
   _ ← sign_part signs.OpenParen refl
   x ← name_part
   close ← sign_part signs.CloseParen refl
-  give_part (call_with (test_of c.text) c x close)
+  give_part (call_with test c x close)
 
 comparison_part : (t : Operand) → Part IsReal (comparison t) (comparison t) Always (read_comparison t)
 unfolding read_comparison
@@ -118,9 +122,17 @@ relation_opens t =
 
 behind_part : (t : Operand) → Part IsReal (behind E t) (behind S t) Always (read_behind t)
 unfolding read_behind
-behind_part (Constant v span) = relation_part (Constant v span)
+behind_part (Constant (Data (datum.Int n)) span) = relation_part (Constant (Data (datum.Int n)) span)
+behind_part (Constant (Data (datum.Url u)) span) = relation_part (Constant (Data (datum.Url u)) span)
+behind_part (Constant (Data (datum.File f)) span) = relation_part (Constant (Data (datum.File f)) span)
+behind_part (Constant (Data (datum.Node n)) span) = relation_part (Constant (Data (datum.Node n)) span)
+behind_part (Constant (Page p) span) = relation_part (Constant (Page p) span)
+behind_part (Constant (Data (datum.Text q)) span) =
+    either_part (is_sign signs.OpenParen) (call_part None (record { text = q; span = span })) (relation_part (Constant (Data (datum.Text q)) span))
+    (opens_then (sign signs.OpenParen) _ _ (sign_opens signs.OpenParen _ (λ k is. is)))
+    (relation_opens (Constant (Data (datum.Text q)) span))
 behind_part (Variable x span) =
-    either_part (is_sign signs.OpenParen) (call_part (record { text = x; span = span })) (relation_part (Variable x span))
+    either_part (is_sign signs.OpenParen) (call_part (test_of x) (record { text = x; span = span })) (relation_part (Variable x span))
     (opens_then (sign signs.OpenParen) _ _ (sign_opens signs.OpenParen _ (λ k is. is)))
     (relation_opens (Variable x span))
 

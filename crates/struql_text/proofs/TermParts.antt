@@ -15,7 +15,7 @@ use Rattle.token_reader.specs.Terminals.{is_sign}
 use Rattle.struql_text.specs.Expression.{sign}
 use Rattle.struql_text.specs.Grammar.{listed, operand, term_of, no_arguments, some_arguments, arguments, term, made, variable_of, named_target, source, operand_target, target, target_span, link, collect}
 use Rattle.struql_text.specs.Reading.{read_no_arguments, read_some_arguments, read_arguments, read_term, read_made, read_named_target, read_source, read_operand_target, read_target, read_link, read_collect}
-use Rattle.struql_text.proofs.TokenParts.{sign_part, sign_opens, name_part, operand_part, label_part, operand_opens_no_sign}
+use Rattle.struql_text.proofs.TokenParts.{sign_part, sign_opens, name_part, collection_part, operand_part, label_part, operand_opens_no_sign}
 use Rattle.token_reader.proofs.Terminals.{other_sign}
 use Rattle.struql_text.proofs.ListParts.{listed_part}
 use Rattle.token_reader.specs.Gives.{IsReal}
@@ -114,7 +114,7 @@ link_part =
 pub collect_part : Part IsReal collect collect Always read_collect
 unfolding read_collect
 collect_part = do
-  c ← name_part
+  c ← collection_part
   _ ← sign_part signs.OpenParen refl
   then_opens (λ t. is_sign signs.CloseParen t ≡ true) source_part
       (λ t. do

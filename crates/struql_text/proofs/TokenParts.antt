@@ -22,11 +22,11 @@ use Rattle.grammar.proofs.Laws.{Always}
 use Rattle.struql_text.specs.declared.keyword.Keyword.{Keyword}
 use Rattle.struql_text.specs.declared.keyword.Keyword.TheVariants as words
 use Rattle.struql_text.specs.declared.keyword.Word.{Word}
-use Rattle.struql_text.specs.Terminals.{sign_value, rank, is_name, is_name_kind, is_free, is_found, named, keyword_of, is_keyword, is_keyword_kind, keyword_value, name_kind_value, name_value, operand_kind_value, operand_value, constant_value, label_value, op_value, op_kind_value, op_sign}
+use Rattle.struql_text.specs.Terminals.{sign_value, rank, is_name, is_name_kind, is_free, is_found, named, keyword_of, is_keyword, is_keyword_kind, keyword_value, name_kind_value, name_value, collection_value, operand_kind_value, operand_value, constant_value, label_value, op_value, op_kind_value, op_sign}
 use Rattle.token_reader.specs.Terminals.{is_sign, is_sign_kind, number}
 use Rattle.struql_text.specs.Expression.{sign, keyword}
-use Rattle.struql_text.specs.Grammar.{name, operand}
-use Rattle.struql_text.specs.Reading.{read_sign, read_keyword, read_name, read_operand}
+use Rattle.struql_text.specs.Grammar.{name, collection, operand}
+use Rattle.struql_text.specs.Reading.{read_sign, read_keyword, read_name, read_collection, read_operand}
 use Rattle.token_reader.specs.Gives.{IsReal}
 use Rattle.token_reader.proofs.Terminals.{made, real_quoted}
 use Rattle.sd_lex.specs.Lexing.{IsName, sign_text}
@@ -108,6 +108,9 @@ x_is_free = refl
 
 pub name_part : Part IsReal name name Always read_name
 name_part = one_part name_value (made (kinds.Name (codes "x"))) (record { text = codes "x"; span = somewhere }) (rw x_is_free refl) (codes "x", (refl, (refl, tt)))
+
+pub collection_part : Part IsReal collection collection Always read_collection
+collection_part = one_part collection_value (made (kinds.Quoted [])) (record { text = []; span = somewhere }) refl real_quoted
 
 pub operand_part : Part IsReal operand operand Always read_operand
 operand_part = one_part operand_value (made (kinds.Quoted [])) (Constant (Data (datum.Text [])) somewhere) refl real_quoted

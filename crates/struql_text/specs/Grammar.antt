@@ -3,15 +3,18 @@
 --
 --   term    := name "(" [ operand { "," operand } ] ")"
 --   link    := ( name | term ) "->" ( Quoted | name ) "->" ( operand | term )
---   coll    := name "(" ( name | term ) ")"
+--   coll    := collection "(" ( name | term ) ")"
 --   operand := name | Int | Quoted
 --   cond    := plain | "not" "(" plain ")"
---   plain   := name "(" name ")" | operand "->" step "->" operand
+--   plain   := collection "(" name ")" | operand "->" step "->" operand
 --            | operand op operand | operand "in" "{" const { "," const } "}"
 --   step    := name | expression
+--   collection := name | Quoted
 --
--- What begins alike is said once: a name, and then either what is in parentheses or not.
+-- What begins alike is said once: a name or a text, and then either what is in parentheses or not.
 use Rattle.std.specs.Prelude.{List, [], ◌∷◌, ◌++◌, Option, Some, None}
+use Rattle.sd_value.specs.declared.Datum.TheVariants as datum
+use Rattle.sd_value.specs.declared.Value.TheVariants.{Data}
 use Rattle.sd_lex.specs.declared.token.Span.{Span}
 use Rattle.sd_lex.specs.declared.token.Token.{Token}
 use Rattle.sd_lex.specs.declared.token.Sign.TheVariants as signs
@@ -23,7 +26,7 @@ use Rattle.struql_ast.specs.Written.{Step, Condition, Term, Target, Link, Collec
 use Rattle.grammar.specs.Grammar.{nothing, one, ◌>>=◌, ◌>>◌, either, iterated}
 use Rattle.struql_text.specs.declared.keyword.Keyword.TheVariants as words
 use Rattle.struql_text.specs.declared.keyword.Word.{Word}
-use Rattle.struql_text.specs.Terminals.{from_to, name_value, operand_value, operand_span, constant_value, label_value, op_value, test_of}
+use Rattle.struql_text.specs.Terminals.{from_to, name_value, collection_value, operand_value, operand_span, constant_value, label_value, op_value, test_of}
 use Rattle.struql_text.specs.Expression.{sign, keyword, Counted}
 
 -- ---- lists
@@ -47,6 +50,10 @@ listed P = do
 -- a word that is no keyword
 abbrev pub name : List Token → Word → Type 0
 name = one name_value
+
+-- a word that is no keyword, or a quoted text
+abbrev pub collection : List Token → Word → Type 0
+collection = one collection_value
 
 -- a variable or a constant
 abbrev pub operand : List Token → Operand → Type 0
@@ -135,7 +142,7 @@ link = do
 -- `C(target)`
 abbrev pub collect : List Token → Collect → Type 0
 collect = do
-  c ← name
+  c ← collection
   sign signs.OpenParen
   t ← source
   close ← sign signs.CloseParen
@@ -148,13 +155,13 @@ abbrev pub call_with : Option Test → Word → Word → Span → Condition
 call_with None c x close = tree.member c.text x.text x.span (from_to c.span close)
 call_with (Some test) c x close = tree.kind test x.text x.span (from_to c.span close)
 
--- `isInt(x)` and its like, or `C(x)`
-abbrev pub call : Word → List Token → Condition → Type 0
-call c = do
+-- `isInt(x)` and its like, or `C(x)`, behind what is before the parenthesis
+abbrev pub call : Option Test → Word → List Token → Condition → Type 0
+call test c = do
   sign signs.OpenParen
   x ← name
   close ← sign signs.CloseParen
-  nothing (call_with (test_of c.text) c x close)
+  nothing (call_with test c x close)
 
 -- from the first operand to the last
 abbrev pub between : Operand → Operand → Span
@@ -207,12 +214,16 @@ module _ (expression : List Token → Counted → Type 0) where
   abbrev pub relation : Operand → List Token → Condition → Type 0
   relation t = either (path t) (either (membership t) (comparison t))
 
-  -- a name may be that of a test or of a collection; a constant can't
+  -- a name may be that of a test or of a collection, a quoted text that of a collection alone
   abbrev pub behind : Operand → List Token → Condition → Type 0
-  behind (Variable x span) = either (call (record {
+  behind (Variable x span) = either (call (test_of x) (record {
     text = x;
     span = span;
   })) (relation (Variable x span))
+  behind (Constant (Data (datum.Text q)) span) = either (call None (record {
+    text = q;
+    span = span;
+  })) (relation (Constant (Data (datum.Text q)) span))
   behind (Constant v span) = relation (Constant v span)
 
   -- a condition without `not`

@@ -1,10 +1,13 @@
 -- Reading the parts of a clause from left to right.
-use Rattle.std.specs.Prelude.{ℕ, zero, suc, ◌+◌, true, List, [], ◌∷◌, ◌++◌}
+use Rattle.std.specs.Prelude.{ℕ, zero, suc, ◌+◌, true, List, [], ◌∷◌, ◌++◌, Option, None}
+use Rattle.sd_value.specs.declared.Datum.TheVariants as datum
+use Rattle.sd_value.specs.declared.Value.TheVariants.{Data}
 use Rattle.sd_lex.specs.declared.token.Span.{Span}
 use Rattle.sd_lex.specs.declared.token.Token.{Token}
 use Rattle.sd_lex.specs.declared.token.Sign.{Sign}
 use Rattle.sd_lex.specs.declared.token.Sign.TheVariants as signs
 use Rattle.rpe.specs.Regex.{empty, seq as seq_of, alt as alt_of, star as star_of}
+use Rattle.query_spec.specs.declared.Test.{Test}
 use Rattle.struql_ast.specs.declared.Operand.{Operand}
 use Rattle.struql_ast.specs.declared.Operand.TheVariants.{Variable, Constant}
 use Rattle.struql_ast.specs.Written as tree
@@ -13,7 +16,7 @@ use Rattle.grammar.specs.Reading.{Outcome, Past, ◌>>=◌, ◌>>◌, give, take
 use Rattle.struql_text.specs.declared.keyword.Keyword.{Keyword}
 use Rattle.struql_text.specs.declared.keyword.Keyword.TheVariants as words
 use Rattle.struql_text.specs.declared.keyword.Word.{Word}
-use Rattle.struql_text.specs.Terminals.{from_to, sign_value, keyword_value, is_keyword, is_name, name_value}
+use Rattle.struql_text.specs.Terminals.{from_to, sign_value, keyword_value, is_keyword, is_name, name_value, collection_value}
 use Rattle.struql_text.specs.Terminals.{operand_value, operand_span, constant_value, label_value, op_value, test_of}
 use Rattle.token_reader.specs.Terminals.{is_sign}
 use Rattle.struql_text.specs.Expression.{leaf_value, Counted, bounded}
@@ -143,6 +146,10 @@ read_listed p = do
 abbrev pub read_name : List Token → Outcome Token Word
 read_name = take_one true name_value
 
+-- the reader of a collection's name
+abbrev pub read_collection : List Token → Outcome Token Word
+read_collection = take_one true collection_value
+
 -- the reader of an operand
 abbrev pub read_operand : List Token → Outcome Token Operand
 read_operand = take_one true operand_value
@@ -218,7 +225,7 @@ read_link = do
 -- an item of COLLECT
 unfoldable pub read_collect : List Token → Outcome Token Collect
 read_collect = do
-  c ← read_name
+  c ← read_collection
   read_sign signs.OpenParen
   t ← read_source
   close ← read_sign signs.CloseParen
@@ -227,12 +234,12 @@ read_collect = do
 -- ---- conditions
 
 -- a test, or a collection's member
-unfoldable pub read_call : Word → List Token → Outcome Token Condition
-read_call c = do
+unfoldable pub read_call : Option Test → Word → List Token → Outcome Token Condition
+read_call test c = do
   read_sign signs.OpenParen
   x ← read_name
   close ← read_sign signs.CloseParen
-  give (call_with (test_of c.text) c x close)
+  give (call_with test c x close)
 
 -- an operator, and the right side
 unfoldable pub read_comparison : Operand → List Token → Outcome Token Condition
@@ -281,13 +288,18 @@ read_relation t =
     choose (is_sign signs.Arrow) (read_path t)
     (choose (is_keyword words.In) (read_membership t) (read_comparison t))
 
--- behind a name, or behind a constant
+-- behind a name, behind a quoted text, or behind a number
 unfoldable pub read_behind : Operand → List Token → Outcome Token Condition
 read_behind (Variable x span) =
-    choose (is_sign signs.OpenParen) (read_call (record {
+    choose (is_sign signs.OpenParen) (read_call (test_of x) (record {
       text = x;
       span = span;
     })) (read_relation (Variable x span))
+read_behind (Constant (Data (datum.Text q)) span) =
+    choose (is_sign signs.OpenParen) (read_call None (record {
+      text = q;
+      span = span;
+    })) (read_relation (Constant (Data (datum.Text q)) span))
 read_behind (Constant v span) = read_relation (Constant v span)
 
 -- a condition without `not`

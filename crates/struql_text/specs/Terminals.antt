@@ -110,6 +110,17 @@ name_kind_value span (kinds.Sign r) = None
 abbrev pub name_value : Token → Option Word
 name_value t = name_kind_value t.span t.kind
 
+-- the name of a collection that a token's kind is: a word that is no keyword, or any quoted text
+abbrev pub collection_kind_value : Span → TokenKind → Option Word
+collection_kind_value span (kinds.Name n) = named (record { text = n; span = span }) (keyword_of n)
+collection_kind_value span (kinds.Quoted q) = Some (record { text = q; span = span })
+collection_kind_value span (kinds.Int i) = None
+collection_kind_value span (kinds.Sign r) = None
+
+-- the name of a collection that a token is
+abbrev pub collection_value : Token → Option Word
+collection_value t = collection_kind_value t.span t.kind
+
 -- a variable or a constant
 abbrev pub operand_kind_value : Span → TokenKind → Option Operand
 operand_kind_value span (kinds.Name n) = named (Variable n span) (keyword_of n)

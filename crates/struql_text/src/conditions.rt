@@ -19,7 +19,7 @@ use crate::tokens::{
 };
 use query_spec::Test;
 use sd_lex::{Sign, Span, Token};
-use sd_value::Value;
+use sd_value::{Datum, Value};
 use std::alloc::Global;
 use struql_ast::{Condition, Constants, Operand, PathStep};
 use token_reader::{Halt, has_sign};
@@ -93,14 +93,16 @@ fn constants_at(alloc: Global, tokens: &[Token]) -> Result<(Vec<Value>, &[Token]
     constants_from(alloc, first, rest)
 }
 
-/// `C(x)` or a test, behind its name.
+/// The test of a variable, or else `C(x)`, behind the name or the quoted text.
 #[tactic(auto, unfolding(crate::specs::Reading::read_call))]
 fn call_at(
     alloc: Global,
+    test: Option<Test>,
     name: Word,
     tokens: &[Token],
 ) -> Result<(Condition, &[Token]), Halt<Token>>
-    ensures { Gives (λ x. condition_written x.0) (λ x. x.1.now) result (read_call name tokens.now) }
+    ensures { Gives (λ x. condition_written x.0) (λ x. x.1.now) result
+        (read_call test name tokens.now) }
 {
     let (_, rest) = sign_at(tokens, Sign::OpenParen)?;
     let (x, rest) = name_at(alloc, rest)?;
@@ -108,7 +110,7 @@ fn call_at(
     let span = from_to(name.span, close);
     let variable_span = x.span;
     let variable = x.text;
-    let condition = match test_of(name.text.bytes()) {
+    let condition = match test {
         Some(test) => Condition::Kind {
             test,
             variable,
@@ -245,12 +247,20 @@ fn behind_at(
     match first {
         Operand::Variable(text, span) => {
             if has_sign(tokens, Sign::OpenParen) {
-                call_at(alloc, Word { text, span }, tokens)
+                let test = test_of(text.bytes());
+                call_at(alloc, test, Word { text, span }, tokens)
             } else {
                 relation_at(alloc, Operand::Variable(text, span), tokens)
             }
         }
         Operand::Constant(value, span) => {
+            if let Value::Data(Datum::Text(text)) = &value {
+                if has_sign(tokens, Sign::OpenParen) {
+                    // A quoted text names a collection, never a test.
+                    let text = text.copy(alloc)?;
+                    return call_at(alloc, None, Word { text, span }, tokens);
+                }
+            }
             relation_at(alloc, Operand::Constant(value, span), tokens)
         }
     }

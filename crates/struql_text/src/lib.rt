@@ -8,7 +8,7 @@ mod laws;
 mod terms;
 mod tokens;
 
-pub use conditions::condition_at;
+pub use conditions::{condition_at, test_of};
 pub use expression::from_to;
 pub use keyword::{Keyword, Word, keyword_of};
 pub use laws::conditions_are_read_as_spelled;

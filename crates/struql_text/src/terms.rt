@@ -13,7 +13,7 @@ ghost use Rattle.struql_text.specs.Reading.{read_operand_target, read_target, re
 
 use crate::expression::from_to;
 use crate::keyword::Word;
-use crate::tokens::{label_at, name_at, operand_at, sign_at};
+use crate::tokens::{collection_at, label_at, name_at, operand_at, sign_at};
 use sd_lex::{Sign, Span, Token};
 use std::alloc::Global;
 use struql_ast::{Collect, Link, Operand, SkolemTerm, Target};
@@ -173,7 +173,7 @@ pub fn link_at(alloc: Global, tokens: &[Token]) -> Result<(Link, &[Token]), Halt
 pub fn collect_at(alloc: Global, tokens: &[Token]) -> Result<(Collect, &[Token]), Halt<Token>>
     ensures { Gives (λ x. collect_written x.0) (λ x. x.1.now) result (read_collect tokens.now) }
 {
-    let (collection, rest) = name_at(alloc, tokens)?;
+    let (collection, rest) = collection_at(alloc, tokens)?;
     let (_, rest) = sign_at(rest, Sign::OpenParen)?;
     let (target, rest) = source_at(alloc, rest)?;
     let (close, rest) = sign_at(rest, Sign::CloseParen)?;

@@ -4,7 +4,7 @@ ghost use Rattle.std.specs.Prelude.{◌≡◌, true};
 ghost use Rattle.grammar.specs.Reading.{take_one, starts};
 ghost use Rattle.token_reader.specs.Gives.{Gives};
 ghost use Rattle.struql_text.specs.Terminals.{sign_value, keyword_value, is_keyword, is_name, name_value};
-ghost use Rattle.struql_text.specs.Terminals.{operand_value, constant_value, label_value, op_value};
+ghost use Rattle.struql_text.specs.Terminals.{collection_value, operand_value, constant_value, label_value, op_value};
 ghost use Rattle.token_reader.specs.Terminals.{is_sign};
 
 use crate::keyword::{Keyword, Word, keyword_of};
@@ -97,6 +97,30 @@ pub fn name_at(alloc: Global, tokens: &[Token]) -> Result<(Word, &[Token]), Halt
         }
     }
     Err(Halt::Expected(tokens))
+}
+
+/// The name of a collection at the front: a name, or a quoted text.
+pub fn collection_at(alloc: Global, tokens: &[Token]) -> Result<(Word, &[Token]), Halt<Token>>
+    ensures { Gives (λ x. x.0) (λ x. x.1.now) result (take_one true collection_value tokens.now) }
+{
+    let [first, rest @ ..] = tokens else {
+        return Err(Halt::Expected(tokens));
+    };
+    let span = first.span;
+    match &first.kind {
+        TokenKind::Name(text) => match keyword_of(text.bytes()) {
+            Some(_) => Err(Halt::Expected(tokens)),
+            None => {
+                let text = text.copy(alloc)?;
+                Ok((Word { text, span }, rest))
+            }
+        },
+        TokenKind::Quoted(text) => {
+            let text = text.copy(alloc)?;
+            Ok((Word { text, span }, rest))
+        }
+        TokenKind::Int(_) | TokenKind::Sign(_) => Err(Halt::Expected(tokens)),
+    }
 }
 
 /// A variable or a constant at the front.

@@ -6,7 +6,7 @@ ghost use Rattle.lint_spec.specs.QueryClaims.{claim};
 ghost use Rattle.lint_spec.specs.TemplateClaims.{name_of, label_of, is_equals as equals};
 ghost use Rattle.lint_spec.specs.TemplateClaims.{label_claims, word_claims, of_page};
 ghost use Rattle.lint_spec.specs.TemplateClaims.{is_word_setting as word_setting};
-ghost use Rattle.lint_spec.specs.TemplateClaims.{has_name, title_function, title_claims};
+ghost use Rattle.lint_spec.specs.TemplateClaims.{has_label, title_function, title_claims};
 
 use lint_spec::{Asked, Claim};
 use sd_lex::{Sign, TokenKind};
@@ -156,12 +156,12 @@ pub(crate) fn is_word_setting(name: &Str) -> bool
     name.bytes() == b"KEY".as_slice() || name.bytes() == b"LINK".as_slice()
 }
 
-fn has_name(items: &[Item]) -> bool
-    ensures { result ≡ has_name items.now }
+fn has_label(items: &[Item]) -> bool
+    ensures { result ≡ has_label items.now }
 {
     match items {
         [] => false,
-        [first, ..] => name_of(first).is_some(),
+        [first, ..] => label_of(first).is_some(),
     }
 }
 
@@ -175,7 +175,7 @@ pub(crate) fn title_function(alloc: Global, items: &[Item]) -> Result<Option<Str
     let Some(name) = name_of(first) else {
         return Ok(None);
     };
-    if name.bytes() == b"COLLECTION".as_slice() && has_name(rest) {
+    if name.bytes() == b"COLLECTION".as_slice() && has_label(rest) {
         Ok(None)
     } else {
         Ok(Some(name.copy(alloc)?))

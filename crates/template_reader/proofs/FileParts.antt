@@ -13,7 +13,7 @@ use Rattle.grammar.proofs.Parts.{Part, Opens, ◌>>=◌, give_part, then_opens, 
 use Rattle.template_items.specs.declared.item.Item.{Item}
 use Rattle.template_items.specs.declared.item.Mark.TheVariants as marks
 use Rattle.tmpl.specs.Body.{Body}
-use Rattle.template_tags.specs.Terminals.{is_mark, name_of, IsReal}
+use Rattle.template_tags.specs.Terminals.{is_mark, label_of, IsReal}
 use Rattle.template_tags.specs.Tag.{mark, expr, any_expr}
 use Rattle.template_reader.specs.Template.{body, Entry, is_sort, named_value, collection_head, function_head, head_rest, template, within, spelled}
 use Rattle.template_reader.specs.Reading.{read_collection_head, read_function_head, read_named_head, is_named, read_head_rest, read_template, read_file}
@@ -41,7 +41,7 @@ if_none true = refl
 if_none false = refl
 
 close_not_named : (n : List ℕ) (i : Item) → is_mark marks.Close i ≡ true → is_named n i ≡ false
-close_not_named n i e = ap (λ k. is_some (if is_sort n then name_of k else None)) (mark_no_token marks.Close i e) ∙ if_none (is_sort n)
+close_not_named n i e = ap (λ k. is_some (if is_sort n then label_of k else None)) (mark_no_token marks.Close i e) ∙ if_none (is_sort n)
 
 head_rest_part : (n : List ℕ) → Part IsReal (head_rest n) (head_rest n) Always (read_head_rest n)
 unfolding read_head_rest read_named_head

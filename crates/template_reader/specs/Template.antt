@@ -1,14 +1,14 @@
 -- The grammar of a file of templates, over items.
 --
 --   file     := { template }
---   template := "<TEMPLATE" [ "COLLECTION" ] Name ">" body "</TEMPLATE>"
+--   template := "<TEMPLATE" ( Name | "COLLECTION" label ) ">" body "</TEMPLATE>"
 --   body     := { text | format | choice | repeat }
 --   format   := "<SFMT" expr { "EMBED" | "LINK" [ "=" word ] | order } ">"
 --   order    := "KEY" "=" word | "ORDER" "=" ( "ascend" | "descend" ) | "DELIM" "=" Quoted
 --   choice   := "<SIF" [ "NOT" ] expr [ compare constant ] ">" body [ "<SELSE>" body ] "</SIF>"
 --   repeat   := "<SFOR" Name "IN" expr { order } ">" body "</SFOR>"
 --   expr     := "@" [ word ] | "#" label [ "." word ] | Name [ "." word ]
---   word     := label { "." label }
+--   word     := label { "." label }                label := Name | Quoted
 use Rattle.std.specs.Prelude.{ℕ, zero, suc, Bool, true, false, List, [], ◌∷◌, ◌++◌, Option, Some, None, codes, if◌then◌else◌}
 use Rattle.std.specs.Str.{bytes_eq}
 use Rattle.grammar.specs.Grammar.{nothing, one, ◌>>=◌, ◌>>◌, either, many}
@@ -20,7 +20,7 @@ use Rattle.tmpl.specs.declared.Cmp.{Cmp}
 use Rattle.tmpl.specs.declared.Expr.{Expr}
 use Rattle.tmpl.specs.declared.Part.{Part}
 use Rattle.template_tags.specs.declared.words.Bound.{Bound}
-use Rattle.template_tags.specs.Terminals.{text_value, name_value, constant_value, not_value, in_value, compare_value}
+use Rattle.template_tags.specs.Terminals.{text_value, name_value, label_value, constant_value, not_value, in_value, compare_value}
 use Rattle.template_tags.specs.Terminals.{mode_of, order_of, no_settings, loop_settings, variable_value}
 use Rattle.template_tags.specs.Tag.{mark, expr, any_expr, settings}
 
@@ -166,9 +166,9 @@ pub record Head : Type 0 where
 abbrev pub is_sort : List ℕ → Bool
 is_sort n = bytes_eq n (codes "COLLECTION")
 
--- the name behind the word COLLECTION
+-- the collection's name behind the word COLLECTION: a name, or a quoted text
 abbrev pub named_value : List ℕ → Item → Option (List ℕ)
-named_value n i = if is_sort n then name_value i else None
+named_value n i = if is_sort n then label_value i else None
 
 -- the head of a collection's template
 abbrev pub collection_head : List ℕ → List Item → Head → Type 0

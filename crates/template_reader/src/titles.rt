@@ -6,7 +6,7 @@ ghost use Rattle.template_reader.specs.Faults.{second_name, title_of, titles, Se
 ghost use Rattle.template_reader.specs.Faults.{nothing_seen, Holds, twice, opens_body, closes_body, open_tags};
 ghost use Rattle.template_reader.specs.Faults.{last_of, innermost};
 
-use crate::file::is_sort;
+use crate::file::{collection_name, is_sort};
 use sd_lex::TokenKind;
 use sd_value::{NoMemory, Str};
 use std::alloc::Global;
@@ -28,7 +28,7 @@ fn second_name(alloc: Global, word: &[u8], items: &[Item]) -> Result<Option<(Str
 {
     if let [first, ..] = items {
         if is_sort(word) {
-            if let ItemKind::Token(TokenKind::Name(name)) = &first.kind {
+            if let Some(name) = collection_name(first) {
                 return Ok(Some((name.copy(alloc)?, first.place)));
             }
         }

@@ -23,6 +23,8 @@ struct UsageRow {
     operands: &'static str,
     flag: Flag,
     options: &'static [ValueOption],
+    // Whether it reads data, and so may have `--lenient`.
+    reads_data: bool,
 }
 
 const ROWS: &[UsageRow] = &[
@@ -33,6 +35,7 @@ const ROWS: &[UsageRow] = &[
         operands: "QUERY TEMPLATES ADDRESS DATA..",
         flag: Flag::None,
         options: &[ValueOption::Path(PathOption::Over)],
+        reads_data: true,
     },
     UsageRow {
         name: CommandName::Build,
@@ -41,6 +44,7 @@ const ROWS: &[UsageRow] = &[
         operands: "QUERY TEMPLATES DIR DATA..",
         flag: Flag::None,
         options: &[ValueOption::Path(PathOption::Over)],
+        reads_data: true,
     },
     UsageRow {
         name: CommandName::Data,
@@ -49,6 +53,7 @@ const ROWS: &[UsageRow] = &[
         operands: "DATA..",
         flag: Flag::None,
         options: &[ValueOption::Path(PathOption::Over)],
+        reads_data: true,
     },
     UsageRow {
         name: CommandName::Explain,
@@ -57,6 +62,7 @@ const ROWS: &[UsageRow] = &[
         operands: "QUERY DATA..",
         flag: Flag::None,
         options: &[],
+        reads_data: true,
     },
     UsageRow {
         name: CommandName::Schema,
@@ -65,6 +71,7 @@ const ROWS: &[UsageRow] = &[
         operands: "QUERY",
         flag: Flag::May("--dot"),
         options: &[],
+        reads_data: false,
     },
     UsageRow {
         name: CommandName::Check,
@@ -73,6 +80,7 @@ const ROWS: &[UsageRow] = &[
         operands: "QUERY CONSTRAINTS",
         flag: Flag::None,
         options: &[],
+        reads_data: false,
     },
     UsageRow {
         name: CommandName::Check,
@@ -81,6 +89,7 @@ const ROWS: &[UsageRow] = &[
         operands: "QUERY CONSTRAINTS DATA..",
         flag: Flag::Has("--here"),
         options: &[],
+        reads_data: true,
     },
     UsageRow {
         name: CommandName::Lint,
@@ -89,6 +98,7 @@ const ROWS: &[UsageRow] = &[
         operands: "QUERY TEMPLATES DATA..",
         flag: Flag::None,
         options: &[],
+        reads_data: true,
     },
     UsageRow {
         name: CommandName::Serve,
@@ -108,6 +118,7 @@ const ROWS: &[UsageRow] = &[
             ValueOption::Number(NumberOption::Every),
             ValueOption::Path(PathOption::Over),
         ],
+        reads_data: true,
     },
     UsageRow {
         name: CommandName::Replay,
@@ -121,6 +132,7 @@ const ROWS: &[UsageRow] = &[
             ValueOption::Number(NumberOption::Cache),
             ValueOption::Path(PathOption::Over),
         ],
+        reads_data: true,
     },
     UsageRow {
         name: CommandName::Trial,
@@ -129,6 +141,7 @@ const ROWS: &[UsageRow] = &[
         operands: "N",
         flag: Flag::None,
         options: &[],
+        reads_data: false,
     },
     UsageRow {
         name: CommandName::Help,
@@ -137,6 +150,7 @@ const ROWS: &[UsageRow] = &[
         operands: "[COMMAND]",
         flag: Flag::None,
         options: &[],
+        reads_data: false,
     },
     UsageRow {
         name: CommandName::Version,
@@ -145,6 +159,7 @@ const ROWS: &[UsageRow] = &[
         operands: "",
         flag: Flag::None,
         options: &[],
+        reads_data: false,
     },
 ];
 
@@ -161,10 +176,15 @@ const OPTIONS: &[ValueOption] = &[
 ];
 
 // All options without a value.
-const FLAGS: &[&str] = &["--dot", "--here", "--whole"];
+const FLAGS: &[&str] = &["--dot", "--here", "--whole", LENIENT];
+
+const LENIENT: &str = "--lenient";
 
 // Whether the form may have this flag beside its words.
 fn may_have(row: &UsageRow, flag: &str) -> bool {
+    if flag == LENIENT {
+        return row.reads_data;
+    }
     match row.flag {
         Flag::May(own) => own == flag,
         _ => false,
@@ -347,6 +367,9 @@ fn check_listed(alloc: Global, row: &UsageRow, text: &str) -> Result<(), Fail> {
     push_operands(&mut wanted, row.operands)?;
     push_options(alloc, &mut wanted, row.options)?;
     push_flag(&mut wanted, &row.flag)?;
+    if row.reads_data {
+        push_parts(&mut wanted, &[LENIENT, "\n"])?;
+    }
     let found = listed(alloc, text)?;
     check_text(&found, &wanted)
 }
@@ -366,12 +389,13 @@ fn push_words(
     push_parts(out, &[" ", row.operands])
 }
 
-// The words of the form as its usage has them.
+// The words of the form as its usage has them. The form with a flag that stands in its words reads data.
 fn push_form(out: &mut Vec<u8>, row: &UsageRow) -> Result<(), NoMemory> {
     match row.flag {
         _ if !row.options.is_empty() => push_words(out, row, " ", "[OPTION..]", ""),
         Flag::May(flag) => push_words(out, row, " [", flag, "]"),
-        Flag::Has(flag) => push_words(out, row, " ", flag, ""),
+        Flag::Has(flag) => push_words(out, row, " ", flag, " [--lenient]"),
+        Flag::None if row.reads_data => push_words(out, row, " [", LENIENT, "]"),
         Flag::None => push_words(out, row, "", "", ""),
     }
 }

@@ -15,4 +15,6 @@ mod full;
 #[cfg(test)]
 mod sockets;
 #[cfg(test)]
+mod talk;
+#[cfg(test)]
 mod watched;

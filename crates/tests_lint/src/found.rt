@@ -1,6 +1,7 @@
 // The lines of the worked sites.
 use crate::rows::{LintRow, ROWS};
 use command_lint::lint;
+use command_spec::DataFiles;
 use edge_io::{MemFile, MemFiles};
 use sd_value::{NoMemory, Str};
 use std::alloc::Global;
@@ -41,8 +42,7 @@ fn check_row<R: AllocGlobal + Abort>(rt: &R, row: &LintRow) -> Result<(), Fail> 
     texts.push(file(alloc, &query, row.query)?)?;
     texts.push(file(alloc, &templates, row.templates)?)?;
     let mut files = MemFiles::new(alloc, texts, Vec::new(alloc));
-    let mut sources = Vec::new(alloc);
-    sources.push(data_path)?;
+    let sources = DataFiles::of(alloc, &["site.ddl"])?;
     let report = lint(alloc, &mut files, &sources, &query, &templates)?;
     let wanted = text_of(alloc, row.lines)?;
     assert_eq!(rt;

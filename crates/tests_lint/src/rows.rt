@@ -25,6 +25,22 @@ pub const ROWS: &[LintRow] = &[
         templates: "<TEMPLATE Home><SFMT @paper LINK=title></TEMPLATE><TEMPLATE Page><SFMT @title></TEMPLATE>",
         lines: "site.struql: 148 NoRow at 26^site.struql: 141 UnknownCollection at 34^",
     },
+    // Collections with quoted names: one that the data have, with a template of its own, and one that they don't have.
+    LintRow {
+        data: "object a in 'my file' { title 'One' year 1998 } object b in 'my file' { title 'Two' }",
+        query: "INPUT D { CREATE Home() } { WHERE 'my file'(x), x -> 'title' -> t CREATE Page(x) LINK \
+            Home() -> 'paper' -> Page(x), Page(x) -> 'title' -> t } OUTPUT S",
+        templates: "<TEMPLATE Home><SFMT #'my file'.title><SFMT @paper LINK=title></TEMPLATE><TEMPLATE \
+            Page><SFMT @title></TEMPLATE><TEMPLATE COLLECTION 'my file'>x</TEMPLATE>",
+        lines: "",
+    },
+    LintRow {
+        data: "object a in 'my file' { title 'One' year 1998 } object b in 'my file' { title 'Two' }",
+        query: "INPUT D { CREATE Home() } { WHERE 'my files'(x), x -> 'title' -> t CREATE Page(x) LINK \
+            Home() -> 'paper' -> Page(x), Page(x) -> 'title' -> t } OUTPUT S",
+        templates: "<TEMPLATE Home><SFMT #'my-file'.title><SFMT @paper LINK=title></TEMPLATE><TEMPLATE Page><SFMT @title></TEMPLATE>",
+        lines: "site.struql: 148 NoRow at 26^site.struql: 141 UnknownCollection at 34^site.tmpl: 141 UnknownCollection at 22^",
+    },
     // A collection that a COLLECT fills is known, though the data have no member of it.
     LintRow {
         data: "object a in Papers { title 'One' year 1998 } object b in Papers { title 'Two' }",

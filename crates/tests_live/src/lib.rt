@@ -6,6 +6,8 @@ mod checks;
 #[cfg(test)]
 mod footprints;
 #[cfg(test)]
+mod kept_pages;
+#[cfg(test)]
 mod mirrored;
 #[cfg(test)]
 mod random_edits;

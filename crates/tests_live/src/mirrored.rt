@@ -3,7 +3,7 @@ use edit_spec::Edit;
 use graph_spec::{Edge, Member};
 use index_store::IndexStore;
 use live_store::LiveStore;
-use sd_graph::{GraphBuilder, PROGRAM_LIMITS};
+use sd_graph::{Graph, GraphBuilder, PROGRAM_LIMITS};
 use sd_value::{Datum, NoMemory, Str, Value, copy};
 use std::alloc::Global;
 use std::test::Fail;
@@ -100,6 +100,11 @@ impl Mirror {
         add_edges(alloc, &mut builder, self.edges.as_slice())?;
         add_members(alloc, &mut builder, self.members.as_slice())?;
         Ok(builder)
+    }
+
+    pub(crate) fn graph(&self, alloc: Global) -> Result<Graph, Fail> {
+        let graph = self.builder(alloc)?.finish(alloc)?;
+        Ok(graph)
     }
 
     pub(crate) fn index(&self, alloc: Global) -> Result<IndexStore, Fail> {

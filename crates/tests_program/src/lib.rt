@@ -1,6 +1,6 @@
 //! Whole runs by worked rows, over files, outputs and a wire in memory: runs of each command beside their status, the
 //! files that a build leaves, pages with the first fault of inputs that are refused, runs of which a device fails,
-//! one page of a site that is never made, and runs over a first query.
+//! one page of a site that is never made, runs over a first query, and runs over data that are read leniently.
 #![tactic(auto)]
 
 #[cfg(test)]
@@ -13,6 +13,8 @@ mod devices;
 mod inputs;
 #[cfg(test)]
 mod large;
+#[cfg(test)]
+mod lenient;
 #[cfg(test)]
 mod lints;
 #[cfg(test)]

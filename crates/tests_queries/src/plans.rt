@@ -81,6 +81,13 @@ const EXAMPLES: &[Example] = &[
         plans: "block 1\n  use C(x) cost 1\n  use x -> 'b' -> y cost 2\n",
         rows: "| &a 1;",
     },
+    // Collections with quoted names; one has the name of a test, and beside it is the test.
+    Example {
+        data_text: "object a in '3166-1', 'isInt' { b 1 } object c in '3166-1' { b 2 }",
+        query: "INPUT D WHERE '3166-1'(x), 'isInt'(x), isNode(x) CREATE F(x) OUTPUT S",
+        plans: "block 1\n  use 'isInt'(x) cost 1\n  use '3166-1'(x) cost 0\n  use isNode(x) cost 0\n",
+        rows: "| &a;",
+    },
     // An equation costs 1, and under version 2, where a value has a twin, 2.
     Example {
         data_text: SEVENS,

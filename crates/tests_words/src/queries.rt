@@ -74,6 +74,51 @@ const REFUSED: &[RefusalRow] = &[
         text: "INPUT D WHERE x -> 'a' y",
         refusal: ParseRefusal::Expected(23),
     },
+    // A quoted text names a collection alone, with one variable; a number names nothing.
+    RefusalRow {
+        text: "INPUT 'D'",
+        refusal: ParseRefusal::Expected(6),
+    },
+    RefusalRow {
+        text: "INPUT D WHERE 'C'('x')",
+        refusal: ParseRefusal::Expected(18),
+    },
+    RefusalRow {
+        text: "INPUT D WHERE 'C'()",
+        refusal: ParseRefusal::Expected(18),
+    },
+    RefusalRow {
+        text: "INPUT D WHERE 'C'(x) -> 'a' -> y",
+        refusal: ParseRefusal::Expected(21),
+    },
+    RefusalRow {
+        text: "INPUT D WHERE x -> 'a' -> 'C'(x)",
+        refusal: ParseRefusal::Expected(29),
+    },
+    RefusalRow {
+        text: "INPUT D WHERE 1(x)",
+        refusal: ParseRefusal::Expected(15),
+    },
+    RefusalRow {
+        text: "INPUT D CREATE 'F'()",
+        refusal: ParseRefusal::Expected(15),
+    },
+    RefusalRow {
+        text: "INPUT D LINK 'F'() -> 'a' -> x",
+        refusal: ParseRefusal::Expected(13),
+    },
+    RefusalRow {
+        text: "INPUT D COLLECT 1(x)",
+        refusal: ParseRefusal::Expected(16),
+    },
+    RefusalRow {
+        text: "INPUT D COLLECT 'C' x",
+        refusal: ParseRefusal::Expected(20),
+    },
+    RefusalRow {
+        text: "INPUT D COLLECT 'C'('F'(x))",
+        refusal: ParseRefusal::Expected(20),
+    },
     // Faults of tokens come first.
     RefusalRow {
         text: "OUTPUT ?",

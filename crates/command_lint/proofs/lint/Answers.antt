@@ -51,15 +51,15 @@ pub returns-in_err-graph-clause-cause : goal.returns-in_err-graph-clause-cause
 returns-in_err-graph-clause-cause g c =
     let p = err_from_is_err_and c.from_residual.result c.from_residual.ensures.1 in
     rw (p.1, p.2)
-    (cause_within c.args.sources.now (input_paths c.args.sources.now c.args.query_path.now c.args.templates_path.now) _ _ _ c.in_err-graph.field-0.0
-    (of_sources c.args.sources.now c.args.query_path.now c.args.templates_path.now) (λ path. omega arith) c.in_err-graph.ensures.cause)
+    (cause_within c.args.sources.now.paths (input_paths c.args.sources.now.paths c.args.query_path.now c.args.templates_path.now) _ _ _ c.in_err-graph.field-0.0
+    (of_sources c.args.sources.now.paths c.args.query_path.now c.args.templates_path.now) (λ path. omega arith) c.in_err-graph.ensures.cause)
 
 pub returns-in_err-query_bytes-clause-cause : goal.returns-in_err-query_bytes-clause-cause
 returns-in_err-query_bytes-clause-cause g c =
     let p = err_from_is_err_and c.from_residual-in_err-query_bytes.result c.from_residual-in_err-query_bytes.ensures.1 in
     rw (p.1, p.2)
-    (cause_within (c.args.query_path.now ∷ []) (input_paths c.args.sources.now c.args.query_path.now c.args.templates_path.now) _ _ _ c.in_err-query_bytes.field-0.0
-    (of_query c.args.sources.now c.args.query_path.now c.args.templates_path.now) c.in_ok-graph.ensures.cause.later c.in_err-query_bytes.ensures.cause)
+    (cause_within (c.args.query_path.now ∷ []) (input_paths c.args.sources.now.paths c.args.query_path.now c.args.templates_path.now) _ _ _ c.in_err-query_bytes.field-0.0
+    (of_query c.args.sources.now.paths c.args.query_path.now c.args.templates_path.now) c.in_ok-graph.ensures.cause.later c.in_err-query_bytes.ensures.cause)
 
 pub returns-in_err-query-clause-cause : goal.returns-in_err-query-clause-cause
 returns-in_err-query-clause-cause g c =
@@ -71,8 +71,8 @@ pub returns-in_err-template_bytes-clause-cause : goal.returns-in_err-template_by
 returns-in_err-template_bytes-clause-cause g c =
     let p = err_from_is_err_and c.from_residual-in_err-template_bytes.result c.from_residual-in_err-template_bytes.ensures.1 in
     rw (p.1, p.2)
-    (cause_within (c.args.templates_path.now ∷ []) (input_paths c.args.sources.now c.args.query_path.now c.args.templates_path.now) _ _ _ c.in_err-template_bytes.field-0.0
-    (of_templates c.args.sources.now c.args.query_path.now c.args.templates_path.now) (none_fell c.in_ok-graph.ensures.cause.later c.in_ok-query_bytes.ensures.cause.later) c.in_err-template_bytes.ensures.cause)
+    (cause_within (c.args.templates_path.now ∷ []) (input_paths c.args.sources.now.paths c.args.query_path.now c.args.templates_path.now) _ _ _ c.in_err-template_bytes.field-0.0
+    (of_templates c.args.sources.now.paths c.args.query_path.now c.args.templates_path.now) (none_fell c.in_ok-graph.ensures.cause.later c.in_ok-query_bytes.ensures.cause.later) c.in_err-template_bytes.ensures.cause)
 
 pub returns-in_err-templates-clause-cause : goal.returns-in_err-templates-clause-cause
 returns-in_err-templates-clause-cause g c =

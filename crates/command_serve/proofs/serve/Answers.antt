@@ -1,6 +1,5 @@
 use Rattle.std.specs.Prelude.{None}
-use Rattle.std.proofs.Common.{inl, List, ℕ, Ok, subst}
-use Rattle.site_inputs.specs.Sites.{InputsEnd}
+use Rattle.std.proofs.Common.{inl, Ok}
 use Rattle.site_inputs.specs.Values.{inputs_of}
 use Rattle.site_inputs.specs.Outside.{outside}
 use Rattle.command_serve.proofs.Told.{never_silent, never_usage, over_read_rose}
@@ -30,6 +29,6 @@ pub returns-in-Ok-clause-ends : goal.returns-in-Ok-clause-ends
 returns-in-Ok-clause-ends g c = λ x e.
     inl (record {
       inputs = inputs_of c.in-Ok.inputs;
-      taken = subst (λ (ss : List (List ℕ)). InputsEnd x ss c.args.command.now.over c.args.command.now.query c.args.command.now.templates (Ok (inputs_of c.in-Ok.inputs))) c.items.ensures (c.in-Ok.ensures.ends x e);
+      taken = (c.in-Ok.ensures.ends x e);
       ends = c.serve_over.ensures.ends x x (g.F.Files.failed_reads c.args.files.now) (g.F.Files.failed_reads c.load_inputs.new.files) (g.F.Files.failed_writes c.args.files.now) (g.F.Files.failed_writes c.load_inputs.new.files);
     })

@@ -6,5 +6,5 @@ use Rattle.command_words.proofs.read_command.Goals as goal
 pub returns-in-Some-clause-exact : goal.returns-in-Some-clause-exact
 returns-in-Some-clause-exact c =
     let are = rw c.in-Some.is at c.in_ok-texts.ensures in
-    let same : words.flagged_command (texts c.deref.result.now) ≡ words.command c.args.words.now = ap (λ x. words.flagged_command (texts x)) c.deref.ensures.value ∙ ap words.flagged_command are.0 ∙ rw are.1 refl in
-    subst (λ x. IfOk c.flagged_command.result (λ given. given ≡ x)) same c.flagged_command.ensures.exact
+    let same : words.given_command (texts c.deref.result.now) ≡ words.command c.args.words.now = ap (λ x. words.given_command (texts x)) c.deref.ensures.value ∙ ap words.given_command are.0 ∙ rw are.1 refl in
+    subst (λ x. IfOk c.given_command.result (λ given. given ≡ x)) same c.given_command.ensures.exact

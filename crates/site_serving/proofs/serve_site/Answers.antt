@@ -1,7 +1,7 @@
 use Rattle.site_spec.specs.Root.{root_function}
-use Rattle.composed_change.proofs.Readers.{the_readers}
 use Rattle.site_inputs.specs.Values.{inputs_of}
 use Rattle.serve_run.proofs.ServingLemmas.{serves_nothing, no_steps}
+use Rattle.site_pages.specs.Rules.{the_rules}
 use Rattle.site_pages.specs.Texts.{current_site, current_templates, data_texts}
 use Rattle.site_serving.specs.Served.{first_data}
 use Rattle.site_serving.proofs.serve_site.Goals as goal
@@ -9,21 +9,21 @@ use Rattle.site_serving.proofs.serve_site.Goals as goal
 pub returns-in-Err-clause-serves : goal.returns-in-Err-clause-serves
 returns-in-Err-clause-serves g c =
     rw c.in-Err.ensures.err (
-      the_readers,
-      serves_nothing (root_function c.args.inputs.query) current_site current_templates (data_texts the_readers) (first_data (inputs_of c.args.inputs)) c.args.limits.now.requests c.args.limits.now.turns c.args.limits.now.cache
+      the_rules,
+      serves_nothing (root_function c.args.inputs.query) current_site current_templates (data_texts the_rules) (first_data (inputs_of c.args.inputs)) c.args.limits.now.requests c.args.limits.now.turns c.args.limits.now.cache
           (g.W.Wire.told c.args.wire.now),
     )
 
 pub returns-in-Err-clause-steps : goal.returns-in-Err-clause-steps
 returns-in-Err-clause-steps g c =
     rw c.in-Err.ensures.err (
-      the_readers,
-      no_steps (root_function c.args.inputs.query) current_site current_templates (data_texts the_readers) (first_data (inputs_of c.args.inputs)) c.args.limits.now.requests c.args.limits.now.turns c.args.limits.now.cache
+      the_rules,
+      no_steps (root_function c.args.inputs.query) current_site current_templates (data_texts the_rules) (first_data (inputs_of c.args.inputs)) c.args.limits.now.requests c.args.limits.now.turns c.args.limits.now.cache
           (g.W.Wire.told c.args.wire.now),
     )
 
 pub returns-in-Ok-clause-serves : goal.returns-in-Ok-clause-serves
-returns-in-Ok-clause-serves g c = (the_readers, c.in-Ok.ensures.serves)
+returns-in-Ok-clause-serves g c = (the_rules, c.in-Ok.ensures.serves)
 
 pub returns-in-Ok-clause-steps : goal.returns-in-Ok-clause-steps
-returns-in-Ok-clause-steps g c = (the_readers, c.in-Ok.ensures.steps)
+returns-in-Ok-clause-steps g c = (the_rules, c.in-Ok.ensures.steps)

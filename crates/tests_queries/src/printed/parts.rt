@@ -68,6 +68,27 @@ const CONDITIONS: &[PartRow] = &[
         text: "NOT ( x->'a'->y )",
         canonical: "not(x -> 'a' -> y)",
     },
+    // Quoted names of collections, without quotes where a bare name means the same.
+    PartRow {
+        text: "'Publications'( x )",
+        canonical: "Publications(x)",
+    },
+    PartRow {
+        text: "NOT ( '_9a' (x) )",
+        canonical: "not(_9a(x))",
+    },
+    PartRow {
+        text: "'Where'(x)",
+        canonical: "Where(x)",
+    },
+    PartRow {
+        text: "'isint'(x)",
+        canonical: "isint(x)",
+    },
+    PartRow {
+        text: "'my\nfile' ( x )",
+        canonical: "'my\\nfile'(x)",
+    },
     // Expressions: signs without blanks, and the other spellings of any label.
     PartRow {
         text: "x -> 'a' . 'b' * -> y",
@@ -148,6 +169,23 @@ const CANONICAL_CONDITIONS: &[&str] = &[
     "isNode(x)",
     "not(C(x))",
     "not(x in {1})",
+    // Collections that no bare name means: no names, words of the grammar, and tests.
+    "'3166-1'(x)",
+    "'my file'(x)",
+    "'9'(x)",
+    "''(x)",
+    "'é'(x)",
+    "'a\\'b\\\\'(x)",
+    "not('my file'(x))",
+    "'where'(x)",
+    "'NOT'(x)",
+    "'true'(x)",
+    "'isInt'(x)",
+    "'isNode'(x)",
+    "not('isText'(x))",
+    // A quoted text that nothing opens behind is a constant as ever.
+    "'my file' = x",
+    "'isInt' -> 'a' -> x",
     // Expressions: signs without blanks, and the other spellings of any label.
     "x -> ()* -> y",
     // Parentheses that are needed.

@@ -46,6 +46,11 @@ const QUERIES: &[QueryRow] = &[
         text: "INPUT D{WHERE C(x),E(x)CREATE F(x),G(x,x)LINK F(x)->'a'->G(x,x)COLLECT All(F(x)),Data(x)}OUTPUT S",
         canonical: "INPUT D\n{ WHERE C(x), E(x) CREATE F(x), G(x, x) LINK F(x) -> 'a' -> G(x, x) COLLECT All(F(x)), Data(x) }\nOUTPUT S\n",
     },
+    // Quoted names of collections.
+    QueryRow {
+        text: "INPUT D{WHERE'E'(x)CREATE F(x)COLLECT'my file'(F(x)),'Data'(x),'link'(x)}OUTPUT S",
+        canonical: "INPUT D\n{ WHERE E(x) CREATE F(x) COLLECT 'my file'(F(x)), Data(x), 'link'(x) }\nOUTPUT S\n",
+    },
     // The bibliography's.
     QueryRow {
         text: "INPUT Bib\n{ CREATE RootPage() }\n{ WHERE Publications(x), x -> l -> v\n  CREATE \

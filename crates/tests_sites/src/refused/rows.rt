@@ -79,6 +79,9 @@ const REFUSED: &[Refused] = &[
             "INPUT D WHERE x in {^y} OUTPUT S",
             "INPUT D WHERE not(^not(C(x))) OUTPUT S",
             "INPUT D WHERE not ^C(x) OUTPUT S",
+            "INPUT D WHERE not ^'C'(x) OUTPUT S",
+            "INPUT D WHERE 'isInt' (^1) OUTPUT S",
+            "INPUT D WHERE x -> 'a' -> 'C' ^(x) OUTPUT S",
             "INPUT D WHERE C(x), ^CREATE F(x) OUTPUT S",
             // Path expressions.
             "INPUT D WHERE x -> ^-> y OUTPUT S",
@@ -125,6 +128,7 @@ const REFUSED: &[Refused] = &[
             "INPUT D WHERE C(x) CREATE F(x) LINK F(x) -> ^l -> x OUTPUT S",
             "INPUT D WHERE C(x) CREATE F(x) LINK F(x) -> 'a' -> ^y OUTPUT S",
             "INPUT D WHERE C(x) CREATE F(x) COLLECT C(^y) OUTPUT S",
+            "INPUT D WHERE 'C'(x) CREATE F(x) COLLECT 'C'(^y) OUTPUT S",
             "INPUT D CREATE F(^x) { WHERE C(x) } OUTPUT S",
             "INPUT D { WHERE C(x) CREATE F(x) } { CREATE G(^x) } OUTPUT S",
             "INPUT D CREATE F() LINK ^y -> 'l' -> F() OUTPUT S",
@@ -159,6 +163,7 @@ const REFUSED: &[Refused] = &[
         texts: &[
             "INPUT D WHERE x -> l -> y, ^l -> 'a' -> z OUTPUT S",
             "INPUT D WHERE x -> l -> y, C(^l) OUTPUT S",
+            "INPUT D WHERE x -> l -> y, 'isInt'(^l) OUTPUT S",
             "INPUT D WHERE ^l -> l -> x OUTPUT S",
             "INPUT D WHERE not(x -> l -> y), C(^l) OUTPUT S",
         ],
@@ -176,6 +181,7 @@ const REFUSED: &[Refused] = &[
             "INPUT D CREATE ^index() OUTPUT S",
             "INPUT D CREATE ^isInt() OUTPUT S",
             "INPUT D CREATE F() COLLECT ^isNode(F()) OUTPUT S",
+            "INPUT D CREATE F() COLLECT ^'isNode'(F()) OUTPUT S",
         ],
     },
     Refused {

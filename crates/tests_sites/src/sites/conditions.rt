@@ -40,6 +40,22 @@ pub const SITES: &[SiteRow] = &[
             ok;/F/i3/i3.html ok;/F/na/i1.html ok;/F/na/i2.html ok;/F/na/i3.html ok;/F/i2/i1.html \
             -;/F/na/na.html -;",
     },
+    // Collections with quoted names, one of them a test's.
+    SiteRow {
+        data_text: "object a in 'my file', isInt { } object b in 'my file' { } object c in isInt { }",
+        query: "INPUT D WHERE 'my file'(x), not('isInt'(x)) CREATE F(x) OUTPUT S",
+        templates: OK,
+        outside: &["/F/na.html", "/F/nc.html"],
+        outcomes: "/F/nb.html ok;/F/na.html -;/F/nc.html -;",
+    },
+    // Pages collected under a quoted name.
+    SiteRow {
+        data_text: "object a in C { } object b in C { }",
+        query: "INPUT D WHERE 'C'(x) CREATE F(x), R() LINK F(x) -> 'n' -> x COLLECT 'my file'(F(x)) OUTPUT S",
+        templates: "<TEMPLATE R><SFMT #'my file'.n DELIM=','></TEMPLATE><TEMPLATE F><SFMT @n></TEMPLATE>",
+        outside: &["/F/nc.html"],
+        outcomes: "/F/na.html a;/F/nb.html b;/R.html a,b;/F/nc.html -;",
+    },
     // A number and its text are equal under version 2.
     SiteRow {
         data_text: "object o { v 7 v '7' v '07' }",

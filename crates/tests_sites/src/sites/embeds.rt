@@ -11,6 +11,14 @@ pub const SITES: &[SiteRow] = &[
         outside: &["/F/nr.html"],
         outcomes: "/F/np.html [Ann(Bob())];/F/nq.html [Bob()];/F/nr.html -;",
     },
+    // The same, with a quoted name.
+    SiteRow {
+        data_text: "object p in 'my file' { name 'Ann' knows &q } object q in 'my file' { name 'Bob' }",
+        query: "INPUT D WHERE 'my file'(x) CREATE F(x) LINK F(x) -> 'who' -> x OUTPUT S",
+        templates: "<TEMPLATE F>[<SFMT @who EMBED>]</TEMPLATE><TEMPLATE COLLECTION 'my file'><SFMT @name>(<SFMT @knows EMBED>)</TEMPLATE>",
+        outside: &["/F/nr.html"],
+        outcomes: "/F/np.html [Ann(Bob())];/F/nq.html [Bob()];/F/nr.html -;",
+    },
     // A page in a page, where a branch that isn't taken would come round again.
     SiteRow {
         data_text: "",

@@ -324,6 +324,62 @@ fn words_give_their_command(rt: HostRuntime) -> Result<(), Fail> {
 }
 
 // Words that give no command.
+// A word that says that the data are read leniently, at every place and beside every other flag.
+const WITH_LENIENT: &[CommandRow] = &[
+    CommandRow {
+        words: &["page", "--lenient", "q", "t", "a", "d"],
+        command: "page q t a d leniently",
+    },
+    CommandRow {
+        words: &["page", "q", "t", "a", "d", "--over=f", "--lenient"],
+        command: "page q t a d leniently over f",
+    },
+    CommandRow {
+        words: &["build", "q", "t", "--lenient", "o", "d"],
+        command: "build q t o d leniently",
+    },
+    CommandRow {
+        words: &["data", "--lenient", "d"],
+        command: "data d leniently",
+    },
+    CommandRow {
+        words: &["data", "d", "--", "--lenient"],
+        command: "data d --lenient",
+    },
+    CommandRow {
+        words: &["data", "--lenient", "--", "d", "--lenient"],
+        command: "data d --lenient leniently",
+    },
+    CommandRow {
+        words: &["explain", "--lenient", "q", "d"],
+        command: "explain q d leniently",
+    },
+    CommandRow {
+        words: &["check", "--here", "--lenient", "q", "c", "d"],
+        command: "check q c d leniently",
+    },
+    CommandRow {
+        words: &["check", "--lenient", "q", "--here", "c", "d"],
+        command: "check q c d leniently",
+    },
+    CommandRow {
+        words: &["lint", "q", "t", "--lenient", "d"],
+        command: "lint q t d leniently",
+    },
+    CommandRow {
+        words: &["serve", "--lenient", "--whole", "q", "t", "d"],
+        command: "serve whole q t d 8080 4294967296 1 4294967296 256 5000 10000 leniently",
+    },
+    CommandRow {
+        words: &["serve", "--port", "--lenient", "1", "q", "t", "d"],
+        command: "serve q t d 1 4294967296 1 4294967296 256 5000 10000 leniently",
+    },
+    CommandRow {
+        words: &["replay", "--cache=2", "q", "t", "s", "d", "--lenient"],
+        command: "replay q t s d 1 4294967296 2 leniently",
+    },
+];
+
 const NO_COMMANDS: &[&[&str]] = &[
     &[],
     &[""],
@@ -510,6 +566,26 @@ const WORDS_WITH_OVER: &[&[&str]] = &[
     &["help", "--over=f"],
 ];
 
+// Data that are read leniently by a command that reads none, or the word given twice or with a value.
+const WORDS_WITH_LENIENT: &[&[&str]] = &[
+    &["page", "--lenient", "--lenient", "q", "t", "a", "d"],
+    &["data", "--lenient=1", "d"],
+    &["data", "--lenient"],
+    &["data", "--Lenient", "d"],
+    &["data", "-lenient", "d"],
+    &["--lenient", "data", "d"],
+    &["data", "--over", "--lenient", "d"],
+    &["check", "--lenient", "q", "c"],
+    &["check", "--lenient", "q", "c", "d"],
+    &["check", "--here", "--lenient", "q", "c"],
+    &["schema", "--lenient", "q"],
+    &["schema", "--dot", "--lenient", "q"],
+    &["trial", "--lenient", "1"],
+    &["help", "--lenient"],
+    &["help", "--lenient", "data"],
+    &["version", "--lenient"],
+];
+
 fn check_no_commands(alloc: Global, rows: &[&[&str]]) -> Result<(), Fail> {
     for words in rows {
         check_command(alloc, words, "")?;
@@ -530,6 +606,16 @@ fn stray_words_give_no_command(rt: HostRuntime) -> Result<(), Fail> {
 #[test]
 fn a_first_query_is_named_once_and_where_there_is_one(rt: HostRuntime) -> Result<(), Fail> {
     check_no_commands(rt.alloc(), WORDS_WITH_OVER)
+}
+
+#[test]
+fn data_are_read_leniently_where_the_words_say_so(rt: HostRuntime) -> Result<(), Fail> {
+    check_commands(rt.alloc(), WITH_LENIENT)
+}
+
+#[test]
+fn only_data_are_read_leniently_and_it_is_said_once(rt: HostRuntime) -> Result<(), Fail> {
+    check_no_commands(rt.alloc(), WORDS_WITH_LENIENT)
 }
 
 // The word `data`, and behind it one that is no text.

@@ -1,5 +1,5 @@
 // Commands as texts: the name, and then each part behind a blank.
-use command_spec::{Command, CommandName, HelpCommand, ServeCommand};
+use command_spec::{Command, CommandName, DataFiles, HelpCommand, ServeCommand};
 use sd_value::{NoMemory, Str};
 use std::alloc::Global;
 
@@ -44,9 +44,18 @@ fn named(
     Ok(out)
 }
 
-// The text of a command, with the file of its first query, if there is one, behind the word `over`.
-fn over_text(text: Vec<u8>, over: &Option<Str>) -> Result<Vec<u8>, NoMemory> {
+// The text of a command, with the word `leniently` behind it where its data are read so.
+fn mode_text(text: Vec<u8>, sources: &DataFiles) -> Result<Vec<u8>, NoMemory> {
     let mut out = text;
+    if sources.lenient {
+        push(&mut out, b"leniently")?;
+    }
+    Ok(out)
+}
+
+// The same, with the file of its first query, if there is one, behind the word `over`.
+fn data_text(text: Vec<u8>, sources: &DataFiles, over: &Option<Str>) -> Result<Vec<u8>, NoMemory> {
+    let mut out = mode_text(text, sources)?;
     if let Some(first) = over {
         push(&mut out, b"over")?;
         push(&mut out, first.bytes())?;
@@ -100,40 +109,45 @@ fn serve_text(alloc: Global, c: &ServeCommand) -> Result<Vec<u8>, NoMemory> {
             let paths = [&c.query, &c.templates, &watch.path];
             let mut all = Vec::from_slice(alloc, &numbers)?;
             all.push(watch.every)?;
-            named(alloc, name, &paths, c.sources.items(), &all)
+            named(alloc, name, &paths, c.sources.paths.items(), &all)
         }
         None => {
             let paths = [&c.query, &c.templates];
-            named(alloc, name, &paths, c.sources.items(), &numbers)
+            named(alloc, name, &paths, c.sources.paths.items(), &numbers)
         }
     }
 }
 
-/// The command as a text: its paths as they are in it, behind them its numbers, and last the file of a first query.
+/// The command as a text: its paths as they are in it, behind them its numbers, then whether its data are read leniently, and
+/// last the file of a first query.
 pub fn command_text(alloc: Global, command: &Command) -> Result<Vec<u8>, NoMemory> {
     match command {
         Command::Page(c) => {
             let paths = [&c.query, &c.templates, &c.address];
-            let text = named(alloc, b"page", &paths, c.sources.items(), &[])?;
-            over_text(text, &c.over)
+            let text = named(alloc, b"page", &paths, c.sources.paths.items(), &[])?;
+            data_text(text, &c.sources, &c.over)
         }
         Command::Build(c) => {
             let paths = [&c.query, &c.templates, &c.folder];
-            let text = named(alloc, b"build", &paths, c.sources.items(), &[])?;
-            over_text(text, &c.over)
+            let text = named(alloc, b"build", &paths, c.sources.paths.items(), &[])?;
+            data_text(text, &c.sources, &c.over)
         }
         Command::Data(c) => {
-            let text = named(alloc, b"data", &[], c.sources.items(), &[])?;
-            over_text(text, &c.over)
+            let text = named(alloc, b"data", &[], c.sources.paths.items(), &[])?;
+            data_text(text, &c.sources, &c.over)
         }
-        Command::Explain(c) => named(alloc, b"explain", &[&c.query], c.sources.items(), &[]),
+        Command::Explain(c) => {
+            let text = named(alloc, b"explain", &[&c.query], c.sources.paths.items(), &[])?;
+            mode_text(text, &c.sources)
+        }
         Command::Schema(c) => {
             let numbers: &[u64] = if c.dot { &[1] } else { &[] };
             named(alloc, b"schema", &[&c.query], &[], numbers)
         }
         Command::Check(c) => {
             let paths = [&c.query, &c.constraints];
-            named(alloc, b"check", &paths, c.sources.items(), &[])
+            let text = named(alloc, b"check", &paths, c.sources.paths.items(), &[])?;
+            mode_text(text, &c.sources)
         }
         Command::CheckAll(c) => {
             let paths = [&c.query, &c.constraints];
@@ -141,15 +155,16 @@ pub fn command_text(alloc: Global, command: &Command) -> Result<Vec<u8>, NoMemor
         }
         Command::Lint(c) => {
             let paths = [&c.query, &c.templates];
-            named(alloc, b"lint", &paths, c.sources.items(), &[])
+            let text = named(alloc, b"lint", &paths, c.sources.paths.items(), &[])?;
+            mode_text(text, &c.sources)
         }
-        Command::Serve(c) => over_text(serve_text(alloc, c)?, &c.over),
+        Command::Serve(c) => data_text(serve_text(alloc, c)?, &c.sources, &c.over),
         Command::Replay(c) => {
             let paths = [&c.query, &c.templates, &c.script];
             let limits = &c.limits;
             let numbers = [limits.requests, limits.turns, u64::from(limits.cache)];
-            let text = named(alloc, b"replay", &paths, c.sources.items(), &numbers)?;
-            over_text(text, &c.over)
+            let text = named(alloc, b"replay", &paths, c.sources.paths.items(), &numbers)?;
+            data_text(text, &c.sources, &c.over)
         }
         Command::Trial(c) => named(alloc, b"trial", &[], &[], &[u64::from(c.entries)]),
         Command::Help(c) => named(alloc, help_text(c), &[], &[], &[]),

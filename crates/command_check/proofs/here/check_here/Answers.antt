@@ -34,19 +34,19 @@ pub returns-in_err-graph-clause-cause : goal.returns-in_err-graph-clause-cause
 returns-in_err-graph-clause-cause g c =
     let p = err_from_is_err_and c.from_residual.result c.from_residual.ensures.1 in
     rw (p.1, p.2)
-    (cause_within c.args.sources.now (here_paths c.args.sources.now c.args.query.now c.args.constraints.now) _ _ _ c.in_err-graph.field-0.0
-    (of_sources c.args.sources.now c.args.query.now c.args.constraints.now) (λ path. omega arith) c.in_err-graph.ensures.cause)
+    (cause_within c.args.sources.now.paths (here_paths c.args.sources.now c.args.query.now c.args.constraints.now) _ _ _ c.in_err-graph.field-0.0
+    (of_sources c.args.sources.now.paths c.args.query.now c.args.constraints.now) (λ path. omega arith) c.in_err-graph.ensures.cause)
 
 pub returns-in_err-query-clause-cause : goal.returns-in_err-query-clause-cause
 returns-in_err-query-clause-cause g c =
     let p = err_from_is_err_and c.from_residual-in_err-query.result c.from_residual-in_err-query.ensures.1 in
     rw (p.1, p.2)
     (cause_within (c.args.query.now ∷ []) (here_paths c.args.sources.now c.args.query.now c.args.constraints.now) _ _ _ c.in_err-query.field-0.0
-    (of_query c.args.sources.now c.args.query.now c.args.constraints.now) c.in_ok-graph.ensures.cause.later c.in_err-query.ensures.cause)
+    (of_query c.args.sources.now.paths c.args.query.now c.args.constraints.now) c.in_ok-graph.ensures.cause.later c.in_err-query.ensures.cause)
 
 pub returns-in_err-constraints-clause-cause : goal.returns-in_err-constraints-clause-cause
 returns-in_err-constraints-clause-cause g c =
     let p = err_from_is_err_and c.from_residual-in_err-constraints.result c.from_residual-in_err-constraints.ensures.1 in
     rw (p.1, p.2)
     (cause_within (c.args.constraints.now ∷ []) (here_paths c.args.sources.now c.args.query.now c.args.constraints.now) _ _ _ c.in_err-constraints.field-0.0
-    (of_templates c.args.sources.now c.args.query.now c.args.constraints.now) (none_fell c.in_ok-graph.ensures.cause.later c.in_ok-query.ensures.cause.later) c.in_err-constraints.ensures.cause)
+    (of_templates c.args.sources.now.paths c.args.query.now c.args.constraints.now) (none_fell c.in_ok-graph.ensures.cause.later c.in_ok-query.ensures.cause.later) c.in_err-constraints.ensures.cause)

@@ -51,10 +51,10 @@ pub returns-in-Schema-clause-write_cause : goal.returns-in-Schema-clause-write_c
 returns-in-Schema-clause-write_cause g c = λ e. schema_write_rose c.args.command.now c.in-Schema.command (g.F.Files.contents c.args.files.now) _ _ _ c.in-Schema.is (c.put_answer-in-Schema.ensures.write_cause e)
 
 pub returns-in-Check-clause-ends : goal.returns-in-Check-clause-ends
-returns-in-Check-clause-ends g c = λ map told. check_told (g.F.Files.failed_reads c.args.files.now) (g.F.Files.failed_reads c.check_here-answer.new.files) (g.F.Files.failed_writes c.args.files.now) (g.F.Files.failed_writes c.check_here-answer.new.files) (g.O.Sink.text c.args.out.now) (g.O.Sink.text c.put_report.new.out) (g.O.Sink.failed c.args.out.now) (g.O.Sink.failed c.put_report.new.out) (g.W.Wire.told c.args.wire.now) (g.W.Wire.told c.args.wire.now) _ _ map c.args.command.now c.in-Check.command _ c.check_here-answer.result _ c.check_here-answer.ensures.same told c.in-Check.is c.items-sources.ensures (c.check_here-answer.ensures.ends map told) c.put_report.ensures.ends
+returns-in-Check-clause-ends g c = λ map told. check_told (g.F.Files.failed_reads c.args.files.now) (g.F.Files.failed_reads c.check_here-answer.new.files) (g.F.Files.failed_writes c.args.files.now) (g.F.Files.failed_writes c.check_here-answer.new.files) (g.O.Sink.text c.args.out.now) (g.O.Sink.text c.put_report.new.out) (g.O.Sink.failed c.args.out.now) (g.O.Sink.failed c.put_report.new.out) (g.W.Wire.told c.args.wire.now) (g.W.Wire.told c.args.wire.now) _ _ map c.args.command.now c.in-Check.command c.check_here-answer.result _ c.check_here-answer.ensures.same told c.in-Check.is (c.check_here-answer.ensures.ends map told) c.put_report.ensures.ends
 
 pub returns-in-Check-clause-read_cause : goal.returns-in-Check-clause-read_cause
-returns-in-Check-clause-read_cause g c = check_read_rose c.args.command.now c.in-Check.command _ c.check_here-answer.result _ _ _ _ _ c.in-Check.is c.items-sources.ensures c.put_report.ensures.ends c.check_here-answer.ensures.cause
+returns-in-Check-clause-read_cause g c = check_read_rose c.args.command.now c.in-Check.command c.check_here-answer.result _ _ _ _ _ c.in-Check.is c.put_report.ensures.ends c.check_here-answer.ensures.cause
 
 pub returns-in-Check-clause-write_cause : goal.returns-in-Check-clause-write_cause
 returns-in-Check-clause-write_cause g c = λ e. check_write_rose c.args.command.now c.in-Check.command (g.F.Files.contents c.args.files.now) _ _ _ c.in-Check.is (c.put_report.ensures.write_cause e)
@@ -69,10 +69,10 @@ pub returns-in-CheckAll-clause-write_cause : goal.returns-in-CheckAll-clause-wri
 returns-in-CheckAll-clause-write_cause g c = λ e. check_all_write_rose c.args.command.now c.in-CheckAll.command (g.F.Files.contents c.args.files.now) _ _ _ c.in-CheckAll.is (c.put_report-in-CheckAll.ensures.write_cause e)
 
 pub returns-in-Lint-clause-ends : goal.returns-in-Lint-clause-ends
-returns-in-Lint-clause-ends g c = λ map told. lint_told (g.F.Files.failed_reads c.args.files.now) (g.F.Files.failed_reads c.lint-answer.new.files) (g.F.Files.failed_writes c.args.files.now) (g.F.Files.failed_writes c.lint-answer.new.files) (g.O.Sink.text c.args.out.now) (g.O.Sink.text c.put_report-in-Lint.new.out) (g.O.Sink.failed c.args.out.now) (g.O.Sink.failed c.put_report-in-Lint.new.out) (g.W.Wire.told c.args.wire.now) (g.W.Wire.told c.args.wire.now) _ _ map c.args.command.now c.in-Lint.command _ c.lint-answer.result _ c.lint-answer.ensures.same told c.in-Lint.is c.items-sources-in-Lint.ensures (c.lint-answer.ensures.ends map told) c.put_report-in-Lint.ensures.ends
+returns-in-Lint-clause-ends g c = λ map told. lint_told (g.F.Files.failed_reads c.args.files.now) (g.F.Files.failed_reads c.lint-answer.new.files) (g.F.Files.failed_writes c.args.files.now) (g.F.Files.failed_writes c.lint-answer.new.files) (g.O.Sink.text c.args.out.now) (g.O.Sink.text c.put_report-in-Lint.new.out) (g.O.Sink.failed c.args.out.now) (g.O.Sink.failed c.put_report-in-Lint.new.out) (g.W.Wire.told c.args.wire.now) (g.W.Wire.told c.args.wire.now) _ _ map c.args.command.now c.in-Lint.command c.lint-answer.result _ c.lint-answer.ensures.same told c.in-Lint.is (c.lint-answer.ensures.ends map told) c.put_report-in-Lint.ensures.ends
 
 pub returns-in-Lint-clause-read_cause : goal.returns-in-Lint-clause-read_cause
-returns-in-Lint-clause-read_cause g c = lint_read_rose c.args.command.now c.in-Lint.command _ c.lint-answer.result _ _ _ _ _ c.in-Lint.is c.items-sources-in-Lint.ensures c.put_report-in-Lint.ensures.ends c.lint-answer.ensures.cause
+returns-in-Lint-clause-read_cause g c = lint_read_rose c.args.command.now c.in-Lint.command c.lint-answer.result _ _ _ _ _ c.in-Lint.is c.put_report-in-Lint.ensures.ends c.lint-answer.ensures.cause
 
 pub returns-in-Lint-clause-write_cause : goal.returns-in-Lint-clause-write_cause
 returns-in-Lint-clause-write_cause g c = λ e. lint_write_rose c.args.command.now c.in-Lint.command (g.F.Files.contents c.args.files.now) _ _ _ c.in-Lint.is (c.put_report-in-Lint.ensures.write_cause e)

@@ -1,6 +1,9 @@
-use Rattle.std.proofs.Common.{refl}
-use Rattle.csv_source.proofs.Integers.{not_text, not_parsed}
+use Rattle.std.proofs.Common.{refl, false}
+use Rattle.csv_source.proofs.Integers.{not_begun, not_text, not_parsed}
 use Rattle.csv_source.proofs.value.integer_of.Goals as goal
+
+pub returns-then-not-may_be_integer : goal.returns-then-not-may_be_integer
+returns-then-not-may_be_integer c = rw (not_begun c.args.field.now false c.if-not-may_be_integer.ensures refl) refl
 
 pub returns-in_default : goal.returns-in_default
 returns-in_default c = rw (not_text c.args.field.now c.in_default.ensures.cases.0) refl

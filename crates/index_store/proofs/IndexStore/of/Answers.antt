@@ -1,44 +1,53 @@
-use Rattle.std.proofs.Common.{◌≡◌, ◌++◌, List, map, sym, subst}
-use Rattle.std.specs.Prelude.{Contains}
-use Rattle.std.proofs.lemmas.List.Elements.{Contains-append_right}
+use Rattle.std.proofs.Common.{◌≡◌, arith, ap, sym, ◌∙◌, subst, List, ℕ, map, length, ◌++◌, take, drop}
+use Rattle.std.specs.Prelude.{◌<◌, ◌-◌, All}
+use Rattle.std.proofs.lemmas.List.{length-map}
 use Rattle.sd_value.specs.Ascending.{ListsExactly}
-use Rattle.sd_value.specs.AscendingLaws.{listed_as}
-use Rattle.sd_value.specs.Members.{Contains-mapped}
 use Rattle.sd_value.specs.Order.{bytes_cmp, value_cmp}
 use Rattle.sd_value.specs.declared.Value.{Value}
-use Rattle.graph_spec.specs.DataGraph.{DataGraph, Name, node, IsValueOf, IsLabelOf, IsWellFormed}
+use Rattle.graph_spec.specs.DataGraph.{node}
 use Rattle.graph_spec.specs.declared.Edge.{Edge}
-use Rattle.edge_queries.specs.Ordered.{by_end_cmp, by_label_cmp}
-use Rattle.edge_queries.specs.Contents.{values-sound, values-complete, labels-sound, labels-complete}
-use Rattle.index_store.specs.Indexed.{IsOrder}
+use Rattle.edge_queries.specs.Ordered.{by_label_cmp}
+use Rattle.index_store.specs.Indexed.{edge_at, IsOrder}
+use Rattle.index_store.specs.Ranks.{rank_cmp, AreRanks}
+use Rattle.index_store.proofs.RankLaws.{All-from_contained}
+use Rattle.index_store.proofs.IndexLaws.{ends_long, index_is}
 use Rattle.index_store.proofs.IndexStore.of.Goals as goal
 
-labels_listed : (G : DataGraph) (all keys : List Name) → all ≡ map (λ (e : Edge). e.label) G.edges → ListsExactly bytes_cmp (Contains all) keys → ListsExactly bytes_cmp (IsLabelOf G) keys
-labels_listed G all keys is lists =
-    listed_as lists (λ l m. labels-sound G l (subst (λ ls. Contains ls l) is m)) (λ l h. subst (λ ls. Contains ls l) (sym is) (labels-complete G l h))
+pub by_end-requires-clause-fits : goal.by_end-requires-clause-fits
+by_end-requires-clause-fits c =
+    let G = c.args.graph in
+    let well = c.edges-edges.ensures.well_formed in
+    let nodes_are = c.as_slice-3.ensures.value ∙ c.in_ok-node_values.ensures ∙ ap (map node) c.nodes-nodes.ensures.value in
+    let vals = subst (λ (vs : List Value). AreRanks value_cmp vs c.in_ok-firsts.field-0.firsts.items c.in_ok-firsts.field-0.ranks.items) (λ i. nodes_are i ++ map (λ (e : Edge). e.to) (c.edges-edges.ensures.value i)) c.in_ok-firsts.ensures in
+    let labs = subst (λ (es : List Edge). AreRanks bytes_cmp (map (λ (e : Edge). e.label) es) c.in_ok-label_ranks.label_ranks.firsts.items c.in_ok-label_ranks.label_ranks.ranks.items) c.edges-edges.ensures.value c.in_ok-label_ranks.ensures in
+    let order = subst (λ (rs : List ℕ). ListsExactly (rank_cmp rs) (λ i. i < length rs) c.in_ok-by_label.by_label.items) c.as_slice-2.ensures.value c.in_ok-by_label.ensures.order in
+    let ranks_are : c.as_slice-4.result.now ≡ c.in_ok-firsts.field-0.ranks.items = c.as_slice-4.ensures.value in
+    let long = ends_long G well c.in_ok-firsts.field-0.firsts.items c.in_ok-firsts.field-0.ranks.items c.in_ok-label_ranks.label_ranks.firsts.items c.in_ok-label_ranks.label_ranks.ranks.items vals labs in
+    subst (λ (ns : List ℕ). All (λ i. i < length (take (length c.as_slice-4.result.now - length c.nodes-nodes.result.now) (drop (length c.nodes-nodes.result.now) c.as_slice-4.result.now))) ns) (sym c.as_slice-5.ensures.value)
+    (rw (ranks_are, c.nodes-nodes.ensures.value, long) (All-from_contained (λ i. i < length c.in_ok-label_ranks.label_ranks.ranks.items) c.in_ok-by_label.by_label.items (λ i h. order.sound i h)))
 
-values_listed : (G : DataGraph) (all keys : List Value) → IsWellFormed G → all ≡ map node G.nodes ++ map (λ (e : Edge). e.to) G.edges → ListsExactly value_cmp (Contains all) keys → ListsExactly value_cmp (IsValueOf G) keys
-values_listed G all keys well is lists =
-    listed_as lists (λ v m. values-sound G well v (subst (λ vs. Contains vs v) is m)) (λ v h. subst (λ vs. Contains vs v) (sym is) (values-complete G v h))
-
-pub by_label-requires-clause-known : goal.by_label-requires-clause-known
-by_label-requires-clause-known c e at =
-    c.in_ok-labels.ensures.complete e.label
-    (subst (λ ls. Contains ls e.label) (sym c.in_ok-all_labels.ensures) (Contains-mapped (λ (d : Edge). d.label) c.args.graph.edges e (subst (λ es. Contains es e) c.edges.ensures.value at)))
-
-pub by_end-requires-clause-known : goal.by_end-requires-clause-known
-by_end-requires-clause-known c e at =
-    c.in_ok-values.ensures.complete e.to
-    (subst (λ vs. Contains vs e.to) (sym c.in_ok-all_values.ensures.values)
-    (Contains-append_right (map node c.args.graph.nodes) _ _ (Contains-mapped (λ (d : Edge). d.to) c.args.graph.edges e (subst (λ es. Contains es e) c.edges-2.ensures.value at))))
+pub by_end-requires-clause-small : goal.by_end-requires-clause-small
+by_end-requires-clause-small c =
+    let G = c.args.graph in
+    let well = c.edges-edges.ensures.well_formed in
+    let nodes_are = c.as_slice-3.ensures.value ∙ c.in_ok-node_values.ensures ∙ ap (map node) c.nodes-nodes.ensures.value in
+    let vals = subst (λ (vs : List Value). AreRanks value_cmp vs c.in_ok-firsts.field-0.firsts.items c.in_ok-firsts.field-0.ranks.items) (λ i. nodes_are i ++ map (λ (e : Edge). e.to) (c.edges-edges.ensures.value i)) c.in_ok-firsts.ensures in
+    let labs = subst (λ (es : List Edge). AreRanks bytes_cmp (map (λ (e : Edge). e.label) es) c.in_ok-label_ranks.label_ranks.firsts.items c.in_ok-label_ranks.label_ranks.ranks.items) c.edges-edges.ensures.value c.in_ok-label_ranks.ensures in
+    let order = subst (λ (rs : List ℕ). ListsExactly (rank_cmp rs) (λ i. i < length rs) c.in_ok-by_label.by_label.items) c.as_slice-2.ensures.value c.in_ok-by_label.ensures.order in
+    let ranks_are : c.as_slice-4.result.now ≡ c.in_ok-firsts.field-0.ranks.items = c.as_slice-4.ensures.value in
+    omega (arith, c.in_ok-by_label.ensures.short, ap length c.as_slice-2.ensures.value, labs.counted, length-map G.edges (λ (e : Edge). e.label), ap length c.edges-edges.ensures.value, ap length c.as_slice-5.ensures.value, c.if-edges-ge-MOST.false)
 
 pub invariant_of-result : goal.invariant_of-result
-invariant_of-result c = record {
-  stored = record {
-    well_formed = c.edges.ensures.well_formed;
-    values = values_listed c.args.graph _ _ c.edges.ensures.well_formed c.in_ok-all_values.ensures.values c.in_ok-values.ensures;
-    labels = labels_listed c.args.graph _ _ c.in_ok-all_labels.ensures c.in_ok-labels.ensures;
-  };
-  by_end = subst (λ (es : List Edge). IsOrder by_end_cmp es c.in_ok-by_end.by_end.items) c.edges-2.ensures.value c.in_ok-by_end.ensures;
-  by_label = subst (λ (es : List Edge). IsOrder by_label_cmp es c.in_ok-by_label.by_label.items) c.edges.ensures.value c.in_ok-by_label.ensures;
-}
+invariant_of-result c =
+    let G = c.args.graph in
+    let well = c.edges-edges.ensures.well_formed in
+    let nodes_are = c.as_slice-3.ensures.value ∙ c.in_ok-node_values.ensures ∙ ap (map node) c.nodes-nodes.ensures.value in
+    let vals = subst (λ (vs : List Value). AreRanks value_cmp vs c.in_ok-firsts.field-0.firsts.items c.in_ok-firsts.field-0.ranks.items) (λ i. nodes_are i ++ map (λ (e : Edge). e.to) (c.edges-edges.ensures.value i)) c.in_ok-firsts.ensures in
+    let labs = subst (λ (es : List Edge). AreRanks bytes_cmp (map (λ (e : Edge). e.label) es) c.in_ok-label_ranks.label_ranks.firsts.items c.in_ok-label_ranks.label_ranks.ranks.items) c.edges-edges.ensures.value c.in_ok-label_ranks.ensures in
+    let order = subst (λ (rs : List ℕ). ListsExactly (rank_cmp rs) (λ i. i < length rs) c.in_ok-by_label.by_label.items) c.as_slice-2.ensures.value c.in_ok-by_label.ensures.order in
+    let ranks_are : c.as_slice-4.result.now ≡ c.in_ok-firsts.field-0.ranks.items = c.as_slice-4.ensures.value in
+    index_is G well c.in_ok-firsts.field-0.firsts.items c.in_ok-firsts.field-0.ranks.items c.in_ok-label_ranks.label_ranks.firsts.items c.in_ok-label_ranks.label_ranks.ranks.items vals labs
+    c.in_ok-by_label.by_label.items c.in_ok-by_end.by_end.items c.in_ok-labels.labels.items
+    (c.in_ok-labels.ensures ∙ (λ k. map (λ i. (edge_at (c.edges-edges.ensures.value k) i).label) (c.as_slice.ensures.value k)))
+    order
+    (λ es labelled are. c.in_ok-by_end.ensures es (subst (IsOrder by_label_cmp es) (sym c.as_slice-5.ensures.value) labelled) (rw (ranks_are, c.nodes-nodes.ensures.value) are))

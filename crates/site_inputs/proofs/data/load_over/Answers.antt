@@ -33,18 +33,18 @@ pub returns-in_err-gathered-clause-cause : goal.returns-in_err-gathered-clause-c
 returns-in_err-gathered-clause-cause g c =
     let p = err_from_is_err_and c.from_residual.result c.from_residual.ensures.1 in
     rw (p.1, p.2)
-    (cause_within c.args.sources.now (c.args.sources.now ++ (c.args.path.now ∷ [])) _ _ _ c.in_err-gathered.field-0.0
-    (of_files c.args.sources.now c.args.path.now) (λ path. omega arith) c.in_err-gathered.ensures.cause)
+    (cause_within c.args.sources.now.paths (c.args.sources.now.paths ++ (c.args.path.now ∷ [])) _ _ _ c.in_err-gathered.field-0.0
+    (of_files c.args.sources.now.paths c.args.path.now) (λ path. omega arith) c.in_err-gathered.ensures.cause)
 
 pub returns-in_err-first-clause-cause : goal.returns-in_err-first-clause-cause
 returns-in_err-first-clause-cause g c =
     let p = err_from_is_err_and c.from_residual-in_err-first.result c.from_residual-in_err-first.ensures.1 in
     rw (p.1, p.2)
-    (cause_within (c.args.path.now ∷ []) (c.args.sources.now ++ (c.args.path.now ∷ [])) _ _ _ c.in_err-first.field-0.0
-    (of_first c.args.sources.now c.args.path.now) c.in_ok-gathered.ensures.cause.later c.in_err-first.ensures.cause)
+    (cause_within (c.args.path.now ∷ []) (c.args.sources.now.paths ++ (c.args.path.now ∷ [])) _ _ _ c.in_err-first.field-0.0
+    (of_first c.args.sources.now.paths c.args.path.now) c.in_ok-gathered.ensures.cause.later c.in_err-first.ensures.cause)
 
 pub returns-clause-cause : goal.returns-clause-cause
 returns-clause-cause g c = record {
   later = none_fell c.in_ok-gathered.ensures.cause.later c.in_ok-first.ensures.cause.later;
-  failed = no_unread c.args.path.now c.in_ok-gathered.gathered.graph c.in_ok-first.first (c.args.sources.now ++ (c.args.path.now ∷ [])) _ _ c.take_site.result c.take_site.ensures;
+  failed = no_unread c.args.path.now c.in_ok-gathered.gathered.graph c.in_ok-first.first (c.args.sources.now.paths ++ (c.args.path.now ∷ [])) _ _ c.take_site.result c.take_site.ensures;
 }

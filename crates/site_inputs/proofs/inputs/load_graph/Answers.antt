@@ -11,4 +11,4 @@ returns-in_err-gathered-clause-ends g c = λ map told.
 pub returns-in_err-graph-clause-ends : goal.returns-in_err-graph-clause-ends
 returns-in_err-graph-clause-ends g c = λ map told.
     let p = err_from_is_err_and c.from_residual-in_err-graph.result c.from_residual-in_err-graph.ensures.1 in
-    rw (p.1, p.2) (graph_no_memory map empty_building c.args.sources.now c.in_ok-gathered.gathered.graph (c.in_ok-gathered.ensures.ends map told))
+    rw (p.1, p.2) (graph_no_memory c.args.sources.now.lenient map empty_building c.args.sources.now.paths c.in_ok-gathered.gathered.graph (c.in_ok-gathered.ensures.ends map told))

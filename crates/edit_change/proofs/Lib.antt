@@ -1,0 +1,3 @@
+pub mod TheEdits
+pub mod TheTouching
+pub mod Flags

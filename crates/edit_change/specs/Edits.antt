@@ -1,0 +1,40 @@
+-- Which texts spell edits, and what an edit makes of the data of a run.
+use Rattle.std.specs.Prelude.{ℕ, nat_le, ◌+◌, ◌&&◌, Bool, false, List, length, Option, Some, None, if◌then◌else◌}
+use Rattle.graph_spec.specs.DataGraph.{DataGraph}
+use Rattle.query_spec.specs.Query as plain
+use Rattle.command_spec.specs.Limits.{data_limit, node_limit, edge_limit}
+use Rattle.edit_spec.specs.declared.Edit.{Edit}
+use Rattle.edit_spec.specs.Edited.{IsOfData}
+use Rattle.edit_reader.specs.Reads.{IsEditText}
+use Rattle.edit_graphs.specs.After.{graph_after}
+
+-- what reading a text as an edit gives: the edit that it spells, which puts no page into the data, or none where it
+-- spells none
+abbrev pub IsSpelled : List ℕ → Option Edit → Type 0
+IsSpelled text None = (e : Edit) → ¬ IsEditText data_limit text e
+IsSpelled text (Some e) = IsEditText data_limit text e × IsOfData e
+
+-- a reader of edits, as a function
+pub record EditReader : Type 0 where
+  pub edit_in : List ℕ → Option Edit
+  pub spells : (text : List ℕ) → IsSpelled text (edit_in text)
+
+-- the edit that a text spells; with a first query there are no edits
+abbrev pub edit_under : EditReader → Option plain.Query → List ℕ → Option Edit
+edit_under reader None text = reader.edit_in text
+edit_under reader (Some first) text = None
+
+-- a graph within the program's limits
+abbrev pub is_small : DataGraph → Bool
+is_small G = nat_le (length G.nodes) node_limit
+    && nat_le (length G.edges + length G.members) edge_limit
+
+-- the edit is taken: there is room for the graph after it
+abbrev pub is_taken : Option Edit → DataGraph → Bool
+is_taken None G = false
+is_taken (Some e) G = is_small (graph_after e G)
+
+-- the data after it
+abbrev pub edited : Option Edit → DataGraph → DataGraph
+edited None G = G
+edited (Some e) G = if is_small (graph_after e G) then graph_after e G else G

@@ -1,0 +1,111 @@
+// What a value under a label states, and what is in it.
+ghost use Rattle.std.specs.Prelude.{◌∷◌, []};
+ghost use Rattle.sd_graph.specs.Statement.{an_edge};
+ghost use Rattle.sd_graph.specs.Stating.{says, Ends};
+ghost use Rattle.linked_values.specs.Links.{text_value as value_of_text};
+ghost use Rattle.serde_json.specs.View.{view, items_view, members_view};
+ghost use Rattle.lenient_json.specs.Steps.{json_ending, value_steps, items_steps, members_steps};
+
+use json_source::{
+    JsonRefusal, name_of_member, place_of_item, place_of_member, state_child, state_edge,
+    state_number, state_text,
+};
+use linked_values::text_value;
+use sd_graph::GraphBuilder;
+use sd_value::Str;
+use serde_json::{Map, Value as Json};
+use source_steps::numbered_name;
+use std::alloc::Global;
+
+// A text under a label, or a URL.
+fn state_linked(
+    alloc: Global,
+    graph: &mut GraphBuilder,
+    at: &Str,
+    node: &Str,
+    label: &Str,
+    text: &[u8],
+) -> Result<(), JsonRefusal>
+    ensures { Ends graph.old
+        (says at.now (an_edge node.now label.now (value_of_text text.now)) ∷ []) graph.new
+        (json_ending result) }
+{
+    let value = text_value(alloc, text)?;
+    state_edge(alloc, graph, at, node, label, &value)
+}
+
+// A value under a label. An object is the node `child`.
+#[cycle(add_value)]
+fn add_value(
+    value: &Json,
+    alloc: Global,
+    graph: &mut GraphBuilder,
+    at: &Str,
+    node: &Str,
+    label: &Str,
+    child: &Str,
+) -> Result<(), JsonRefusal>
+    ensures { Ends graph.old
+        (value_steps at.now node.now label.now child.now (view value.now)) graph.new
+        (json_ending result) }
+{
+    match value {
+        Json::Null => Ok(()),
+        Json::Bool(true) => state_text(alloc, graph, at, node, label, b"true"),
+        Json::Bool(false) => state_text(alloc, graph, at, node, label, b"false"),
+        Json::Number(number) => state_number(alloc, graph, at, node, label, number.as_i64()),
+        Json::String(text) => state_linked(alloc, graph, at, node, label, text.as_bytes()),
+        Json::Array(items) => add_items(items, alloc, graph, at, node, label, child),
+        Json::Object(members) => {
+            state_child(alloc, graph, at, node, label, child)?;
+            add_members(members, alloc, graph, at, child)
+        }
+    }
+}
+
+// The items of a list, each under the label.
+#[cycle(add_value)]
+fn add_items(
+    items: &Vec<Json>,
+    alloc: Global,
+    graph: &mut GraphBuilder,
+    at: &Str,
+    node: &Str,
+    label: &Str,
+    child: &Str,
+) -> Result<(), JsonRefusal>
+    ensures { Ends graph.old
+        (items_steps at.now node.now label.now child.now 0 (items_view items.now.items)) graph.new
+        (json_ending result) }
+{
+    let mut index: u64 = 0;
+    for item in items {
+        let place = place_of_item(alloc, at, index)?;
+        index += 1;
+        let name = numbered_name(alloc, child, index)?;
+        add_value(item, alloc, graph, &place, node, label, &name)?;
+    }
+    Ok(())
+}
+
+/// The members of a node's object, each under its key.
+#[cycle(add_value)]
+pub(crate) fn add_members(
+    members: &Map<String, Json>,
+    alloc: Global,
+    graph: &mut GraphBuilder,
+    at: &Str,
+    node: &Str,
+) -> Result<(), JsonRefusal>
+    ensures { Ends graph.old
+        (members_steps at.now node.now (members_view members.now.entries)) graph.new
+        (json_ending result) }
+{
+    for (key, member) in members.iter() {
+        let label = Str::new(alloc, key.as_bytes())?;
+        let place = place_of_member(alloc, at, &label)?;
+        let name = name_of_member(alloc, node, &label)?;
+        add_value(member, alloc, graph, &place, node, &label, &name)?;
+    }
+    Ok(())
+}
