@@ -74,3 +74,56 @@ def papers(count, years=50):
     """The papers of the other benchmarks: a title, a year and a reference each."""
     for n in range(count):
         yield f'object p{n} in P {{ t "Title of {n:07}" y {1970 + n % years} r &p{(n * 7) % count} }}\n'
+
+
+def records(count):
+    """The data of `papers` as JSON."""
+    yield "[\n"
+    for n in range(count):
+        yield f'{{"id": "p{n}", "t": "Title {n}", "y": {1970 + n % 50}, "r": "p{(n * 7) % count}"}}'
+        yield ",\n" if n + 1 < count else "\n"
+    yield "]\n"
+
+
+def entries(count):
+    """The same as JSON without names, so that an object states three edges and a member, as in the data text."""
+    yield "[\n"
+    for n in range(count):
+        yield f'{{"t": "Title of {n:07}", "y": {1970 + n % 50}, "r": "p{(n * 7) % count}"}}'
+        yield ",\n" if n + 1 < count else "\n"
+    yield "]\n"
+
+
+def sheet(count):
+    """A CSV of so many records of five columns, about 158 bytes a record."""
+    yield "title,author,author,year,note\n"
+    for n in range(1, count + 1):
+        title = f'"Notes {n:07} of graphs, webs and the ""paths"" between them"'
+        yield f"{title},Author {n % 9973:05},Author {n % 7919:05},{1900 + n % 120},a note of record {n:07} that goes on for some forty bytes more\n"
+
+
+def four_edges(n, count):
+    """The labels and ends of a node's four edges, the last of them to another node."""
+    return ("t", f"{n:07} title"), ("y", 1970 + n % 50), ("g", 1 if n % 5 < 2 else 0), ("r", f"p{(n * 7 + 3) % count}")
+
+
+def linked(count):
+    """Nodes in no collection, with four edges each."""
+    for n in range(count):
+        title, year, group, other = (end for _, end in four_edges(n, count))
+        yield f'object p{n} {{ t "{title}" y {year} g {group} r &{other} }}\n'
+
+
+def triples(count):
+    """The edges of `linked` as N-Triples."""
+    for n in range(count):
+        for label, end in four_edges(n, count):
+            yield f"<http://e/p{n}> <http://e/{label}> " + (f"<http://e/{end}> .\n" if label == "r" else f'"{end}" .\n')
+
+
+def rows(count):
+    """The edges of `linked` as CSV."""
+    yield "start,label,end\n"
+    for n in range(count):
+        for label, end in four_edges(n, count):
+            yield f"p{n},{label},{end}\n"

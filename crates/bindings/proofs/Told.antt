@@ -1,28 +1,28 @@
 -- Laws of a search for some rows.
 use Rattle.std.proofs.Common.{◌≡◌, ℕ, zero, suc, ◌+◌, ◌<◌, List, [], ◌∷◌, ◌++◌, take, get_or, add-one, length, arith, refl, ap, sym, ◌∙◌, inl, inr, subst, cond, append_assoc}
 use Rattle.std.specs.Prelude.{Option, Some, slice_get, slice_set, ◌⊎◌, Bool, true, false, Contains}
-use Rattle.std.specs.declared.cmp.Ordering.{Ordering}
-use Rattle.std.specs.declared.cmp.Ordering.TheVariants.{Less, Equal, Greater}
-use Rattle.std.specs.Ordering.{is_eq}
-use Rattle.std.specs.BTreeSet.{contains}
+use Rattle.std.specs.Global.{Vec}
+use Rattle.std.specs.HashSet.{contains}
 use Rattle.std.specs.List.Sorted.{IsStrictlySortedBy}
+use Rattle.std.specs.Ordering.{is_eq}
+use Rattle.std.proofs.lemmas.Slice.Eq.{slice_eq-Decides}
 use Rattle.std.proofs.lemmas.List.Elements.{Contains-append_cases, Contains-append_left, Contains-append_right, Contains-push_cases, Contains-push}
 use Rattle.sd_value.specs.declared.Value.{Value}
 use Rattle.sd_value.specs.Ascending.{ListsExactly}
+use Rattle.sd_value.specs.Order.{value_cmp}
+use Rattle.sd_value.specs.OrderLaws.{same_value, value_same}
 use Rattle.graph_spec.specs.DataGraph.{DataGraph}
-use Rattle.query_spec.specs.Rows.{row_cmp, row_cmp-exact}
+use Rattle.query_spec.specs.Rows.{row_cmp}
 use Rattle.asker.specs.Wanted.{wanted_part, ListsSome}
 use Rattle.condition_tests.specs.declared.literal.Goal.{Goal}
 use Rattle.condition_tests.specs.Known.{known_part, Agrees, KnownInDomains}
 use Rattle.bindings.specs.Fits.{Fits, IsPassed, IsChoice, IsComplete}
 use Rattle.bindings.specs.declared.some_rows.Told.{Told}
-use Rattle.bindings.specs.Told.{HasPart, AreTold, AddsSome}
+use Rattle.bindings.specs.Told.{HasPart, AreTold, AddsSome, same_part}
 use Rattle.bindings.proofs.Found.{FitsWith, later, split, join, complete_fits, only_complete, nil_of, none_in, append-nil}
 
-tie : (o : Ordering) → is_eq o ≡ true → o ≡ Equal
-tie Less e = cc
-tie Equal e = refl
-tie Greater e = cc
+same_values : (p q : Vec Value) → same_part p q ≡ true → p.items ≡ q.items
+same_values p q h = (slice_eq-Decides (λ u v. (same_value u v, λ e. subst (λ w. is_eq (value_cmp u w) ≡ true) e (value_same u))) p.items q.items (same_part p q) refl).0 h
 
 module _ (wanted : List Bool) where
   part_kept : (xs ys : List (List Value)) (p : List Value) → ((t : List Value) → Contains xs t → Contains ys t) → HasPart wanted xs p → HasPart wanted ys p
@@ -58,12 +58,12 @@ module _ (wanted : List Bool) where
   }
 
   -- one row more, and its part
-  pub told_more : (old new : Told) (part r : List Value) → ((q : List Value) → contains row_cmp new.parts q ≡ cond (is_eq (row_cmp part q)) true (contains row_cmp old.parts q))
-      → new.rows.items ≡ old.rows.items ++ r ∷ [] → wanted_part wanted r ≡ part → AreTold wanted old → AreTold wanted new
-  told_more old new part r has rows is told q h = by_test (is_eq (row_cmp part q)) refl (sym (has q) ∙ h)
+  pub told_more : (old new : Told) (part : Vec Value) (r : List Value) → ((q : Vec Value) → contains same_part new.parts q ≡ cond (same_part part q) true (contains same_part old.parts q))
+      → new.rows.items ≡ old.rows.items ++ r ∷ [] → wanted_part wanted r ≡ part.items → AreTold wanted old → AreTold wanted new
+  told_more old new part r has rows is told q h = by_test (same_part part q) refl (sym (has q) ∙ h)
     where
-      by_test : (b : Bool) → is_eq (row_cmp part q) ≡ b → cond b true (contains row_cmp old.parts q) ≡ true → HasPart wanted new.rows.items q
-      by_test true tied e = (r, subst (λ xs. Contains xs r) (sym rows) (Contains-push old.rows.items r), is ∙ row_cmp-exact part q (tie (row_cmp part q) tied))
+      by_test : (b : Bool) → same_part part q ≡ b → cond b true (contains same_part old.parts q) ≡ true → HasPart wanted new.rows.items q.items
+      by_test true tied e = (r, subst (λ xs. Contains xs r) (sym rows) (Contains-push old.rows.items r), is ∙ same_values part q tied)
       by_test false apart e =
           let w = told q e in
           (w.0, subst (λ xs. Contains xs w.0) (sym rows) (Contains-append_left old.rows.items (r ∷ []) w.0 w.1), w.2)

@@ -1,10 +1,17 @@
 -- Some of the rows that a search is to find, for the variables that are wanted.
 use Rattle.std.specs.Prelude.{◌≡◌, ◌⊎◌, List, Bool, IsTrue, Contains}
-use Rattle.std.specs.BTreeSet.{contains}
+use Rattle.std.specs.Cmp.Lexicographic.{pointwise}
+use Rattle.std.specs.Global.{Vec}
+use Rattle.std.specs.HashSet.{contains}
+use Rattle.std.specs.Ordering.{eq_by_cmp}
 use Rattle.sd_value.specs.declared.Value.{Value}
-use Rattle.query_spec.specs.Rows.{row_cmp}
+use Rattle.sd_value.specs.Order.{value_cmp}
 use Rattle.asker.specs.Wanted.{wanted_part}
 use Rattle.bindings.specs.declared.some_rows.Told.{Told}
+
+-- the two parts have the same values
+abbrev pub same_part : Vec Value → Vec Value → Bool
+same_part p q = pointwise (eq_by_cmp value_cmp) p.items q.items
 
 module _ (wanted : List Bool) where
   -- some row has this part
@@ -14,7 +21,8 @@ module _ (wanted : List Bool) where
   -- each part that is kept is one of a row that was found
   abbrev pub AreTold : Told → Type 0
   AreTold told =
-      (part : List Value) → IsTrue (contains row_cmp told.parts part) → HasPart told.rows.items part
+      (part : Vec Value) → IsTrue (contains same_part told.parts part)
+      → HasPart told.rows.items part.items
 
   -- ys has what xs has, besides that only things with P, and the part of each of these
   pub record AddsSome (P : List Value → Type 0) (xs ys : List (List Value)) : Type 0 where

@@ -19,14 +19,14 @@ use goal_choice::Wanted;
 use query_spec::Row;
 use sd_value::{NoMemory, Value, copy, sort_and_dedup};
 use std::alloc::Global;
-use std::collections::BTreeSet;
+use std::collections::HashSet;
 use store::Store;
 use struql_ast::Chain;
 
 // The rows that were found, and what they have of the variables that are wanted, where that was looked up.
 #[derive(Drop)]
 pub(crate) struct Told {
-    parts: BTreeSet<Row>,
+    parts: HashSet<Vec<Value>>,
     rows: Vec<Row>,
 }
 
@@ -35,11 +35,12 @@ fn part_of(
     alloc: Global,
     wanted: &[bool],
     current: &[Option<Value>],
-) -> Result<Option<Row>, NoMemory>
+) -> Result<Option<Vec<Value>>, NoMemory>
     requires { length wanted.now ≡ length current.now }
     ensures { IfOk result
         (λ r. IfSome r
-        (λ part. (t : List AnyValue) → Agrees t current.now → wanted_part wanted.now t ≡ part)) }
+        (λ part. (t : List AnyValue) → Agrees t current.now
+        → wanted_part wanted.now t ≡ part.items)) }
 {
     let mut values = Vec::new(alloc);
     for slot in 0..current.len() {
@@ -50,7 +51,7 @@ fn part_of(
             values.push(copy(alloc, value)?)?;
         }
     }
-    Ok(Some(Row::new(values)))
+    Ok(Some(values))
 }
 
 // Adds a row that agrees with what is known and meets the goals from `at` on, where there is one and none with this part
@@ -61,7 +62,7 @@ fn add_witness<S: Store>(
     kept: &mut Reaches,
     at: usize,
     current: &[Option<Value>],
-    part: Row,
+    part: Vec<Value>,
     told: &mut Told,
 ) -> Result<(), NoMemory>
     requires known { KnownInDomains (S.graph search.now.store.now) search.now.arcs.now current.now }
@@ -72,11 +73,11 @@ fn add_witness<S: Store>(
         (λ _. IsKept (S.graph search.now.store.now) search.now.goals.now kept.new) }
     ensures told { IfOk result
         (λ _. (wanted : List Bool)
-        → ((t : List AnyValue) → Agrees t current.now → wanted_part wanted t ≡ part)
+        → ((t : List AnyValue) → Agrees t current.now → wanted_part wanted t ≡ part.items)
         → AreTold wanted told.old → AreTold wanted told.new) }
     ensures adds { IfOk result
         (λ _. (wanted : List Bool)
-        → ((t : List AnyValue) → Agrees t current.now → wanted_part wanted t ≡ part)
+        → ((t : List AnyValue) → Agrees t current.now → wanted_part wanted t ≡ part.items)
         → AreTold wanted told.old
         → AddsSome wanted
         (Fits (S.graph search.now.store.now) search.now.version search.now.arcs.now
@@ -192,7 +193,7 @@ fn some_of_all<S: Store>(
 {
     let wanted = Wanted::new(alloc, search.goals, current, wanted)?;
     let mut told = Told {
-        parts: BTreeSet::new(alloc),
+        parts: HashSet::new(alloc),
         rows: Vec::new(alloc),
     };
     let mut kept = Reaches::new(alloc);

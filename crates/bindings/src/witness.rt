@@ -71,6 +71,7 @@ fn first_after<S: Store>(
         Ends {
             values,
             exact: false,
+            in_graph: true,
         },
     )?;
     Ok(Some(offer))
@@ -107,6 +108,7 @@ fn first_before<S: Store>(
         Ends {
             values,
             exact: false,
+            in_graph: true,
         },
     )?;
     Ok(Some(offer))
@@ -138,6 +140,7 @@ fn first_member<S: Store>(
         Ends {
             values,
             exact: false,
+            in_graph: true,
         },
     )?;
     Ok(Some(offer))

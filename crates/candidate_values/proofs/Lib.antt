@@ -1,3 +1,4 @@
 pub mod Parts
 pub mod Offers
+pub mod InGraph
 pub mod Kept

@@ -1,7 +1,7 @@
 -- The values that a search may give a variable next.
 use Rattle.std.specs.Prelude.{◌≡◌, ℕ, List, Option, None, Some, Bool, false, slice_get, Contains, IsTrue}
 use Rattle.sd_value.specs.declared.Value.{Value}
-use Rattle.graph_spec.specs.DataGraph.{DataGraph}
+use Rattle.graph_spec.specs.DataGraph.{DataGraph, IsWellFormed, IsValueOf}
 use Rattle.condition_tests.specs.Known.{Agrees, InDomains, IsCandidate, is_arc}
 use Rattle.condition_tests.specs.Meaning.{AtomHolds}
 use Rattle.condition_tests.specs.declared.literal.Atom.{Atom}
@@ -21,6 +21,11 @@ pub record IsPartOf {X : Type 0} (P : X → Type 0) (xs ys : List X) : Type 0 wh
   pub of_all : (x : X) → Contains ys x → Contains xs x
   pub sound : (x : X) → Contains ys x → P x
   pub complete : (x : X) → Contains xs x → P x → Contains ys x
+
+-- where it is told of the values, each is one of the graph
+abbrev pub AreInGraph : DataGraph → Bool → List Value → Type 0
+AreInGraph G in_graph values =
+    IsTrue in_graph → IsWellFormed G → (v : Value) → Contains values v → IsValueOf G v
 
 -- those of the listed values that the variable may take
 pub record IsSettled (G : DataGraph) (arcs : List Bool) (slot : ℕ) (all : List Value)

@@ -1,7 +1,7 @@
 // Domains of variables.
 ghost use Rattle.std.specs.Prelude.{◌≡◌, ◌↔◌, IfOk, IsTrue, map, if◌then◌else◌, ◌++◌, ◌∷◌, []};
 ghost use Rattle.condition_tests.specs.Known.{IsCandidate};
-ghost use Rattle.candidate_values.specs.Offers.{IsListOf, IsPartOf};
+ghost use Rattle.candidate_values.specs.Offers.{AreInGraph, IsListOf, IsPartOf};
 ghost use Rattle.graph_spec.specs.DataGraph.{text};
 
 use sd_value::{Datum, NoMemory, Str, Value};
@@ -70,5 +70,26 @@ pub(crate) fn within<S: Store>(
         let good = in_domain(store, arc, &value);
         keep_if(&mut kept, good, value)?;
     }
+    Ok(kept)
+}
+
+// The same, where it may be told of the values that each is one of the graph: then they are looked up only for a label.
+pub(crate) fn candidates<S: Store>(
+    alloc: Global,
+    store: &S,
+    arc: bool,
+    in_graph: bool,
+    values: Vec<Value>,
+) -> Result<Vec<Value>, NoMemory>
+    requires { AreInGraph (S.graph store.now) in_graph values.items }
+    ensures { IfOk result
+        (λ kept. IsPartOf (IsCandidate (S.graph store.now) arc) values.items kept.items) }
+{
+    if in_graph && !arc {
+        // This call reports that the graph is well formed.
+        let _sizes = store.sizes();
+        return Ok(values);
+    }
+    let kept = within(alloc, store, arc, values)?;
     Ok(kept)
 }

@@ -8,9 +8,9 @@ ghost use Rattle.condition_tests.specs.Known.{IsCandidate, is_arc};
 ghost use Rattle.query_spec.specs.Holds.{Compares};
 ghost use Rattle.condition_tests.specs.Meaning.{Has, HasArc, Relates};
 ghost use Rattle.condition_tests.specs.Places.{AtomInRange, IsGround, PlaceInRange};
-ghost use Rattle.candidate_values.specs.Offers.{IsListOf, IsPartOf, IsOffer, Lists, IsSettled, IsAny};
+ghost use Rattle.candidate_values.specs.Offers.{AreInGraph, IsListOf, IsPartOf, IsOffer, Lists, IsSettled, IsAny};
 
-use crate::domain::{domain, within};
+use crate::domain::{candidates, domain};
 use crate::search::Search;
 use condition_tests::{
     Atom, Place, Property, Relation, equals_of, equals_of_any, free_at, known, value_of,
@@ -29,11 +29,13 @@ pub struct Offer {
     pub settled: bool,
 }
 
-/// Values with a property, among them all that have it; exact where no other is there.
+/// Values with a property, among them all that have it; exact where no other is there. Where they came from the graph,
+/// so that each is one of its values, `in_graph` may tell so.
 #[derive(Drop)]
 pub struct Ends {
     pub values: Vec<Value>,
     pub exact: bool,
+    pub in_graph: bool,
 }
 
 fn all_starts(alloc: Global, edges: Vec<Edge>) -> Result<Vec<Value>, NoMemory>
@@ -86,10 +88,13 @@ pub(crate) fn after<S: Store>(
     relation: &Relation,
     u: &Value,
 ) -> Result<Option<Ends>, NoMemory>
-    ensures { IfOk result
+    ensures lists { IfOk result
         (λ r. IfSome r
         (λ ends. Lists
         (Relates (S.graph store.now) version relation.now u.now) ends.values.items ends.exact)) }
+    ensures in_graph { IfOk result
+        (λ r. IfSome r
+        (λ ends. AreInGraph (S.graph store.now) ends.in_graph ends.values.items)) }
 {
     match relation {
         Relation::Edge(label) => {
@@ -97,6 +102,7 @@ pub(crate) fn after<S: Store>(
             Ok(Some(Ends {
                 values,
                 exact: true,
+                in_graph: true,
             }))
         }
         Relation::Compare(Op::Eq) => {
@@ -104,6 +110,7 @@ pub(crate) fn after<S: Store>(
             Ok(Some(Ends {
                 values,
                 exact: true,
+                in_graph: false,
             }))
         }
         Relation::Walk(_) | Relation::Compare(_) => Ok(None),
@@ -112,9 +119,10 @@ pub(crate) fn after<S: Store>(
 
 // The values that compare so with `v`, where the comparison narrows little.
 fn compared_before(alloc: Global, version: u8, op: Op, v: &Value) -> Result<Option<Ends>, NoMemory>
-    ensures { IfOk result
+    ensures lists { IfOk result
         (λ r. IfSome r
         (λ ends. Lists (λ u. Compares version op u v.now) ends.values.items ends.exact)) }
+    ensures not_in_graph { IfOk result (λ r. IfSome r (λ ends. ends.in_graph ≡ false)) }
 {
     match op {
         Op::Eq => {
@@ -122,6 +130,7 @@ fn compared_before(alloc: Global, version: u8, op: Op, v: &Value) -> Result<Opti
             Ok(Some(Ends {
                 values,
                 exact: true,
+                in_graph: false,
             }))
         }
         _ => Ok(None),
@@ -136,11 +145,14 @@ pub(crate) fn before<S: Store>(
     relation: &Relation,
     v: &Value,
 ) -> Result<Option<Ends>, NoMemory>
-    ensures { IfOk result
+    ensures lists { IfOk result
         (λ r. IfSome r
         (λ ends. Lists
         (λ u. Relates (S.graph store.now) version relation.now u v.now) ends.values.items
         ends.exact)) }
+    ensures in_graph { IfOk result
+        (λ r. IfSome r
+        (λ ends. AreInGraph (S.graph store.now) ends.in_graph ends.values.items)) }
 {
     match relation {
         Relation::Edge(label) => {
@@ -148,6 +160,7 @@ pub(crate) fn before<S: Store>(
             Ok(Some(Ends {
                 values,
                 exact: true,
+                in_graph: true,
             }))
         }
         Relation::Walk(_) => Ok(None),
@@ -165,14 +178,20 @@ pub fn settle<S: Store>(
     slot: usize,
     ends: Ends,
 ) -> Result<Offer, NoMemory>
-    requires { slot < length search.now.arcs.now }
+    requires slot { slot < length search.now.arcs.now }
+    requires in_graph { AreInGraph
+        (S.graph search.now.store.now) ends.in_graph ends.values.items }
     ensures { IfOk result
         (λ o. IsSettled
         (S.graph search.now.store.now) search.now.arcs.now slot ends.values.items ends.exact o.slot
         o.values.items o.settled) }
 {
-    let Ends { values, exact } = ends;
-    let values = within(alloc, search.store, search.arcs[slot], values)?;
+    let Ends {
+        values,
+        exact,
+        in_graph,
+    } = ends;
+    let values = candidates(alloc, search.store, search.arcs[slot], in_graph, values)?;
     Ok(Offer {
         slot,
         values,
@@ -262,10 +281,13 @@ fn property_values<S: Store>(
     version: u8,
     property: &Property,
 ) -> Result<Option<Ends>, NoMemory>
-    ensures { IfOk result
+    ensures lists { IfOk result
         (λ r. IfSome r
         (λ ends. Lists
         (Has (S.graph store.now) version property.now) ends.values.items ends.exact)) }
+    ensures in_graph { IfOk result
+        (λ r. IfSome r
+        (λ ends. AreInGraph (S.graph store.now) ends.in_graph ends.values.items)) }
 {
     match property {
         Property::Member(collection) => {
@@ -273,6 +295,7 @@ fn property_values<S: Store>(
             Ok(Some(Ends {
                 values,
                 exact: true,
+                in_graph: true,
             }))
         }
         Property::OneOf(constants) => {
@@ -280,6 +303,7 @@ fn property_values<S: Store>(
             Ok(Some(Ends {
                 values,
                 exact: true,
+                in_graph: false,
             }))
         }
         Property::Kind(_) => Ok(None),
@@ -344,6 +368,7 @@ fn offer_starts<S: Store>(
         Ends {
             values,
             exact: false,
+            in_graph: true,
         },
     )?;
     Ok(Some(offer))
@@ -381,8 +406,10 @@ fn offer_two<S: Store>(
 
 // The ends of the edges from a value by a label that is seen as a text.
 fn arc_ends<S: Store>(alloc: Global, store: &S, u: &Value, label: &Value) -> Result<Ends, NoMemory>
-    ensures { IfOk result
+    ensures lists { IfOk result
         (λ ends. Lists (HasArc (S.graph store.now) u.now label.now) ends.values.items ends.exact) }
+    ensures in_graph { IfOk result
+        (λ ends. AreInGraph (S.graph store.now) ends.in_graph ends.values.items) }
 {
     match label {
         Value::Data(Datum::Text(label)) => {
@@ -390,6 +417,7 @@ fn arc_ends<S: Store>(alloc: Global, store: &S, u: &Value, label: &Value) -> Res
             Ok(Ends {
                 values,
                 exact: true,
+                in_graph: true,
             })
         }
         _ => {
@@ -397,6 +425,7 @@ fn arc_ends<S: Store>(alloc: Global, store: &S, u: &Value, label: &Value) -> Res
             Ok(Ends {
                 values,
                 exact: true,
+                in_graph: false,
             })
         }
     }
@@ -432,6 +461,7 @@ fn offer_arc_from<S: Store>(
             Ends {
                 values,
                 exact: false,
+                in_graph: false,
             },
         )?;
         return Ok(Some(offer));
@@ -451,9 +481,11 @@ fn arc_starts<S: Store>(
     label: &Value,
     v: &Value,
 ) -> Result<Ends, NoMemory>
-    ensures { IfOk result
+    ensures lists { IfOk result
         (λ starts. Lists
         (λ u. HasArc (S.graph store.now) u label.now v.now) starts.values.items starts.exact) }
+    ensures in_graph { IfOk result
+        (λ starts. AreInGraph (S.graph store.now) starts.in_graph starts.values.items) }
 {
     match label {
         Value::Data(Datum::Text(label)) => {
@@ -461,6 +493,7 @@ fn arc_starts<S: Store>(
             Ok(Ends {
                 values,
                 exact: true,
+                in_graph: true,
             })
         }
         _ => {
@@ -468,6 +501,7 @@ fn arc_starts<S: Store>(
             Ok(Ends {
                 values,
                 exact: true,
+                in_graph: false,
             })
         }
     }
@@ -503,6 +537,7 @@ fn offer_arc_to<S: Store>(
             Ends {
                 values,
                 exact: false,
+                in_graph: false,
             },
         )?;
         return Ok(Some(offer));

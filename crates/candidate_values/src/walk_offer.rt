@@ -78,6 +78,7 @@ fn offer_ends<S: Store>(
         Ends {
             values,
             exact: true,
+            in_graph: false,
         },
     )?;
     Ok(Some(offer))
@@ -121,6 +122,7 @@ fn offer_starts<S: Store>(
         Ends {
             values,
             exact: true,
+            in_graph: false,
         },
     )?;
     Ok(Some(offer))

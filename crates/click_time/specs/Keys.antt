@@ -22,7 +22,8 @@ both : (a b : Bool) → (a && b) ≡ true → (a ≡ true) × (b ≡ true)
 both true b h = (refl, h)
 both false b h = cc
 
-exact_in_pairs : {K L : Type 0} (E : K → K → Bool) (F : L → L → Bool) → ((x y : K) → E x y ≡ true → x ≡ y) → ((x y : L) → F x y ≡ true → x ≡ y)
+exact_in_pairs : {K L : Type 0} (E : K → K → Bool) (F : L → L → Bool)
+    → ((x y : K) → E x y ≡ true → x ≡ y) → ((x y : L) → F x y ≡ true → x ≡ y)
     → (x y : K × L) → (E x.0 y.0 && F x.1 y.1) ≡ true → x ≡ y
 exact_in_pairs E F first second x y h =
     let b = both (E x.0 y.0) (F x.1 y.1) h in

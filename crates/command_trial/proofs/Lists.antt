@@ -1,5 +1,5 @@
 -- The lists of a trial, one element more.
-use Rattle.std.proofs.Common.{◌≡◌, ℕ, zero, suc, ◌+◌, ◌/◌, ◌%◌, ◌^◌, ◌<◌, ◌≤◌, Bool, true, false, List, [], ◌∷◌, ◌++◌, length, map, flat_map, fold, take, get_or, All, codes, decimal, refl, sym, ap, ◌∙◌, subst, arith, append_assoc, append-nil, length-append, length-take-le, lit<, pos, add-one}
+use Rattle.std.proofs.Common.{◌≡◌, ℕ, zero, suc, ◌+◌, ◌*◌, ◌/◌, ◌%◌, ◌^◌, ◌<◌, ◌≤◌, Bool, true, false, List, [], ◌∷◌, ◌++◌, length, map, take, get_or, All, codes, decimal, refl, sym, ap, ◌∙◌, subst, arith, append_assoc, length-append, length-take-le, lit<, add-one}
 use Rattle.std.specs.Prelude.{nat_lt, nat_le, ◌&&◌, ◌||◌, ◌==◌, cond, if◌then◌else◌}
 use Rattle.std.specs.List.{list_all, sum_by}
 use Rattle.std.specs.Char.{is_ascii_digit}
@@ -8,19 +8,14 @@ use Rattle.std.proofs.lemmas.Bool.Decides.{nat_tests}
 use Rattle.std.proofs.lemmas.Fmt.{digits_decimal, length-decimal-le}
 use Rattle.std.proofs.lemmas.Str.Parse.{IsDigitsTest, IsNumeralModel, numerals_by_value}
 use Rattle.std.specs.Str.Parse.{digits_value}
-use Rattle.std.proofs.lemmas.Grind.{flat_map-append, fold-append}
 use Rattle.std.proofs.lemmas.List.Folds.{list_all-append}
-use Rattle.std.proofs.lemmas.List.{take_more, map-append}
+use Rattle.std.proofs.lemmas.List.{take_more, map-append, length-map}
 use Rattle.std.proofs.lemmas.List.Elements.{All-nil, All-cons, All-append}
 use Rattle.sd_value.specs.declared.Term.{Term}
 use Rattle.page_spec.specs.Show.{address, in_address, is_plain, hex_digit}
 use Rattle.wire.specs.declared.WireEvent.{WireEvent}
-use Rattle.graph_spec.specs.DataGraph.{DataGraph}
-use Rattle.sd_graph.specs.Statement.{Statement, graph_with}
 use Rattle.command_trial.specs.Askable.{IsAskable, is_visible}
-use Rattle.trial_spec.specs.declared.Entry.{Entry}
-use Rattle.trial_spec.specs.Data.{below, next, entry, entry_after, state_at, statements, node_name}
-use Rattle.graph_spec.specs.Statement.{with_all, empty_graph}
+use Rattle.trial_spec.specs.Data.{below}
 use Rattle.trial_spec.specs.Events.{events_from}
 use Rattle.trial_spec.specs.Requests.{papers, years, each_address, targets, paper_page, year_page}
 
@@ -37,26 +32,6 @@ pub more_events : (targets : List (List ℕ)) (i : ℕ) (d : List ℕ) → i < l
 more_events targets i d low =
     ap (events_from 1) (take_more targets i d low) ∙ pushed_events 1 (take i targets) (get_or targets i d)
     ∙ ap (λ n. events_from 1 (take i targets) ++ events_from n (get_or targets i d ∷ [])) (let at : 1 + length (take i targets) ≡ i + 1 = omega (arith, length-take-le i targets, low) in at)
-
--- ---- data
-
-pub more_stated : (entries made : ℕ) (graph : DataGraph) → with_all graph (flat_map (λ n. statements (entry entries n)) (below (made + 1)))
-    ≡ with_all (with_all graph (flat_map (λ n. statements (entry entries n)) (below made))) (statements (entry entries made))
-more_stated entries made graph =
-    ap (λ n. with_all graph (flat_map (λ m. statements (entry entries m)) (below n))) (add-one made)
-    ∙ ap (with_all graph) (flat_map-append (λ n. statements (entry entries n)) (below made) (made ∷ [])
-    ∙ ap (λ s. flat_map (λ n. statements (entry entries n)) (below made) ++ s) (append-nil (statements (entry entries made))))
-    ∙ fold-append (λ G s. graph_with s G) graph (flat_map (λ n. statements (entry entries n)) (below made)) (statements (entry entries made))
-
-pub more_state : (entries made before after : ℕ) → before ≡ state_at entries made → after ≡ next (next (next before)) → after ≡ state_at entries (made + 1)
-more_state entries made before after invariant is = is ∙ ap (λ s. next (next (next s))) invariant ∙ ap (state_at entries) (sym (add-one made))
-
-pub more_graph : (entries made state : ℕ) (old new : DataGraph) (e : Entry) → state ≡ state_at entries made → old ≡ with_all empty_graph (flat_map (λ n. statements (entry entries n)) (below made))
-    → e ≡ entry_after state (made + 1) → new ≡ with_all old (statements e) → new ≡ with_all empty_graph (flat_map (λ n. statements (entry entries n)) (below (made + 1)))
-more_graph entries made state old new e stands invariant is added =
-    added ∙ ap (λ G. with_all G (statements e)) invariant
-    ∙ ap (λ x. with_all (with_all empty_graph (flat_map (λ n. statements (entry entries n)) (below made))) (statements x)) (is ∙ ap (λ s. entry_after s (made + 1)) stands)
-    ∙ sym (more_stated entries made empty_graph)
 
 -- ---- targets
 
@@ -145,6 +120,30 @@ each_askable entries most =
 
 pub targets_askable : (entries : ℕ) → entries ≤ 20000 → All IsAskable (targets entries)
 targets_askable entries most = All-append IsAskable (each_address entries) (each_address entries) (each_askable entries most) (each_askable entries most)
+
+-- ---- how many there are
+
+below_length : (n : ℕ) → length (below n) ≡ n
+below_length zero = refl
+below_length (suc n) = length-append (below n) (n ∷ []) ∙ ap (λ k. k + 1) (below_length n) ∙ add-one n
+
+each_length : (entries : ℕ) → length (each_address entries) ≡ entries + 31
+each_length entries =
+    let all = length-append (papers entries ++ years 30) (codes "/" ∷ []) in
+    let both = length-append (papers entries) (years 30) in
+    let these = length-map (below entries) (λ made. address (paper_page (made + 1))) ∙ below_length entries in
+    let those = length-map (below 30) (λ past. address (year_page (1980 + past))) ∙ below_length 30 in
+    omega (arith, all, both, these, those)
+
+pub targets_few : (entries : ℕ) → entries ≤ 20000 → length (targets entries) ≤ 40062
+targets_few entries most = let all = length-append (each_address entries) (each_address entries) in omega (arith, all, each_length entries, most)
+
+events_length : (number : ℕ) (targets : List (List ℕ)) → length (events_from number targets) ≡ 3 * length targets
+events_length number [] = refl
+events_length number (target ∷ targets) = omega (arith, events_length (number + 1) targets)
+
+pub events_few : (targets : List (List ℕ)) → length targets ≤ 40062 → length (events_from 1 targets) ≤ 120186
+events_few targets few = omega (arith, events_length 1 targets, few)
 
 -- ---- one target more
 

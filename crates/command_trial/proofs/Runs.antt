@@ -59,6 +59,14 @@ drawn_all (first ∷ events) (e ∷ front) after (between, (is, left), rest) non
     (or_parts (is_done e) (list_any is_done front) none_front).1 (or_parts (is_done first) (list_any is_done events) none).1 in
     λ i. is i ∷ more i
 
+-- without Done no more events come than were left
+drawn_few : (events drawn : List WireEvent) (after : Option (List WireEvent)) → IsDrawn (Some events) drawn after → list_any is_done drawn ≡ false → length drawn ≤ length events
+drawn_few events [] after drew none = omega arith
+drawn_few [] (e ∷ drawn) after (between, (is, left), rest) none =
+    absurd (let wrong : is_done Done ≡ false = ap is_done (sym is) ∙ (or_parts (is_done e) (list_any is_done drawn) none).0 in cc)
+drawn_few (first ∷ events) (e ∷ drawn) after (between, (is, left), rest) none =
+    omega (arith, drawn_few events drawn after (subst (λ o. IsDrawn o drawn after) left rest) (or_parts (is_done e) (list_any is_done drawn) none).1)
+
 -- the course of a run without a change
 no_change : {D C : Type 0} (rules : Rules D C) (ended : HubEnd) (ours events : List WireEvent) (first last : Scene D C) → events ≡ ours ++ Done ∷ [] → IsCourse rules 1 ended first events last → PassesAll rules 1 first (ours ++ Done ∷ []) last
 no_change rules ended ours events first last is (inl passes) = subst (λ es. PassesAll rules 1 first es last) is passes
@@ -133,3 +141,15 @@ module _ {D : Type 0} (root : Option (List ℕ)) (site : D → Site) (templates 
         counted = counted ended.0 ended.2 (λ i low. replied_at serves.events tally i (reply_to (get_or ended.0 i Missing)) (ended.3 i low));
         found = ap (λ (t : Tally). t.hits) tally.tally_is;
       }
+
+-- the turns are never spent, since there are fewer events
+pub turns_left : {D : Type 0} (root : Option (List ℕ)) (site : D → Site) (templates : D → TemplateFile) (texts : Changes D)
+    (still : D) (turns : ℕ) (w after : WireInMemory) (served : Served) → length w.events < turns → w.count ≡ 0
+    → ServesInSteps root site templates texts still 1 turns 256 (wire_of w) (wire_of after) served
+    → served.end ≡ end.TurnsSpent → ⊥
+turns_left root site templates texts still turns w after served fewer begins serves spent =
+    let ends : EndsRun turns serves.events end.TurnsSpent = subst (EndsRun turns serves.events) spent serves.ends in
+    let left : (told_of w).left ≡ Some w.events = ap (λ n. Some (drop n w.events)) begins in
+    let drew : IsDrawn (Some w.events) serves.events ((told_of after).left) =
+    subst (λ o. IsDrawn o serves.events ((told_of after).left)) left serves.left in
+    omega (arith, ends.0, fewer, drawn_few w.events serves.events ((told_of after).left) drew ends.1)

@@ -1,4 +1,3 @@
-pub mod Data
 pub mod Askable
 pub mod Replies
 pub mod Runs

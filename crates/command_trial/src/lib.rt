@@ -2,7 +2,6 @@
 #![tactic(auto)]
 
 mod counts;
-mod data;
 mod laws;
 mod lines;
 mod requests;

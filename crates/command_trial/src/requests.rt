@@ -5,10 +5,10 @@ ghost use Rattle.trial_spec.specs.Requests as specs;
 ghost use Rattle.trial_spec.specs.Data.{below};
 ghost use Rattle.trial_spec.specs.Events.{events_from};
 
-use crate::data::node_name;
 use address::address;
 use sd_value::{Args, Datum, NoMemory, Str, Term};
 use std::alloc::Global;
+use trial_site::node_name;
 use wire::WireEvent;
 
 // A page with one argument.

@@ -1,5 +1,5 @@
 // The run of a trial.
-ghost use Rattle.std.specs.Prelude.{◌≤◌, IfOk, All};
+ghost use Rattle.std.specs.Prelude.{◌≤◌, IfOk, All, length};
 ghost use Rattle.command_spec.specs.Ranges.{IsFrom1To};
 ghost use Rattle.site_spec.specs.Root.{root_function};
 ghost use Rattle.site_inputs.specs.Sites.{site_at};
@@ -37,7 +37,8 @@ struct Counted {
 
 // Asks for the targets, one after another, and counts the replies.
 fn ask_for(alloc: Global, site: SiteInputs, targets: &[Str]) -> Result<Counted, NoMemory>
-    requires { All IsAskable targets.now }
+    requires askable { All IsAskable targets.now }
+    requires few { length targets.now ≤ 40062 }
     ensures { IfOk result (λ counted.
         AreCounted (root_function site.query) (site_at (inputs_of site))
         (inputs_of site).templates targets.now counted.counts counted.hits) }
@@ -50,7 +51,9 @@ fn ask_for(alloc: Global, site: SiteInputs, targets: &[Str]) -> Result<Counted, 
             counts: count(&wire, targets.len() as u64)?,
             hits: served.tally.hits,
         }),
-        HubEnd::WireFailed | HubEnd::TurnsSpent | HubEnd::NoMemory => Err(NoMemory),
+        HubEnd::TurnsSpent => unreachable!(),
+        // The wire is told of no failing call, so none fails.
+        HubEnd::WireFailed | HubEnd::NoMemory => Err(NoMemory),
     }
 }
 

@@ -551,7 +551,8 @@ fn texts_of<'a>(alloc: Global, words: &'a [Str]) -> Result<Option<Vec<&'a str>>,
 /// first `--` is dropped, and the words behind it are no options. Each option is one of the command's, occurs at most
 /// once, and has a number of 1 to 10 digits within its range, but for `--over` and `--watch`, whose values are paths;
 /// `--every` doesn't stand without `--watch`. `--lenient` of every command that reads data, `--dot` of `schema`, `--whole` of
-/// `serve`, and `--here` of `check`, which `check` wants exactly where it has data, have no value. The other words are as many as the command wants. Every word is a text, and none is empty.
+/// `serve`, and `--here` of `check`, which `check` wants exactly where it has data, have no value. The other words are as
+/// many as the command wants. Every word is a text, and none is empty.
 pub fn read_command(alloc: Global, words: &[Str]) -> Result<Option<Command>, NoMemory>
     ensures exact { IfOk result (λ given. given ≡ specs.command words.now) }
     ensures ranges { IfOk result (λ given. IfSome given IsInRange) }

@@ -7,58 +7,17 @@ use Rattle.sd_graph.specs.Stating.{Step, says, fails}
 use Rattle.graph_spec.specs.declared.Step.{Step as Arrow}
 use Rattle.graph_spec.specs.DataGraph.{DataGraph}
 use Rattle.token_reader.specs.declared.reading.Word.{Word}
-use Rattle.ddl_text.specs.declared.tree.Kind.{Kind}
 use Rattle.ddl_text.specs.declared.tree.Field.{Field}
 use Rattle.ddl_text.specs.declared.tree.Statement.{Statement}
-use Rattle.sd_ddl.specs.declared.part.Part.{Part}
-use Rattle.sd_ddl.specs.declared.part.Part.TheVariants.{Gives, Node, Member, Edge}
-use Rattle.sd_ddl.specs.declared.kinds.Told.{Told}
-use Rattle.sd_ddl.specs.declared.kinds.Told.TheVariants.{Nothing}
-use Rattle.sd_ddl.specs.Kinds.{Name, given, collections, told}
+use Rattle.sd_ddl.specs.Kinds.{Name}
 use Rattle.sd_ddl.specs.Parts.{member_part, edge_part, parts_of, parts}
-use Rattle.sd_ddl.specs.Steps.{said, edge_steps, steps_from, steps, kinds_told}
+use Rattle.sd_ddl.specs.Plain.{no_kinds}
+use Rattle.sd_ddl.specs.Steps.{said, edge_steps, steps}
 use Rattle.sd_ddl.specs.Written.{collections_of, steps_out}
+use Rattle.sd_ddl.proofs.Kindless.{NoGives, no_gives-append, steps_kindless}
 use Rattle.ddl_laws.proofs.Pieces.{Matches}
 use Rattle.ddl_laws.proofs.Printed.{IsNamed, IsField, IsObjectOf}
 use Rattle.ddl_laws.proofs.Written.{IsNodeOf}
-
-abbrev pub NoGives : List Part → Type 0
-NoGives [] = Unit {0}
-NoGives (Gives g ∷ ps) = ⊥
-NoGives (Node n ∷ ps) = NoGives ps
-NoGives (Member c n ∷ ps) = NoGives ps
-NoGives (Edge o l v ∷ ps) = NoGives ps
-
-no_gives-append : (ps qs : List Part) → NoGives ps → NoGives qs → NoGives (ps ++ qs)
-no_gives-append [] qs h k = k
-no_gives-append (Gives g ∷ ps) qs h k = absurd h
-no_gives-append (Node n ∷ ps) qs h k = no_gives-append ps qs h k
-no_gives-append (Member c n ∷ ps) qs h k = no_gives-append ps qs h k
-no_gives-append (Edge o l v ∷ ps) qs h k = no_gives-append ps qs h k
-
-given_none : (ps : List Part) → NoGives ps → (c a : Name) → given ps c a ≡ []
-given_none [] h c a = refl
-given_none (Gives g ∷ ps) h c a = absurd h
-given_none (Node n ∷ ps) h c a = given_none ps h c a
-given_none (Member d n ∷ ps) h c a = given_none ps h c a
-given_none (Edge o l v ∷ ps) h c a = given_none ps h c a
-
-flat_none : (f : Name → List Kind) → ((c : Name) → f c ≡ []) → (cs : List Name) → flat_map f cs ≡ []
-flat_none f none [] = refl
-flat_none f none (c ∷ cs) = ap (λ ks. ks ++ flat_map f cs) (none c) ∙ flat_none f none cs
-
-abbrev pub no_kinds : Name → Name → Told
-no_kinds o a = Nothing
-
-kinds_none : (ps : List Part) → NoGives ps → kinds_told ps ≡ no_kinds
-kinds_none ps h = λ i o a. told (flat_none (λ c. given ps c a) (λ c. given_none ps h c a) (collections ps o) i)
-
-steps_none : (kinds : Name → Name → Told) (front ps : List Part) → NoGives ps → steps_from kinds front ps ≡ flat_map (said kinds) ps
-steps_none kinds front [] h = refl
-steps_none kinds front (Gives g ∷ ps) h = absurd h
-steps_none kinds front (Node n ∷ ps) h = ap (λ r. said kinds (Node n) ++ r) (steps_none kinds (front ++ Node n ∷ []) ps h)
-steps_none kinds front (Member c n ∷ ps) h = ap (λ r. said kinds (Member c n) ++ r) (steps_none kinds (front ++ Member c n ∷ []) ps h)
-steps_none kinds front (Edge o l v ∷ ps) h = ap (λ r. said kinds (Edge o l v) ++ r) (steps_none kinds (front ++ Edge o l v ∷ []) ps h)
 
 -- the steps say these statements, wherever they stand
 abbrev pub Says : List (Step ℕ ℕ) → List graph.Statement → Type 0
@@ -138,4 +97,4 @@ objects_say G (n ∷ ns) (st ∷ sts) h =
 pub steps_say : (G : DataGraph) (sts : List Statement) → Matches (IsNodeOf G) G.nodes sts → Says (steps (parts sts)) (graph_statements G)
 steps_say G sts h =
     let found = objects_say G G.nodes sts h in
-    subst (λ r. Says r (graph_statements G)) (sym (steps_none (kinds_told (parts sts)) [] (parts sts) found.1 ∙ ap (λ k. flat_map (said k) (parts sts)) (kinds_none (parts sts) found.1))) found.0
+    subst (λ r. Says r (graph_statements G)) (sym (steps_kindless (parts sts) found.1)) found.0

@@ -1,5 +1,6 @@
 pub mod Terminals
 pub mod DataText
+pub mod Next
 pub mod Reading
 pub mod Stated
 pub mod Refused

@@ -8,5 +8,5 @@ mod tree;
 
 pub use reading::statements;
 pub use refusal::{Refusal, TextRefusal};
-pub use text::statements_of;
+pub use text::{next_statement, statements_of};
 pub use tree::{Content, Entries, Entry, Field, Fields, Given, Kind, KindWord, Statement, Words};

@@ -1,10 +1,11 @@
 //! The reader of data text over tokens.
 
-ghost use Rattle.std.specs.Prelude.{◌≡◌, IfOk, length, List, [], map, ◌∷◌, ◌++◌, ◌<◌, MatchOption, Some, None, ◌↔◌, IsTrue, true};
+ghost use Rattle.std.specs.Prelude.{◌≡◌, IfOk, IfSome, length, List, [], map, ◌∷◌, ◌++◌, ◌<◌, MatchOption, Some, None, ◌↔◌, IsTrue, true};
 ghost use Rattle.grammar.specs.Reading.{take_one, repeat, starts, with_front};
 ghost use Rattle.sd_lex.specs.declared.token.Sign.TheVariants as signs;
 ghost use Rattle.token_reader.specs.Gives.{Gives, IsReal};
 ghost use Rattle.grammar.specs.Fault.{Every};
+ghost use Rattle.ddl_text.specs.DataText.{statement};
 ghost use Rattle.ddl_text.specs.Stated.{States, IsOnly};
 ghost use Rattle.token_reader.specs.Terminals.{is_name, is_sign, is_word};
 ghost use Rattle.ddl_text.specs.Terminals.{kind_value};
@@ -291,5 +292,19 @@ pub fn statements(alloc: Global, tokens: &[Token], text_end: u64) -> Result<Vec<
         // This grammar has no limits, so this never comes.
         Err(Halt::TooDeep(rest)) => Err(Refusal::Expected(place_of(rest, text_end))),
         Err(Halt::NoMemory) => Err(Refusal::NoMemory),
+    }
+}
+
+/// The statement that these tokens spell. `None` may also be out of memory.
+pub(crate) fn one_statement(alloc: Global, tokens: &[Token]) -> Option<Statement>
+    ensures { IfSome result (statement tokens.now) }
+{
+    let Ok((statement, rest)) = statement_at(alloc, tokens) else {
+        return None;
+    };
+    if rest.is_empty() {
+        Some(statement)
+    } else {
+        None
     }
 }

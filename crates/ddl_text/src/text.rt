@@ -1,16 +1,17 @@
 //! The reader of the bytes of a data text.
 
-ghost use Rattle.std.specs.Prelude.{List, Ok};
+ghost use Rattle.std.specs.Prelude.{◌+◌, ◌^◌, ◌<◌, IfSome, List, Ok, length};
 ghost use Rattle.sd_lex.specs.declared.token.Token.{Token};
 ghost use Rattle.sd_lex.specs.Lexing.{IsTextOrFault};
 ghost use Rattle.ddl_text.specs.declared.tree.Statement.{Statement as AnyStatement};
 ghost use Rattle.ddl_text.specs.DataText.{file};
+ghost use Rattle.ddl_text.specs.Next.{IsNext};
 ghost use Rattle.ddl_text.specs.Text.{TextStates, TextGives};
 
-use crate::reading::statements;
+use crate::reading::{one_statement, statements};
 use crate::refusal::TextRefusal;
 use crate::tree::Statement;
-use sd_lex::tokens;
+use sd_lex::{Rest, Token as LexToken, tokens, tokens_to_close};
 use std::alloc::Global;
 
 /// The statements of a text of at most `limit` bytes.
@@ -22,4 +23,21 @@ pub fn statements_of(alloc: Global, bytes: &[u8], limit: u64) -> Result<Vec<Stat
     let tokens = tokens(alloc, bytes, limit)?;
     let found = statements(alloc, tokens.as_slice(), bytes.len() as u64)?;
     Ok(found)
+}
+
+/// The statement that the tokens up to and with the next `}` spell, and what is left of the text then. `tokens` is room
+/// for these tokens. `None` may also be out of memory.
+pub fn next_statement<'a>(
+    alloc: Global,
+    rest: Rest<'a>,
+    tokens: &mut Vec<LexToken>,
+) -> Option<(Statement, Rest<'a>)>
+    requires { rest.at + length rest.bytes.now < 2 ^ 64 }
+    ensures { IfSome result (λ found. IsNext rest.entry.at rest.entry.bytes.now found.0 found.1) }
+{
+    let Ok(left) = tokens_to_close(alloc, rest, tokens) else {
+        return None;
+    };
+    let statement = one_statement(alloc, tokens.as_slice())?;
+    Some((statement, left))
 }

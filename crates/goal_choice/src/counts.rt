@@ -12,7 +12,7 @@ use store::Store;
 use walks::Direction;
 
 // As many values are gone through without a look for fewer.
-const FEW: u64 = 8;
+pub(crate) const FEW: u64 = 8;
 
 // At most this many later goals are looked at.
 const AHEAD: usize = 64;
@@ -279,6 +279,9 @@ pub fn fewest<S: Store>(
         (λ _. IsKept (S.graph search.now.store.now) search.now.goals.now kept.new) }
     ensures from { IfOk result (IsFrom search.now.goals.now at) }
 {
+    if at + 1 == search.goals.len() {
+        return Ok(at);
+    }
     let Some(literal) = literal_at(search.goals, at) else {
         return Ok(at);
     };

@@ -1,9 +1,9 @@
 // Which goal of a search leads to the variables that are wanted.
-ghost use Rattle.std.specs.Prelude.{◌≡◌, ◌<◌, IfOk, IfSome, length};
+ghost use Rattle.std.specs.Prelude.{◌≡◌, ◌<◌, ℕ, List, IfOk, IfSome, length};
 ghost use Rattle.condition_tests.specs.Places.{AtomInRange, GoalsInRange, PlaceInRange};
 ghost use Rattle.candidate_values.specs.Kept.{IsFrom};
 
-use crate::counts::{Least, end_of_look, literal_at, offered_by, or_fewer};
+use crate::counts::{FEW, Least, end_of_look, literal_at, offered_by, or_fewer};
 use candidate_values::Search;
 use condition_tests::{Atom, Goal, Literal, Place, Property, Relation, free_at, known, value_of};
 use query_spec::Op;
@@ -95,16 +95,16 @@ fn leading_count<S: Store>(
     }
 }
 
-// The goal from `at` on that leads so and offers fewest values, if one leads so.
+// The goal from `at` on that leads so and offers fewest values, with their count, if one leads so.
 fn leading<S: Store>(
     search: &Search<S>,
     at: usize,
     flags: &[bool],
     current: &[Option<Value>],
-) -> Option<usize>
+) -> Option<Least>
     requires in_range { GoalsInRange (length current.now) search.now.goals.now }
     requires within { at < length search.now.goals.now }
-    ensures { IfSome result (IsFrom search.now.goals.now at) }
+    ensures { IfSome result (λ l. IsFrom search.now.goals.now at l.goal) }
 {
     let mut least = Least {
         goal: at,
@@ -114,10 +114,34 @@ fn leading<S: Store>(
         least = or_fewer(least, later, leading_count(search, later, flags, current));
     }
     if least.count < u64::MAX {
-        Some(least.goal)
+        Some(least)
     } else {
         None
     }
+}
+
+// The goal of those that leads to what is wanted, or the near one where it is far shorter or alone.
+fn shorter(wanted: Option<Least>, near: Option<Least>) -> Option<usize>
+    ensures { (at : ℕ) (goals : List Goal) → IfSome wanted (λ l. IsFrom goals at l.goal)
+        → IfSome near (λ l. IsFrom goals at l.goal) → IfSome result (IsFrom goals at) }
+{
+    match (wanted, near) {
+        (Some(wanted), Some(near)) => {
+            if is_shorter(near.count, wanted.count) {
+                Some(near.goal)
+            } else {
+                Some(wanted.goal)
+            }
+        }
+        (Some(least), None) | (None, Some(least)) => Some(least.goal),
+        (None, None) => None,
+    }
+}
+
+// Whether a way of so few values comes first, which leads to variables that are only joined with those that are wanted:
+// where each of them may be followed by as many more, and it is fewer still.
+fn is_shorter(near: u64, wanted: u64) -> bool {
+    near.saturating_mul(near) < wanted
 }
 
 fn mark(slot: usize, flags: &mut [bool])
@@ -192,7 +216,8 @@ impl<'a> Wanted<'a> {
         Ok(Wanted { flags, near })
     }
 
-    /// The goal from `at` on that leads to a variable that is wanted, or else to one that goals join with them, if one does.
+    /// The goal from `at` on that leads to a variable that is wanted, or to one that goals join with them, where none
+    /// leads so or the values are far fewer.
     pub fn leading_goal<S: Store>(
         &self,
         search: &Search<S>,
@@ -204,9 +229,12 @@ impl<'a> Wanted<'a> {
         ensures { IfSome result (IsFrom search.now.goals.now at) }
     {
         let wanted = leading(search, at, self.flags, current);
-        if wanted.is_some() {
-            return wanted;
+        if let Some(least) = wanted {
+            if least.count <= FEW {
+                return Some(least.goal);
+            }
         }
-        leading(search, at, self.near.as_slice(), current)
+        let near = leading(search, at, self.near.as_slice(), current);
+        shorter(wanted, near)
     }
 }

@@ -5,3 +5,6 @@ pub mod FirstLaws
 pub mod KeyedLaws
 pub mod ValueLaws
 pub mod IndexLaws
+pub mod SpanLaws
+pub mod LookLaws
+pub mod MemberLaws

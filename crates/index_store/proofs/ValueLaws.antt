@@ -1,6 +1,11 @@
 -- The values of a graph are its nodes and its edges' ends.
-use Rattle.std.specs.Prelude.{◌<◌, ℕ, List, [], ◌∷◌, map, length, Contains}
-use Rattle.std.proofs.Common.{arith, subst, inl, inr}
+use Rattle.std.specs.Prelude.{◌≡◌, ◌<◌, ◌≤◌, ◌+◌, ◌-◌, ℕ, true, List, [], ◌∷◌, map, length, slice_index_or, Contains}
+use Rattle.std.specs.Ordering.{eq_by_cmp}
+use Rattle.std.specs.Cmp.{Equal-is}
+use Rattle.std.proofs.lemmas.List.{length-map, get_or-map, get_or_append_left, get_or-append-add}
+use Rattle.sd_value.specs.Order.{value_cmp}
+use Rattle.sd_value.specs.OrderLaws.{value_cmp-exact}
+use Rattle.std.proofs.Common.{arith, sym, ap, ◌∙◌, subst, inl, inr}
 use Rattle.std.proofs.lemmas.List.Elements.{Contains-append_cases, Contains-append_right}
 use Rattle.sd_value.specs.declared.Datum.TheVariants.{Node}
 use Rattle.sd_value.specs.declared.Value.{Value}
@@ -12,7 +17,7 @@ use Rattle.graph_spec.specs.Steps.{IsStepTo, IsCountOf}
 use Rattle.graph_spec.specs.declared.Edge.{Edge}
 use Rattle.graph_spec.specs.declared.Step.{Step}
 use Rattle.edge_queries.specs.Contents.{values-sound, values-complete}
-use Rattle.index_store.specs.Indexed.{IsNodeOf}
+use Rattle.index_store.specs.Indexed.{IsNodeOf, value_at}
 
 pub node_is_value : (G : DataGraph) (v : Value) → IsNodeOf G.nodes v → IsValueOf G v
 node_is_value G (Data (Node n)) h = h
@@ -42,3 +47,18 @@ reached_values G well v none n (ss, all, long) = (
     by (Data (Node m)) label at = values-sound G well v (Contains-append_right (map node G.nodes) _ _ (Contains-mapped (λ (e : Edge). e.to) G.edges (record { from = m; label = label; to = v }) at))
     by (Data d) label at = absurd at
     by (Page p) label at = absurd at
+
+-- the value at a place among the nodes, and behind them
+pub node_value_at : (G : DataGraph) (i : ℕ) (n : Name) → i < length G.nodes → n ≡ slice_index_or G.nodes i n → value_at G i ≡ node n
+node_value_at G i n l is =
+    get_or_append_left (map node G.nodes) (map (λ (e : Edge). e.to) G.edges) (node []) i (omega (arith, l, length-map G.nodes node)) ∙ get_or-map node G.nodes i n (node []) l ∙ ap node (sym is)
+
+pub end_value_at : (G : DataGraph) (i : ℕ) (e : Edge) → length G.nodes ≤ i → i < length G.nodes + length G.edges → e ≡ slice_index_or G.edges (i - length G.nodes) e → value_at G i ≡ e.to
+end_value_at G i e past l is =
+    let at : length (map node G.nodes) + (i - length G.nodes) ≡ i = omega (arith, past, length-map G.nodes node) in
+    sym (ap (value_at G) at) ∙ get_or-append-add (map node G.nodes) (map (λ (e : Edge). e.to) G.edges) (i - length G.nodes) (node [])
+    ∙ get_or-map (λ (d : Edge). d.to) G.edges (i - length G.nodes) e (node []) (omega (arith, past, l)) ∙ ap (λ (d : Edge). d.to) (sym is)
+
+-- values that `==` says are equal
+pub same_value : (u v : Value) → eq_by_cmp value_cmp u v ≡ true → u ≡ v
+same_value u v h = value_cmp-exact u v ((Equal-is _).0 h)

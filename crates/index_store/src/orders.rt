@@ -85,9 +85,10 @@ pub(crate) fn value_ranks(
 pub(crate) fn by_end(alloc: Global, ranks: &[u32], by_label: &[u32]) -> Result<Vec<u32>, NoMemory>
     requires fits { All (λ i. i < length ranks.now) by_label.now }
     requires small { length by_label.now ≤ 2 ^ 32 }
-    ensures { IfOk result (λ order. (es : List AnyEdge) → IsOrder by_label_cmp es by_label.now
+    ensures order { IfOk result (λ order. (es : List AnyEdge) → IsOrder by_label_cmp es by_label.now
         → AreOrderedAs value_cmp (map (λ e. e.to) es) ranks.now
         → IsOrder by_end_cmp es order.items) }
+    ensures short { IfOk result (λ order. length order.items ≤ length by_label.now) }
 {
     let ends = at_places(alloc, ranks, by_label)?;
     let places = by_rank(alloc, ends.as_slice())?;

@@ -11,9 +11,9 @@ use std::cmp::Ordering;
 
 // A query over edges, as one over positions. What lies past the edges is below its place.
 #[derive(Drop)]
-struct AtPositions<'a, Q> {
-    edges: &'a [Edge],
-    query: &'a Q,
+pub(crate) struct AtPositions<'a, Q> {
+    pub edges: &'a [Edge],
+    pub query: &'a Q,
 }
 
 impl<'a, Q: Query<Edge>> Query<u32> for AtPositions<'a, Q> {
@@ -37,8 +37,8 @@ impl<'a, Q: Query<Edge>> Query<u32> for AtPositions<'a, Q> {
     }
 }
 
-// What the query gives of the edges at the positions.
-fn give_at<Q: Query<Edge>>(
+/// What the query gives of the edges at the positions.
+pub(crate) fn give_at<Q: Query<Edge>>(
     alloc: Global,
     edges: &[Edge],
     positions: &[u32],
@@ -54,50 +54,4 @@ where
         given.push(query.give(alloc, &edges[*position as usize])?)?;
     }
     Ok(given)
-}
-
-/// What the query picks from edges, whose positions are ordered by it.
-pub(crate) fn pick_at<Q: Query<Edge> + Drop>(
-    alloc: Global,
-    edges: &[Edge],
-    positions: &[u32],
-    query: &Q,
-) -> Result<Vec<Q::Given>, NoMemory>
-where
-    Q::Given: Drop,
-    requires fits { All (λ i. i < length edges.now) positions.now }
-    requires placed { IsPlaced (Q.at query.now) (edges_at edges.now positions.now) }
-    ensures { IfOk result (λ found. found.items
-        ≡ picked (Q.at query.now) Q.gives (edges_at edges.now positions.now)) }
-{
-    let at = part(positions, &AtPositions { edges, query });
-    give_at(alloc, edges, at, query)
-}
-
-/// The first of what the query picks from edges, whose positions are ordered by it: at most `most`.
-pub(crate) fn first_at<Q: Query<Edge> + Drop>(
-    alloc: Global,
-    edges: &[Edge],
-    positions: &[u32],
-    query: &Q,
-    most: usize,
-) -> Result<Vec<Q::Given>, NoMemory>
-where
-    Q::Given: Drop,
-    requires fits { All (λ i. i < length edges.now) positions.now }
-    requires placed { IsPlaced (Q.at query.now) (edges_at edges.now positions.now) }
-    ensures { IfOk result (λ found. found.items
-        ≡ take most (picked (Q.at query.now) Q.gives (edges_at edges.now positions.now))) }
-{
-    let at = part(positions, &AtPositions { edges, query });
-    give_at(alloc, edges, first(at, most), query)
-}
-
-/// How many of the edges lie in the query's place.
-pub(crate) fn count_at<Q: Query<Edge> + Drop>(edges: &[Edge], positions: &[u32], query: &Q) -> u64
-    requires fits { All (λ i. i < length edges.now) positions.now }
-    requires placed { IsPlaced (Q.at query.now) (edges_at edges.now positions.now) }
-    ensures { result ≡ length (in_place (Q.at query.now) (edges_at edges.now positions.now)) }
-{
-    part(positions, &AtPositions { edges, query }).len() as u64
 }

@@ -1,5 +1,5 @@
 -- The parts after an edit make the graph after the edit.
-use Rattle.std.specs.Prelude.{◌≡◌, ◌≢◌, ◌⊎◌, ◌↔◌, ◌<◌, ◌≤◌, ◌+◌, not, List, [], length, Contains, Result, Ok, Err, ⊤}
+use Rattle.std.specs.Prelude.{if◌then◌else◌, ◌≡◌, ◌≢◌, ◌⊎◌, ◌↔◌, ◌<◌, ◌≤◌, ◌+◌, not, Bool, true, false, List, [], length, Contains, Result, Ok, Err, ⊤}
 use Rattle.std.specs.declared.cmp.Ordering.{Ordering}
 use Rattle.std.specs.List.Sorted.{IsStrictlySortedBy}
 use Rattle.std.specs.Cmp.{IsTotalOrder}
@@ -11,7 +11,7 @@ use Rattle.sd_value.specs.Ascending.{ListsExactly}
 use Rattle.sd_value.specs.Members.{Contains-nil}
 use Rattle.graph_spec.specs.declared.Edge.{Edge}
 use Rattle.graph_spec.specs.declared.Member.{Member}
-use Rattle.graph_spec.specs.DataGraph.{DataGraph, Name, node, IsWellFormed}
+use Rattle.graph_spec.specs.DataGraph.{DataGraph, Name, IsWellFormed}
 use Rattle.graph_spec.specs.Orders.{edge_cmp, edge_cmp-total, edge_cmp-exact, member_cmp, member_cmp-total, member_cmp-exact}
 use Rattle.graph_spec.specs.Statement.{empty_graph}
 use Rattle.sd_graph.specs.Statement.{Building, IsWithin, Fits}
@@ -22,9 +22,10 @@ use Rattle.edit_spec.specs.declared.Edit.TheVariants.{Add, Remove, Enter, Leave}
 use Rattle.edit_spec.specs.Edited.{Edited, IsOfData, HasNodeAfter, HasEdgeAfter, HasMemberAfter}
 use Rattle.edit_laws.proofs.Graphs.{one_graph, well_formed_after}
 use Rattle.edit_graphs.specs.After.{graph_after}
-use Rattle.edit_graphs.proofs.After.{after}
+use Rattle.edit_graphs.proofs.After.{after, inserted_exactly, removed_exactly}
 use Rattle.live_store.specs.Shift.{Moves, Shift, minus, plus}
-use Rattle.live_store.specs.Live.{Applies, changed, Layers, HasItem, HasItems, IsNodeOf, IsNewNode, puts, turned}
+use Rattle.live_layers.specs.Items.{HasItem, items_with, items_without, edge_with, member_with, edge_without, member_without}
+use Rattle.live_store.specs.Live.{Applies, changed, AreAscending, Layers, HasItems, IsNodeOf, IsNewNode, IsChanged, items_put, puts, turned}
 use Rattle.live_store.proofs.ListLaws.{in_or_not, same_or_other, minus_exactly, plus_exactly}
 
 module _ {X : Type 0} (R : X → X → Ordering) (total : IsTotalOrder R) (exact : IsAntisymmetric R)
@@ -257,7 +258,7 @@ module _ (B C D : DataGraph) (nodes : List Name) (L : DataGraph) (layers : Layer
       layers_gone = record {
         base = layers.base;
         came = layers.came;
-        gone = items.well_formed;
+        gone = items.ascending;
         whole = well_formed_after L (changed B C E names) e layers.whole of_data edited_gone;
         nodes_ascend = lists.ascending;
         node_moves = node_shift B nodes names e layers.base (λ n. (layers.node_moves n).is_new) lists;
@@ -338,7 +339,7 @@ module _ (B C D : DataGraph) (nodes : List Name) (L : DataGraph) (layers : Layer
       pub layers_came : Layers B E D names (changed B E D names)
       layers_came = record {
         base = layers.base;
-        came = items.well_formed;
+        came = items.ascending;
         gone = layers.gone;
         whole = well_formed_after L (changed B E D names) e layers.whole of_data edited_came;
         nodes_ascend = lists.ascending;
@@ -347,14 +348,79 @@ module _ (B C D : DataGraph) (nodes : List Name) (L : DataGraph) (layers : Layer
         member_moves = came_member_moves;
       }
 
+-- ---- a layer with what an edit is of, or without it
+
+module _ (G : DataGraph) (up : AreAscending G) where
+  with_edge : (x : Edge) → HasItems G (Add x) (edge_with x G)
+  with_edge x = let more = inserted_exactly edge_cmp edge_cmp-total edge_cmp-exact x G.edges up.edges in record {
+    ascending = record { edges = more.ascending; members = up.members };
+    edges = λ k. (more.sound k, more.complete k);
+    members = λ k. (λ m. m, λ m. m);
+  }
+
+  no_edge : (x : Edge) → HasItems G (Remove x) (edge_without x G)
+  no_edge x = let less = removed_exactly edge_cmp edge_cmp-total edge_cmp-exact x G.edges up.edges in record {
+    ascending = record { edges = less.ascending; members = up.members };
+    edges = λ k. (less.sound k, less.complete k);
+    members = λ k. (λ m. m, λ m. m);
+  }
+
+  with_member : (x : Member) → HasItems G (Enter x) (member_with x G)
+  with_member x = let more = inserted_exactly member_cmp member_cmp-total member_cmp-exact x G.members up.members in record {
+    ascending = record { edges = up.edges; members = more.ascending };
+    edges = λ k. (λ m. m, λ m. m);
+    members = λ k. (more.sound k, more.complete k);
+  }
+
+  no_member : (x : Member) → HasItems G (Leave x) (member_without x G)
+  no_member x = let less = removed_exactly member_cmp member_cmp-total member_cmp-exact x G.members up.members in record {
+    ascending = record { edges = up.edges; members = less.ascending };
+    edges = λ k. (λ m. m, λ m. m);
+    members = λ k. (less.sound k, less.complete k);
+  }
+
+  items_of : (e : Edit) (put : Bool) → HasItems G (turned put e) (items_put put e G)
+  items_of (Add x) true = with_edge x
+  items_of (Add x) false = no_edge x
+  items_of (Remove x) true = with_edge x
+  items_of (Remove x) false = no_edge x
+  items_of (Enter m) true = with_member m
+  items_of (Enter m) false = no_member m
+  items_of (Leave m) true = with_member m
+  items_of (Leave m) false = no_member m
+
+  items_changed : (e : Edit) (put : Bool) (H : DataGraph) → H ≡ items_put put e G → HasItems G (turned put e) H
+  items_changed e put H is = subst (HasItems G (turned put e)) (sym is) (items_of e put)
+
+-- ---- after an edit
+
+module _ (B C D : DataGraph) (nodes : List Name) (L : DataGraph) (layers : Layers B C D nodes L) (e : Edit)
+    (E F : DataGraph) (is : IsChanged B C D e E F) (of_data : IsOfData e) (names : List Name)
+    (lists : ListsExactly bytes_cmp (IsNewNode B nodes e) names) where
+  pub edited_after : Edited L e (changed B E F names)
+  edited_after = elim is [
+    | inl (has, gone, came) ↦ subst (λ (X : DataGraph). Edited L e (changed B X F names)) (sym came)
+        (edited_gone B C D nodes L layers e F has (items_changed D layers.gone e (not (puts e)) F gone) of_data names lists)
+    | inr (hasnt, came, gone) ↦ subst (λ (X : DataGraph). Edited L e (changed B E X names)) (sym gone)
+        (edited_came B C D nodes L layers e E hasnt (items_changed C layers.came e (puts e) E came) of_data names lists)
+  ]
+
+  pub layers_after : Layers B E F names (changed B E F names)
+  layers_after = elim is [
+    | inl (has, gone, came) ↦ subst (λ (X : DataGraph). Layers B X F names (changed B X F names)) (sym came)
+        (layers_gone B C D nodes L layers e F has (items_changed D layers.gone e (not (puts e)) F gone) of_data names lists)
+    | inr (hasnt, came, gone) ↦ subst (λ (X : DataGraph). Layers B E X names (changed B E X names)) (sym gone)
+        (layers_came B C D nodes L layers e E hasnt (items_changed C layers.came e (puts e) E came) of_data names lists)
+  ]
+
 -- ---- at first
 
-pub layers_first : (B : DataGraph) → IsWellFormed B → IsWellFormed empty_graph → Layers B empty_graph empty_graph [] B
+pub layers_first : (B : DataGraph) → IsWellFormed B → Layers B empty_graph empty_graph [] B
 unfolding IsStrictlySortedBy
-layers_first B well none = record {
+layers_first B well = record {
   base = well;
-  came = none;
-  gone = none;
+  came = record { edges = tt; members = tt };
+  gone = record { edges = tt; members = tt };
   whole = well;
   nodes_ascend = tt;
   node_moves = λ n. record {
@@ -414,3 +480,11 @@ refused_as seen b e H well edited r x is fits same =
     subst (λ (k : Building). Applies e k k (Err r)) same
     (refused b e H well edited r
     (subst (Fits b.limits (length H.nodes) (length H.edges + length H.members)) is fits))
+
+-- a layer that was changed one way or the other
+pub as_put : (p q : Bool) (e : Edit) (G H : DataGraph) → p ≡ q
+    → H ≡ (if p then items_with e G else items_without e G) → H ≡ items_put q e G
+as_put true true e G H same is = is
+as_put false false e G H same is = is
+as_put true false e G H same is = cc
+as_put false true e G H same is = cc

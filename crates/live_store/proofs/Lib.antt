@@ -1,10 +1,10 @@
 pub mod ListLaws
 pub mod Moves
 pub mod Pushes
-pub mod ToldLaws
+pub mod CountLaws
+pub mod ValueLaws
+pub mod AfterLaws
+pub mod TouchedLaws
 pub mod Edits
 pub mod Questions
-pub mod Items
-pub mod Reports
 pub mod Names
-pub mod Plain

@@ -1,5 +1,5 @@
 -- Ascending lists from which something went and to which something came.
-use Rattle.std.specs.Prelude.{◌≡◌, ◌≢◌, ◌⊎◌, ◌↔◌, ◌||◌, ◌≤◌, ◌+◌, ◌-◌, ℕ, zero, suc, Bool, true, false, IsTrue, List, [], ◌∷◌, length, Contains}
+use Rattle.std.specs.Prelude.{◌≡◌, ◌≢◌, ◌⊎◌, ◌↔◌, ◌||◌, ◌≤◌, ◌+◌, ◌-◌, ℕ, Bool, true, false, IsTrue, List, [], ◌∷◌, length, Contains}
 use Rattle.std.specs.declared.cmp.Ordering.{Ordering}
 use Rattle.std.specs.declared.cmp.Ordering.TheVariants.{Less, Equal, Greater}
 use Rattle.std.specs.Ordering.{is_eq}
@@ -15,14 +15,14 @@ use Rattle.std.proofs.lemmas.Cmp.{tied_itself}
 use Rattle.std.proofs.lemmas.Map.Made.{length-remove_key}
 use Rattle.std.proofs.lemmas.Map.Views.{Contains-from_any}
 use Rattle.sd_value.specs.Ascending.{ListsExactly}
-use Rattle.sd_value.specs.AscendingLaws.{head_below, tail_ascends, not_below_itself, listed_as, one_list}
+use Rattle.sd_value.specs.AscendingLaws.{head_below, tail_ascends, not_below_itself, listed_as}
 use Rattle.sd_value.specs.Members.{Contains-nil, Contains-cons_cases, Contains-here, Contains-there}
 use Rattle.graph_spec.specs.Steps.{IsCountOf}
 use Rattle.sd_graph.specs.Inserted.{length-inserted}
 use Rattle.edit_graphs.proofs.After.{inserted_exactly, removed_exactly}
-use Rattle.live_store.specs.Shift.{Moves, Shift, IsShifted, minus, plus}
+use Rattle.live_store.specs.Shift.{Shift, IsShifted, minus, plus}
 
-tie : (o : Ordering) → is_eq o ≡ true → o ≡ Equal
+pub tie : (o : Ordering) → is_eq o ≡ true → o ≡ Equal
 tie Less e = cc
 tie Equal e = refl
 tie Greater e = cc
@@ -37,7 +37,7 @@ module _ {X : Type 0} (R : X → X → Ordering) (total : IsTotalOrder R) (exact
   pub same_at : (k x : X) → is_at (R k) x ≡ true → k ≡ x
   same_at k x t = exact k x (tie (R k x) t)
 
-  any_of : (k : X) (xs : List X) → Contains xs k → list_any (is_at (R k)) xs ≡ true
+  pub any_of : (k : X) (xs : List X) → Contains xs k → list_any (is_at (R k)) xs ≡ true
   any_of k [] c = absurd (Contains-nil k c)
   any_of k (x ∷ xs) c = elim (Contains-cons_cases x xs k c) [
     | inl e ↦ here (subst (λ z. is_at (R k) z ≡ true) (sym e) (ap is_eq (tied_itself total k)))
@@ -70,21 +70,6 @@ module _ {X : Type 0} (R : X → X → Ordering) (total : IsTotalOrder R) (exact
   same_or_other x y = elim (true_or_false (is_at (R x) y)) [
     | inl t ↦ inl (same_at x y t)
     | inr f ↦ inr (λ e. let t : is_at (R x) y ≡ true = subst (λ z. is_at (R x) z ≡ true) e (ap is_eq (tied_itself total x)) in cc)
-  ]
-
-  -- some item has this, or none
-  pub found_or_none : {Y : Type 0} (f : Y → X) (ys : List Y) (x : X)
-      → ((y : Y) × Contains ys y × (f y ≡ x)) ⊎ (((y : Y) × Contains ys y × (f y ≡ x)) → ⊥)
-  found_or_none f [] x = inr (λ h. Contains-nil h.0 h.1)
-  found_or_none f (y ∷ ys) x = elim (same_or_other (f y) x) [
-    | inl e ↦ inl (y, Contains-here y ys, e)
-    | inr n ↦ elim (found_or_none f ys x) [
-      | inl h ↦ inl (h.0, Contains-there y ys h.0 h.1, h.2)
-      | inr m ↦ inr (λ h. elim (Contains-cons_cases y ys h.0 h.1) [
-        | inl e ↦ n (ap f e ∙ h.2)
-        | inr c ↦ m (h.0, c, h.2)
-      ])
-    ]
   ]
 
   -- ---- taking out and putting in
@@ -225,30 +210,3 @@ some_counted {X} {R} {P} n (xs, lists, is) some = first xs (λ z. some (sym is �
     first : (ys : List X) → (length ys ≡ 0 → ⊥) → ((x : X) → Contains ys x → P x) → (x : X) × P x
     first [] n sound = absurd (n refl)
     first (y ∷ ys) n sound = (y, sound y (Contains-here y ys))
-
--- as many are left as there were, without those that went and with those that came
-module _ {X : Type 0} (R : X → X → Ordering) (total : IsTotalOrder R) (exact : IsAntisymmetric R) where
-  itself : (xs : List X) → IsStrictlySortedBy R xs → ListsExactly R (Contains xs) xs
-  itself xs up = record { ascending = up; sound = λ x m. m; complete = λ x m. m }
-
-  pub length-moved : (bs ls ds cs : List X) → IsStrictlySortedBy R bs → IsStrictlySortedBy R ls → IsStrictlySortedBy R ds
-      → IsStrictlySortedBy R cs → Shift (Contains bs) (Contains ls) (Contains ds) (Contains cs)
-      → (length ds ≤ length bs) × (length ls ≡ length bs - length ds + length cs)
-  length-moved bs ls ds cs b l d c moves =
-      let (within, (xs, lists, is)) = shift_counts R total exact {P = Contains bs} {Q = Contains ls} {D = Contains ds}
-      {C = Contains cs} moves (length bs) (length ds) (length cs) (bs, itself bs b, refl) (ds, itself ds d, refl)
-      (cs, itself cs c, refl) in
-      let same = one_list total (Contains ls) ls xs (itself ls l) lists in
-      (within, ap length same ∙ is)
-
-  -- the same moves, of lists with the same elements
-  pub listed_moves : {P Q : X → Type 0} (ds ds' cs cs' : List X) → Shift P Q (Contains ds) (Contains cs)
-      → ListsExactly R (Contains ds) ds' → ListsExactly R (Contains cs) cs' → Shift P Q (Contains ds') (Contains cs')
-  listed_moves ds ds' cs cs' moves d c x = record {
-    stays = λ p none. (moves x).stays p (λ g. none (d.complete x g));
-    comes = λ m. (moves x).comes (c.sound x m);
-    was = λ g. (moves x).was (d.sound x g);
-    went = λ g q. (moves x).went (d.sound x g) q;
-    is_new = λ m p. (moves x).is_new (c.sound x m) p;
-    all = λ q. elim ((moves x).all q) [ inl p ↦ inl p | inr m ↦ inr (c.complete x m) ];
-  }

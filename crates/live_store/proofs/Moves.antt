@@ -1,20 +1,22 @@
 -- What moves of a graph's edges and members moves of what is asked of it.
-use Rattle.std.specs.Prelude.{◌≡◌, ◌≢◌, ◌⊎◌, ◌≤◌, ℕ, List, [], length, Contains}
+use Rattle.std.specs.Prelude.{◌≡◌, ◌⊎◌, ◌↔◌, ◌≤◌, ℕ, List, [], length, Contains}
 use Rattle.std.specs.declared.cmp.Ordering.{Ordering}
 use Rattle.std.specs.Cmp.{IsTotalOrder}
 use Rattle.std.proofs.Common.{arith, refl, sym, ap, ◌∙◌, subst, inl, inr}
 use Rattle.sd_value.specs.declared.Datum.TheVariants.{Int, Text, Url, File, Node}
 use Rattle.sd_value.specs.declared.Value.{Value}
 use Rattle.sd_value.specs.declared.Value.TheVariants.{Data, Page}
-use Rattle.sd_value.specs.Order.{bytes_cmp, value_cmp}
+use Rattle.sd_value.specs.Order.{value_cmp}
 use Rattle.sd_value.specs.OrderLaws.{value_cmp-total}
-use Rattle.sd_value.specs.Ascending.{ListsExactly}
 use Rattle.graph_spec.specs.declared.Edge.{Edge}
 use Rattle.graph_spec.specs.declared.Member.{Member}
 use Rattle.graph_spec.specs.declared.Step.{Step}
 use Rattle.graph_spec.specs.DataGraph.{DataGraph, Name, node, IsWellFormed, HasEdge, HasMember}
 use Rattle.graph_spec.specs.Orders.{edge_cmp, edge_cmp-total, edge_cmp-exact, member_cmp, member_cmp-total, member_cmp-exact, step_cmp, step_cmp-total}
 use Rattle.graph_spec.specs.Steps.{IsStepFrom, IsStepTo, IsStart, IsLabelled, IsMemberValue, IsCountOf}
+use Rattle.edit_spec.specs.declared.Edit.{Edit}
+use Rattle.edit_spec.specs.declared.Edit.TheVariants.{Add, Remove, Enter, Leave}
+use Rattle.live_layers.specs.Items.{HasItem}
 use Rattle.live_store.specs.Shift.{Moves, Shift}
 use Rattle.live_store.specs.Live.{Layers}
 use Rattle.live_store.proofs.ListLaws.{fits}
@@ -51,6 +53,19 @@ module _ (B C D : DataGraph) (nodes : List Name) (L : DataGraph) (layers : Layer
 
   pub labelled_moves : (l : Name) → Shift (IsLabelled B l) (IsLabelled L l) (IsLabelled D l) (IsLabelled C l)
   labelled_moves l e = both_move (layers.edge_moves e)
+
+  -- what an edit is of
+  pub item_moves : (e : Edit) → Moves (HasItem B e) (HasItem L e) (HasItem D e) (HasItem C e)
+  item_moves (Add x) = layers.edge_moves x
+  item_moves (Remove x) = layers.edge_moves x
+  item_moves (Enter m) = layers.member_moves m
+  item_moves (Leave m) = layers.member_moves m
+
+  pub named : (n : Name) → Contains L.nodes n ↔ (Contains B.nodes n ⊎ Contains nodes n)
+  named n = (
+    (layers.node_moves n).all,
+    λ h. elim h [ inl b ↦ (layers.node_moves n).stays b (λ d. d) | inr c ↦ (layers.node_moves n).comes c ],
+  )
 
   same_name : {m n : Name} → node m ≡ node n → m ≡ n
   same_name e = cc

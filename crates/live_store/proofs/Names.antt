@@ -1,37 +1,27 @@
 -- Names that are pushed unless a graph declares them.
-use Rattle.std.specs.Prelude.{◌≡◌, ◌⊎◌, List, [], ◌∷◌, ◌++◌, Contains}
+use Rattle.std.specs.Prelude.{◌≡◌, ◌⊎◌, List, Contains}
+use Rattle.std.specs.BTreeSet.{insert_key}
+use Rattle.std.specs.List.Sorted.{IsStrictlySortedBy}
 use Rattle.std.proofs.Common.{sym, subst, inl, inr}
-use Rattle.std.proofs.lemmas.List.Elements.{Contains-push, Contains-push_cases, Contains-append_left}
 use Rattle.sd_value.specs.Order.{bytes_cmp}
+use Rattle.sd_value.specs.OrderLaws.{bytes_cmp-exact}
+use Rattle.sd_graph.specs.Inserted.{inserted-there, inserted-cases, inserted-here}
 use Rattle.sd_value.specs.Ascending.{ListsExactly}
 use Rattle.graph_spec.specs.DataGraph.{DataGraph, Name}
 use Rattle.edit_spec.specs.declared.Edit.{Edit}
 use Rattle.live_store.specs.Live.{IsNewNode, IsNodeOf, NewNames}
 
 module _ (B : DataGraph) where
-  pub name_known : (name : Name) (old : List Name) → Contains B.nodes name → NewNames B (λ n. n ≡ name) old old
-  name_known name old c = record {
-    sound = λ n m. inl m;
-    kept = λ n m. m;
-    there = λ n e. inl (subst (Contains B.nodes) (sym e) c);
-  }
-
   pub name_new : (name : Name) (old : List Name) → (Contains B.nodes name → ⊥)
-      → NewNames B (λ n. n ≡ name) old (old ++ name ∷ [])
+      → NewNames B (λ n. n ≡ name) old (insert_key bytes_cmp old name)
   name_new name old none = record {
-    sound = λ n m. elim (Contains-push_cases old name n m) [
-      | inl o ↦ inl o
-      | inr e ↦ inr ((λ c. none (subst (Contains B.nodes) (sym e) c)), sym e)
+    sound = λ n m. elim (inserted-cases bytes_cmp name old n m) [
+      | inl e ↦ inr ((λ c. none (subst (Contains B.nodes) (sym e) c)), sym e)
+      | inr o ↦ inl o
     ];
-    kept = λ n m. Contains-append_left old (name ∷ []) n m;
-    there = λ n e. inr (subst (Contains (old ++ name ∷ [])) (sym e) (Contains-push old name));
-  }
-
-  pub names_none : (P : Name → Type 0) (old : List Name) → ((n : Name) → P n → ⊥) → NewNames B P old old
-  names_none P old none = record {
-    sound = λ n m. inl m;
-    kept = λ n m. m;
-    there = λ n p. absurd (none n p);
+    kept = λ n m. inserted-there bytes_cmp name old n m;
+    there = λ n e. inr (subst (Contains (insert_key bytes_cmp old name)) (sym e)
+        (inserted-here bytes_cmp bytes_cmp-exact name old));
   }
 
   pub names_as : (P Q : Name → Type 0) (old new : List Name) → NewNames B P old new → ((n : Name) → P n → Q n)
@@ -56,16 +46,13 @@ module _ (B : DataGraph) where
     ];
   }
 
-  pub names_listed : (e : Edit) (nodes old all names : List Name) → old ≡ nodes → NewNames B (IsNodeOf e) old all
-      → ListsExactly bytes_cmp (Contains all) names → ListsExactly bytes_cmp (IsNewNode B nodes e) names
-  names_listed e nodes old all names same new lists = record {
-    ascending = lists.ascending;
-    sound = λ n m. elim (new.sound n (lists.sound n m)) [
-      | inl o ↦ inl (subst (λ ns. Contains ns n) same o)
-      | inr k ↦ inr k
-    ];
+  pub names_listed : (e : Edit) (nodes names : List Name) → NewNames B (IsNodeOf e) nodes names
+      → IsStrictlySortedBy bytes_cmp names → ListsExactly bytes_cmp (IsNewNode B nodes e) names
+  names_listed e nodes names new up = record {
+    ascending = up;
+    sound = new.sound;
     complete = λ n h. elim h [
-      | inl o ↦ lists.complete n (new.kept n (subst (λ ns. Contains ns n) (sym same) o))
-      | inr k ↦ elim (new.there n k.1) [ inl b ↦ absurd (k.0 b) | inr m ↦ lists.complete n m ]
+      | inl o ↦ new.kept n o
+      | inr k ↦ elim (new.there n k.1) [ inl b ↦ absurd (k.0 b) | inr m ↦ m ]
     ];
   }

@@ -1,10 +1,10 @@
 -- Loops that push what an item has, of those items that are wanted.
-use Rattle.std.specs.Prelude.{◌≡◌, ◌⊎◌, ◌<◌, ◌≤◌, ◌+◌, ℕ, List, [], ◌∷◌, ◌++◌, length, take, Contains}
+use Rattle.std.specs.Prelude.{◌≡◌, ◌<◌, ◌≤◌, ◌+◌, ℕ, List, [], ◌∷◌, ◌++◌, length, take, Contains}
 use Rattle.std.proofs.Common.{sym, subst, inl, inr, get_or}
 use Rattle.std.proofs.lemmas.Grind.{take_at_read}
 use Rattle.std.proofs.lemmas.List.{take_all}
-use Rattle.std.proofs.lemmas.List.Elements.{Contains-push, Contains-push_cases, Contains-append_left, Contains-append_right}
-use Rattle.sd_value.specs.Members.{Contains-nil, Contains-cons_cases, Contains-here}
+use Rattle.std.proofs.lemmas.List.Elements.{Contains-push_cases, Contains-append_left, Contains-append_right}
+use Rattle.sd_value.specs.Members.{Contains-nil, Contains-here}
 use Rattle.live_store.specs.Shift.{Pushed}
 
 module _ {X Y : Type 0} (f : X → Y) (K : X → Type 0) where
@@ -16,34 +16,6 @@ module _ {X Y : Type 0} (f : X → Y) (K : X → Type 0) where
   }
 
   -- ---- item after item
-
-  pub pushed_put : (x : X) (old new : List Y) → K x → ((y : Y) → Contains old y → Contains new y) → Contains new (f x)
-      → ((y : Y) → Contains new y → Contains old y ⊎ (f x ≡ y)) → Pushed f K (x ∷ []) old new
-  pushed_put x old new k kept here only = record {
-    kept = kept;
-    found = λ z m kz. elim (Contains-cons_cases x [] z m) [
-      | inl e ↦ subst (λ w. Contains new (f w)) e here
-      | inr none ↦ absurd (Contains-nil z none)
-    ];
-    only = λ y m. elim (only y m) [
-      | inl o ↦ inl o
-      | inr e ↦ inr (x, Contains-here x [], k, e)
-    ];
-  }
-
-  pub pushed_yes : (x : X) (old : List Y) → K x → Pushed f K (x ∷ []) old (old ++ f x ∷ [])
-  pushed_yes x old k = pushed_put x old (old ++ f x ∷ []) k (λ y m. Contains-append_left old (f x ∷ []) y m)
-      (Contains-push old (f x)) (λ y m. Contains-push_cases old (f x) y m)
-
-  pub pushed_no : (x : X) (old : List Y) → (K x → ⊥) → Pushed f K (x ∷ []) old old
-  pushed_no x old n = record {
-    kept = λ y m. m;
-    found = λ z m kz. elim (Contains-cons_cases x [] z m) [
-      | inl e ↦ absurd (n (subst K (sym e) kz))
-      | inr none ↦ absurd (Contains-nil z none)
-    ];
-    only = λ y m. inl m;
-  }
 
   pub pushed_step : (xs : List X) (i : ℕ) (x : X) (old mid new : List Y) → Pushed f K (take i xs) old mid
       → i < length xs → x ≡ get_or xs i x → Pushed f K (x ∷ []) mid new → Pushed f K (take (i + 1) xs) old new

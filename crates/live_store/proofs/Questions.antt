@@ -1,18 +1,17 @@
 -- What the three indexes answer together is what the graph that they make answers.
-use Rattle.std.specs.Prelude.{◌≡◌, ◌⊎◌, ◌↔◌, ◌≤◌, ◌+◌, ◌-◌, ℕ, Bool, IsTrue, List, length, Contains}
+use Rattle.std.specs.Prelude.{◌⊎◌, ◌↔◌, ◌≤◌, ◌+◌, ◌-◌, ℕ, Bool, IsTrue, List, length}
 use Rattle.std.proofs.Common.{inl, inr}
 use Rattle.sd_value.specs.declared.Value.{Value}
-use Rattle.sd_value.specs.Order.{bytes_cmp, value_cmp}
-use Rattle.sd_value.specs.OrderLaws.{bytes_cmp-total, bytes_cmp-exact, value_cmp-total, value_cmp-exact}
+use Rattle.sd_value.specs.Order.{value_cmp}
+use Rattle.sd_value.specs.OrderLaws.{value_cmp-total, value_cmp-exact}
 use Rattle.sd_value.specs.Ascending.{ListsExactly}
 use Rattle.graph_spec.specs.declared.Edge.{Edge}
 use Rattle.graph_spec.specs.declared.Step.{Step}
-use Rattle.graph_spec.specs.DataGraph.{DataGraph, Name, HasEdge, IsValueOf, IsLabelOf}
+use Rattle.graph_spec.specs.DataGraph.{DataGraph, Name, HasEdge}
 use Rattle.graph_spec.specs.Orders.{edge_cmp, edge_cmp-total, edge_cmp-exact, step_cmp, step_cmp-total, step_cmp-exact}
 use Rattle.graph_spec.specs.Steps.{IsStepFrom, IsStepTo, IsStart, IsLabelled, IsMemberValue, IsCountOf}
-use Rattle.live_store.specs.declared.told.Told.{Told}
-use Rattle.live_store.specs.Shift.{Moves, Shift, IsShifted}
-use Rattle.live_store.specs.Live.{Layers, AreTold}
+use Rattle.live_store.specs.Shift.{Moves, IsShifted}
+use Rattle.live_store.specs.Live.{Layers}
 use Rattle.live_store.proofs.ListLaws.{shift_lists, shift_counts}
 use Rattle.live_store.proofs.Moves.{edge_moves, labelled_moves, member_moves, out_bound, start_bound, from_bound, to_bound, labelled_bound, members_bound}
 
@@ -114,23 +113,3 @@ module _ (B C D : DataGraph) (nodes : List Name) (L : DataGraph) (layers : Layer
       let both = shift_counts value_cmp value_cmp-total value_cmp-exact
       {P = IsMemberValue B collection} {Q = IsMemberValue L collection} {D = IsMemberValue D collection} {C = IsMemberValue C collection} (member_moves B C D nodes L layers collection) b d c was went came in
       (both.0, both.1, members_bound L layers.whole collection (b - d + c) both.1)
-
--- the values and the labels
-module _ (B L : DataGraph) (told : Told) (are : AreTold B L told) where
-  pub values_listed : (bs xs : List Value) → ListsExactly value_cmp (IsValueOf B) bs
-      → ListsExactly value_cmp (IsShifted bs told.values_gone.items told.values_came.items) xs
-      → ListsExactly value_cmp (IsValueOf L) xs
-  values_listed bs xs lists = shift_lists value_cmp value_cmp-total value_cmp-exact
-      {P = IsValueOf B} {Q = IsValueOf L} {D = Contains told.values_gone.items} {C = Contains told.values_came.items}
-      are.values bs told.values_gone.items told.values_came.items xs lists
-      (record { ascending = are.values_gone; sound = λ v m. m; complete = λ v m. m })
-      (record { ascending = are.values_came; sound = λ v m. m; complete = λ v m. m })
-
-  pub labels_listed : (bs xs : List Name) → ListsExactly bytes_cmp (IsLabelOf B) bs
-      → ListsExactly bytes_cmp (IsShifted bs told.labels_gone.items told.labels_came.items) xs
-      → ListsExactly bytes_cmp (IsLabelOf L) xs
-  labels_listed bs xs lists = shift_lists bytes_cmp bytes_cmp-total bytes_cmp-exact
-      {P = IsLabelOf B} {Q = IsLabelOf L} {D = Contains told.labels_gone.items} {C = Contains told.labels_came.items}
-      are.labels bs told.labels_gone.items told.labels_came.items xs lists
-      (record { ascending = are.labels_gone; sound = λ v m. m; complete = λ v m. m })
-      (record { ascending = are.labels_came; sound = λ v m. m; complete = λ v m. m })

@@ -1,2 +1,3 @@
 pub mod Shift
+pub mod Counts
 pub mod Live

@@ -1,26 +1,26 @@
 -- A graph as the graph that was indexed, with what came and without what went since.
-use Rattle.std.specs.Prelude.{◌≡◌, ◌⊎◌, ◌≤◌, ◌↔◌, ◌+◌, ◌<◌, Bool, true, false, List, length, map, Contains, Result, Ok, Err, ⊤}
-use Rattle.std.specs.BTreeSet.{insert_key}
+use Rattle.std.specs.Prelude.{◌≡◌, ◌⊎◌, ◌≤◌, ◌↔◌, Bool, true, false, not, List, length, Contains, Result, Ok, Err, ⊤}
 use Rattle.std.specs.List.Sorted.{IsStrictlySortedBy}
 use Rattle.sd_value.specs.declared.Datum.TheVariants.{Node}
 use Rattle.sd_value.specs.declared.Value.{Value}
 use Rattle.sd_value.specs.declared.Value.TheVariants.{Data, Page}
 use Rattle.sd_value.specs.Order.{bytes_cmp, value_cmp}
-use Rattle.sd_value.specs.Ascending.{ListsExactly}
 use Rattle.graph_spec.specs.declared.Edge.{Edge}
 use Rattle.graph_spec.specs.declared.Member.{Member}
-use Rattle.graph_spec.specs.declared.Step.{Step}
 use Rattle.graph_spec.specs.DataGraph.{DataGraph, Name, node, IsWellFormed, IsValueOf, IsLabelOf}
 use Rattle.graph_spec.specs.Orders.{edge_cmp, member_cmp}
-use Rattle.graph_spec.specs.Steps.{IsStepTo, IsLabelled, IsCountOf}
-use Rattle.sd_graph.specs.Statement.{Building, IsWithin, HasTooMany_nodes, HasTooMany_edges, IsData}
+use Rattle.graph_spec.specs.Steps.{IsCountOf}
+use Rattle.sd_graph.specs.Statement.{Building, IsWithin, HasTooMany_nodes, HasTooMany_edges}
+use Rattle.sd_graph.specs.Undone.{without, without_end}
 use Rattle.sd_graph.specs.declared.GraphRefusal.{GraphRefusal}
 use Rattle.sd_graph.specs.declared.GraphRefusal.TheVariants.{TooManyNodes, TooManyEdges, NoMemory}
 use Rattle.edit_spec.specs.declared.Edit.{Edit}
 use Rattle.edit_spec.specs.declared.Edit.TheVariants.{Add, Remove, Enter, Leave}
 use Rattle.edit_spec.specs.Edited.{HasEdgeAfter, HasMemberAfter}
 use Rattle.edit_graphs.specs.After.{graph_after}
+use Rattle.live_layers.specs.Items.{HasItem, items_with, items_without}
 use Rattle.live_store.specs.declared.told.Told.{Told}
+use Rattle.live_store.specs.declared.nodes.Declared.{Declared}
 use Rattle.live_store.specs.Shift.{Shift, minus, plus}
 
 -- the graph after an edit, which may grow as far as before
@@ -44,11 +44,16 @@ changed B C D nodes = record {
   members = plus member_cmp (minus member_cmp B.members D.members) C.members;
 }
 
+-- the edges and the members are in order
+pub record AreAscending (G : DataGraph) : Type 0 where
+  pub edges : IsStrictlySortedBy edge_cmp G.edges
+  pub members : IsStrictlySortedBy member_cmp G.members
+
 -- L is B with the edges and members of C and these nodes, and without the edges and members of D
 pub record Layers (B C D : DataGraph) (nodes : List Name) (L : DataGraph) : Type 0 where
   pub base : IsWellFormed B
-  pub came : IsWellFormed C
-  pub gone : IsWellFormed D
+  pub came : AreAscending C
+  pub gone : AreAscending D
   pub whole : IsWellFormed L
   pub nodes_ascend : IsStrictlySortedBy bytes_cmp nodes
   pub node_moves : Shift (Contains B.nodes) (Contains L.nodes) (λ n. ⊥) (Contains nodes)
@@ -56,16 +61,8 @@ pub record Layers (B C D : DataGraph) (nodes : List Name) (L : DataGraph) : Type
   pub member_moves : Shift (Contains B.members) (Contains L.members) (Contains D.members)
       (Contains C.members)
 
--- what is reported beside them
-pub record AreTold (B L : DataGraph) (told : Told) : Type 0 where
-  pub values_came : IsStrictlySortedBy value_cmp told.values_came.items
-  pub values_gone : IsStrictlySortedBy value_cmp told.values_gone.items
-  pub values : Shift (IsValueOf B) (IsValueOf L) (Contains told.values_gone.items)
-      (Contains told.values_came.items)
-  pub labels_came : IsStrictlySortedBy bytes_cmp told.labels_came.items
-  pub labels_gone : IsStrictlySortedBy bytes_cmp told.labels_gone.items
-  pub labels : Shift (IsLabelOf B) (IsLabelOf L) (Contains told.labels_gone.items)
-      (Contains told.labels_came.items)
+-- how large a graph is
+pub record AreTold (L : DataGraph) (told : Told) : Type 0 where
   pub node_count : told.sizes.nodes ≡ length L.nodes
   pub edge_count : told.sizes.edges ≡ length L.edges
   pub value_count : IsCountOf value_cmp (IsValueOf L) told.sizes.values
@@ -75,29 +72,8 @@ pub record AreTold (B L : DataGraph) (told : Told) : Type 0 where
 -- the store's parts fit together
 pub record IsLive (b : Building) (B C D : DataGraph) (nodes : List Name) (told : Told) : Type 0 where
   pub layers : Layers B C D nodes b.graph
-  pub reported : AreTold B b.graph told
+  pub reported : AreTold b.graph told
   pub within : IsWithin b
-
--- an edge that is the edit's
-abbrev pub IsEdgeOf : Edit → Edge → Type 0
-IsEdgeOf (Add e) k = k ≡ e
-IsEdgeOf (Remove e) k = k ≡ e
-IsEdgeOf (Enter m) k = ⊥
-IsEdgeOf (Leave m) k = ⊥
-
--- a member that is the edit's
-abbrev pub IsMemberOf : Edit → Member → Type 0
-IsMemberOf (Add e) k = ⊥
-IsMemberOf (Remove e) k = ⊥
-IsMemberOf (Enter m) k = k ≡ m
-IsMemberOf (Leave m) k = k ≡ m
-
--- the graph has what the edit is of
-abbrev pub HasItem : DataGraph → Edit → Type 0
-HasItem G (Add e) = Contains G.edges e
-HasItem G (Remove e) = Contains G.edges e
-HasItem G (Enter m) = Contains G.members m
-HasItem G (Leave m) = Contains G.members m
 
 -- a node that the edit declares
 abbrev pub IsNodeOf : Edit → Name → Type 0
@@ -109,13 +85,6 @@ IsNodeOf (Leave m) n = ⊥
 -- one of these nodes, or one of the edit's that the graph didn't declare
 abbrev pub IsNewNode : DataGraph → List Name → Edit → Name → Type 0
 IsNewNode B nodes e n = Contains nodes n ⊎ ((Contains B.nodes n → ⊥) × IsNodeOf e n)
-
--- no page is at the end of the edit's edge
-abbrev pub IsPlain : Edit → Type 0
-IsPlain (Add e) = IsData e.to
-IsPlain (Remove e) = IsData e.to
-IsPlain (Enter m) = ⊤
-IsPlain (Leave m) = ⊤
 
 -- whether the edit puts something in
 abbrev pub puts : Edit → Bool
@@ -137,7 +106,7 @@ turned false (Leave m) = Leave m
 
 -- H has the edges and members of G after an edit, whatever its nodes
 pub record HasItems (G : DataGraph) (e : Edit) (H : DataGraph) : Type 0 where
-  pub well_formed : IsWellFormed H
+  pub ascending : AreAscending H
   pub edges : (k : Edge) → Contains H.edges k ↔ HasEdgeAfter G e k
   pub members : (k : Member) → Contains H.members k ↔ HasMemberAfter G e k
 
@@ -147,23 +116,37 @@ IsAtom (Data (Node n)) = ⊥
 IsAtom (Data d) = ⊤
 IsAtom (Page p) = ⊤
 
--- an atom to which no edge goes
-abbrev pub IsLostValue : DataGraph → Value → Type 0
-IsLostValue L v = IsAtom v × ((s : Step) → IsStepTo L v s → ⊥)
+-- the graph with what the edit is of, or without it
+abbrev pub items_put : Bool → Edit → DataGraph → DataGraph
+items_put true e G = items_with e G
+items_put false e G = items_without e G
 
--- a label that no edge has
-abbrev pub IsLostLabel : DataGraph → Name → Type 0
-IsLostLabel L l = (e : Edge) → IsLabelled L l e → ⊥
+-- what an edit makes of what came and of what went: of what the indexed graph has, it changes what
+-- went, and else what came
+abbrev pub IsChanged : (B C D : DataGraph) → Edit → (C' D' : DataGraph) → Type 0
+IsChanged B C D e C' D' =
+    (HasItem B e × (D' ≡ items_put (not (puts e)) e D) × (C' ≡ C))
+    ⊎ ((HasItem B e → ⊥) × (C' ≡ items_put (puts e) e C) × (D' ≡ D))
 
--- the edges, with the edit's where it adds one
-abbrev pub with_edges : Edit → List Edge → List Edge
-with_edges (Add e) edges = insert_key edge_cmp edges e
-with_edges other edges = edges
+-- the nodes without those that an edit added
+abbrev pub restored : Edit → Declared → List Name → List Name
+restored (Add e) d names = without e.from d.start (without_end e.to d.end names)
+restored (Remove e) d names = names
+restored (Enter m) d names = without m.node d.start names
+restored (Leave m) d names = names
 
--- the members, with the edit's where it enters one
-abbrev pub with_members : Edit → List Member → List Member
-with_members (Enter m) members = insert_key member_cmp members m
-with_members other members = members
+-- in order, and among them the nodes and the ends of edges that came or went
+pub record AreEnds (C D : DataGraph) (nodes : List Name) (values : List Value) : Type 0 where
+  pub ascending : IsStrictlySortedBy value_cmp values
+  pub named : (n : Name) → Contains nodes n → Contains values (node n)
+  pub came : (e : Edge) → Contains C.edges e → Contains values e.to
+  pub gone : (e : Edge) → Contains D.edges e → Contains values e.to
+
+-- the same of the labels of edges
+pub record AreLabels (C D : DataGraph) (labels : List Name) : Type 0 where
+  pub ascending : IsStrictlySortedBy bytes_cmp labels
+  pub came : (e : Edge) → Contains C.edges e → Contains labels e.label
+  pub gone : (e : Edge) → Contains D.edges e → Contains labels e.label
 
 -- new has what old has, and those with P that the graph doesn't declare
 pub record NewNames (B : DataGraph) (P : Name → Type 0) (old new : List Name) : Type 0 where

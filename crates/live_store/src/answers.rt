@@ -1,7 +1,7 @@
 // What the store answers: what the index answers, without what went, and with what came.
-use crate::lists::{first_of, is_among, is_left, left, shifted};
+use crate::lists::{first_of, is_left, left, shifted};
 use crate::live::LiveStore;
-use edge_queries::{copy_names, copy_values};
+use crate::touched::{touched_labels, touched_values};
 use sd_graph::{Edge, Sizes, Step, Store};
 use sd_value::{NoMemory, Str, Value};
 use std::alloc::Global;
@@ -53,16 +53,16 @@ impl Store for LiveStore {
 
     fn values(&self, alloc: Global) -> Result<Vec<Value>, NoMemory> {
         let base = self.base.values(alloc)?;
-        let gone = copy_values(alloc, self.told.values_gone.as_slice())?;
-        let came = copy_values(alloc, self.told.values_came.as_slice())?;
-        shifted(base, gone, came)
+        let touched = touched_values(alloc, &self.came, &self.gone, &self.nodes)?;
+        let now = self.values_among(alloc, touched.as_slice())?;
+        shifted(base, touched, now)
     }
 
     fn labels(&self, alloc: Global) -> Result<Vec<Str>, NoMemory> {
         let base = self.base.labels(alloc)?;
-        let gone = copy_names(alloc, self.told.labels_gone.as_slice())?;
-        let came = copy_names(alloc, self.told.labels_came.as_slice())?;
-        shifted(base, gone, came)
+        let touched = touched_labels(alloc, &self.came, &self.gone)?;
+        let now = self.labels_among(alloc, touched.as_slice())?;
+        shifted(base, touched, now)
     }
 
     fn has_edge(&self, from: &Value, label: &Str, to: &Value) -> bool {
@@ -80,17 +80,11 @@ impl Store for LiveStore {
     }
 
     fn is_value(&self, value: &Value) -> bool {
-        let base = self.base.is_value(value);
-        let gone = is_among(self.told.values_gone.as_slice(), value);
-        let came = is_among(self.told.values_came.as_slice(), value);
-        is_left(base, gone, came)
+        self.is_node(value) || self.degree_incoming(value) > 0
     }
 
     fn is_label(&self, label: &Str) -> bool {
-        let base = self.base.is_label(label);
-        let gone = is_among(self.told.labels_gone.as_slice(), label);
-        let came = is_among(self.told.labels_came.as_slice(), label);
-        is_left(base, gone, came)
+        self.edges_of(label) > 0
     }
 
     fn sizes(&self) -> Sizes {

@@ -1,10 +1,13 @@
-//! A store that takes edits: the index of a graph as it was, beside small indexes of what came and what went since.
+//! A store that takes edits: the index of a graph as it was, beside layers of what came and what went since.
 #![tactic(auto)]
 
 mod answers;
-mod build;
+mod changes;
+mod counts;
 mod lists;
 mod live;
+mod nodes;
 mod told;
+mod touched;
 
 pub use live::LiveStore;

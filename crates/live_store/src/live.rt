@@ -1,34 +1,34 @@
 // The store, and edits of it.
-ghost use Rattle.std.specs.Prelude.{◌≡◌, ◌⊎◌, ◌+◌, IfOk, OnOk, length};
-ghost use Rattle.sd_value.specs.declared.Datum.TheVariants.{Node};
-ghost use Rattle.sd_value.specs.Order.{bytes_cmp};
-ghost use Rattle.sd_value.specs.Ascending.{ListsExactly};
-ghost use Rattle.graph_spec.specs.DataGraph.{DataGraph, node};
+ghost use Rattle.std.specs.Prelude.{◌≡◌, ◌↔◌, ◌+◌, IfOk, OnOk, IsTrue, length, Contains};
+ghost use Rattle.graph_spec.specs.DataGraph.{DataGraph, IsWellFormed};
 ghost use Rattle.sd_graph.specs.Statement.{IsWithin, Fits};
 ghost use Rattle.edit_spec.specs.Edited.{Edited, IsOfData};
-ghost use Rattle.live_store.specs.Live.{Applies, AreTold, IsNewNode, IsNodeOf, NewNames};
+ghost use Rattle.index_store.specs.Indexed.{IsNodeOf as IsOneOf};
+ghost use Rattle.live_layers.specs.Items.{HasItem};
+ghost use Rattle.live_store.specs.Live.{Applies, AreTold};
 
-use crate::build::{empty, item_is_in, puts, with_item};
-use crate::lists::{count_left, is_among};
-use crate::told::{Told, report};
-use edge_queries::copy_names;
+use crate::changes::{change, item_is_in};
+use crate::lists::{count_left, is_among, is_left};
+use crate::nodes::{declare, forget, node_of};
+use crate::told::Told;
 use edit_spec::Edit;
-use graph_spec::Edge;
 use index_store::IndexStore;
-use sd_graph::{Graph, GraphRefusal, Limits};
-use sd_value::{Datum, NoMemory, Str, Value, sort_and_dedup};
+use live_layers::Layer;
+use sd_graph::{Graph, GraphRefusal, Limits, Store};
+use sd_value::{NoMemory, Str, Value};
 use std::alloc::Global;
+use std::collections::BTreeSet;
 use std::marker::Model;
 
-/// A graph that takes edits, within limits: the index of the graph at some time, indexes of what came and of what went
-/// since, and the nodes that were declared since.
+/// A graph that takes edits, within limits: the index of the graph at some time, what came and what went since, the
+/// nodes that were declared since, and how large the graph is.
 #[derive(Debug)]
 pub struct LiveStore {
     pub(crate) limits: Limits,
     pub(crate) base: IndexStore,
-    pub(crate) came: IndexStore,
-    pub(crate) gone: IndexStore,
-    pub(crate) nodes: Vec<Str>,
+    pub(crate) came: Layer,
+    pub(crate) gone: Layer,
+    pub(crate) nodes: BTreeSet<Str>,
     pub(crate) told: Told,
 }
 
@@ -41,7 +41,7 @@ impl Drop for LiveStore {
             came: _came,
             gone: _gone,
             nodes: _nodes,
-            told: _told,
+            told: _,
         } = self;
     }
 }
@@ -54,119 +54,18 @@ impl Model for LiveStore {
 
     ghost view = { λ s. record {
       limits = s.limits;
-      graph = changed s.base s.came s.gone s.nodes.items;
+      graph = changed s.base s.came s.gone s.nodes.keys;
     } };
 
     ghost invariant = { λ s. IsLive (record {
       limits = s.limits;
-      graph = changed s.base s.came s.gone s.nodes.items;
-    }) s.base s.came s.gone s.nodes.items s.told };
-}
-
-// The name beside others, unless the store declares it.
-fn push_new_name(
-    alloc: Global,
-    base: &IndexStore,
-    names: &mut Vec<Str>,
-    name: &Str,
-) -> Result<(), NoMemory>
-    ensures { OnOk result (NewNames base.now (λ n. n ≡ name.now) names.old.items names.new.items) }
-{
-    if is_among(base.graph().nodes(), name) {
-        return Ok(());
-    }
-    names.push(name.copy(alloc)?)?;
-    Ok(())
-}
-
-// The datum's name beside others, where it is a node that the store doesn't declare.
-fn push_datum(
-    alloc: Global,
-    base: &IndexStore,
-    names: &mut Vec<Str>,
-    datum: &Datum,
-) -> Result<(), NoMemory>
-    ensures { OnOk result (NewNames base.now (λ n. datum.now ≡ Node n) names.old.items
-        names.new.items) }
-{
-    match datum {
-        Datum::Node(name) => {
-            push_new_name(alloc, base, names, name)?;
-            Ok(())
-        }
-        Datum::Int(_) | Datum::Text(_) | Datum::Url(_) | Datum::File(_) => Ok(()),
-    }
-}
-
-// The value's name beside others, where it is a node that the store doesn't declare.
-fn push_end(
-    alloc: Global,
-    base: &IndexStore,
-    names: &mut Vec<Str>,
-    value: &Value,
-) -> Result<(), NoMemory>
-    ensures { OnOk result (NewNames base.now (λ n. value.now ≡ node n) names.old.items
-        names.new.items) }
-{
-    match value {
-        Value::Data(datum) => {
-            push_datum(alloc, base, names, datum)?;
-            Ok(())
-        }
-        Value::Page(_) => Ok(()),
-    }
-}
-
-// The nodes of the edge beside others, unless the store declares them.
-fn push_ends(
-    alloc: Global,
-    base: &IndexStore,
-    names: &mut Vec<Str>,
-    edge: &Edge,
-) -> Result<(), NoMemory>
-    ensures { OnOk result (NewNames base.now (λ n. (n ≡ edge.now.from) ⊎ (edge.now.to ≡ node n))
-        names.old.items names.new.items) }
-{
-    push_new_name(alloc, base, names, &edge.from)?;
-    push_end(alloc, base, names, &edge.to)?;
-    Ok(())
-}
-
-// The nodes of the edit beside others, unless the store declares them.
-fn push_nodes(
-    alloc: Global,
-    base: &IndexStore,
-    names: &mut Vec<Str>,
-    edit: &Edit,
-) -> Result<(), NoMemory>
-    ensures { OnOk result (NewNames base.now (IsNodeOf edit.now) names.old.items names.new.items) }
-{
-    match edit {
-        Edit::Add(edge) => push_ends(alloc, base, names, edge),
-        Edit::Enter(member) => push_new_name(alloc, base, names, &member.node),
-        Edit::Remove(_) | Edit::Leave(_) => Ok(()),
-    }
-}
-
-// The nodes that were declared since, and those of the edit.
-fn declared(
-    alloc: Global,
-    base: &IndexStore,
-    nodes: &[Str],
-    edit: &Edit,
-) -> Result<Vec<Str>, NoMemory>
-    ensures { IfOk result (λ names. ListsExactly bytes_cmp (IsNewNode base.now nodes.now edit.now)
-        names.items) }
-{
-    let mut names = copy_names(alloc, nodes)?;
-    push_nodes(alloc, base, &mut names, edit)?;
-    sort_and_dedup(&mut names);
-    Ok(names)
+      graph = changed s.base s.came s.gone s.nodes.keys;
+    }) s.base s.came s.gone s.nodes.keys s.told };
 }
 
 // Whether there is room for a graph of this size.
 fn check_room(limits: Limits, told: &Told) -> Result<(), GraphRefusal>
-    ensures { (B L : DataGraph) → AreTold B L told.now
+    ensures { (L : DataGraph) → AreTold L told.now
         → Fits limits (length L.nodes) (length L.edges + length L.members) result }
 {
     let edges = count_left(told.sizes.edges, 0, told.members)?;
@@ -187,18 +86,16 @@ impl LiveStore {
     {
         // With its edges a graph says that it is well formed, which the store's answers rest on.
         let _edges = graph.edges();
+        let members = graph.member_pairs().len() as u64;
         let base = IndexStore::of(alloc, graph)?;
-        let came = empty(alloc)?;
-        let gone = empty(alloc)?;
-        let nodes = Vec::new(alloc);
-        let told = report(alloc, &base, &came, &gone, nodes.as_slice())?;
+        let sizes = base.sizes();
         Ok(LiveStore {
             limits,
             base,
-            came,
-            gone,
-            nodes,
-            told,
+            came: Layer::new(alloc),
+            gone: Layer::new(alloc),
+            nodes: BTreeSet::new(alloc),
+            told: Told { sizes, members },
         })
     }
 
@@ -207,6 +104,45 @@ impl LiveStore {
         ensures { result ≡ self.now.limits }
     {
         self.limits
+    }
+
+    /// How many members the graph has.
+    pub(crate) fn member_count(&self) -> u64
+        ensures { result ≡ length self.now.graph.members }
+    {
+        self.told.members
+    }
+
+    /// Whether the graph declares this node.
+    pub(crate) fn has_node(&self, name: &Str) -> bool
+        ensures is { IsTrue result ↔ Contains self.now.graph.nodes name.now }
+        ensures well_formed { IsWellFormed self.now.graph }
+    {
+        let base = is_among(self.base.graph().nodes(), name);
+        base || self.nodes.contains(name)
+    }
+
+    /// Whether the value is a node that the graph declares.
+    pub(crate) fn is_node(&self, value: &Value) -> bool
+        ensures is { IsTrue result ↔ IsOneOf self.now.graph.nodes value.now }
+        ensures well_formed { IsWellFormed self.now.graph }
+    {
+        // With its size a store says that its graph is well formed.
+        let _sizes = self.sizes();
+        match node_of(value) {
+            Some(name) => self.has_node(name),
+            None => false,
+        }
+    }
+
+    /// Whether the graph has what the edit is of.
+    pub(crate) fn has_item(&self, edit: &Edit) -> bool
+        ensures { IsTrue result ↔ HasItem self.now.graph edit.now }
+    {
+        let base = item_is_in(&self.base, edit);
+        let gone = self.gone.has_item(edit);
+        let came = self.came.has_item(edit);
+        is_left(base, gone, came)
     }
 
     /// Makes an edit of the graph. Adding what is there and removing what isn't changes nothing.
@@ -218,24 +154,18 @@ impl LiveStore {
         ensures applies { Applies edit.now self.old self.new result }
         ensures edited { OnOk result (Edited self.old.graph edit.now self.new.graph) }
     {
-        let nodes = declared(alloc, &self.base, self.nodes.as_slice(), edit)?;
-        if item_is_in(&self.base, edit) {
-            let gone = with_item(alloc, self.gone.graph(), edit, !puts(edit))?;
-            let all = nodes.as_slice();
-            let told = report(alloc, &self.base, &self.came, &gone, all)?;
-            check_room(self.limits, &told)?;
-            self.gone = gone;
-            self.nodes = nodes;
-            self.told = told;
-            return Ok(());
-        }
-        let came = with_item(alloc, self.came.graph(), edit, puts(edit))?;
-        let names = nodes.as_slice();
-        let told = report(alloc, &self.base, &came, &self.gone, names)?;
+        let told = self.told_after(edit)?;
         check_room(self.limits, &told)?;
-        self.came = came;
-        self.nodes = nodes;
-        self.told = told;
-        Ok(())
+        let declared = declare(alloc, &self.base, &mut self.nodes, edit)?;
+        match change(alloc, &self.base, &mut self.came, &mut self.gone, edit) {
+            Ok(()) => {
+                self.told = told;
+                Ok(())
+            }
+            Err(NoMemory) => {
+                forget(&mut self.nodes, edit, declared);
+                Err(GraphRefusal::NoMemory)
+            }
+        }
     }
 }

@@ -1,5 +1,10 @@
 pub mod Told
 pub mod Maps
 pub mod Conflicts
-pub mod Grouped
+pub mod Kindless
+pub mod Plainly
+pub mod Counted
+pub mod Objects
+pub mod Sorted
+pub mod Walked
 pub mod StartLaws

@@ -1,4 +1,5 @@
 pub mod Parts
+pub mod Plain
 pub mod Kinds
 pub mod Tables
 pub mod Steps

@@ -63,8 +63,8 @@ pub(crate) fn first_conflict(
     Ok(None)
 }
 
-// What adding something answers at a place.
-fn stop_at(answer: Result<(), GraphRefusal>, place: u64) -> Result<(), Stop>
+/// What adding something answers at a place.
+pub(crate) fn stop_at(answer: Result<(), GraphRefusal>, place: u64) -> Result<(), Stop>
     ensures { stop_ending result ≡ ending_at place answer }
 {
     match answer {
@@ -85,8 +85,12 @@ fn kinded(kind: Kind, text: Str) -> Value
     }
 }
 
-// The value of an attribute, unless it has two kinds.
-fn value_of(alloc: Global, told: Told, content: &Content) -> Result<Option<Value>, NoMemory>
+/// The value of an attribute, unless it has two kinds.
+pub(crate) fn value_of(
+    alloc: Global,
+    told: Told,
+    content: &Content,
+) -> Result<Option<Value>, NoMemory>
     ensures value { IfOk result (λ v. v ≡ value_of told content.now) }
     ensures data { IfOk result (λ v. IfSome v IsData) }
 {
@@ -102,8 +106,8 @@ fn value_of(alloc: Global, told: Told, content: &Content) -> Result<Option<Value
     }
 }
 
-// Adds an attribute of an object.
-fn add_edge(
+/// Adds an attribute of an object.
+pub(crate) fn add_edge(
     alloc: Global,
     object: &Str,
     label: &Str,

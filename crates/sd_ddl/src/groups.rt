@@ -1,62 +1,52 @@
-// Items by the node that they belong to.
-ghost use Rattle.std.specs.Prelude.{◌≡◌, ◌∷◌, ◌++◌, [], OnOk, IfOk, false};
-ghost use Rattle.sd_ddl.specs.Kinds.{Name, same_name};
-ghost use Rattle.sd_ddl.specs.Groups.{items_of};
-ghost use Rattle.sd_ddl.specs.Written.{collections_of};
+// Members by node, and what a node has at the front of a list that is by node.
+ghost use Rattle.std.specs.Prelude.{◌≡◌, IfOk, map};
+ghost use Rattle.std.specs.List.{prefix_len};
+ghost use Rattle.sd_ddl.specs.Groups.{start_is, node_is, IsByNode};
 
-use sd_graph::Member;
+use sd_graph::{Edge, Member};
 use sd_value::{NoMemory, Str};
 use std::alloc::Global;
-use std::collections::BTreeMap;
 
-/// Items by the node that they belong to, each node's in the order in which they came.
-#[derive(Drop)]
-pub(crate) struct Groups<T> {
-    of: BTreeMap<Str, Vec<T>>,
-}
-
-impl<T: Drop> Groups<T> {
-    /// No items.
-    pub(crate) fn new(alloc: Global) -> Groups<T>
-        ensures { (n : Name) → items_of result n ≡ [] }
-    {
-        Groups {
-            of: BTreeMap::new(alloc),
-        }
-    }
-
-    /// One more item of a node.
-    pub(crate) fn add(&mut self, alloc: Global, node: &Str, item: T) -> Result<(), NoMemory>
-        ensures here { OnOk result
-            (items_of self.new node.now ≡ items_of self.old node.now ++ item ∷ []) }
-        ensures others { OnOk result
-            ((n : Name) → same_name node.now n ≡ false
-            → items_of self.new n ≡ items_of self.old n) }
-    {
-        let items = self.of.entry(node.copy(alloc)?)?.or_insert(Vec::new(alloc));
-        items.push(item)?;
-        Ok(())
-    }
-
-    /// The items of a node.
-    pub(crate) fn at(&self, node: &Str) -> &[T]
-        ensures { result.now ≡ items_of self.now node.now }
-    {
-        match self.of.get(node) {
-            Some(items) => items.as_slice(),
-            None => &[],
-        }
-    }
-}
-
-/// The collections of each node.
-pub(crate) fn group_members(alloc: Global, members: &[Member]) -> Result<Groups<Str>, NoMemory>
-    ensures { IfOk result
-        (λ groups. (n : Name) → items_of groups n ≡ collections_of members.now n) }
+/// The members by node, and each node's by collection.
+pub(crate) fn by_node(alloc: Global, members: &[Member]) -> Result<Vec<&Member>, NoMemory>
+    ensures { IfOk result (λ sorted. IsByNode members.now sorted.items) }
 {
-    let mut groups = Groups::new(alloc);
+    let mut sorted = references(alloc, members)?;
+    sorted.sort_by(|a: &&Member, b: &&Member| a.node.cmp(&b.node))?;
+    Ok(sorted)
+}
+
+fn references(alloc: Global, members: &[Member]) -> Result<Vec<&Member>, NoMemory>
+    ensures { IfOk result (λ all. map (λ m. m.now) all.items ≡ members.now) }
+{
+    let mut all = Vec::with_capacity(alloc, members.len())?;
     for member in members {
-        groups.add(alloc, &member.node, member.collection.copy(alloc)?)?;
+        all.push(member)?;
     }
-    Ok(groups)
+    Ok(all)
+}
+
+/// How many edges at the front start at the node. (Short texts are put in order in half the time in which they are told
+/// to be equal.)
+pub(crate) fn edges_at(edges: &[Edge], node: &Str) -> usize
+    ensures { result ≡ prefix_len (start_is node.now) edges.now }
+{
+    for (i, edge) in edges.iter().enumerate() {
+        if edge.from.cmp(node).is_ne() {
+            return i;
+        }
+    }
+    edges.len()
+}
+
+/// How many members at the front are the node's.
+pub(crate) fn members_at(members: &[&Member], node: &Str) -> usize
+    ensures { result ≡ prefix_len (node_is node.now) members.now }
+{
+    for (i, member) in members.iter().enumerate() {
+        if member.node.cmp(node).is_ne() {
+            return i;
+        }
+    }
+    members.len()
 }

@@ -6,6 +6,7 @@ mod conflict;
 mod groups;
 mod kinds;
 mod part;
+mod plain;
 mod reading;
 mod refusal;
 mod writing;

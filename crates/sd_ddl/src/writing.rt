@@ -1,17 +1,14 @@
 // A data graph as it is written.
-ghost use Rattle.std.specs.Prelude.{◌≡◌, ◌∷◌, ◌++◌, [], OnOk, IfOk, IfSome, IfNone, map};
+ghost use Rattle.std.specs.Prelude.{◌≡◌, ◌∷◌, ◌++◌, [], OnOk, IfSome, IfNone, IsTrue, map};
 ghost use Rattle.std.specs.List.{flat_map};
 ghost use Rattle.std.specs.Fmt.{signed_decimal};
-ghost use Rattle.sd_ddl.specs.Kinds.{Name};
-ghost use Rattle.sd_ddl.specs.Groups.{items_of};
+ghost use Rattle.sd_ddl.specs.Groups.{collection_in, IsByNode};
 ghost use Rattle.sd_ddl.specs.Written.{quoted_byte, quoted, value_text, step_of, step_line, further_text, in_text};
-ghost use Rattle.sd_ddl.specs.Written.{object_text, collections_of, steps_out, graph_text};
+ghost use Rattle.sd_ddl.specs.Written.{object_text, graph_text};
 
-use crate::groups::{Groups, group_members};
-use edge_queries::OutAll;
+use crate::groups::{by_node, edges_at, members_at};
 use itoa::Buffer;
-use list_lookup::part;
-use sd_graph::{Edge, Graph};
+use sd_graph::{Edge, Graph, Member};
 use sd_value::{Datum, NoMemory, Str, Value};
 use std::alloc::Global;
 
@@ -40,14 +37,44 @@ fn push_byte(out: &mut Vec<u8>, byte: u8) -> Result<(), NoMemory>
     Ok(())
 }
 
+// Whether each byte stands for itself in quotes, as in most texts.
+fn is_plain(bytes: &[u8]) -> bool
+    ensures { IsTrue result → flat_map quoted_byte bytes.now ≡ bytes.now }
+{
+    for byte in bytes {
+        if escape(*byte).is_some() {
+            return false;
+        }
+    }
+    true
+}
+
+fn push_escaped(out: &mut Vec<u8>, bytes: &[u8]) -> Result<(), NoMemory>
+    ensures { OnOk result (out.new.items ≡ out.old.items ++ flat_map quoted_byte bytes.now) }
+{
+    for byte in bytes {
+        push_byte(out, *byte)?;
+    }
+    Ok(())
+}
+
+// What is between the quotes.
+fn push_inner(out: &mut Vec<u8>, bytes: &[u8]) -> Result<(), NoMemory>
+    ensures { OnOk result (out.new.items ≡ out.old.items ++ flat_map quoted_byte bytes.now) }
+{
+    if !is_plain(bytes) {
+        return push_escaped(out, bytes);
+    }
+    out.extend_from_slice(bytes)?;
+    Ok(())
+}
+
 fn push_quoted(out: &mut Vec<u8>, text: &Str) -> Result<(), NoMemory>
     ensures { OnOk result (out.new.items ≡ out.old.items ++ quoted text.now) }
 {
-    out.extend_from_slice(b"\"")?;
-    for byte in text.bytes() {
-        push_byte(out, *byte)?;
-    }
-    out.extend_from_slice(b"\"")?;
+    out.push(b'"')?;
+    push_inner(out, text.bytes())?;
+    out.push(b'"')?;
     Ok(())
 }
 
@@ -96,22 +123,25 @@ fn push_further_name(out: &mut Vec<u8>, name: &Str) -> Result<(), NoMemory>
     push_kinded(out, b", ", name)
 }
 
-fn push_further(out: &mut Vec<u8>, names: &[Str]) -> Result<(), NoMemory>
-    ensures { OnOk result (out.new.items ≡ out.old.items ++ flat_map further_text names.now) }
+fn push_further(out: &mut Vec<u8>, members: &[&Member]) -> Result<(), NoMemory>
+    ensures { OnOk result
+        (out.new.items ≡ out.old.items ++ flat_map further_text (map collection_in members.now)) }
 {
-    for name in names {
-        push_further_name(out, name)?;
+    for member in members {
+        push_further_name(out, &member.collection)?;
     }
     Ok(())
 }
 
-fn push_collections(out: &mut Vec<u8>, names: &[Str]) -> Result<(), NoMemory>
-    ensures { OnOk result (out.new.items ≡ out.old.items ++ in_text names.now) }
+// The collections of a node, whose members these are.
+fn push_collections(out: &mut Vec<u8>, members: &[&Member]) -> Result<(), NoMemory>
+    ensures { OnOk result
+        (out.new.items ≡ out.old.items ++ in_text (map collection_in members.now)) }
 {
-    match names {
+    match members {
         [] => Ok(()),
         [first, others @ ..] => {
-            push_kinded(out, b" in ", first)?;
+            push_kinded(out, b" in ", &first.collection)?;
             push_further(out, others)
         }
     }
@@ -130,45 +160,37 @@ fn push_edges(out: &mut Vec<u8>, edges: &[Edge]) -> Result<(), NoMemory>
 fn push_object(
     out: &mut Vec<u8>,
     node: &Str,
-    collections: &[Str],
+    members: &[&Member],
     edges: &[Edge],
 ) -> Result<(), NoMemory>
     ensures { OnOk result (out.new.items
-        ≡ out.old.items ++ object_text node.now collections.now (map step_of edges.now)) }
+        ≡ out.old.items
+        ++ object_text node.now (map collection_in members.now) (map step_of edges.now)) }
 {
     push_kinded(out, b"object ", node)?;
-    push_collections(out, collections)?;
+    push_collections(out, members)?;
     out.extend_from_slice(b" {\n")?;
     push_edges(out, edges)?;
     out.extend_from_slice(b"}\n")?;
     Ok(())
 }
 
-// The edges from a node, which stand together, as edges are by their starts.
-fn edges_from<'a>(alloc: Global, graph: &'a Graph, node: &Str) -> Result<&'a [Edge], NoMemory>
-    ensures { IfOk result (λ edges. map step_of edges.now ≡ steps_out graph.now.edges node.now) }
-{
-    let from = Value::Data(Datum::Node(node.copy(alloc)?));
-    Ok(part(graph.edges(), &OutAll { from: &from }))
-}
-
-// The objects of a graph, whose members are grouped.
-fn push_nodes(
-    alloc: Global,
-    out: &mut Vec<u8>,
-    graph: &Graph,
-    collections: &Groups<Str>,
-) -> Result<(), NoMemory>
-    requires { (n : Name) → items_of collections.now n ≡ collections_of graph.now.members n }
+// The objects of a graph, whose members are by node. Nodes, edges and members are in one order, so that what a node
+// has is at the front of what is left of them.
+fn push_nodes(out: &mut Vec<u8>, graph: &Graph, sorted: &[&Member]) -> Result<(), NoMemory>
+    requires { IsByNode graph.now.members sorted.now }
     ensures { OnOk result (out.new.items ≡ out.old.items ++ graph_text graph.now) }
 {
+    let mut members_done = 0;
+    let mut edges_done = 0;
     for node in graph.nodes() {
-        push_object(
-            out,
-            node,
-            collections.at(node),
-            edges_from(alloc, graph, node)?,
-        )?;
+        let members = &sorted[members_done..];
+        let edges = &graph.edges()[edges_done..];
+        let own_members = members_at(members, node);
+        let own_edges = edges_at(edges, node);
+        push_object(out, node, &members[..own_members], &edges[..own_edges])?;
+        members_done += own_members;
+        edges_done += own_edges;
     }
     Ok(())
 }
@@ -177,6 +199,6 @@ fn push_nodes(
 pub fn write_ddl(alloc: Global, graph: &Graph, out: &mut Vec<u8>) -> Result<(), NoMemory>
     ensures { OnOk result (out.new.items ≡ out.old.items ++ graph_text graph.now) }
 {
-    let collections = group_members(alloc, graph.member_pairs())?;
-    push_nodes(alloc, out, graph, &collections)
+    let sorted = by_node(alloc, graph.member_pairs())?;
+    push_nodes(out, graph, sorted.as_slice())
 }

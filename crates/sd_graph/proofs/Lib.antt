@@ -1,3 +1,5 @@
+pub mod ByHash
+pub mod Bare
 pub mod Copied
-pub mod Kept
 pub mod Gathering
+pub mod Taken

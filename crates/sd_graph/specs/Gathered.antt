@@ -9,6 +9,10 @@ use Rattle.sd_graph.specs.declared.gathered.Gathered.{Gathered}
 abbrev pub insert_all : {X : Type 0} → (X → X → Ordering) → List X → List X → List X
 insert_all R keys xs = fold (insert_key R) keys xs
 
+-- the elements of a list in their order, each once
+abbrev pub in_order : {X : Type 0} → (X → X → Ordering) → List X → List X
+in_order R xs = insert_all R [] xs
+
 -- what is in order, with what came since
 abbrev pub elements : {X : Type 0} → (X → X → Ordering) → Gathered X → List X
 elements R set = insert_all R set.ordered.keys set.fresh.items

@@ -1,5 +1,5 @@
 // Building a graph, within limits.
-ghost use Rattle.std.specs.Prelude.{◌≡◌, ◌⊎◌, IfOk, Ok, Err, ⊤, if◌then◌else◌, Result};
+ghost use Rattle.std.specs.Prelude.{◌≡◌, ◌⊎◌, ◌↔◌, IfOk, IsTrue, Ok, Err, ⊤, if◌then◌else◌, Result};
 ghost use Rattle.std.specs.Result.{is_ok};
 ghost use Rattle.sd_graph.specs.declared.GraphRefusal.{GraphRefusal as Refusal};
 ghost use Rattle.sd_graph.specs.declared.GraphRefusal.TheVariants.{NoMemory as OutOfMemory};
@@ -7,7 +7,7 @@ ghost use Rattle.sd_graph.specs.Statement.{Statement, Building, a_node, a_member
 ghost use Rattle.sd_graph.specs.Statement.{with_name, with_end, IsEmpty, IsBuilt};
 ghost use Rattle.sd_graph.specs.Undone.{without, without_end};
 
-use crate::gathered::{Gathered, listed};
+use crate::gathered::Gathered;
 use crate::graph::Graph;
 use crate::names::Names;
 use crate::room::put;
@@ -144,6 +144,13 @@ impl GraphBuilder {
         self.limits
     }
 
+    /// Whether nothing is stated yet.
+    pub fn is_empty(&self) -> bool
+        ensures { IsTrue result ↔ IsEmpty self.now.graph }
+    {
+        self.nodes.len() == 0
+    }
+
     /// Declares a node.
     ///
     /// `TooManyNodes` comes exactly where the graph would have more nodes than the limit. A refusal changes nothing.
@@ -241,7 +248,7 @@ impl GraphBuilder {
             edges,
             members,
         } = self;
-        let nodes = listed(alloc, nodes.into_set())?;
+        let nodes = nodes.into_list(alloc)?;
         let edges = edges.into_list(alloc)?;
         let members = members.into_list(alloc)?;
         Ok(Graph::of(nodes, edges, members))

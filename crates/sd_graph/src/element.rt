@@ -2,7 +2,7 @@
 ghost use Rattle.std.specs.Prelude.{◌≡◌, IfOk};
 
 use graph_spec::{Edge, Member};
-use sd_value::{ExactOrd, NoMemory, Str, copy};
+use sd_value::{ExactOrd, NoMemory, copy};
 use std::alloc::Global;
 
 /// What an ordered set of a graph has.
@@ -10,12 +10,6 @@ pub(crate) trait Element: ExactOrd + Drop {
     /// An equal element. Its texts share their bytes with this one's.
     fn copied(&self, alloc: Global) -> Result<Self, NoMemory>
         ensures { IfOk result (λ element. element ≡ self.now) };
-}
-
-impl Element for Str {
-    fn copied(&self, alloc: Global) -> Result<Str, NoMemory> {
-        self.copy(alloc)
-    }
 }
 
 impl Element for Edge {

@@ -49,8 +49,8 @@ fn ascending<K: Element>(items: Vec<K>) -> Result<Vec<K>, NoMemory>
     Ok(list)
 }
 
-/// The elements of a set, ascending.
-pub(crate) fn listed<K: Element>(alloc: Global, set: BTreeSet<K>) -> Result<Vec<K>, NoMemory>
+// The elements of a set, ascending.
+fn listed<K: Element>(alloc: Global, set: BTreeSet<K>) -> Result<Vec<K>, NoMemory>
     ensures { IfOk result (λ items. items.items ≡ set.keys) }
 {
     let mut items = Vec::with_capacity(alloc, set.len())?;
@@ -87,8 +87,8 @@ fn copied_list<K: Element>(alloc: Global, items: &[K]) -> Result<Vec<K>, NoMemor
     Ok(copied)
 }
 
-/// An equal set.
-pub(crate) fn copied<K: Element>(alloc: Global, set: &BTreeSet<K>) -> Result<BTreeSet<K>, NoMemory>
+// An equal set.
+fn copied<K: Element>(alloc: Global, set: &BTreeSet<K>) -> Result<BTreeSet<K>, NoMemory>
     ensures { IfOk result (λ copied. copied.keys ≡ set.now.keys) }
 {
     let mut copied = BTreeSet::new(alloc);

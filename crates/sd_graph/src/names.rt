@@ -1,36 +1,38 @@
 // A set of names, in which the name that was begun last is known without a look.
-ghost use Rattle.std.specs.Prelude.{◌≡◌, ◌<◌, ◌^◌, IfOk, OnOk, IsTrue, ◌↔◌, Some, length, if◌then◌else◌, []};
-ghost use Rattle.std.specs.List.Sorted.{IsStrictlySortedBy};
+ghost use Rattle.std.specs.Prelude.{◌≡◌, ◌<◌, ◌^◌, IfOk, IsTrue, ◌↔◌, Some, length, if◌then◌else◌, [], Contains};
+ghost use Rattle.std.specs.List.{IsDistinct};
+ghost use Rattle.std.specs.Ordering.{eq_by_cmp};
 ghost use Rattle.std.specs.Result.{is_ok};
 ghost use Rattle.sd_value.specs.Order.{bytes_cmp};
+ghost use Rattle.graph_spec.specs.DataGraph.{Name};
+ghost use Rattle.sd_graph.specs.Gathered.{in_order};
 ghost use Rattle.sd_graph.specs.Statement.{with_name};
 ghost use Rattle.sd_graph.specs.Undone.{without, IsUndoneBy};
 
-use crate::gathered::copied;
+use indexmap::IndexSet;
 use sd_value::{NoMemory, Str};
 use std::alloc::Global;
-use std::collections::BTreeSet;
 use std::marker::Model;
 
-/// A set of names. Data speak of one node again and again, so the name that was begun last is kept beside them.
+/// A set of names. They are found by hash, and put in order once, at the end. Data speak of one node again and
+/// again, so the name that was begun last is kept beside them.
 #[derive(Debug, Drop)]
 pub(crate) struct Names {
-    set: BTreeSet<Str>,
+    set: IndexSet<Str>,
     latest: Option<Str>,
 }
 
 impl Model for Names {
     ghost use Rattle.std.specs.Prelude.{List, Contains, IfSome};
-    ghost use Rattle.std.specs.List.Sorted.{IsStrictlySortedBy};
     ghost use Rattle.sd_value.specs.Order.{bytes_cmp};
     ghost use Rattle.graph_spec.specs.DataGraph.{Name};
+    ghost use Rattle.sd_graph.specs.Gathered.{in_order};
 
     ghost Value = { List Name };
 
-    ghost view = { λ n. n.set.keys };
+    ghost view = { λ n. in_order bytes_cmp n.set.keys };
 
-    ghost invariant = { λ n. IsStrictlySortedBy bytes_cmp n.set.keys
-        × IfSome n.latest (Contains n.set.keys) };
+    ghost invariant = { λ n. IfSome n.latest (Contains n.set.keys) };
 }
 
 impl Names {
@@ -38,7 +40,7 @@ impl Names {
         ensures { result ≡ [] }
     {
         Names {
-            set: BTreeSet::new(alloc),
+            set: IndexSet::new(alloc),
             latest: None,
         }
     }
@@ -75,13 +77,13 @@ impl Names {
         Ok(added)
     }
 
-    /// Takes a name out again, if it was added.
+    /// Takes a name out again, if it was added. No name moves where it came last.
     pub(crate) fn forget(&mut self, name: &Str, added: bool)
         ensures { self.new ≡ without name.now added self.old }
     {
         if added {
             self.latest = None;
-            self.set.remove(name);
+            self.set.swap_remove(name);
         }
     }
 
@@ -94,10 +96,12 @@ impl Names {
     }
 
     /// The names, ascending.
-    pub(crate) fn into_set(self) -> BTreeSet<Str>
-        ensures { result.keys ≡ self }
+    pub(crate) fn into_list(self, alloc: Global) -> Result<Vec<Str>, NoMemory>
+        ensures { IfOk result (λ list. list.items ≡ self) }
     {
-        self.set
+        let mut list = listed(alloc, self.set)?;
+        list.sort()?;
+        Ok(list)
     }
 }
 
@@ -112,12 +116,39 @@ fn is_name(latest: &Option<Str>, name: &Str) -> bool
 }
 
 // Adds a name, and reports whether it is new. On `Err` nothing has changed.
-fn declare(alloc: Global, names: &mut BTreeSet<Str>, name: &Str) -> Result<bool, NoMemory>
-    ensures names { names.new.keys
-        ≡ (if is_ok result then with_name name.now names.old.keys else names.old.keys) }
-    ensures added { IfOk result (λ added. IsUndoneBy name.now added names.old.keys names.new.keys) }
-    ensures ordered { OnOk result (IsStrictlySortedBy bytes_cmp names.new.keys) }
+fn declare(alloc: Global, names: &mut IndexSet<Str>, name: &Str) -> Result<bool, NoMemory>
+    ensures names { in_order bytes_cmp names.new.keys
+        ≡ (if is_ok result then with_name name.now (in_order bytes_cmp names.old.keys)
+        else in_order bytes_cmp names.old.keys) }
+    ensures added { IfOk result
+        (λ added. IsUndoneBy name.now added (in_order bytes_cmp names.old.keys)
+        (in_order bytes_cmp names.new.keys)) }
+    ensures kept { (n : Name) → Contains names.old.keys n → Contains names.new.keys n }
 {
     let added = names.insert(name.copy(alloc)?)?;
     Ok(added)
+}
+
+// The same names.
+fn copied(alloc: Global, names: &IndexSet<Str>) -> Result<IndexSet<Str>, NoMemory>
+    ensures { IfOk result
+        (λ copied. in_order bytes_cmp copied.keys ≡ in_order bytes_cmp names.now.keys) }
+{
+    let mut copied = IndexSet::with_capacity(alloc, names.len())?;
+    for name in names.as_slice() {
+        declare(alloc, &mut copied, name)?;
+    }
+    Ok(copied)
+}
+
+// The names as they came.
+fn listed(alloc: Global, names: IndexSet<Str>) -> Result<Vec<Str>, NoMemory>
+    ensures same { IfOk result (λ list. list.items ≡ names.keys) }
+    ensures distinct { IfOk result (λ list. IsDistinct (eq_by_cmp bytes_cmp) list.items) }
+{
+    let mut list = Vec::with_capacity(alloc, names.len())?;
+    for name in names {
+        list.push(name)?;
+    }
+    Ok(list)
 }

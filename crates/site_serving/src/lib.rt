@@ -76,8 +76,8 @@ fn serve_inputs<W: Wire>(
 /// Serves the pages of the site of the query over the data to the connections of a wire, within the limits. The data that an
 /// accepted data text makes replace all data; with a first query these are the graph of its site over the data that the
 /// text states. Without one an edit for whose graph there is room is made of the current data, and the kept pages that it
-/// can touch are dropped, and no others. Any other text changes nothing. Whatever the pages are made from, their bytes are the same. It never calls
-/// `listen` and `watch`.
+/// can touch are dropped, and no others. Any other text changes nothing. Whatever the pages are made from, their bytes are
+/// the same. It never calls `listen` and `watch`.
 pub fn serve_site<W: Wire>(
     alloc: Global,
     inputs: SiteInputs,

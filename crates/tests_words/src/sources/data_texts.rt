@@ -66,6 +66,42 @@ const REFUSALS: &[RefusalRow] = &[
         edges: 0,
         refusal: Some(DdlRefusal::TooManyEdges(12)),
     },
+    RefusalRow {
+        text: b"object a { } object b {",
+        nodes: 9,
+        edges: 9,
+        refusal: Some(DdlRefusal::Expected(23)),
+    },
+    RefusalRow {
+        text: b"object a { } }",
+        nodes: 9,
+        edges: 9,
+        refusal: Some(DdlRefusal::Expected(13)),
+    },
+    RefusalRow {
+        text: b"object a { } object b { v \"x",
+        nodes: 9,
+        edges: 9,
+        refusal: Some(DdlRefusal::OpenString(26)),
+    },
+    RefusalRow {
+        text: b"object a { } object b { v &c }",
+        nodes: 2,
+        edges: 9,
+        refusal: Some(DdlRefusal::TooManyNodes(26)),
+    },
+    RefusalRow {
+        text: b"// no object",
+        nodes: 9,
+        edges: 9,
+        refusal: None,
+    },
+    RefusalRow {
+        text: b"\xef\xbb\xbfobject a { } // }",
+        nodes: 9,
+        edges: 9,
+        refusal: None,
+    },
 ];
 
 fn answer(alloc: Global, row: &RefusalRow) -> Option<DdlRefusal> {

@@ -1,5 +1,11 @@
-use Rattle.bindings.proofs.Told.{told_more}
+use Rattle.bindings.proofs.Told.{some-told, told_more}
 use Rattle.bindings.proofs.some_rows.add_witness.Goals as goal
+
+pub returns-then-contains-clause-adds : goal.returns-then-contains-clause-adds
+returns-then-contains-clause-adds g c wanted same told =
+    let there = c.if-contains.true in
+    let says = c.contains.ensures in
+    some-told wanted _ c.args.told.now.rows.items c.args.part.items (told c.args.part cc) (λ t f. same t f.agrees)
 
 pub returns-in_ok-insert-clause-told : goal.returns-in_ok-insert-clause-told
 returns-in_ok-insert-clause-told g c wanted same told =

@@ -1,5 +1,10 @@
+use Rattle.store.specs.First.{first-sound}
+use Rattle.candidate_values.proofs.InGraph.{edge_start}
 use Rattle.bindings.proofs.Tries.{tried}
 use Rattle.bindings.proofs.witness.first_before.Goals as goal
+
+pub settle-requires-clause-in_graph : goal.settle-requires-clause-in_graph
+settle-requires-clause-in_graph g c told wf v at = edge_start (g.S.Store.graph c.args.search.now.store.now) v _ _ (first-sound 1 _ c.in_ok-values.ensures v at) wf
 
 pub returns : goal.returns
 returns g c =

@@ -7,4 +7,4 @@ returns-in_default-value_of g c =
 
 pub returns : goal.returns
 returns g c =
-    offer_end (g.S.Store.graph c.args.search.now.store.now) c.args.search.now.version _ _ _ _ _ _ _ _ _ _ _ _ _ c.in-Some.ensures c.in-Some-value_of.ensures c.in-Some-free_at.ensures.0 c.in-Some-free_at.ensures.1 c.in_ok-ends.ensures c.in_ok-offer-2.ensures
+    offer_end (g.S.Store.graph c.args.search.now.store.now) c.args.search.now.version _ _ _ _ _ _ _ _ _ _ _ _ _ c.in-Some.ensures c.in-Some-value_of.ensures c.in-Some-free_at.ensures.0 c.in-Some-free_at.ensures.1 c.in_ok-ends.ensures.lists c.in_ok-offer-2.ensures

@@ -1,18 +1,12 @@
-use Rattle.std.proofs.Common.{ap, ◌∙◌, subst}
-use Rattle.graph_spec.specs.DataGraph.{DataGraph, IsWellFormed}
+use Rattle.std.proofs.Common.{ap, ◌∙◌, sym, length}
+use Rattle.std.proofs.lemmas.List.{length-map}
 use Rattle.edge_queries.specs.Places.{at_end, step_to}
-use Rattle.edge_queries.specs.Listed.{lists-incoming, counted, placed-end}
-use Rattle.index_store.proofs.PositionLaws.{same_order, lists_edges}
+use Rattle.edge_queries.specs.Listed.{lists-incoming, counted}
+use Rattle.index_store.specs.Indexed.{edge_at}
 use Rattle.index_store.proofs.IndexStoreStore.degree_incoming.Goals as goal
-
-pub count_at-requires : goal.count_at-requires
-count_at-requires c =
-    let order = same_order c.edges-edges.ensures.value c.as_slice.ensures.value c.self.invariant.by_end in
-    record { fits = order.fits; placed = placed-end c.args.to.now _ order.lists.ascending }
 
 pub returns : goal.returns
 returns c =
-    let order = same_order c.edges-edges.ensures.value c.as_slice.ensures.value c.self.invariant.by_end in
-    let edges = c.edges-edges.ensures.value ∙ ap (λ (G : DataGraph). G.edges) c.self.view_is in
-    let well = subst IsWellFormed c.self.view_is c.edges-edges.ensures.well_formed in
-    counted (at_end c.args.to.now) step_to _ _ c.count_at.ensures (lists-incoming c.args.self.now well _ (lists_edges edges order) c.args.to.now)
+    let are = c.edges_to.ensures.positions in
+    counted (at_end c.args.to.now) step_to _ _ (sym (length-map c.edges_to.result.now (edge_at c.args.self.now.edges)) ∙ ap length are.exact)
+    (lists-incoming c.args.self.now c.edges_to.ensures.well_formed _ are.order.lists c.args.to.now)

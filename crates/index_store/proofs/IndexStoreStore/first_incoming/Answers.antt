@@ -1,18 +1,32 @@
-use Rattle.std.proofs.Common.{ap, ◌∙◌, subst}
+use Rattle.std.proofs.Common.{ap, ◌∙◌, subst, sym, map, length}
+use Rattle.std.specs.Prelude.{◌<◌, All, List}
 use Rattle.std.proofs.lemmas.Result.{IfOk-weaker}
-use Rattle.graph_spec.specs.DataGraph.{DataGraph, IsWellFormed}
-use Rattle.edge_queries.specs.Listed.{lists-incoming_by, placed-end_label}
-use Rattle.index_store.proofs.PositionLaws.{same_order, lists_edges}
+use Rattle.graph_spec.specs.DataGraph.{DataGraph, node}
+use Rattle.graph_spec.specs.declared.Edge.{Edge}
+use Rattle.std.proofs.Common.{take}
+use Rattle.std.proofs.lemmas.List.{take-map}
+use Rattle.std.proofs.lemmas.List.Elements.{All-take}
+use Rattle.edge_queries.specs.Listed.{lists-incoming_by}
+use Rattle.index_store.specs.Indexed.{edge_at, edges_at}
 use Rattle.index_store.proofs.IndexStoreStore.first_incoming.Goals as goal
 
-pub first_at-requires : goal.first_at-requires
-first_at-requires c =
-    let order = same_order c.edges-edges.ensures.value c.as_slice.ensures.value c.self.invariant.by_end in
-    record { fits = order.fits; placed = placed-end_label c.args.to.now c.args.label.now _ order.lists.ascending }
+pub give_at-requires : goal.give_at-requires
+give_at-requires c =
+    let same = c.edges-edges.ensures.value ∙ ap (λ (G : DataGraph). G.edges) c.self.view_is in
+    subst (λ (es : List Edge). All (λ i. i < length es) c.first.result.now) (sym same)
+    (subst (All (λ i. i < length c.args.self.now.edges)) (sym c.first.ensures) (All-take (λ i. i < length c.args.self.now.edges) c.args.most c.edges_in.result.now c.edges_in.ensures.positions.fits))
 
 pub returns : goal.returns
 returns c =
-    let order = same_order c.edges-edges.ensures.value c.as_slice.ensures.value c.self.invariant.by_end in
-    let edges = c.edges-edges.ensures.value ∙ ap (λ (G : DataGraph). G.edges) c.self.view_is in
-    let well = subst IsWellFormed c.self.view_is c.edges-edges.ensures.well_formed in
-    IfOk-weaker c.first_at.result _ _ (λ found is. (_, lists-incoming_by c.args.self.now well _ (lists_edges edges order) c.args.to.now c.args.label.now, is)) c.first_at.ensures
+    let same = c.edges-edges.ensures.value ∙ ap (λ (G : DataGraph). G.edges) c.self.view_is in
+    let are = c.edges_in.ensures.positions in
+    let ps = c.edges_in.result.now in
+    let G = c.args.self.now in
+    let found = ap (edges_at G.edges) c.first.ensures ∙ sym (take-map (edge_at G.edges) c.args.most ps) ∙ ap (take c.args.most) are.exact in
+    IfOk-weaker c.give_at.result _ _
+    (λ starts is. (
+      _,
+      lists-incoming_by G c.edges_in.ensures.well_formed _ are.order.lists c.args.to.now c.args.label.now,
+      is ∙ ap (λ (es : List Edge). map (λ (e : Edge). node e.from) (edges_at es c.first.result.now)) same ∙ ap (map (λ (e : Edge). node e.from)) found ∙ sym (take-map _ _ _),
+    ))
+    c.give_at.ensures

@@ -1,18 +1,22 @@
-use Rattle.std.proofs.Common.{ap, ◌∙◌, subst}
+use Rattle.std.proofs.Common.{ap, ◌∙◌, subst, sym, map, length}
+use Rattle.std.specs.Prelude.{◌<◌, All, List}
 use Rattle.std.proofs.lemmas.Result.{IfOk-weaker}
-use Rattle.graph_spec.specs.DataGraph.{DataGraph, IsWellFormed}
-use Rattle.edge_queries.specs.Listed.{lists-incoming_by, listed-is, placed-end_label}
-use Rattle.index_store.proofs.PositionLaws.{same_order, lists_edges}
+use Rattle.graph_spec.specs.DataGraph.{DataGraph, node}
+use Rattle.graph_spec.specs.declared.Edge.{Edge}
+use Rattle.edge_queries.specs.Listed.{lists-incoming_by, listed-is}
+use Rattle.index_store.specs.Indexed.{edges_at}
 use Rattle.index_store.proofs.IndexStoreStore.incoming_by.Goals as goal
 
-pub pick_at-requires : goal.pick_at-requires
-pick_at-requires c =
-    let order = same_order c.edges-edges.ensures.value c.as_slice.ensures.value c.self.invariant.by_end in
-    record { fits = order.fits; placed = placed-end_label c.args.to.now c.args.label.now _ order.lists.ascending }
+pub give_at-requires : goal.give_at-requires
+give_at-requires c =
+    let same = c.edges-edges.ensures.value ∙ ap (λ (G : DataGraph). G.edges) c.self.view_is in
+    subst (λ (es : List Edge). All (λ i. i < length es) c.edges_in.result.now) (sym same) c.edges_in.ensures.positions.fits
 
 pub returns : goal.returns
 returns c =
-    let order = same_order c.edges-edges.ensures.value c.as_slice.ensures.value c.self.invariant.by_end in
-    let edges = c.edges-edges.ensures.value ∙ ap (λ (G : DataGraph). G.edges) c.self.view_is in
-    let well = subst IsWellFormed c.self.view_is c.edges-edges.ensures.well_formed in
-    IfOk-weaker c.pick_at.result _ _ (λ found is. listed-is found.items _ is (lists-incoming_by c.args.self.now well _ (lists_edges edges order) c.args.to.now c.args.label.now)) c.pick_at.ensures
+    let same = c.edges-edges.ensures.value ∙ ap (λ (G : DataGraph). G.edges) c.self.view_is in
+    let are = c.edges_in.ensures.positions in
+    IfOk-weaker c.give_at.result _ _
+    (λ found is. listed-is found.items _ (is ∙ ap (λ (es : List Edge). map (λ (e : Edge). node e.from) (edges_at es c.edges_in.result.now)) same ∙ ap (map (λ (e : Edge). node e.from)) are.exact)
+    (lists-incoming_by c.args.self.now c.edges_in.ensures.well_formed _ are.order.lists c.args.to.now c.args.label.now))
+    c.give_at.ensures

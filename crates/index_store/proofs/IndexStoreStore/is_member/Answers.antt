@@ -1,17 +1,22 @@
-use Rattle.std.proofs.Common.{ap, ◌∙◌, subst, sym}
-use Rattle.std.specs.List.Sorted.{IsStrictlySortedBy}
-use Rattle.graph_spec.specs.DataGraph.{DataGraph}
-use Rattle.graph_spec.specs.Orders.{member_cmp}
-use Rattle.list_lookup.specs.Picked.{HasOne}
-use Rattle.edge_queries.specs.Places.{at_member}
-use Rattle.edge_queries.specs.Listed.{member_found, placed-member}
+use Rattle.std.proofs.Common.{◌≡◌, ◌∙◌, ap, subst, sym}
+use Rattle.sd_value.specs.Order.{bytes_cmp}
+use Rattle.sd_value.specs.declared.Value.TheVariants.{Data}
+use Rattle.graph_spec.specs.DataGraph.{node}
+use Rattle.graph_spec.specs.Steps.{IsMemberValue}
+use Rattle.list_lookup.specs.Picked.{HasOne, IsPlaced}
+use Rattle.index_store.proofs.MemberLaws.{placed_named, named_found}
 use Rattle.index_store.proofs.IndexStoreStore.is_member.Goals as goal
 
 pub has-requires : goal.has-requires
-has-requires c = placed-member c.args.collection.now c.args.value.now c.member_pairs.result.now (subst (IsStrictlySortedBy member_cmp) (sym c.member_pairs.ensures.value) c.member_pairs.ensures.well_formed.members_ascend)
+has-requires c =
+    subst (IsPlaced (λ m. bytes_cmp m.node c.in-Data-Node.name)) (sym c.members_in.ensures.members)
+    (placed_named c.args.collection.now c.in-Data-Node.name c.args.self.now.members c.members_in.ensures.well_formed.members_ascend)
 
-pub returns : goal.returns
-returns c =
-    let same = c.member_pairs.ensures.value ∙ ap (λ (G : DataGraph). G.members) c.self.view_is in
-    let found = member_found c.args.self.now c.args.collection.now c.args.value.now in
-    (λ yes. found.0 (subst (HasOne (at_member c.args.collection.now c.args.value.now)) same (c.has.ensures.0 yes)), λ has. c.has.ensures.1 (subst (HasOne (at_member c.args.collection.now c.args.value.now)) (sym same) (found.1 has)))
+pub returns-in-Data-Node : goal.returns-in-Data-Node
+returns-in-Data-Node c =
+    let is : c.args.value.now ≡ node c.in-Data-Node.name = c.in-Data-Node.is ∙ ap Data (rw c.in-Data-Node.is at c.in-Data-Node.field-0-is) in
+    let same = c.members_in.ensures.members in
+    let found = named_found c.args.self.now c.args.collection.now c.in-Data-Node.name in (
+      λ yes. subst (IsMemberValue c.args.self.now c.args.collection.now) (sym is) (found.0 (subst (HasOne (λ m. bytes_cmp m.node c.in-Data-Node.name)) same (c.has.ensures.0 yes))),
+      λ has. c.has.ensures.1 (subst (HasOne (λ m. bytes_cmp m.node c.in-Data-Node.name)) (sym same) (found.1 (subst (IsMemberValue c.args.self.now c.args.collection.now) is has))),
+    )

@@ -1,18 +1,12 @@
-use Rattle.std.proofs.Common.{ap, ◌∙◌, subst, sym, map}
-use Rattle.std.specs.List.Sorted.{IsStrictlySortedBy}
-use Rattle.graph_spec.specs.DataGraph.{DataGraph, node, IsWellFormed}
-use Rattle.graph_spec.specs.Orders.{member_cmp}
+use Rattle.std.proofs.Common.{ap, ◌∙◌, map}
 use Rattle.std.proofs.lemmas.Result.{IfOk-weaker}
-use Rattle.list_lookup.specs.Picked.{in_place}
-use Rattle.edge_queries.specs.Places.{at_collection}
-use Rattle.edge_queries.specs.Listed.{lists-members, listed-is, placed-collection}
+use Rattle.graph_spec.specs.DataGraph.{node}
+use Rattle.graph_spec.specs.declared.Member.{Member}
+use Rattle.edge_queries.specs.Listed.{lists-members, listed-is}
 use Rattle.index_store.proofs.IndexStoreStore.members.Goals as goal
-
-pub part-requires : goal.part-requires
-part-requires c = placed-collection c.args.collection.now c.member_pairs.result.now (subst (IsStrictlySortedBy member_cmp) (sym c.member_pairs.ensures.value) c.member_pairs.ensures.well_formed.members_ascend)
 
 pub returns : goal.returns
 returns c =
-    let same = c.member_pairs.ensures.value ∙ ap (λ (G : DataGraph). G.members) c.self.view_is in
-    let well = subst IsWellFormed c.self.view_is c.member_pairs.ensures.well_formed in
-    IfOk-weaker c.give_all.result _ _ (λ found is. listed-is found.items _ (is ∙ ap (map (λ m. node m.node)) (c.part.ensures ∙ ap (in_place (at_collection c.args.collection.now)) same)) (lists-members c.args.self.now well c.args.collection.now)) c.give_all.ensures
+    IfOk-weaker c.give_all.result _ _
+    (λ found is. listed-is found.items _ (is ∙ ap (map (λ (m : Member). node m.node)) c.members_in.ensures.members) (lists-members c.args.self.now c.members_in.ensures.well_formed c.args.collection.now))
+    c.give_all.ensures

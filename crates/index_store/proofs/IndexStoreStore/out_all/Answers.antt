@@ -1,18 +1,11 @@
-use Rattle.std.proofs.Common.{ap, ◌∙◌, subst, sym, map}
-use Rattle.std.specs.List.Sorted.{IsStrictlySortedBy}
-use Rattle.graph_spec.specs.DataGraph.{DataGraph, IsWellFormed}
-use Rattle.graph_spec.specs.Orders.{edge_cmp}
+use Rattle.std.proofs.Common.{ap, ◌∙◌, map}
 use Rattle.std.proofs.lemmas.Result.{IfOk-weaker}
-use Rattle.list_lookup.specs.Picked.{in_place}
-use Rattle.edge_queries.specs.Places.{at_start, step_from}
-use Rattle.edge_queries.specs.Listed.{lists-out_all, listed-is, placed-start}
+use Rattle.edge_queries.specs.Places.{step_from}
+use Rattle.edge_queries.specs.Listed.{lists-out_all, listed-is}
 use Rattle.index_store.proofs.IndexStoreStore.out_all.Goals as goal
-
-pub part-requires : goal.part-requires
-part-requires c = placed-start c.args.from.now c.edges.result.now (subst (IsStrictlySortedBy edge_cmp) (sym c.edges.ensures.value) c.edges.ensures.well_formed.edges_ascend)
 
 pub returns : goal.returns
 returns c =
-    let same = c.edges.ensures.value ∙ ap (λ (G : DataGraph). G.edges) c.self.view_is in
-    let well = subst IsWellFormed c.self.view_is c.edges.ensures.well_formed in
-    IfOk-weaker c.give_all.result _ _ (λ found is. listed-is found.items _ (is ∙ ap (map (step_from)) (c.part.ensures ∙ ap (in_place (at_start c.args.from.now)) same)) (lists-out_all c.args.self.now well c.args.from.now)) c.give_all.ensures
+    IfOk-weaker c.give_all.result _ _
+    (λ found is. listed-is found.items _ (is ∙ ap (map step_from) c.edges_from.ensures.edges) (lists-out_all c.args.self.now c.edges_from.ensures.well_formed c.args.from.now))
+    c.give_all.ensures

@@ -1,4 +1,4 @@
-use Rattle.std.specs.Prelude.{◌≡◌, ◌⊎◌, ◌↔◌, Bool, true, false, not, IsTrue, List, ◌++◌, Contains}
+use Rattle.std.specs.Prelude.{◌≡◌, Bool, true, false, not, IsTrue, List, ◌++◌, Contains}
 use Rattle.std.specs.declared.cmp.Ordering.{Ordering}
 use Rattle.std.specs.List.{filter, list_any}
 use Rattle.std.specs.BTreeMap.{is_at}

@@ -10,6 +10,6 @@ use Rattle.live_store.proofs.answers.LiveStoreStore.edges_by.Goals as goal
 pub returns : goal.returns
 returns c = IfOk-weaker c.shifted.result _ _
     (λ found is. subst (λ (b : Building). ListsExactly edge_cmp (IsLabelled b.graph c.args.label.now) found.items) c.self.view_is
-    (labelled_listed c.self.inside.base c.self.inside.came c.self.inside.gone c.self.inside.nodes.items _ c.self.invariant.layers
+    (labelled_listed c.self.inside.base c.self.inside.came c.self.inside.gone c.self.inside.nodes.keys _ c.self.invariant.layers
     c.args.label.now _ _ _ found.items c.in_ok-base.ensures c.in_ok-gone.ensures c.in_ok-came.ensures is))
     c.shifted.ensures

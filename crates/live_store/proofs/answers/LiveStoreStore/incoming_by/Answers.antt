@@ -10,6 +10,6 @@ use Rattle.live_store.proofs.answers.LiveStoreStore.incoming_by.Goals as goal
 pub returns : goal.returns
 returns c = IfOk-weaker c.shifted.result _ _
     (λ found is. subst (λ (b : Building). ListsExactly value_cmp (IsStart b.graph c.args.to.now c.args.label.now) found.items) c.self.view_is
-    (start_listed c.self.inside.base c.self.inside.came c.self.inside.gone c.self.inside.nodes.items _ c.self.invariant.layers
+    (start_listed c.self.inside.base c.self.inside.came c.self.inside.gone c.self.inside.nodes.keys _ c.self.invariant.layers
     c.args.to.now c.args.label.now _ _ _ found.items c.in_ok-base.ensures c.in_ok-gone.ensures c.in_ok-came.ensures is))
     c.shifted.ensures

@@ -1,12 +1,10 @@
-use Rattle.std.specs.Prelude.{◌↔◌, IsTrue, Contains}
-use Rattle.std.proofs.Common.{subst}
-use Rattle.graph_spec.specs.DataGraph.{IsValueOf}
-use Rattle.sd_graph.specs.Statement.{Building}
-use Rattle.live_store.proofs.Questions.{left_test}
+use Rattle.std.proofs.lemmas.Bool.{ltb-true, lt-ltb}
+use Rattle.index_store.proofs.ValueLaws.{reached_values}
 use Rattle.live_store.proofs.answers.LiveStoreStore.is_value.Goals as goal
 
-pub returns : goal.returns
-returns c = subst (λ (b : Building). IsTrue c.is_left.result ↔ IsValueOf b.graph c.args.value.now) c.self.view_is
-    (left_test (c.self.invariant.reported.values c.args.value.now)
-    _ _ _ _ c.is_value-base.ensures (subst (λ xs. IsTrue c.is_among-gone.result ↔ Contains xs c.args.value.now) c.as_slice.ensures.value c.is_among-gone.ensures.is)
-    (subst (λ xs. IsTrue c.is_among-came.result ↔ Contains xs c.args.value.now) c.as_slice-2.ensures.value c.is_among-came.ensures.is) c.is_left.ensures)
+pub returns-else-is_node : goal.returns-else-is_node
+returns-else-is_node c =
+    let reached = reached_values c.args.self.now.graph c.is_node.ensures.well_formed c.args.value.now
+    (λ h. let t = c.is_node.ensures.is.1 h in let f = c.if-is_node.false in cc)
+    c.degree_incoming.result c.degree_incoming.ensures in
+    (λ t. reached.0 (ltb-true 0 c.degree_incoming.result t), λ is. lt-ltb 0 c.degree_incoming.result (reached.1 is))

@@ -10,6 +10,6 @@ use Rattle.live_store.proofs.answers.LiveStoreStore.out_all.Goals as goal
 pub returns : goal.returns
 returns c = IfOk-weaker c.shifted.result _ _
     (λ found is. subst (λ (b : Building). ListsExactly step_cmp (IsStepFrom b.graph c.args.from.now) found.items) c.self.view_is
-    (from_listed c.self.inside.base c.self.inside.came c.self.inside.gone c.self.inside.nodes.items _ c.self.invariant.layers
+    (from_listed c.self.inside.base c.self.inside.came c.self.inside.gone c.self.inside.nodes.keys _ c.self.invariant.layers
     c.args.from.now _ _ _ found.items c.in_ok-base.ensures c.in_ok-gone.ensures c.in_ok-came.ensures is))
     c.shifted.ensures

@@ -1,0 +1,9 @@
+pub mod Lexed
+pub mod Scanned
+pub mod Faultless
+pub mod Accepted
+pub mod Query
+pub mod Templates
+pub mod Refused
+pub mod Room
+pub mod Statements

@@ -1,0 +1,54 @@
+-- The readers refuse no text of a trial but for want of memory.
+use Rattle.std.proofs.Common.{◌≡◌, refl, ap, ◌∙◌, subst, Result, Err}
+use Rattle.query_spec.specs.Query as plain
+use Rattle.struql_parse.specs.declared.refusal.ParseRefusal.{ParseRefusal}
+use Rattle.struql_parse.specs.declared.refusal.ParseRefusal.TheVariants as parse
+use Rattle.struql_check.specs.declared.refusal.CheckRefusal.{CheckRefusal}
+use Rattle.struql_check.specs.declared.refusal.CheckRefusal.TheVariants as check
+use Rattle.query_reader.specs.declared.QueryRefusal.{QueryRefusal}
+use Rattle.query_reader.specs.declared.QueryRefusal.TheVariants.{NotSpelled, NotChecked}
+use Rattle.query_reader.specs.Reads.{Reads}
+use Rattle.tmpl.specs.declared.Templates.{Templates}
+use Rattle.template_reader.specs.declared.refusal.TmplRefusal.{TmplRefusal}
+use Rattle.template_reader.specs.declared.refusal.TmplRefusal.TheVariants.{TooLong, Expected, Unclosed, Twice}
+use Rattle.template_reader.specs.declared.refusal.TmplRefusal.TheVariants.{TooDeep, UnknownVariable, NoMemory}
+use Rattle.template_reader.specs.Faults.{IsAnswer, UnlessNoMemory}
+use Rattle.command_spec.specs.Limits.{text_limit}
+use Rattle.trial_spec.specs.Texts.{query_text, templates_text}
+use Rattle.trial_site.specs.Accepted.{IsOutOfMemory}
+use Rattle.trial_site.proofs.Query.{query_accepted}
+use Rattle.trial_site.proofs.Templates.{templates_accepted}
+
+spelled_is : (e : ParseRefusal) → IsOutOfMemory (NotSpelled e) → e ≡ parse.NoMemory
+spelled_is parse.NoMemory h = refl
+spelled_is e h = absurd h
+
+checked_is : (e : CheckRefusal) → IsOutOfMemory (NotChecked e) → e ≡ check.NoMemory
+checked_is check.NoMemory h = refl
+checked_is e h = absurd h
+
+module _ (r : Result plain.Query QueryRefusal) (refusal : QueryRefusal) (is : r ≡ Err refusal)
+    (reads : Reads text_limit query_text r) where
+  pub never_not_spelled : (e : ParseRefusal) → refusal ≡ NotSpelled e → (e ≡ parse.NoMemory → ⊥) → ⊥
+  never_not_spelled e this other =
+      other (spelled_is e
+      (query_accepted.never_refused (NotSpelled e) (subst (Reads text_limit query_text) (is ∙ ap Err this) reads)))
+
+  pub never_not_checked : (e : CheckRefusal) → refusal ≡ NotChecked e → (e ≡ check.NoMemory → ⊥) → ⊥
+  never_not_checked e this other =
+      other (checked_is e
+      (query_accepted.never_refused (NotChecked e) (subst (Reads text_limit query_text) (is ∙ ap Err this) reads)))
+
+by_refusal : (e : TmplRefusal) → (e ≡ NoMemory → ⊥) → UnlessNoMemory (IsAnswer text_limit templates_text) (Err e) → ⊥
+by_refusal (TooLong at) other h = templates_accepted.never_refused (TooLong at) h
+by_refusal (Expected at) other h = templates_accepted.never_refused (Expected at) h
+by_refusal (Unclosed at) other h = templates_accepted.never_refused (Unclosed at) h
+by_refusal (Twice at) other h = templates_accepted.never_refused (Twice at) h
+by_refusal (TooDeep at) other h = templates_accepted.never_refused (TooDeep at) h
+by_refusal (UnknownVariable at) other h = templates_accepted.never_refused (UnknownVariable at) h
+by_refusal NoMemory other h = other refl
+
+pub never_other : (r : Result Templates TmplRefusal) (e : TmplRefusal) → r ≡ Err e → (e ≡ NoMemory → ⊥)
+    → UnlessNoMemory (IsAnswer text_limit templates_text) r → ⊥
+never_other r e is other h =
+    by_refusal e other (subst (UnlessNoMemory (IsAnswer text_limit templates_text)) is h)

@@ -1,0 +1,31 @@
+-- What it means that a text is accepted as a query, and a file of templates.
+use Rattle.std.specs.Prelude.{ℕ, List, Ok, Err, ⊤}
+use Rattle.struql_ast.specs.Written as written
+use Rattle.struql_parse.specs.declared.refusal.ParseRefusal.TheVariants as parse
+use Rattle.struql_check.specs.declared.refusal.CheckRefusal.TheVariants as check
+use Rattle.struql_check.specs.Faults.{IsFaultless}
+use Rattle.query_reader.specs.declared.QueryRefusal.{QueryRefusal}
+use Rattle.query_reader.specs.declared.QueryRefusal.TheVariants.{NotSpelled, NotChecked}
+use Rattle.query_reader.specs.Reads.{Spells, IsRefused}
+use Rattle.tmpl.specs.Body.{TemplateFile}
+use Rattle.template_reader.specs.declared.refusal.TmplRefusal.{TmplRefusal}
+use Rattle.template_reader.specs.Faults.{IsAnswer}
+
+-- the reader of queries was out of memory
+abbrev pub IsOutOfMemory : QueryRefusal → Type 0
+IsOutOfMemory (NotSpelled parse.NoMemory) = ⊤
+IsOutOfMemory (NotChecked check.NoMemory) = ⊤
+IsOutOfMemory refusal = ⊥
+
+-- The text spells a query without faults, and what a reader may answer instead is out of memory alone.
+pub record IsQueryText (limit : ℕ) (bytes : List ℕ) : Type 0 where
+  pub query : written.Query
+  pub spelled : Spells limit bytes query
+  pub faultless : IsFaultless query
+  pub never_refused : (refusal : QueryRefusal) → IsRefused limit bytes refusal → IsOutOfMemory refusal
+
+-- The text is answered by a file of templates, and by no refusal.
+pub record AreTemplatesText (limit : ℕ) (bytes : List ℕ) : Type 0 where
+  pub file : TemplateFile
+  pub accepted : IsAnswer limit bytes (Ok file)
+  pub never_refused : (refusal : TmplRefusal) → IsAnswer limit bytes (Err refusal) → ⊥

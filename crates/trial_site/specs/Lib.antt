@@ -1,0 +1,3 @@
+pub mod Data
+pub mod Room
+pub mod Accepted
