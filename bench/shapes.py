@@ -76,22 +76,23 @@ def papers(count, years=50):
         yield f'object p{n} in P {{ t "Title of {n:07}" y {1970 + n % years} r &p{(n * 7) % count} }}\n'
 
 
-def records(count):
-    """The data of `papers` as JSON."""
+def listed(count, object_of):
+    """A JSON array of so many objects, one a line."""
     yield "[\n"
     for n in range(count):
-        yield f'{{"id": "p{n}", "t": "Title {n}", "y": {1970 + n % 50}, "r": "p{(n * 7) % count}"}}'
+        yield object_of(n)
         yield ",\n" if n + 1 < count else "\n"
     yield "]\n"
+
+
+def records(count):
+    """The data of `papers` as JSON."""
+    return listed(count, lambda n: f'{{"id": "p{n}", "t": "Title {n}", "y": {1970 + n % 50}, "r": "p{(n * 7) % count}"}}')
 
 
 def entries(count):
     """The same as JSON without names, so that an object states three edges and a member, as in the data text."""
-    yield "[\n"
-    for n in range(count):
-        yield f'{{"t": "Title of {n:07}", "y": {1970 + n % 50}, "r": "p{(n * 7) % count}"}}'
-        yield ",\n" if n + 1 < count else "\n"
-    yield "]\n"
+    return listed(count, lambda n: f'{{"t": "Title of {n:07}", "y": {1970 + n % 50}, "r": "p{(n * 7) % count}"}}')
 
 
 def sheet(count):

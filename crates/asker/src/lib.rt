@@ -16,7 +16,7 @@ use std::alloc::Global;
 use struql_ast::Chain;
 
 /// What answers questions on a data graph, and counts what it hands out. The count never falls, and stays at its last
-/// value once it is there. A call that wants memory hands out nothing and leaves the count.
+/// value once it is there. A call that is out of memory hands out nothing and leaves the count.
 pub trait Asker {
     ghost graph: { Self → DataGraph };
 

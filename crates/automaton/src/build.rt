@@ -12,7 +12,7 @@ use rpe::Rpe;
 use sd_value::{NoMemory, Str};
 use std::alloc::Global;
 
-// The number of positions, or 257 where there are more.
+/// The number of positions, or 257 where there are more.
 pub fn count_positions(expression: &Rpe) -> u32
     ensures { result ≡ min (positions (regex_of expression.now)) 257 }
 {
@@ -24,7 +24,7 @@ pub fn count_positions(expression: &Rpe) -> u32
     }
 }
 
-// The ends of a part of an expression, while its tables are built.
+/// The ends of a part of an expression, while its tables are built.
 #[derive(Drop)]
 pub struct Ends {
     pub has_empty: bool,
@@ -115,7 +115,7 @@ impl Ends {
     }
 }
 
-// Adds the positions of the expression to the tables.
+/// Adds the positions of the expression to the tables.
 pub fn add(
     alloc: Global,
     expression: &Rpe,
@@ -184,7 +184,7 @@ fn before(rows: &Vec<PositionSet>, p: u32) -> PositionSet
     set
 }
 
-// For each position those that it may follow, from those that may follow it.
+/// For each position those that it may follow, from those that may follow it.
 pub fn transposed(alloc: Global, rows: &Vec<PositionSet>) -> Result<Vec<PositionSet>, NoMemory>
     requires { vec_len rows.now ≤ 256 }
     ensures len { IfOk result (λ turned. vec_len turned ≡ vec_len rows.now) }

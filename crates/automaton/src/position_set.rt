@@ -44,6 +44,7 @@ impl PositionSet {
         PositionSet { words: [0; 4] }
     }
 
+    /// Whether the position is in it.
     pub fn contains(&self, p: u32) -> bool
         requires { p < MAX_POSITIONS }
         ensures { IsTrue result ↔ Has self.now p }
@@ -51,6 +52,7 @@ impl PositionSet {
         self.words[(p / 64) as usize] >> (p % 64) & 1 == 1
     }
 
+    /// Adds the position.
     pub fn insert(&mut self, p: u32)
         requires { p < MAX_POSITIONS }
         ensures { (q : ℕ) → Has self.new q ↔ ((q ≡ p) ⊎ Has self.old q) }
@@ -88,6 +90,7 @@ impl PositionSet {
         false
     }
 
+    /// Whether no position is in it.
     pub fn is_empty(&self) -> bool
         ensures none { result ≡ true → (q : ℕ) → ¬ (Has self.now q) }
         ensures some { result ≡ false → (q : ℕ) × Has self.now q }

@@ -66,7 +66,7 @@ impl Model for Automaton {
 pub enum RpeRefusal {
     /// Labels and wildcards together are in it more than 256 times.
     TooManyPositions,
-    /// Memory ran out.
+    /// Out of memory.
     NoMemory,
 }
 

@@ -1,4 +1,4 @@
-//! The law that BibTeX texts are read by their grammar.
+//! The grammar of BibTeX has at most one list of items for a text; the lemmas by which its reader is proved.
 #![tactic(auto)]
 
 ghost use Rattle.std.specs.Prelude.{◌≡◌, List, ℕ};

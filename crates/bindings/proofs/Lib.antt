@@ -2,6 +2,5 @@ pub mod Known
 pub mod Found
 pub mod Steps
 pub mod Rows
-pub mod Made
 pub mod Told
 pub mod Tries

@@ -1,7 +1,6 @@
 //! The rows of a chain of conditions, over any store.
 #![tactic(auto)]
 
-mod follow;
 mod row;
 mod search;
 mod some_rows;

@@ -5,10 +5,10 @@ ghost use Rattle.query_spec.specs.Mentions.{IsWellMade};
 ghost use Rattle.query_spec.specs.Rows.{row_cmp, IsAnswer, SomeAnswer};
 ghost use Rattle.asker.specs.Wanted.{ListsSome};
 
-use crate::follow::goals_of;
 use crate::search::{chain_answers, chain_finds};
 use crate::some_rows::chain_some;
 use asker::Asker;
+use planned_goals::{KeptPlan, goals_of};
 use query_spec::{Bound, Row, arcs_of_variables};
 use sd_value::{NoMemory, Str, Value};
 use std::alloc::Global;
@@ -20,6 +20,7 @@ use struql_ast::Chain;
 pub struct StoreAsker<S> {
     store: S,
     given: u128,
+    kept: Option<KeptPlan>,
 }
 
 impl<S: Store> StoreAsker<S> {
@@ -33,7 +34,11 @@ impl<S: Store> StoreAsker<S> {
         ensures store { store_of result ≡ store }
         ensures given { handed_out result ≡ 0 }
     {
-        StoreAsker { store, given: 0 }
+        StoreAsker {
+            store,
+            given: 0,
+            kept: None,
+        }
     }
 
     /// The store that it asks.
@@ -57,6 +62,7 @@ fn rows_of<S: Store>(
     store: &S,
     chain: &Chain,
     bound: &Bound,
+    kept: &mut Option<KeptPlan>,
 ) -> Result<Vec<Row>, NoMemory>
     requires well_made { IsWellMade chain.now }
     requires one_each { length bound.now ≡ length chain.now.variables }
@@ -64,7 +70,7 @@ fn rows_of<S: Store>(
         (λ rows. ListsExactly row_cmp
         (IsAnswer (S.graph store.now) chain.now bound.now) rows.items) }
 {
-    let goals = goals_of(alloc, store, chain, bound)?;
+    let goals = goals_of(alloc, store, chain, bound, kept)?;
     let arcs = arcs_of_variables(alloc, chain.variables())?;
     let values = bound.to_values(alloc)?;
     let rows = chain_answers(
@@ -84,6 +90,7 @@ fn some_rows_of<S: Store>(
     chain: &Chain,
     bound: &Bound,
     wanted: &[bool],
+    kept: &mut Option<KeptPlan>,
 ) -> Result<Vec<Row>, NoMemory>
     requires well_made { IsWellMade chain.now }
     requires one_each { length bound.now ≡ length chain.now.variables }
@@ -92,7 +99,7 @@ fn some_rows_of<S: Store>(
         (λ rows. ListsSome wanted.now (IsAnswer (S.graph store.now) chain.now bound.now)
         rows.items) }
 {
-    let goals = goals_of(alloc, store, chain, bound)?;
+    let goals = goals_of(alloc, store, chain, bound, kept)?;
     let arcs = arcs_of_variables(alloc, chain.variables())?;
     let values = bound.to_values(alloc)?;
     let rows = chain_some(
@@ -112,12 +119,13 @@ fn some_row<S: Store>(
     store: &S,
     chain: &Chain,
     bound: &Bound,
+    kept: &mut Option<KeptPlan>,
 ) -> Result<bool, NoMemory>
     requires well_made { IsWellMade chain.now }
     requires one_each { length bound.now ≡ length chain.now.variables }
     ensures { IfOk result (λ b. IsTrue b ↔ SomeAnswer (S.graph store.now) chain.now bound.now) }
 {
-    let goals = goals_of(alloc, store, chain, bound)?;
+    let goals = goals_of(alloc, store, chain, bound, kept)?;
     let arcs = arcs_of_variables(alloc, chain.variables())?;
     let values = bound.to_values(alloc)?;
     let found = chain_finds(
@@ -139,7 +147,7 @@ impl<S: Store> Asker for StoreAsker<S> {
     ghost count = { handed_out };
 
     fn ask(&mut self, alloc: Global, chain: &Chain, bound: &Bound) -> Result<Vec<Row>, NoMemory> {
-        let rows = rows_of(alloc, &self.store, chain, bound)?;
+        let rows = rows_of(alloc, &self.store, chain, bound, &mut self.kept)?;
         self.given = self.given.saturating_add(rows.len() as u128);
         Ok(rows)
     }
@@ -151,13 +159,13 @@ impl<S: Store> Asker for StoreAsker<S> {
         bound: &Bound,
         wanted: &[bool],
     ) -> Result<Vec<Row>, NoMemory> {
-        let rows = some_rows_of(alloc, &self.store, chain, bound, wanted)?;
+        let rows = some_rows_of(alloc, &self.store, chain, bound, wanted, &mut self.kept)?;
         self.given = self.given.saturating_add(rows.len() as u128);
         Ok(rows)
     }
 
     fn exists(&mut self, alloc: Global, chain: &Chain, bound: &Bound) -> Result<bool, NoMemory> {
-        let found = some_row(alloc, &self.store, chain, bound)?;
+        let found = some_row(alloc, &self.store, chain, bound, &mut self.kept)?;
         self.given = self.given.saturating_add(1);
         Ok(found)
     }

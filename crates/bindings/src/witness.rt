@@ -1,11 +1,12 @@
 // A look for one row, first along the first value that each goal offers.
-ghost use Rattle.std.specs.Prelude.{◌≡◌, ◌<◌, IfOk, IfSome, IsTrue, MatchOption, Contains, None, Some, length, slice_get};
+ghost use Rattle.std.specs.Prelude.{◌≡◌, ◌<◌, ◌+◌, ◌⊎◌, IfOk, IfSome, IsTrue, MatchOption, Contains, None, Some, length, slice_get};
 ghost use Rattle.sd_value.specs.declared.Value.{Value as AnyValue};
 ghost use Rattle.condition_tests.specs.Known.{IsCandidate, KnownInDomains, is_arc, known_part};
+ghost use Rattle.condition_tests.specs.Meaning.{AtomHolds};
 ghost use Rattle.condition_tests.specs.Places.{AtomInRange, GoalsInRange, PlaceInRange};
 ghost use Rattle.bindings.specs.Fits.{Fits, SomeFits, IsComplete, IsStopped};
 ghost use Rattle.candidate_values.specs.Kept.{IsKept};
-ghost use Rattle.bindings.specs.Tries.{AreTried, IsTry};
+ghost use Rattle.bindings.specs.Tries.{AreTried, GoalAt, IsTry};
 
 use crate::row::row_of;
 use crate::search::{Choice, choose, finds, passed, put};
@@ -13,7 +14,7 @@ use candidate_values::{Ends, Offer, Reaches, Search, settle};
 use condition_tests::{Atom, Place, Property, Relation, free_at, known};
 use goal_choice::{fewest, literal_at};
 use query_spec::Row;
-use sd_value::{NoMemory, Str, Value, copy};
+use sd_value::{NoMemory, Value, copy};
 use std::alloc::Global;
 use store::Store;
 
@@ -40,12 +41,12 @@ fn copies(alloc: Global, current: &[Option<Value>]) -> Result<Vec<Option<Value>>
     Ok(copies)
 }
 
-// The first end of an edge from the known place, where the other one is free.
+// Where the relation is an edge of a label: the first end of one from the known place, where the other one is free.
 fn first_after<S: Store>(
     alloc: Global,
     search: &Search<S>,
     from: &Place,
-    label: &Str,
+    relation: &Relation,
     to: &Place,
     current: &[Option<Value>],
 ) -> Result<Option<Offer>, NoMemory>
@@ -54,9 +55,15 @@ fn first_after<S: Store>(
     requires to_in_range { PlaceInRange (length current.now) to.now }
     ensures { IfOk result
         (λ r. IfSome r
-        (λ o. AreTried (S.graph search.now.store.now) search.now.arcs.now current.now o.slot
-        o.values.items)) }
+        (λ o. AreTried
+        (S.graph search.now.store.now) search.now.arcs.now
+        (AtomHolds (S.graph search.now.store.now) search.now.version
+        (Atom.Two from.now relation.now to.now))
+        current.now o.slot o.values.items o.settled)) }
 {
+    let Relation::Edge(label) = relation else {
+        return Ok(None);
+    };
     let Some(u) = known(from, current) else {
         return Ok(None);
     };
@@ -70,19 +77,19 @@ fn first_after<S: Store>(
         slot,
         Ends {
             values,
-            exact: false,
+            exact: true,
             in_graph: true,
         },
     )?;
     Ok(Some(offer))
 }
 
-// The first start of an edge to the known place, where the other one is free.
+// The first start of such an edge to the known place, where the other one is free.
 fn first_before<S: Store>(
     alloc: Global,
     search: &Search<S>,
     from: &Place,
-    label: &Str,
+    relation: &Relation,
     to: &Place,
     current: &[Option<Value>],
 ) -> Result<Option<Offer>, NoMemory>
@@ -91,9 +98,15 @@ fn first_before<S: Store>(
     requires to_in_range { PlaceInRange (length current.now) to.now }
     ensures { IfOk result
         (λ r. IfSome r
-        (λ o. AreTried (S.graph search.now.store.now) search.now.arcs.now current.now o.slot
-        o.values.items)) }
+        (λ o. AreTried
+        (S.graph search.now.store.now) search.now.arcs.now
+        (AtomHolds (S.graph search.now.store.now) search.now.version
+        (Atom.Two from.now relation.now to.now))
+        current.now o.slot o.values.items o.settled)) }
 {
+    let Relation::Edge(label) = relation else {
+        return Ok(None);
+    };
     let Some(v) = known(to, current) else {
         return Ok(None);
     };
@@ -107,28 +120,34 @@ fn first_before<S: Store>(
         slot,
         Ends {
             values,
-            exact: false,
+            exact: true,
             in_graph: true,
         },
     )?;
     Ok(Some(offer))
 }
 
-// The first member of the collection, where the place is free.
+// Where the property is a collection's: its first member, where the place is free.
 fn first_member<S: Store>(
     alloc: Global,
     search: &Search<S>,
     place: &Place,
-    collection: &Str,
+    property: &Property,
     current: &[Option<Value>],
 ) -> Result<Option<Offer>, NoMemory>
     requires as_long { length search.now.arcs.now ≡ length current.now }
     requires in_range { PlaceInRange (length current.now) place.now }
     ensures { IfOk result
         (λ r. IfSome r
-        (λ o. AreTried (S.graph search.now.store.now) search.now.arcs.now current.now o.slot
-        o.values.items)) }
+        (λ o. AreTried
+        (S.graph search.now.store.now) search.now.arcs.now
+        (AtomHolds (S.graph search.now.store.now) search.now.version
+        (Atom.One place.now property.now))
+        current.now o.slot o.values.items o.settled)) }
 {
+    let Property::Member(collection) = property else {
+        return Ok(None);
+    };
     let Some(slot) = free_at(place, current) else {
         return Ok(None);
     };
@@ -139,7 +158,7 @@ fn first_member<S: Store>(
         slot,
         Ends {
             values,
-            exact: false,
+            exact: true,
             in_graph: true,
         },
     )?;
@@ -157,22 +176,24 @@ fn first_offer<S: Store>(
     requires in_range { AtomInRange (length current.now) atom.now }
     ensures { IfOk result
         (λ r. IfSome r
-        (λ o. AreTried (S.graph search.now.store.now) search.now.arcs.now current.now o.slot
-        o.values.items)) }
+        (λ o. AreTried
+        (S.graph search.now.store.now) search.now.arcs.now
+        (AtomHolds (S.graph search.now.store.now) search.now.version atom.now)
+        current.now o.slot o.values.items o.settled)) }
 {
     match atom {
-        Atom::One(place, Property::Member(collection)) => {
-            let offer = first_member(alloc, search, place, collection, current)?;
+        Atom::One(place, property) => {
+            let offer = first_member(alloc, search, place, property, current)?;
             Ok(offer)
         }
-        Atom::Two(from, Relation::Edge(label), to) => {
-            if let Some(offer) = first_after(alloc, search, from, label, to, current)? {
+        Atom::Two(from, relation, to) => {
+            if let Some(offer) = first_after(alloc, search, from, relation, to, current)? {
                 return Ok(Some(offer));
             }
-            let offer = first_before(alloc, search, from, label, to, current)?;
+            let offer = first_before(alloc, search, from, relation, to, current)?;
             Ok(offer)
         }
-        _ => Ok(None),
+        Atom::Arc(_, _, _) => Ok(None),
     }
 }
 
@@ -188,16 +209,27 @@ fn first_of_goal<S: Store>(
     requires within { goal < length search.now.goals.now }
     ensures { IfOk result
         (λ r. IfSome r
-        (λ o. AreTried (S.graph search.now.store.now) search.now.arcs.now current.now o.slot
-        o.values.items)) }
+        (λ o. AreTried
+        (S.graph search.now.store.now) search.now.arcs.now
+        (GoalAt (S.graph search.now.store.now) search.now.version search.now.goals.now goal)
+        current.now o.slot o.values.items o.settled)) }
 {
-    match literal_at(search.goals, goal) {
-        Some(literal) => {
-            let offer = first_offer(alloc, search, &literal.atom, current)?;
-            Ok(offer)
-        }
-        None => Ok(None),
+    let Some(literal) = literal_at(search.goals, goal) else {
+        return Ok(None);
+    };
+    if literal.negated {
+        return Ok(None);
     }
+    let offer = first_offer(alloc, search, &literal.atom, current)?;
+    Ok(offer)
+}
+
+// The first goal that is open once a variable of that goal has such a value.
+fn next_after(at: usize, goal: usize, settled: bool) -> usize
+    requires { at < usize.MAX }
+    ensures { (result ≡ at) ⊎ (result ≡ at + 1) × (goal ≡ at) × IsTrue settled }
+{
+    if goal == at && settled { at + 1 } else { at }
 }
 
 // Values to be tried for a variable: one alone where the store tells it without the list of all.
@@ -223,10 +255,11 @@ fn choose_first<S: Store>(
     if at < search.goals.len() {
         let goal = fewest(alloc, search, kept, at, current)?;
         if let Some(offer) = first_of_goal(alloc, search, goal, current)? {
+            let next = next_after(at, goal, offer.settled);
             return Ok(Some(Choice {
                 slot: offer.slot,
                 values: offer.values,
-                next: at,
+                next,
             }));
         }
     }

@@ -1,4 +1,4 @@
-//! Questions, each asked at most once. A question is kept before it is asked, so that one that wanted memory isn't
+//! Questions, each asked at most once. A question is kept before it is asked, so that one that was out of memory isn't
 //! asked again.
 ghost use Rattle.std.specs.Prelude.{◌≡◌, ◌↔◌, Contains, IfOk, IsTrue};
 ghost use Rattle.std.specs.Option.{IsSomeAnd};

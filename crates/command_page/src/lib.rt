@@ -1,4 +1,4 @@
-//! The command `page`: one page of a site, from its own demand.
+//! The command `page`: one page of a site, which is not made whole for it.
 #![tactic(auto)]
 
 ghost use Rattle.std.specs.Prelude.{◌≡◌, IfOk};

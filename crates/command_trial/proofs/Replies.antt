@@ -12,7 +12,7 @@ use Rattle.http_spec.specs.Replies.{head_bytes}
 use Rattle.trial_spec.specs.declared.Counts.{Counts}
 use Rattle.trial_spec.specs.Numbers.{counts_of, is_page, is_missing, page_bytes}
 use Rattle.command_trial.specs.declared.counts.Reply.TheVariants as reply
-use Rattle.command_trial.specs.Replies.{reply_to, is_return, shown, with_outcome}
+use Rattle.command_trial.specs.Replies.{reply_to, is_return, shown, with_outcome, AreAtMost, GrowsByOne}
 use Rattle.command_trial.proofs.Lists.{are_digits}
 
 grown : (c : Counts) (o : Outcome) → ◌≡◌ {A = Counts} (record { ok = c.ok + cond (is_page o) 1 0; missing = c.missing + cond (is_missing o) 1 0; bytes = c.bytes + page_bytes o }) (with_outcome c o)
@@ -39,6 +39,21 @@ more_counts outcomes i low =
     let none = sum_by_more (λ o. cond (is_missing o) 1 0) outcomes i Missing low in
     let bytes = sum_by_more page_bytes outcomes i Missing low in
     (λ j. record { ok = pages j; missing = none j; bytes = bytes j }) ∙ grown (counts_of (take i outcomes)) (get_or outcomes i Missing)
+
+-- the counts stay as small as they have to be
+pub room : (n : ℕ) (counts : Counts) → n ≤ 40061 → AreAtMost n counts → AreAtMost 40061 counts
+room n counts few most = record {
+  ok = omega (arith, few, most.ok);
+  missing = omega (arith, few, most.missing);
+  bytes = omega (arith, few, most.bytes);
+}
+
+pub grown_most : (n : ℕ) (before after : Counts) → AreAtMost n before → GrowsByOne before after → AreAtMost (n + 1) after
+grown_most n before after most grows = record {
+  ok = omega (arith, most.ok, grows.ok);
+  missing = omega (arith, most.missing, grows.missing);
+  bytes = omega (arith, most.bytes, grows.bytes);
+}
 
 -- ---- the length of a page, from its reply
 

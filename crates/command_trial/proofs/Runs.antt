@@ -4,6 +4,7 @@ use Rattle.std.specs.List.{list_any, fold}
 use Rattle.std.proofs.Math.Nat.{eq-or-lt_of_le}
 use Rattle.std.proofs.lemmas.List.{same_from_push}
 use Rattle.std.proofs.lemmas.List.Elements.{All-head, All-tail}
+use Rattle.edge_io.specs.Counts.{Rose}
 use Rattle.tmpl.specs.Body.{TemplateFile}
 use Rattle.page_spec.specs.Site.{Site}
 use Rattle.page_spec.specs.declared.Outcome.{Outcome}
@@ -14,7 +15,8 @@ use Rattle.wire.specs.declared.WireEvent.TheVariants.{Opened, Bytes, Ended, Chan
 use Rattle.serving_spec.specs.Changes.{Changes}
 use Rattle.serving_spec.specs.Looks.{Kept}
 use Rattle.mem_wire.specs.Sent.{Sent}
-use Rattle.mem_wire.specs.WireInMemory.{WireInMemory, entry_of, account_of, faults_of, accounts_of, faults_in, given_of, told_of, HasEntry, IsNew}
+use Rattle.mem_wire.specs.WireInMemory.{WireInMemory, entry_of, account_of, faults_of, accounts_of, faults_in, HasEntry, IsNew}
+use Rattle.mem_wire.specs.Steady.{steady_told}
 use Rattle.hub.specs.Course.{Scene, Rules, PassesAll, IsCourse}
 use Rattle.serving_spec.specs.RunEnds.{EndsRun}
 use Rattle.hub.specs.Turns.{At}
@@ -22,7 +24,6 @@ use Rattle.serving_spec.specs.Openings.{counts}
 use Rattle.serving_spec.specs.declared.Tally.{Tally}
 use Rattle.serving_spec.specs.declared.HubEnd.{HubEnd}
 use Rattle.serving_spec.specs.declared.HubEnd.TheVariants as end
-use Rattle.wire.specs.Told.{Told}
 use Rattle.serve_run.specs.Steps.{at, run_rules, TalliedInSteps, ServesInSteps}
 use Rattle.serve_run.specs.Texts.{bytes_taken}
 use Rattle.serving_spec.specs.declared.Served.{Served}
@@ -96,12 +97,9 @@ new_at : (entry : Option Sent) → IsSome entry → IfSome entry IsNew → ◌�
 new_at None some new = absurd (true≢false (sym some))
 new_at (Some e) some new = ap (λ (s : Sent). record { line = None; account = Some (record { sends = s.sends; taken = s.taken; closes = s.closes }); faults = s.faults }) new
 
-abbrev wire_of : WireInMemory → Told
-wire_of w = told_of w
-
 module _ {D : Type 0} (root : Option (List ℕ)) (site : D → Site) (templates : D → TemplateFile) (texts : Changes D) (still : D) (turns : ℕ) (targets : List (List ℕ)) (w after : WireInMemory) (served : Served) (counts_is : Counts) where
   abbrev Tally_of : List WireEvent → Type 0
-  Tally_of events = TalliedInSteps root site templates texts still 1 256 (wire_of w) (wire_of after) served.end events served.tally
+  Tally_of events = TalliedInSteps root site templates texts still 1 256 (steady_told w) (steady_told after) served.end events served.tally
 
   fine_at : (events : List WireEvent) (tally : Tally_of events) (i : ℕ) → IsFine after (i + 1) → Fine (tally.last.ats (1 + i))
   fine_at events tally i (faults, whole) =
@@ -117,7 +115,7 @@ module _ {D : Type 0} (root : Option (List ℕ)) (site : D → Site) (templates 
 
   pub are_counted : All IsAskable targets → w.events ≡ events_from 1 targets → w.count ≡ 0
       → ((number : ℕ) → IfSome (entry_of w number) IsNew) → All (HasEntry (entry_of w)) (events_from 1 targets)
-      → ServesInSteps root site templates texts still 1 turns 256 (wire_of w) (wire_of after) served
+      → ServesInSteps root site templates texts still 1 turns 256 (steady_told w) (steady_told after) served
       → served.end ≡ end.Done
       → ((i : ℕ) → i < length targets → IsFine after (i + 1))
       → ((outcomes : List Outcome) → length outcomes ≡ length targets → AreReplied after outcomes → counts_is ≡ counts_of outcomes)
@@ -125,10 +123,10 @@ module _ {D : Type 0} (root : Option (List ℕ)) (site : D → Site) (templates 
   are_counted askable its begins new opened serves done fine counted =
       let tally = serves.tally in
       let ends : EndsRun turns serves.events end.Done = subst (EndsRun turns serves.events) done serves.ends in
-      let left : (told_of w).left ≡ Some (events_from 1 targets) = ap (λ n. Some (drop n w.events)) begins ∙ ap (λ (es : List WireEvent). Some es) its in
-      let drew : IsDrawn (Some (events_from 1 targets)) (ends.0 ++ Done ∷ []) ((told_of after).left) =
-      subst (λ es. IsDrawn (Some (events_from 1 targets)) es ((told_of after).left)) ends.1 (subst (λ o. IsDrawn o serves.events ((told_of after).left)) left serves.left) in
-      let all : serves.events ≡ events_from 1 targets ++ Done ∷ [] = ends.1 ∙ ap (λ es. es ++ Done ∷ []) (drawn_all (events_from 1 targets) ends.0 ((told_of after).left) drew ends.3 (none_done 1 targets)) in
+      let left : (steady_told w).left ≡ Some (events_from 1 targets) = ap (λ n. Some (drop n w.events)) begins ∙ ap (λ (es : List WireEvent). Some es) its in
+      let drew : IsDrawn (Some (events_from 1 targets)) (ends.0 ++ Done ∷ []) ((steady_told after).left) =
+      subst (λ es. IsDrawn (Some (events_from 1 targets)) es ((steady_told after).left)) ends.1 (subst (λ o. IsDrawn o serves.events ((steady_told after).left)) left serves.left) in
+      let all : serves.events ≡ events_from 1 targets ++ Done ∷ [] = ends.1 ∙ ap (λ es. es ++ Done ∷ []) (drawn_all (events_from 1 targets) ends.0 ((steady_told after).left) drew ends.3 (none_done 1 targets)) in
       let passes = no_change (run_rules root site templates texts) served.end (events_from 1 targets) serves.events tally.first tally.last all tally.course in
       let asked = all_asked root site templates texts still targets 1 tally.first tally.last askable passes tally.data_are
       (λ other least most. tally.begins other ∙ new_at (entry_of w other) (entries w targets 1 opened other least most) (new other))
@@ -145,11 +143,15 @@ module _ {D : Type 0} (root : Option (List ℕ)) (site : D → Site) (templates 
 -- the turns are never spent, since there are fewer events
 pub turns_left : {D : Type 0} (root : Option (List ℕ)) (site : D → Site) (templates : D → TemplateFile) (texts : Changes D)
     (still : D) (turns : ℕ) (w after : WireInMemory) (served : Served) → length w.events < turns → w.count ≡ 0
-    → ServesInSteps root site templates texts still 1 turns 256 (wire_of w) (wire_of after) served
+    → ServesInSteps root site templates texts still 1 turns 256 (steady_told w) (steady_told after) served
     → served.end ≡ end.TurnsSpent → ⊥
 turns_left root site templates texts still turns w after served fewer begins serves spent =
     let ends : EndsRun turns serves.events end.TurnsSpent = subst (EndsRun turns serves.events) spent serves.ends in
-    let left : (told_of w).left ≡ Some w.events = ap (λ n. Some (drop n w.events)) begins in
-    let drew : IsDrawn (Some w.events) serves.events ((told_of after).left) =
-    subst (λ o. IsDrawn o serves.events ((told_of after).left)) left serves.left in
-    omega (arith, ends.0, fewer, drawn_few w.events serves.events ((told_of after).left) drew ends.1)
+    let left : (steady_told w).left ≡ Some w.events = ap (λ n. Some (drop n w.events)) begins in
+    let drew : IsDrawn (Some w.events) serves.events ((steady_told after).left) =
+    subst (λ o. IsDrawn o serves.events ((steady_told after).left)) left serves.left in
+    omega (arith, ends.0, fewer, drawn_few w.events serves.events ((steady_told after).left) drew ends.1)
+
+-- a count that is always nothing never rose
+pub never_rose : Rose 0 0 → ⊥
+never_rose rose = omega (arith, rose)

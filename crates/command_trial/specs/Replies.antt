@@ -1,5 +1,5 @@
 -- What is counted of a reply.
-use Rattle.std.specs.Prelude.{◌≡◌, ◌≢◌, ℕ, ◌+◌, ◌<◌, true, false, Bool, ◌==◌, List, [], get_or, length}
+use Rattle.std.specs.Prelude.{◌≡◌, ◌≢◌, ℕ, ◌+◌, ◌*◌, ◌^◌, ◌<◌, ◌≤◌, true, false, Bool, ◌==◌, List, [], get_or, length}
 use Rattle.page_spec.specs.declared.Outcome.{Outcome}
 use Rattle.page_spec.specs.declared.Outcome.TheVariants.{Page, Missing, Cyclic, TooLong}
 use Rattle.http_spec.specs.declared.ParsedRequest.{ParsedRequest}
@@ -34,6 +34,18 @@ with_outcome counts Missing =
     record { ok = counts.ok; missing = counts.missing + 1; bytes = counts.bytes }
 with_outcome counts (Cyclic value) = counts
 with_outcome counts TooLong = counts
+
+-- n replies have at most these counts, since each has fewer than 2^64 bytes
+pub record AreAtMost (n : ℕ) (counts : Counts) : Type 0 where
+  pub ok : counts.ok ≤ n
+  pub missing : counts.missing ≤ n
+  pub bytes : counts.bytes ≤ n * 2 ^ 64
+
+-- one reply more makes the counts at most so much larger
+pub record GrowsByOne (before after : Counts) : Type 0 where
+  pub ok : after.ok ≤ before.ok + 1
+  pub missing : after.missing ≤ before.missing + 1
+  pub bytes : after.bytes ≤ before.bytes + 2 ^ 64
 
 -- whether the byte is a carriage return
 abbrev pub is_return : ℕ → Bool

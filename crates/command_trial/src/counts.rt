@@ -1,12 +1,12 @@
 // What is counted of the replies.
-ghost use Rattle.std.specs.Prelude.{◌≡◌, ◌≢◌, ◌<◌, ◌+◌, ◌^◌, ℕ, List, IfOk, IfSome, length, position};
+ghost use Rattle.std.specs.Prelude.{◌≡◌, ◌≢◌, ◌<◌, ◌≤◌, ◌+◌, ◌^◌, ℕ, List, IfOk, IfSome, OnErr, OnOk, length, position};
 ghost use Rattle.page_spec.specs.declared.Outcome.{Outcome};
 ghost use Rattle.page_spec.specs.declared.Outcome.TheVariants.{Page};
 ghost use Rattle.http_spec.specs.Replies.{no_memory_bytes};
 ghost use Rattle.command_trial.specs.Replies as specs;
 ghost use Rattle.trial_spec.specs.Numbers.{counts_of};
 
-use mem_wire::MemWire;
+use mem_wire::SteadyWire;
 use sd_value::NoMemory;
 use trial_spec::Counts;
 
@@ -75,31 +75,24 @@ fn reply_of(bytes: &[u8]) -> Reply
     }
 }
 
-// The sum of two counts of what is in memory, which fits 64 bits.
-fn sum(count: u64, more: u64) -> Result<u64, NoMemory>
-    ensures { IfOk result (λ sum. sum ≡ count + more) }
-{
-    match count.checked_add(more) {
-        Some(sum) => Ok(sum),
-        None => Err(NoMemory),
-    }
-}
-
-// The counts with one reply more.
+// The counts with one reply more. Before it there were at most 40,061.
 fn with_reply(counts: Counts, reply: Reply) -> Result<Counts, NoMemory>
+    requires { specs.AreAtMost 40061 counts }
     ensures counted { IfOk result (λ after. (outcome : Outcome) → reply
         ≡ specs.shown outcome → after ≡ specs.with_outcome counts outcome) }
-    ensures whole { IfOk result (λ _. reply ≢ Reply.Short) }
+    ensures grows { IfOk result (specs.GrowsByOne counts) }
+    ensures whole { OnOk result (reply ≢ Reply.Short) }
+    ensures short { OnErr result (reply ≡ Reply.Short) }
 {
     match reply {
         Reply::Page(bytes) => Ok(Counts {
-            ok: sum(counts.ok, 1)?,
+            ok: counts.ok + 1,
             missing: counts.missing,
-            bytes: sum(counts.bytes, bytes)?,
+            bytes: counts.bytes + u128::from(bytes),
         }),
         Reply::Missing => Ok(Counts {
             ok: counts.ok,
-            missing: sum(counts.missing, 1)?,
+            missing: counts.missing + 1,
             bytes: counts.bytes,
         }),
         Reply::Fault => Ok(counts),
@@ -108,27 +101,30 @@ fn with_reply(counts: Counts, reply: Reply) -> Result<Counts, NoMemory>
 }
 
 // The counts with the reply to one connection more.
-fn with_connection(counts: Counts, wire: &MemWire, number: u64) -> Result<Counts, NoMemory>
+fn with_connection(counts: Counts, wire: &SteadyWire, number: u64) -> Result<Counts, NoMemory>
+    requires { specs.AreAtMost 40061 counts }
     ensures counted { IfOk result (λ after. (outcome : Outcome)
         → specs.taken_by wire.now number
         ≡ specs.reply_to outcome → after ≡ specs.with_outcome counts outcome) }
-    ensures fine { IfOk result (λ _. specs.IsFine wire.now number) }
+    ensures grows { IfOk result (specs.GrowsByOne counts) }
+    ensures whole { OnOk result (specs.taken_by wire.now number ≢ no_memory_bytes) }
 {
-    if wire.send_faults(number) > 0 {
-        return Err(NoMemory);
-    }
     with_reply(counts, reply_of(wire.taken(number)))
 }
 
 /// Counts the replies to the connections from 1 to this number, each of which asked for one page.
 /// # Errors
-/// A reply is missing or cut short, which only happens where it is out of memory.
-pub(crate) fn count(wire: &MemWire, connections: u64) -> Result<Counts, NoMemory>
+/// Out of memory, for a send or for a reply.
+pub(crate) fn count(wire: &SteadyWire, connections: u64) -> Result<Counts, NoMemory>
+    requires { connections ≤ 40062 }
     ensures counted { IfOk result (λ counts. (outcomes : List Outcome) → length outcomes
         ≡ connections
         → specs.AreReplied wire.now outcomes → counts ≡ counts_of outcomes) }
-    ensures fine { IfOk result (λ _. (i : ℕ) → i < connections → specs.IsFine wire.now (i + 1)) }
+    ensures fine { OnOk result ((i : ℕ) → i < connections → specs.IsFine wire.now (i + 1)) }
 {
+    if wire.short() {
+        return Err(NoMemory);
+    }
     let mut counts = Counts {
         ok: 0,
         missing: 0,

@@ -7,7 +7,7 @@ use sd_value::{NoMemory, Str};
 use std::alloc::Global;
 use trial_spec::Counts;
 
-fn push_line(text: &mut Vec<u8>, name: &[u8], number: u64) -> Result<(), NoMemory>
+fn push_line(text: &mut Vec<u8>, name: &[u8], number: u128) -> Result<(), NoMemory>
     ensures { OnOk result (text.new.items ≡ text.old.items ++ number_line name.now number) }
 {
     let mut buffer = Buffer::new();
@@ -28,11 +28,11 @@ pub(crate) fn lines_of(
     ensures { IfOk result (λ text. text ≡ lines_of entries requests counts hits) }
 {
     let mut text = Vec::new(alloc);
-    push_line(&mut text, b"entries ", entries)?;
-    push_line(&mut text, b"requests ", requests)?;
-    push_line(&mut text, b"ok ", counts.ok)?;
-    push_line(&mut text, b"missing ", counts.missing)?;
+    push_line(&mut text, b"entries ", u128::from(entries))?;
+    push_line(&mut text, b"requests ", u128::from(requests))?;
+    push_line(&mut text, b"ok ", u128::from(counts.ok))?;
+    push_line(&mut text, b"missing ", u128::from(counts.missing))?;
     push_line(&mut text, b"bytes ", counts.bytes)?;
-    push_line(&mut text, b"hits ", hits)?;
+    push_line(&mut text, b"hits ", u128::from(hits))?;
     Str::of(alloc, text)
 }

@@ -14,7 +14,7 @@ use crate::requests::{events, targets};
 use crate::site::made_site;
 use command_spec::{RunLimits, TrialCommand};
 use hub::HubEnd;
-use mem_wire::MemWire;
+use mem_wire::SteadyWire;
 use sd_value::{NoMemory, Str};
 use site_inputs::{Fault, SiteInputs};
 use site_serving::{PageSource, serve_site};
@@ -44,7 +44,7 @@ fn ask_for(alloc: Global, site: SiteInputs, targets: &[Str]) -> Result<Counted, 
         (inputs_of site).templates targets.now counted.counts counted.hits) }
 {
     let events = events(alloc, targets)?;
-    let mut wire = MemWire::new(alloc, events, Vec::new(alloc), Vec::new(alloc))?;
+    let mut wire = SteadyWire::new(alloc, events)?;
     let served = serve_site(alloc, site, &LIMITS, PageSource::Demand, &mut wire);
     match served.end {
         HubEnd::Done => Ok(Counted {
@@ -52,8 +52,8 @@ fn ask_for(alloc: Global, site: SiteInputs, targets: &[Str]) -> Result<Counted, 
             hits: served.tally.hits,
         }),
         HubEnd::TurnsSpent => unreachable!(),
-        // The wire is told of no failing call, so none fails.
-        HubEnd::WireFailed | HubEnd::NoMemory => Err(NoMemory),
+        HubEnd::WireFailed => unreachable!(),
+        HubEnd::NoMemory => Err(NoMemory),
     }
 }
 

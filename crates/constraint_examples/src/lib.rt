@@ -33,8 +33,7 @@ pub fn titled_papers()
 {}
 
 /// `C(x), x -> a -> y, a in {5}` and the link `F(x) -> a -> y`: under version 1 the link can't
-/// carry
-/// the label `5`, and under version 2 it may, since the Int 5 and the Text `5` are twins.
+/// carry the label `5`, and under version 2 it may, since the Int 5 and the Text `5` are twins.
 pub fn twin_labels()
     ensures version_1 { IsCertificate (labels.scope 1) (Never labels.f (codes "5")) [] }
     ensures version_2 { (x : Certificate) → IsCertificate (labels.scope 2)

@@ -22,7 +22,8 @@ pub use value::value_of;
 
 /// Adds what a CSV text states. The first record is the header, and record k from 1 is the node
 /// `STEM_k`, a member of STEM, with an edge for each field that isn't empty. After a refusal the
-/// graph has what was before its place. The records are those of the crate `csv`, which follows
+/// graph has what the records before its place state, and where there is no room in it or memory also what the record at
+/// hand states before the part that wanted it. The records are those of the crate `csv`, which follows
 /// RFC 4180.
 pub fn read_csv(
     alloc: Global,

@@ -29,7 +29,8 @@ pub is_never_past : (tokens rest : List Token) → read_file tokens ≡ Past res
 is_never_past = never_past IsReal file read_file file_part.reads
 
 -- a statement of which no token is left
-pub is_one : (tokens rest : List Token) (found : Statement) → read_statement tokens ≡ Read found rest → rest ≡ [] → statement tokens found
+pub is_one : (tokens rest : List Token) (found : Statement)
+    → read_statement tokens ≡ Read found rest → rest ≡ [] → statement tokens found
 is_one tokens rest found e none =
     let s = (statement_part.reads tokens).sound found rest e in
     subst (λ ts. statement ts found) (sym (s.1 ∙ ap (λ r. s.0 ++ r) none ∙ append-nil s.0)) s.2

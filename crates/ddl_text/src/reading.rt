@@ -1,6 +1,7 @@
 //! The reader of data text over tokens.
 
-ghost use Rattle.std.specs.Prelude.{◌≡◌, IfOk, IfSome, length, List, [], map, ◌∷◌, ◌++◌, ◌<◌, MatchOption, Some, None, ◌↔◌, IsTrue, true};
+ghost use Rattle.std.specs.Prelude.{◌≡◌, IfOk, length, List, [], map, ◌∷◌, ◌++◌, ◌<◌, MatchOption, Some, None, ◌↔◌, IsTrue, true};
+ghost use Rattle.std.specs.Prelude.{IfSome};
 ghost use Rattle.grammar.specs.Reading.{take_one, repeat, starts, with_front};
 ghost use Rattle.sd_lex.specs.declared.token.Sign.TheVariants as signs;
 ghost use Rattle.token_reader.specs.Gives.{Gives, IsReal};

@@ -25,8 +25,8 @@ pub fn statements_of(alloc: Global, bytes: &[u8], limit: u64) -> Result<Vec<Stat
     Ok(found)
 }
 
-/// The statement that the tokens up to and with the next `}` spell, and what is left of the text then. `tokens` is room
-/// for these tokens. `None` may also be out of memory.
+/// The statement that the tokens up to and with the next `}` spell, and what is left of the text
+/// then. `tokens` is room for these tokens. `None` may also be out of memory.
 pub fn next_statement<'a>(
     alloc: Global,
     rest: Rest<'a>,

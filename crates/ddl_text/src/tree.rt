@@ -67,12 +67,14 @@ impl Model for Words {
 }
 
 impl Words {
+    /// These words, in their order.
     pub fn new(items: Vec<Word>) -> Words
         ensures { result ≡ items.items }
     {
         Words { items }
     }
 
+    /// The words, in their order.
     pub fn items(&self) -> &[Word]
         ensures { result.now ≡ self.now }
     {
@@ -93,12 +95,14 @@ impl Model for Entries {
 }
 
 impl Entries {
+    /// These entries, in their order.
     pub fn new(items: Vec<Entry>) -> Entries
         ensures { result ≡ items.items }
     {
         Entries { items }
     }
 
+    /// The entries, in their order.
     pub fn items(&self) -> &[Entry]
         ensures { result.now ≡ self.now }
     {
@@ -119,12 +123,14 @@ impl Model for Fields {
 }
 
 impl Fields {
+    /// These attributes, in their order.
     pub fn new(items: Vec<Field>) -> Fields
         ensures { result ≡ items.items }
     {
         Fields { items }
     }
 
+    /// The attributes, in their order.
     pub fn items(&self) -> &[Field]
         ensures { result.now ≡ self.now }
     {
@@ -132,6 +138,7 @@ impl Fields {
     }
 }
 
+/// A statement of a data text.
 #[derive(Drop)]
 pub enum Statement {
     /// A collection and the kinds of its objects' attributes.

@@ -199,7 +199,7 @@ fn copied(alloc: Global, flags: &[bool]) -> Result<Vec<bool>, NoMemory> {
 }
 
 impl<'a> Wanted<'a> {
-    /// Marks the variables that goals join with those of the flags. Only memory can run out.
+    /// Marks the variables that goals join with those of the flags. It fails only out of memory.
     pub fn new(
         alloc: Global,
         goals: &[Goal],

@@ -26,14 +26,14 @@ fn count_positions(expression: &Rpe) -> u32
     }
 }
 
-// Whether it has few enough positions.
+/// Whether it has few enough positions.
 pub fn is_searched(expression: &Rpe) -> bool
     ensures { IsTrue result ↔ (positions (regex_of expression.now) ≤ 16) }
 {
     count_positions(expression) <= MAX_SEARCHED
 }
 
-// Whether the two are one expression.
+/// Whether the two are one expression.
 pub fn same(a: &Rpe, b: &Rpe) -> bool
     ensures { IsTrue result ↔ (regex_of a.now ≡ regex_of b.now) }
 {
@@ -65,7 +65,7 @@ pub fn same(a: &Rpe, b: &Rpe) -> bool
     }
 }
 
-// The automaton of an expression with few positions.
+/// The automaton of an expression with few positions.
 pub fn automaton_of(alloc: Global, expression: &Rpe) -> Result<Automaton, NoMemory>
     requires { positions (regex_of expression.now) ≤ 16 }
     ensures words { IfOk result (λ a. (w : Word) → HasWord a w

@@ -11,16 +11,16 @@ use automaton::{Automaton, PositionSet};
 use sd_value::{NoMemory, Str};
 use std::alloc::Global;
 
-// What the second automaton may do.
+/// What the second automaton may do.
 #[derive(Drop)]
 pub struct Masks {
-    // Where a word may begin.
+    /// Where a word may begin.
     pub first: u32,
-    // Where a word may end.
+    /// Where a word may end.
     pub last: u32,
-    // For each of its positions those that may stand right after it.
+    /// For each of its positions those that may stand right after it.
     pub next: Vec<u32>,
-    // For each position of the first automaton those of the second that read all that it reads.
+    /// For each position of the first automaton those of the second that read all that it reads.
     pub covers: Vec<u32>,
 }
 
@@ -69,7 +69,7 @@ fn covers_of(a: &Automaton, p: u32, b: &Automaton) -> u32
     mask
 }
 
-// The position alone.
+/// The position alone.
 pub fn alone(p: u32) -> PositionSet
     requires { p < 256 }
     ensures { (q : ℕ) → Has result q ↔ (q ≡ p) }
@@ -108,6 +108,7 @@ fn all_covers(alloc: Global, a: &Automaton, b: &Automaton) -> Result<Vec<u32>, N
     Ok(covers)
 }
 
+/// What the second automaton may do, beside what the first reads.
 pub fn masks_of(alloc: Global, a: &Automaton, b: &Automaton) -> Result<Masks, NoMemory>
     requires { length b.now.letters ≤ 16 }
     ensures { IfOk result (λ masks. IsMasks a.now b.now masks) }
@@ -122,7 +123,7 @@ pub fn masks_of(alloc: Global, a: &Automaton, b: &Automaton) -> Result<Masks, No
     })
 }
 
-// The positions right after one of the set.
+/// The positions right after one of the set.
 pub fn reach_of(next: &Vec<u32>, set: u32) -> u32
     requires { length next.now.items ≤ 16 }
     ensures { IsReach next.now.items set result }

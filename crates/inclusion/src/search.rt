@@ -1,5 +1,4 @@
-// The search for a word of one automaton that another has not, over pairs of a position of the
-// first and the set of
+// The search for a word of one automaton that another has not, over pairs of a position of the first and the set of
 // positions of the second that the same letters lead to.
 
 ghost use Rattle.std.specs.Prelude.{◌≡◌, ℕ, ◌+◌, ◌*◌, ◌^◌, ◌<◌, ◌≤◌, ◌↔◌, IsTrue, IfOk, MatchOption, length, slice_index, bit_and};
@@ -14,9 +13,8 @@ use automaton::{Automaton, PositionSet};
 use sd_value::{NoMemory, Str};
 use std::alloc::Global;
 
-// A position of the first automaton, which a word's last letter so far stands at, and the positions
-// of the second at
-// which it may stand.
+/// A position of the first automaton, which a word's last letter so far stands at, and the positions of the second at
+/// which it may stand.
 #[derive(Clone, Copy)]
 pub struct Pair {
     pub position: u32,
@@ -111,7 +109,7 @@ fn fill(from: &mut Vec<usize>, count: usize, number: usize) -> Result<(), NoMemo
     Ok(())
 }
 
-// A word of the first automaton that isn't one of the second, or none where each is.
+/// A word of the first automaton that isn't one of the second, or none where each is.
 pub fn missing_word(
     alloc: Global,
     a: &Automaton,

@@ -36,8 +36,7 @@ fn label_at(alloc: Global, a: &Automaton, p: u32, other: &Str) -> Result<Str, No
     }
 }
 
-// The word that led to the pair at the place, at which the first automaton may end and the second
-// may not.
+/// The word that led to the pair at the place, at which the first automaton may end and the second may not.
 pub fn spelled(
     alloc: Global,
     a: &Automaton,

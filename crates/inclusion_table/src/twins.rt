@@ -8,7 +8,7 @@ ghost use Rattle.inclusion_table.specs.Spelled.{spells as is_spelled, has_twin a
 use itoa::Buffer;
 use sd_value::{Datum, Str, Value};
 
-// Whether the text is what is printed of the number.
+/// Whether the text is what is printed of the number.
 pub fn spells(n: i64, text: &Str) -> bool
     ensures { result ≡ is_spelled n text.now }
 {
@@ -36,7 +36,7 @@ fn is_number(text: &Str) -> bool
     }
 }
 
-// Whether the value is a number, or what is printed of one.
+/// Whether the value is a number, or what is printed of one.
 pub fn has_twin(value: &Value) -> bool
     ensures { result ≡ is_twin value.now }
 {

@@ -49,6 +49,7 @@ fn renamed_name(
     name_for(variables, names, name).copy(alloc)
 }
 
+/// The operand with each variable under its new name.
 pub fn renamed_operand(
     alloc: Global,
     variables: &[Variable],

@@ -1,2 +1,3 @@
 pub mod Sent
 pub mod WireInMemory
+pub mod Steady

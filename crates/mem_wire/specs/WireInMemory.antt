@@ -123,3 +123,7 @@ HasEntry entry (Ended number) = ⊤
 HasEntry entry (Lost number) = ⊤
 HasEntry entry (Change text) = ⊤
 HasEntry entry Done = ⊤
+
+-- which calls and which sends are to fail is as it was
+abbrev pub ListsStay : WireInMemory → WireInMemory → Type 0
+ListsStay before after = (after.failing ≡ before.failing) × (after.sends ≡ before.sends)

@@ -6,13 +6,14 @@ ghost use Rattle.std.specs.Prelude.{IfSome, IsSome, OnOk, OnErr, Err, is_err, Is
 ghost use Rattle.std.specs.Ordering.{nat_cmp};
 ghost use Rattle.std.specs.BTreeMap.{get};
 ghost use Rattle.edge_io.specs.Counts.{Rose};
-ghost use Rattle.wire.specs.Accounts.{up, send_to};
+ghost use Rattle.wire.specs.Accounts.{up, send_to, close_to};
 ghost use Rattle.wire.specs.Events.{add_event, add_listen, IsWatched, IsNextOf};
 ghost use Rattle.wire.specs.Told.{EventsStay, OtherAccountsStay, OtherFaultsStay};
 ghost use Rattle.mem_wire.specs.WireInMemory.{is_named, cut_of, told_of, faults_in, fails_next, next_cut, taken_of};
-ghost use Rattle.mem_wire.specs.WireInMemory.{is_closed, entry_of, HasEntry, IsNew};
+ghost use Rattle.mem_wire.specs.WireInMemory.{is_closed, entry_of, HasEntry, IsNew, ListsStay};
 
 mod entry;
+mod steady;
 
 use edge_io::Failed;
 use entry::{Entry, Went};
@@ -20,6 +21,7 @@ use sd_value::{NoMemory, Str};
 use std::alloc::Global;
 use std::collections::BTreeMap;
 use std::marker::Model;
+pub use steady::SteadyWire;
 use wire::{Wire, WireEnd, WireEvent};
 
 /// A send that fails: which send to which connection, counted from 1, and how many bytes it takes.
@@ -294,6 +296,8 @@ impl Wire for MemWire {
             × ((told_of self.new).left ≡ (told_of self.old).left)
             × ((told_of self.new).watches ≡ (told_of self.old).watches) }
         ensures fails { is_err result ≡ fails_next self.old }
+        ensures lists { ListsStay self.old self.new }
+        ensures same_short { self.new.is_short ≡ self.old.is_short }
     {
         self.listens = self.listens.saturating_add(1);
         self.port = port;
@@ -317,6 +321,8 @@ impl Wire for MemWire {
             × ((told_of self.new).listens ≡ (told_of self.old).listens) }
         ensures fails { result ≡ Err WireEnd.Failed → fails_next self.old ≡ true }
         ensures fine_call { OnOk result (fails_next self.old ≡ false) }
+        ensures lists { ListsStay self.old self.new }
+        ensures same_short { self.new.is_short ≡ self.old.is_short }
     {
         let Ok(path) = path.copy(alloc) else {
             return Err(WireEnd::NoMemory);
@@ -349,6 +355,8 @@ impl Wire for MemWire {
             × ((told_of self.new).watches ≡ (told_of self.old).watches) }
         ensures fails { fails_next self.old ≡ true → result ≡ Err WireEnd.Failed }
         ensures named { result ≡ Err WireEnd.Failed → fails_next self.old ≡ true }
+        ensures lists { ListsStay self.old self.new }
+        ensures same_short { self.new.is_short ≡ self.old.is_short }
     {
         if self.call() {
             return Err(WireEnd::Failed);
@@ -387,6 +395,8 @@ impl Wire for MemWire {
             self.new.is_short ≡ self.old.is_short → self.old.is_short ≡ false
             → (told_of self.new).account connection
             ≡ send_to ((told_of self.old).account connection) (take some bytes.now)) }
+        ensures lists { ListsStay self.old self.new }
+        ensures stays_short { self.old.is_short ≡ true → self.new.is_short ≡ true }
     {
         let Some(entry) = self.entries.get_mut(&connection) else {
             return Ok(());
@@ -402,7 +412,16 @@ impl Wire for MemWire {
         }
     }
 
-    fn close(&mut self, connection: u64) {
+    fn close(&mut self, connection: u64)
+        ensures closed { (told_of self.new).account connection
+            ≡ close_to ((told_of self.old).account connection) }
+        ensures others { OtherAccountsStay connection (told_of self.old) (told_of self.new) }
+        ensures faults_stay { (other : ℕ)
+            → (told_of self.new).faults other ≡ (told_of self.old).faults other }
+        ensures stays { EventsStay (told_of self.old) (told_of self.new) }
+        ensures lists { ListsStay self.old self.new }
+        ensures same_short { self.new.is_short ≡ self.old.is_short }
+    {
         if let Some(entry) = self.entries.get_mut(&connection) {
             entry.close();
         }

@@ -80,7 +80,7 @@ impl<P: Versions + Drop> Cached<P> {
     }
 
     /// Takes a text, as the pages do. Where it is accepted, the terms whose pages surely stay are kept on, in their
-    /// order, and no other. After out of memory none may be kept.
+    /// order, and no other. After out of memory perhaps none is kept.
     pub fn renew(&mut self, alloc: Global, text: &Str, kept: &[Term]) -> Result<Changed, NoMemory>
         requires own { P.Own self.old.pages }
         requires sound { AreKept (IsOutcome (P.site (P.state self.old.pages))

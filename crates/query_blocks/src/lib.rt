@@ -1,4 +1,4 @@
-//! The site of a query as pages see it, and a query's blocks as a site asks by them.
+//! A query's blocks as a site asks by them, and the root of its site.
 #![tactic(auto)]
 
 mod root;

@@ -39,8 +39,8 @@ fn events_of(phrases: Vec<WireEvent>) -> Vec<WireEvent>
 /// script := { "open" Int | "bytes" Int Quoted | "end" Int | "lost" Int | "change" Quoted }
 /// ```
 ///
-/// Each number is a connection's, from 1 on. The text of a change may become the data of the run. An empty piece of
-/// bytes is no event. A text of more bytes is `TooLong`, one that has no tokens has the lexer's refusal, and one that is
+/// Each number is a connection's, from 1 on. The text of a change may replace or edit the data of the run. An empty
+/// piece of bytes is no event. A text of more bytes is `TooLong`, one that has no tokens has the lexer's refusal, and one that is
 /// no script is `Expected` at the first token such that no script begins with the tokens up to and with it, or at its
 /// end where more is wanted.
 pub fn read_script(alloc: Global, bytes: &[u8], limit: u64) -> Result<Vec<WireEvent>, ScriptRefusal>

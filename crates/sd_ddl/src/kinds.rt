@@ -153,7 +153,6 @@ impl Kinds {
     }
 
     /// The kinds that directives of the object's collections give the attribute.
-    /// The kinds that were given to an attribute.
     pub(crate) fn told(
         &self,
         alloc: Global,

@@ -1,5 +1,6 @@
 -- A text read part by part, each up to and with a `}`.
-use Rattle.std.specs.Prelude.{◌≡◌, ◌⊎◌, ℕ, ◌+◌, ◌≤◌, ◌<◌, Bool, true, false, List, [], ◌∷◌, ◌++◌, length, Result, Ok, Err}
+use Rattle.std.specs.Prelude.{◌≡◌, ◌⊎◌, ℕ, ◌+◌, ◌≤◌, ◌<◌, Bool, true, false, List, [], ◌∷◌, ◌++◌}
+use Rattle.std.specs.Prelude.{length, Result, Ok, Err}
 use Rattle.std.specs.List.{list_any}
 use Rattle.sd_lex.specs.declared.refusal.LexRefusal.{LexRefusal}
 use Rattle.sd_lex.specs.declared.refusal.LexRefusal.TheVariants.{TooLong}
@@ -37,8 +38,8 @@ IsClosed tokens left =
     × (list_any is_close front ≡ false) × (is_close last ≡ true))
     ⊎ ((list_any is_close tokens ≡ false) × (left ≡ []))
 
--- The bytes from `at` on are blanks, comments and these tokens, up to and with the first `}`, and then what is left. Or
--- there is a fault before that.
+-- The bytes from `at` on are blanks, comments and these tokens, up to and with the first `}`, and
+-- then what is left. Or there is a fault before that.
 abbrev pub IsClosedOrFault : ℕ → List ℕ → List Token → Result Rest LexRefusal → Type 0
 IsClosedOrFault at bytes tokens (Ok left) =
     Lexes left.at left.bytes.now at bytes tokens × IsClosed tokens left.bytes.now

@@ -39,15 +39,16 @@ fn is_close(token: &Token) -> bool
     }
 }
 
-/// The tokens up to and with the next `}`, or all that are left, in place of what `tokens` had. What is left then begins
-/// behind the blanks and comments that follow.
+/// The tokens up to and with the next `}`, or all that are left, in place of what `tokens` had.
+/// What is left then begins behind the blanks and comments that follow.
 pub fn tokens_to_close<'a>(
     alloc: Global,
     rest: Rest<'a>,
     tokens: &mut Vec<Token>,
 ) -> Result<Rest<'a>, LexRefusal>
     requires { rest.at + length rest.bytes.now < 2 ^ 64 }
-    ensures { UnlessNoMemory (IsClosedOrFault rest.entry.at rest.entry.bytes.now tokens.new.items) result }
+    ensures { UnlessNoMemory
+        (IsClosedOrFault rest.entry.at rest.entry.bytes.now tokens.new.items) result }
 {
     tokens.clear();
     let mut bytes = behind_gaps(rest.bytes);

@@ -2,7 +2,8 @@
 ghost use Rattle.std.specs.Prelude.{◌≡◌, ◌⊎◌, ◌<◌, ◌^◌, ◌∷◌, [], ℕ, length, Ok, Err, ⊤, Result};
 ghost use Rattle.std.specs.Option.{ForSome};
 ghost use Rattle.site_inputs.specs.Runs.{FileEnds, ReadsHaveCause};
-ghost use Rattle.site_inputs.specs.Sources.{TakesIn, TextTaken, SourceEnds, FilesEnd, GraphEnds, empty_building, graph_result, with_building};
+ghost use Rattle.site_inputs.specs.Sources.{TakesIn, TextTaken, SourceEnds, FilesEnd, GraphEnds, empty_building};
+ghost use Rattle.site_inputs.specs.Sources.{graph_result, with_building};
 
 use crate::fault::{Fault, refused, unread};
 use command_spec::DataFiles;

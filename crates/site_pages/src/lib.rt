@@ -1,4 +1,4 @@
-//! The pages of a query's site over data that a text replaces, which may be the site of a first query.
+//! The pages of a query's site over data that a text replaces or edits. They may be the site of a first query.
 #![tactic(auto)]
 
 ghost use Rattle.std.specs.Prelude.{◌≡◌, IfOk, false, map};
@@ -25,7 +25,7 @@ use struql_check::Checked;
 use tmpl::Templates;
 use versions::{Changed, Same, Versions};
 
-/// The pages of a query's site, over data that an accepted text replaces.
+/// The pages of a query's site, over data that an accepted text replaces or edits.
 #[derive(Drop)]
 pub struct SitePages<'q> {
     pages: MadePages<'q>,

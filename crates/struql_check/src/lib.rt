@@ -90,11 +90,11 @@ fn first_fault(alloc: Global, query: &Query) -> Result<Option<Fault>, NoMemory>
     Ok(earlier(by_block, by_term))
 }
 
-/// Checks a query that a text gives: each variable that a clause uses is mentioned by a condition, and is used as a
-/// label exactly where it stands for one; functions are created, and have one number of arguments;
-/// links start at terms; no name is reserved; expressions and chains are within their limits. The
-/// query is dropped on a refusal, which is the fault at the least place, and there the one of the
-/// least number.
+/// Checks a query that a text gives: each variable that a clause uses is mentioned by a condition; one that is used as a
+/// label stands for one, and one that stands for a label is at no end of a path and in no `C(x)`; functions are created,
+/// and have one number of arguments; links start at terms; no name is reserved; expressions and chains are within their
+/// limits. The query is dropped on a refusal, which is the fault at the least place, and there the one of the least
+/// number.
 pub fn check(alloc: Global, query: Query) -> Result<Checked, CheckRefusal>
     requires { IsParsed (query_of query) }
     ensures { Answers query result }

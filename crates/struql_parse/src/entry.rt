@@ -14,7 +14,7 @@ use std::alloc::Global;
 use struql_ast::Query;
 
 /// The query that a text of at most `limit` bytes spells, with the places of its parts. Faults of
-/// tokens come before those of the grammar; among the latter the first token reports.
+/// tokens come before those of the grammar; of the latter the one at the first token is reported.
 pub fn parse(alloc: Global, bytes: &[u8], limit: u64) -> Result<Query, ParseRefusal>
     ensures exact { TextStates limit bytes.now result }
     ensures only { (tokens : List Token) (query : Written)

@@ -26,7 +26,8 @@ use Rattle.struql_ast.specs.Written.{Step, Condition, Term, Target, Link, Collec
 use Rattle.grammar.specs.Grammar.{nothing, one, ◌>>=◌, ◌>>◌, either, iterated}
 use Rattle.struql_text.specs.declared.keyword.Keyword.TheVariants as words
 use Rattle.struql_text.specs.declared.keyword.Word.{Word}
-use Rattle.struql_text.specs.Terminals.{from_to, name_value, collection_value, operand_value, operand_span, constant_value, label_value, op_value, test_of}
+use Rattle.struql_text.specs.Terminals.{from_to, name_value, collection_value, operand_value, operand_span}
+use Rattle.struql_text.specs.Terminals.{constant_value, label_value, op_value, test_of}
 use Rattle.struql_text.specs.Expression.{sign, keyword, Counted}
 
 -- ---- lists

@@ -56,6 +56,7 @@ fn speaks_within<S: OpenStream>(stream: &S, millis: u32) -> bool {
 }
 
 impl<S: Read + Write + OpenStream + Drop> Waiting<S> {
+    /// No connection waits.
     pub fn new(alloc: Global) -> Self {
         Waiting {
             silent: Vec::new(alloc),

@@ -28,6 +28,7 @@ pub enum Mark {
     Fault,
 }
 
+/// What an item is.
 #[derive(Debug, Drop)]
 pub enum ItemKind {
     Mark(Mark),
@@ -37,6 +38,7 @@ pub enum ItemKind {
     Token(TokenKind),
 }
 
+/// A part of a template text, as its reader takes it.
 #[derive(Debug, Drop)]
 pub struct Item {
     pub kind: ItemKind,

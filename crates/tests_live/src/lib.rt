@@ -1,4 +1,5 @@
-//! Edits of the data: their texts, and which pages each can touch, beside answers worked by hand.
+//! Edits of the data: their texts, which pages each can touch, the store that takes them and the pages that are kept,
+//! beside answers worked by hand.
 #![tactic(auto)]
 
 #[cfg(test)]

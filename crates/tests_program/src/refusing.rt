@@ -48,6 +48,7 @@ const COMMANDS: &[&[&str]] = &[
     &["schema", "q"],
     &["check", "q", "c"],
     &["check", "--here", "q", "c", "d"],
+    &["lint", "q", "t", "d"],
 ];
 
 fn check_refused<R: AllocGlobal + Abort>(rt: &R, words: &[&str]) -> Result<(), Fail> {

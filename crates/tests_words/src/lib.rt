@@ -7,7 +7,6 @@ mod checks;
 #[cfg(test)]
 mod commands;
 #[cfg(test)]
-#[cfg(test)]
 mod path_words;
 #[cfg(test)]
 mod queries;

@@ -1,12 +1,13 @@
 //! The trial: its data, its query and templates, what is asked for, and what is counted.
 #![tactic(auto)]
 
-/// How many replies have a page, how many have none, and how many bytes the pages have.
+/// How many replies have a page, how many have none, and how many bytes the pages have. One page's length may take all of
+/// 64 bits, so the sum has 128.
 #[derive(Clone, Copy)]
 pub struct Counts {
     pub ok: u64,
     pub missing: u64,
-    pub bytes: u64,
+    pub bytes: u128,
 }
 
 /// What an entry says: its number, its year, and the numbers of two authors, who may be one.

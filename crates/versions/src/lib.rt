@@ -1,4 +1,4 @@
-//! Pages of a site whose data a text may replace.
+//! Pages of a site whose data a text may replace or edit.
 #![tactic(auto)]
 
 ghost use Rattle.std.specs.Prelude.{◌≡◌, ◌↔◌, ℕ, List, Bool, true, false, Contains, IfOk, OnErr, Ok};
@@ -26,7 +26,7 @@ pub struct Same {
 /// What became of a text.
 #[derive(Debug, Drop)]
 pub enum Changed {
-    /// It was accepted, and its data are the current ones.
+    /// It was accepted, and the data that it makes are the current ones.
     Taken(Same),
     /// It was not, and nothing has changed.
     Refused,

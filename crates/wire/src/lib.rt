@@ -22,7 +22,7 @@ pub enum WireEvent {
     Ended(u64),
     /// The connection is gone.
     Lost(u64),
-    /// A text that may become the data of the run.
+    /// A text that may replace or edit the data of the run.
     Change(Str),
     /// Nothing more comes of any connection.
     Done,

@@ -24,8 +24,9 @@ use std::alloc::Global;
 
 /// Adds what a BibTeX text states. Each entry is the node of its key, a member of STEM and of its
 /// type, with an edge for each field that isn't empty and one for each author and editor. After a
-/// refusal the graph has what the entries before its place state. Places count from behind a byte
-/// order mark, which is dropped.
+/// refusal the graph has what the entries before its place state, and where there is no room in it or memory also what
+/// the entry at hand states before the part that wanted it. Places count from behind a byte order mark, which is
+/// dropped.
 #[tactic(auto, using(crate::proofs::SpelledText::tells))]
 pub fn read_bibtex(
     alloc: Global,

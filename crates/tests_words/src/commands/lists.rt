@@ -323,7 +323,6 @@ fn words_give_their_command(rt: HostRuntime) -> Result<(), Fail> {
     check_commands(rt.alloc(), COMMANDS)
 }
 
-// Words that give no command.
 // A word that says that the data are read leniently, at every place and beside every other flag.
 const WITH_LENIENT: &[CommandRow] = &[
     CommandRow {
@@ -380,6 +379,7 @@ const WITH_LENIENT: &[CommandRow] = &[
     },
 ];
 
+// Words that give no command.
 const NO_COMMANDS: &[&[&str]] = &[
     &[],
     &[""],

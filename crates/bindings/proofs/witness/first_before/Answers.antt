@@ -1,6 +1,6 @@
 use Rattle.store.specs.First.{first-sound}
 use Rattle.candidate_values.proofs.InGraph.{edge_start}
-use Rattle.bindings.proofs.Tries.{tried}
+use Rattle.bindings.proofs.Tries.{tried_before}
 use Rattle.bindings.proofs.witness.first_before.Goals as goal
 
 pub settle-requires-clause-in_graph : goal.settle-requires-clause-in_graph
@@ -8,4 +8,6 @@ settle-requires-clause-in_graph g c told wf v at = edge_start (g.S.Store.graph c
 
 pub returns : goal.returns
 returns g c =
-    tried (g.S.Store.graph c.args.search.now.store.now) c.args.search.now.version c.args.search.now.arcs.now c.args.search.now.goals.now _ _ _ _ _ _ _ c.in-Some-free_at.ensures.1 c.in_ok-offer.ensures
+    rw c.in-Edge.is
+    (tried_before (g.S.Store.graph c.args.search.now.store.now) c.args.search.now.version c.args.search.now.arcs.now c.args.search.now.goals.now _ _ _ _ _ _ _ _ _ _ _ c.in-Some.ensures c.in-Some-free_at.ensures.0 c.in-Some-free_at.ensures.1
+    (first-sound 1 _ c.in_ok-values.ensures) c.in_ok-offer.ensures)

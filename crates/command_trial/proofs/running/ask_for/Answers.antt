@@ -6,7 +6,7 @@ use Rattle.site_pages.specs.Texts.{current_site, current_templates, data_texts}
 use Rattle.site_serving.specs.Served.{first_data}
 use Rattle.trial_spec.specs.Events.{events_from}
 use Rattle.command_trial.proofs.Lists.{events_few}
-use Rattle.command_trial.proofs.Runs.{are_counted, turns_left}
+use Rattle.command_trial.proofs.Runs.{are_counted, turns_left, never_rose}
 use Rattle.command_trial.proofs.running.ask_for.Goals as goal
 
 pub returns-in-Done : goal.returns-in-Done
@@ -27,3 +27,6 @@ unreachable-requires c =
     (data_texts c.serve_site-served.ensures.steps.0) (first_data (inputs_of c.args.site)) 4294967296 c.in_ok-wire.wire
     c.serve_site-served.new.wire c.serve_site-served.result fewer
     (ap (λ (w : WireInMemory). w.count) c.in_ok-wire.ensures.told) c.serve_site-served.ensures.steps.1 c.in-TurnsSpent.is
+
+pub unreachable-requires-in-WireFailed : goal.unreachable-requires-in-WireFailed
+unreachable-requires-in-WireFailed c = never_rose (c.serve_site-served.ensures.failed c.in-WireFailed.is)

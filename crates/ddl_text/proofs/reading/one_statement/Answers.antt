@@ -6,4 +6,5 @@ use Rattle.ddl_text.proofs.reading.one_statement.Goals as goal
 
 pub returns-then-is_empty : goal.returns-then-is_empty
 returns-then-is_empty c =
-    is_one c.args.tokens.now c.in-Ok.rest.now c.in-Ok.statement c.in-Ok.ensures (nil_from_length c.in-Ok.rest.now (eqb-true (length c.in-Ok.rest.now) 0 (sym c.if-is_empty.ensures)))
+    is_one c.args.tokens.now c.in-Ok.rest.now c.in-Ok.statement c.in-Ok.ensures
+    (nil_from_length c.in-Ok.rest.now (eqb-true (length c.in-Ok.rest.now) 0 (sym c.if-is_empty.ensures)))

@@ -4,4 +4,5 @@ use Rattle.sd_lex.proofs.lexing.read_text.Goals as goal
 
 pub returns-then-not-has_escape : goal.returns-then-not-has_escape
 returns-then-not-has_escape c =
-    ap Ok c.in_ok-new.ensures ∙ sym (spells_itself c.args.at [] c.args.bytes.now (sym c.has_escape.ensures ∙ c.if-not-has_escape.true))
+    ap Ok c.in_ok-new.ensures
+    ∙ sym (spells_itself c.args.at [] c.args.bytes.now (sym c.has_escape.ensures ∙ c.if-not-has_escape.true))

@@ -1,7 +1,0 @@
-use Rattle.std.proofs.Common.{take}
-use Rattle.std.specs.List.{AllZip}
-use Rattle.bindings.specs.Followed.{IsGoalFor}
-use Rattle.bindings.proofs.follow.goals_along.Given as goal
-
-abbrev pub invariant-loop-step : goal.invariant-loop-step
-invariant-loop-step l = AllZip (IsGoalFor l.variables l.conditions) (take l.step-index l.steps) l.goals.items
