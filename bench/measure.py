@@ -37,10 +37,10 @@ def strudel(words, folder, wanted=0, limit=None):
     return measured([STRUDEL, *words], folder, wanted, limit)
 
 
-def least(words, folder, wanted=0, limit=None):
-    """The least processor seconds of three runs of the program, one where a run takes more than five seconds, and its megabytes."""
+def least(words, folder, wanted=0, limit=None, runs=3):
+    """The least processor seconds of so many runs of the program, one where a run takes more than five seconds, and its megabytes."""
     best, memory = strudel(words, folder, wanted, limit)
-    for _ in range(2):
+    for _ in range(runs - 1):
         if best is not None and best < 5:
             best, memory = min((best, memory), strudel(words, folder, wanted, limit))
     return best, memory

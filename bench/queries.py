@@ -79,7 +79,9 @@ GROUPS_PAGES = """<TEMPLATE Type><h1><SFMT @title></h1><SFMT @entry LINK=name DE
 
 
 def clicks(folder, addresses):
-    """Processor seconds of each page of a site in `folder`, made when it is asked for, less those of a run that asks for no page."""
+    """Processor seconds of each page of a site in `folder`, made when it is asked for, less those of a run that asks for no page.
+
+    Both are long beside their difference, so each is the least of nine runs."""
     def script(asked):
         for n, address in enumerate(asked, 1):
             yield f'open {n} bytes {n} "GET {address} HTTP/1.1\\r\\nHost: a\\r\\n\\r\\n" end {n}\n'
@@ -88,9 +90,9 @@ def clicks(folder, addresses):
     strudel(["page", "q", "t", addresses[0], "d.ddl"], folder)
     words = ["replay", "q", "t", "script", "d.ddl"]
     written(f"{folder}/script", script(["/no"]))
-    nothing, _ = least(words, folder)
+    nothing, _ = least(words, folder, runs=9)
     written(f"{folder}/script", script(addresses))
-    seconds, _ = least(words, folder, limit=LIMIT)
+    seconds, _ = least(words, folder, limit=LIMIT, runs=9)
     return None if seconds is None else max(seconds - nothing, 0.0) / len(addresses)
 
 

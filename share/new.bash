@@ -21,5 +21,6 @@ make_site() {
     echo "strudel: $1 can't be made" >&2
     return 5
   fi
+  case $1 in -*) set -- "./$1" ;; esac
   printf 'made %s. Now:\n  cd %s\n  strudel build q.struql t.tmpl out books.csv\n' "$1" "$1"
 }

@@ -6,8 +6,9 @@ refused_line='^strudel: (.*): ([0-9]+) ([A-Za-z0-9]+) at (.*)$'
 
 # explain LINE WORD..: for the line that the program ended with, and the words it was given.
 explain() {
-  local line=$1
+  local line=$1 lenient=
   shift
+  [[ " $* " != *" --lenient "* ]] || lenient=1
   if [[ $line =~ $refused_line ]]; then
     explain_refusal "${BASH_REMATCH[1]}" "${BASH_REMATCH[2]}" "${BASH_REMATCH[3]}" "${BASH_REMATCH[4]}"
     return
@@ -20,7 +21,8 @@ explain() {
     "strudel: not found")
       echo "No page of the site has this address. A page's address is /F.html for F(), and /F/tSome~20text.html or /F/nname.html"
       echo "with an argument: i for an integer, t a text, u a URL, f a file, n a node; a function without a template has no page."
-      [ -z "${2-}" ] || "$program" schema "$2" 2>/dev/null | awk '/^[A-Za-z_]/ && !/^other$/ { all = all " " $0 } END { if (all) print "Functions of the query, with how many arguments they have:" all }'
+      operands "$@"
+      [ -z "${given[0]-}" ] || "$program" schema -- "${given[0]}" 2>/dev/null | awk '/^[A-Za-z_]/ && !/^other$/ { all = all " " $0 } END { if (all) print "Functions of the query, with how many arguments they have:" all }'
       ;;
     *": cyclic embedding at "*) echo "A page can't have itself within itself: an EMBED leads back to the value that is named. Show a LINK there instead." ;;
     *": too long") echo "A page has at most 16777216 bytes: spread its values over several pages." ;;
@@ -31,9 +33,12 @@ explain() {
   esac
 }
 
-# The sentence of a refusal in the table of docs/FORMATS.md.
+# The sentence of a refusal in the table of docs/FORMATS.md, without its advice of --lenient where that was given.
 meaning() {
-  awk -v number="$1" -f "$top/share/explain/meaning.awk" "$top/docs/FORMATS.md" 2>/dev/null
+  local told
+  told=$(awk -v number="$1" -f "$top/share/explain/meaning.awk" "$top/docs/FORMATS.md" 2>/dev/null)
+  if [ -n "$lenient" ]; then told=$(sed -e 's/: `--lenient` [^:]*[.]$/./' -e 's/try `--lenient`, or //' <<<"$told"); fi
+  printf '%s\n' "$told"
 }
 
 # A script of awk over a file, byte by byte. Values of variables have no escapes of awk's in them.
@@ -180,11 +185,28 @@ explain_unread() {
   fi
 }
 
+# operands COMMAND WORD..: the words of `page` or `build` that are no options, in the list `given`.
+operands() {
+  local open=1
+  given=()
+  shift
+  while [ $# -gt 0 ]; do
+    case $open$1 in
+      1--) open= ;;
+      1--over) [ $# -eq 1 ] || shift ;;
+      1-?*) ;;
+      *) given+=("$1") ;;
+    esac
+    shift
+  done
+}
+
 # Why a file of `build`, or the output, couldn't be written.
 explain_unwritten() {
-  local folder=${4-} above
+  local folder above
+  operands "$@"
+  folder=${given[2]-}
   if [ "${1-}" = build ]; then
-    [ "${2-}" != -- ] || folder=${5-}
     above=$folder
     while [ -n "$above" ] && [ ! -e "$above" ]; do
       case $above in */*) above=${above%/*} ;; *) above=. ;; esac
@@ -194,6 +216,8 @@ explain_unwritten() {
       echo "$above is no folder, so the site can't be written there."
     elif [ ! -w "$above" ]; then
       echo "You may not write in $above: see its permissions."
+    elif [ "$(df -P "$above" 2>/dev/null | awk 'NR == 2 { print $2 }')" = 0 ]; then
+      echo "The system takes no files in $above."
     elif [ "$(df -P "$above" 2>/dev/null | awk 'NR == 2 { print $4 }')" = 0 ]; then
       echo "There is no room left on the disk of $above."
     else

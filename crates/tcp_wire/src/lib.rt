@@ -447,6 +447,8 @@ impl<R: Net + Clock, F: Files> Wire for TcpWire<'_, R, F> {
             ≡ (told_of self.old).next_faults) }
         ensures failed { IsErrOf result WireEnd.Failed
             → Rose (told_of self.old).next_faults (told_of self.new).next_faults }
+        ensures short { IsErrOf result WireEnd.NoMemory
+            → (told_of self.new).next_faults ≡ (told_of self.old).next_faults }
         ensures stays { ((told_of self.new).account ≡ (told_of self.old).account)
             × ((told_of self.new).faults ≡ (told_of self.old).faults)
             × ((told_of self.new).listens ≡ (told_of self.old).listens)

@@ -68,7 +68,8 @@ pub trait Wire {
             × ((told self.new).left ≡ (told self.old).left)
             × ((told self.new).listens ≡ (told self.old).listens) };
 
-    /// The next event. Where the events left are reported it is the first of them, or `Done` where none is left.
+    /// The next event. Where the events left are reported it is the first of them, or `Done` where none is left. Out of
+    /// memory no call has failed.
     fn next(&mut self, alloc: Global) -> Result<WireEvent, WireEnd>
         ensures given { IfOk result (λ event. (told self.new).given
             ≡ add_event (told self.old).given event) }
@@ -79,6 +80,8 @@ pub trait Wire {
         ensures fine { OnOk result ((told self.new).next_faults ≡ (told self.old).next_faults) }
         ensures failed { IsErrOf result WireEnd.Failed
             → Rose (told self.old).next_faults (told self.new).next_faults }
+        ensures short { IsErrOf result WireEnd.NoMemory
+            → (told self.new).next_faults ≡ (told self.old).next_faults }
         ensures stays { ((told self.new).account ≡ (told self.old).account)
             × ((told self.new).faults ≡ (told self.old).faults)
             × ((told self.new).listens ≡ (told self.old).listens)
