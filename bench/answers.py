@@ -64,12 +64,11 @@ def unquoted(text):
 
 def worked():
     """The query and the constraint of each worked row of tests_constraints."""
-    for name in ("verdicts", "group"):
-        with open(f"{TOP}/crates/tests_constraints/src/{name}.rt") as file:
-            text = file.read()
-        queries = {it: unquoted(body) for it, body in re.findall(r'const (\w+): &str =\s*"((?:\\.|[^"\\])*)";', text, re.S)}
-        for query, constraint in re.findall(r'query: (\w+),\s*constraint: "((?:\\.|[^"\\])*)"', text, re.S):
-            yield queries[query], unquoted(constraint)
+    with open(f"{TOP}/crates/tests_constraints/src/verdicts.rt") as file:
+        text = file.read()
+    queries = {it: unquoted(body) for it, body in re.findall(r'const (\w+): &str =\s*"((?:\\.|[^"\\])*)";', text, re.S)}
+    for query, constraint in re.findall(r'query: (\w+),\s*constraint: "((?:\\.|[^"\\])*)"', text, re.S):
+        yield queries[query], unquoted(constraint)
 
 
 def made():

@@ -21,7 +21,7 @@ use Rattle.bindings.specs.declared.some_rows.Told.{Told}
 use Rattle.bindings.specs.Told.{HasPart, AreTold, AddsSome, same_part}
 use Rattle.bindings.proofs.Found.{FitsWith, later, split, join, complete_fits, only_complete, nil_of, none_in, append-nil}
 
-same_values : (p q : Vec Value) → same_part p q ≡ true → p.items ≡ q.items
+pub same_values : (p q : Vec Value) → same_part p q ≡ true → p.items ≡ q.items
 same_values p q h = (slice_eq-Decides (λ u v. (same_value u v, λ e. subst (λ w. is_eq (value_cmp u w) ≡ true) e (value_same u))) p.items q.items (same_part p q) refl).0 h
 
 module _ (wanted : List Bool) where
@@ -57,16 +57,37 @@ module _ (wanted : List Bool) where
     each = λ t q. a.each t (back t q);
   }
 
-  -- one row more, and its part
-  pub told_more : (old new : Told) (part : Vec Value) (r : List Value) → ((q : Vec Value) → contains same_part new.parts q ≡ cond (same_part part q) true (contains same_part old.parts q))
-      → new.rows.items ≡ old.rows.items ++ r ∷ [] → wanted_part wanted r ≡ part.items → AreTold wanted old → AreTold wanted new
-  told_more old new part r has rows is told q h = by_test (same_part part q) refl (sym (has q) ∙ h)
+  -- one row more, whose part isn't kept yet
+  pub told_row : (old new : Told) (r : List Value) → new.first ≡ old.first → new.others ≡ old.others → new.rows.items ≡ old.rows.items ++ r ∷ [] → AreTold wanted old → AreTold wanted new
+  told_row old new r first others rows told = record {
+    first = λ q h. part_kept old.rows.items new.rows.items q.items more (told.first q (sym first ∙ h));
+    others = λ q h. part_kept old.rows.items new.rows.items q.items more (told.others q (subst (λ s. contains same_part s q ≡ true) others h));
+  }
     where
-      by_test : (b : Bool) → same_part part q ≡ b → cond b true (contains same_part old.parts q) ≡ true → HasPart wanted new.rows.items q.items
-      by_test true tied e = (r, subst (λ xs. Contains xs r) (sym rows) (Contains-push old.rows.items r), is ∙ same_values part q tied)
-      by_test false apart e =
-          let w = told q e in
-          (w.0, subst (λ xs. Contains xs w.0) (sym rows) (Contains-append_left old.rows.items (r ∷ []) w.0 w.1), w.2)
+      more : (t : List Value) → Contains old.rows.items t → Contains new.rows.items t
+      more t c = subst (λ xs. Contains xs t) (sym rows) (Contains-append_left old.rows.items (r ∷ []) t c)
+
+  pub part_added : (xs ys : List (List Value)) (r part : List Value) → ys ≡ xs ++ r ∷ [] → wanted_part wanted r ≡ part → HasPart wanted ys part
+  part_added xs ys r part rows is = (r, subst (λ zs. Contains zs r) (sym rows) (Contains-push xs r), is)
+
+  -- the part of a row that was found is kept as the first
+  pub told_first : (old new : Told) (part : Vec Value) → new.first ≡ Some part → new.others ≡ old.others → new.rows ≡ old.rows → HasPart wanted old.rows.items part.items → AreTold wanted old → AreTold wanted new
+  told_first old new part first others rows has told = record {
+    first = λ q h. (let e : part ≡ q = cc in subst (λ s. HasPart wanted s.items q.items) (sym rows) (subst (λ p. HasPart wanted old.rows.items p.items) e has));
+    others = λ q h. subst (λ s. HasPart wanted s.items q.items) (sym rows) (told.others q (subst (λ s. contains same_part s q ≡ true) others h));
+  }
+
+  -- it is kept beside the first
+  pub told_other : (old new : Told) (part : Vec Value) → new.first ≡ old.first → ((q : Vec Value) → contains same_part new.others q ≡ cond (same_part part q) true (contains same_part old.others q)) → new.rows ≡ old.rows
+      → HasPart wanted old.rows.items part.items → AreTold wanted old → AreTold wanted new
+  told_other old new part first adds rows has told = record {
+    first = λ q h. subst (λ s. HasPart wanted s.items q.items) (sym rows) (told.first q (sym first ∙ h));
+    others = λ q h. subst (λ s. HasPart wanted s.items q.items) (sym rows) (by_test q (same_part part q) refl (sym (adds q) ∙ h));
+  }
+    where
+      by_test : (q : Vec Value) (b : Bool) → same_part part q ≡ b → cond b true (contains same_part old.others q) ≡ true → HasPart wanted old.rows.items q.items
+      by_test q true tied e = subst (λ p. HasPart wanted old.rows.items p) (same_values part q tied) has
+      by_test q false apart e = told.others q e
 
   -- what was added to nothing, in order
   pub some_added : (P : List Value → Type 0) (xs ys : List (List Value)) → AddsSome wanted P [] xs → ListsExactly row_cmp (Contains xs) ys → ListsSome wanted P ys

@@ -1,5 +1,5 @@
 -- Some of the rows that a search is to find, for the variables that are wanted.
-use Rattle.std.specs.Prelude.{◌≡◌, ◌⊎◌, List, Bool, IsTrue, Contains}
+use Rattle.std.specs.Prelude.{◌≡◌, ◌⊎◌, List, Bool, IsTrue, Contains, Some}
 use Rattle.std.specs.Cmp.Lexicographic.{pointwise}
 use Rattle.std.specs.Global.{Vec}
 use Rattle.std.specs.HashSet.{contains}
@@ -18,11 +18,12 @@ module _ (wanted : List Bool) where
   abbrev pub HasPart : List (List Value) → List Value → Type 0
   HasPart rows part = (r : List Value) × Contains rows r × (wanted_part wanted r ≡ part)
 
-  -- each part that is kept is one of a row that was found
-  abbrev pub AreTold : Told → Type 0
-  AreTold told =
-      (part : Vec Value) → IsTrue (contains same_part told.parts part)
-      → HasPart told.rows.items part.items
+  -- each part that is kept, the first or another, is one of a row that was found
+  pub record AreTold (told : Told) : Type 0 where
+    pub first : (part : Vec Value) → told.first ≡ Some part → HasPart told.rows.items part.items
+    pub others :
+        (part : Vec Value) → IsTrue (contains same_part told.others part)
+        → HasPart told.rows.items part.items
 
   -- ys has what xs has, besides that only things with P, and the part of each of these
   pub record AddsSome (P : List Value → Type 0) (xs ys : List (List Value)) : Type 0 where

@@ -1,5 +1,5 @@
 // A search for some rows: at least one for all that have the same values of the variables that are wanted.
-ghost use Rattle.std.specs.Prelude.{◌≡◌, IfOk, IfSome, List, Bool, MatchOption, length};
+ghost use Rattle.std.specs.Prelude.{◌≡◌, IfOk, IfSome, IsTrue, List, Bool, MatchOption, length};
 ghost use Rattle.sd_value.specs.declared.Value.{Value as AnyValue};
 ghost use Rattle.query_spec.specs.Rows.{arcs_of, row_cmp, IsAnswer};
 ghost use Rattle.asker.specs.Wanted.{wanted_part, ListsSome};
@@ -8,7 +8,7 @@ ghost use Rattle.condition_tests.specs.Places.{GoalsInRange};
 ghost use Rattle.condition_tests.specs.Resolved.{AreGoalsOf};
 ghost use Rattle.bindings.specs.Fits.{Fits, IsChoice, IsComplete, IsStopped};
 ghost use Rattle.candidate_values.specs.Kept.{IsKept};
-ghost use Rattle.bindings.specs.Told.{AreTold, AddsSome};
+ghost use Rattle.bindings.specs.Told.{AreTold, AddsSome, HasPart};
 
 use crate::row::row_of;
 use crate::search::{Choice, are_in_domains, choose, choose_goal, clear, passed, put};
@@ -23,10 +23,12 @@ use std::collections::HashSet;
 use store::Store;
 use struql_ast::Chain;
 
-// The rows that were found, and what they have of the variables that are wanted, where that was looked up.
+// The rows that were found, and what they have of the variables that are wanted, where that was looked up. The first part
+// stands outside of the set, so that an answer of one row hashes nothing and leaves the set without memory.
 #[derive(Drop)]
 pub(crate) struct Told {
-    parts: HashSet<Vec<Value>>,
+    first: Option<Vec<Value>>,
+    others: HashSet<Vec<Value>>,
     rows: Vec<Row>,
 }
 
@@ -52,6 +54,32 @@ fn part_of(
         }
     }
     Ok(Some(values))
+}
+
+// Whether this part was kept, so that a row was found that has it.
+fn is_told(told: &Told, part: &Vec<Value>) -> bool
+    ensures { IsTrue result → (wanted : List Bool) → AreTold wanted told.now
+        → HasPart wanted told.now.rows.items part.now.items }
+{
+    match &told.first {
+        Some(first) => first == part || told.others.contains(part),
+        None => false,
+    }
+}
+
+// Keeps the part of the row that was added last.
+fn keep(told: &mut Told, part: Vec<Value>) -> Result<(), NoMemory>
+    ensures rows { told.new.rows ≡ told.old.rows }
+    ensures told { IfOk result
+        (λ _. (wanted : List Bool) → HasPart wanted told.old.rows.items part.items
+        → AreTold wanted told.old → AreTold wanted told.new) }
+{
+    if told.first.is_none() {
+        told.first = Some(part);
+    } else {
+        told.others.insert(part)?;
+    }
+    Ok(())
 }
 
 // Adds a row that agrees with what is known and meets the goals from `at` on, where there is one and none with this part
@@ -83,12 +111,12 @@ fn add_witness<S: Store>(
         (Fits (S.graph search.now.store.now) search.now.version search.now.arcs.now
         search.now.goals.now at current.now) told.old.rows.items told.new.rows.items) }
 {
-    if told.parts.contains(&part) {
+    if is_told(told, &part) {
         return Ok(());
     }
     if let Some(row) = witness(alloc, search, kept, at, current)? {
         told.rows.push(row)?;
-        told.parts.insert(part)?;
+        keep(told, part)?;
     }
     Ok(())
 }
@@ -193,13 +221,15 @@ fn some_of_all<S: Store>(
 {
     let wanted = Wanted::new(alloc, search.goals, current, wanted)?;
     let mut told = Told {
-        parts: HashSet::new(alloc),
+        first: None,
+        others: HashSet::new(alloc),
         rows: Vec::new(alloc),
     };
     let mut kept = Reaches::new(alloc);
     some_rows(alloc, search, &mut kept, &wanted, 0, current, &mut told)?;
     let Told {
-        parts: _parts,
+        first: _first,
+        others: _others,
         mut rows,
     } = told;
     sort_and_dedup(&mut rows);

@@ -70,7 +70,7 @@ fn rows_of<S: Store>(
         (λ rows. ListsExactly row_cmp
         (IsAnswer (S.graph store.now) chain.now bound.now) rows.items) }
 {
-    let goals = goals_of(alloc, store, chain, bound, kept)?;
+    let planned = goals_of(alloc, store, chain, bound, kept.take())?;
     let arcs = arcs_of_variables(alloc, chain.variables())?;
     let values = bound.to_values(alloc)?;
     let rows = chain_answers(
@@ -78,9 +78,10 @@ fn rows_of<S: Store>(
         store,
         chain,
         arcs.as_slice(),
-        goals.as_slice(),
+        planned.goals(),
         values,
     )?;
+    *kept = Some(planned);
     Ok(rows)
 }
 
@@ -99,7 +100,7 @@ fn some_rows_of<S: Store>(
         (λ rows. ListsSome wanted.now (IsAnswer (S.graph store.now) chain.now bound.now)
         rows.items) }
 {
-    let goals = goals_of(alloc, store, chain, bound, kept)?;
+    let planned = goals_of(alloc, store, chain, bound, kept.take())?;
     let arcs = arcs_of_variables(alloc, chain.variables())?;
     let values = bound.to_values(alloc)?;
     let rows = chain_some(
@@ -107,10 +108,11 @@ fn some_rows_of<S: Store>(
         store,
         chain,
         arcs.as_slice(),
-        goals.as_slice(),
+        planned.goals(),
         values,
         wanted,
     )?;
+    *kept = Some(planned);
     Ok(rows)
 }
 
@@ -125,7 +127,7 @@ fn some_row<S: Store>(
     requires one_each { length bound.now ≡ length chain.now.variables }
     ensures { IfOk result (λ b. IsTrue b ↔ SomeAnswer (S.graph store.now) chain.now bound.now) }
 {
-    let goals = goals_of(alloc, store, chain, bound, kept)?;
+    let planned = goals_of(alloc, store, chain, bound, kept.take())?;
     let arcs = arcs_of_variables(alloc, chain.variables())?;
     let values = bound.to_values(alloc)?;
     let found = chain_finds(
@@ -133,9 +135,10 @@ fn some_row<S: Store>(
         store,
         chain,
         arcs.as_slice(),
-        goals.as_slice(),
+        planned.goals(),
         values,
     )?;
+    *kept = Some(planned);
     Ok(found)
 }
 

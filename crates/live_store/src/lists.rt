@@ -42,16 +42,21 @@ pub(crate) fn is_among<K: ExactOrd>(items: &[K], item: &K) -> bool
     has(items, &ItemAt { item })
 }
 
-/// The items without those that went, which are in their order, and with those that came.
+/// The items without those that went, and with those that came. The items and those that went are in their order.
 pub(crate) fn shifted<K: ExactOrd + Drop>(
     base: Vec<K>,
     gone: Vec<K>,
     came: Vec<K>,
 ) -> Result<Vec<K>, NoMemory>
-    requires { IsStrictlySortedBy K.cmp gone.items }
+    requires base { IsStrictlySortedBy K.cmp base.items }
+    requires gone { IsStrictlySortedBy K.cmp gone.items }
     ensures { IfOk result
         (λ items. ListsExactly K.cmp (IsShifted base.items gone.items came.items) items.items) }
 {
+    // Most questions are of what no edit touched.
+    if gone.is_empty() && came.is_empty() {
+        return Ok(base);
+    }
     let mut items = base;
     let mut more = came;
     items.retain(

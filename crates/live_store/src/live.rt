@@ -129,8 +129,9 @@ impl LiveStore {
     {
         // With its size a store says that its graph is well formed.
         let _sizes = self.sizes();
+        // The index finds a node by its hash, and searches its list of nodes for what it doesn't have.
         match node_of(value) {
-            Some(name) => self.has_node(name),
+            Some(name) => self.base.is_value(value) || self.nodes.contains(name),
             None => false,
         }
     }

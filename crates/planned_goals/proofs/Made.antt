@@ -21,7 +21,7 @@ use Rattle.condition_tests.specs.Resolved.{IsGoalOf, AreGoalsOf, declared, step_
 use Rattle.plan_spec.specs.declared.PlanStep.{PlanStep}
 use Rattle.plan_spec.specs.declared.PlanStep.TheVariants.{Use, Domain}
 use Rattle.plan_spec.specs.Plan.{Uses, AreStepsOver}
-use Rattle.planned_goals.specs.Followed.{AreReady, IsStepOver, IsGoalFor}
+use Rattle.planned_goals.specs.Followed.{AreReady, IsStepOver, IsGoalFor, AreGoalsFor}
 
 zip_more : {X Y : Type 0} (R : X → Y → Type 0) (xs : List X) (ys : List Y) (i : ℕ) (x : X) (y : Y) → slice_get xs i ≡ Some x → AllZip R (take i xs) ys → R x y → AllZip R (take (suc i) xs) (ys ++ y ∷ [])
 zip_more R [] ys i x y h z r = cc
@@ -107,6 +107,16 @@ goal_in_range variables written (Domain x cost) g r = subst (GoalInRange (length
 
 pub followed_in_range : (variables : List Variable) (written : List Written) (steps : List PlanStep) (goals : List Goal) → AllZip (IsGoalFor variables written) steps goals → GoalsInRange (length variables) goals
 followed_in_range variables written steps goals z = λ j g h. (let w = zip_back (IsGoalFor variables written) steps goals z j g h in goal_in_range variables written w.0 g w.2)
+
+-- the goals along a plan stand for copies of the conditions, whatever chain has them
+pub made_goals : (c : Chain) (written copies : List Written) (steps : List PlanStep) (goals : List Goal) → map condition_of written ≡ c.conditions → map condition_of copies ≡ map condition_of written
+    → ((i : ℕ) → i < length c.conditions → Uses steps i) → AllZip (IsGoalFor c.variables written) steps goals → AreGoalsFor c.variables copies goals
+made_goals c written copies steps goals e same uses z = record {
+  stand = λ d vs cs.
+      (let back : c.conditions ≡ d.conditions = sym e ∙ (sym same ∙ cs) in
+      followed d written steps goals (sym same ∙ cs) (subst (λ ks. (i : ℕ) → i < length ks → Uses steps i) back uses) (subst (λ v. AllZip (IsGoalFor v written) steps goals) (sym vs) z));
+  in_range = followed_in_range c.variables written steps goals z;
+}
 
 -- each name that a condition of the chain has is a variable's
 module _ (variables : List Variable) where

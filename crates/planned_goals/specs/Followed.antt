@@ -1,13 +1,15 @@
 -- Goals in the order of a plan.
-use Rattle.std.specs.Prelude.{◌≡◌, ◌<◌, ℕ, List, length, Some, slice_get}
+use Rattle.std.specs.Prelude.{◌≡◌, ◌<◌, ℕ, List, length, map, Some, slice_get}
 use Rattle.query_spec.specs.declared.Variable.{Variable}
+use Rattle.query_spec.specs.Query.{Chain}
 use Rattle.struql_ast.specs.declared.Condition.{Condition}
 use Rattle.struql_ast.specs.Reading.{condition_of}
 use Rattle.plan_spec.specs.declared.PlanStep.{PlanStep}
 use Rattle.plan_spec.specs.declared.PlanStep.TheVariants.{Use, Domain}
 use Rattle.condition_tests.specs.declared.literal.Goal.{Goal}
 use Rattle.condition_tests.specs.declared.literal.Goal.TheVariants.{Domain as DomainGoal}
-use Rattle.condition_tests.specs.Resolved.{IsReady, StandsFor}
+use Rattle.condition_tests.specs.Places.{GoalsInRange}
+use Rattle.condition_tests.specs.Resolved.{IsReady, StandsFor, AreGoalsOf}
 
 -- a search can work on each of the conditions
 pub record AreReady (variables : List Variable) (conditions : List Condition) : Type 0 where
@@ -25,3 +27,10 @@ IsGoalFor variables conditions (Use i cost) g =
     (k : Condition) × (slice_get conditions i ≡ Some k)
     × ((version : ℕ) → StandsFor version variables (condition_of k) g)
 IsGoalFor variables conditions (Domain x cost) g = (g ≡ DomainGoal x) × (x < length variables)
+
+-- the goals stand for these conditions over these variables, in each chain that has them
+pub record AreGoalsFor (variables : List Variable) (conditions : List Condition)
+    (goals : List Goal) : Type 0 where
+  pub stand : (c : Chain) → c.variables ≡ variables → map condition_of conditions ≡ c.conditions
+      → AreGoalsOf c goals
+  pub in_range : GoalsInRange (length variables) goals

@@ -1,20 +1,15 @@
 // The goals of a search, in the order of the chain's plan.
 ghost use Rattle.std.specs.Prelude.{◌≡◌, ◌<◌, length, Some, IfOk, slice_get};
 ghost use Rattle.std.specs.List.{AllZip};
-ghost use Rattle.query_spec.specs.Mentions.{IsWellMade};
 ghost use Rattle.plan_spec.specs.Plan.{AreStepsOver};
-ghost use Rattle.condition_tests.specs.Resolved.{AreGoalsOf};
-ghost use Rattle.condition_tests.specs.Places.{GoalsInRange};
 ghost use Rattle.planned_goals.specs.Followed.{AreReady, IsStepOver, IsGoalFor};
 
-use crate::plans::{KeptPlan, plan_of};
 use condition_tests::{Goal, goal_of};
 use plan_spec::PlanStep;
-use query_spec::{Bound, Variable};
+use query_spec::Variable;
 use sd_value::NoMemory;
 use std::alloc::Global;
-use store::Store;
-use struql_ast::{Chain, Condition};
+use struql_ast::Condition;
 
 fn condition_at(conditions: &[Condition], i: usize) -> &Condition
     requires { i < length conditions.now }
@@ -44,7 +39,7 @@ fn goal_of_step(
 }
 
 // A goal for each step.
-fn goals_along(
+pub(crate) fn goals_along(
     alloc: Global,
     variables: &[Variable],
     conditions: &[Condition],
@@ -60,35 +55,5 @@ fn goals_along(
         let goal = goal_of_step(alloc, variables, conditions, step)?;
         goals.push(goal)?;
     }
-    Ok(goals)
-}
-
-/// The goals that stand for the chain's conditions, each over the row's places, in the order of a plan: of the one that is
-/// kept, if it was made for such a question, else of the one that the store's counts give. The plan is kept then.
-///
-/// # Errors
-///
-/// Out of memory; no plan is kept then.
-pub fn goals_of<S: Store>(
-    alloc: Global,
-    store: &S,
-    chain: &Chain,
-    bound: &Bound,
-    kept: &mut Option<KeptPlan>,
-) -> Result<Vec<Goal>, NoMemory>
-    requires well_made { IsWellMade chain.now }
-    requires one_each { length bound.now ≡ length chain.now.variables }
-    ensures goals { IfOk result (λ goals. AreGoalsOf chain.now goals.items) }
-    ensures in_range { IfOk result
-        (λ goals. GoalsInRange (length chain.now.variables) goals.items) }
-{
-    let planned = plan_of(alloc, store, chain, bound, kept.take())?;
-    let goals = goals_along(
-        alloc,
-        chain.variables(),
-        chain.conditions(),
-        planned.steps.steps(),
-    )?;
-    *kept = Some(planned);
     Ok(goals)
 }

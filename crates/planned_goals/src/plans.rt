@@ -1,104 +1,109 @@
-// The plan that was made last, kept for questions of the same chain.
-ghost use Rattle.std.specs.Prelude.{◌≡◌, ◌<◌, ℕ, List, ◌∷◌, IfOk, IsTrue, length};
+// The goals that were made last, kept for questions of the same chain.
+ghost use Rattle.std.specs.Prelude.{◌≡◌, IfOk, IsTrue, length, map};
 ghost use Rattle.query_spec.specs.Mentions.{IsWellMade};
-ghost use Rattle.plan_spec.specs.declared.PlanStep.{PlanStep as AnyStep};
-ghost use Rattle.plan_spec.specs.Plan.{AreStepsOver, Uses};
-ghost use Rattle.planned_goals.specs.Followed.{IsStepOver};
+ghost use Rattle.struql_ast.specs.Reading.{condition_of};
+ghost use Rattle.condition_tests.specs.Resolved.{AreGoalsOf};
+ghost use Rattle.condition_tests.specs.Places.{GoalsInRange};
 
-use plan_spec::PlanStep;
-use planner::{StepList, counts_of, plan};
-use query_spec::Bound;
-use sd_lex::Span;
+use crate::follow::goals_along;
+use condition_tests::Goal;
+use entailment::same_conditions;
+use planner::{counts_of, plan};
+use query_copies::push_conditions;
+use query_spec::{Bound, Variable};
 use sd_value::{NoMemory, Value};
 use std::alloc::Global;
+use std::marker::Model;
 use store::Store;
 use struql_ast::{Chain, Condition};
 
-// Plans of more conditions are made anew for each question.
-const SHORT: usize = 32;
-
-/// A plan, and what it was made for: how many edges there were, how many conditions, where the last of them stands in its
-/// text, and which variables had values. A search is exact along each plan that uses all conditions of its chain, which is
-/// tested where a plan is taken again. So what it was made for decides the speed alone.
+/// Goals in the order of a plan, and what they were made for: the variables and conditions of a chain, about how many
+/// edges there were, and which variables had values. A search is exact along each order of the goals, so the last two
+/// decide the speed alone.
 #[derive(Drop)]
 pub struct KeptPlan {
     edges: u64,
-    conditions: usize,
-    last: Option<Span>,
     bound: Vec<bool>,
-    pub(crate) steps: StepList,
+    variables: Vec<Variable>,
+    conditions: Vec<Condition>,
+    goals: Vec<Goal>,
 }
 
-fn place_of(condition: &Condition) -> Span {
-    match condition {
-        Condition::Member { span, .. } => *span,
-        Condition::Path { span, .. } => *span,
-        Condition::Compare { span, .. } => *span,
-        Condition::OneOf { span, .. } => *span,
-        Condition::Kind { span, .. } => *span,
-        Condition::Not(_, span) => *span,
+impl Model for KeptPlan {
+    ghost use Rattle.std.specs.Prelude.{List};
+    ghost use Rattle.condition_tests.specs.declared.literal.Goal.{Goal as AnyGoal};
+    ghost use Rattle.planned_goals.specs.Followed.{AreGoalsFor};
+
+    ghost Value = { List AnyGoal };
+
+    ghost view = { λ k. k.goals.items };
+
+    ghost invariant = { λ k. AreGoalsFor k.variables.items k.conditions.items k.goals.items };
+}
+
+impl KeptPlan {
+    /// The goals, in the order of the plan.
+    pub fn goals(&self) -> &[Goal]
+        ensures { result.now ≡ self.now }
+    {
+        self.goals.as_slice()
     }
 }
 
-fn last_place(conditions: &[Condition]) -> Option<Span> {
-    match conditions.last() {
-        Some(condition) => Some(place_of(condition)),
-        None => None,
-    }
-}
-
-fn is_use(step: &PlanStep, i: usize) -> bool
-    ensures { IsTrue result → (steps : List AnyStep) → Uses (step.now ∷ steps) i }
+fn is_same_flag(one: bool, other: bool) -> bool
+    ensures { IsTrue result → one ≡ other }
 {
-    match step {
-        PlanStep::Use { condition, .. } => *condition as usize == i,
-        PlanStep::Domain { .. } => false,
-    }
+    if one { other } else { !other }
 }
 
-// Whether some step uses the condition of that number.
-fn uses(steps: &[PlanStep], i: usize) -> bool
-    ensures { IsTrue result → Uses steps.now i }
+fn is_same_variable(one: &Variable, other: &Variable) -> bool
+    ensures { IsTrue result → one.now ≡ other.now }
 {
-    for step in steps {
-        if is_use(step, i) {
-            return true;
-        }
-    }
-    false
+    one.name == other.name && is_same_flag(one.arc, other.arc)
 }
 
-// Whether each of so many conditions is used.
-fn uses_all(steps: &[PlanStep], conditions: usize) -> bool
-    ensures { IsTrue result → (i : ℕ) → i < conditions → Uses steps.now i }
+// Whether they are the same variables.
+fn are_same_variables(some: &[Variable], others: &[Variable]) -> bool
+    ensures { IsTrue result → some.now ≡ others.now }
 {
-    for i in 0..conditions {
-        if !uses(steps, i) {
+    if some.len() != others.len() {
+        return false;
+    }
+    for i in 0..some.len() {
+        if !is_same_variable(&some[i], &others[i]) {
             return false;
         }
     }
     true
 }
 
-fn is_over(step: &PlanStep, conditions: usize, variables: usize) -> bool
-    ensures { IsTrue result → IsStepOver conditions variables step.now }
+// Whether they are the same conditions, their places aside.
+fn are_same_conditions(some: &[Condition], others: &[Condition]) -> bool
+    ensures { IsTrue result → map condition_of some.now ≡ map condition_of others.now }
 {
-    match step {
-        PlanStep::Use { condition, .. } => (*condition as usize) < conditions,
-        PlanStep::Domain { variable, .. } => (*variable as usize) < variables,
+    if some.len() != others.len() {
+        return false;
     }
-}
-
-// Whether each step names one of so many conditions or variables.
-fn are_over(steps: &[PlanStep], conditions: usize, variables: usize) -> bool
-    ensures { IsTrue result → AreStepsOver conditions variables steps.now }
-{
-    for step in steps {
-        if !is_over(step, conditions, variables) {
+    for i in 0..some.len() {
+        if !same_conditions(&some[i], &others[i]) {
             return false;
         }
     }
     true
+}
+
+// Equal variables.
+fn copied_variables(alloc: Global, variables: &[Variable]) -> Result<Vec<Variable>, NoMemory>
+    ensures { IfOk result (λ copies. copies.items ≡ variables.now) }
+{
+    let mut copies = Vec::new(alloc);
+    for variable in variables {
+        copies.push(Variable {
+            name: variable.name.copy(alloc)?,
+            arc: variable.arc,
+        })?;
+    }
+    Ok(copies)
 }
 
 // Which variables have values at first.
@@ -112,33 +117,68 @@ pub(crate) fn bound_at_first(alloc: Global, bound: &[Option<Value>]) -> Result<V
     Ok(flags)
 }
 
-// Whether it was made for this chain, these variables and about as many edges.
-fn is_made_for(kept: &KeptPlan, chain: &Chain, bound: &[bool], edges: u64) -> bool {
-    let conditions = chain.conditions();
-    kept.conditions == conditions.len()
-        && conditions.len() <= SHORT
-        && kept.last == last_place(conditions)
-        && kept.bound.as_slice() == bound
-        && kept.edges / 2 <= edges
-        && edges / 2 <= kept.edges
+// Whether just the marked variables have values at first.
+fn are_bound(flags: &[bool], bound: &[Option<Value>]) -> bool {
+    if flags.len() != bound.len() {
+        return false;
+    }
+    for i in 0..flags.len() {
+        if flags[i] != bound[i].is_some() {
+            return false;
+        }
+    }
+    true
 }
 
-// Whether it is a plan for the chain.
-fn is_whole(kept: &KeptPlan, chain: &Chain) -> bool
-    ensures over { IsTrue result → AreStepsOver (length chain.now.conditions)
-        (length chain.now.variables) kept.now.steps }
-    ensures uses_all { IsTrue result → (i : ℕ) → i < length chain.now.conditions
-        → Uses kept.now.steps i }
+// Whether the plan is one for these variables and about as many edges.
+fn is_of_use(kept: &KeptPlan, bound: &[Option<Value>], edges: u64) -> bool {
+    are_bound(kept.bound.as_slice(), bound) && kept.edges / 2 <= edges && edges / 2 <= kept.edges
+}
+
+// Whether the goals were made for this chain's variables and conditions.
+fn is_made_for(kept: &KeptPlan, chain: &Chain) -> bool
+    ensures goals { IsTrue result → AreGoalsOf chain.now kept.now }
+    ensures in_range { IsTrue result → GoalsInRange (length chain.now.variables) kept.now }
 {
-    let steps = kept.steps.steps();
-    let conditions = chain.conditions().len();
-    let over = are_over(steps, conditions, chain.variables().len());
-    let all = uses_all(steps, conditions);
-    over && all
+    are_same_variables(chain.variables(), kept.variables.as_slice())
+        && are_same_conditions(kept.conditions.as_slice(), chain.conditions())
 }
 
-// A plan for the chain: the one that is kept, if it was made for such a question.
-pub(crate) fn plan_of<S: Store>(
+// Goals for the chain, along the plan that the store's counts give.
+fn made_for<S: Store>(
+    alloc: Global,
+    store: &S,
+    chain: &Chain,
+    bound: Vec<bool>,
+    edges: u64,
+) -> Result<KeptPlan, NoMemory>
+    requires well_made { IsWellMade chain.now }
+    requires one_each { length bound.items ≡ length chain.now.variables }
+    ensures goals { IfOk result (λ made. AreGoalsOf chain.now made) }
+    ensures in_range { IfOk result (λ made. GoalsInRange (length chain.now.variables) made) }
+{
+    let counts = counts_of(alloc, store, chain)?;
+    let steps = plan(alloc, chain, bound.as_slice(), &counts)?;
+    let goals = goals_along(alloc, chain.variables(), chain.conditions(), steps.steps())?;
+    let variables = copied_variables(alloc, chain.variables())?;
+    let mut conditions = Vec::new(alloc);
+    push_conditions(alloc, &mut conditions, chain.conditions())?;
+    Ok(KeptPlan {
+        edges,
+        bound,
+        variables,
+        conditions,
+        goals,
+    })
+}
+
+/// The goals that stand for the chain's conditions, each over the row's places, in the order of a plan: those that are
+/// kept, if they were made for such a question, else by the plan that the store's counts give.
+///
+/// # Errors
+///
+/// Out of memory.
+pub fn goals_of<S: Store>(
     alloc: Global,
     store: &S,
     chain: &Chain,
@@ -147,25 +187,17 @@ pub(crate) fn plan_of<S: Store>(
 ) -> Result<KeptPlan, NoMemory>
     requires well_made { IsWellMade chain.now }
     requires one_each { length bound.now ≡ length chain.now.variables }
-    ensures over { IfOk result (λ made. AreStepsOver (length chain.now.conditions)
-        (length chain.now.variables) made.steps) }
-    ensures uses_all { IfOk result (λ made. (i : ℕ) → i < length chain.now.conditions
-        → Uses made.steps i) }
+    ensures goals { IfOk result (λ goals. AreGoalsOf chain.now goals) }
+    ensures in_range { IfOk result
+        (λ goals. GoalsInRange (length chain.now.variables) goals) }
 {
-    let flags = bound_at_first(alloc, bound.values())?;
     let edges = store.sizes().edges;
     if let Some(kept) = kept {
-        if is_made_for(&kept, chain, flags.as_slice(), edges) && is_whole(&kept, chain) {
+        if is_of_use(&kept, bound.values(), edges) && is_made_for(&kept, chain) {
             return Ok(kept);
         }
     }
-    let counts = counts_of(alloc, store, chain)?;
-    let steps = plan(alloc, chain, flags.as_slice(), &counts)?;
-    Ok(KeptPlan {
-        edges,
-        conditions: chain.conditions().len(),
-        last: last_place(chain.conditions()),
-        bound: flags,
-        steps,
-    })
+    let flags = bound_at_first(alloc, bound.values())?;
+    let made = made_for(alloc, store, chain, flags, edges)?;
+    Ok(made)
 }

@@ -1,5 +1,5 @@
 // Values in HTML: escaped, and as links.
-ghost use Rattle.std.specs.Prelude.{◌≡◌, ◌++◌, OnOk};
+ghost use Rattle.std.specs.Prelude.{◌≡◌, [], ◌∷◌, ◌++◌, MatchOption, OnOk};
 ghost use Rattle.page_spec.specs.Show as spec;
 
 use address::show;
@@ -10,26 +10,29 @@ use std::alloc::Global;
 pub fn push_escaped(out: &mut Vec<u8>, text: &[u8]) -> Result<(), NoMemory>
     ensures { OnOk result (out.new.items ≡ out.old.items ++ spec.escaped text.now) }
 {
-    for b in text {
-        push_byte_in_html(out, *b)?;
+    // most texts have none of these bytes, so what is between two of them is copied at once
+    let mut start = 0;
+    for (i, byte) in text.iter().enumerate() {
+        if let Some(entity) = entity_of(*byte) {
+            push(out, &text[start..i])?;
+            push(out, entity)?;
+            start = i + 1;
+        }
     }
-    Ok(())
+    push(out, &text[start..])
 }
 
-fn push_byte_in_html(out: &mut Vec<u8>, b: u8) -> Result<(), NoMemory>
-    ensures { OnOk result (out.new.items ≡ out.old.items ++ spec.byte_in_html b) }
+// The entity that stands for the byte in HTML, if it may not stand for itself.
+fn entity_of(byte: u8) -> Option<&'static [u8]>
+    ensures { MatchOption result (spec.byte_in_html byte ≡ byte ∷ [])
+        (λ entity. spec.byte_in_html byte ≡ entity.now) }
 {
-    if b == b'&' {
-        push(out, b"&amp;")
-    } else if b == b'<' {
-        push(out, b"&lt;")
-    } else if b == b'>' {
-        push(out, b"&gt;")
-    } else if b == b'"' {
-        push(out, b"&quot;")
-    } else {
-        out.push(b)?;
-        Ok(())
+    match byte {
+        b'&' => Some(b"&amp;"),
+        b'<' => Some(b"&lt;"),
+        b'>' => Some(b"&gt;"),
+        b'"' => Some(b"&quot;"),
+        _ => None,
     }
 }
 

@@ -1,6 +1,6 @@
 -- The rows under which a link starts at a page and has a label.
 use Rattle.std.proofs.Common.{◌≡◌, ◌∙◌, List, [], refl, sym, subst}
-use Rattle.std.specs.Prelude.{Option, Some, None, ◌↔◌, Contains}
+use Rattle.std.specs.Prelude.{Option, Some, None, Bool, IsTrue, ◌↔◌, Contains}
 use Rattle.std.specs.Option.{MatchOption}
 use Rattle.sd_value.specs.Members.{Contains-nil}
 use Rattle.sd_value.specs.declared.Term.{Term}
@@ -20,6 +20,12 @@ use Rattle.site_lookups.proofs.Targets.{source_to, source_from}
 
 -- ---- a label that is quoted
 
+pub quoted_may : (written label : Name) (k : LinkLabel) (b : Bool) → k ≡ quoted written → IsTrue b ↔ label ≡ written → IsTrue b ↔ ((s : Assignment) × IsLabelUnder s k label)
+quoted_may written label k b is h = subst (λ z. IsTrue b ↔ ((s : Assignment) × IsLabelUnder s z label)) (sym is) ((λ t. ((λ x. None), h.0 t)), (λ a. h.1 a.1))
+
+pub quoted_is : (written label : Name) (k : LinkLabel) → k ≡ quoted written → ((s : Assignment) × IsLabelUnder s k label) → label ≡ written
+quoted_is written label k is a = subst (λ z. IsLabelUnder a.0 z label) is a.1
+
 pub quoted_same : (variables : List Variable) (written label : Name) (k : LinkLabel) (bound : List (Option Value)) → k ≡ quoted written → label ≡ written → Adds (IsLabelled variables k label) bound bound
 quoted_same variables written label k bound is same = record {
   one_each = refl;
@@ -27,8 +33,10 @@ quoted_same variables written label k bound is same = record {
   from = λ row l a h. a;
 }
 
-pub quoted_other : (variables : List Variable) (written label : Name) (k : LinkLabel) (bound : List (Option Value)) → k ≡ quoted written → (label ≡ written → ⊥) → Refutes (IsLabelled variables k label) bound
-quoted_other variables written label k bound is differs = record { never = λ row l a h. differs (subst (λ z. IsLabelUnder (value_in variables row) z label) is h) }
+-- ---- a label that is a variable
+
+pub variable_may : (x label : Name) (k : LinkLabel) → k ≡ label_variable x → (s : Assignment) × IsLabelUnder s k label
+variable_may x label k is = ((λ y. Some (text label)), subst (λ z. IsLabelUnder (λ y. Some (text label)) z label) (sym is) refl)
 
 pub variable_label : (variables : List Variable) (x label : Name) (k : LinkLabel) (bound : List (Option Value)) (o : Option (List (Option Value))) → k ≡ label_variable x
     → MatchOption o (Refutes (HasName variables x (text label)) bound) (λ b. Adds (HasName variables x (text label)) bound b) → MatchOption o (Refutes (IsLabelled variables k label) bound) (λ b. Adds (IsLabelled variables k label) bound b)
@@ -37,6 +45,9 @@ variable_label variables x label k bound (Some b) is r =
     subst (λ z. Adds (IsLabelled variables z label) bound b) (sym is) record { one_each = r.one_each; to = λ row l a. r.to row l a; from = λ row l a h. r.from row l a h }
 
 -- ---- a source and a label
+
+pub none_labelled : (variables : List Variable) (k : Link) (p : Term) (label : Name) → (((s : Assignment) × IsLabelUnder s k.label label) → ⊥) → HasNone variables (StartsBy k p label)
+none_labelled variables k p label n = record { never = λ row l h. n (value_in variables row, h.1) }
 
 module _ (variables : List Variable) (k : Link) (t : SkolemTerm) (p : Term) (label : Name) (source : k.source ≡ made t) where
   pub none_starts : HasNone variables (λ s. IsTermUnder s t p) → HasNone variables (StartsBy k p label)

@@ -1,9 +1,10 @@
 //! The ends of the site's edges from a value.
-ghost use Rattle.std.specs.Prelude.{◌≡◌, ◌↔◌, length, Contains, IfOk, MatchOption};
+ghost use Rattle.std.specs.Prelude.{◌≡◌, ◌↔◌, length, Contains, IfOk, IsTrue, MatchOption};
 ghost use Rattle.sd_value.specs.declared.Value.{Value as AnyValue};
 ghost use Rattle.sd_value.specs.declared.Value.TheVariants.{Page};
 ghost use Rattle.sd_value.specs.Order.{value_cmp};
 ghost use Rattle.sd_value.specs.Ascending.{ListsExactly};
+ghost use Rattle.query_spec.specs.Holds.{Assignment};
 ghost use Rattle.query_spec.specs.Mentions.{IsWellMade};
 ghost use Rattle.query_spec.specs.Query.{SkolemTerm};
 ghost use Rattle.std.specs.Prelude.{ℕ};
@@ -30,6 +31,17 @@ use skolem::{matches, with_value};
 use std::alloc::Global;
 use struql_ast::{Chain, Link, LinkLabel, Target};
 
+// Whether the link has the label under some values. A quoted label is the only one that its link has; a variable can
+// be any.
+fn may_have_label(written: &LinkLabel, label: &Str) -> bool
+    ensures { IsTrue result ↔ ((s : Assignment) × IsLabelUnder s (label_of written.now) label.now) }
+{
+    match written {
+        LinkLabel::Quoted(quoted) => *label == *quoted,
+        LinkLabel::Variable(_, _) => true,
+    }
+}
+
 // The values under which the link has the label too, where some do.
 fn bound_by_label(
     alloc: Global,
@@ -39,19 +51,14 @@ fn bound_by_label(
     label: &Str,
 ) -> Result<Option<Bound>, NoMemory>
     requires one_each { length bound ≡ length variables.now }
+    requires may_have { (s : Assignment) × IsLabelUnder s (label_of written.now) label.now }
     ensures { IfOk result
         (λ b. MatchOption b
         (Refutes (IsLabelled variables.now (label_of written.now) label.now) bound)
         (λ b. Adds (IsLabelled variables.now (label_of written.now) label.now) bound b)) }
 {
     match written {
-        LinkLabel::Quoted(name) => {
-            if *label == *name {
-                Ok(Some(bound))
-            } else {
-                Ok(None)
-            }
-        }
+        LinkLabel::Quoted(_) => Ok(Some(bound)),
         LinkLabel::Variable(name, _) => {
             let value = Value::Data(Datum::Text(label.copy(alloc)?));
             let bound = with_value(alloc, variables, &bound, name, value)?;
@@ -79,6 +86,10 @@ fn bound_by(
     let Target::Made(written) = &link.source else {
         return Ok(None);
     };
+    // Before the term is solved, which takes far longer than comparing a label.
+    if !may_have_label(&link.label, label) {
+        return Ok(None);
+    }
     match matches(alloc, written, variables, term)? {
         None => Ok(None),
         Some(bound) => {

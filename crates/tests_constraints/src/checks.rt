@@ -9,10 +9,10 @@ pub fn check(holds: bool, reason: &str) -> Result<(), Fail> {
     Err(Fail::new(reason))
 }
 
-/// Compares two texts.
-pub fn check_text(found: &[u8], wanted: &[u8]) -> Result<(), Fail> {
+/// Compares the text that a row has with what was found.
+pub fn check_text(found: &[u8], wanted: &[u8], row: &str) -> Result<(), Fail> {
     if found == wanted {
         return Ok(());
     }
-    Err(Fail::new(format_args!("{found:?} in place of {wanted:?}")))
+    Err(Fail::new(format_args!("{row}: {found:?} in place of {wanted:?}")))
 }

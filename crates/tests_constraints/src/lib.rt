@@ -7,8 +7,6 @@ mod checks;
 #[cfg(test)]
 mod counterexamples;
 #[cfg(test)]
-mod group;
-#[cfg(test)]
 mod included;
 #[cfg(test)]
 mod lines;

@@ -29,85 +29,84 @@ const YEARS: &[u8] = b"2 yes
   2.1 YearPage(v): link 3 {x=x, l=l, v=v}
 ";
 
-// A use of the link that maps each variable to itself.
-fn same_names(alloc: Global, link: usize) -> Result<MentionProof, NoMemory> {
-    let mut names = Vec::new(alloc);
-    names.push(Str::new(alloc, b"x")?)?;
-    names.push(Str::new(alloc, b"l")?)?;
-    names.push(Str::new(alloc, b"v")?)?;
-    let mut uses = Vec::new(alloc);
-    uses.push(LinkUse::new(link, names))?;
-    Ok(MentionProof::new(uses))
-}
-
-// That use for each of four mentions.
-fn four_times(alloc: Global, link: usize) -> Result<Certificate, NoMemory> {
-    let mut proofs = Vec::new(alloc);
-    for _ in 0..4 {
-        proofs.push(same_names(alloc, link)?)?;
-    }
-    Ok(Certificate::new(proofs))
-}
-
-fn one_year(alloc: Global) -> Result<Constraint, NoMemory> {
-    Ok(Constraint::One {
-        function: Str::new(alloc, b"YearPage")?,
-        label: Str::new(alloc, b"Year")?,
-    })
-}
-
-fn text_of(
-    alloc: Global,
-    query: &Checked,
-    constraint: &Constraint,
-    certificate: &Certificate,
-) -> Result<Vec<u8>, Fail> {
-    let blocks = scopes(alloc, query)?;
-    let paths = paths_of(alloc, &query.query().blocks)?;
-    let mut out = Vec::new(alloc);
-    if paths.len() == blocks.blocks.len() {
-        print_yes(alloc, &blocks, &paths, 2, constraint, certificate, &mut out)?;
-    }
-    Ok(out)
+// For each mention the link by which a certificate shows that a year's page has one Year, and its lines, if it is one.
+struct CertificateRow {
+    links: &'static [usize],
+    lines: Option<&'static [u8]>,
+    reason: &'static str,
 }
 
 // Link 3, YearPage(v) -> "Year" -> v, is each year's page's own: the mentions are the CREATE, the
 // sources of links 3 and 4, and the target of link 5.
-#[test]
-fn a_certificate_has_its_lines(rt: HostRuntime) -> Result<(), Fail> {
-    let alloc = rt.alloc();
-    let query = read_query(alloc, PAPERS, 65_536)?;
-    let constraint = one_year(alloc)?;
-    let certificate = four_times(alloc, 3)?;
-    check(
-        recheck(alloc, &query, &constraint, &certificate)?,
-        "link 3 shows it",
-    )?;
-    let text = text_of(alloc, &query, &constraint, &certificate)?;
-    check_text(&text, YEARS)?;
-    let mut unknown = Vec::new(alloc);
-    print_unknown(2, &mut unknown)?;
-    check_text(&unknown, b"2 unknown\n")
+const CERTIFICATES: &[CertificateRow] = &[
+    CertificateRow {
+        links: &[3, 3, 3, 3],
+        lines: Some(YEARS),
+        reason: "link 3 shows it",
+    },
+    CertificateRow {
+        links: &[4, 4, 4, 4],
+        lines: None,
+        reason: "link 4 is by another label",
+    },
+    CertificateRow {
+        links: &[3],
+        lines: None,
+        reason: "one mention of four",
+    },
+];
+
+// A use of each link, that maps each variable to itself.
+fn certificate_of(alloc: Global, links: &[usize]) -> Result<Certificate, NoMemory> {
+    let mut proofs = Vec::new(alloc);
+    for link in links {
+        let mut names = Vec::new(alloc);
+        names.push(Str::new(alloc, b"x")?)?;
+        names.push(Str::new(alloc, b"l")?)?;
+        names.push(Str::new(alloc, b"v")?)?;
+        let uses = vec![in alloc; LinkUse::new(*link, names)]?;
+        proofs.push(MentionProof::new(uses))?;
+    }
+    Ok(Certificate::new(proofs))
 }
 
-// Link 4 is by another label, and three mentions are too few.
+fn check_certificate(alloc: Global, query: &Checked, row: &CertificateRow) -> Result<(), Fail> {
+    let certificate = certificate_of(alloc, row.links)?;
+    let constraint = Constraint::One {
+        function: Str::new(alloc, b"YearPage")?,
+        label: Str::new(alloc, b"Year")?,
+    };
+    let is_one = recheck(alloc, query, &constraint, &certificate)?;
+    check(is_one == row.lines.is_some(), row.reason)?;
+    let Some(lines) = row.lines else {
+        return Ok(());
+    };
+    let blocks = scopes(alloc, query)?;
+    let paths = paths_of(alloc, &query.query().blocks)?;
+    let mut out = Vec::new(alloc);
+    if paths.len() == blocks.blocks.len() {
+        print_yes(
+            alloc,
+            &blocks,
+            &paths,
+            2,
+            &constraint,
+            &certificate,
+            &mut out,
+        )?;
+    }
+    check_text(&out, lines, row.reason)
+}
+
 #[test]
-fn other_uses_are_no_certificate(rt: HostRuntime) -> Result<(), Fail> {
-    let alloc = rt.alloc();
-    let query = read_query(alloc, PAPERS, 65_536)?;
-    let constraint = one_year(alloc)?;
-    let certificate = four_times(alloc, 4)?;
-    check(
-        !recheck(alloc, &query, &constraint, &certificate)?,
-        "link 4",
-    )?;
-    let mut proofs = Vec::new(alloc);
-    proofs.push(same_names(alloc, 3)?)?;
-    let certificate = Certificate::new(proofs);
-    check(
-        !recheck(alloc, &query, &constraint, &certificate)?,
-        "one mention of four",
-    )
+fn certificates_have_their_lines(rt: HostRuntime) -> Result<(), Fail> {
+    let query = read_query(rt.alloc(), PAPERS, 65_536)?;
+    for row in CERTIFICATES {
+        check_certificate(rt.alloc(), &query, row)?;
+    }
+    let mut unknown = Vec::new(rt.alloc());
+    print_unknown(2, &mut unknown)?;
+    check_text(&unknown, b"2 unknown\n", "unknown")
 }
 
 /// What is told of the constraints of the text, and whether all are answered yes.
@@ -137,14 +136,6 @@ const THREE_TOLD: &[u8] = b"1 yes
   }
 ";
 
-// The first asks for no use of a link. A link of a paper's page carries whatever label l is.
-#[test]
-fn constraints_are_told_in_order(rt: HostRuntime) -> Result<(), Fail> {
-    let verdicts = told(rt.alloc(), PAPERS, THREE)?;
-    check_text(verdicts.text.bytes(), THREE_TOLD)?;
-    check(!verdicts.all_yes, "the third is no")
-}
-
 const PAPERS_ARE_REACHED: &[u8] = b"REACHABLE PaperPage FROM RootPage";
 
 const PAPERS_TOLD: &[u8] = b"1 yes
@@ -170,15 +161,48 @@ const A_PAPER_WITHOUT_A_TITLE: &[u8] = b"1 no
   }
 ";
 
-// A paper's page is mentioned by the CREATE, as the source of link 1 and as the target of links 2
-// and 4. Where link 2 asks for a title, a paper without one may have a page that nothing leads to.
+// A query, constraints, what is told of them, and whether all are answered yes.
+struct ToldRow {
+    query: &'static [u8],
+    constraints: &'static [u8],
+    text: &'static [u8],
+    all_yes: bool,
+    reason: &'static str,
+}
+
+const TOLD: &[ToldRow] = &[
+    // The first asks for no use of a link. A link of a paper's page carries whatever label l is.
+    ToldRow {
+        query: PAPERS,
+        constraints: THREE,
+        text: THREE_TOLD,
+        all_yes: false,
+        reason: "the third is no",
+    },
+    // A paper's page is mentioned by the CREATE, as the source of link 1 and as the target of links 2
+    // and 4. Where link 2 asks for a title, a paper without one may have a page that nothing leads to.
+    ToldRow {
+        query: PAPERS,
+        constraints: PAPERS_ARE_REACHED,
+        text: PAPERS_TOLD,
+        all_yes: true,
+        reason: "the only one is yes",
+    },
+    ToldRow {
+        query: TITLED,
+        constraints: PAPERS_ARE_REACHED,
+        text: A_PAPER_WITHOUT_A_TITLE,
+        all_yes: false,
+        reason: "the only one is no",
+    },
+];
+
 #[test]
-fn the_way_to_a_page_is_told(rt: HostRuntime) -> Result<(), Fail> {
-    let alloc = rt.alloc();
-    let verdicts = told(alloc, PAPERS, PAPERS_ARE_REACHED)?;
-    check_text(verdicts.text.bytes(), PAPERS_TOLD)?;
-    check(verdicts.all_yes, "the only one is yes")?;
-    let verdicts = told(alloc, TITLED, PAPERS_ARE_REACHED)?;
-    check_text(verdicts.text.bytes(), A_PAPER_WITHOUT_A_TITLE)?;
-    check(!verdicts.all_yes, "the only one is no")
+fn constraints_are_told_in_order(rt: HostRuntime) -> Result<(), Fail> {
+    for row in TOLD {
+        let verdicts = told(rt.alloc(), row.query, row.constraints)?;
+        check_text(verdicts.text.bytes(), row.text, row.reason)?;
+        check(verdicts.all_yes == row.all_yes, row.reason)?;
+    }
+    Ok(())
 }

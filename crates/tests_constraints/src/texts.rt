@@ -1,11 +1,9 @@
 // Texts of constraints, and texts that are refused, over a query with a root and a function of one argument.
-use crate::checks::{check, check_text};
 use constraint_spec::Constraint;
 use constraints::{ConstraintRefusal, parse_constraints};
 use query_reader::read_query;
-use sd_value::{NoMemory, Str};
+use sd_value::NoMemory;
 use std::alloc::Global;
-use std::process::Abort;
 use std::test::Fail;
 use struql_check::Checked;
 
@@ -13,169 +11,196 @@ const QUERY: &[u8] = b"INPUT D { CREATE R() } { WHERE C(x) CREATE F(x) } OUTPUT 
 
 const LIMIT: u64 = 1_048_576;
 
-fn query_of(alloc: Global) -> Result<Checked, Fail> {
-    Ok(read_query(alloc, QUERY, LIMIT)?)
+// A text with this many blanks behind it, the most bytes that it may have, and the words of its constraints, each with a
+// blank behind it, or why it is refused.
+struct TextRow {
+    text: &'static str,
+    blanks: usize,
+    limit: u64,
+    ends: Result<&'static [u8], ConstraintRefusal>,
 }
 
-fn joined(alloc: Global, parts: &[&[u8]]) -> Result<Vec<u8>, NoMemory> {
-    let mut out = Vec::new(alloc);
-    for part in parts {
-        out.extend_from_slice(part)?;
+const TEXTS: &[TextRow] = &[
+    TextRow {
+        text: "// five\nREACHABLE F FROM R EACH F LINKS \"a\" TO R\nONLY R LINKS \"b c\" TO F NONE F LINKS \"\" ONE R LINKS \"\\\"\"",
+        blanks: 0,
+        limit: LIMIT,
+        ends: Ok(b"REACHABLE F R EACH F a R ONLY R b c F NONE F  ONE R \" "),
+    },
+    TextRow {
+        text: "",
+        blanks: 0,
+        limit: 0,
+        ends: Ok(b""),
+    },
+    TextRow {
+        text: "",
+        blanks: 1_048_576,
+        limit: LIMIT,
+        ends: Ok(b""),
+    },
+    TextRow {
+        text: "",
+        blanks: 1_048_577,
+        limit: LIMIT,
+        ends: Err(ConstraintRefusal::TooLong(LIMIT)),
+    },
+    TextRow {
+        text: "NONE Zed LINKS \"a\"",
+        blanks: 0,
+        limit: LIMIT,
+        ends: Err(ConstraintRefusal::UnknownFunction(5)),
+    },
+    TextRow {
+        text: "REACHABLE R FROM F",
+        blanks: 0,
+        limit: LIMIT,
+        ends: Err(ConstraintRefusal::RootHasArguments(17)),
+    },
+    TextRow {
+        text: "REACHABLE R FROM Zed",
+        blanks: 0,
+        limit: LIMIT,
+        ends: Err(ConstraintRefusal::UnknownFunction(17)),
+    },
+    TextRow {
+        text: "REACHABLE R FROM F NONE Zed LINKS \"a\"",
+        blanks: 0,
+        limit: LIMIT,
+        ends: Err(ConstraintRefusal::RootHasArguments(17)),
+    },
+    TextRow {
+        text: "EACH F LINKS \"a\" TO Zed",
+        blanks: 0,
+        limit: LIMIT,
+        ends: Err(ConstraintRefusal::UnknownFunction(20)),
+    },
+    TextRow {
+        text: "ONE LINKS LINKS \"a\"",
+        blanks: 0,
+        limit: LIMIT,
+        ends: Err(ConstraintRefusal::UnknownFunction(4)),
+    },
+    TextRow {
+        text: "none F LINKS \"a\"",
+        blanks: 0,
+        limit: LIMIT,
+        ends: Err(ConstraintRefusal::Expected(0)),
+    },
+    TextRow {
+        text: "NONE F links \"a\"",
+        blanks: 0,
+        limit: LIMIT,
+        ends: Err(ConstraintRefusal::Expected(7)),
+    },
+    TextRow {
+        text: "NONE \"F\" LINKS \"a\"",
+        blanks: 0,
+        limit: LIMIT,
+        ends: Err(ConstraintRefusal::Expected(5)),
+    },
+    TextRow {
+        text: "NONE F LINKS a",
+        blanks: 0,
+        limit: LIMIT,
+        ends: Err(ConstraintRefusal::Expected(13)),
+    },
+    TextRow {
+        text: "ONE F LINKS \"a\" TO R",
+        blanks: 0,
+        limit: LIMIT,
+        ends: Err(ConstraintRefusal::Expected(16)),
+    },
+    TextRow {
+        text: "EACH F LINKS \"a\"",
+        blanks: 0,
+        limit: LIMIT,
+        ends: Err(ConstraintRefusal::Expected(16)),
+    },
+    // A name is looked at only where the whole text is spelled well.
+    TextRow {
+        text: "NONE Zed LINKS \"a\" ONE",
+        blanks: 0,
+        limit: LIMIT,
+        ends: Err(ConstraintRefusal::Expected(22)),
+    },
+    TextRow {
+        text: "NONE F LINKS \"a",
+        blanks: 0,
+        limit: LIMIT,
+        ends: Err(ConstraintRefusal::OpenString(13)),
+    },
+    TextRow {
+        text: "NONE ?",
+        blanks: 0,
+        limit: LIMIT,
+        ends: Err(ConstraintRefusal::BadByte(5)),
+    },
+];
+
+fn put_words(words: &[&[u8]], out: &mut Vec<u8>) -> Result<(), NoMemory> {
+    for word in words {
+        out.extend_from_slice(word)?;
         out.push(b' ')?;
     }
-    Ok(out)
+    Ok(())
 }
 
-// A constraint as the words of its text.
-fn text_of(alloc: Global, constraint: &Constraint) -> Result<Vec<u8>, NoMemory> {
+// Adds a constraint as the words of its text.
+fn put_constraint(constraint: &Constraint, out: &mut Vec<u8>) -> Result<(), NoMemory> {
     match constraint {
         Constraint::Reachable { function, root } => {
-            joined(alloc, &[b"REACHABLE", function.bytes(), root.bytes()])
+            put_words(&[b"REACHABLE", function.bytes(), root.bytes()], out)
         }
         Constraint::Each {
             function,
             label,
             target,
-        } => joined(
-            alloc,
+        } => put_words(
             &[b"EACH", function.bytes(), label.bytes(), target.bytes()],
+            out,
         ),
         Constraint::Only {
             function,
             label,
             target,
-        } => joined(
-            alloc,
+        } => put_words(
             &[b"ONLY", function.bytes(), label.bytes(), target.bytes()],
+            out,
         ),
         Constraint::Never { function, label } => {
-            joined(alloc, &[b"NONE", function.bytes(), label.bytes()])
+            put_words(&[b"NONE", function.bytes(), label.bytes()], out)
         }
         Constraint::One { function, label } => {
-            joined(alloc, &[b"ONE", function.bytes(), label.bytes()])
+            put_words(&[b"ONE", function.bytes(), label.bytes()], out)
         }
     }
 }
 
-fn texts_of(alloc: Global, constraints: &[Constraint]) -> Result<Vec<u8>, NoMemory> {
-    let mut out = Vec::new(alloc);
+fn words_of(alloc: Global, constraints: &[Constraint]) -> Result<Vec<u8>, NoMemory> {
+    let mut words = Vec::new(alloc);
     for constraint in constraints {
-        let mut text = text_of(alloc, constraint)?;
-        out.append(&mut text)?;
+        put_constraint(constraint, &mut words)?;
     }
-    Ok(out)
+    Ok(words)
 }
 
-const TEXT: &[u8] =
-    b"// five\nREACHABLE F FROM R EACH F LINKS \"a\" TO R\nONLY R LINKS \"b c\" TO F NONE F LINKS \"\" ONE R LINKS \"\\\"\"";
-
-const FOUND: &[u8] = b"REACHABLE F R EACH F a R ONLY R b c F NONE F  ONE R \" ";
-
-#[test]
-fn constraints_are_read_in_order(rt: HostRuntime) -> Result<(), Fail> {
-    let query = query_of(rt.alloc())?;
-    let constraints = parse_constraints(rt.alloc(), TEXT, LIMIT, &query)?;
-    check_text(&texts_of(rt.alloc(), &constraints)?, FOUND)
-}
-
-#[test]
-fn an_empty_text_has_no_constraints(rt: HostRuntime) -> Result<(), Fail> {
-    let query = query_of(rt.alloc())?;
-    let constraints = parse_constraints(rt.alloc(), b"", 0, &query)?;
-    check(constraints.is_empty(), "constraints")
-}
-
-struct RefusalRow {
-    text: &'static [u8],
-    refusal: ConstraintRefusal,
-}
-
-const REFUSALS: &[RefusalRow] = &[
-    RefusalRow {
-        text: b"NONE Zed LINKS \"a\"",
-        refusal: ConstraintRefusal::UnknownFunction(5),
-    },
-    RefusalRow {
-        text: b"REACHABLE R FROM F",
-        refusal: ConstraintRefusal::RootHasArguments(17),
-    },
-    RefusalRow {
-        text: b"REACHABLE R FROM Zed",
-        refusal: ConstraintRefusal::UnknownFunction(17),
-    },
-    RefusalRow {
-        text: b"REACHABLE R FROM F NONE Zed LINKS \"a\"",
-        refusal: ConstraintRefusal::RootHasArguments(17),
-    },
-    RefusalRow {
-        text: b"EACH F LINKS \"a\" TO Zed",
-        refusal: ConstraintRefusal::UnknownFunction(20),
-    },
-    RefusalRow {
-        text: b"ONE LINKS LINKS \"a\"",
-        refusal: ConstraintRefusal::UnknownFunction(4),
-    },
-    RefusalRow {
-        text: b"none F LINKS \"a\"",
-        refusal: ConstraintRefusal::Expected(0),
-    },
-    RefusalRow {
-        text: b"NONE F links \"a\"",
-        refusal: ConstraintRefusal::Expected(7),
-    },
-    RefusalRow {
-        text: b"NONE \"F\" LINKS \"a\"",
-        refusal: ConstraintRefusal::Expected(5),
-    },
-    RefusalRow {
-        text: b"NONE F LINKS a",
-        refusal: ConstraintRefusal::Expected(13),
-    },
-    RefusalRow {
-        text: b"ONE F LINKS \"a\" TO R",
-        refusal: ConstraintRefusal::Expected(16),
-    },
-    RefusalRow {
-        text: b"EACH F LINKS \"a\"",
-        refusal: ConstraintRefusal::Expected(16),
-    },
-    // A name is looked at only where the whole text is spelled well.
-    RefusalRow {
-        text: b"NONE Zed LINKS \"a\" ONE",
-        refusal: ConstraintRefusal::Expected(22),
-    },
-    RefusalRow {
-        text: b"NONE F LINKS \"a",
-        refusal: ConstraintRefusal::OpenString(13),
-    },
-    RefusalRow {
-        text: b"NONE ?",
-        refusal: ConstraintRefusal::BadByte(5),
-    },
-];
-
-#[test]
-fn other_texts_are_refused(rt: HostRuntime) -> Result<(), Fail> {
-    let query = query_of(rt.alloc())?;
-    for row in REFUSALS {
-        let refused = parse_constraints(rt.alloc(), row.text, LIMIT, &query);
-        assert_eq!(rt; refused.err(), Some(row.refusal));
+fn ends_so(alloc: Global, query: &Checked, row: &TextRow) -> Result<bool, NoMemory> {
+    let blanks = b" ".repeat(alloc, row.blanks)?;
+    let text = [row.text.as_bytes(), blanks.as_slice()].concat(alloc)?;
+    match (parse_constraints(alloc, &text, row.limit, query), row.ends) {
+        (Ok(constraints), Ok(words)) => Ok(words_of(alloc, &constraints)?.as_slice() == words),
+        (Err(refusal), Err(wanted)) => Ok(refusal == wanted),
+        _ => Ok(false),
     }
-    Ok(())
-}
-
-fn blanks(alloc: Global, count: usize) -> Result<Vec<u8>, NoMemory> {
-    Ok(vec![in alloc; b' '; count]?)
 }
 
 #[test]
-fn a_text_of_one_byte_too_many_is_refused(rt: HostRuntime) -> Result<(), Fail> {
-    let query = query_of(rt.alloc())?;
-    let most = blanks(rt.alloc(), 1_048_576)?;
-    let constraints = parse_constraints(rt.alloc(), &most, LIMIT, &query)?;
-    check(constraints.is_empty(), "constraints")?;
-    let more = blanks(rt.alloc(), 1_048_577)?;
-    let refused = parse_constraints(rt.alloc(), &more, LIMIT, &query);
-    assert_eq!(rt; refused.err(), Some(ConstraintRefusal::TooLong(LIMIT)));
+fn texts_are_read_or_refused(rt: HostRuntime) -> Result<(), Fail> {
+    let query = read_query(rt.alloc(), QUERY, LIMIT)?;
+    for row in TEXTS {
+        let is_so = ends_so(rt.alloc(), &query, row)?;
+        assert!(rt; is_so, "{} and {} blanks", row.text, row.blanks);
+    }
     Ok(())
 }

@@ -1,5 +1,4 @@
 // Files of the system, each read as std wrote it, and each written as std reads it.
-use crate::checks::{check, check_bytes};
 use crate::folder::Folder;
 use crate::full::FullDisk;
 use edge_io::{Failed, Files, ReadEnd, RealFiles};
@@ -7,12 +6,153 @@ use sd_value::{NoMemory, Str};
 use std::alloc::Global;
 use std::os::unix::fs::symlink;
 use std::test::Fail;
-use std::{fs, process};
+use std::{fs, io};
 
 // A length of more than two of the buffers that a file is read by, and of no whole number of them.
 const LONG: usize = 20_000;
 
-// A text in which no two buffers are alike.
+// The number that the files of the system have, which is in the name of what they leave when they are killed.
+const NUMBER: u32 = 7;
+
+// A full disk takes so many bytes of a file.
+const ROOM: usize = 4;
+
+// What is done with a file of a folder, or what must hold of it. The long text has bytes in which no two buffers are alike.
+enum Step {
+    // std writes the file.
+    Put(&'static str, &'static [u8]),
+    // std writes the long text.
+    PutLong(&'static str),
+    // std makes the file a link to the other one.
+    Link(&'static str, &'static str),
+    // std reads these bytes.
+    Holds(&'static str, &'static [u8]),
+    // It is a file and no link.
+    IsFile(&'static str),
+    // The folder has files of these names alone.
+    Names(&'static [&'static str]),
+    // The bytes are written, and std reads them.
+    Writes(&'static str, &'static [u8]),
+    // The long text is written, and std reads it.
+    WritesLong(&'static str),
+    // A write fails, and is counted.
+    WriteFails(&'static str),
+    // At most so many bytes are read: the long text's first, of which there are so many.
+    ReadsLong(&'static str, u64, usize),
+    // A read fails, and is counted.
+    ReadFails(&'static str),
+    // The bytes are written where the disk was full.
+    WritesFull(&'static str, &'static [u8]),
+    // A write to the full disk fails, and is counted.
+    WriteFullFails(&'static str, &'static [u8]),
+}
+
+// What is done in a fresh folder, one after the other.
+struct Story {
+    name: &'static str,
+    folder: &'static str,
+    steps: &'static [Step],
+}
+
+const STORIES: &[Story] = &[
+    Story {
+        name: "a file is read up to a bound",
+        folder: "bounds",
+        steps: &[
+            Step::PutLong("long"),
+            Step::ReadsLong("long", 1_000_000, LONG),
+            Step::ReadsLong("long", LONG as u64, LONG),
+            Step::ReadsLong("long", LONG as u64 - 1, LONG - 1),
+            Step::ReadsLong("long", 8_192, 8_192),
+            Step::ReadsLong("long", 8_193, 8_193),
+            Step::ReadsLong("long", 5, 5),
+            Step::ReadsLong("long", 0, 0),
+        ],
+    },
+    Story {
+        name: "a missing file and a folder are not read",
+        folder: "unread",
+        steps: &[
+            Step::ReadFails("none"),
+            Step::ReadFails("none/x"),
+            Step::ReadFails("."),
+        ],
+    },
+    Story {
+        name: "a file is written whole",
+        folder: "written",
+        steps: &[
+            Step::WritesLong("file"),
+            Step::Writes("file", b"over an old one"),
+            Step::Writes("file", b""),
+            Step::Writes("new/folders/file", b"in a new folder"),
+            Step::WritesLong("new/folders/second"),
+        ],
+    },
+    Story {
+        name: "no file is written at a folder or under a file",
+        folder: "unwritten",
+        steps: &[
+            Step::Writes("file", b"a file"),
+            Step::Writes("folder/file", b"a file"),
+            Step::WriteFails("folder"),
+            Step::WriteFails("file/x"),
+            Step::WriteFails("file/x/y"),
+            Step::Holds("file", b"a file"),
+        ],
+    },
+    // The old file stays until the new one takes its place, and nothing else is left, also where that fails.
+    Story {
+        name: "no other file is left",
+        folder: "left",
+        steps: &[
+            Step::Writes("file", b"a file"),
+            Step::Writes("file", b"over an old one"),
+            Step::Writes("folder/file", b"a file"),
+            Step::WriteFails("folder"),
+            Step::Names(&["file", "folder"]),
+            Step::Holds("folder/file", b"a file"),
+        ],
+    },
+    // A process of the same number was killed while it wrote.
+    Story {
+        name: "a file that was left is taken over",
+        folder: "taken",
+        steps: &[
+            Step::Put(".strudel-7", b"a part that is longer than the file"),
+            Step::Writes("file", b"a file"),
+            Step::Names(&["file"]),
+        ],
+    },
+    // What a link names stays as it is, and the link goes.
+    Story {
+        name: "a link is replaced and not followed",
+        folder: "links",
+        steps: &[
+            Step::Writes("outside", b"outside"),
+            Step::Link("link", "outside"),
+            Step::Writes("link", b"inside"),
+            Step::Holds("outside", b"outside"),
+            Step::IsFile("link"),
+        ],
+    },
+    Story {
+        name: "an old file stays where a write fails",
+        folder: "stays",
+        steps: &[
+            Step::Writes("file", b"an old file"),
+            Step::WriteFullFails("file", b"a new file"),
+            Step::Holds("file", b"an old file"),
+            Step::Names(&["file"]),
+            Step::WritesFull("file", b"four"),
+        ],
+    },
+];
+
+// The files of a full disk.
+type FullFiles<'a> = RealFiles<'a, FullDisk<'a, HostRuntime>>;
+
+// The long text.
 fn long_text(alloc: Global) -> Result<Vec<u8>, NoMemory> {
     let mut text = Vec::new(alloc);
     for place in 0..LONG {
@@ -21,137 +161,23 @@ fn long_text(alloc: Global) -> Result<Vec<u8>, NoMemory> {
     Ok(text)
 }
 
-// A bound on what is read, and how many bytes are read then.
-struct Bound {
-    at_most: u64,
-    length: usize,
-}
-
-const BOUNDS: &[Bound] = &[
-    Bound {
-        at_most: 1_000_000,
-        length: LONG,
-    },
-    Bound {
-        at_most: LONG as u64,
-        length: LONG,
-    },
-    Bound {
-        at_most: LONG as u64 - 1,
-        length: LONG - 1,
-    },
-    Bound {
-        at_most: 8_192,
-        length: 8_192,
-    },
-    Bound {
-        at_most: 8_193,
-        length: 8_193,
-    },
-    Bound {
-        at_most: 5,
-        length: 5,
-    },
-    Bound {
-        at_most: 0,
-        length: 0,
-    },
-];
-
-fn check_bounds<F: Files>(
-    alloc: Global,
-    files: &mut F,
-    path: &Str,
-    text: &[u8],
-) -> Result<(), Fail> {
-    for bound in BOUNDS {
-        let found = files.read(alloc, path, bound.at_most)?;
-        let wanted = text.get(..bound.length).ok_or("a short text")?;
-        check_bytes(&found, wanted, "what is read")?;
+// The name of the file that the step is of.
+fn name_of(step: &Step) -> &'static str {
+    match step {
+        Step::Put(name, _) | Step::PutLong(name) | Step::Link(name, _) => *name,
+        Step::Holds(name, _) | Step::IsFile(name) | Step::Writes(name, _) => *name,
+        Step::WritesLong(name) | Step::WriteFails(name) | Step::ReadsLong(name, _, _) => *name,
+        Step::ReadFails(name) | Step::WritesFull(name, _) | Step::WriteFullFails(name, _) => *name,
+        Step::Names(_) => ".",
     }
-    Ok(())
 }
 
-#[test]
-fn a_file_is_read_up_to_a_bound(rt: HostRuntime) -> Result<(), Fail> {
-    let alloc = rt.alloc();
-    let folder = Folder::fresh(&rt, "bounds")?;
-    let path = folder.path(&rt, "long")?;
-    let text = long_text(alloc)?;
-    fs::write(&rt, path.as_str(), text.as_slice())?;
-    let path = Str::new(alloc, path.as_bytes())?;
-    let mut files = RealFiles::new(&rt, process::id(rt.process()));
-    check_bounds(alloc, &mut files, &path, &text)?;
-    check(files.read_faults(&path) == 0, "a fault")?;
-    folder.remove(&rt)
-}
-
-// Reads the file of this name, which fails.
-fn check_unread(rt: &HostRuntime, folder: &Folder, name: &str) -> Result<(), Fail> {
-    let alloc = rt.alloc();
-    let path = folder.path(rt, name)?;
-    let path = Str::new(alloc, path.as_bytes())?;
-    let mut files = RealFiles::new(rt, process::id(rt.process()));
-    let end = files.read(alloc, &path, 9);
-    check(end == Err(ReadEnd::Failed), name)?;
-    check(files.read_faults(&path) == 1, "no fault of reading")?;
-    check(files.write_faults(&path) == 0, "a fault of writing")
-}
-
-#[test]
-fn a_missing_file_and_a_folder_are_not_read(rt: HostRuntime) -> Result<(), Fail> {
-    let folder = Folder::fresh(&rt, "unread")?;
-    check_unread(&rt, &folder, "none")?;
-    check_unread(&rt, &folder, "none/x")?;
-    check_unread(&rt, &folder, ".")?;
-    folder.remove(&rt)
-}
-
-// Writes the bytes, which std reads then.
-fn check_written(rt: &HostRuntime, folder: &Folder, name: &str, bytes: &[u8]) -> Result<(), Fail> {
-    let alloc = rt.alloc();
-    let path = folder.path(rt, name)?;
-    let named = Str::new(alloc, path.as_bytes())?;
-    let mut files = RealFiles::new(rt, process::id(rt.process()));
-    check(files.write(&named, bytes) == Ok(()), name)?;
-    check(files.write_faults(&named) == 0, "a fault of writing")?;
-    check_bytes(&fs::read(rt, path.as_str())?, bytes, name)
-}
-
-#[test]
-fn a_file_is_written_whole(rt: HostRuntime) -> Result<(), Fail> {
-    let folder = Folder::fresh(&rt, "written")?;
-    let text = long_text(rt.alloc())?;
-    check_written(&rt, &folder, "file", &text)?;
-    check_written(&rt, &folder, "file", b"over an old one")?;
-    check_written(&rt, &folder, "file", b"")?;
-    check_written(&rt, &folder, "new/folders/file", b"in a new folder")?;
-    check_written(&rt, &folder, "new/folders/second", &text)?;
-    folder.remove(&rt)
-}
-
-// Writes the file of this name, which fails.
-fn check_unwritten(rt: &HostRuntime, folder: &Folder, name: &str) -> Result<(), Fail> {
-    let alloc = rt.alloc();
-    let path = folder.path(rt, name)?;
-    let path = Str::new(alloc, path.as_bytes())?;
-    let mut files = RealFiles::new(rt, process::id(rt.process()));
-    check(files.write(&path, b"x") == Err(Failed), name)?;
-    check(files.write_faults(&path) == 1, "no fault of writing")?;
-    check(files.read_faults(&path) == 0, "a fault of reading")
-}
-
-#[test]
-fn no_file_is_written_at_a_folder_or_under_a_file(rt: HostRuntime) -> Result<(), Fail> {
-    let folder = Folder::fresh(&rt, "unwritten")?;
-    check_written(&rt, &folder, "file", b"a file")?;
-    check_written(&rt, &folder, "folder/file", b"a file")?;
-    check_unwritten(&rt, &folder, "folder")?;
-    check_unwritten(&rt, &folder, "file/x")?;
-    check_unwritten(&rt, &folder, "file/x/y")?;
-    let path = folder.path(&rt, "file")?;
-    check_bytes(&fs::read(&rt, path.as_str())?, b"a file", "the file")?;
-    folder.remove(&rt)
+// Whether std reads these bytes.
+fn holds(rt: &HostRuntime, path: &str, wanted: &[u8]) -> bool {
+    match fs::read(rt, path) {
+        Ok(found) => found.as_slice() == wanted,
+        Err(_) => false,
+    }
 }
 
 fn is_among(name: &str, names: &[&str]) -> bool {
@@ -164,90 +190,118 @@ fn is_among(name: &str, names: &[&str]) -> bool {
 }
 
 // Whether the folder has files of these names alone.
-fn check_names(rt: &HostRuntime, folder: &Folder, wanted: &[&str]) -> Result<(), Fail> {
-    let path = folder.path(rt, ".")?;
-    for entry in fs::read_dir(rt, path.as_str())? {
+fn has_only(rt: &HostRuntime, path: &str, names: &[&str]) -> io::Result<bool> {
+    for entry in fs::read_dir(rt, path)? {
         let entry = entry?;
-        check(is_among(&entry.file_name(), wanted), "another file")?;
+        if !is_among(entry.file_name(), names) {
+            return Ok(false);
+        }
+    }
+    Ok(true)
+}
+
+// A link to the other file of the folder is made. Is it?
+fn links(rt: &HostRuntime, folder: &Folder, path: &str, other: &str) -> bool {
+    match folder.path(rt.alloc(), other) {
+        Ok(other) => symlink(rt, other.as_str(), path).is_ok(),
+        Err(_) => false,
+    }
+}
+
+// The bytes are written, where so many writes have failed before. Is it so?
+fn writes<F: Files>(files: &mut F, path: &Str, bytes: &[u8], faults: u64) -> bool {
+    files.write(path, bytes) == Ok(()) && files.write_faults(path) == faults
+}
+
+// The first write fails, and is counted. Is it so?
+fn write_fails<F: Files>(files: &mut F, path: &Str, bytes: &[u8]) -> bool {
+    let end = files.write(path, bytes);
+    end == Err(Failed) && files.write_faults(path) == 1 && files.read_faults(path) == 0
+}
+
+// At most so many bytes are read, which are these. Is it so?
+fn reads<F: Files>(alloc: Global, files: &mut F, path: &Str, at_most: u64, wanted: &[u8]) -> bool {
+    match files.read(alloc, path, at_most) {
+        Ok(found) => found.as_slice() == wanted && files.read_faults(path) == 0,
+        Err(_) => false,
+    }
+}
+
+// The first read fails, and is counted. Is it so?
+fn read_fails<F: Files>(alloc: Global, files: &mut F, path: &Str) -> bool {
+    let end = files.read(alloc, path, 9);
+    end == Err(ReadEnd::Failed) && files.read_faults(path) == 1 && files.write_faults(path) == 0
+}
+
+// Takes the step, with files of the system of which no call has failed, or with those of the full disk. Does it go as it
+// says?
+fn goes(
+    rt: &HostRuntime,
+    full: &mut FullFiles<'_>,
+    folder: &Folder,
+    long: &[u8],
+    path: &Str,
+    at: &str,
+    step: &Step,
+) -> bool {
+    let files = &mut RealFiles::new(rt, NUMBER);
+    match step {
+        Step::Put(_, bytes) => fs::write(rt, at, *bytes).is_ok(),
+        Step::PutLong(_) => fs::write(rt, at, long).is_ok(),
+        Step::Link(_, other) => links(rt, folder, at, other),
+        Step::Holds(_, bytes) => holds(rt, at, bytes),
+        Step::IsFile(_) => matches!(&fs::symlink_metadata(rt, at), Ok(data) if data.is_file()),
+        Step::Names(names) => matches!(&has_only(rt, at, names), Ok(true)),
+        Step::Writes(_, bytes) => writes(files, path, bytes, 0) && holds(rt, at, bytes),
+        Step::WritesLong(_) => writes(files, path, long, 0) && holds(rt, at, long),
+        Step::WriteFails(_) => write_fails(files, path, b"x"),
+        Step::ReadsLong(_, at_most, length) => match long.get(..*length) {
+            Some(wanted) => reads(rt.alloc(), files, path, *at_most, wanted),
+            None => false,
+        },
+        Step::ReadFails(_) => read_fails(rt.alloc(), files, path),
+        Step::WritesFull(_, bytes) => writes(full, path, bytes, 1) && holds(rt, at, bytes),
+        Step::WriteFullFails(_, bytes) => write_fails(full, path, bytes),
+    }
+}
+
+// Takes the step. Does it go as it says?
+fn goes_in(
+    rt: &HostRuntime,
+    full: &mut FullFiles<'_>,
+    folder: &Folder,
+    long: &[u8],
+    step: &Step,
+) -> bool {
+    let Ok(at) = folder.path(rt.alloc(), name_of(step)) else {
+        return false;
+    };
+    match Str::new(rt.alloc(), at.as_bytes()) {
+        Ok(path) => goes(rt, full, folder, long, &path, at.as_str(), step),
+        Err(_) => false,
+    }
+}
+
+fn take_story(rt: &HostRuntime, long: &[u8], story: &Story) -> Result<(), Fail> {
+    let folder = Folder::fresh(rt, story.folder)?;
+    let disk = FullDisk {
+        system: rt,
+        room: ROOM,
+    };
+    let mut full = RealFiles::new(&disk, NUMBER);
+    for (place, step) in story.steps.iter().enumerate() {
+        if !goes_in(rt, &mut full, &folder, long, step) {
+            return Err(Fail::new(format_args!("{}: step {place}", story.name)));
+        }
+    }
+    folder.remove(rt)
+}
+
+#[test]
+fn each_story_of_files_goes_by_its_steps(rt: HostRuntime) -> Result<(), Fail> {
+    let long = long_text(rt.alloc())?;
+    for story in STORIES {
+        take_story(&rt, &long, story)?;
     }
     Ok(())
-}
-
-// The old file stays until the new one takes its place, and nothing else is left, also where that fails.
-#[test]
-fn no_other_file_is_left(rt: HostRuntime) -> Result<(), Fail> {
-    let folder = Folder::fresh(&rt, "left")?;
-    check_written(&rt, &folder, "file", b"a file")?;
-    check_written(&rt, &folder, "file", b"over an old one")?;
-    check_written(&rt, &folder, "folder/file", b"a file")?;
-    check_unwritten(&rt, &folder, "folder")?;
-    check_names(&rt, &folder, &["file", "folder"])?;
-    let path = folder.path(&rt, "folder/file")?;
-    check_bytes(
-        &fs::read(&rt, path.as_str())?,
-        b"a file",
-        "the file in the folder",
-    )?;
-    folder.remove(&rt)
-}
-
-// A process of the same number was killed while it wrote.
-#[test]
-fn a_file_that_was_left_is_taken_over(rt: HostRuntime) -> Result<(), Fail> {
-    let folder = Folder::fresh(&rt, "taken")?;
-    let number = process::id(rt.process());
-    let path = format!(in rt.alloc(); "{}/.strudel-{number}", folder.path(&rt, ".")?)?;
-    fs::write(&rt, path.as_str(), "a part that is longer than the file")?;
-    check_written(&rt, &folder, "file", b"a file")?;
-    check_names(&rt, &folder, &["file"])?;
-    folder.remove(&rt)
-}
-
-// What a link names stays as it is, and the link goes.
-#[test]
-fn a_link_is_replaced_and_not_followed(rt: HostRuntime) -> Result<(), Fail> {
-    let folder = Folder::fresh(&rt, "links")?;
-    check_written(&rt, &folder, "outside", b"outside")?;
-    let outside = folder.path(&rt, "outside")?;
-    let link = folder.path(&rt, "link")?;
-    symlink(&rt, outside.as_str(), link.as_str())?;
-    check_written(&rt, &folder, "link", b"inside")?;
-    check_bytes(
-        &fs::read(&rt, outside.as_str())?,
-        b"outside",
-        "what the link named",
-    )?;
-    check(
-        fs::symlink_metadata(&rt, link.as_str())?.is_file(),
-        "the link is still there",
-    )?;
-    folder.remove(&rt)
-}
-
-// A disk takes four bytes of the new file.
-#[test]
-fn an_old_file_stays_where_a_write_fails(rt: HostRuntime) -> Result<(), Fail> {
-    let alloc = rt.alloc();
-    let folder = Folder::fresh(&rt, "stays")?;
-    check_written(&rt, &folder, "file", b"an old file")?;
-    let path = folder.path(&rt, "file")?;
-    let named = Str::new(alloc, path.as_bytes())?;
-    let full = FullDisk {
-        system: &rt,
-        room: 4,
-    };
-    let mut files = RealFiles::new(&full, process::id(rt.process()));
-    check(
-        files.write(&named, b"a new file") == Err(Failed),
-        "it is written",
-    )?;
-    check(files.write_faults(&named) == 1, "no fault of writing")?;
-    check_bytes(&fs::read(&rt, path.as_str())?, b"an old file", "the file")?;
-    check_names(&rt, &folder, &["file"])?;
-    check(
-        files.write(&named, b"four") == Ok(()),
-        "a short file is not written",
-    )?;
-    check_bytes(&fs::read(&rt, path.as_str())?, b"four", "the short file")?;
-    folder.remove(&rt)
 }

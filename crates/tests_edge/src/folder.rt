@@ -1,4 +1,5 @@
 // A fresh folder for one test.
+use std::alloc::{AllocError, Global};
 use std::test::Fail;
 use std::{env, fs, process};
 
@@ -21,8 +22,9 @@ impl Folder {
     }
 
     /// The path of a file of the folder.
-    pub fn path<R: AllocGlobal>(&self, rt: &R, name: &str) -> Result<String, Fail> {
-        Ok(format!(in rt.alloc(); "{}/{name}", self.path)?)
+    pub fn path(&self, alloc: Global, name: &str) -> Result<String, AllocError> {
+        let path = format!(in alloc; "{}/{name}", self.path)?;
+        Ok(path)
     }
 
     /// Removes the folder with all that is in it.

@@ -3,8 +3,6 @@
 #![tactic(auto)]
 
 #[cfg(test)]
-mod checks;
-#[cfg(test)]
 mod files;
 #[cfg(test)]
 mod flaky;
@@ -16,5 +14,3 @@ mod full;
 mod sockets;
 #[cfg(test)]
 mod talk;
-#[cfg(test)]
-mod watched;

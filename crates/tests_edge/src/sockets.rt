@@ -1,13 +1,12 @@
-// How the wire waits: short waits of some tens of milliseconds, and no time is measured. One thread is client and server.
-use crate::checks::check;
+// How the wire waits, and when it reads a watched file: short waits of some tens of milliseconds, and no time is measured.
+// One thread is client and server.
 use crate::flaky::Flaky;
-use crate::talk::{Step, client_of, listening, talk};
-use std::io::Write;
+use crate::folder::Folder;
+use crate::talk::{Step, Talk, take_talk};
 use std::test::Fail;
 use tcp_wire::Waits;
-use wire::{Wire, WireEvent};
 
-// Nothing that a test waits for in vain takes longer than this many milliseconds.
+// Nothing that a talk waits for in vain takes longer than this many milliseconds.
 const SHORT: Waits = Waits {
     idle: 60,
     stall: 60,
@@ -19,274 +18,446 @@ const LONG: Waits = Waits {
     stall: 600_000,
 };
 
-// The time of the silent one is over while the other is idle after its reply.
-const SILENT_IS_LET_GO: &[Step] = &[
-    Step::Connect(2),
-    Step::Send(1, b"a request"),
-    Step::Opened(1),
-    Step::Piece(1, b"a request"),
-    Step::Reply(1, b"a reply"),
-    Step::Lost(1),
-    Step::Take(0, b""),
-];
-
-#[test]
-fn a_client_that_sends_nothing_is_let_go(rt: HostRuntime) -> Result<(), Fail> {
-    talk(&rt, SHORT, 2, SILENT_IS_LET_GO)
-}
-
-const ENDED: &[Step] = &[
-    Step::Connect(1),
-    Step::End(0),
-    Step::Opened(1),
-    Step::Ended(1),
-    Step::Done,
-];
-
-#[test]
-fn a_client_whose_input_ends_is_opened(rt: HostRuntime) -> Result<(), Fail> {
-    talk(&rt, LONG, 1, ENDED)
-}
-
-const HALF_A_HEAD: &[Step] = &[
-    Step::Connect(1),
-    Step::Send(0, b"GET / HT"),
-    Step::Opened(1),
-    Step::Piece(1, b"GET / HT"),
-    Step::Lost(1),
-    Step::Done,
-];
-
-#[test]
-fn a_client_that_sends_half_a_head_is_lost(rt: HostRuntime) -> Result<(), Fail> {
-    talk(&rt, SHORT, 1, HALF_A_HEAD)
-}
-
-const IDLE: &[Step] = &[
-    Step::Connect(1),
-    Step::Send(0, b"a request"),
-    Step::Opened(1),
-    Step::Piece(1, b"a request"),
-    Step::Reply(1, b"a reply"),
-    Step::Lost(1),
-    Step::Take(0, b"a reply"),
-];
-
-#[test]
-fn a_client_that_is_idle_after_a_reply_is_lost(rt: HostRuntime) -> Result<(), Fail> {
-    talk(&rt, SHORT, 1, IDLE)
-}
-
-// 521 pieces of a byte each come, and no other.
-const A_BYTE_AT_A_TIME: &[Step] = &[
-    Step::Connect(1),
-    Step::Send(0, b"x"),
-    Step::Opened(1),
-    Step::Piece(1, b"x"),
-    Step::Pieces(520, 0, 1),
-    Step::Send(0, b"x"),
-    Step::Lost(1),
-    Step::Done,
-];
-
-#[test]
-fn a_client_that_sends_a_byte_at_a_time_is_lost(rt: HostRuntime) -> Result<(), Fail> {
-    talk(&rt, LONG, 1, A_BYTE_AT_A_TIME)
-}
-
-// A reply lets as many more come.
-const COUNTED_FROM_A_REPLY: &[Step] = &[
-    Step::Connect(1),
-    Step::Send(0, b"x"),
-    Step::Opened(1),
-    Step::Piece(1, b"x"),
-    Step::Pieces(300, 0, 1),
-    Step::Reply(1, b"a reply"),
-    Step::Pieces(300, 0, 1),
-    Step::Reply(1, b"a reply"),
-    Step::Pieces(300, 0, 1),
-    Step::Reply(1, b"a reply"),
-    Step::Pieces(1, 0, 1),
-];
-
-#[test]
-fn pieces_are_counted_from_the_last_reply_on(rt: HostRuntime) -> Result<(), Fail> {
-    talk(&rt, LONG, 1, COUNTED_FROM_A_REPLY)
-}
-
-// A reply that is longer than what the system keeps for a client that reads nothing.
-const NO_REPLY_IS_TAKEN: &[Step] = &[
-    Step::Connect(1),
-    Step::Send(0, b"a request"),
-    Step::Opened(1),
-    Step::Piece(1, b"a request"),
-    Step::LongReplyFails(1, 33_554_432),
-    Step::ReplyFails(1, b"x"),
-    Step::Done,
-];
-
-#[test]
-fn a_client_that_takes_no_reply_is_let_go(rt: HostRuntime) -> Result<(), Fail> {
-    talk(&rt, SHORT, 1, NO_REPLY_IS_TAKEN)
-}
-
-// The silent one is opened once it sends something.
-const SILENT_HOLDS_UP_NO_OTHER: &[Step] = &[
-    Step::Connect(2),
-    Step::Send(1, b"a request"),
-    Step::Opened(1),
-    Step::Piece(1, b"a request"),
-    Step::Close(1),
-    Step::Send(0, b"a late one"),
-    Step::Opened(2),
-    Step::Piece(2, b"a late one"),
-    Step::Reply(2, b"a reply"),
-    Step::Close(2),
-    Step::Take(0, b"a reply"),
-    Step::Done,
-];
-
-#[test]
-fn a_silent_client_holds_up_no_other(rt: HostRuntime) -> Result<(), Fail> {
-    talk(&rt, LONG, 2, SILENT_HOLDS_UP_NO_OTHER)
-}
-
-// Sixty-four wait; for more, those that came first are let go.
-const A_HUNDRED_SILENT: &[Step] = &[
-    Step::Connect(101),
-    Step::Send(100, b"a request"),
-    Step::Opened(1),
-    Step::Piece(1, b"a request"),
-    Step::Take(0, b""),
-    Step::Close(1),
-    Step::Send(99, b"a late one"),
-    Step::Opened(2),
-    Step::Piece(2, b"a late one"),
-];
-
-#[test]
-fn a_hundred_silent_clients_hold_up_no_other(rt: HostRuntime) -> Result<(), Fail> {
-    talk(&rt, LONG, 2, A_HUNDRED_SILENT)
-}
-
-// Those that have sent something are opened in the order in which they came.
-const IN_TURN: &[Step] = &[
-    Step::Connect(3),
-    Step::Send(2, b"the second"),
-    Step::Send(1, b"the first"),
-    Step::Opened(1),
-    Step::Piece(1, b"the first"),
-    Step::Close(1),
-    Step::Opened(2),
-    Step::Piece(2, b"the second"),
-];
-
-#[test]
-fn clients_are_opened_in_turn(rt: HostRuntime) -> Result<(), Fail> {
-    talk(&rt, LONG, 3, IN_TURN)
-}
-
-const IDLE_MAKES_ROOM: &[Step] = &[
-    Step::Connect(1),
-    Step::Send(0, b"a request"),
-    Step::Opened(1),
-    Step::Piece(1, b"a request"),
-    Step::Reply(1, b"a reply"),
-    Step::Connect(1),
-    Step::Send(0, b"one more"),
-    Step::Piece(1, b"one more"),
-    Step::Reply(1, b"a reply"),
-    Step::Send(1, b"a request"),
-    Step::Lost(1),
-    Step::Opened(2),
-    Step::Piece(2, b"a request"),
-];
-
-#[test]
-fn another_client_takes_the_place_of_one_that_is_idle(rt: HostRuntime) -> Result<(), Fail> {
-    talk(&rt, LONG, 2, IDLE_MAKES_ROOM)
-}
-
-// Where no more connections are taken, an idle one keeps its place until its time is over.
-const NO_MORE: &[Step] = &[
-    Step::Connect(2),
-    Step::Send(0, b"a request"),
-    Step::Opened(1),
-    Step::Piece(1, b"a request"),
-    Step::Reply(1, b"a reply"),
-    Step::Send(1, b"a request"),
-    Step::Lost(1),
-    Step::Done,
-    Step::Done,
-];
-
-#[test]
-fn no_more_clients_are_taken_than_asked_for(rt: HostRuntime) -> Result<(), Fail> {
-    talk(&rt, SHORT, 1, NO_MORE)
-}
+// Those of the talks with a watched file.
+const WATCHED: Waits = Waits {
+    idle: 5_000,
+    stall: 10_000,
+};
 
 const REQUEST: &[u8] = b"POST / HTTP/1.1\r\n\r\n";
 
 const REFUSAL: &[u8] = b"HTTP/1.1 405 Method Not Allowed\r\nConnection: close\r\n\r\n";
 
-// The client goes on to send its request of so many bytes, and then reads. A reset would fail one or the other.
-const fn drained(bytes: usize) -> [Step<'static>; 8] {
-    [
-        Step::Connect(1),
-        Step::Send(0, REQUEST),
-        Step::Opened(1),
-        Step::Piece(1, REQUEST),
-        Step::SendMany(0, bytes),
-        Step::Reply(1, REFUSAL),
-        Step::Close(1),
-        Step::Take(0, REFUSAL),
-    ]
-}
-
-#[test]
-fn a_client_that_is_refused_gets_the_reply(rt: HostRuntime) -> Result<(), Fail> {
-    for bytes in [0, 1, 100_000] {
-        talk(&rt, LONG, 1, &drained(bytes))?;
-    }
-    Ok(())
-}
-
-const ONLY_IN_HAND: &[Step] = &[
-    Step::Connect(1),
-    Step::ReplyFails(1, b"x"),
-    Step::Send(0, b"a request"),
-    Step::Opened(1),
-    Step::Piece(1, b"a request"),
-    Step::ReplyFails(2, b"x"),
-    Step::Close(2),
-    Step::Reply(1, b"a reply"),
-    Step::Close(1),
-    Step::ReplyFails(1, b"x"),
-    Step::Take(0, b"a reply"),
-    Step::Done,
+const TALKS: &[Talk] = &[
+    // The time of the silent one is over while the other is idle after its reply.
+    Talk {
+        name: "a client that sends nothing is let go",
+        waits: SHORT,
+        steps: &[
+            Step::Listen(2),
+            Step::Connect(2),
+            Step::Send(1, b"a request"),
+            Step::Opened(1),
+            Step::Piece(1, b"a request"),
+            Step::Reply(1, b"a reply"),
+            Step::Lost(1),
+            Step::Take(0, b""),
+        ],
+    },
+    Talk {
+        name: "a client whose input ends is opened",
+        waits: LONG,
+        steps: &[
+            Step::Listen(1),
+            Step::Connect(1),
+            Step::End(0),
+            Step::Opened(1),
+            Step::Ended(1),
+            Step::Done,
+        ],
+    },
+    Talk {
+        name: "a client that sends half a head is lost",
+        waits: SHORT,
+        steps: &[
+            Step::Listen(1),
+            Step::Connect(1),
+            Step::Send(0, b"GET / HT"),
+            Step::Opened(1),
+            Step::Piece(1, b"GET / HT"),
+            Step::Lost(1),
+            Step::Done,
+        ],
+    },
+    Talk {
+        name: "a client that is idle after a reply is lost",
+        waits: SHORT,
+        steps: &[
+            Step::Listen(1),
+            Step::Connect(1),
+            Step::Send(0, b"a request"),
+            Step::Opened(1),
+            Step::Piece(1, b"a request"),
+            Step::Reply(1, b"a reply"),
+            Step::Lost(1),
+            Step::Take(0, b"a reply"),
+        ],
+    },
+    // 521 pieces of a byte each come, and no other.
+    Talk {
+        name: "a client that sends a byte at a time is lost",
+        waits: LONG,
+        steps: &[
+            Step::Listen(1),
+            Step::Connect(1),
+            Step::Send(0, b"x"),
+            Step::Opened(1),
+            Step::Piece(1, b"x"),
+            Step::Pieces(520, 0, 1),
+            Step::Send(0, b"x"),
+            Step::Lost(1),
+            Step::Done,
+        ],
+    },
+    // A reply lets as many more come.
+    Talk {
+        name: "pieces are counted from the last reply on",
+        waits: LONG,
+        steps: &[
+            Step::Listen(1),
+            Step::Connect(1),
+            Step::Send(0, b"x"),
+            Step::Opened(1),
+            Step::Piece(1, b"x"),
+            Step::Pieces(300, 0, 1),
+            Step::Reply(1, b"a reply"),
+            Step::Pieces(300, 0, 1),
+            Step::Reply(1, b"a reply"),
+            Step::Pieces(300, 0, 1),
+            Step::Reply(1, b"a reply"),
+            Step::Pieces(1, 0, 1),
+        ],
+    },
+    // A reply that is longer than what the system keeps for a client that reads nothing.
+    Talk {
+        name: "a client that takes no reply is let go",
+        waits: SHORT,
+        steps: &[
+            Step::Listen(1),
+            Step::Connect(1),
+            Step::Send(0, b"a request"),
+            Step::Opened(1),
+            Step::Piece(1, b"a request"),
+            Step::LongReplyFails(1, 33_554_432),
+            Step::ReplyFails(1, b"x"),
+            Step::Done,
+        ],
+    },
+    // The silent one is opened once it sends something.
+    Talk {
+        name: "a silent client holds up no other",
+        waits: LONG,
+        steps: &[
+            Step::Listen(2),
+            Step::Connect(2),
+            Step::Send(1, b"a request"),
+            Step::Opened(1),
+            Step::Piece(1, b"a request"),
+            Step::Close(1),
+            Step::Send(0, b"a late one"),
+            Step::Opened(2),
+            Step::Piece(2, b"a late one"),
+            Step::Reply(2, b"a reply"),
+            Step::Close(2),
+            Step::Take(0, b"a reply"),
+            Step::Done,
+        ],
+    },
+    // Sixty-four wait; for more, those that came first are let go.
+    Talk {
+        name: "a hundred silent clients hold up no other",
+        waits: LONG,
+        steps: &[
+            Step::Listen(2),
+            Step::Connect(101),
+            Step::Send(100, b"a request"),
+            Step::Opened(1),
+            Step::Piece(1, b"a request"),
+            Step::Take(0, b""),
+            Step::Close(1),
+            Step::Send(99, b"a late one"),
+            Step::Opened(2),
+            Step::Piece(2, b"a late one"),
+        ],
+    },
+    // Those that have sent something are opened in the order in which they came.
+    Talk {
+        name: "clients are opened in turn",
+        waits: LONG,
+        steps: &[
+            Step::Listen(3),
+            Step::Connect(3),
+            Step::Send(2, b"the second"),
+            Step::Send(1, b"the first"),
+            Step::Opened(1),
+            Step::Piece(1, b"the first"),
+            Step::Close(1),
+            Step::Opened(2),
+            Step::Piece(2, b"the second"),
+        ],
+    },
+    Talk {
+        name: "another client takes the place of one that is idle",
+        waits: LONG,
+        steps: &[
+            Step::Listen(2),
+            Step::Connect(1),
+            Step::Send(0, b"a request"),
+            Step::Opened(1),
+            Step::Piece(1, b"a request"),
+            Step::Reply(1, b"a reply"),
+            Step::Connect(1),
+            Step::Send(0, b"one more"),
+            Step::Piece(1, b"one more"),
+            Step::Reply(1, b"a reply"),
+            Step::Send(1, b"a request"),
+            Step::Lost(1),
+            Step::Opened(2),
+            Step::Piece(2, b"a request"),
+        ],
+    },
+    // Where no more connections are taken, an idle one keeps its place until its time is over.
+    Talk {
+        name: "no more clients are taken than asked for",
+        waits: SHORT,
+        steps: &[
+            Step::Listen(1),
+            Step::Connect(2),
+            Step::Send(0, b"a request"),
+            Step::Opened(1),
+            Step::Piece(1, b"a request"),
+            Step::Reply(1, b"a reply"),
+            Step::Send(1, b"a request"),
+            Step::Lost(1),
+            Step::Done,
+            Step::Done,
+        ],
+    },
+    // The client goes on to send its request of so many bytes, and then reads. A reset would fail one or the other.
+    Talk {
+        name: "a client that is refused before 0 more bytes gets the reply",
+        waits: LONG,
+        steps: &[
+            Step::Listen(1),
+            Step::Connect(1),
+            Step::Send(0, REQUEST),
+            Step::Opened(1),
+            Step::Piece(1, REQUEST),
+            Step::SendMany(0, 0),
+            Step::Reply(1, REFUSAL),
+            Step::Close(1),
+            Step::Take(0, REFUSAL),
+        ],
+    },
+    Talk {
+        name: "a client that is refused before 1 more bytes gets the reply",
+        waits: LONG,
+        steps: &[
+            Step::Listen(1),
+            Step::Connect(1),
+            Step::Send(0, REQUEST),
+            Step::Opened(1),
+            Step::Piece(1, REQUEST),
+            Step::SendMany(0, 1),
+            Step::Reply(1, REFUSAL),
+            Step::Close(1),
+            Step::Take(0, REFUSAL),
+        ],
+    },
+    Talk {
+        name: "a client that is refused before 100,000 more bytes gets the reply",
+        waits: LONG,
+        steps: &[
+            Step::Listen(1),
+            Step::Connect(1),
+            Step::Send(0, REQUEST),
+            Step::Opened(1),
+            Step::Piece(1, REQUEST),
+            Step::SendMany(0, 100_000),
+            Step::Reply(1, REFUSAL),
+            Step::Close(1),
+            Step::Take(0, REFUSAL),
+        ],
+    },
+    Talk {
+        name: "only the connection in hand is sent to and closed",
+        waits: LONG,
+        steps: &[
+            Step::Listen(1),
+            Step::Connect(1),
+            Step::ReplyFails(1, b"x"),
+            Step::Send(0, b"a request"),
+            Step::Opened(1),
+            Step::Piece(1, b"a request"),
+            Step::ReplyFails(2, b"x"),
+            Step::Close(2),
+            Step::Reply(1, b"a reply"),
+            Step::Close(1),
+            Step::ReplyFails(1, b"x"),
+            Step::Take(0, b"a reply"),
+            Step::Done,
+        ],
+    },
+    // The wire reads the file when the next client has come.
+    Talk {
+        name: "a watched file gives a change where it has changed",
+        waits: WATCHED,
+        steps: &[
+            Step::Write(b"one"),
+            Step::Listen(8),
+            Step::Watch(1),
+            Step::Connect(1),
+            Step::Send(0, b"a"),
+            Step::Opened(1),
+            Step::Piece(1, b"a"),
+            Step::Close(1),
+            Step::Leave,
+            Step::Connect(1),
+            Step::Send(0, b"a"),
+            Step::Change(b"one"),
+            Step::Opened(2),
+            Step::Piece(2, b"a"),
+            Step::Close(2),
+            Step::Leave,
+            // As it was: no change comes.
+            Step::Connect(1),
+            Step::Send(0, b"a"),
+            Step::Opened(3),
+            Step::Piece(3, b"a"),
+            Step::Close(3),
+            Step::Leave,
+            Step::Write(b"two"),
+            Step::Connect(1),
+            Step::Send(0, b"a"),
+            Step::Change(b"two"),
+            Step::Opened(4),
+            Step::Piece(4, b"a"),
+            Step::Close(4),
+            Step::Leave,
+            // Gone: no change comes, nor where it is there again as it was.
+            Step::Remove,
+            Step::Connect(1),
+            Step::Send(0, b"a"),
+            Step::Opened(5),
+            Step::Piece(5, b"a"),
+            Step::Close(5),
+            Step::Leave,
+            Step::Write(b"two"),
+            Step::Connect(1),
+            Step::Send(0, b"a"),
+            Step::Opened(6),
+            Step::Piece(6, b"a"),
+            Step::Close(6),
+            Step::Leave,
+        ],
+    },
+    Talk {
+        name: "a watched file is read after each so many connections",
+        waits: WATCHED,
+        steps: &[
+            Step::Write(b"one"),
+            Step::Listen(8),
+            Step::Watch(2),
+            Step::Connect(1),
+            Step::Send(0, b"a"),
+            Step::Opened(1),
+            Step::Piece(1, b"a"),
+            Step::Close(1),
+            Step::Leave,
+            Step::Connect(1),
+            Step::Send(0, b"a"),
+            Step::Opened(2),
+            Step::Piece(2, b"a"),
+            Step::Close(2),
+            Step::Leave,
+            Step::Connect(1),
+            Step::Send(0, b"a"),
+            Step::Change(b"one"),
+            Step::Opened(3),
+            Step::Piece(3, b"a"),
+            Step::Close(3),
+            Step::Leave,
+            Step::Write(b"two"),
+            Step::Connect(1),
+            Step::Send(0, b"a"),
+            Step::Opened(4),
+            Step::Piece(4, b"a"),
+            Step::Close(4),
+            Step::Leave,
+            Step::Connect(1),
+            Step::Send(0, b"a"),
+            Step::Change(b"two"),
+            Step::Opened(5),
+            Step::Piece(5, b"a"),
+            Step::Close(5),
+            Step::Leave,
+        ],
+    },
 ];
 
 #[test]
-fn only_the_connection_in_hand_is_sent_to_and_closed(rt: HostRuntime) -> Result<(), Fail> {
-    talk(&rt, LONG, 1, ONLY_IN_HAND)
+fn each_talk_goes_by_its_steps(rt: HostRuntime) -> Result<(), Fail> {
+    let folder = Folder::fresh(&rt, "talks")?;
+    let path = folder.path(rt.alloc(), "d.ddl")?;
+    for talk in TALKS {
+        take_talk(&rt, &rt, path.as_str(), talk)?;
+    }
+    folder.remove(&rt)
 }
 
-// Lets a system's listener fail so often. Does the wire open the connection that waits?
-fn opens_after(rt: &HostRuntime, failing: u32) -> Result<bool, Fail> {
-    let flaky = Flaky {
-        system: rt,
-        failing,
-    };
-    let mut wire = listening(rt.alloc(), &flaky, LONG, 1)?;
-    let mut client = client_of(&flaky, &wire)?;
-    client.write_all(b"a request")?;
-    Ok(matches!(&wire.next(rt.alloc()), Ok(WireEvent::Opened(1))))
+// A talk over a system whose listener fails so often before it takes a connection.
+struct FlakyTalk {
+    failing: u32,
+    talk: Talk,
 }
+
+const OPENED: &[Step] = &[
+    Step::Listen(1),
+    Step::Connect(1),
+    Step::Send(0, b"a request"),
+    Step::Opened(1),
+];
+
+const NOT_OPENED: &[Step] = &[
+    Step::Listen(1),
+    Step::Connect(1),
+    Step::Send(0, b"a request"),
+    Step::NotOpened(1),
+];
+
+const FLAKY_TALKS: &[FlakyTalk] = &[
+    FlakyTalk {
+        failing: 0,
+        talk: Talk {
+            name: "opened",
+            waits: LONG,
+            steps: OPENED,
+        },
+    },
+    FlakyTalk {
+        failing: 1,
+        talk: Talk {
+            name: "opened after a failure",
+            waits: LONG,
+            steps: OPENED,
+        },
+    },
+    FlakyTalk {
+        failing: 99,
+        talk: Talk {
+            name: "opened after 99 failures",
+            waits: LONG,
+            steps: OPENED,
+        },
+    },
+    FlakyTalk {
+        failing: 100,
+        talk: Talk {
+            name: "not opened after 100 failures",
+            waits: LONG,
+            steps: NOT_OPENED,
+        },
+    },
+];
 
 #[test]
 fn a_failing_accept_is_repeated(rt: HostRuntime) -> Result<(), Fail> {
-    check(opens_after(&rt, 0)?, "not opened")?;
-    check(opens_after(&rt, 1)?, "not opened after a failure")?;
-    check(opens_after(&rt, 99)?, "not opened after 99 failures")?;
-    check(!opens_after(&rt, 100)?, "opened after 100 failures")
+    for row in FLAKY_TALKS {
+        let flaky = Flaky {
+            system: &rt,
+            failing: row.failing,
+        };
+        take_talk(&rt, &flaky, "", &row.talk)?;
+    }
+    Ok(())
 }

@@ -1,7 +1,8 @@
 // A talk of clients with a wire over the system's sockets, by steps. One thread is client and server.
-use crate::checks::{check, check_bytes, no_files};
-use edge_io::{Failed, MemFiles};
+use edge_io::{Failed, RealFiles};
+use sd_value::Str;
 use std::alloc::Global;
+use std::fs;
 use std::io::{Read, Write};
 use std::net::{Ipv4Addr, Net, OpenStream, Shutdown, SocketAddr, SocketAddrV4, TcpStream};
 use std::test::Fail;
@@ -11,10 +12,19 @@ use wire::{Wire, WireEvent};
 
 /// What is done next, or what the wire's next event must be. Clients are numbered from 0 and connections from 1, each as
 /// they come.
-#[derive(Debug, Drop)]
 pub enum Step<'a> {
+    /// The wire listens, and takes so many connections.
+    Listen(u64),
+    /// The wire watches the file, and reads it after each so many connections.
+    Watch(u64),
+    /// The watched file is written.
+    Write(&'a [u8]),
+    /// The watched file is removed.
+    Remove,
     /// So many clients connect.
     Connect(u32),
+    /// The client that came last leaves, and the next one has its number.
+    Leave,
     /// The client sends the bytes.
     Send(usize, &'a [u8]),
     /// The client sends so many bytes.
@@ -33,6 +43,8 @@ pub enum Step<'a> {
     Close(u64),
     /// Next the connection is opened.
     Opened(u64),
+    /// Next the connection isn't opened.
+    NotOpened(u64),
     /// Next the connection has these bytes.
     Piece(u64, &'a [u8]),
     /// So many times the client sends a byte, and the connection has it next.
@@ -41,165 +53,182 @@ pub enum Step<'a> {
     Ended(u64),
     /// Next the connection is lost.
     Lost(u64),
+    /// Next the watched file has changed to this text.
+    Change(&'a [u8]),
     /// Next the wire is done.
     Done,
 }
 
-/// A wire that listens.
-pub fn listening<R: Net + Clock>(
-    alloc: Global,
-    system: &R,
-    waits: Waits,
-    connections: u64,
-) -> Result<TcpWire<'_, R, MemFiles>, Fail> {
-    let mut wire = TcpWire::new(alloc, system, no_files(alloc), waits);
-    check(wire.listen(0, connections).is_ok(), "no socket")?;
-    Ok(wire)
+/// A talk with a wire that waits so.
+pub struct Talk {
+    pub name: &'static str,
+    pub waits: Waits,
+    pub steps: &'static [Step<'static>],
 }
 
-/// A client that connects to the wire.
-pub fn client_of<R: Net + Clock>(
+// How often the step is taken.
+fn times(step: &Step<'_>) -> u32 {
+    match step {
+        Step::Connect(times) | Step::Pieces(times, _, _) => *times,
+        _ => 1,
+    }
+}
+
+// A client connects to the wire. Does it?
+fn connects<R: Net + Clock>(
     system: &R,
-    wire: &TcpWire<'_, R, MemFiles>,
-) -> Result<R::Stream, Fail> {
-    let port = wire.port().ok_or("no port")?;
+    wire: &TcpWire<'_, R, RealFiles<'_, HostRuntime>>,
+    clients: &mut Vec<R::Stream>,
+) -> bool {
+    let Some(port) = wire.port() else {
+        return false;
+    };
     let address = SocketAddr::from(SocketAddrV4::new(Ipv4Addr::LOCALHOST, port));
-    Ok(TcpStream::connect(system, address)?)
+    match TcpStream::connect(system, address) {
+        Ok(client) => clients.push(client).is_ok(),
+        Err(_) => false,
+    }
+}
+
+// A client takes these bytes until its connection is closed. Does it?
+fn takes<S: Read>(alloc: Global, client: &mut S, wanted: &[u8]) -> bool {
+    let mut taken = Vec::new(alloc);
+    client.read_to_end(&mut taken).is_ok() && taken.as_slice() == wanted
+}
+
+// A client sends so many bytes. Does it?
+fn sends_many<S: Write>(alloc: Global, client: &mut S, count: usize) -> bool {
+    match vec![in alloc; b'x'; count] {
+        Ok(bytes) => client.write_all(&bytes).is_ok(),
+        Err(_) => false,
+    }
+}
+
+// A client does what the step says. Does it?
+fn acts<S: OpenStream + Read + Write>(alloc: Global, clients: &mut [S], step: &Step<'_>) -> bool {
+    let number = match step {
+        Step::Send(number, _) | Step::SendMany(number, _) | Step::Pieces(_, number, _) => *number,
+        Step::End(number) | Step::Take(number, _) => *number,
+        _ => return false,
+    };
+    let Some(client) = clients.get_mut(number) else {
+        return false;
+    };
+    match step {
+        Step::Send(_, bytes) => client.write_all(bytes).is_ok(),
+        Step::SendMany(_, count) => sends_many(alloc, client, *count),
+        Step::Pieces(..) => client.write_all(b"x").is_ok(),
+        Step::End(_) => client.shutdown(Shutdown::Write).is_ok(),
+        Step::Take(_, wanted) => takes(alloc, client, wanted),
+        _ => false,
+    }
+}
+
+// The wire watches the file. Does it?
+fn watches<W: Wire>(alloc: Global, wire: &mut W, path: &str, every: u64) -> bool {
+    match Str::new(alloc, path.as_bytes()) {
+        Ok(path) => wire.watch(alloc, &path, every).is_ok(),
+        Err(_) => false,
+    }
+}
+
+// The server does what the step says. Does it?
+fn serves<W: Wire>(alloc: Global, wire: &mut W, path: &str, step: &Step<'_>) -> bool {
+    match step {
+        Step::Listen(connections) => wire.listen(0, *connections).is_ok(),
+        Step::Watch(every) => watches(alloc, wire, path, *every),
+        Step::Reply(number, reply) => wire.send(*number, reply).is_ok(),
+        Step::ReplyFails(number, reply) => wire.send(*number, reply) == Err(Failed),
+        Step::LongReplyFails(number, count) => match vec![in alloc; b'x'; *count] {
+            Ok(reply) => wire.send(*number, &reply) == Err(Failed),
+            Err(_) => false,
+        },
+        Step::Close(number) => {
+            wire.close(*number);
+            true
+        }
+        _ => false,
+    }
 }
 
 // Whether the wire's next event is this step's.
 fn is_next<W: Wire>(alloc: Global, wire: &mut W, step: &Step<'_>) -> bool {
     match (wire.next(alloc), step) {
         (Ok(WireEvent::Opened(found)), Step::Opened(wanted)) => found == *wanted,
+        (Ok(WireEvent::Opened(found)), Step::NotOpened(other)) => found != *other,
+        (_, Step::NotOpened(_)) => true,
         (Ok(WireEvent::Bytes(found, piece)), Step::Piece(wanted, bytes)) => {
             found == *wanted && piece.bytes() == *bytes
         }
+        (Ok(WireEvent::Bytes(found, piece)), Step::Pieces(_, _, wanted)) => {
+            found == *wanted && piece.bytes() == b"x".as_slice()
+        }
         (Ok(WireEvent::Ended(found)), Step::Ended(wanted)) => found == *wanted,
         (Ok(WireEvent::Lost(found)), Step::Lost(wanted)) => found == *wanted,
+        (Ok(WireEvent::Change(text)), Step::Change(wanted)) => text.bytes() == *wanted,
         (Ok(WireEvent::Done), Step::Done) => true,
         _ => false,
     }
 }
 
-fn client_at<S>(clients: &mut [S], number: usize) -> Result<&mut S, Fail> {
-    match clients.get_mut(number) {
-        Some(client) => Ok(client),
-        None => Err(Fail::new("no such client")),
-    }
-}
-
-// What one client does by the step, where it is one of a client.
-fn act<S: OpenStream + Read + Write>(
-    alloc: Global,
-    clients: &mut [S],
-    step: &Step<'_>,
-) -> Result<(), Fail> {
-    match step {
-        Step::Send(number, bytes) => Ok(client_at(clients, *number)?.write_all(bytes)?),
-        Step::SendMany(number, count) => {
-            let bytes = vec![in alloc; b'x'; *count]?;
-            Ok(client_at(clients, *number)?.write_all(&bytes)?)
-        }
-        Step::End(number) => Ok(client_at(clients, *number)?.shutdown(Shutdown::Write)?),
-        Step::Take(number, wanted) => {
-            let mut taken = Vec::new(alloc);
-            client_at(clients, *number)?.read_to_end(&mut taken)?;
-            check_bytes(&taken, wanted, "what is taken")
-        }
-        _ => Ok(()),
-    }
-}
-
-// What the server does by the step, where it is one of the server.
-fn serve<W: Wire>(alloc: Global, wire: &mut W, step: &Step<'_>) -> Result<(), Fail> {
-    match step {
-        Step::Reply(number, reply) => check(wire.send(*number, reply).is_ok(), "not sent"),
-        Step::ReplyFails(number, reply) => {
-            check(wire.send(*number, reply) == Err(Failed), "a reply was sent")
-        }
-        Step::LongReplyFails(number, count) => {
-            let reply = vec![in alloc; b'x'; *count]?;
-            check(
-                wire.send(*number, &reply) == Err(Failed),
-                "the reply was taken",
-            )
-        }
-        Step::Close(number) => {
-            wire.close(*number);
-            Ok(())
-        }
-        _ => Ok(()),
-    }
-}
-
-// So many clients connect.
-fn connect<R: Net + Clock>(
+// Takes the step once. Does it go as it says?
+fn goes<R: Net + Clock>(
+    rt: &HostRuntime,
     system: &R,
-    wire: &TcpWire<'_, R, MemFiles>,
-    clients: &mut Vec<R::Stream>,
-    count: u32,
-) -> Result<(), Fail> {
-    for _ in 0..count {
-        clients.push(client_of(system, wire)?)?;
-    }
-    Ok(())
-}
-
-// So many times the client sends a byte, which comes as a piece.
-fn send_pieces<W: Wire, S: OpenStream + Read + Write>(
-    alloc: Global,
-    wire: &mut W,
-    clients: &mut [S],
-    count: u32,
-    client: usize,
-    connection: u64,
-) -> Result<(), Fail> {
-    for _ in 0..count {
-        act(alloc, clients, &Step::Send(client, b"x"))?;
-        check(
-            is_next(alloc, wire, &Step::Piece(connection, b"x")),
-            "no piece",
-        )?;
-    }
-    Ok(())
-}
-
-fn take_step<R: Net + Clock>(
-    alloc: Global,
-    system: &R,
-    wire: &mut TcpWire<'_, R, MemFiles>,
+    path: &str,
+    wire: &mut TcpWire<'_, R, RealFiles<'_, HostRuntime>>,
     clients: &mut Vec<R::Stream>,
     step: &Step<'_>,
-) -> Result<(), Fail> {
+) -> bool {
+    let alloc = rt.alloc();
     match step {
-        Step::Connect(count) => connect(system, wire, clients, *count),
+        Step::Write(bytes) => fs::write(rt, path, *bytes).is_ok(),
+        Step::Remove => fs::remove_file(rt, path).is_ok(),
+        Step::Connect(_) => connects(system, wire, clients),
+        Step::Leave => clients.pop().is_some(),
         Step::Send(..) | Step::SendMany(..) | Step::End(_) | Step::Take(..) => {
-            act(alloc, clients, step)
+            acts(alloc, clients, step)
         }
-        Step::Reply(..) | Step::ReplyFails(..) | Step::LongReplyFails(..) | Step::Close(_) => {
-            serve(alloc, wire, step)
+        Step::Pieces(..) => acts(alloc, clients, step) && is_next(alloc, wire, step),
+        Step::Listen(_) | Step::Watch(_) | Step::Close(_) => serves(alloc, wire, path, step),
+        Step::Reply(..) | Step::ReplyFails(..) | Step::LongReplyFails(..) => {
+            serves(alloc, wire, path, step)
         }
-        Step::Pieces(count, client, connection) => {
-            send_pieces(alloc, wire, clients, *count, *client, *connection)
-        }
-        Step::Opened(_) | Step::Piece(..) | Step::Ended(_) | Step::Lost(_) | Step::Done => {
-            check(is_next(alloc, wire, step), "another event")
-        }
+        _ => is_next(alloc, wire, step),
     }
 }
 
-/// Takes the steps with a wire that waits so and takes so many connections.
-pub fn talk<R: Net + Clock + AllocGlobal>(
+// Takes the step as often as it says.
+fn goes_each_time<R: Net + Clock>(
+    rt: &HostRuntime,
     system: &R,
-    waits: Waits,
-    connections: u64,
-    steps: &[Step<'_>],
+    path: &str,
+    wire: &mut TcpWire<'_, R, RealFiles<'_, HostRuntime>>,
+    clients: &mut Vec<R::Stream>,
+    step: &Step<'_>,
+) -> bool {
+    for _ in 0..times(step) {
+        if !goes(rt, system, path, wire, clients, step) {
+            return false;
+        }
+    }
+    true
+}
+
+/// Takes the steps of the talk, whose watched file is at the path.
+pub fn take_talk<R: Net + Clock>(
+    rt: &HostRuntime,
+    system: &R,
+    path: &str,
+    talk: &Talk,
 ) -> Result<(), Fail> {
-    let alloc = system.alloc();
-    let mut wire = listening(alloc, system, waits, connections)?;
+    let alloc = rt.alloc();
+    let mut wire = TcpWire::new(alloc, system, RealFiles::new(rt, 0), talk.waits);
     let mut clients = Vec::new(alloc);
-    for step in steps {
-        take_step(alloc, system, &mut wire, &mut clients, step)?;
+    for (place, step) in talk.steps.iter().enumerate() {
+        if !goes_each_time(rt, system, path, &mut wire, &mut clients, step) {
+            return Err(Fail::new(format_args!("{}: step {place}", talk.name)));
+        }
     }
     Ok(())
 }

@@ -1,11 +1,8 @@
 // What the pages of a function rest on, worked out by hand from the definition.
-use crate::checks::check;
 use edit_footprint::footprint;
-use edit_touches::FootprintParts;
 use query_reader::read_query;
 use query_scoping::scopes;
 use sd_value::Str;
-use std::alloc::Global;
 use std::test::Fail;
 use template_reader::read_templates;
 
@@ -113,41 +110,28 @@ const FOOTPRINTS: &[FootprintRow] = &[
 ];
 
 fn are_names(found: &[Str], wanted: &[&[u8]]) -> bool {
-    if found.len() != wanted.len() {
-        return false;
-    }
     for (name, text) in found.iter().zip(wanted) {
         if name.bytes() != *text {
             return false;
         }
     }
-    true
-}
-
-fn is_wanted(parts: &FootprintParts, row: &FootprintRow) -> bool {
-    parts.every == row.every
-        && parts.blocks.as_slice() == row.blocks
-        && are_names(parts.labels.as_slice(), row.labels)
-        && are_names(parts.collections.as_slice(), row.collections)
-}
-
-fn check_row(alloc: Global, row: &FootprintRow) -> Result<(), Fail> {
-    let checked = read_query(alloc, row.query, 65_536)?;
-    let blocks = scopes(alloc, &checked)?;
-    let templates = read_templates(alloc, row.templates, 65_536)?;
-    let function = Str::new(alloc, row.function)?;
-    let parts = footprint(alloc, &blocks, &templates, &function)?;
-    check(is_wanted(&parts, row), row.reason)
-}
-
-fn check_rows(alloc: Global, rows: &[FootprintRow]) -> Result<(), Fail> {
-    for row in rows {
-        check_row(alloc, row)?;
-    }
-    Ok(())
+    found.len() == wanted.len()
 }
 
 #[test]
 fn functions_have_their_footprints(rt: HostRuntime) -> Result<(), Fail> {
-    check_rows(rt.alloc(), FOOTPRINTS)
+    let alloc = rt.alloc();
+    for row in FOOTPRINTS {
+        let checked = read_query(alloc, row.query, 65_536)?;
+        let blocks = scopes(alloc, &checked)?;
+        let templates = read_templates(alloc, row.templates, 65_536)?;
+        let function = Str::new(alloc, row.function)?;
+        let parts = footprint(alloc, &blocks, &templates, &function)?;
+        let are_labels = are_names(parts.labels.as_slice(), row.labels);
+        let are_collections = are_names(parts.collections.as_slice(), row.collections);
+        assert_eq!(rt; parts.every, row.every, "{}", row.reason);
+        assert_eq!(rt; parts.blocks.as_slice(), row.blocks, "{}", row.reason);
+        assert!(rt; are_labels && are_collections, "{}", row.reason);
+    }
+    Ok(())
 }

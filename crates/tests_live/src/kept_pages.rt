@@ -1,20 +1,19 @@
 // Pages that are kept over edits by a fixed generator: after each, every page of the site, kept or made again, is that of
 // a whole site made anew from the edited data.
-ghost use Rattle.std.specs.Prelude.{◌<◌, ◌≡◌, IfOk};
+ghost use Rattle.std.specs.Prelude.{◌≡◌, IfOk};
 ghost use Rattle.query_blocks.specs.Blocks.{AreCheckedBlocks};
 
 use crate::checks::check;
 use crate::mirrored::Mirror;
+use crate::numbers::{Numbers, one_of};
 use bindings::StoreAsker;
 use edit_reader::read_edit;
-use edit_spec::Edit;
-use graph_spec::{Edge, Member};
 use page_cache::Cached;
 use page_spec::Outcome;
 use query_blocks::QueryBlocks;
 use query_reader::read_query;
 use query_scoping::scopes;
-use sd_value::{Args, Datum, NoMemory, Str, Term, Value};
+use sd_value::{Args, Datum, NoMemory, Str, Term};
 use site_build::Whole;
 use site_pages::{PageSource, SitePages};
 use site_view::Pages;
@@ -35,67 +34,32 @@ const LABELS: &[&str] = &["t", "k", "u", "v"];
 
 const COLLECTIONS: &[&str] = &["A", "B", "C"];
 
-// How many pages each of the two functions has at first.
-const HALF: u64 = 100;
-
-// Numbers by a fixed rule.
-#[derive(Drop)]
-struct Numbers {
-    state: u64,
-}
-
-impl Numbers {
-    // A number below the bound.
-    fn below(&mut self, bound: u64) -> u64
-        requires { 0 < bound }
-        ensures { result < bound }
-    {
-        self.state = self
-            .state
-            .wrapping_mul(6_364_136_223_846_793_005)
-            .wrapping_add(1_442_695_040_888_963_407);
-        (self.state >> 33) % bound
-    }
-}
-
-fn one_of<'a>(numbers: &mut Numbers, names: &'a [&'static str]) -> &'static str {
-    if names.is_empty() {
-        return "";
-    }
-    names[numbers.below(names.len() as u64) as usize]
-}
+// How many nodes there are at first: half begin pages of F, and the others of G.
+const NODES: u64 = 200;
 
 fn name(alloc: Global, number: u64) -> Result<Str, NoMemory> {
     let text = format!(in alloc; "n{number}")?;
     Str::new(alloc, text.as_bytes())
 }
 
-// A node of two hundred, of which half begin pages of each function.
-fn node(numbers: &mut Numbers) -> u64 {
-    numbers.below(200)
-}
-
-fn edge_text(alloc: Global, numbers: &mut Numbers, word: &str) -> Result<Str, NoMemory> {
-    let from = node(numbers);
+fn edge_text(alloc: Global, numbers: &mut Numbers, word: &str) -> Result<String, NoMemory> {
+    let from = numbers.below(NODES);
     let label = one_of(numbers, LABELS);
     if numbers.below(3) == 0 {
-        let to = node(numbers);
-        let text = format!(in alloc; "edit {word} n{from} {label} &n{to}")?;
-        return Str::new(alloc, text.as_bytes());
+        let to = numbers.below(NODES);
+        return Ok(format!(in alloc; "edit {word} n{from} {label} &n{to}")?);
     }
     let to = numbers.below(5);
-    let text = format!(in alloc; "edit {word} n{from} {label} {to}")?;
-    Str::new(alloc, text.as_bytes())
+    Ok(format!(in alloc; "edit {word} n{from} {label} {to}")?)
 }
 
-fn member_text(alloc: Global, numbers: &mut Numbers, word: &str) -> Result<Str, NoMemory> {
-    let node = node(numbers);
+fn member_text(alloc: Global, numbers: &mut Numbers, word: &str) -> Result<String, NoMemory> {
+    let node = numbers.below(NODES);
     let collection = one_of(numbers, COLLECTIONS);
-    let text = format!(in alloc; "edit {word} n{node} {collection}")?;
-    Str::new(alloc, text.as_bytes())
+    Ok(format!(in alloc; "edit {word} n{node} {collection}")?)
 }
 
-fn edit_text(alloc: Global, numbers: &mut Numbers) -> Result<Str, NoMemory> {
+fn edit_text(alloc: Global, numbers: &mut Numbers) -> Result<String, NoMemory> {
     match numbers.below(6) {
         0 | 1 => edge_text(alloc, numbers, "add"),
         2 | 3 => edge_text(alloc, numbers, "remove"),
@@ -104,51 +68,33 @@ fn edit_text(alloc: Global, numbers: &mut Numbers) -> Result<Str, NoMemory> {
     }
 }
 
-// A node in a collection, with one edge.
-fn begin(
-    alloc: Global,
-    mirror: &mut Mirror,
-    number: u64,
-    collection: &str,
-    label: &str,
-) -> Result<(), NoMemory> {
-    let member = Member {
-        collection: Str::new(alloc, collection.as_bytes())?,
-        node: name(alloc, number)?,
-    };
-    mirror.edit(alloc, &Edit::Enter(member))?;
-    let edge = Edge {
-        from: name(alloc, number)?,
-        label: Str::new(alloc, label.as_bytes())?,
-        to: Value::Data(Datum::Int((number % 5) as i64)),
-    };
-    mirror.edit(alloc, &Edit::Add(edge))?;
-    Ok(())
-}
-
-fn first_data(alloc: Global) -> Result<Mirror, NoMemory> {
+// The first half of the nodes is in A, the second in B, each with one edge.
+fn first_data(alloc: Global) -> Result<Mirror, Fail> {
     let mut mirror = Mirror::new(alloc);
-    for number in 0..HALF {
-        begin(alloc, &mut mirror, number, "A", "t")?;
-        begin(alloc, &mut mirror, number + HALF, "B", "k")?;
+    for number in 0..NODES {
+        let (collection, label) = if number < NODES / 2 {
+            ("A", "t")
+        } else {
+            ("B", "k")
+        };
+        let text = format!(in alloc; "edit enter n{number} {collection}")?;
+        mirror.edit(alloc, read_edit(alloc, text.as_bytes(), 100)?)?;
+        let text = format!(in alloc; "edit add n{number} {label} {}", number % 5)?;
+        mirror.edit(alloc, read_edit(alloc, text.as_bytes(), 100)?)?;
     }
     Ok(mirror)
 }
 
-fn term(alloc: Global, function: &str, number: u64) -> Result<Term, NoMemory> {
-    let mut args = Vec::new(alloc);
-    args.push(Datum::Node(name(alloc, number)?))?;
-    Ok(Term {
-        function: Str::new(alloc, function.as_bytes())?,
-        args: Args::new(alloc, args)?,
-    })
-}
-
+// A page of F and one of G in turn.
 fn all_terms(alloc: Global) -> Result<Vec<Term>, NoMemory> {
     let mut terms = Vec::new(alloc);
-    for number in 0..HALF {
-        terms.push(term(alloc, "F", number)?)?;
-        terms.push(term(alloc, "G", number + HALF)?)?;
+    for number in 0..NODES {
+        let function = if number % 2 == 0 { b"F" } else { b"G" };
+        let node = name(alloc, number / 2 + number % 2 * (NODES / 2))?;
+        terms.push(Term {
+            function: Str::new(alloc, function)?,
+            args: Args::new(alloc, vec![in alloc; Datum::Node(node)]?)?,
+        })?;
     }
     Ok(terms)
 }
@@ -205,8 +151,7 @@ fn check_edit<V: Versions>(
     if let Changed::Refused = changed {
         return Err(Fail::new("an edit is refused"));
     }
-    let edit = read_edit(alloc, text.bytes(), 100)?;
-    mirror.edit(alloc, &edit)?;
+    mirror.edit(alloc, read_edit(alloc, text.bytes(), 100)?)?;
     let asker = StoreAsker::of(mirror.index(alloc)?);
     let mut whole = Whole::of(alloc, asker, site.blocks, site.templates)?;
     check_pages(alloc, pages, &mut whole, site.terms)
@@ -228,6 +173,7 @@ fn check_edits<V: Versions>(
     let mut numbers = Numbers { state: seed };
     for _ in 0..count {
         let text = edit_text(alloc, &mut numbers)?;
+        let text = Str::new(alloc, text.as_bytes())?;
         check_edit(alloc, pages, &mut mirror, &text, site)?;
     }
     Ok(pages.hits())
@@ -252,13 +198,13 @@ fn check_kept<V: Versions + Drop>(
     check_edits(alloc, &mut cached, site, seed, count)
 }
 
-// Neither all pages nor none are found kept.
+// So many edits by the generator from a seed. Neither all pages nor none are found kept.
 fn check_run(alloc: Global, source: PageSource, seed: u64, count: u64) -> Result<(), Fail> {
     let query = read_query(alloc, QUERY, 65_536)?;
     let blocks = scopes(alloc, &query)?;
     let templates = read_templates(alloc, TEMPLATES, 65_536)?;
     let terms = all_terms(alloc)?;
-    let graph = first_data(alloc)?.graph(alloc)?;
+    let graph = first_data(alloc)?.builder(alloc)?.finish(alloc)?;
     let pages = SitePages::of(alloc, graph, &None, &blocks, &templates, source)?;
     let site = Site {
         blocks: &blocks,
@@ -266,11 +212,12 @@ fn check_run(alloc: Global, source: PageSource, seed: u64, count: u64) -> Result
         terms: terms.as_slice(),
     };
     let hits = check_kept(alloc, pages, &site, seed, count)?;
-    let asked = count.saturating_sub(1).saturating_mul(200);
+    let asked = count.saturating_sub(1).saturating_mul(NODES);
     check(hits > 0, "no page is kept")?;
     check(hits < asked, "all pages are kept")
 }
 
+// One test would take longer than a test may.
 #[test]
 fn pages_are_kept_over_edits(rt: HostRuntime) -> Result<(), Fail> {
     check_run(rt.alloc(), PageSource::Demand, 1, 100)

@@ -11,6 +11,8 @@ mod kept_pages;
 #[cfg(test)]
 mod mirrored;
 #[cfg(test)]
+mod numbers;
+#[cfg(test)]
 mod random_edits;
 #[cfg(test)]
 mod same_answers;

@@ -1,10 +1,11 @@
 // Edits by a fixed generator: after each, the store that takes edits answers each question as an index of the edited
 // graph from scratch does.
-ghost use Rattle.std.specs.Prelude.{◌<◌, IsTrue};
+ghost use Rattle.std.specs.Prelude.{IsTrue};
 ghost use Rattle.edit_spec.specs.Edited.{IsOfData};
 
 use crate::checks::check;
-use crate::mirrored::{Mirror, live_of};
+use crate::mirrored::Mirror;
+use crate::numbers::{Numbers, one_of};
 use crate::same_answers::{Asked, check_same};
 use edit_reader::read_edit;
 use edit_spec::Edit;
@@ -21,53 +22,32 @@ const LABELS: &[&str] = &["p", "q"];
 
 const COLLECTIONS: &[&str] = &["A", "B"];
 
-// Numbers by a fixed rule.
-#[derive(Drop)]
-struct Numbers {
-    state: u64,
-}
-
-impl Numbers {
-    // A number below the bound.
-    fn below(&mut self, bound: u64) -> u64
-        requires { 0 < bound }
-        ensures { result < bound }
-    {
-        self.state = self
-            .state
-            .wrapping_mul(6_364_136_223_846_793_005)
-            .wrapping_add(1_442_695_040_888_963_407);
-        (self.state >> 33) % bound
-    }
-
-    fn one_of(&mut self, alloc: Global, names: &[&str]) -> Result<Str, NoMemory> {
-        if names.is_empty() {
-            return Str::new(alloc, b"");
-        }
-        let place = self.below(names.len() as u64);
-        Str::new(alloc, names[place as usize].as_bytes())
-    }
-}
-
-fn random_value(alloc: Global, numbers: &mut Numbers) -> Result<Value, NoMemory> {
-    if numbers.below(2) == 0 {
-        return Ok(Value::Data(Datum::Node(numbers.one_of(alloc, NODES)?)));
-    }
-    Ok(Value::Data(Datum::Int(numbers.below(3) as i64)))
+fn one_name(
+    alloc: Global,
+    numbers: &mut Numbers,
+    names: &'static [&'static str],
+) -> Result<Str, NoMemory> {
+    Str::new(alloc, one_of(numbers, names).as_bytes())
 }
 
 fn random_edge(alloc: Global, numbers: &mut Numbers) -> Result<Edge, NoMemory> {
+    let from = one_name(alloc, numbers, NODES)?;
+    let label = one_name(alloc, numbers, LABELS)?;
+    let to = match numbers.below(2) {
+        0 => Datum::Node(one_name(alloc, numbers, NODES)?),
+        _ => Datum::Int(numbers.below(3) as i64),
+    };
     Ok(Edge {
-        from: numbers.one_of(alloc, NODES)?,
-        label: numbers.one_of(alloc, LABELS)?,
-        to: random_value(alloc, numbers)?,
+        from,
+        label,
+        to: Value::Data(to),
     })
 }
 
 fn random_member(alloc: Global, numbers: &mut Numbers) -> Result<Member, NoMemory> {
     Ok(Member {
-        collection: numbers.one_of(alloc, COLLECTIONS)?,
-        node: numbers.one_of(alloc, NODES)?,
+        collection: one_name(alloc, numbers, COLLECTIONS)?,
+        node: one_name(alloc, numbers, NODES)?,
     })
 }
 
@@ -89,13 +69,14 @@ fn names(alloc: Global, texts: &[&str]) -> Result<Vec<Str>, NoMemory> {
 }
 
 fn asked(alloc: Global) -> Result<Asked, NoMemory> {
-    let mut values = Vec::new(alloc);
-    for text in NODES {
-        values.push(Value::Data(Datum::Node(Str::new(alloc, text.as_bytes())?)))?;
+    let mut values = vec![in alloc;
+        Value::Data(Datum::Int(0)),
+        Value::Data(Datum::Int(1)),
+        Value::Data(Datum::Int(2)),
+    ]?;
+    for name in names(alloc, NODES)? {
+        values.push(Value::Data(Datum::Node(name)))?;
     }
-    values.push(Value::Data(Datum::Int(0)))?;
-    values.push(Value::Data(Datum::Int(1)))?;
-    values.push(Value::Data(Datum::Int(2)))?;
     Ok(Asked {
         values,
         labels: names(alloc, LABELS)?,
@@ -103,20 +84,12 @@ fn asked(alloc: Global) -> Result<Asked, NoMemory> {
     })
 }
 
-fn edits_of(alloc: Global, seed: u64, count: usize) -> Result<Vec<Edit>, NoMemory> {
+// The graph that forty edits made.
+fn begun(alloc: Global, seed: u64) -> Result<Mirror, NoMemory> {
     let mut numbers = Numbers { state: seed };
-    let mut edits = Vec::new(alloc);
-    for _ in 0..count {
-        edits.push(random_edit(alloc, &mut numbers)?)?;
-    }
-    Ok(edits)
-}
-
-// The graph after the first edits.
-fn begun(alloc: Global, edits: &[Edit]) -> Result<Mirror, NoMemory> {
     let mut mirror = Mirror::new(alloc);
-    for edit in edits {
-        mirror.edit(alloc, edit)?;
+    for _ in 0..40 {
+        mirror.edit(alloc, random_edit(alloc, &mut numbers)?)?;
     }
     Ok(mirror)
 }
@@ -145,29 +118,30 @@ fn apply(
     Err(Fail::new("a page in the data"))
 }
 
-fn check_edits(
-    alloc: Global,
-    store: &mut LiveStore,
-    mirror: &mut Mirror,
-    edits: &[Edit],
-) -> Result<(), Fail> {
+// A hundred edits of the graph.
+fn check_edits(alloc: Global, mirror: &mut Mirror, seed: u64) -> Result<(), Fail> {
+    let builder = mirror.builder(alloc)?;
+    let limits = builder.limits();
+    let graph = builder.finish(alloc)?;
+    let mut store = LiveStore::of(alloc, graph, limits)?;
     let asked = asked(alloc)?;
-    for edit in edits {
-        check(apply(alloc, store, edit)?.is_ok(), "an edit is refused")?;
+    let mut numbers = Numbers { state: seed };
+    for _ in 0..100 {
+        let edit = random_edit(alloc, &mut numbers)?;
+        check(
+            apply(alloc, &mut store, &edit)?.is_ok(),
+            "an edit is refused",
+        )?;
         mirror.edit(alloc, edit)?;
-        let index = mirror.index(alloc)?;
-        check_same(alloc, store, &index, &asked)?;
+        check_same(alloc, &store, &mirror.index(alloc)?, &asked)?;
     }
     Ok(())
 }
 
-// A hundred edits of a graph that forty edits made.
+// A hundred edits of the graph that the edits of the first seed make. One test of all seeds would take longer than a test may.
 fn check_seeds(alloc: Global, first: u64, later: u64) -> Result<(), Fail> {
-    let first = edits_of(alloc, first, 40)?;
-    let edits = edits_of(alloc, later, 100)?;
-    let mut mirror = begun(alloc, first.as_slice())?;
-    let mut store = mirror.live(alloc)?;
-    check_edits(alloc, &mut store, &mut mirror, edits.as_slice())
+    let mut mirror = begun(alloc, first)?;
+    check_edits(alloc, &mut mirror, later)
 }
 
 #[test]
@@ -202,59 +176,57 @@ fn the_sixth_hundred_edits_give_the_edited_graph(rt: HostRuntime) -> Result<(), 
 
 // An edit of a store with room for two nodes and one edge or member, and its answer.
 struct LimitRow {
-    edit: &'static [u8],
+    edit: &'static str,
     answer: Result<(), GraphRefusal>,
 }
 
 const LIMITED: &[LimitRow] = &[
     LimitRow {
-        edit: b"edit add a p &b",
+        edit: "edit add a p &b",
         answer: Ok(()),
     },
     LimitRow {
-        edit: b"edit add a p &c",
+        edit: "edit add a p &c",
         answer: Err(GraphRefusal::TooManyNodes),
     },
     LimitRow {
-        edit: b"edit add a q &b",
+        edit: "edit add a q &b",
         answer: Err(GraphRefusal::TooManyEdges),
     },
     LimitRow {
-        edit: b"edit enter b A",
+        edit: "edit enter b A",
         answer: Err(GraphRefusal::TooManyEdges),
     },
     LimitRow {
-        edit: b"edit add a p &b",
+        edit: "edit add a p &b",
         answer: Ok(()),
     },
     LimitRow {
-        edit: b"edit remove a p &b",
+        edit: "edit remove a p &b",
         answer: Ok(()),
     },
     LimitRow {
-        edit: b"edit enter c A",
+        edit: "edit enter c A",
         answer: Err(GraphRefusal::TooManyNodes),
     },
     LimitRow {
-        edit: b"edit enter b A",
+        edit: "edit enter b A",
         answer: Ok(()),
     },
 ];
 
-fn check_limits(alloc: Global, store: &mut LiveStore, rows: &[LimitRow]) -> Result<(), Fail> {
-    for row in rows {
-        let edit = read_edit(alloc, row.edit, 65_536)?;
-        let answer = apply(alloc, store, &edit)?;
-        check(answer == row.answer, "another answer")?;
-    }
-    check(store.sizes().nodes == 2, "the nodes")?;
-    check(store.sizes().edges == 0, "the edges")
-}
-
 #[test]
 fn edits_beyond_the_limits_are_refused(rt: HostRuntime) -> Result<(), Fail> {
     let alloc = rt.alloc();
-    let builder = GraphBuilder::new(alloc, Limits { nodes: 2, edges: 1 });
-    let mut store = live_of(alloc, builder)?;
-    check_limits(alloc, &mut store, LIMITED)
+    let limits = Limits { nodes: 2, edges: 1 };
+    let graph = GraphBuilder::new(alloc, limits).finish(alloc)?;
+    let mut store = LiveStore::of(alloc, graph, limits)?;
+    for row in LIMITED {
+        let edit = read_edit(alloc, row.edit.as_bytes(), 65_536)?;
+        let answer = apply(alloc, &mut store, &edit)?;
+        assert_eq!(rt; answer, row.answer, "{}", row.edit);
+    }
+    assert_eq!(rt; store.sizes().nodes, 2);
+    assert_eq!(rt; store.sizes().edges, 0);
+    Ok(())
 }

@@ -1,7 +1,7 @@
 // Whether two stores answer each question alike.
 use crate::checks::check;
 use sd_graph::Store;
-use sd_value::{Str, Value};
+use sd_value::{NoMemory, Str, Value};
 use std::alloc::Global;
 use std::test::Fail;
 
@@ -15,112 +15,60 @@ pub(crate) struct Asked {
 
 const MOST: usize = 2;
 
-fn check_whole<A: Store, B: Store>(alloc: Global, one: &A, other: &B) -> Result<(), Fail> {
-    check(one.sizes() == other.sizes(), "sizes")?;
-    check(one.values(alloc)? == other.values(alloc)?, "values")?;
-    check(one.labels(alloc)? == other.labels(alloc)?, "labels")?;
-    let first = one.first_values(alloc, MOST)?;
-    check(first == other.first_values(alloc, MOST)?, "first values")
+fn check_answers<T: PartialEq + Drop>(
+    one: Result<T, NoMemory>,
+    other: Result<T, NoMemory>,
+    question: &str,
+) -> Result<(), Fail> {
+    check(one? == other?, question)
 }
 
-fn check_label<A: Store, B: Store>(
+fn check_labels<A: Store, B: Store>(
     alloc: Global,
     one: &A,
     other: &B,
-    label: &Str,
+    labels: &[Str],
 ) -> Result<(), Fail> {
-    check(one.is_label(label) == other.is_label(label), "is a label")?;
-    check(one.edges_of(label) == other.edges_of(label), "edges of")?;
-    let edges = one.edges_by(alloc, label)?;
-    check(edges == other.edges_by(alloc, label)?, "edges by")?;
-    let first = one.first_edges(alloc, label, MOST)?;
-    check(
-        first == other.first_edges(alloc, label, MOST)?,
-        "first edges",
-    )
+    for label in labels {
+        check(one.is_label(label) == other.is_label(label), "is a label")?;
+        check(one.edges_of(label) == other.edges_of(label), "edges of")?;
+        let edges = one.edges_by(alloc, label);
+        check_answers(edges, other.edges_by(alloc, label), "edges by")?;
+        let first = one.first_edges(alloc, label, MOST);
+        check_answers(first, other.first_edges(alloc, label, MOST), "first edges")?;
+    }
+    Ok(())
 }
 
-fn check_collection<A: Store, B: Store>(
-    alloc: Global,
+fn check_membership<A: Store, B: Store>(
     one: &A,
     other: &B,
     name: &Str,
+    values: &[Value],
 ) -> Result<(), Fail> {
-    check(one.members_of(name) == other.members_of(name), "members of")?;
-    let members = one.members(alloc, name)?;
-    check(members == other.members(alloc, name)?, "members")?;
-    let first = one.first_members(alloc, name, MOST)?;
-    check(
-        first == other.first_members(alloc, name, MOST)?,
-        "first members",
-    )
+    for value in values {
+        let is = one.is_member(name, value);
+        check(is == other.is_member(name, value), "is a member")?;
+    }
+    Ok(())
 }
 
-fn check_value<A: Store, B: Store>(
+fn check_collections<A: Store, B: Store>(
     alloc: Global,
     one: &A,
     other: &B,
-    value: &Value,
+    asked: &Asked,
 ) -> Result<(), Fail> {
-    check(one.is_value(value) == other.is_value(value), "is a value")?;
-    check(
-        one.degree_out(value) == other.degree_out(value),
-        "degree out",
-    )?;
-    let degree = one.degree_incoming(value);
-    check(degree == other.degree_incoming(value), "degree incoming")?;
-    check(
-        one.out_all(alloc, value)? == other.out_all(alloc, value)?,
-        "out all",
-    )?;
-    check(
-        one.incoming(alloc, value)? == other.incoming(alloc, value)?,
-        "incoming",
-    )
-}
-
-fn check_outgoing<A: Store, B: Store>(
-    alloc: Global,
-    one: &A,
-    other: &B,
-    value: &Value,
-    label: &Str,
-) -> Result<(), Fail> {
-    check(
-        one.out(alloc, value, label)? == other.out(alloc, value, label)?,
-        "out",
-    )?;
-    let count = one.count_out(value, label);
-    check(count == other.count_out(value, label), "count out")?;
-    let first = one.first_out(alloc, value, label, MOST)?;
-    check(
-        first == other.first_out(alloc, value, label, MOST)?,
-        "first out",
-    )
-}
-
-fn check_incoming<A: Store, B: Store>(
-    alloc: Global,
-    one: &A,
-    other: &B,
-    value: &Value,
-    label: &Str,
-) -> Result<(), Fail> {
-    let starts = one.incoming_by(alloc, value, label)?;
-    check(
-        starts == other.incoming_by(alloc, value, label)?,
-        "incoming by",
-    )?;
-    let count = one.count_incoming(value, label);
-    check(
-        count == other.count_incoming(value, label),
-        "count incoming",
-    )?;
-    let first = one.first_incoming(alloc, value, label, MOST)?;
-    check(
-        first == other.first_incoming(alloc, value, label, MOST)?,
-        "first incoming",
-    )
+    for name in &asked.collections {
+        check(one.members_of(name) == other.members_of(name), "members of")?;
+        let members = one.members(alloc, name);
+        check_answers(members, other.members(alloc, name), "members")?;
+        let first = one.first_members(alloc, name, MOST);
+        let others = other.first_members(alloc, name, MOST);
+        check_answers(first, others, "first members")?;
+        check_membership(one, other, name, asked.values.as_slice())?;
+    }
+    Ok(())
 }
 
 fn check_edges<A: Store, B: Store>(
@@ -144,23 +92,32 @@ fn check_value_labels<A: Store, B: Store>(
     asked: &Asked,
     value: &Value,
 ) -> Result<(), Fail> {
-    for label in asked.labels.as_slice() {
-        check_outgoing(alloc, one, other, value, label)?;
-        check_incoming(alloc, one, other, value, label)?;
+    for label in &asked.labels {
+        let out = one.out(alloc, value, label);
+        check_answers(out, other.out(alloc, value, label), "out")?;
+        let starts = one.incoming_by(alloc, value, label);
+        check_answers(
+            starts,
+            other.incoming_by(alloc, value, label),
+            "incoming by",
+        )?;
+        let count = one.count_out(value, label);
+        check(count == other.count_out(value, label), "count out")?;
+        let count = one.count_incoming(value, label);
+        check(
+            count == other.count_incoming(value, label),
+            "count incoming",
+        )?;
+        let first = one.first_out(alloc, value, label, MOST);
+        check_answers(
+            first,
+            other.first_out(alloc, value, label, MOST),
+            "first out",
+        )?;
+        let first = one.first_incoming(alloc, value, label, MOST);
+        let others = other.first_incoming(alloc, value, label, MOST);
+        check_answers(first, others, "first incoming")?;
         check_edges(one, other, value, label, asked.values.as_slice())?;
-    }
-    Ok(())
-}
-
-fn check_value_collections<A: Store, B: Store>(
-    one: &A,
-    other: &B,
-    asked: &Asked,
-    value: &Value,
-) -> Result<(), Fail> {
-    for name in asked.collections.as_slice() {
-        let is = one.is_member(name, value);
-        check(is == other.is_member(name, value), "is a member")?;
     }
     Ok(())
 }
@@ -171,34 +128,20 @@ fn check_values<A: Store, B: Store>(
     other: &B,
     asked: &Asked,
 ) -> Result<(), Fail> {
-    for value in asked.values.as_slice() {
-        check_value(alloc, one, other, value)?;
+    for value in &asked.values {
+        check(one.is_value(value) == other.is_value(value), "is a value")?;
+        let degree = one.degree_out(value);
+        check(degree == other.degree_out(value), "degree out")?;
+        let degree = one.degree_incoming(value);
+        check(degree == other.degree_incoming(value), "degree incoming")?;
+        check_answers(
+            one.out_all(alloc, value),
+            other.out_all(alloc, value),
+            "out all",
+        )?;
+        let incoming = one.incoming(alloc, value);
+        check_answers(incoming, other.incoming(alloc, value), "incoming")?;
         check_value_labels(alloc, one, other, asked, value)?;
-        check_value_collections(one, other, asked, value)?;
-    }
-    Ok(())
-}
-
-fn check_labels<A: Store, B: Store>(
-    alloc: Global,
-    one: &A,
-    other: &B,
-    labels: &[Str],
-) -> Result<(), Fail> {
-    for label in labels {
-        check_label(alloc, one, other, label)?;
-    }
-    Ok(())
-}
-
-fn check_collections<A: Store, B: Store>(
-    alloc: Global,
-    one: &A,
-    other: &B,
-    collections: &[Str],
-) -> Result<(), Fail> {
-    for name in collections {
-        check_collection(alloc, one, other, name)?;
     }
     Ok(())
 }
@@ -209,8 +152,12 @@ pub(crate) fn check_same<A: Store, B: Store>(
     other: &B,
     asked: &Asked,
 ) -> Result<(), Fail> {
-    check_whole(alloc, one, other)?;
+    check(one.sizes() == other.sizes(), "sizes")?;
+    check_answers(one.values(alloc), other.values(alloc), "values")?;
+    check_answers(one.labels(alloc), other.labels(alloc), "labels")?;
+    let first = one.first_values(alloc, MOST);
+    check_answers(first, other.first_values(alloc, MOST), "first values")?;
     check_labels(alloc, one, other, asked.labels.as_slice())?;
-    check_collections(alloc, one, other, asked.collections.as_slice())?;
+    check_collections(alloc, one, other, asked)?;
     check_values(alloc, one, other, asked)
 }

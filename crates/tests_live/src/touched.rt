@@ -1,11 +1,9 @@
 // Whether an edit can touch the pages of a function, worked out by hand from the definition.
-use crate::checks::check;
 use edit_pages::touches_pages;
 use edit_reader::read_edit;
 use query_reader::read_query;
 use query_scoping::scopes;
 use sd_value::Str;
-use std::alloc::Global;
 use std::test::Fail;
 use template_reader::read_templates;
 
@@ -125,24 +123,17 @@ const TOUCHES: &[TouchRow] = &[
     },
 ];
 
-fn check_row(alloc: Global, row: &TouchRow) -> Result<(), Fail> {
-    let checked = read_query(alloc, row.query, 65_536)?;
-    let blocks = scopes(alloc, &checked)?;
-    let templates = read_templates(alloc, row.templates, 65_536)?;
-    let function = Str::new(alloc, b"F")?;
-    let edit = read_edit(alloc, row.edit, 65_536)?;
-    let touches = touches_pages(alloc, &blocks, &templates, &function, &edit)?;
-    check(touches == row.touches, row.reason)
-}
-
-fn check_rows(alloc: Global, rows: &[TouchRow]) -> Result<(), Fail> {
-    for row in rows {
-        check_row(alloc, row)?;
-    }
-    Ok(())
-}
-
 #[test]
 fn edits_touch_what_rests_on_them(rt: HostRuntime) -> Result<(), Fail> {
-    check_rows(rt.alloc(), TOUCHES)
+    let alloc = rt.alloc();
+    let function = Str::new(alloc, b"F")?;
+    for row in TOUCHES {
+        let checked = read_query(alloc, row.query, 65_536)?;
+        let blocks = scopes(alloc, &checked)?;
+        let templates = read_templates(alloc, row.templates, 65_536)?;
+        let edit = read_edit(alloc, row.edit, 65_536)?;
+        let touches = touches_pages(alloc, &blocks, &templates, &function, &edit)?;
+        assert_eq!(rt; touches, row.touches, "{}", row.reason);
+    }
+    Ok(())
 }

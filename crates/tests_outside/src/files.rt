@@ -15,51 +15,63 @@ fn one_file(alloc: Global, path: &Str, bytes: &[u8]) -> Result<MemFiles, NoMemor
     Ok(MemFiles::new(alloc, files, [4].to_vec(alloc)?))
 }
 
-// Writes the text, and compares the end and what the file holds then.
-fn check_written(
+// Whether the start of the file is read.
+fn is_read(alloc: Global, files: &mut MemFiles, path: &Str, start: &[u8]) -> bool {
+    match files.read(alloc, path, start.len() as u64) {
+        Ok(found) => found.as_slice() == start,
+        Err(_) => false,
+    }
+}
+
+// Writes the text. Is this the end, and does the file hold the second text then?
+fn is_written(files: &mut MemFiles, path: &Str, text: &[u8], end: Result<(), Failed>) -> bool {
+    files.write(path, text) == end && files.bytes(path).unwrap_or(b"") == b"two".as_slice()
+}
+
+// The first call that goes wrong.
+fn wrong_call(
+    alloc: Global,
     files: &mut MemFiles,
     path: &Str,
-    text: &[u8],
-    end: Result<(), Failed>,
-) -> Result<(), Fail> {
-    check(files.write(path, text) == end, "another end")?;
-    check_text(files.bytes(path).unwrap_or(b""), b"two")
-}
-
-fn check_calls(alloc: Global, files: &mut MemFiles, path: &Str, missing: &Str) -> Result<(), Fail> {
-    let start = files.read(alloc, path, 2)?;
-    check_text(&start, b"on")?;
-    check_written(files, path, b"two", Ok(()))?;
-    let end = files.read(alloc, missing, 9);
-    check(end == Err(ReadEnd::Failed), "a missing file")?;
-    check_written(files, path, b"x", Err(Failed))?;
-    let faults = files.write_faults(path);
-    check(faults == 1 && !files.short(), "other faults")
-}
-
-fn check_files(alloc: Global, path: &[u8], bytes: &[u8], missing: &[u8]) -> Result<(), Fail> {
-    let path = Str::new(alloc, path)?;
-    let missing = Str::new(alloc, missing)?;
-    let mut files = one_file(alloc, &path, bytes)?;
-    check_calls(alloc, &mut files, &path, &missing)
+    missing: &Str,
+) -> Option<&'static str> {
+    if !is_read(alloc, files, path, b"on") {
+        return Some("the start of a file");
+    }
+    if !is_written(files, path, b"two", Ok(())) {
+        return Some("a write");
+    }
+    if files.read(alloc, missing, 9) != Err(ReadEnd::Failed) {
+        return Some("a missing file");
+    }
+    if !is_written(files, path, b"x", Err(Failed)) {
+        return Some("a write that fails");
+    }
+    if files.write_faults(path) != 1 || files.short() {
+        return Some("other faults");
+    }
+    None
 }
 
 #[test]
 fn files_are_read_and_written(rt: HostRuntime) -> Result<(), Fail> {
-    check_files(rt.alloc(), b"a", b"one", b"b")
+    let alloc = rt.alloc();
+    let path = Str::new(alloc, b"a")?;
+    let missing = Str::new(alloc, b"b")?;
+    let mut files = one_file(alloc, &path, b"one")?;
+    match wrong_call(alloc, &mut files, &path, &missing) {
+        Some(call) => Err(Fail::new(call)),
+        None => Ok(()),
+    }
 }
 
 // The second call fails.
-fn check_sink(sink: &mut MemSink) -> Result<(), Fail> {
-    check(sink.put(b"ab") == Ok(()), "another end")?;
-    check(sink.put(b"cd") == Err(Failed), "another end")?;
-    check(sink.put(b"e") == Ok(()), "another end")?;
-    check_text(sink.bytes(), b"abe")?;
-    check(sink.faults() == 1 && !sink.short(), "other faults")
-}
-
 #[test]
 fn a_sink_gathers(rt: HostRuntime) -> Result<(), Fail> {
     let mut sink = MemSink::new(rt.alloc(), [2].to_vec(rt.alloc())?);
-    check_sink(&mut sink)
+    check(sink.put(b"ab") == Ok(()), "the first call")?;
+    check(sink.put(b"cd") == Err(Failed), "the second call")?;
+    check(sink.put(b"e") == Ok(()), "the third call")?;
+    check(sink.faults() == 1 && !sink.short(), "other faults")?;
+    check_text(sink.bytes(), b"abe")
 }

@@ -1,8 +1,9 @@
-// What tests are made of: texts, and wires in memory.
+// What tests are made of: texts, terms, and wires in memory.
 use mem_wire::{FailingSend, MemWire};
 use script_reader::read_script;
-use sd_value::NoMemory;
+use sd_value::{Args, Datum, NoMemory, Str, Term};
 use std::alloc::Global;
+use std::str;
 use std::test::Fail;
 
 /// Adds the parts one after the other.
@@ -30,6 +31,14 @@ pub fn repeated_text(alloc: Global, row: &Repeated) -> Result<Vec<u8>, NoMemory>
     Ok(out)
 }
 
+/// The term of the function with these arguments.
+pub fn term(alloc: Global, function: &[u8], args: Vec<Datum>) -> Result<Term, NoMemory> {
+    Ok(Term {
+        function: Str::new(alloc, function)?,
+        args: Args::new(alloc, args)?,
+    })
+}
+
 /// A wire with the events of the script, on which these sends fail.
 pub fn wire_of(alloc: Global, script: &[u8], sends: &[FailingSend]) -> Result<MemWire, Fail> {
     let sends = sends.to_vec(alloc)?;
@@ -37,12 +46,22 @@ pub fn wire_of(alloc: Global, script: &[u8], sends: &[FailingSend]) -> Result<Me
     Ok(MemWire::new(alloc, events, Vec::new(alloc), sends)?)
 }
 
-/// Fails with the reason where a row doesn't hold.
-pub fn check(holds: bool, reason: &str) -> Result<(), Fail> {
+/// Fails with the row's name where it doesn't hold.
+pub fn check(holds: bool, name: &str) -> Result<(), Fail> {
     if holds {
         return Ok(());
     }
-    Err(Fail::new(reason))
+    Err(Fail::new(name))
+}
+
+/// Fails with the row's text where it doesn't hold.
+pub fn check_row(holds: bool, text: &[u8]) -> Result<(), Fail> {
+    check(holds, str::from_utf8(text).unwrap_or("a row"))
+}
+
+/// Whether the texts are the same: the borrow checker takes them from two places only in a call.
+pub fn are_same(found: &[u8], wanted: &[u8]) -> bool {
+    found == wanted
 }
 
 /// Compares two texts.

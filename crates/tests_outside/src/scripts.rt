@@ -1,11 +1,80 @@
-// A script and its refusals.
-use crate::inputs::check;
+// Scripts with their events, and their refusals.
+use crate::inputs::check_row;
 use script_reader::{ScriptRefusal, read_script};
 use std::alloc::Global;
 use std::test::Fail;
 use wire::WireEvent;
 
-fn is_wanted(events: &[WireEvent]) -> bool {
+// What a script gives.
+enum Answer {
+    // The first is opened, has a line of its own, the second is lost, and the first ends.
+    Events,
+    NoEvents,
+    Refused(ScriptRefusal),
+}
+
+// A script, the most bytes that it may have, and what it gives.
+struct ScriptRow {
+    text: &'static [u8],
+    limit: u64,
+    answer: Answer,
+}
+
+const SCRIPTS: &[ScriptRow] = &[
+    ScriptRow {
+        text: b"open 1 // first\nbytes 1 \"\" bytes 1 \"GET\\r\\n\" lost 2 end 01",
+        limit: 100,
+        answer: Answer::Events,
+    },
+    ScriptRow {
+        text: b"",
+        limit: 0,
+        answer: Answer::NoEvents,
+    },
+    ScriptRow {
+        text: b"open 1",
+        limit: 5,
+        answer: Answer::Refused(ScriptRefusal::TooLong(5)),
+    },
+    ScriptRow {
+        text: b"open 0",
+        limit: 9,
+        answer: Answer::Refused(ScriptRefusal::Expected(5)),
+    },
+    ScriptRow {
+        text: b"end -1",
+        limit: 9,
+        answer: Answer::Refused(ScriptRefusal::Expected(4)),
+    },
+    ScriptRow {
+        text: b"open 1 done",
+        limit: 99,
+        answer: Answer::Refused(ScriptRefusal::Expected(7)),
+    },
+    ScriptRow {
+        text: b"bytes 1",
+        limit: 9,
+        answer: Answer::Refused(ScriptRefusal::Expected(7)),
+    },
+    ScriptRow {
+        text: b"bytes 1 \"a",
+        limit: 99,
+        answer: Answer::Refused(ScriptRefusal::OpenString(8)),
+    },
+    ScriptRow {
+        text: b"open ?",
+        limit: 9,
+        answer: Answer::Refused(ScriptRefusal::BadByte(5)),
+    },
+    ScriptRow {
+        text: b"open 99999999999999999999",
+        limit: 99,
+        answer: Answer::Refused(ScriptRefusal::IntOutOfRange(5)),
+    },
+];
+
+// Whether these are the events of a script that has some.
+fn are_events(events: &[WireEvent]) -> bool {
     match events {
         [
             WireEvent::Opened(1),
@@ -17,86 +86,20 @@ fn is_wanted(events: &[WireEvent]) -> bool {
     }
 }
 
-fn check_events(alloc: Global, text: &[u8]) -> Result<(), Fail> {
-    let events = read_script(alloc, text, 100)?;
-    check(is_wanted(&events), "other events")
+// Whether the script gives what its row says.
+fn is_answered(alloc: Global, row: &ScriptRow) -> bool {
+    match (read_script(alloc, row.text, row.limit), &row.answer) {
+        (Ok(events), Answer::Events) => are_events(&events),
+        (Ok(events), Answer::NoEvents) => events.is_empty(),
+        (Err(found), Answer::Refused(wanted)) => found == *wanted,
+        _ => false,
+    }
 }
 
 #[test]
-fn events_are_read_in_order(rt: HostRuntime) -> Result<(), Fail> {
-    let text = b"open 1 // first\nbytes 1 \"\" bytes 1 \"GET\\r\\n\" lost 2 end 01";
-    check_events(rt.alloc(), text)
-}
-
-#[test]
-fn an_empty_script_has_no_events(rt: HostRuntime) -> Result<(), Fail> {
-    let events = read_script(rt.alloc(), b"", 0)?;
-    check(events.is_empty(), "events")
-}
-
-// A script, the most bytes that it may have, and why it is refused.
-struct RefusalRow {
-    text: &'static [u8],
-    limit: u64,
-    refusal: ScriptRefusal,
-}
-
-const REFUSALS: &[RefusalRow] = &[
-    RefusalRow {
-        text: b"open 1",
-        limit: 5,
-        refusal: ScriptRefusal::TooLong(5),
-    },
-    RefusalRow {
-        text: b"open 0",
-        limit: 9,
-        refusal: ScriptRefusal::Expected(5),
-    },
-    RefusalRow {
-        text: b"end -1",
-        limit: 9,
-        refusal: ScriptRefusal::Expected(4),
-    },
-    RefusalRow {
-        text: b"open 1 done",
-        limit: 99,
-        refusal: ScriptRefusal::Expected(7),
-    },
-    RefusalRow {
-        text: b"bytes 1",
-        limit: 9,
-        refusal: ScriptRefusal::Expected(7),
-    },
-    RefusalRow {
-        text: b"bytes 1 \"a",
-        limit: 99,
-        refusal: ScriptRefusal::OpenString(8),
-    },
-    RefusalRow {
-        text: b"open ?",
-        limit: 9,
-        refusal: ScriptRefusal::BadByte(5),
-    },
-    RefusalRow {
-        text: b"open 99999999999999999999",
-        limit: 99,
-        refusal: ScriptRefusal::IntOutOfRange(5),
-    },
-];
-
-fn refusal_of(alloc: Global, text: &[u8], limit: u64) -> Option<ScriptRefusal> {
-    read_script(alloc, text, limit).err()
-}
-
-fn check_refusals(alloc: Global, rows: &[RefusalRow]) -> Result<(), Fail> {
-    for row in rows {
-        let found = refusal_of(alloc, row.text, row.limit);
-        check(found == Some(row.refusal), "another answer")?;
+fn each_script_has_its_events_or_its_refusal(rt: HostRuntime) -> Result<(), Fail> {
+    for row in SCRIPTS {
+        check_row(is_answered(rt.alloc(), row), row.text)?;
     }
     Ok(())
-}
-
-#[test]
-fn scripts_are_refused_at_their_places(rt: HostRuntime) -> Result<(), Fail> {
-    check_refusals(rt.alloc(), REFUSALS)
 }

@@ -1,14 +1,14 @@
 // The constraints of a file, in the site over data by the words `check --here`, and over every data graph without them.
-use crate::inputs::{BIB, FileRow, files_of, no_connections, texts};
-use crate::lints::SLIPS;
-use crate::site::{LOOKS, SITE};
-use command_run::strudel;
-use edge_io::MemSink;
-use std::alloc::Global;
-use std::process::Abort;
+use crate::runs::{FileRow, PLAIN, Run, check_runs};
+use crate::site::{BIB, LOOKS, SITE};
 use std::test::Fail;
 
-const FILES: &[FileRow] = &[
+// Templates without one of the pages of years, which ask for a collection that isn't there.
+const SLIPS: &str =
+    "<TEMPLATE RootPage><SFMT @Paper LINK=title></TEMPLATE>\n<TEMPLATE PaperPage><SFMT #Papers EMBED></TEMPLATE>\n";
+
+/// The worked site, others that differ from it, and constraints.
+pub const FILES: &[FileRow] = &[
     FileRow {
         path: "bib",
         text: BIB,
@@ -113,140 +113,138 @@ const FIVE_COERCED: &str =
 const NEGATED: &str = "INPUT D { WHERE C(x), x -> \"a\" -> y, not(x -> \"c\" -> y) CREATE F(x) }
 { WHERE C(u), u -> \"a\" -> w, not(u -> \"c\"|\"d\" -> w) CREATE G(u) LINK F(u) -> \"l\" -> G(u) } OUTPUT S";
 
-// The words of a run, the calls of its files and of its output that fail, its exit code, and what it puts on the output
-// and the standard error.
-#[derive(Drop)]
-struct CheckRow {
-    words: &'static [&'static str],
-    failing_calls: &'static [u64],
-    failing_puts: &'static [u64],
-    code: u8,
-    out: &'static str,
-    err: &'static str,
-}
-
-// A run in which no call fails.
-fn expects(
-    words: &'static [&'static str],
-    code: u8,
-    out: &'static str,
-    err: &'static str,
-) -> CheckRow {
-    CheckRow {
-        words,
-        failing_calls: &[],
-        failing_puts: &[],
-        code,
-        out,
-        err,
-    }
-}
-
-fn check_row<R: AllocGlobal + Abort>(rt: &R, row: &CheckRow) -> Result<(), Fail> {
-    let alloc = rt.alloc();
-    let words = texts(alloc, row.words)?;
-    let mut files = files_of(alloc, FILES, row.failing_calls)?;
-    let mut out = MemSink::new(alloc, row.failing_puts.to_vec(alloc)?);
-    let mut err = MemSink::new(alloc, Vec::new(alloc));
-    let mut wire = no_connections(alloc)?;
-    let status = strudel(alloc, &words, &mut files, &mut out, &mut err, &mut wire);
-    assert_eq!(rt; status.code(), row.code, "{:?}", row.words);
-    assert_eq!(rt; out.bytes(), row.out.as_bytes());
-    assert_eq!(rt; err.bytes(), row.err.as_bytes());
-    Ok(())
-}
-
-/// A run of these words, in which no call fails, has this exit code and puts these texts.
-pub fn check_run<R: AllocGlobal + Abort>(
-    rt: &R,
-    words: &'static [&'static str],
-    code: u8,
-    out: &'static str,
-    err: &'static str,
-) -> Result<(), Fail> {
-    check_row(rt, &expects(words, code, out, err))
-}
-
 const PAPERS: &[&str] = &["check", "--here", "q", "papers", "bib"];
 
 const REACHED: &[&str] = &["check", "--here", "q", "reached", "bib"];
 
-// Status 1 where a constraint isn't met: the lines are put all the same, and nothing is reported.
-#[test]
-fn constraints_are_tested(rt: HostRuntime) -> Result<(), Fail> {
-    check_run(&rt, REACHED, 0, "1 met\n", "")?;
-    check_run(&rt, PAPERS, 1, "1 met\n2 broken\n", "")?;
-    let years: &'static [&'static str] = &["check", "q", "years", "bib", "bib", "--here"];
-    check_run(&rt, years, 1, "1 met\n2 broken\n", "")?;
-    let empty: &'static [&'static str] = &["check", "--here", "q", "empty", "bib"];
-    check_run(&rt, empty, 0, "", "")
-}
+const BAD_WORDS: &str = "strudel: bad command line\n";
 
-#[test]
-fn data_and_the_flag_stand_together(rt: HostRuntime) -> Result<(), Fail> {
-    let line = "strudel: bad command line\n";
-    check_run(&rt, &["check", "q", "papers", "bib"], 2, "", line)?;
-    check_run(&rt, &["check", "--here", "q", "papers"], 2, "", line)
-}
-
-#[test]
-fn constraints_are_refused(rt: HostRuntime) -> Result<(), Fail> {
-    let zed = "strudel: zed: 102 UnknownFunction at 5\n";
-    check_run(&rt, &["check", "--here", "q", "zed", "bib"], 3, "", zed)?;
-    let rooted = "strudel: rooted: 103 RootHasArguments at 25\n";
-    check_run(
-        &rt,
-        &["check", "--here", "q", "rooted", "bib"],
-        3,
-        "",
-        rooted,
-    )?;
-    let lower = "strudel: lower: 101 Expected at 0\n";
-    check_run(&rt, &["check", "--here", "q", "lower", "bib"], 3, "", lower)
-}
-
-// The data are read first, then the query, and then the constraints.
-#[test]
-fn the_first_fault_is_reported(rt: HostRuntime) -> Result<(), Fail> {
-    let data = "strudel: q: 31 Expected at 0\n";
-    check_run(&rt, &["check", "--here", "bib", "zed", "q"], 3, "", data)?;
-    let query = "strudel: bib: 71 Expected at 0\n";
-    check_run(&rt, &["check", "--here", "bib", "zed", "bib"], 3, "", query)?;
-    let no_data = "strudel: cannot read none\n";
-    check_run(
-        &rt,
-        &["check", "--here", "bib", "zed", "none"],
-        4,
-        "",
-        no_data,
-    )?;
-    let no_file = "strudel: cannot read lost\n";
-    check_run(
-        &rt,
-        &["check", "--here", "q", "lost", "bib"],
-        4,
-        "",
-        no_file,
-    )
-}
-
-#[test]
-fn failing_reads_and_writes_are_reported(rt: HostRuntime) -> Result<(), Fail> {
-    let unread = CheckRow {
+const IN_A_SITE: &[Run] = &[
+    // Status 1 where a constraint isn't met: the lines are put all the same, and nothing is reported.
+    Run {
+        words: REACHED,
+        code: 0,
+        out: "1 met\n",
+        err: "",
+        ..PLAIN
+    },
+    Run {
+        words: PAPERS,
+        code: 1,
+        out: "1 met\n2 broken\n",
+        err: "",
+        ..PLAIN
+    },
+    Run {
+        words: &["check", "q", "years", "bib", "bib", "--here"],
+        code: 1,
+        out: "1 met\n2 broken\n",
+        err: "",
+        ..PLAIN
+    },
+    Run {
+        words: &["check", "--here", "q", "empty", "bib"],
+        code: 0,
+        out: "",
+        err: "",
+        ..PLAIN
+    },
+    // Data and the flag stand together.
+    Run {
+        words: &["check", "q", "papers", "bib"],
+        code: 2,
+        out: "",
+        err: BAD_WORDS,
+        ..PLAIN
+    },
+    Run {
+        words: &["check", "--here", "q", "papers"],
+        code: 2,
+        out: "",
+        err: BAD_WORDS,
+        ..PLAIN
+    },
+    // Constraints that are refused.
+    Run {
+        words: &["check", "--here", "q", "zed", "bib"],
+        code: 3,
+        out: "",
+        err: "strudel: zed: 102 UnknownFunction at 5\n",
+        ..PLAIN
+    },
+    Run {
+        words: &["check", "--here", "q", "rooted", "bib"],
+        code: 3,
+        out: "",
+        err: "strudel: rooted: 103 RootHasArguments at 25\n",
+        ..PLAIN
+    },
+    Run {
+        words: &["check", "--here", "q", "lower", "bib"],
+        code: 3,
+        out: "",
+        err: "strudel: lower: 101 Expected at 0\n",
+        ..PLAIN
+    },
+    // The data are read first, then the query, and then the constraints.
+    Run {
+        words: &["check", "--here", "bib", "zed", "q"],
+        code: 3,
+        out: "",
+        err: "strudel: q: 31 Expected at 0\n",
+        ..PLAIN
+    },
+    Run {
+        words: &["check", "--here", "bib", "zed", "bib"],
+        code: 3,
+        out: "",
+        err: "strudel: bib: 71 Expected at 0\n",
+        ..PLAIN
+    },
+    Run {
+        words: &["check", "--here", "bib", "zed", "none"],
+        code: 4,
+        out: "",
+        err: "strudel: cannot read none\n",
+        ..PLAIN
+    },
+    Run {
+        words: &["check", "--here", "q", "lost", "bib"],
+        code: 4,
+        out: "",
+        err: "strudel: cannot read lost\n",
+        ..PLAIN
+    },
+    // A read or a put that fails.
+    Run {
+        words: PAPERS,
         failing_calls: &[3],
-        ..expects(PAPERS, 4, "", "strudel: cannot read papers\n")
-    };
-    check_row(&rt, &unread)?;
-    let broken = CheckRow {
+        code: 4,
+        out: "",
+        err: "strudel: cannot read papers\n",
+        ..PLAIN
+    },
+    Run {
+        words: PAPERS,
         failing_puts: &[1],
-        ..expects(PAPERS, 5, "", "strudel: cannot write\n")
-    };
-    check_row(&rt, &broken)?;
-    let met = CheckRow {
+        code: 5,
+        out: "",
+        err: "strudel: cannot write\n",
+        ..PLAIN
+    },
+    Run {
+        words: REACHED,
         failing_puts: &[1],
-        ..expects(REACHED, 5, "", "strudel: cannot write\n")
-    };
-    check_row(&rt, &met)
+        code: 5,
+        out: "",
+        err: "strudel: cannot write\n",
+        ..PLAIN
+    },
+];
+
+#[test]
+fn each_check_in_a_site_ends_as_its_row_says(rt: HostRuntime) -> Result<(), Fail> {
+    check_runs(&rt, FILES, IN_A_SITE)
 }
 
 // ---- over every data graph
@@ -280,22 +278,6 @@ const A_PAPER_WITHOUT_A_TITLE: &str = "1 no
   }
 ";
 
-// Status 1 where a constraint has no certificate: the lines are put all the same, and nothing is reported.
-#[test]
-fn constraints_are_proved(rt: HostRuntime) -> Result<(), Fail> {
-    check_run(&rt, &["check", "q", "reached"], 0, PAPERS_PROVED, "")?;
-    check_run(
-        &rt,
-        &["check", "titled", "reached"],
-        1,
-        A_PAPER_WITHOUT_A_TITLE,
-        "",
-    )?;
-    check_run(&rt, &["check", "negated", "turned"], 1, "1 unknown\n", "")?;
-    check_run(&rt, &["check", "q", "three"], 1, THREE_ANSWERED, "")?;
-    check_run(&rt, &["check", "q", "empty"], 0, "", "")
-}
-
 const FIVE_IS_A_LABEL: &str = "1 no
   object \"x\" in \"C\" {
     \"5\" &\"y\"
@@ -304,37 +286,109 @@ const FIVE_IS_A_LABEL: &str = "1 no
   }
 ";
 
-// Where texts are compared with integers by the text of the number, the label `5` is one of 5.
-#[test]
-fn the_versions_compare_otherwise(rt: HostRuntime) -> Result<(), Fail> {
-    check_run(&rt, &["check", "five", "fives"], 0, "1 yes\n", "")?;
-    check_run(&rt, &["check", "five2", "fives"], 1, FIVE_IS_A_LABEL, "")
-}
+const THREE_OVER_ALL_DATA: &[&str] = &["check", "q", "three"];
 
-// The query is read first, and then the constraints.
-#[test]
-fn the_first_fault_over_all_data_is_reported(rt: HostRuntime) -> Result<(), Fail> {
-    let query = "strudel: bib: 71 Expected at 0\n";
-    check_run(&rt, &["check", "bib", "zed"], 3, "", query)?;
-    let zed = "strudel: zed: 102 UnknownFunction at 5\n";
-    check_run(&rt, &["check", "q", "zed"], 3, "", zed)?;
-    let no_query = "strudel: cannot read none\n";
-    check_run(&rt, &["check", "none", "lost"], 4, "", no_query)?;
-    let no_file = "strudel: cannot read lost\n";
-    check_run(&rt, &["check", "q", "lost"], 4, "", no_file)
-}
-
-#[test]
-fn failing_devices_over_all_data_are_reported(rt: HostRuntime) -> Result<(), Fail> {
-    let words: &'static [&'static str] = &["check", "q", "three"];
-    let unread = CheckRow {
+const OVER_ALL_DATA: &[Run] = &[
+    // Status 1 where a constraint has no certificate: the lines are put all the same, and nothing is reported.
+    Run {
+        words: &["check", "q", "reached"],
+        code: 0,
+        out: PAPERS_PROVED,
+        err: "",
+        ..PLAIN
+    },
+    Run {
+        words: &["check", "titled", "reached"],
+        code: 1,
+        out: A_PAPER_WITHOUT_A_TITLE,
+        err: "",
+        ..PLAIN
+    },
+    Run {
+        words: &["check", "negated", "turned"],
+        code: 1,
+        out: "1 unknown\n",
+        err: "",
+        ..PLAIN
+    },
+    Run {
+        words: THREE_OVER_ALL_DATA,
+        code: 1,
+        out: THREE_ANSWERED,
+        err: "",
+        ..PLAIN
+    },
+    Run {
+        words: &["check", "q", "empty"],
+        code: 0,
+        out: "",
+        err: "",
+        ..PLAIN
+    },
+    // Where texts are compared with integers by the text of the number, the label `5` is one of 5.
+    Run {
+        words: &["check", "five", "fives"],
+        code: 0,
+        out: "1 yes\n",
+        err: "",
+        ..PLAIN
+    },
+    Run {
+        words: &["check", "five2", "fives"],
+        code: 1,
+        out: FIVE_IS_A_LABEL,
+        err: "",
+        ..PLAIN
+    },
+    // The query is read first, and then the constraints.
+    Run {
+        words: &["check", "bib", "zed"],
+        code: 3,
+        out: "",
+        err: "strudel: bib: 71 Expected at 0\n",
+        ..PLAIN
+    },
+    Run {
+        words: &["check", "q", "zed"],
+        code: 3,
+        out: "",
+        err: "strudel: zed: 102 UnknownFunction at 5\n",
+        ..PLAIN
+    },
+    Run {
+        words: &["check", "none", "lost"],
+        code: 4,
+        out: "",
+        err: "strudel: cannot read none\n",
+        ..PLAIN
+    },
+    Run {
+        words: &["check", "q", "lost"],
+        code: 4,
+        out: "",
+        err: "strudel: cannot read lost\n",
+        ..PLAIN
+    },
+    // A read or a put that fails.
+    Run {
+        words: THREE_OVER_ALL_DATA,
         failing_calls: &[2],
-        ..expects(words, 4, "", "strudel: cannot read three\n")
-    };
-    check_row(&rt, &unread)?;
-    let unput = CheckRow {
+        code: 4,
+        out: "",
+        err: "strudel: cannot read three\n",
+        ..PLAIN
+    },
+    Run {
+        words: THREE_OVER_ALL_DATA,
         failing_puts: &[1],
-        ..expects(words, 5, "", "strudel: cannot write\n")
-    };
-    check_row(&rt, &unput)
+        code: 5,
+        out: "",
+        err: "strudel: cannot write\n",
+        ..PLAIN
+    },
+];
+
+#[test]
+fn each_check_over_all_data_ends_as_its_row_says(rt: HostRuntime) -> Result<(), Fail> {
+    check_runs(&rt, FILES, OVER_ALL_DATA)
 }

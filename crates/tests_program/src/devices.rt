@@ -1,59 +1,8 @@
-// Runs over the bibliography of which a device fails or a client is hostile: the status, the output and the line of
-// each, and what its connections took and its files hold.
-use crate::inputs::{BIB, FileRow, files_of, texts};
-use crate::site::{LOOKS, SITE, YEAR};
-use command_run::strudel;
-use edge_io::{MemFiles, MemSink};
-use mem_wire::{FailingSend, MemWire};
-use script_reader::read_script;
-use sd_value::{NoMemory, Str};
-use std::alloc::Global;
-use std::process::Abort;
+// Runs over the bibliography of which a device fails or a client is hostile.
+use crate::runs::{FileRow, PLAIN, Part, Run, Taken, Written, check_runs};
+use crate::site::{BIB, LOOKS, SITE, YEAR};
+use mem_wire::FailingSend;
 use std::test::Fail;
-
-// The events of a wire: a text that is repeated, between a head and a tail.
-#[derive(Drop)]
-struct Script {
-    head: &'static str,
-    text: &'static str,
-    count: usize,
-    tail: &'static str,
-}
-
-// The calls of the files, of the output, of the standard error, of `listen` and `next`, and the sends that fail.
-#[derive(Drop)]
-struct Failing {
-    calls: &'static [u64],
-    puts: &'static [u64],
-    lines: &'static [u64],
-    nexts: &'static [u64],
-    sends: &'static [FailingSend],
-}
-
-// A connection, what it took, and whether it was closed.
-struct Taken {
-    connection: u64,
-    bytes: &'static str,
-    is_closed: bool,
-}
-
-// A path, and the text that is there after the run, or none.
-struct Written {
-    path: &'static str,
-    text: Option<&'static str>,
-}
-
-#[derive(Drop)]
-struct Row {
-    words: &'static [&'static str],
-    script: Script,
-    failing: Failing,
-    code: u8,
-    out: &'static str,
-    err: &'static str,
-    taken: &'static [Taken],
-    written: &'static [Written],
-}
 
 const FILES: &[FileRow] = &[
     FileRow {
@@ -87,112 +36,6 @@ const FILES: &[FileRow] = &[
         text: "open 1",
     },
 ];
-
-const NONE: Failing = Failing {
-    calls: &[],
-    puts: &[],
-    lines: &[],
-    nexts: &[],
-    sends: &[],
-};
-
-// These events alone.
-fn events(head: &'static str) -> Script {
-    Script {
-        head,
-        text: "",
-        count: 0,
-        tail: "",
-    }
-}
-
-// A run without connections.
-fn run(
-    words: &'static [&'static str],
-    failing: Failing,
-    code: u8,
-    out: &'static str,
-    err: &'static str,
-) -> Row {
-    Row {
-        words,
-        script: events(""),
-        failing,
-        code,
-        out,
-        err,
-        taken: &[],
-        written: &[],
-    }
-}
-
-// A run of `serve` over these events.
-fn served(script: Script, failing: Failing, out: &'static str, taken: &'static [Taken]) -> Row {
-    Row {
-        words: SERVE,
-        script,
-        failing,
-        code: 0,
-        out,
-        err: "",
-        taken,
-        written: &[],
-    }
-}
-
-fn script_text(alloc: Global, script: &Script) -> Result<Vec<u8>, NoMemory> {
-    let mut text = Vec::new(alloc);
-    text.extend_from_slice(script.head.as_bytes())?;
-    text.extend_from_slice(&script.text.as_bytes().repeat(alloc, script.count)?)?;
-    text.extend_from_slice(script.tail.as_bytes())?;
-    Ok(text)
-}
-
-fn wire_of(alloc: Global, row: &Row) -> Result<MemWire, Fail> {
-    let script = script_text(alloc, &row.script)?;
-    let events = read_script(alloc, &script, 65_536)?;
-    let nexts = row.failing.nexts.to_vec(alloc)?;
-    let sends = row.failing.sends.to_vec(alloc)?;
-    Ok(MemWire::new(alloc, events, nexts, sends)?)
-}
-
-fn check_taken<R: Abort>(rt: &R, wire: &MemWire, rows: &[Taken]) {
-    for row in rows {
-        assert_eq!(rt; wire.taken(row.connection), row.bytes.as_bytes());
-        assert_eq!(rt; wire.closed(row.connection), row.is_closed);
-    }
-}
-
-fn check_written<R: AllocGlobal + Abort>(
-    rt: &R,
-    files: &MemFiles,
-    rows: &[Written],
-) -> Result<(), Fail> {
-    for row in rows {
-        let path = Str::new(rt.alloc(), row.path.as_bytes())?;
-        assert!(rt;
-            files.bytes(&path) == row.text.map(|text| text.as_bytes()),
-            "{}",
-            row.path
-        );
-    }
-    Ok(())
-}
-
-fn check_row<R: AllocGlobal + Abort>(rt: &R, row: &Row) -> Result<(), Fail> {
-    let alloc = rt.alloc();
-    let words = texts(alloc, row.words)?;
-    let mut files = files_of(alloc, FILES, row.failing.calls)?;
-    let mut out = MemSink::new(alloc, row.failing.puts.to_vec(alloc)?);
-    let mut err = MemSink::new(alloc, row.failing.lines.to_vec(alloc)?);
-    let mut wire = wire_of(alloc, row)?;
-    let status = strudel(alloc, &words, &mut files, &mut out, &mut err, &mut wire);
-    assert_eq!(rt; status.code(), row.code, "{:?}", row.words);
-    assert_eq!(rt; out.bytes(), row.out.as_bytes());
-    assert_eq!(rt; err.bytes(), row.err.as_bytes());
-    check_taken(rt, &wire, row.taken);
-    check_written(rt, &files, row.written)
-}
 
 const PAGE: &[&str] = &[
     "page",
@@ -243,35 +86,6 @@ const FIVE_PAGES: &[Written] = &[
     },
 ];
 
-#[test]
-fn a_failing_file_or_output_ends_the_run(rt: HostRuntime) -> Result<(), Fail> {
-    let second_read = Failing {
-        calls: &[2],
-        ..NONE
-    };
-    check_row(
-        &rt,
-        &run(PAGE, second_read, 4, "", "strudel: cannot read q.struql\n"),
-    )?;
-    let first_put = Failing { puts: &[1], ..NONE };
-    check_row(&rt, &run(PAGE, first_put, 5, "", "strudel: cannot write\n"))?;
-    let line = Failing {
-        lines: &[1],
-        ..NONE
-    };
-    check_row(&rt, &run(NO_PAGE, line, 9, "", ""))?;
-    // The three inputs are read before the sixth write.
-    let sixth_write = Failing {
-        calls: &[9],
-        ..NONE
-    };
-    let built = Row {
-        written: FIVE_PAGES,
-        ..run(BUILD, sixth_write, 5, "", "strudel: cannot write\n")
-    };
-    check_row(&rt, &built)
-}
-
 const SOURCE_FAILED: &str = "strudel: connection source failed\n";
 
 const YEAR_REPLY: &str =
@@ -288,65 +102,9 @@ const ONE_REPLY: &str = "serving 8080\nconnections 1\nreplies 1\nhits 0\n";
 
 const NO_REPLY: &str = "serving 8080\nconnections 1\nreplies 0\nhits 0\n";
 
-#[test]
-fn a_failing_connection_source_ends_the_run(rt: HostRuntime) -> Result<(), Fail> {
-    let no_listen = Failing {
-        nexts: &[1],
-        ..NONE
-    };
-    let counts = "connections 0\nreplies 0\nhits 0\n";
-    check_row(&rt, &run(SERVE, no_listen, 6, counts, SOURCE_FAILED))?;
-    let no_event = Failing {
-        nexts: &[2],
-        ..NONE
-    };
-    let counts = "serving 8080\nconnections 0\nreplies 0\nhits 0\n";
-    check_row(&rt, &run(SERVE, no_event, 6, counts, SOURCE_FAILED))?;
-    let no_third_event = Failing {
-        nexts: &[4],
-        ..NONE
-    };
-    let asked = Row {
-        script: events(ASKED_ONCE),
-        taken: &[Taken {
-            connection: 1,
-            bytes: YEAR_REPLY,
-            is_closed: true,
-        }],
-        ..run(SERVE, no_third_event, 6, ONE_REPLY, SOURCE_FAILED)
-    };
-    check_row(&rt, &asked)
-}
-
 const ASKED_TWICE: &str =
     "open 1 open 2 bytes 1 \"GET /YearPage/i1998.html HTTP/1.1\\r\\nHost: a\\r\\n\\r\\n\" bytes 2 \"GET \
         /YearPage/i1998.html HTTP/1.1\\r\\nHost: a\\r\\n\\r\\n\"";
-
-#[test]
-fn a_failed_send_takes_no_page_from_another(rt: HostRuntime) -> Result<(), Fail> {
-    let first_send = Failing {
-        sends: &[FailingSend {
-            connection: 1,
-            number: 1,
-            taken: 0,
-        }],
-        ..NONE
-    };
-    let taken = &[
-        Taken {
-            connection: 1,
-            bytes: "",
-            is_closed: false,
-        },
-        Taken {
-            connection: 2,
-            bytes: YEAR_REPLY,
-            is_closed: true,
-        },
-    ];
-    let counts = "serving 8080\nconnections 2\nreplies 2\nhits 1\n";
-    check_row(&rt, &served(events(ASKED_TWICE), first_send, counts, taken))
-}
 
 const REFUSED: &[Taken] = &[Taken {
     connection: 1,
@@ -354,75 +112,258 @@ const REFUSED: &[Taken] = &[Taken {
     is_closed: true,
 }];
 
-#[test]
-fn a_bad_request_has_one_reply(rt: HostRuntime) -> Result<(), Fail> {
-    let letters = Script {
-        head: "open 1 bytes 1 \"",
-        text: "A",
-        count: 16_384,
-        tail: "\"",
-    };
-    check_row(&rt, &served(letters, NONE, ONE_REPLY, REFUSED))?;
-    let lines = Script {
-        head: "open 1 bytes 1 \"GET / HTTP/1.1\\r\\nHost: a\\r\\n",
-        text: "X: y\\r\\n",
-        count: 64,
-        tail: "\\r\\n\" end 1",
-    };
-    check_row(&rt, &served(lines, NONE, ONE_REPLY, REFUSED))?;
-    let cut_off = events("open 1 bytes 1 \"GET / HT\" end 1");
-    check_row(&rt, &served(cut_off, NONE, ONE_REPLY, REFUSED))
-}
+const TURNS_SPENT: &str = "strudel: turns spent\n";
+
+const RUNS: &[Run] = &[
+    // A file or an output that fails ends the run.
+    Run {
+        words: PAGE,
+        failing_calls: &[2],
+        code: 4,
+        out: "",
+        err: "strudel: cannot read q.struql\n",
+        ..PLAIN
+    },
+    Run {
+        words: PAGE,
+        failing_puts: &[1],
+        code: 5,
+        out: "",
+        err: "strudel: cannot write\n",
+        ..PLAIN
+    },
+    Run {
+        words: NO_PAGE,
+        failing_lines: &[1],
+        code: 9,
+        out: "",
+        err: "",
+        ..PLAIN
+    },
+    // The three inputs are read before the sixth write.
+    Run {
+        words: BUILD,
+        failing_calls: &[9],
+        code: 5,
+        out: "",
+        err: "strudel: cannot write\n",
+        written: FIVE_PAGES,
+        ..PLAIN
+    },
+    // A source of connections that fails ends the run.
+    Run {
+        name: "no listen",
+        words: SERVE,
+        failing_nexts: &[1],
+        code: 6,
+        out: "connections 0\nreplies 0\nhits 0\n",
+        err: SOURCE_FAILED,
+        ..PLAIN
+    },
+    Run {
+        name: "no event",
+        words: SERVE,
+        failing_nexts: &[2],
+        code: 6,
+        out: "serving 8080\nconnections 0\nreplies 0\nhits 0\n",
+        err: SOURCE_FAILED,
+        ..PLAIN
+    },
+    Run {
+        name: "no third event",
+        words: SERVE,
+        script: &[Part {
+            text: ASKED_ONCE,
+            count: 1,
+        }],
+        failing_nexts: &[4],
+        code: 6,
+        out: ONE_REPLY,
+        err: SOURCE_FAILED,
+        taken: &[Taken {
+            connection: 1,
+            bytes: YEAR_REPLY,
+            is_closed: true,
+        }],
+        ..PLAIN
+    },
+    // A failed send takes no page from another.
+    Run {
+        name: "a failed send",
+        words: SERVE,
+        script: &[Part {
+            text: ASKED_TWICE,
+            count: 1,
+        }],
+        failing_sends: &[FailingSend {
+            connection: 1,
+            number: 1,
+            taken: 0,
+        }],
+        code: 0,
+        out: "serving 8080\nconnections 2\nreplies 2\nhits 1\n",
+        err: "",
+        taken: &[
+            Taken {
+                connection: 1,
+                bytes: "",
+                is_closed: false,
+            },
+            Taken {
+                connection: 2,
+                bytes: YEAR_REPLY,
+                is_closed: true,
+            },
+        ],
+        ..PLAIN
+    },
+    // A bad request has one reply.
+    Run {
+        name: "many letters",
+        words: SERVE,
+        script: &[
+            Part {
+                text: "open 1 bytes 1 \"",
+                count: 1,
+            },
+            Part {
+                text: "A",
+                count: 16_384,
+            },
+            Part {
+                text: "\"",
+                count: 1,
+            },
+        ],
+        code: 0,
+        out: ONE_REPLY,
+        err: "",
+        taken: REFUSED,
+        ..PLAIN
+    },
+    Run {
+        name: "many lines",
+        words: SERVE,
+        script: &[
+            Part {
+                text: "open 1 bytes 1 \"GET / HTTP/1.1\\r\\nHost: a\\r\\n",
+                count: 1,
+            },
+            Part {
+                text: "X: y\\r\\n",
+                count: 64,
+            },
+            Part {
+                text: "\\r\\n\" end 1",
+                count: 1,
+            },
+        ],
+        code: 0,
+        out: ONE_REPLY,
+        err: "",
+        taken: REFUSED,
+        ..PLAIN
+    },
+    Run {
+        name: "a request that is cut off",
+        words: SERVE,
+        script: &[Part {
+            text: "open 1 bytes 1 \"GET / HT\" end 1",
+            count: 1,
+        }],
+        code: 0,
+        out: ONE_REPLY,
+        err: "",
+        taken: REFUSED,
+        ..PLAIN
+    },
+    // An empty or lost connection has no reply.
+    Run {
+        name: "an empty connection",
+        words: SERVE,
+        script: &[Part {
+            text: "open 1 bytes 1 \"\\r\\n\\r\\n\" end 1",
+            count: 1,
+        }],
+        code: 0,
+        out: NO_REPLY,
+        err: "",
+        taken: &[Taken {
+            connection: 1,
+            bytes: "",
+            is_closed: true,
+        }],
+        ..PLAIN
+    },
+    Run {
+        name: "a lost connection",
+        words: SERVE,
+        script: &[Part {
+            text: "open 1 bytes 1 \"GET /YearPage/i1998.\" lost 1",
+            count: 1,
+        }],
+        code: 0,
+        out: NO_REPLY,
+        err: "",
+        taken: &[Taken {
+            connection: 1,
+            bytes: "",
+            is_closed: false,
+        }],
+        ..PLAIN
+    },
+    // A refused input has its place.
+    Run {
+        words: &["page", "q.struql", "deep.tmpl", "/", "bib.ddl"],
+        code: 3,
+        out: "",
+        err: "strudel: deep.tmpl: 84 TooDeep at 268\n",
+        ..PLAIN
+    },
+    Run {
+        words: &["data", "open.ddl"],
+        code: 3,
+        out: "",
+        err: "strudel: open.ddl: 31 Expected at 10\n",
+        ..PLAIN
+    },
+    Run {
+        words: &["data", "quote.ddl"],
+        code: 3,
+        out: "",
+        err: "strudel: quote.ddl: 22 OpenString at 13\n",
+        ..PLAIN
+    },
+    // Turns that are spent end the run.
+    Run {
+        words: &["serve", "--turns", "1", "q.struql", "t.tmpl", "bib.ddl"],
+        script: &[Part {
+            text: "open 1",
+            count: 1,
+        }],
+        code: 10,
+        out: NO_REPLY,
+        err: TURNS_SPENT,
+        ..PLAIN
+    },
+    Run {
+        words: &[
+            "replay",
+            "--turns",
+            "1",
+            "q.struql",
+            "t.tmpl",
+            "one.script",
+            "bib.ddl",
+        ],
+        code: 10,
+        out: "connection 1 0\n\nconnections 1\nreplies 0\nhits 0\n",
+        err: TURNS_SPENT,
+        ..PLAIN
+    },
+];
 
 #[test]
-fn an_empty_or_lost_connection_has_no_reply(rt: HostRuntime) -> Result<(), Fail> {
-    let empty = events("open 1 bytes 1 \"\\r\\n\\r\\n\" end 1");
-    let closed = &[Taken {
-        connection: 1,
-        bytes: "",
-        is_closed: true,
-    }];
-    check_row(&rt, &served(empty, NONE, NO_REPLY, closed))?;
-    let lost = events("open 1 bytes 1 \"GET /YearPage/i1998.\" lost 1");
-    let open = &[Taken {
-        connection: 1,
-        bytes: "",
-        is_closed: false,
-    }];
-    check_row(&rt, &served(lost, NONE, NO_REPLY, open))
-}
-
-#[test]
-fn a_refused_input_has_its_place(rt: HostRuntime) -> Result<(), Fail> {
-    let deep: &'static [&'static str] = &["page", "q.struql", "deep.tmpl", "/", "bib.ddl"];
-    let line = "strudel: deep.tmpl: 84 TooDeep at 268\n";
-    check_row(&rt, &run(deep, NONE, 3, "", line))?;
-    let line = "strudel: open.ddl: 31 Expected at 10\n";
-    check_row(&rt, &run(&["data", "open.ddl"], NONE, 3, "", line))?;
-    let line = "strudel: quote.ddl: 22 OpenString at 13\n";
-    check_row(&rt, &run(&["data", "quote.ddl"], NONE, 3, "", line))
-}
-
-#[test]
-fn spent_turns_end_the_run(rt: HostRuntime) -> Result<(), Fail> {
-    let line = "strudel: turns spent\n";
-    let words: &'static [&'static str] = &[
-        "serve", "--turns", "1", "q.struql", "t.tmpl", "bib.ddl",
-    ];
-    let served = Row {
-        script: events("open 1"),
-        ..run(words, NONE, 10, NO_REPLY, line)
-    };
-    check_row(&rt, &served)?;
-    let words: &'static [&'static str] = &[
-        "replay",
-        "--turns",
-        "1",
-        "q.struql",
-        "t.tmpl",
-        "one.script",
-        "bib.ddl",
-    ];
-    let counts = "connection 1 0\n\nconnections 1\nreplies 0\nhits 0\n";
-    check_row(&rt, &run(words, NONE, 10, counts, line))
+fn each_run_over_failing_devices_ends_as_its_row_says(rt: HostRuntime) -> Result<(), Fail> {
+    check_runs(&rt, FILES, RUNS)
 }

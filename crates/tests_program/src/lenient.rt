@@ -1,8 +1,5 @@
 // Runs over data that are read leniently, each beside the run that reads them strictly.
-use crate::inputs::{FileRow, files_of, no_connections, texts};
-use command_run::strudel;
-use edge_io::MemSink;
-use std::process::Abort;
+use crate::runs::{FileRow, PLAIN, Run, check_runs};
 use std::test::Fail;
 
 const FILES: &[FileRow] = &[
@@ -47,15 +44,6 @@ const FILES: &[FileRow] = &[
     },
 ];
 
-// The words of a run, its exit code, and what it puts on the output and the standard error.
-#[derive(Drop)]
-struct LenientRow {
-    words: &'static [&'static str],
-    code: u8,
-    out: &'static str,
-    err: &'static str,
-}
-
 const NOT_RECORDS: &str = "strudel: r.json: 46 NotRecords at #/home\n";
 
 const BAD_WORDS: &str = "strudel: bad command line\n";
@@ -65,200 +53,226 @@ const SHOWN: &str = "<a href=\"https://a.b/\">https://a.b/</a> 1.50";
 const PLANNED: &str =
     "block 1\n  use r(x) cost 1\n  use x -> \"home\" -> h cost 2\n  use x -> \"price\" -> p cost 2\n";
 
-const ROWS: &[LenientRow] = &[
-    LenientRow {
+const RUNS: &[Run] = &[
+    Run {
         words: &["data", "--lenient", "r.json"],
         code: 0,
         out: "object \"r_1\" in \"r\" {\n  \"home\" url \"https://a.b/\"\n  \"price\" \"1.50\"\n  \"size\" 3\n}\n",
         err: "",
+        ..PLAIN
     },
-    LenientRow {
+    Run {
         words: &["data", "r.json"],
         code: 3,
         out: "",
         err: NOT_RECORDS,
+        ..PLAIN
     },
     // Without the option the file is a data text by its ending.
-    LenientRow {
+    Run {
         words: &["data", "d/R.JSON", "--lenient"],
         code: 0,
         out: "object \"R_1\" in \"R\" {\n  \"size\" 3\n}\n",
         err: "",
+        ..PLAIN
     },
-    LenientRow {
+    Run {
         words: &["data", "d/R.JSON"],
         code: 3,
         out: "",
         err: "strudel: d/R.JSON: 21 BadByte at 7\n",
+        ..PLAIN
     },
-    LenientRow {
+    Run {
         words: &["data", "--lenient", "s.csv"],
         code: 0,
         out: "object \"s_1\" in \"s\" {\n  \"name\" \"Pen\"\n  \"price\" 1\n}\nobject \"s_2\" in \"s\" {\n  \
             \"name\" \"Ink\"\n}\n",
         err: "",
+        ..PLAIN
     },
-    LenientRow {
+    Run {
         words: &["data", "s.csv"],
         code: 0,
         out: "object \"s_1\" in \"s\" {\n  \"name;price\" \"Pen;1\"\n}\nobject \"s_2\" in \"s\" {\n  \
             \"name;price\" \"Ink\"\n}\n",
         err: "",
+        ..PLAIN
     },
     // A record longer than the header is refused in both ways, and a data text is read as ever.
-    LenientRow {
+    Run {
         words: &["data", "--lenient", "long.csv"],
         code: 3,
         out: "",
         err: "strudel: long.csv: 43 Ragged at row 1\n",
+        ..PLAIN
     },
-    LenientRow {
+    Run {
         words: &["data", "--lenient", "d.ddl"],
         code: 0,
         out: "object \"o\" in \"r\" {\n  \"home\" \"https://a.b/\"\n  \"price\" 2\n}\n",
         err: "",
+        ..PLAIN
     },
-];
-
-const COMMANDS: &[LenientRow] = &[
-    LenientRow {
+    // Each command that reads data.
+    Run {
         words: &["page", "--lenient", "q", "t", "/", "r.json"],
         code: 0,
         out: SHOWN,
         err: "",
+        ..PLAIN
     },
-    LenientRow {
+    Run {
         words: &["page", "q", "t", "/", "r.json"],
         code: 3,
         out: "",
         err: NOT_RECORDS,
+        ..PLAIN
     },
-    LenientRow {
+    Run {
         words: &["build", "q", "t", "site", "--lenient", "r.json"],
         code: 0,
         out: "pages 1\n",
         err: "",
+        ..PLAIN
     },
-    LenientRow {
+    Run {
         words: &["build", "q", "t", "site", "r.json"],
         code: 3,
         out: "",
         err: NOT_RECORDS,
+        ..PLAIN
     },
-    LenientRow {
+    Run {
         words: &["explain", "--lenient", "q", "r.json"],
         code: 0,
         out: PLANNED,
         err: "",
+        ..PLAIN
     },
-    LenientRow {
+    Run {
         words: &["explain", "q", "r.json"],
         code: 3,
         out: "",
         err: NOT_RECORDS,
+        ..PLAIN
     },
-    LenientRow {
+    Run {
         words: &["lint", "--lenient", "q", "t", "r.json"],
         code: 0,
         out: "",
         err: "",
+        ..PLAIN
     },
-    LenientRow {
+    Run {
         words: &["lint", "q", "t", "r.json"],
         code: 3,
         out: "",
         err: NOT_RECORDS,
+        ..PLAIN
     },
-    LenientRow {
+    Run {
         words: &["check", "--here", "--lenient", "q", "c", "r.json"],
         code: 0,
         out: "1 met\n",
         err: "",
+        ..PLAIN
     },
-    LenientRow {
+    Run {
         words: &["check", "--here", "q", "c", "r.json"],
         code: 3,
         out: "",
         err: NOT_RECORDS,
+        ..PLAIN
     },
-    LenientRow {
+    Run {
         words: &["replay", "--lenient", "q", "t", "script", "r.json"],
         code: 0,
         out: "connections 0\nreplies 0\nhits 0\n",
         err: "",
+        ..PLAIN
     },
-    LenientRow {
+    Run {
         words: &["replay", "q", "t", "script", "r.json"],
         code: 3,
         out: "",
         err: NOT_RECORDS,
+        ..PLAIN
     },
-    LenientRow {
+    Run {
         words: &["serve", "--lenient", "q", "t", "r.json"],
         code: 0,
         out: "serving 8080\nconnections 0\nreplies 0\nhits 0\n",
         err: "",
+        ..PLAIN
     },
-    LenientRow {
+    Run {
         words: &["serve", "q", "t", "r.json"],
         code: 3,
         out: "",
         err: NOT_RECORDS,
+        ..PLAIN
+    },
+    // The option stands once, and where data are read.
+    Run {
+        words: &["data", "--lenient", "--lenient", "r.json"],
+        code: 2,
+        out: "",
+        err: BAD_WORDS,
+        ..PLAIN
+    },
+    Run {
+        words: &["data", "--lenient=1", "r.json"],
+        code: 2,
+        out: "",
+        err: BAD_WORDS,
+        ..PLAIN
+    },
+    Run {
+        words: &["data", "--lenient"],
+        code: 2,
+        out: "",
+        err: BAD_WORDS,
+        ..PLAIN
+    },
+    Run {
+        words: &["schema", "--lenient", "q"],
+        code: 2,
+        out: "",
+        err: BAD_WORDS,
+        ..PLAIN
+    },
+    Run {
+        words: &["check", "--lenient", "q", "c"],
+        code: 2,
+        out: "",
+        err: BAD_WORDS,
+        ..PLAIN
+    },
+    Run {
+        words: &["trial", "--lenient", "5"],
+        code: 2,
+        out: "",
+        err: BAD_WORDS,
+        ..PLAIN
+    },
+    Run {
+        words: &["help", "--lenient"],
+        code: 2,
+        out: "",
+        err: BAD_WORDS,
+        ..PLAIN
+    },
+    Run {
+        words: &["--lenient", "data", "r.json"],
+        code: 2,
+        out: "",
+        err: BAD_WORDS,
+        ..PLAIN
     },
 ];
 
-// The option stands once, and where data are read.
-const UNKNOWN: &[&[&str]] = &[
-    &["data", "--lenient", "--lenient", "r.json"],
-    &["data", "--lenient=1", "r.json"],
-    &["data", "--lenient"],
-    &["schema", "--lenient", "q"],
-    &["check", "--lenient", "q", "c"],
-    &["trial", "--lenient", "5"],
-    &["help", "--lenient"],
-    &["--lenient", "data", "r.json"],
-];
-
-fn check_lenient<R: AllocGlobal + Abort>(rt: &R, row: &LenientRow) -> Result<(), Fail> {
-    let alloc = rt.alloc();
-    let words = texts(alloc, row.words)?;
-    let mut files = files_of(alloc, FILES, &[])?;
-    let mut out = MemSink::new(alloc, Vec::new(alloc));
-    let mut err = MemSink::new(alloc, Vec::new(alloc));
-    let mut wire = no_connections(alloc)?;
-    let status = strudel(alloc, &words, &mut files, &mut out, &mut err, &mut wire);
-    assert_eq!(rt; status.code(), row.code, "{:?}", row.words);
-    assert_eq!(rt; out.bytes(), row.out.as_bytes());
-    assert_eq!(rt; err.bytes(), row.err.as_bytes());
-    Ok(())
-}
-
 #[test]
-fn data_are_read_leniently(rt: HostRuntime) -> Result<(), Fail> {
-    for row in ROWS {
-        check_lenient(&rt, row)?;
-    }
-    Ok(())
-}
-
-#[test]
-fn each_command_reads_its_data_leniently(rt: HostRuntime) -> Result<(), Fail> {
-    for row in COMMANDS {
-        check_lenient(&rt, row)?;
-    }
-    Ok(())
-}
-
-#[test]
-fn the_option_stands_once_and_where_data_are_read(rt: HostRuntime) -> Result<(), Fail> {
-    for words in UNKNOWN {
-        let row = LenientRow {
-            words: *words,
-            code: 2,
-            out: "",
-            err: BAD_WORDS,
-        };
-        check_lenient(&rt, &row)?;
-    }
-    Ok(())
+fn each_run_over_lenient_data_ends_as_its_row_says(rt: HostRuntime) -> Result<(), Fail> {
+    check_runs(&rt, FILES, RUNS)
 }

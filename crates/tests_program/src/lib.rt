@@ -10,8 +10,6 @@ mod composed;
 #[cfg(test)]
 mod devices;
 #[cfg(test)]
-mod inputs;
-#[cfg(test)]
 mod large;
 #[cfg(test)]
 mod lenient;
@@ -21,6 +19,8 @@ mod lints;
 mod pages;
 #[cfg(test)]
 mod refusing;
+#[cfg(test)]
+mod runs;
 #[cfg(test)]
 mod site;
 #[cfg(test)]

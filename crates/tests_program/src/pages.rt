@@ -1,11 +1,6 @@
 // Pages and refusals of the command `page`, over files and outputs in memory.
-use crate::inputs::{BIB, file, no_connections, texts};
-use crate::site::{LOOKS, SITE, YEAR};
-use command_run::strudel;
-use edge_io::{MemFiles, MemSink};
-use sd_value::NoMemory;
-use std::alloc::Global;
-use std::process::Abort;
+use crate::runs::{FileRow, PLAIN, Run, check_run};
+use crate::site::{BIB, LOOKS, SITE, YEAR};
 use std::test::Fail;
 
 // The files `d`, `q` and `t`, the address of the page, the exit code, and the output and the standard error.
@@ -277,9 +272,7 @@ const PAGES: &[PageRow] = &[
         out: "",
         err: NOT_FOUND,
     },
-];
-
-const REFUSALS: &[PageRow] = &[
+    // The first fault of inputs that are refused.
     PageRow {
         data_text: "$",
         query: SITE,
@@ -483,40 +476,32 @@ const REFUSALS: &[PageRow] = &[
     },
 ];
 
-fn files(alloc: Global, row: &PageRow) -> Result<MemFiles, NoMemory> {
-    let mut files = Vec::new(alloc);
-    files.push(file(alloc, "d", row.data_text)?)?;
-    files.push(file(alloc, "q", row.query)?)?;
-    files.push(file(alloc, "t", row.templates)?)?;
-    Ok(MemFiles::new(alloc, files, Vec::new(alloc)))
-}
-
-fn check_page<R: AllocGlobal + Abort>(rt: &R, row: &PageRow) -> Result<(), Fail> {
-    let alloc = rt.alloc();
-    let words = texts(alloc, &["page", "q", "t", row.address, "d"])?;
-    let mut files = files(alloc, row)?;
-    let mut out = MemSink::new(alloc, Vec::new(alloc));
-    let mut err = MemSink::new(alloc, Vec::new(alloc));
-    let mut wire = no_connections(alloc)?;
-    let status = strudel(alloc, &words, &mut files, &mut out, &mut err, &mut wire);
-    assert_eq!(rt; status.code(), row.code, "{}", row.address);
-    assert_eq!(rt; out.bytes(), row.out.as_bytes());
-    assert_eq!(rt; err.bytes(), row.err.as_bytes());
-    Ok(())
-}
-
 #[test]
-fn pages_are_as_the_site_has_them(rt: HostRuntime) -> Result<(), Fail> {
+fn each_page_is_as_its_row_says(rt: HostRuntime) -> Result<(), Fail> {
     for row in PAGES {
-        check_page(&rt, row)?;
-    }
-    Ok(())
-}
-
-#[test]
-fn the_first_fault_is_reported(rt: HostRuntime) -> Result<(), Fail> {
-    for row in REFUSALS {
-        check_page(&rt, row)?;
+        let files = [
+            FileRow {
+                path: "d",
+                text: row.data_text,
+            },
+            FileRow {
+                path: "q",
+                text: row.query,
+            },
+            FileRow {
+                path: "t",
+                text: row.templates,
+            },
+        ];
+        let run = Run {
+            name: row.query,
+            words: &["page", "q", "t", row.address, "d"],
+            code: row.code,
+            out: row.out,
+            err: row.err,
+            ..PLAIN
+        };
+        check_run(&rt, &files, &run)?;
     }
     Ok(())
 }

@@ -1,10 +1,8 @@
 // Files for which the program is out of memory.
-use crate::inputs::{no_connections, texts};
-use command_run::strudel;
-use edge_io::{Failed, Files, MemSink, ReadEnd};
+use crate::runs::{PLAIN, Run, check_over};
+use edge_io::{Failed, Files, ReadEnd};
 use sd_value::Str;
 use std::alloc::Global;
-use std::process::Abort;
 use std::test::Fail;
 
 /// Files of which each read is refused its memory, and each write is taken and forgotten.
@@ -37,37 +35,86 @@ impl Files for Refusing {
     }
 }
 
-// Each command that reads files.
-const COMMANDS: &[&[&str]] = &[
-    &["page", "q", "t", "/", "d"],
-    &["build", "q", "t", "DIR", "d"],
-    &["serve", "q", "t", "d"],
-    &["replay", "q", "t", "s", "d"],
-    &["data", "d"],
-    &["explain", "q", "d"],
-    &["schema", "q"],
-    &["check", "q", "c"],
-    &["check", "--here", "q", "c", "d"],
-    &["lint", "q", "t", "d"],
-];
+const OUT_OF_MEMORY: &str = "strudel: out of memory\n";
 
-fn check_refused<R: AllocGlobal + Abort>(rt: &R, words: &[&str]) -> Result<(), Fail> {
-    let alloc = rt.alloc();
-    let texts = texts(alloc, words)?;
-    let mut out = MemSink::new(alloc, Vec::new(alloc));
-    let mut err = MemSink::new(alloc, Vec::new(alloc));
-    let mut wire = no_connections(alloc)?;
-    let status = strudel(alloc, &texts, &mut Refusing, &mut out, &mut err, &mut wire);
-    assert_eq!(rt; status.code(), 8, "{words:?}");
-    assert!(rt; out.bytes().is_empty());
-    assert_eq!(rt; err.bytes(), "strudel: out of memory\n".as_bytes());
-    Ok(())
-}
+// Each command that reads files.
+const RUNS: &[Run] = &[
+    Run {
+        words: &["page", "q", "t", "/", "d"],
+        code: 8,
+        out: "",
+        err: OUT_OF_MEMORY,
+        ..PLAIN
+    },
+    Run {
+        words: &["build", "q", "t", "DIR", "d"],
+        code: 8,
+        out: "",
+        err: OUT_OF_MEMORY,
+        ..PLAIN
+    },
+    Run {
+        words: &["serve", "q", "t", "d"],
+        code: 8,
+        out: "",
+        err: OUT_OF_MEMORY,
+        ..PLAIN
+    },
+    Run {
+        words: &["replay", "q", "t", "s", "d"],
+        code: 8,
+        out: "",
+        err: OUT_OF_MEMORY,
+        ..PLAIN
+    },
+    Run {
+        words: &["data", "d"],
+        code: 8,
+        out: "",
+        err: OUT_OF_MEMORY,
+        ..PLAIN
+    },
+    Run {
+        words: &["explain", "q", "d"],
+        code: 8,
+        out: "",
+        err: OUT_OF_MEMORY,
+        ..PLAIN
+    },
+    Run {
+        words: &["schema", "q"],
+        code: 8,
+        out: "",
+        err: OUT_OF_MEMORY,
+        ..PLAIN
+    },
+    Run {
+        words: &["check", "q", "c"],
+        code: 8,
+        out: "",
+        err: OUT_OF_MEMORY,
+        ..PLAIN
+    },
+    Run {
+        words: &["check", "--here", "q", "c", "d"],
+        code: 8,
+        out: "",
+        err: OUT_OF_MEMORY,
+        ..PLAIN
+    },
+    Run {
+        words: &["lint", "q", "t", "d"],
+        code: 8,
+        out: "",
+        err: OUT_OF_MEMORY,
+        ..PLAIN
+    },
+];
 
 #[test]
 fn refused_memory_is_reported(rt: HostRuntime) -> Result<(), Fail> {
-    for words in COMMANDS {
-        check_refused(&rt, words)?;
+    for run in RUNS {
+        check_over(&rt, run, &mut Refusing)?;
     }
     Ok(())
 }

@@ -1,5 +1,10 @@
 // The worked site of the bibliography.
 
+/// Its data, of two papers.
+pub const BIB: &str =
+    "object pub1 in Publications { title \"Strudel\" year 1998 author \"Mary\" author \"Dan\" }\nobject \
+        pub2 in Publications { title \"Lorel <1>\" year 1997 author \"Dan\" }\n";
+
 /// Its query.
 pub const SITE: &str =
     "INPUT Bib\n{ CREATE RootPage() }\n{ WHERE Publications(x), x -> l -> v\n  CREATE PaperPage(x)\n  LINK \

@@ -1,23 +1,7 @@
 // Runs of each command beside their status, their output and their line.
-use crate::inputs::{BIB, FileRow, files_of, no_connections, texts};
-use command_run::strudel;
-use edge_io::{MemFiles, MemSink};
-use sd_value::Str;
-use std::alloc::Global;
-use std::process::Abort;
+use crate::runs::{FileRow, PLAIN, Run, Written, check_runs};
+use crate::site::BIB;
 use std::test::Fail;
-
-// The words of a run, the calls of its files and of its output that fail, its exit code, and what it puts on the output
-// and the standard error.
-#[derive(Drop)]
-struct Row {
-    words: &'static [&'static str],
-    failing_calls: &'static [u64],
-    failing_puts: &'static [u64],
-    code: u8,
-    out: &'static str,
-    err: &'static str,
-}
 
 const A: &str = "object a in C { n 1 }";
 
@@ -36,18 +20,6 @@ const BIBTEX: &str =
     "@string{s = \"ACM\"}\n@article{k1, author = {Dan and {Mary and Co}}, title = \"A {B}\" # s, year = 1998, month = jan,}";
 
 const JSON: &str = "{\"P\": [{\"a\": [1, null, {\"b\": true}]}]}";
-
-// A run in which no call fails.
-fn expects(words: &'static [&'static str], code: u8, out: &'static str, err: &'static str) -> Row {
-    Row {
-        words,
-        failing_calls: &[],
-        failing_puts: &[],
-        code,
-        out,
-        err,
-    }
-}
 
 // The files of the runs below, of each format.
 const FILES: &[FileRow] = &[
@@ -110,118 +82,254 @@ const FILES: &[FileRow] = &[
     },
 ];
 
-fn check_row<R: AllocGlobal + Abort>(rt: &R, row: &Row) -> Result<(), Fail> {
-    let alloc = rt.alloc();
-    let words = texts(alloc, row.words)?;
-    let mut files = files_of(alloc, FILES, row.failing_calls)?;
-    let mut out = MemSink::new(alloc, row.failing_puts.to_vec(alloc)?);
-    let mut err = MemSink::new(alloc, Vec::new(alloc));
-    let mut wire = no_connections(alloc)?;
-    let status = strudel(alloc, &words, &mut files, &mut out, &mut err, &mut wire);
-    assert_eq!(rt; status.code(), row.code, "{:?}", row.words);
-    assert_eq!(rt; out.bytes(), row.out.as_bytes());
-    assert_eq!(rt; err.bytes(), row.err.as_bytes());
-    Ok(())
-}
+const RECORD_OF_CSV: &str =
+    "object \"bib_1\" in \"bib\" {\n  \"title\" \"Two\\nlines\"\n  \"year\" 1999\n}\n";
 
-#[test]
-fn data_is_printed(rt: HostRuntime) -> Result<(), Fail> {
-    let text = "object \"a\" in \"C\" {\n  \"n\" 1\n}\n";
-    check_row(&rt, &expects(&["data", "a"], 0, text, ""))?;
-    check_row(&rt, &expects(&["data", "--", "a", "a"], 0, text, ""))
-}
+const RECORD_OF_JSON: &str =
+    "object \"p_P_1\" in \"P\" {\n  \"a\" 1\n  \"a\" &\"p_P_1_a_3\"\n}\nobject \"p_P_1_a_3\" {\n  \"b\" \"true\"\n}\n";
 
-#[test]
-fn other_formats_are_read(rt: HostRuntime) -> Result<(), Fail> {
-    let bib = "object \"bib_1\" in \"bib\" {\n  \"title\" \"Two\\nlines\"\n  \"year\" 1999\n}\n";
-    check_row(&rt, &expects(&["data", "d/bib.csv"], 0, bib, ""))?;
-    let p =
-        "object \"p_P_1\" in \"P\" {\n  \"a\" 1\n  \"a\" &\"p_P_1_a_3\"\n}\nobject \"p_P_1_a_3\" {\n  \"b\" \"true\"\n}\n";
-    check_row(&rt, &expects(&["data", "p.json"], 0, p, ""))?;
-    let both =
-        "object \"a\" in \"C\" {\n  \"n\" 1\n}\nobject \"bib_1\" in \"bib\" {\n  \"title\" \"Two\\nlines\"\n  \"year\" 1999\n}\n";
-    check_row(&rt, &expects(&["data", "d/bib.csv", "a"], 0, both, ""))?;
-    let b =
-        "object \"k1\" in \"article\", \"b\" {\n  \"author\" \"Dan\"\n  \"author\" \"{Mary and Co}\"\n  \
-            \"month\" \"jan\"\n  \"title\" \"A {B}ACM\"\n  \"year\" 1998\n}\n";
-    check_row(&rt, &expects(&["data", "b.bib"], 0, b, ""))
-}
+const TWO_FORMATS: &str =
+    "object \"a\" in \"C\" {\n  \"n\" 1\n}\nobject \"bib_1\" in \"bib\" {\n  \"title\" \"Two\\nlines\"\n  \"year\" 1999\n}\n";
 
-#[test]
-fn other_formats_are_refused(rt: HostRuntime) -> Result<(), Fail> {
-    let label = "strudel: c.csv: 42 EmptyLabel at column 1\n";
-    check_row(&rt, &expects(&["data", "c.csv"], 3, "", label))?;
-    let ragged = "strudel: ragged.csv: 43 Ragged at row 2\n";
-    check_row(&rt, &expects(&["data", "a", "ragged.csv"], 3, "", ragged))?;
-    let x = "strudel: x.json: 44 NotJson at 0\n";
-    check_row(&rt, &expects(&["data", "x.json"], 3, "", x))?;
-    let one = "strudel: one.json: 46 NotRecords at #/0\n";
-    check_row(&rt, &expects(&["data", "one.json"], 3, "", one))?;
-    let price = "strudel: price.json: 45 NotInteger at #/0/price\n";
-    check_row(&rt, &expects(&["data", "price.json"], 3, "", price))?;
-    let unknown = "strudel: x.bib: 122 UnknownMacro at 16\n";
-    check_row(&rt, &expects(&["data", "x.bib"], 3, "", unknown))?;
-    let cut = "strudel: cut.bib: 121 Expected at 7\n";
-    check_row(&rt, &expects(&["data", "cut.bib"], 3, "", cut))
-}
+const ENTRY: &str =
+    "object \"k1\" in \"article\", \"b\" {\n  \"author\" \"Dan\"\n  \"author\" \"{Mary and Co}\"\n  \
+        \"month\" \"jan\"\n  \"title\" \"A {B}ACM\"\n  \"year\" 1998\n}\n";
 
-#[test]
-fn wrong_words_are_refused(rt: HostRuntime) -> Result<(), Fail> {
-    let line = "strudel: bad command line\n";
-    check_row(&rt, &expects(&[], 2, "", line))?;
-    check_row(&rt, &expects(&["frob"], 2, "", line))?;
-    check_row(&rt, &expects(&["data", "-x"], 2, "", line))?;
-    check_row(&rt, &expects(&["--help"], 2, "", line))?;
-    check_row(&rt, &expects(&["help", "frob"], 2, "", line))?;
-    check_row(&rt, &expects(&["version", "x"], 2, "", line))
-}
+const PRINTED: &str = "object \"a\" in \"C\" {\n  \"n\" 1\n}\n";
 
-#[test]
-fn inputs_are_refused(rt: HostRuntime) -> Result<(), Fail> {
-    check_row(
-        &rt,
-        &expects(
-            &["data", "a", "open"],
-            3,
-            "",
-            "strudel: open: 31 Expected at 10\n",
-        ),
-    )?;
-    check_row(
-        &rt,
-        &expects(
-            &["data", "conflict"],
-            3,
-            "",
-            "strudel: conflict: 32 KindConflict at 68\n",
-        ),
-    )?;
-    check_row(
-        &rt,
-        &expects(&["data", "none"], 4, "", "strudel: cannot read none\n"),
-    )
-}
+const BAD_WORDS: &str = "strudel: bad command line\n";
 
-#[test]
-fn failing_files_and_outputs_are_reported(rt: HostRuntime) -> Result<(), Fail> {
-    let page: &'static [&'static str] = &["page", "q", "t", "/", "a"];
-    check_row(&rt, &expects(page, 0, "ok", ""))?;
-    let unread_query = Row {
+const NOT_WRITTEN: &str = "strudel: cannot write\n";
+
+const PAGE: &[&str] = &["page", "q", "t", "/", "a"];
+
+const USAGE: &str =
+    "usage: strudel version\n\nPrints the version of the program and of the kit that proved it.\n";
+
+const VERSIONS: &str = "strudel 0.1.0\nrattle-kit-13f logic dac8208d650f15bf\n";
+
+const RUNS: &[Run] = &[
+    // Data are printed.
+    Run {
+        words: &["data", "a"],
+        code: 0,
+        out: PRINTED,
+        err: "",
+        ..PLAIN
+    },
+    Run {
+        words: &["data", "--", "a", "a"],
+        code: 0,
+        out: PRINTED,
+        err: "",
+        ..PLAIN
+    },
+    // Other formats are read, and refused.
+    Run {
+        words: &["data", "d/bib.csv"],
+        code: 0,
+        out: RECORD_OF_CSV,
+        err: "",
+        ..PLAIN
+    },
+    Run {
+        words: &["data", "p.json"],
+        code: 0,
+        out: RECORD_OF_JSON,
+        err: "",
+        ..PLAIN
+    },
+    Run {
+        words: &["data", "d/bib.csv", "a"],
+        code: 0,
+        out: TWO_FORMATS,
+        err: "",
+        ..PLAIN
+    },
+    Run {
+        words: &["data", "b.bib"],
+        code: 0,
+        out: ENTRY,
+        err: "",
+        ..PLAIN
+    },
+    Run {
+        words: &["data", "c.csv"],
+        code: 3,
+        out: "",
+        err: "strudel: c.csv: 42 EmptyLabel at column 1\n",
+        ..PLAIN
+    },
+    Run {
+        words: &["data", "a", "ragged.csv"],
+        code: 3,
+        out: "",
+        err: "strudel: ragged.csv: 43 Ragged at row 2\n",
+        ..PLAIN
+    },
+    Run {
+        words: &["data", "x.json"],
+        code: 3,
+        out: "",
+        err: "strudel: x.json: 44 NotJson at 0\n",
+        ..PLAIN
+    },
+    Run {
+        words: &["data", "one.json"],
+        code: 3,
+        out: "",
+        err: "strudel: one.json: 46 NotRecords at #/0\n",
+        ..PLAIN
+    },
+    Run {
+        words: &["data", "price.json"],
+        code: 3,
+        out: "",
+        err: "strudel: price.json: 45 NotInteger at #/0/price\n",
+        ..PLAIN
+    },
+    Run {
+        words: &["data", "x.bib"],
+        code: 3,
+        out: "",
+        err: "strudel: x.bib: 122 UnknownMacro at 16\n",
+        ..PLAIN
+    },
+    Run {
+        words: &["data", "cut.bib"],
+        code: 3,
+        out: "",
+        err: "strudel: cut.bib: 121 Expected at 7\n",
+        ..PLAIN
+    },
+    // Wrong words are refused.
+    Run {
+        words: &[],
+        code: 2,
+        out: "",
+        err: BAD_WORDS,
+        ..PLAIN
+    },
+    Run {
+        words: &["frob"],
+        code: 2,
+        out: "",
+        err: BAD_WORDS,
+        ..PLAIN
+    },
+    Run {
+        words: &["data", "-x"],
+        code: 2,
+        out: "",
+        err: BAD_WORDS,
+        ..PLAIN
+    },
+    Run {
+        words: &["--help"],
+        code: 2,
+        out: "",
+        err: BAD_WORDS,
+        ..PLAIN
+    },
+    Run {
+        words: &["help", "frob"],
+        code: 2,
+        out: "",
+        err: BAD_WORDS,
+        ..PLAIN
+    },
+    Run {
+        words: &["version", "x"],
+        code: 2,
+        out: "",
+        err: BAD_WORDS,
+        ..PLAIN
+    },
+    // Inputs are refused.
+    Run {
+        words: &["data", "a", "open"],
+        code: 3,
+        out: "",
+        err: "strudel: open: 31 Expected at 10\n",
+        ..PLAIN
+    },
+    Run {
+        words: &["data", "conflict"],
+        code: 3,
+        out: "",
+        err: "strudel: conflict: 32 KindConflict at 68\n",
+        ..PLAIN
+    },
+    Run {
+        words: &["data", "none"],
+        code: 4,
+        out: "",
+        err: "strudel: cannot read none\n",
+        ..PLAIN
+    },
+    // A file or an output that fails is reported.
+    Run {
+        words: PAGE,
+        code: 0,
+        out: "ok",
+        err: "",
+        ..PLAIN
+    },
+    Run {
+        words: PAGE,
         failing_calls: &[2],
-        ..expects(page, 4, "", "strudel: cannot read q\n")
-    };
-    check_row(&rt, &unread_query)?;
-    let unread = Row {
+        code: 4,
+        out: "",
+        err: "strudel: cannot read q\n",
+        ..PLAIN
+    },
+    Run {
+        words: &["data", "a", "a"],
         failing_calls: &[2],
-        ..expects(&["data", "a", "a"], 4, "", "strudel: cannot read a\n")
-    };
-    check_row(&rt, &unread)?;
-    let unwritten = Row {
+        code: 4,
+        out: "",
+        err: "strudel: cannot read a\n",
+        ..PLAIN
+    },
+    Run {
+        words: &["data", "a"],
         failing_puts: &[1],
-        ..expects(&["data", "a"], 5, "", "strudel: cannot write\n")
-    };
-    check_row(&rt, &unwritten)
+        code: 5,
+        out: "",
+        err: NOT_WRITTEN,
+        ..PLAIN
+    },
+    // Help and version are printed.
+    Run {
+        words: &["help", "version"],
+        code: 0,
+        out: USAGE,
+        err: "",
+        ..PLAIN
+    },
+    Run {
+        words: &["version"],
+        code: 0,
+        out: VERSIONS,
+        err: "",
+        ..PLAIN
+    },
+    Run {
+        words: &["version"],
+        failing_puts: &[1],
+        code: 5,
+        out: "",
+        err: NOT_WRITTEN,
+        ..PLAIN
+    },
+];
+
+#[test]
+fn each_command_ends_as_its_row_says(rt: HostRuntime) -> Result<(), Fail> {
+    check_runs(&rt, FILES, RUNS)
 }
+
+// ---- over the files of whole sites
 
 const DATED: &str =
     "INPUT Bib { CREATE RootPage() } { WHERE Publications(x), x -> l -> v CREATE PaperPage(x) LINK \
@@ -269,39 +377,6 @@ const SITE_FILES: &[FileRow] = &[
     },
 ];
 
-// A path, and the text that is there after a run, or none.
-struct Written {
-    path: &'static str,
-    text: Option<&'static str>,
-}
-
-fn check_written<R: AllocGlobal + Abort>(
-    rt: &R,
-    files: &MemFiles,
-    written: &[Written],
-) -> Result<(), Fail> {
-    for row in written {
-        let path = Str::new(rt.alloc(), row.path.as_bytes())?;
-        assert!(rt; files.bytes(&path) == row.text.map(|text| text.as_bytes()));
-    }
-    Ok(())
-}
-
-// Runs over the files of whole sites, and compares the status, the output, and what is at some paths.
-fn check_build<R: AllocGlobal + Abort>(rt: &R, row: &Row, written: &[Written]) -> Result<(), Fail> {
-    let alloc = rt.alloc();
-    let words = texts(alloc, row.words)?;
-    let mut files = files_of(alloc, SITE_FILES, row.failing_calls)?;
-    let mut out = MemSink::new(alloc, Vec::new(alloc));
-    let mut err = MemSink::new(alloc, Vec::new(alloc));
-    let mut wire = no_connections(alloc)?;
-    let status = strudel(alloc, &words, &mut files, &mut out, &mut err, &mut wire);
-    assert_eq!(rt; status.code(), row.code, "{:?}", row.words);
-    assert_eq!(rt; out.bytes(), row.out.as_bytes());
-    assert!(rt; err.bytes().ends_with(row.err.as_bytes()));
-    check_written(rt, &files, written)
-}
-
 const BUILD: &[&str] = &["build", "q", "t", "out", "bib"];
 
 const PAPER: Option<&str> = Some("<h1>Strudel</h1>");
@@ -333,23 +408,6 @@ const WHOLE_SITE: &[Written] = &[
     },
 ];
 
-#[test]
-fn sites_are_built(rt: HostRuntime) -> Result<(), Fail> {
-    check_build(&rt, &expects(BUILD, 0, "pages 5\n", ""), WHOLE_SITE)
-}
-
-fn check_failing_build<R: AllocGlobal + Abort>(
-    rt: &R,
-    failing_calls: &'static [u64],
-    written: &[Written],
-) -> Result<(), Fail> {
-    let row = Row {
-        failing_calls,
-        ..expects(BUILD, 5, "", "strudel: cannot write\n")
-    };
-    check_build(rt, &row, written)
-}
-
 const FIRST_PAGE: &[Written] = &[
     Written {
         path: "out/PaperPage/npub1.html",
@@ -376,37 +434,9 @@ const ALL_BUT_THE_INDEX: &[Written] = &[
     },
 ];
 
-// The fifth call writes the second page, and the ninth the index.
-#[test]
-fn a_build_ends_at_the_first_write_that_fails(rt: HostRuntime) -> Result<(), Fail> {
-    check_failing_build(&rt, &[5], FIRST_PAGE)?;
-    check_failing_build(&rt, &[9], ALL_BUT_THE_INDEX)
-}
-
 const PLANS: &str =
     "block 1\nblock 2\n  use Publications(x) cost 2\n  use x -> l -> v cost 4\nblock 2.1\n  use l = \
         \"year\" cost 1\n  use Publications(x) cost 2\n  use x -> l -> v cost 4\n";
-
-#[test]
-fn plans_are_printed(rt: HostRuntime) -> Result<(), Fail> {
-    check_build(&rt, &expects(&["explain", "q", "bib"], 0, PLANS, ""), &[])?;
-    let unread = "strudel: cannot read none\n";
-    check_build(
-        &rt,
-        &expects(&["explain", "none", "bib"], 4, "", unread),
-        &[],
-    )?;
-    check_build(
-        &rt,
-        &expects(
-            &["explain", "bib", "bib"],
-            3,
-            "",
-            "strudel: bib: 71 Expected at 0\n",
-        ),
-        &[],
-    )
-}
 
 const SCHEMA: &str = "\
 other\n\
@@ -432,56 +462,6 @@ digraph site {\n\
 \x20 \"YearPage/1\" -> \"PaperPage/1\" [label=\"4: \\\"Paper\\\"\\nPublications(x)\\nx -> l -> v\\nl = \\\"year\\\"\"]\n\
 }\n";
 
-#[test]
-fn schemas_are_printed(rt: HostRuntime) -> Result<(), Fail> {
-    check_build(&rt, &expects(&["schema", "q"], 0, SCHEMA, ""), &[])?;
-    check_build(
-        &rt,
-        &expects(&["schema", "--dot", "q"], 0, PICTURE, ""),
-        &[],
-    )?;
-    let unread = "strudel: cannot read none\n";
-    check_build(&rt, &expects(&["schema", "none"], 4, "", unread), &[])?;
-    let refused = "strudel: bib: 71 Expected at 0\n";
-    check_build(&rt, &expects(&["schema", "bib"], 3, "", refused), &[])
-}
-
-#[test]
-fn connections_are_served(rt: HostRuntime) -> Result<(), Fail> {
-    let served = "serving 8080\nconnections 0\nreplies 0\nhits 0\n";
-    check_build(
-        &rt,
-        &expects(&["serve", "q", "t", "bib"], 0, served, ""),
-        &[],
-    )?;
-    let replayed = "connection 1 0\n\nconnections 1\nreplies 0\nhits 0\n";
-    check_build(
-        &rt,
-        &expects(&["replay", "q", "t", "s", "bib"], 0, replayed, ""),
-        &[],
-    )
-}
-
-#[test]
-fn a_trial_is_run(rt: HostRuntime) -> Result<(), Fail> {
-    let text = "entries 1\nrequests 64\nok 6\nmissing 58\nbytes 304\nhits 3\n";
-    check_build(&rt, &expects(&["trial", "1"], 0, text, ""), &[])
-}
-
-#[test]
-fn help_and_version_are_printed(rt: HostRuntime) -> Result<(), Fail> {
-    let usage =
-        "usage: strudel version\n\nPrints the version of the program and of the kit that proved it.\n";
-    check_row(&rt, &expects(&["help", "version"], 0, usage, ""))?;
-    let versions = "strudel 0.1.0\nrattle-kit-13f logic dac8208d650f15bf\n";
-    check_row(&rt, &expects(&["version"], 0, versions, ""))?;
-    let unwritten = Row {
-        failing_puts: &[1],
-        ..expects(&["version"], 5, "", "strudel: cannot write\n")
-    };
-    check_row(&rt, &unwritten)
-}
-
 const FIRST_NAME: &[Written] = &[
     Written {
         path: "out/F/i1.html",
@@ -493,16 +473,125 @@ const FIRST_NAME: &[Written] = &[
     },
 ];
 
+// Each of the 100 dots is three bytes of the name.
+const TOO_LONG: &str =
+    "strudel: page /F/t~2E~2E~2E~2E~2E~2E~2E~2E~2E~2E~2E~2E~2E~2E~2E~2E~2E~2E~2E~2E~2E~2E~2E~2E~2E~2E~2E~2E~2E~2E~2E~2E~2E~2E~2E~2E~2E~2E~2E~2E~2E~2E~2E~2E~2E~2E~2E~2E~2E~2E~2E~2E~2E~2E~2E~2E~2E~2E~2E~2E~2E~2E~2E~2E~2E~2E~2E~2E~2E~2E~2E~2E~2E~2E~2E~2E~2E~2E~2E~2E~2E~2E~2E~2E~2E~2E~2E~2E~2E~2E~2E~2E~2E~2E~2E~2E~2E~2E~2E~2E.html: name too long\n";
+
+const SITE_RUNS: &[Run] = &[
+    // Sites are built.
+    Run {
+        words: BUILD,
+        code: 0,
+        out: "pages 5\n",
+        err: "",
+        written: WHOLE_SITE,
+        ..PLAIN
+    },
+    // A build ends at the first write that fails. The fifth call writes the second page, and the ninth the index.
+    Run {
+        words: BUILD,
+        failing_calls: &[5],
+        code: 5,
+        out: "",
+        err: NOT_WRITTEN,
+        written: FIRST_PAGE,
+        ..PLAIN
+    },
+    Run {
+        words: BUILD,
+        failing_calls: &[9],
+        code: 5,
+        out: "",
+        err: NOT_WRITTEN,
+        written: ALL_BUT_THE_INDEX,
+        ..PLAIN
+    },
+    // A file name that is too long is refused.
+    Run {
+        words: &["build", "f", "ok", "out", "dots"],
+        code: 7,
+        out: "",
+        err: TOO_LONG,
+        written: FIRST_NAME,
+        ..PLAIN
+    },
+    // Plans are printed.
+    Run {
+        words: &["explain", "q", "bib"],
+        code: 0,
+        out: PLANS,
+        err: "",
+        ..PLAIN
+    },
+    Run {
+        words: &["explain", "none", "bib"],
+        code: 4,
+        out: "",
+        err: "strudel: cannot read none\n",
+        ..PLAIN
+    },
+    Run {
+        words: &["explain", "bib", "bib"],
+        code: 3,
+        out: "",
+        err: "strudel: bib: 71 Expected at 0\n",
+        ..PLAIN
+    },
+    // Schemas are printed.
+    Run {
+        words: &["schema", "q"],
+        code: 0,
+        out: SCHEMA,
+        err: "",
+        ..PLAIN
+    },
+    Run {
+        words: &["schema", "--dot", "q"],
+        code: 0,
+        out: PICTURE,
+        err: "",
+        ..PLAIN
+    },
+    Run {
+        words: &["schema", "none"],
+        code: 4,
+        out: "",
+        err: "strudel: cannot read none\n",
+        ..PLAIN
+    },
+    Run {
+        words: &["schema", "bib"],
+        code: 3,
+        out: "",
+        err: "strudel: bib: 71 Expected at 0\n",
+        ..PLAIN
+    },
+    // Connections are served.
+    Run {
+        words: &["serve", "q", "t", "bib"],
+        code: 0,
+        out: "serving 8080\nconnections 0\nreplies 0\nhits 0\n",
+        err: "",
+        ..PLAIN
+    },
+    Run {
+        words: &["replay", "q", "t", "s", "bib"],
+        code: 0,
+        out: "connection 1 0\n\nconnections 1\nreplies 0\nhits 0\n",
+        err: "",
+        ..PLAIN
+    },
+    // A trial is run.
+    Run {
+        words: &["trial", "1"],
+        code: 0,
+        out: "entries 1\nrequests 64\nok 6\nmissing 58\nbytes 304\nhits 3\n",
+        err: "",
+        ..PLAIN
+    },
+];
+
 #[test]
-fn a_file_name_that_is_too_long_is_refused(rt: HostRuntime) -> Result<(), Fail> {
-    check_build(
-        &rt,
-        &expects(
-            &["build", "f", "ok", "out", "dots"],
-            7,
-            "",
-            ".html: name too long\n",
-        ),
-        FIRST_NAME,
-    )
+fn each_command_over_a_site_ends_as_its_row_says(rt: HostRuntime) -> Result<(), Fail> {
+    check_runs(&rt, SITE_FILES, SITE_RUNS)
 }

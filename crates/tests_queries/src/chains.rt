@@ -13,7 +13,7 @@ const PUBLICATIONS: &str =
 // An object that refers to itself, and one of which nothing is said.
 const LOOP: &str = "object a in P { e &a } object b { }";
 
-const CHAINS: [&str; 14] = [
+const CHAINS: &[&str] = &[
     "P(x)",
     "x -> l -> y",
     "x -> * -> y",
@@ -30,49 +30,70 @@ const CHAINS: [&str; 14] = [
     "1998 -> * -> y",
 ];
 
-fn check_chain<R: AllocGlobal + Abort>(
-    rt: &R,
-    data: &str,
-    head: &str,
-    conditions: &str,
-) -> Result<(), Fail> {
-    let alloc = rt.alloc();
-    let scopes = scopes_of(alloc, &query_with(alloc, head, conditions)?)?;
-    let looked = looked_text(alloc, &graph_of(alloc, data)?, &scopes)?;
-    check_rows(rt, data, &scopes, looked.as_slice(), conditions)
-}
-
-fn check_chains<R: AllocGlobal + Abort>(rt: &R, data: &str, head: &str) -> Result<(), Fail> {
-    for conditions in CHAINS {
-        check_chain(rt, data, head, conditions)?;
-    }
-    Ok(())
-}
-
 const VERSION_1: &str = "STRUQL 1 INPUT D WHERE ";
 
 const VERSION_2: &str = "STRUQL 2 INPUT D WHERE ";
 
+// Data, the head of queries, and their chains; and the rows of these, where they were worked by hand, so that the others
+// are seen not to be empty.
+struct ChainRow {
+    data: &'static str,
+    head: &'static str,
+    chains: &'static [&'static str],
+    rows: Option<&'static str>,
+}
+
+const ROWS: &[ChainRow] = &[
+    ChainRow {
+        data: PUBLICATIONS,
+        head: VERSION_1,
+        chains: CHAINS,
+        rows: None,
+    },
+    ChainRow {
+        data: PUBLICATIONS,
+        head: VERSION_2,
+        chains: CHAINS,
+        rows: None,
+    },
+    ChainRow {
+        data: LOOP,
+        head: "INPUT D WHERE ",
+        chains: CHAINS,
+        rows: None,
+    },
+    ChainRow {
+        data: PUBLICATIONS,
+        head: VERSION_1,
+        chains: &["x -> 'year' -> y, y in {1998}"],
+        rows: Some("| &a 1998;"),
+    },
+    ChainRow {
+        data: PUBLICATIONS,
+        head: VERSION_2,
+        chains: &["x -> 'year' -> y, y in {1998}"],
+        rows: Some("| &a 1998; &b '1998';"),
+    },
+];
+
+fn check_chains<R: AllocGlobal + Abort>(rt: &R, row: &ChainRow) -> Result<(), Fail> {
+    let alloc = rt.alloc();
+    let graph = graph_of(alloc, row.data)?;
+    for chain in row.chains {
+        let scopes = scopes_of(alloc, &query_with(alloc, row.head, chain)?)?;
+        let looked = looked_text(alloc, &graph, &scopes)?;
+        check_rows(rt, row.data, &scopes, looked.as_slice(), chain)?;
+        if let Some(wanted) = row.rows {
+            check_text(rt, looked.as_slice(), wanted, chain)?;
+        }
+    }
+    Ok(())
+}
+
 #[test]
 fn chains_over_small_graphs(rt: HostRuntime) -> Result<(), Fail> {
-    check_chains(&rt, PUBLICATIONS, VERSION_1)?;
-    check_chains(&rt, PUBLICATIONS, VERSION_2)?;
-    check_chains(&rt, LOOP, "INPUT D WHERE ")
-}
-
-// The rows of a chain over the publications, so that those above are seen not to be empty.
-fn check_looked<R: AllocGlobal + Abort>(rt: &R, head: &str, wanted: &str) -> Result<(), Fail> {
-    let alloc = rt.alloc();
-    let scopes = scopes_of(
-        alloc,
-        &query_with(alloc, head, "x -> 'year' -> y, y in {1998}")?,
-    )?;
-    let looked = looked_text(alloc, &graph_of(alloc, PUBLICATIONS)?, &scopes)?;
-    Ok(check_text(rt, looked.as_slice(), wanted)?)
-}
-
-#[test]
-fn a_number_and_its_text(rt: HostRuntime) -> Result<(), Fail> {
-    check_looked(&rt, VERSION_1, "| &a 1998;")?;
-    check_looked(&rt, VERSION_2, "| &a 1998; &b '1998';")
+    for row in ROWS {
+        check_chains(&rt, row)?;
+    }
+    Ok(())
 }

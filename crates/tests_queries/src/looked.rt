@@ -12,12 +12,6 @@ use sd_value::{Datum, NoMemory, Value, copy, sort_and_dedup};
 use std::alloc::Global;
 use struql_ast::{Chain, Condition};
 
-fn values_of(alloc: Global, graph: &Graph) -> Result<Vec<Value>, NoMemory> {
-    let mut values = all_values(alloc, graph)?;
-    sort_and_dedup(&mut values);
-    Ok(values)
-}
-
 // The labels, as an arc variable has them.
 fn labels_of(alloc: Global, graph: &Graph) -> Result<Vec<Value>, NoMemory> {
     let mut labels = Vec::new(alloc);
@@ -60,7 +54,8 @@ fn assignments(
     graph: &Graph,
     variables: &[Variable],
 ) -> Result<Vec<Vec<Value>>, NoMemory> {
-    let values = values_of(alloc, graph)?;
+    let mut values = all_values(alloc, graph)?;
+    sort_and_dedup(&mut values);
     let labels = labels_of(alloc, graph)?;
     let mut rows = Vec::new(alloc);
     rows.push(Vec::new(alloc))?;
@@ -80,25 +75,6 @@ fn all_hold(alloc: Global, at: Assigned<'_>, conditions: &[Condition]) -> Result
     Ok(true)
 }
 
-fn put_if_holds(
-    alloc: Global,
-    graph: &Graph,
-    chain: &Chain,
-    row: &[Value],
-    out: &mut Vec<u8>,
-) -> Result<(), NoMemory> {
-    let at = Assigned {
-        graph,
-        version: chain.version(),
-        variables: chain.variables(),
-        row,
-    };
-    if all_hold(alloc, at, chain.conditions())? {
-        put_row(alloc, row, out)?;
-    }
-    Ok(())
-}
-
 // A block: a bar, and the rows of its chain, ascending.
 fn put_block(
     alloc: Global,
@@ -108,7 +84,15 @@ fn put_block(
 ) -> Result<(), NoMemory> {
     out.push(b'|')?;
     for row in &assignments(alloc, graph, chain.variables())? {
-        put_if_holds(alloc, graph, chain, row.as_slice(), out)?;
+        let at = Assigned {
+            graph,
+            version: chain.version(),
+            variables: chain.variables(),
+            row,
+        };
+        if all_hold(alloc, at, chain.conditions())? {
+            put_row(alloc, row, out)?;
+        }
     }
     Ok(())
 }

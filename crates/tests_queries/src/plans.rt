@@ -1,11 +1,12 @@
 // Plans and rows of queries, worked by hand; the rows of each block are behind a bar.
-use crate::inputs::{check_text, index_of, list_of, query_of, quoted, scopes_of};
+use crate::inputs::{check_text, graph_of, query_of, quoted, scopes_of};
 use crate::rows::check_rows;
 use command_explain::plans_text;
+use index_store::IndexStore;
+use list_store::ListStore;
 use sd_graph::Store;
 use std::process::Abort;
 use std::test::Fail;
-use struql_check::Checked;
 
 // A data text, a query, the text of its plans, and the rows of its blocks, with `'` for each quote.
 struct Example {
@@ -144,49 +145,32 @@ const EXAMPLES: &[Example] = &[
     },
 ];
 
-fn check_plan<R: AllocGlobal + Abort, S: Store>(
+fn check_plan<R: AllocGlobal + Abort, S: Store + Drop>(
     rt: &R,
-    checked: &Checked,
-    store: &S,
-    plans: &str,
+    store: S,
+    query: &str,
+    example: &Example,
 ) -> Result<(), Fail> {
-    let text = plans_text(rt.alloc(), checked, store)?;
-    Ok(check_text(rt, text.as_slice(), plans)?)
-}
-
-fn check_plans<R: AllocGlobal + Abort>(rt: &R, example: &Example) -> Result<(), Fail> {
-    let alloc = rt.alloc();
-    let checked = query_of(alloc, example.query)?;
-    check_plan(
-        rt,
-        &checked,
-        &list_of(alloc, example.data_text)?,
-        example.plans,
-    )?;
-    check_plan(
-        rt,
-        &checked,
-        &index_of(alloc, example.data_text)?,
-        example.plans,
-    )
+    let checked = query_of(rt.alloc(), query)?;
+    let text = plans_text(rt.alloc(), &checked, &store)?;
+    check_text(rt, text.as_slice(), example.plans, example.query)
 }
 
 fn check_example<R: AllocGlobal + Abort>(rt: &R, example: &Example) -> Result<(), Fail> {
-    let scopes = scopes_of(rt.alloc(), &quoted(rt.alloc(), example.query)?)?;
-    let rows = quoted(rt.alloc(), example.rows)?;
-    check_rows(
-        rt,
-        example.data_text,
-        &scopes,
-        rows.as_slice(),
-        example.rows,
-    )
+    let alloc = rt.alloc();
+    let query = quoted(alloc, example.query)?;
+    let store = ListStore::of(alloc, graph_of(alloc, example.data_text)?)?;
+    check_plan(rt, store, &query, example)?;
+    let store = IndexStore::of(alloc, graph_of(alloc, example.data_text)?)?;
+    check_plan(rt, store, &query, example)?;
+    let scopes = scopes_of(alloc, &query)?;
+    let rows = quoted(alloc, example.rows)?;
+    check_rows(rt, example.data_text, &scopes, rows.as_bytes(), &query)
 }
 
 #[test]
 fn plans_are_the_cheapest_steps_and_give_the_rows(rt: HostRuntime) -> Result<(), Fail> {
     for example in EXAMPLES {
-        check_plans(&rt, example)?;
         check_example(&rt, example)?;
     }
     Ok(())

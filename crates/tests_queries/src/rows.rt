@@ -4,12 +4,13 @@ ghost use Rattle.query_spec.specs.Mentions.{IsWellMade};
 ghost use Rattle.query_blocks.specs.declared.QueryBlock.{QueryBlock as AnyScoped};
 ghost use Rattle.query_blocks.specs.Blocks.{AreCheckedBlocks};
 
-use crate::inputs::{check_bytes, index_of, list_of};
+use crate::inputs::graph_of;
 use address::show;
 use asker::Asker;
 use bindings::StoreAsker;
+use index_store::IndexStore;
+use list_store::ListStore;
 use query_blocks::{QueryBlock, QueryBlocks};
-use query_spec::Row;
 use sd_graph::Store;
 use sd_value::{Datum, NoMemory, Value};
 use site_lookups::rows_of;
@@ -18,38 +19,26 @@ use std::process::Abort;
 use std::test::Fail;
 use struql_ast::Chain;
 
-// What is before a value and behind it.
+// What is before a value, with a blank, and behind it.
 fn marks_of(value: &Value) -> (&'static [u8], &'static [u8]) {
     match value {
-        Value::Data(Datum::Text(_)) => (b"\"", b"\""),
-        Value::Data(Datum::Node(_)) => (b"&", b""),
-        Value::Data(Datum::Url(_)) => (b"@", b""),
-        Value::Data(Datum::File(_)) => (b"?", b""),
-        _ => (b"", b""),
+        Value::Data(Datum::Text(_)) => (b" \"", b"\""),
+        Value::Data(Datum::Node(_)) => (b" &", b""),
+        Value::Data(Datum::Url(_)) => (b" @", b""),
+        Value::Data(Datum::File(_)) => (b" ?", b""),
+        _ => (b" ", b""),
     }
-}
-
-fn put_value(alloc: Global, value: &Value, out: &mut Vec<u8>) -> Result<(), NoMemory> {
-    let (before, behind) = marks_of(value);
-    out.extend_from_slice(before)?;
-    show(alloc, value, out)?;
-    Ok(out.extend_from_slice(behind)?)
 }
 
 /// Adds a row: a blank before each of its values, and a semicolon.
 pub fn put_row(alloc: Global, row: &[Value], out: &mut Vec<u8>) -> Result<(), NoMemory> {
     for value in row {
-        out.push(b' ')?;
-        put_value(alloc, value, out)?;
+        let (before, behind) = marks_of(value);
+        out.extend_from_slice(before)?;
+        show(alloc, value, out)?;
+        out.extend_from_slice(behind)?;
     }
     Ok(out.push(b';')?)
-}
-
-fn put_rows(alloc: Global, rows: &[Row], out: &mut Vec<u8>) -> Result<(), NoMemory> {
-    for row in rows {
-        put_row(alloc, row.values(), out)?;
-    }
-    Ok(())
 }
 
 // A block: a bar, and its rows.
@@ -61,9 +50,11 @@ fn put_block<A: Asker>(
 ) -> Result<(), NoMemory>
     requires { IsWellMade chain.now }
 {
-    let rows = rows_of(alloc, asker, chain)?;
     out.push(b'|')?;
-    put_rows(alloc, &rows, out)
+    for row in &rows_of(alloc, asker, chain)? {
+        put_row(alloc, row.values(), out)?;
+    }
+    Ok(())
 }
 
 fn put_blocks<A: Asker>(
@@ -105,9 +96,11 @@ pub fn check_rows<R: AllocGlobal + Abort>(
     requires { AreCheckedBlocks scopes.now.version scopes.now.blocks.items }
 {
     let alloc = rt.alloc();
-    let listed = rows_text(alloc, list_of(alloc, data)?, scopes)?;
-    check_bytes(rt, listed.as_slice(), wanted, row);
-    let indexed = rows_text(alloc, index_of(alloc, data)?, scopes)?;
-    check_bytes(rt, indexed.as_slice(), wanted, row);
+    let store = ListStore::of(alloc, graph_of(alloc, data)?)?;
+    let listed = rows_text(alloc, store, scopes)?;
+    assert_eq!(rt; listed.as_slice(), wanted, "{row}");
+    let store = IndexStore::of(alloc, graph_of(alloc, data)?)?;
+    let indexed = rows_text(alloc, store, scopes)?;
+    assert_eq!(rt; indexed.as_slice(), wanted, "{row}");
     Ok(())
 }

@@ -1,6 +1,6 @@
 // The site of a first query as data: its text, the limits that it passes, and a page of a second query over it, each worked
 // by hand.
-use crate::inputs::{builder_of, check_text, query_of, scopes_of, templates_of, term_at};
+use crate::inputs::{builder_of, check_text, push_terms, query_of};
 use crate::sites::check_clicks;
 use bindings::StoreAsker;
 use composed_data::composed_data;
@@ -15,31 +15,63 @@ use std::test::Fail;
 const FIRST: &str =
     "INPUT D WHERE C(x) CREATE F(x) LINK F(x) -> 'at' -> x COLLECT Made(F(x)) OUTPUT S";
 
-/// Data, and the text of the first query's site over them, with `'` for each quote.
+/// Data, limits, and the text of the first query's site over the data, with `'` for each quote, or why it is refused.
 struct ComposedRow {
     data: &'static str,
-    text: &'static str,
+    limits: Limits,
+    ends: Result<&'static str, GraphRefusal>,
 }
 
 const COMPOSED: &[ComposedRow] = &[
     ComposedRow {
         data: "object o in C { v 1 }",
-        text: "object '/F/no.html' in 'Made' {\n  'at' &'o'\n}\nobject 'o' in 'C' {\n  'v' 1\n}\n",
+        limits: PROGRAM_LIMITS,
+        ends: Ok(
+            "object '/F/no.html' in 'Made' {\n  'at' &'o'\n}\nobject 'o' in 'C' {\n  'v' 1\n}\n",
+        ),
     },
     // A node whose name begins with a slash keeps out of the pages' way.
     ComposedRow {
         data: "object '/a' in C { }",
-        text: "object '//a' in 'C' {\n}\nobject '/F/n~2Fa.html' in 'Made' {\n  'at' &'//a'\n}\n",
+        limits: PROGRAM_LIMITS,
+        ends: Ok(
+            "object '//a' in 'C' {\n}\nobject '/F/n~2Fa.html' in 'Made' {\n  'at' &'//a'\n}\n",
+        ),
     },
     // So does the node of a page's own address.
     ComposedRow {
         data: "object '/F/no.html' in E { v 1 } object o in C { }",
-        text: "object '//F/no.html' in 'E' {\n  'v' 1\n}\nobject '/F/no.html' in 'Made' {\n  'at' &'o'\n}\nobject 'o' in 'C' {\n}\n",
+        limits: PROGRAM_LIMITS,
+        ends: Ok(
+            "object '//F/no.html' in 'E' {\n  'v' 1\n}\nobject '/F/no.html' in 'Made' {\n  'at' &'o'\n}\nobject 'o' in 'C' {\n}\n",
+        ),
     },
     // Without members of C the site is the data.
     ComposedRow {
         data: "object o in E { v &o }",
-        text: "object 'o' in 'E' {\n  'v' &'o'\n}\n",
+        limits: PROGRAM_LIMITS,
+        ends: Ok("object 'o' in 'E' {\n  'v' &'o'\n}\n"),
+    },
+    // The site of one object has two nodes, two edges and two members.
+    ComposedRow {
+        data: "object o in C { v 1 }",
+        limits: Limits { nodes: 1, edges: 9 },
+        ends: Err(GraphRefusal::TooManyNodes),
+    },
+    ComposedRow {
+        data: "object o in C { v 1 }",
+        limits: Limits {
+            nodes: 10,
+            edges: 3,
+        },
+        ends: Err(GraphRefusal::TooManyEdges),
+    },
+    ComposedRow {
+        data: "object o in C { v 1 }",
+        limits: Limits { nodes: 2, edges: 4 },
+        ends: Ok(
+            "object '/F/no.html' in 'Made' {\n  'at' &'o'\n}\nobject 'o' in 'C' {\n  'v' 1\n}\n",
+        ),
     },
 ];
 
@@ -54,49 +86,34 @@ fn composed(
 }
 
 fn check_composed<R: AllocGlobal + Abort>(rt: &R, row: &ComposedRow) -> Result<(), Fail> {
-    let graph = composed(rt.alloc(), row.data, PROGRAM_LIMITS)??;
-    let mut text = Vec::new(rt.alloc());
-    write_ddl(rt.alloc(), &graph, &mut text)?;
-    Ok(check_text(rt, text.as_slice(), row.text)?)
+    let alloc = rt.alloc();
+    let ends = match composed(alloc, row.data, row.limits)? {
+        Ok(graph) => {
+            let mut text = Vec::new(alloc);
+            write_ddl(alloc, &graph, &mut text)?;
+            Ok(text)
+        }
+        Err(refusal) => Err(refusal),
+    };
+    match row.ends {
+        Ok(wanted) => check_text(rt, ends?.as_slice(), wanted, row.data),
+        Err(wanted) => {
+            let Limits { nodes, edges } = row.limits;
+            let refusal = ends.err();
+            assert!(rt;
+                refusal == Some(wanted),
+                "{} within {nodes} and {edges}",
+                row.data
+            );
+            Ok(())
+        }
+    }
 }
 
 #[test]
-fn sites_are_data(rt: HostRuntime) -> Result<(), Fail> {
+fn sites_are_data_within_limits(rt: HostRuntime) -> Result<(), Fail> {
     for row in COMPOSED {
         check_composed(&rt, row)?;
-    }
-    Ok(())
-}
-
-/// Limits of the site of one object, which has two nodes, two edges and two members.
-struct LimitRow {
-    limits: Limits,
-    refusal: Option<GraphRefusal>,
-}
-
-const LIMITS: &[LimitRow] = &[
-    LimitRow {
-        limits: Limits { nodes: 1, edges: 9 },
-        refusal: Some(GraphRefusal::TooManyNodes),
-    },
-    LimitRow {
-        limits: Limits {
-            nodes: 10,
-            edges: 3,
-        },
-        refusal: Some(GraphRefusal::TooManyEdges),
-    },
-    LimitRow {
-        limits: Limits { nodes: 2, edges: 4 },
-        refusal: None,
-    },
-];
-
-#[test]
-fn sites_as_data_pass_limits(rt: HostRuntime) -> Result<(), Fail> {
-    for row in LIMITS {
-        let made = composed(rt.alloc(), "object o in C { v 1 }", row.limits)?;
-        assert_eq!(rt; made.err(), row.refusal);
     }
     Ok(())
 }
@@ -108,10 +125,9 @@ fn a_second_query_has_pages(rt: HostRuntime) -> Result<(), Fail> {
     let asker = StoreAsker::of(IndexStore::of(alloc, graph)?);
     let second =
         "INPUT S WHERE Made(y), y -> 'at'.'v' -> z CREATE G(z) LINK G(z) -> 'v' -> z OUTPUT T";
-    let scopes = scopes_of(alloc, second)?;
-    let templates = templates_of(alloc, "<TEMPLATE G><SFMT @v></TEMPLATE>")?;
     let mut terms = Vec::new(alloc);
-    terms.push(term_at(alloc, "/G/i1.html")?)?;
-    let wanted = "/G/i1.html 1;";
-    check_clicks(&rt, asker, &scopes, &templates, terms.as_slice(), wanted)
+    push_terms(alloc, &["/G/i1.html"], &mut terms)?;
+    let templates = "<TEMPLATE G><SFMT @v></TEMPLATE>";
+    check_clicks(&rt, asker, second, templates, &terms, "/G/i1.html 1;")?;
+    Ok(())
 }

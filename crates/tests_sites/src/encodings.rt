@@ -2,7 +2,6 @@
 use compose::encoded;
 use sd_value::{Args, Datum, NoMemory, Str, Term, Value};
 use std::alloc::Global;
-use std::process::Abort;
 use std::test::Fail;
 
 /// A node, or the page of the function F at that node, and the node that it is in a site's graph.
@@ -51,38 +50,25 @@ const ENCODED: &[EncodedRow] = &[
     },
 ];
 
-fn node(alloc: Global, name: &str) -> Result<Datum, NoMemory> {
-    Ok(Datum::Node(Str::new(alloc, name.as_bytes())?))
-}
-
-fn page(alloc: Global, name: &str) -> Result<Value, NoMemory> {
-    let mut args = Vec::new(alloc);
-    args.push(node(alloc, name)?)?;
-    let function = Str::new(alloc, b"F")?;
-    let args = Args::new(alloc, args)?;
-    Ok(Value::Page(Term { function, args }))
-}
-
 fn given(alloc: Global, row: &EncodedRow) -> Result<Value, NoMemory> {
-    if row.is_page {
-        page(alloc, row.node)
-    } else {
-        Ok(Value::Data(node(alloc, row.node)?))
+    let node = Datum::Node(Str::new(alloc, row.node.as_bytes())?);
+    if !row.is_page {
+        return Ok(Value::Data(node));
     }
-}
-
-fn check_encoded<R: AllocGlobal + Abort>(rt: &R, row: &EncodedRow) -> Result<(), NoMemory> {
-    let value = given(rt.alloc(), row)?;
-    let wanted = node(rt.alloc(), row.encoded)?;
-    let found = encoded(rt.alloc(), &value)?;
-    assert_eq!(rt; found, wanted, "{}", row.encoded);
-    Ok(())
+    let args = Args::new(alloc, vec![in alloc; node]?)?;
+    let function = Str::new(alloc, b"F")?;
+    Ok(Value::Page(Term { function, args }))
 }
 
 #[test]
 fn values_are_encoded(rt: HostRuntime) -> Result<(), Fail> {
     for row in ENCODED {
-        check_encoded(&rt, row)?;
+        let value = given(rt.alloc(), row)?;
+        let found = encoded(rt.alloc(), &value)?;
+        let Datum::Node(name) = &found else {
+            return Err(Fail::new(row.encoded));
+        };
+        assert_eq!(rt; name.bytes(), row.encoded.as_bytes(), "{}", row.encoded);
     }
     Ok(())
 }

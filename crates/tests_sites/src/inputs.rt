@@ -9,7 +9,7 @@ use query_blocks::QueryBlocks;
 use query_reader::read_query;
 use query_scoping::scopes;
 use sd_ddl::read_ddl;
-use sd_graph::{Graph, GraphBuilder, PROGRAM_LIMITS};
+use sd_graph::{GraphBuilder, PROGRAM_LIMITS};
 use sd_value::{NoMemory, Term};
 use std::alloc::Global;
 use std::process::Abort;
@@ -18,8 +18,8 @@ use struql_check::Checked;
 use template_reader::read_templates;
 use tmpl::Templates;
 
-// The most bytes of a text here.
-const LIMIT: u64 = 4096;
+/// The most bytes of a text here.
+pub const LIMIT: u64 = 4096;
 
 /// The bibliography of two publications.
 pub const BIBLIOGRAPHY: &str =
@@ -27,44 +27,27 @@ pub const BIBLIOGRAPHY: &str =
         Publications { title 'Lorel <1>' year 1997 author 'Dan' }";
 
 /// The text with its quotes.
-pub fn quoted(alloc: Global, text: &str) -> Result<Vec<u8>, NoMemory> {
-    let mut out = Vec::new(alloc);
-    for byte in text.as_bytes() {
-        match byte {
-            b'\'' => out.push(b'"')?,
-            _ => out.push(*byte)?,
-        }
-    }
-    Ok(out)
+pub fn quoted(alloc: Global, text: &str) -> Result<String, NoMemory> {
+    Ok(text.replace(alloc, '\'', "\"")?)
 }
 
 /// The builder of the graph that a data text states.
 pub fn builder_of(alloc: Global, text: &str) -> Result<GraphBuilder, Fail> {
     let text = quoted(alloc, text)?;
     let mut builder = GraphBuilder::new(alloc, PROGRAM_LIMITS);
-    read_ddl(alloc, text.as_slice(), LIMIT, &mut builder)?;
+    read_ddl(alloc, text.as_bytes(), LIMIT, &mut builder)?;
     Ok(builder)
 }
 
-fn graph_of(alloc: Global, text: &str) -> Result<Graph, Fail> {
-    let builder = builder_of(alloc, text)?;
-    Ok(builder.finish(alloc)?)
-}
-
-/// The program's store of the graph that a data text states.
-pub fn index_of(alloc: Global, text: &str) -> Result<IndexStore, Fail> {
-    Ok(IndexStore::of(alloc, graph_of(alloc, text)?)?)
-}
-
-/// The asker over the graph that a data text states.
-pub fn asker_of(alloc: Global, text: &str) -> Result<StoreAsker<IndexStore>, Fail> {
-    Ok(StoreAsker::of(index_of(alloc, text)?))
+/// The asker over the program's store of the graph that was built.
+pub fn asker_of(alloc: Global, builder: GraphBuilder) -> Result<StoreAsker<IndexStore>, NoMemory> {
+    Ok(StoreAsker::of(IndexStore::of(alloc, builder.finish(alloc)?)?))
 }
 
 /// The query that the text spells.
 pub fn query_of(alloc: Global, query: &str) -> Result<Checked, Fail> {
     let text = quoted(alloc, query)?;
-    Ok(read_query(alloc, text.as_slice(), LIMIT)?)
+    Ok(read_query(alloc, text.as_bytes(), LIMIT)?)
 }
 
 /// The blocks of the query that the text spells.
@@ -79,24 +62,28 @@ pub fn scopes_of(alloc: Global, query: &str) -> Result<QueryBlocks, Fail>
 /// The templates that the text spells.
 pub fn templates_of(alloc: Global, text: &str) -> Result<Templates, Fail> {
     let text = quoted(alloc, text)?;
-    Ok(read_templates(alloc, text.as_slice(), LIMIT)?)
+    Ok(read_templates(alloc, text.as_bytes(), LIMIT)?)
 }
 
-/// The term of the page at the address.
-pub fn term_at(alloc: Global, address: &str) -> Result<Term, Fail> {
-    match term_of(alloc, address.as_bytes(), None)? {
-        Some(term) => Ok(term),
-        None => Err(Fail::new("the address names no term")),
+/// Adds the terms of the pages at the addresses.
+pub fn push_terms(alloc: Global, addresses: &[&str], terms: &mut Vec<Term>) -> Result<(), Fail> {
+    for address in addresses {
+        match term_of(alloc, address.as_bytes(), None)? {
+            Some(term) => terms.push(term)?,
+            None => return Err(Fail::new("the address names no term")),
+        }
     }
+    Ok(())
 }
 
-/// Compares what was found with a text.
+/// Compares what was found of a row with a text.
 pub fn check_text<R: AllocGlobal + Abort>(
     rt: &R,
     found: &[u8],
     wanted: &str,
-) -> Result<(), NoMemory> {
-    let bytes = quoted(rt.alloc(), wanted)?;
-    assert_eq!(rt; found, bytes.as_slice(), "{wanted}");
+    row: &str,
+) -> Result<(), Fail> {
+    let text = quoted(rt.alloc(), wanted)?;
+    assert_eq!(rt; found, text.as_bytes(), "{row}");
     Ok(())
 }

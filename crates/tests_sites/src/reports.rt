@@ -1,14 +1,10 @@
 // Constraints of all kinds in small sites, beside reports worked by hand.
-use crate::inputs::{BIBLIOGRAPHY, asker_of, check_text, quoted};
+use crate::inputs::{BIBLIOGRAPHY, LIMIT, asker_of, builder_of, check_text, query_of, quoted};
 use constraint_report::report_of;
 use constraints::parse_constraints;
-use query_reader::read_query;
 use query_scoping::scopes;
 use std::process::Abort;
 use std::test::Fail;
-
-// The most bytes of a text here.
-const LIMIT: u64 = 4096;
 
 /// Two publications, each with a page, one for each year, and the root page.
 const PUBLICATIONS: &str =
@@ -92,16 +88,15 @@ const REPORTS: &[ReportRow] = &[
 ];
 
 fn check_report<R: AllocGlobal + Abort>(rt: &R, row: &ReportRow) -> Result<(), Fail> {
-    let text = quoted(rt.alloc(), row.query)?;
-    let query = read_query(rt.alloc(), text.as_slice(), LIMIT)?;
-    let text = quoted(rt.alloc(), row.constraints)?;
-    let constraints = parse_constraints(rt.alloc(), text.as_slice(), LIMIT, &query)?;
-    let asker = asker_of(rt.alloc(), row.data)?;
-    let scopes = scopes(rt.alloc(), &query)?;
-    let report = report_of(rt.alloc(), asker, &scopes, constraints.as_slice())?;
-    check_text(rt, report.text.bytes(), row.lines)?;
+    let alloc = rt.alloc();
+    let query = query_of(alloc, row.query)?;
+    let text = quoted(alloc, row.constraints)?;
+    let constraints = parse_constraints(alloc, text.as_bytes(), LIMIT, &query)?;
+    let scopes = scopes(alloc, &query)?;
+    let asker = asker_of(alloc, builder_of(alloc, row.data)?)?;
+    let report = report_of(alloc, asker, &scopes, constraints.as_slice())?;
     assert_eq!(rt; report.all_met, row.all_met, "{}", row.constraints);
-    Ok(())
+    check_text(rt, report.text.bytes(), row.lines, row.constraints)
 }
 
 #[test]

@@ -1,6 +1,4 @@
 // A site's pages from their own demand and from the whole site.
-ghost use Rattle.query_blocks.specs.Blocks.{AreCheckedBlocks};
-
 mod blocks;
 mod conditions;
 mod embeds;
@@ -9,18 +7,15 @@ mod outcomes;
 mod shown;
 mod weight;
 
-use crate::inputs::{asker_of, check_text, scopes_of, templates_of, term_at};
+use crate::inputs::{asker_of, builder_of, push_terms, scopes_of, templates_of};
 use bindings::StoreAsker;
-use click_time::Click;
+use click_time::{Click, Given};
 use index_store::IndexStore;
-use outcomes::outcomes_text;
-use query_blocks::QueryBlocks;
+use outcomes::check_pages;
 use sd_value::Term;
 use site_build::Whole;
-use std::alloc::Global;
 use std::process::Abort;
 use std::test::Fail;
-use tmpl::Templates;
 
 /// A site, with `'` for each quote of its texts; addresses of terms outside it; and the outcomes of requests for the pages
 /// of its terms, ascending, and then of those addresses.
@@ -33,66 +28,55 @@ pub struct SiteRow {
     pub outcomes: &'static str,
 }
 
-/// Adds the terms at the addresses.
-pub fn push_terms(alloc: Global, addresses: &[&str], terms: &mut Vec<Term>) -> Result<(), Fail> {
-    for address in addresses {
-        terms.push(term_at(alloc, address)?)?;
-    }
-    Ok(())
-}
-
-/// Compares the outcomes of the terms' pages, from their own demand on the data, with a text.
+/// Compares the outcomes of the terms' pages, from their own demand on the data, with a text. Tells how much the data
+/// handed out for them.
 pub fn check_clicks<R: AllocGlobal + Abort>(
     rt: &R,
     asker: StoreAsker<IndexStore>,
-    scopes: &QueryBlocks,
-    templates: &Templates,
+    query: &str,
+    templates: &str,
     terms: &[Term],
     wanted: &str,
-) -> Result<(), Fail>
-    requires { AreCheckedBlocks scopes.now.version scopes.now.blocks.items }
-{
-    let mut click = Click::of(rt.alloc(), asker, scopes, templates);
-    let found = outcomes_text(rt.alloc(), &mut click, terms)?;
-    Ok(check_text(rt, found.as_slice(), wanted)?)
+) -> Result<u128, Fail> {
+    let alloc = rt.alloc();
+    let scopes = scopes_of(alloc, query)?;
+    let templates = templates_of(alloc, templates)?;
+    let mut click = Click::of(alloc, asker, &scopes, &templates);
+    check_pages(rt, &mut click, terms, wanted)?;
+    Ok(click.given())
 }
 
-fn check_pages<R: AllocGlobal + Abort>(
-    rt: &R,
-    row: &SiteRow,
-    scopes: &QueryBlocks,
-    templates: &Templates,
-) -> Result<(), Fail>
-    requires { AreCheckedBlocks scopes.now.version scopes.now.blocks.items }
-{
+// Compares the outcomes of the row's pages, from the whole site, with the row's text. Tells of which terms they are.
+fn check_whole<R: AllocGlobal + Abort>(rt: &R, row: &SiteRow) -> Result<Vec<Term>, Fail> {
     let alloc = rt.alloc();
-    let mut whole = Whole::of(alloc, asker_of(alloc, row.data_text)?, scopes, templates)?;
+    let scopes = scopes_of(alloc, row.query)?;
+    let templates = templates_of(alloc, row.templates)?;
+    let asker = asker_of(alloc, builder_of(alloc, row.data_text)?)?;
+    let mut whole = Whole::of(alloc, asker, &scopes, &templates)?;
     let mut terms = whole.terms(alloc)?;
     push_terms(alloc, row.outside, &mut terms)?;
-    let found = outcomes_text(alloc, &mut whole, terms.as_slice())?;
-    check_text(rt, found.as_slice(), row.outcomes)?;
-    let asker = asker_of(alloc, row.data_text)?;
-    check_clicks(rt, asker, scopes, templates, terms.as_slice(), row.outcomes)
-}
-
-// Compares the outcomes of the row's pages, from the whole site and from their own demand, with the row's text.
-fn check_site<R: AllocGlobal + Abort>(rt: &R, row: &SiteRow) -> Result<(), Fail> {
-    let scopes = scopes_of(rt.alloc(), row.query)?;
-    let templates = templates_of(rt.alloc(), row.templates)?;
-    check_pages(rt, row, &scopes, &templates)
+    check_pages(rt, &mut whole, terms.as_slice(), row.outcomes)?;
+    Ok(terms)
 }
 
 fn check_sites<R: AllocGlobal + Abort>(rt: &R, rows: &[SiteRow]) -> Result<(), Fail> {
     for row in rows {
-        check_site(rt, row)?;
+        let terms = check_whole(rt, row)?;
+        let asker = asker_of(rt.alloc(), builder_of(rt.alloc(), row.data_text)?)?;
+        check_clicks(rt, asker, row.query, row.templates, &terms, row.outcomes)?;
     }
     Ok(())
 }
 
 #[test]
 fn pages_of_each_kind(rt: HostRuntime) -> Result<(), Fail> {
-    check_sites(&rt, blocks::SITES)?;
-    check_sites(&rt, conditions::SITES)?;
-    check_sites(&rt, shown::SITES)?;
-    check_sites(&rt, embeds::SITES)
+    for rows in [
+        blocks::SITES,
+        conditions::SITES,
+        shown::SITES,
+        embeds::SITES,
+    ] {
+        check_sites(&rt, rows)?;
+    }
+    Ok(())
 }

@@ -1,192 +1,388 @@
 // Each call of a store, over the bibliography.
-use crate::inputs::{BIBLIOGRAPHY, index_of, list_of};
-use crate::printed::{
-    check_answer, check_answered, name, node, print_edges, print_names, print_steps, print_values,
-    text,
-};
+use crate::inputs::{Answer, BIBLIOGRAPHY, INDEXED, PLAIN, check, index_of, list_of};
+use crate::printed::{Named, is_printed, value_of};
 use sd_graph::{Sizes, Store};
-use sd_value::NoMemory;
+use sd_value::{Datum, NoMemory, Str, Value};
 use std::alloc::Global;
-use std::process::Abort;
 use std::test::Fail;
 
-fn out<S: Store>(alloc: Global, store: &S, from: &str, label: &str) -> Result<Vec<u8>, NoMemory> {
-    let from = node(alloc, from)?;
-    let label = name(alloc, label)?;
-    print_values(alloc, store.out(alloc, &from, &label))
+// A call of a store with a row's value and name; the first so many, and the node where an edge starts.
+enum Call {
+    Out,
+    OutAll,
+    Incoming,
+    IncomingBy,
+    EdgesBy,
+    Members,
+    Values,
+    Labels,
+    FirstOut(usize),
+    FirstIncoming(usize),
+    FirstEdges(usize),
+    FirstMembers(usize),
+    FirstValues(usize),
+    HasEdge(&'static str),
+    IsMember,
+    IsValue,
+    IsLabel,
+    EdgesOf,
+    MembersOf,
+    CountOut,
+    CountIncoming,
+    DegreeOut,
+    DegreeIncoming,
+    Sizes,
 }
 
-fn out_all<S: Store>(alloc: Global, store: &S, from: &str) -> Result<Vec<u8>, NoMemory> {
-    let from = node(alloc, from)?;
-    print_steps(alloc, store.out_all(alloc, &from))
+// A call, the value and the label or collection that it is of, and what it answers.
+struct CallRow {
+    call: Call,
+    value: Named,
+    name: &'static str,
+    answer: Answer,
 }
 
-fn incoming<S: Store>(alloc: Global, store: &S, to: &str) -> Result<Vec<u8>, NoMemory> {
-    let to = text(alloc, to)?;
-    print_steps(alloc, store.incoming(alloc, &to))
-}
+// The value of a call that is of none.
+const ANY: Named = Named::Number(0);
 
-fn incoming_by<S: Store>(
+const ROWS: &[CallRow] = &[
+    // What is reported of the edges of one value.
+    CallRow {
+        call: Call::Out,
+        value: Named::Node("pub1"),
+        name: "author",
+        answer: Answer::List("'Dan';'Mary';"),
+    },
+    CallRow {
+        call: Call::Out,
+        value: Named::Node("pub2"),
+        name: "note",
+        answer: Answer::List(""),
+    },
+    CallRow {
+        call: Call::OutAll,
+        value: Named::Node("pub1"),
+        name: "",
+        answer: Answer::List("author 'Dan';author 'Mary';title 'Strudel';year 1998;"),
+    },
+    CallRow {
+        call: Call::Incoming,
+        value: Named::Text("Dan"),
+        name: "",
+        answer: Answer::List("author &pub1;author &pub2;"),
+    },
+    CallRow {
+        call: Call::IncomingBy,
+        value: Named::Text("Dan"),
+        name: "author",
+        answer: Answer::List("&pub1;&pub2;"),
+    },
+    CallRow {
+        call: Call::IncomingBy,
+        value: Named::Text("Dan"),
+        name: "title",
+        answer: Answer::List(""),
+    },
+    // What is reported of the whole graph.
+    CallRow {
+        call: Call::EdgesBy,
+        value: ANY,
+        name: "year",
+        answer: Answer::List("pub1 1998;pub2 1997;"),
+    },
+    CallRow {
+        call: Call::Members,
+        value: ANY,
+        name: "Publications",
+        answer: Answer::List("&pub1;&pub2;"),
+    },
+    CallRow {
+        call: Call::Values,
+        value: ANY,
+        name: "",
+        answer: Answer::List("1997;1998;'Dan';'Lorel <1>';'Mary';'Strudel';&pub1;&pub2;"),
+    },
+    CallRow {
+        call: Call::Labels,
+        value: ANY,
+        name: "",
+        answer: Answer::List("author;title;year;"),
+    },
+    // Tests of single edges, members, values and labels.
+    CallRow {
+        call: Call::HasEdge("pub1"),
+        value: Named::Text("Mary"),
+        name: "author",
+        answer: Answer::Test(true),
+    },
+    CallRow {
+        call: Call::HasEdge("pub2"),
+        value: Named::Text("Mary"),
+        name: "author",
+        answer: Answer::Test(false),
+    },
+    CallRow {
+        call: Call::IsMember,
+        value: Named::Node("pub2"),
+        name: "Publications",
+        answer: Answer::Test(true),
+    },
+    CallRow {
+        call: Call::IsMember,
+        value: Named::Node("pub2"),
+        name: "author",
+        answer: Answer::Test(false),
+    },
+    CallRow {
+        call: Call::IsValue,
+        value: Named::Text("Mary"),
+        name: "",
+        answer: Answer::Test(true),
+    },
+    CallRow {
+        call: Call::IsValue,
+        value: Named::Text("pub1"),
+        name: "",
+        answer: Answer::Test(false),
+    },
+    CallRow {
+        call: Call::IsLabel,
+        value: ANY,
+        name: "author",
+        answer: Answer::Test(true),
+    },
+    CallRow {
+        call: Call::IsLabel,
+        value: ANY,
+        name: "Publications",
+        answer: Answer::Test(false),
+    },
+    // Counts of the whole graph, of labels and of collections.
+    CallRow {
+        call: Call::Sizes,
+        value: ANY,
+        name: "",
+        answer: Answer::Sizes(Sizes {
+            nodes: 2,
+            edges: 7,
+            values: 8,
+            labels: 3,
+        }),
+    },
+    CallRow {
+        call: Call::EdgesOf,
+        value: ANY,
+        name: "author",
+        answer: Answer::Count(3),
+    },
+    CallRow {
+        call: Call::EdgesOf,
+        value: ANY,
+        name: "Publications",
+        answer: Answer::Count(0),
+    },
+    CallRow {
+        call: Call::MembersOf,
+        value: ANY,
+        name: "Publications",
+        answer: Answer::Count(2),
+    },
+    CallRow {
+        call: Call::MembersOf,
+        value: ANY,
+        name: "author",
+        answer: Answer::Count(0),
+    },
+    // How many edges there are from a value and to one, of a label and of all.
+    CallRow {
+        call: Call::CountOut,
+        value: Named::Node("pub1"),
+        name: "author",
+        answer: Answer::Count(2),
+    },
+    CallRow {
+        call: Call::CountOut,
+        value: Named::Node("pub1"),
+        name: "note",
+        answer: Answer::Count(0),
+    },
+    CallRow {
+        call: Call::CountIncoming,
+        value: Named::Text("Dan"),
+        name: "author",
+        answer: Answer::Count(2),
+    },
+    CallRow {
+        call: Call::CountIncoming,
+        value: Named::Text("Dan"),
+        name: "note",
+        answer: Answer::Count(0),
+    },
+    CallRow {
+        call: Call::DegreeOut,
+        value: Named::Node("pub1"),
+        name: "",
+        answer: Answer::Count(4),
+    },
+    CallRow {
+        call: Call::DegreeOut,
+        value: Named::Text("Dan"),
+        name: "",
+        answer: Answer::Count(0),
+    },
+    CallRow {
+        call: Call::DegreeIncoming,
+        value: Named::Text("Dan"),
+        name: "",
+        answer: Answer::Count(2),
+    },
+    CallRow {
+        call: Call::DegreeIncoming,
+        value: Named::Node("pub1"),
+        name: "",
+        answer: Answer::Count(0),
+    },
+    // None, some and more than all of each list.
+    CallRow {
+        call: Call::FirstOut(0),
+        value: Named::Node("pub1"),
+        name: "author",
+        answer: Answer::List(""),
+    },
+    CallRow {
+        call: Call::FirstOut(1),
+        value: Named::Node("pub1"),
+        name: "author",
+        answer: Answer::List("'Dan';"),
+    },
+    CallRow {
+        call: Call::FirstOut(3),
+        value: Named::Node("pub1"),
+        name: "author",
+        answer: Answer::List("'Dan';'Mary';"),
+    },
+    CallRow {
+        call: Call::FirstIncoming(1),
+        value: Named::Text("Dan"),
+        name: "author",
+        answer: Answer::List("&pub1;"),
+    },
+    CallRow {
+        call: Call::FirstIncoming(2),
+        value: Named::Text("Dan"),
+        name: "author",
+        answer: Answer::List("&pub1;&pub2;"),
+    },
+    CallRow {
+        call: Call::FirstEdges(2),
+        value: ANY,
+        name: "author",
+        answer: Answer::List("pub1 'Dan';pub1 'Mary';"),
+    },
+    CallRow {
+        call: Call::FirstMembers(1),
+        value: ANY,
+        name: "Publications",
+        answer: Answer::List("&pub1;"),
+    },
+    CallRow {
+        call: Call::FirstValues(3),
+        value: ANY,
+        name: "",
+        answer: Answer::List("1997;1998;'Dan';"),
+    },
+];
+
+// Whether the call gives this list.
+fn lists<S: Store>(
     alloc: Global,
     store: &S,
-    to: &str,
-    label: &str,
-) -> Result<Vec<u8>, NoMemory> {
-    let to = text(alloc, to)?;
-    let label = name(alloc, label)?;
-    print_values(alloc, store.incoming_by(alloc, &to, &label))
-}
-
-// What is reported of the edges of one value.
-fn check_edges<R: AllocGlobal + Abort, S: Store>(rt: &R, store: &S) -> Result<(), NoMemory> {
-    let alloc = rt.alloc();
-    check_answered(rt, out(alloc, store, "pub1", "author"), "'Dan';'Mary';")?;
-    check_answered(rt, out(alloc, store, "pub2", "note"), "")?;
-    check_answered(
-        rt,
-        out_all(alloc, store, "pub1"),
-        "author 'Dan';author 'Mary';title 'Strudel';year 1998;",
-    )?;
-    check_answered(
-        rt,
-        incoming(alloc, store, "Dan"),
-        "author &pub1;author &pub2;",
-    )?;
-    check_answered(
-        rt,
-        incoming_by(alloc, store, "Dan", "author"),
-        "&pub1;&pub2;",
-    )?;
-    check_answered(rt, incoming_by(alloc, store, "Dan", "title"), "")
-}
-
-fn edges_by<S: Store>(alloc: Global, store: &S, label: &str) -> Result<Vec<u8>, NoMemory> {
-    let label = name(alloc, label)?;
-    print_edges(alloc, store.edges_by(alloc, &label))
-}
-
-fn members<S: Store>(alloc: Global, store: &S, collection: &str) -> Result<Vec<u8>, NoMemory> {
-    let collection = name(alloc, collection)?;
-    print_values(alloc, store.members(alloc, &collection))
-}
-
-// What is reported of the whole graph.
-fn check_lists<R: AllocGlobal + Abort, S: Store>(rt: &R, store: &S) -> Result<(), NoMemory> {
-    let alloc = rt.alloc();
-    check_answered(rt, edges_by(alloc, store, "year"), "pub1 1998;pub2 1997;")?;
-    check_answered(rt, members(alloc, store, "Publications"), "&pub1;&pub2;")?;
-    check_answered(
-        rt,
-        print_values(alloc, store.values(alloc)),
-        "1997;1998;'Dan';'Lorel <1>';'Mary';'Strudel';&pub1;&pub2;",
-    )?;
-    check_answered(
-        rt,
-        print_names(alloc, store.labels(alloc)),
-        "author;title;year;",
-    )
-}
-
-fn has_edge<S: Store>(
-    alloc: Global,
-    store: &S,
-    from: &str,
-    label: &str,
-    to: &str,
+    call: &Call,
+    value: &Value,
+    name: &Str,
+    list: &str,
 ) -> Result<bool, NoMemory> {
-    let from = node(alloc, from)?;
-    let label = name(alloc, label)?;
-    let to = text(alloc, to)?;
-    Ok(store.has_edge(&from, &label, &to))
+    match call {
+        Call::Out => is_printed(alloc, store.out(alloc, value, name), list),
+        Call::OutAll => is_printed(alloc, store.out_all(alloc, value), list),
+        Call::Incoming => is_printed(alloc, store.incoming(alloc, value), list),
+        Call::IncomingBy => is_printed(alloc, store.incoming_by(alloc, value, name), list),
+        Call::EdgesBy => is_printed(alloc, store.edges_by(alloc, name), list),
+        Call::Members => is_printed(alloc, store.members(alloc, name), list),
+        Call::Values => is_printed(alloc, store.values(alloc), list),
+        Call::Labels => is_printed(alloc, store.labels(alloc), list),
+        Call::FirstOut(most) => {
+            is_printed(alloc, store.first_out(alloc, value, name, *most), list)
+        }
+        Call::FirstIncoming(most) => {
+            is_printed(alloc, store.first_incoming(alloc, value, name, *most), list)
+        }
+        Call::FirstEdges(most) => is_printed(alloc, store.first_edges(alloc, name, *most), list),
+        Call::FirstMembers(most) => {
+            is_printed(alloc, store.first_members(alloc, name, *most), list)
+        }
+        Call::FirstValues(most) => is_printed(alloc, store.first_values(alloc, *most), list),
+        _ => Ok(false),
+    }
 }
 
-fn is_member<S: Store>(
+// What the call's test says, where it is one.
+fn test_of<S: Store>(
     alloc: Global,
     store: &S,
-    collection: &str,
-    value: &str,
-) -> Result<bool, NoMemory> {
-    let collection = name(alloc, collection)?;
-    let value = node(alloc, value)?;
-    Ok(store.is_member(&collection, &value))
+    call: &Call,
+    value: &Value,
+    name: &Str,
+) -> Result<Option<bool>, NoMemory> {
+    Ok(match call {
+        Call::HasEdge(from) => {
+            let from = Value::Data(Datum::Node(Str::new(alloc, from.as_bytes())?));
+            Some(store.has_edge(&from, name, value))
+        }
+        Call::IsMember => Some(store.is_member(name, value)),
+        Call::IsValue => Some(store.is_value(value)),
+        Call::IsLabel => Some(store.is_label(name)),
+        _ => None,
+    })
 }
 
-fn is_text<S: Store>(alloc: Global, store: &S, value: &str) -> Result<bool, NoMemory> {
-    let value = text(alloc, value)?;
-    Ok(store.is_value(&value))
+// What the call counts, where it counts something.
+fn count_of<S: Store>(store: &S, call: &Call, value: &Value, name: &Str) -> Option<u64> {
+    match call {
+        Call::EdgesOf => Some(store.edges_of(name)),
+        Call::MembersOf => Some(store.members_of(name)),
+        Call::CountOut => Some(store.count_out(value, name)),
+        Call::CountIncoming => Some(store.count_incoming(value, name)),
+        Call::DegreeOut => Some(store.degree_out(value)),
+        Call::DegreeIncoming => Some(store.degree_incoming(value)),
+        _ => None,
+    }
 }
 
-fn is_label<S: Store>(alloc: Global, store: &S, label: &str) -> Result<bool, NoMemory> {
-    let label = name(alloc, label)?;
-    Ok(store.is_label(&label))
+// Whether the row's call answers what the row says.
+fn is_answered<S: Store>(alloc: Global, store: &S, row: &CallRow) -> Result<bool, NoMemory> {
+    let value = value_of(alloc, &row.value)?;
+    let name = Str::new(alloc, row.name.as_bytes())?;
+    match &row.answer {
+        Answer::List(list) => lists(alloc, store, &row.call, &value, &name, list),
+        Answer::Test(wanted) => {
+            Ok(test_of(alloc, store, &row.call, &value, &name)? == Some(*wanted))
+        }
+        Answer::Count(wanted) => Ok(count_of(store, &row.call, &value, &name) == Some(*wanted)),
+        Answer::Sizes(wanted) => Ok(store.sizes() == *wanted),
+    }
 }
 
-// Tests of single edges, members, values and labels.
-fn check_tests<R: AllocGlobal + Abort, S: Store>(rt: &R, store: &S) -> Result<(), NoMemory> {
-    let alloc = rt.alloc();
-    check_answer(rt, has_edge(alloc, store, "pub1", "author", "Mary"), true)?;
-    check_answer(rt, has_edge(alloc, store, "pub2", "author", "Mary"), false)?;
-    check_answer(rt, is_member(alloc, store, "Publications", "pub2"), true)?;
-    check_answer(rt, is_member(alloc, store, "author", "pub2"), false)?;
-    check_answer(rt, is_text(alloc, store, "Mary"), true)?;
-    check_answer(rt, is_text(alloc, store, "pub1"), false)?;
-    check_answer(rt, is_label(alloc, store, "author"), true)?;
-    check_answer(rt, is_label(alloc, store, "Publications"), false)
-}
-
-fn edges_of<S: Store>(alloc: Global, store: &S, label: &str) -> Result<u64, NoMemory> {
-    let label = name(alloc, label)?;
-    Ok(store.edges_of(&label))
-}
-
-fn members_of<S: Store>(alloc: Global, store: &S, collection: &str) -> Result<u64, NoMemory> {
-    let collection = name(alloc, collection)?;
-    Ok(store.members_of(&collection))
-}
-
-fn check_count<R: Abort>(
-    rt: &R,
-    found: Result<u64, NoMemory>,
-    wanted: u64,
-) -> Result<(), NoMemory> {
-    assert_eq!(rt; found?, wanted);
+fn check_rows<S: Store + Drop>(alloc: Global, called: &str, store: S) -> Result<(), Fail> {
+    for (place, row) in ROWS.iter().enumerate() {
+        check(is_answered(alloc, &store, row)?, called, place)?;
+    }
     Ok(())
 }
 
-fn check_sizes<R: Abort>(rt: &R, found: Sizes) {
-    let sizes = Sizes {
-        nodes: 2,
-        edges: 7,
-        values: 8,
-        labels: 3,
-    };
-    assert_eq!(rt; found, sizes);
-}
-
-fn check_counts<R: AllocGlobal + Abort, S: Store>(rt: &R, store: &S) -> Result<(), NoMemory> {
+#[test]
+fn both_stores_answer_each_call(rt: HostRuntime) -> Result<(), Fail> {
     let alloc = rt.alloc();
-    check_sizes(rt, store.sizes());
-    check_count(rt, edges_of(alloc, store, "author"), 3)?;
-    check_count(rt, edges_of(alloc, store, "Publications"), 0)?;
-    check_count(rt, members_of(alloc, store, "Publications"), 2)?;
-    check_count(rt, members_of(alloc, store, "author"), 0)
-}
-
-fn check_calls<R: AllocGlobal + Abort, S: Store>(rt: &R, store: &S) -> Result<(), NoMemory> {
-    check_edges(rt, store)?;
-    check_lists(rt, store)?;
-    check_tests(rt, store)?;
-    check_counts(rt, store)
-}
-
-#[test]
-fn the_plain_store_answers_each_call(rt: HostRuntime) -> Result<(), Fail> {
-    let store = list_of(rt.alloc(), BIBLIOGRAPHY)?;
-    Ok(check_calls(&rt, &store)?)
-}
-
-#[test]
-fn the_programs_store_answers_each_call(rt: HostRuntime) -> Result<(), Fail> {
-    let store = index_of(rt.alloc(), BIBLIOGRAPHY)?;
-    Ok(check_calls(&rt, &store)?)
+    check_rows(alloc, PLAIN, list_of(alloc, BIBLIOGRAPHY)?)?;
+    check_rows(alloc, INDEXED, index_of(alloc, BIBLIOGRAPHY)?)
 }

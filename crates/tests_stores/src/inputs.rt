@@ -1,11 +1,10 @@
-// Stores of texts, with `'` for each quote.
+// Stores of texts, with `'` for each quote, and what both of them must answer.
+use crate::printed::quoted;
 use index_store::IndexStore;
 use list_store::ListStore;
 use sd_ddl::read_ddl;
-use sd_graph::{Graph, GraphBuilder, PROGRAM_LIMITS};
-use sd_value::NoMemory;
+use sd_graph::{Graph, GraphBuilder, PROGRAM_LIMITS, Sizes};
 use std::alloc::Global;
-use std::process::Abort;
 use std::test::Fail;
 
 // The most bytes of a text here.
@@ -16,16 +15,18 @@ pub const BIBLIOGRAPHY: &str =
     "object pub1 in Publications { title 'Strudel' year 1998 author 'Mary' author 'Dan' } object pub2 in \
         Publications { title 'Lorel <1>' year 1997 author 'Dan' }";
 
-// The text with its quotes.
-fn quoted(alloc: Global, text: &str) -> Result<Vec<u8>, NoMemory> {
-    let mut out = Vec::new(alloc);
-    for byte in text.as_bytes() {
-        match byte {
-            b'\'' => out.push(b'"')?,
-            _ => out.push(*byte)?,
-        }
-    }
-    Ok(out)
+/// How each store is called where a row fails.
+pub const PLAIN: &str = "the plain store";
+
+pub const INDEXED: &str = "the program's store";
+
+/// What a row's call answers.
+pub enum Answer {
+    /// A list as it is printed, with `'` for each quote.
+    List(&'static str),
+    Test(bool),
+    Count(u64),
+    Sizes(Sizes),
 }
 
 fn graph_of(alloc: Global, text: &str) -> Result<Graph, Fail> {
@@ -45,13 +46,10 @@ pub fn index_of(alloc: Global, text: &str) -> Result<IndexStore, Fail> {
     Ok(IndexStore::of(alloc, graph_of(alloc, text)?)?)
 }
 
-/// Compares what was found with a text.
-pub fn check_text<R: AllocGlobal + Abort>(
-    rt: &R,
-    found: &[u8],
-    wanted: &str,
-) -> Result<(), NoMemory> {
-    let bytes = quoted(rt.alloc(), wanted)?;
-    assert_eq!(rt; found, bytes.as_slice(), "{wanted}");
-    Ok(())
+/// Fails with the store and the row's number where the row doesn't hold.
+pub fn check(holds: bool, store: &str, row: usize) -> Result<(), Fail> {
+    if holds {
+        return Ok(());
+    }
+    Err(Fail::new(format_args!("{store}: row {row}, counted from 0")))
 }

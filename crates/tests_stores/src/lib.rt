@@ -1,10 +1,8 @@
-//! Each call of both stores over the same graphs, and the walks over them, each beside an answer worked by hand.
+//! Each call of both stores over the same graph, and the walks over them, each beside an answer worked by hand.
 #![tactic(auto)]
 
 #[cfg(test)]
 mod calls;
-#[cfg(test)]
-mod counts;
 #[cfg(test)]
 mod inputs;
 #[cfg(test)]

@@ -1,109 +1,99 @@
 // Lists of values as texts that a row can be compared with.
-use crate::inputs::check_text;
 use address::show;
 use sd_graph::{Edge, Step};
 use sd_value::{Datum, NoMemory, Str, Value};
 use std::alloc::Global;
-use std::process::Abort;
 
-/// A name or a label.
-pub fn name(alloc: Global, text: &str) -> Result<Str, NoMemory> {
-    Str::new(alloc, text.as_bytes())
+/// A value of a row.
+pub enum Named {
+    /// The node of this name.
+    Node(&'static str),
+    Text(&'static str),
+    Number(i64),
 }
 
-/// The node of this name, as a value.
-pub fn node(alloc: Global, text: &str) -> Result<Value, NoMemory> {
-    Ok(Value::Data(Datum::Node(name(alloc, text)?)))
+/// The value.
+pub fn value_of(alloc: Global, named: &Named) -> Result<Value, NoMemory> {
+    Ok(Value::Data(match named {
+        Named::Node(name) => Datum::Node(Str::new(alloc, name.as_bytes())?),
+        Named::Text(text) => Datum::Text(Str::new(alloc, text.as_bytes())?),
+        Named::Number(number) => Datum::Int(*number),
+    }))
 }
 
-/// The text, as a value.
-pub fn text(alloc: Global, text: &str) -> Result<Value, NoMemory> {
-    Ok(Value::Data(Datum::Text(name(alloc, text)?)))
-}
-
-// What is before a value and behind it.
-fn marks_of(value: &Value) -> (&'static [u8], &'static [u8]) {
-    match value {
-        Value::Data(Datum::Text(_)) => (b"\"", b"\";"),
-        Value::Data(Datum::Node(_)) => (b"&", b";"),
-        _ => (b"", b";"),
-    }
-}
-
-// A number in decimal, a text in quotes, a node behind `&`, and a semicolon.
-fn push_value(alloc: Global, out: &mut Vec<u8>, value: &Value) -> Result<(), NoMemory> {
-    let (before, behind) = marks_of(value);
-    out.extend_from_slice(before)?;
-    show(alloc, value, out)?;
-    Ok(out.extend_from_slice(behind)?)
-}
-
-fn push_name(out: &mut Vec<u8>, name: &Str, behind: u8) -> Result<(), NoMemory> {
-    out.extend_from_slice(name.bytes())?;
-    Ok(out.push(behind)?)
-}
-
-/// Compares what a call answered, as it is printed, with a text.
-pub fn check_answered<R: AllocGlobal + Abort>(
-    rt: &R,
-    printed: Result<Vec<u8>, NoMemory>,
-    wanted: &str,
-) -> Result<(), NoMemory> {
-    let printed = printed?;
-    check_text(rt, printed.as_slice(), wanted)
-}
-
-/// Compares what a call answered with a test's answer.
-pub fn check_answer<R: Abort>(
-    rt: &R,
-    found: Result<bool, NoMemory>,
-    wanted: bool,
-) -> Result<(), NoMemory> {
-    assert_eq!(rt; found?, wanted);
-    Ok(())
-}
-
-/// The values, each with a semicolon behind it.
-pub fn print_values(
-    alloc: Global,
-    values: Result<Vec<Value>, NoMemory>,
-) -> Result<Vec<u8>, NoMemory> {
+/// The text with `"` for each `'`.
+pub fn quoted(alloc: Global, text: &str) -> Result<Vec<u8>, NoMemory> {
     let mut out = Vec::new(alloc);
-    for value in &values? {
-        push_value(alloc, &mut out, value)?;
+    for byte in text.as_bytes() {
+        match byte {
+            b'\'' => out.push(b'"')?,
+            _ => out.push(*byte)?,
+        }
     }
     Ok(out)
 }
 
-/// The names, each with a semicolon behind it.
-pub fn print_names(alloc: Global, names: Result<Vec<Str>, NoMemory>) -> Result<Vec<u8>, NoMemory> {
-    let mut out = Vec::new(alloc);
-    for name in &names? {
-        push_name(&mut out, name, b';')?;
+/// What a list has.
+pub trait Printed {
+    /// Adds the text, with a semicolon behind it.
+    fn print(&self, alloc: Global, out: &mut Vec<u8>) -> Result<(), NoMemory>;
+}
+
+// A number in decimal, a text in quotes, and a node behind `&`.
+impl Printed for Value {
+    fn print(&self, alloc: Global, out: &mut Vec<u8>) -> Result<(), NoMemory> {
+        let (before, behind): (&[u8], &[u8]) = match self {
+            Value::Data(Datum::Text(_)) => (b"\"", b"\";"),
+            Value::Data(Datum::Node(_)) => (b"&", b";"),
+            _ => (b"", b";"),
+        };
+        out.extend_from_slice(before)?;
+        show(alloc, self, out)?;
+        Ok(out.extend_from_slice(behind)?)
     }
-    Ok(out)
+}
+
+impl Printed for Str {
+    fn print(&self, _alloc: Global, out: &mut Vec<u8>) -> Result<(), NoMemory> {
+        out.extend_from_slice(self.bytes())?;
+        Ok(out.push(b';')?)
+    }
 }
 
 // A label or a name, a blank, and the value at the other end.
-fn push_end(alloc: Global, out: &mut Vec<u8>, name: &Str, end: &Value) -> Result<(), NoMemory> {
-    push_name(out, name, b' ')?;
-    push_value(alloc, out, end)
+fn print_end(alloc: Global, out: &mut Vec<u8>, name: &Str, end: &Value) -> Result<(), NoMemory> {
+    out.extend_from_slice(name.bytes())?;
+    out.push(b' ')?;
+    end.print(alloc, out)
 }
 
-/// The steps, each as its label, a blank, and its end.
-pub fn print_steps(alloc: Global, steps: Result<Vec<Step>, NoMemory>) -> Result<Vec<u8>, NoMemory> {
+impl Printed for Step {
+    fn print(&self, alloc: Global, out: &mut Vec<u8>) -> Result<(), NoMemory> {
+        print_end(alloc, out, &self.label, &self.end)
+    }
+}
+
+impl Printed for Edge {
+    fn print(&self, alloc: Global, out: &mut Vec<u8>) -> Result<(), NoMemory> {
+        print_end(alloc, out, &self.from, &self.to)
+    }
+}
+
+// The texts of what a list has.
+fn print_all<T: Printed>(alloc: Global, items: &[T]) -> Result<Vec<u8>, NoMemory> {
     let mut out = Vec::new(alloc);
-    for step in &steps? {
-        push_end(alloc, &mut out, &step.label, &step.end)?;
+    for item in items {
+        item.print(alloc, &mut out)?;
     }
     Ok(out)
 }
 
-/// The edges, each as the name of its start, a blank, and its end.
-pub fn print_edges(alloc: Global, edges: Result<Vec<Edge>, NoMemory>) -> Result<Vec<u8>, NoMemory> {
-    let mut out = Vec::new(alloc);
-    for edge in &edges? {
-        push_end(alloc, &mut out, &edge.from, &edge.to)?;
-    }
-    Ok(out)
+/// Whether the list is printed so, with `'` for each quote.
+pub fn is_printed<T: Printed + Drop>(
+    alloc: Global,
+    items: Result<Vec<T>, NoMemory>,
+    wanted: &str,
+) -> Result<bool, NoMemory> {
+    let found = print_all(alloc, &items?)?;
+    Ok(found == quoted(alloc, wanted)?)
 }

@@ -1,77 +1,204 @@
 // Walks of path expressions.
-use crate::inputs::{BIBLIOGRAPHY, index_of, list_of};
-use crate::printed::{check_answer, check_answered, name, node, print_values};
+use crate::inputs::{Answer, BIBLIOGRAPHY, INDEXED, PLAIN, check, index_of, list_of};
+use crate::printed::{Named, is_printed, value_of};
 use automaton::Automaton;
 use rpe::Rpe;
 use sd_graph::Store;
-use sd_value::{Datum, NoMemory, Value};
+use sd_value::{NoMemory, Str, Value};
 use std::alloc::Global;
-use std::process::Abort;
 use std::test::Fail;
 use walks::{Direction, Winner, joins, race, reach, within};
+
+enum Words {
+    // Any word: `true*`.
+    Any,
+    // One label and any number of another: `"a"."b"*`.
+    Repeated,
+}
+
+enum Walk {
+    Ends,
+    Starts,
+    Joins,
+    // The ends, if looking at so many edges is enough; else the empty list.
+    EndsWithin(usize),
+    // Whether the search that won a race gave all ends of the start, or all starts of the end.
+    Wins,
+}
+
+// A walk in a graph from a start, or to an end, and what it answers.
+struct WalkRow {
+    graph: &'static str,
+    words: Words,
+    walk: Walk,
+    start: Named,
+    end: Named,
+    answer: Answer,
+}
+
+const LOOP: &str = "object a { e &a }";
+
+const REPETITION: &str = "object p { a &q } object q { b &r } object r { b &q }";
+
+const ROWS: &[WalkRow] = &[
+    // An object that refers to itself.
+    WalkRow {
+        graph: LOOP,
+        words: Words::Any,
+        walk: Walk::Ends,
+        start: Named::Node("a"),
+        end: Named::Node("a"),
+        answer: Answer::List("&a;"),
+    },
+    WalkRow {
+        graph: LOOP,
+        words: Words::Any,
+        walk: Walk::Starts,
+        start: Named::Node("a"),
+        end: Named::Node("a"),
+        answer: Answer::List("&a;"),
+    },
+    // A word of one label and any number of another, both ways.
+    WalkRow {
+        graph: REPETITION,
+        words: Words::Repeated,
+        walk: Walk::Ends,
+        start: Named::Node("p"),
+        end: Named::Node("p"),
+        answer: Answer::List("&q;&r;"),
+    },
+    WalkRow {
+        graph: REPETITION,
+        words: Words::Repeated,
+        walk: Walk::Starts,
+        start: Named::Node("r"),
+        end: Named::Node("r"),
+        answer: Answer::List("&p;"),
+    },
+    WalkRow {
+        graph: REPETITION,
+        words: Words::Repeated,
+        walk: Walk::Joins,
+        start: Named::Node("p"),
+        end: Named::Node("r"),
+        answer: Answer::Test(true),
+    },
+    WalkRow {
+        graph: REPETITION,
+        words: Words::Repeated,
+        walk: Walk::Joins,
+        start: Named::Node("r"),
+        end: Named::Node("p"),
+        answer: Answer::Test(false),
+    },
+    WalkRow {
+        graph: REPETITION,
+        words: Words::Repeated,
+        walk: Walk::Joins,
+        start: Named::Node("p"),
+        end: Named::Node("p"),
+        answer: Answer::Test(false),
+    },
+    // A search that stops at a limit, and one that wins a race.
+    WalkRow {
+        graph: REPETITION,
+        words: Words::Repeated,
+        walk: Walk::EndsWithin(100),
+        start: Named::Node("p"),
+        end: Named::Node("p"),
+        answer: Answer::List("&q;&r;"),
+    },
+    WalkRow {
+        graph: REPETITION,
+        words: Words::Repeated,
+        walk: Walk::EndsWithin(1),
+        start: Named::Node("p"),
+        end: Named::Node("p"),
+        answer: Answer::List(""),
+    },
+    WalkRow {
+        graph: REPETITION,
+        words: Words::Repeated,
+        walk: Walk::Wins,
+        start: Named::Node("p"),
+        end: Named::Node("r"),
+        answer: Answer::Test(true),
+    },
+    WalkRow {
+        graph: REPETITION,
+        words: Words::Repeated,
+        walk: Walk::Wins,
+        start: Named::Node("r"),
+        end: Named::Node("p"),
+        answer: Answer::Test(true),
+    },
+    // The empty word joins a number with itself, also where it is not in the graph.
+    WalkRow {
+        graph: BIBLIOGRAPHY,
+        words: Words::Any,
+        walk: Walk::Ends,
+        start: Named::Number(1997),
+        end: Named::Number(1997),
+        answer: Answer::List("1997;"),
+    },
+    WalkRow {
+        graph: BIBLIOGRAPHY,
+        words: Words::Any,
+        walk: Walk::Starts,
+        start: Named::Number(1997),
+        end: Named::Number(1997),
+        answer: Answer::List("1997;&pub2;"),
+    },
+    WalkRow {
+        graph: BIBLIOGRAPHY,
+        words: Words::Any,
+        walk: Walk::Joins,
+        start: Named::Number(1997),
+        end: Named::Number(1997),
+        answer: Answer::Test(true),
+    },
+    WalkRow {
+        graph: "",
+        words: Words::Any,
+        walk: Walk::Ends,
+        start: Named::Number(1997),
+        end: Named::Number(1997),
+        answer: Answer::List("1997;"),
+    },
+    WalkRow {
+        graph: "",
+        words: Words::Any,
+        walk: Walk::Starts,
+        start: Named::Number(1997),
+        end: Named::Number(1997),
+        answer: Answer::List("1997;"),
+    },
+    WalkRow {
+        graph: "",
+        words: Words::Any,
+        walk: Walk::Joins,
+        start: Named::Number(1997),
+        end: Named::Number(1997),
+        answer: Answer::Test(true),
+    },
+];
 
 fn star(alloc: Global, body: Rpe) -> Result<Rpe, NoMemory> {
     Ok(Rpe::Star(Box::new(alloc, body)?))
 }
 
-// Any word: `true*`.
-fn any_word(alloc: Global) -> Result<Rpe, NoMemory> {
-    star(alloc, Rpe::Any)
+fn label(alloc: Global, name: &[u8]) -> Result<Rpe, NoMemory> {
+    Ok(Rpe::Label(Str::new(alloc, name)?))
 }
 
-// One label and any number of another: `"a"."b"*`.
-fn one_and_repeated(alloc: Global) -> Result<Rpe, NoMemory> {
-    let first = Box::new(alloc, Rpe::Label(name(alloc, "a")?))?;
-    let repeated = star(alloc, Rpe::Label(name(alloc, "b")?))?;
-    let repeated = Box::new(alloc, repeated)?;
-    Ok(Rpe::Seq(first, repeated))
-}
-
-fn ends_of<S: Store>(
-    alloc: Global,
-    store: &S,
-    words: &Automaton,
-    start: &str,
-) -> Result<Vec<u8>, NoMemory> {
-    let start = node(alloc, start)?;
-    print_values(alloc, reach(alloc, store, words, Direction::Onward, &start))
-}
-
-fn starts_of<S: Store>(
-    alloc: Global,
-    store: &S,
-    words: &Automaton,
-    end: &str,
-) -> Result<Vec<u8>, NoMemory> {
-    let end = node(alloc, end)?;
-    print_values(alloc, reach(alloc, store, words, Direction::Backward, &end))
-}
-
-fn are_joined<S: Store>(
-    alloc: Global,
-    store: &S,
-    words: &Automaton,
-    start: &str,
-    end: &str,
-) -> Result<bool, NoMemory> {
-    let start = node(alloc, start)?;
-    let end = node(alloc, end)?;
-    joins(alloc, store, words, &start, &end)
-}
-
-// The ends, if looking at this many edges is enough.
-fn ends_within<S: Store>(
-    alloc: Global,
-    store: &S,
-    words: &Automaton,
-    start: &str,
-    limit: usize,
-) -> Result<Vec<u8>, NoMemory> {
-    let start = node(alloc, start)?;
-    let found = within(alloc, store, words, Direction::Onward, &start, limit)?;
-    match found {
-        Some(ends) => print_values(alloc, Ok(ends)),
-        None => Ok(Vec::new(alloc)),
+fn expression(alloc: Global, words: &Words) -> Result<Rpe, NoMemory> {
+    match words {
+        Words::Any => star(alloc, Rpe::Any),
+        Words::Repeated => {
+            let first = Box::new(alloc, label(alloc, b"a")?)?;
+            let repeated = star(alloc, label(alloc, b"b")?)?;
+            Ok(Rpe::Seq(first, Box::new(alloc, repeated)?))
+        }
     }
 }
 
@@ -80,113 +207,101 @@ fn wins<S: Store>(
     alloc: Global,
     store: &S,
     words: &Automaton,
-    start: &str,
-    end: &str,
+    start: &Value,
+    end: &Value,
 ) -> Result<bool, NoMemory> {
-    let from = node(alloc, start)?;
-    let to = node(alloc, end)?;
-    let Winner { direction, values } = race(alloc, store, words, &from, &to)?;
-    let given = print_values(alloc, Ok(values))?;
+    let Winner { direction, values } = race(alloc, store, words, start, end)?;
     let wanted = match direction {
-        Direction::Onward => ends_of(alloc, store, words, start)?,
-        Direction::Backward => starts_of(alloc, store, words, end)?,
+        Direction::Onward => reach(alloc, store, words, Direction::Onward, start)?,
+        Direction::Backward => reach(alloc, store, words, Direction::Backward, end)?,
     };
-    Ok(given.as_slice() == wanted.as_slice())
+    Ok(values == wanted)
 }
 
-// An object that refers to itself.
-fn check_loop<R: AllocGlobal + Abort, S: Store>(
-    rt: &R,
+// Whether the walk gives this list.
+fn lists<S: Store>(
+    alloc: Global,
     store: &S,
     words: &Automaton,
-) -> Result<(), NoMemory> {
-    let alloc = rt.alloc();
-    check_answered(rt, ends_of(alloc, store, words, "a"), "&a;")?;
-    check_answered(rt, starts_of(alloc, store, words, "a"), "&a;")
+    walk: &Walk,
+    start: &Value,
+    end: &Value,
+    list: &str,
+) -> Result<bool, NoMemory> {
+    let found = match walk {
+        Walk::Ends => reach(alloc, store, words, Direction::Onward, start),
+        Walk::Starts => reach(alloc, store, words, Direction::Backward, end),
+        Walk::EndsWithin(limit) => {
+            let ends = within(alloc, store, words, Direction::Onward, start, *limit)?;
+            Ok(ends.unwrap_or(Vec::new(alloc)))
+        }
+        _ => return Ok(false),
+    };
+    is_printed(alloc, found, list)
 }
 
-// A word of one label and any number of another, both ways.
-fn check_repetition<R: AllocGlobal + Abort, S: Store>(
-    rt: &R,
+// What the walk's test says, where it is one.
+fn test_of<S: Store>(
+    alloc: Global,
     store: &S,
     words: &Automaton,
-) -> Result<(), NoMemory> {
-    let alloc = rt.alloc();
-    check_answered(rt, ends_of(alloc, store, words, "p"), "&q;&r;")?;
-    check_answered(rt, starts_of(alloc, store, words, "r"), "&p;")?;
-    check_answer(rt, are_joined(alloc, store, words, "p", "r"), true)?;
-    check_answer(rt, are_joined(alloc, store, words, "r", "p"), false)?;
-    check_answer(rt, are_joined(alloc, store, words, "p", "p"), false)
+    walk: &Walk,
+    start: &Value,
+    end: &Value,
+) -> Result<Option<bool>, NoMemory> {
+    Ok(match walk {
+        Walk::Joins => Some(joins(alloc, store, words, start, end)?),
+        Walk::Wins => Some(wins(alloc, store, words, start, end)?),
+        _ => None,
+    })
 }
 
-// A search that stops at a limit, and one that wins a race.
-fn check_stops<R: AllocGlobal + Abort, S: Store>(
-    rt: &R,
+// Whether the row's walk answers what the row says.
+fn is_answered<S: Store>(
+    alloc: Global,
     store: &S,
     words: &Automaton,
-) -> Result<(), NoMemory> {
-    let alloc = rt.alloc();
-    check_answered(rt, ends_within(alloc, store, words, "p", 100), "&q;&r;")?;
-    check_answered(rt, ends_within(alloc, store, words, "p", 1), "")?;
-    check_answer(rt, wins(alloc, store, words, "p", "r"), true)?;
-    check_answer(rt, wins(alloc, store, words, "r", "p"), true)
+    row: &WalkRow,
+) -> Result<bool, NoMemory> {
+    let start = value_of(alloc, &row.start)?;
+    let end = value_of(alloc, &row.end)?;
+    match &row.answer {
+        Answer::List(list) => lists(alloc, store, words, &row.walk, &start, &end, list),
+        Answer::Test(wanted) => {
+            Ok(test_of(alloc, store, words, &row.walk, &start, &end)? == Some(*wanted))
+        }
+        _ => Ok(false),
+    }
 }
 
-// The empty word joins a number with itself, also where it is not in the graph.
-fn check_number<R: AllocGlobal + Abort, S: Store>(
-    rt: &R,
-    store: &S,
+fn check_walk<S: Store + Drop>(
+    alloc: Global,
+    called: &str,
+    store: S,
     words: &Automaton,
-    starts: &str,
-) -> Result<(), NoMemory> {
-    let alloc = rt.alloc();
-    let year = Value::Data(Datum::Int(1997));
-    let ends = print_values(alloc, reach(alloc, store, words, Direction::Onward, &year));
-    check_answered(rt, ends, "1997;")?;
-    let found = print_values(
+    place: usize,
+    row: &WalkRow,
+) -> Result<(), Fail> {
+    check(is_answered(alloc, &store, words, row)?, called, place)
+}
+
+fn check_row(alloc: Global, place: usize, row: &WalkRow) -> Result<(), Fail> {
+    let words = Automaton::of(alloc, &expression(alloc, &row.words)?)?;
+    check_walk(alloc, PLAIN, list_of(alloc, row.graph)?, &words, place, row)?;
+    check_walk(
         alloc,
-        reach(alloc, store, words, Direction::Backward, &year),
-    );
-    check_answered(rt, found, starts)?;
-    check_answer(rt, joins(alloc, store, words, &year, &year), true)
-}
-
-const LOOP: &str = "object a { e &a }";
-
-const REPETITION: &str = "object p { a &q } object q { b &r } object r { b &q }";
-
-fn check_list<R: AllocGlobal + Abort>(
-    rt: &R,
-    any: &Automaton,
-    repeated: &Automaton,
-) -> Result<(), Fail> {
-    let alloc = rt.alloc();
-    check_loop(rt, &list_of(alloc, LOOP)?, any)?;
-    check_repetition(rt, &list_of(alloc, REPETITION)?, repeated)?;
-    check_stops(rt, &list_of(alloc, REPETITION)?, repeated)?;
-    check_number(rt, &list_of(alloc, BIBLIOGRAPHY)?, any, "1997;&pub2;")?;
-    check_number(rt, &list_of(alloc, "")?, any, "1997;")?;
-    Ok(())
-}
-
-fn check_index<R: AllocGlobal + Abort>(
-    rt: &R,
-    any: &Automaton,
-    repeated: &Automaton,
-) -> Result<(), Fail> {
-    let alloc = rt.alloc();
-    check_loop(rt, &index_of(alloc, LOOP)?, any)?;
-    check_repetition(rt, &index_of(alloc, REPETITION)?, repeated)?;
-    check_stops(rt, &index_of(alloc, REPETITION)?, repeated)?;
-    check_number(rt, &index_of(alloc, BIBLIOGRAPHY)?, any, "1997;&pub2;")?;
-    check_number(rt, &index_of(alloc, "")?, any, "1997;")?;
-    Ok(())
+        INDEXED,
+        index_of(alloc, row.graph)?,
+        &words,
+        place,
+        row,
+    )
 }
 
 #[test]
 fn walks_over_both_stores_have_their_ends(rt: HostRuntime) -> Result<(), Fail> {
-    let any = Automaton::of(rt.alloc(), &any_word(rt.alloc())?)?;
-    let repeated = Automaton::of(rt.alloc(), &one_and_repeated(rt.alloc())?)?;
-    check_list(&rt, &any, &repeated)?;
-    check_index(&rt, &any, &repeated)
+    for (place, row) in ROWS.iter().enumerate() {
+        check_row(rt.alloc(), place, row)?;
+    }
+    Ok(())
 }

@@ -1,18 +1,23 @@
 // How answers are compared with a row.
+use std::str::from_utf8;
 use std::test::Fail;
 
-/// Fails with the reason where a row doesn't hold.
-pub fn check(holds: bool, reason: &str) -> Result<(), Fail> {
+/// Fails with the row's text where its answer is another.
+pub fn check(holds: bool, text: &[u8]) -> Result<(), Fail> {
     if holds {
         return Ok(());
     }
-    Err(Fail::new(reason))
+    let text = from_utf8(text);
+    Err(Fail::new(format_args!("another answer to {text:?}")))
 }
 
-/// Compares two texts.
-pub fn check_text(found: &[u8], wanted: &[u8]) -> Result<(), Fail> {
+/// Compares two texts of the row with this text.
+pub fn check_text(text: &[u8], found: &[u8], wanted: &[u8]) -> Result<(), Fail> {
     if found == wanted {
         return Ok(());
     }
-    Err(Fail::new(format_args!("{found:?} in place of {wanted:?}")))
+    let text = from_utf8(text);
+    let found = from_utf8(found);
+    let wanted = from_utf8(wanted);
+    Err(Fail::new(format_args!("{text:?}: {found:?} in place of {wanted:?}")))
 }

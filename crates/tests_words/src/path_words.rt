@@ -56,20 +56,12 @@ const WORDS: &[WordRow] = &[
     },
 ];
 
-fn push_letters(alloc: Global, word: &mut Vec<Str>, letters: &str) -> Result<(), NoMemory> {
+fn is_accepted(alloc: Global, automaton: &Automaton, letters: &str) -> Result<bool, NoMemory> {
+    let mut word = Vec::new(alloc);
     for letter in letters.as_bytes() {
         word.push(Str::new(alloc, &[*letter])?)?;
     }
-    Ok(())
-}
-
-fn check_word(alloc: Global, automaton: &Automaton, row: &WordRow) -> Result<(), Fail> {
-    let mut word = Vec::new(alloc);
-    push_letters(alloc, &mut word, row.letters)?;
-    check(
-        automaton.accepts(word.as_slice()) == row.is_accepted,
-        row.letters,
-    )
+    Ok(automaton.accepts(word.as_slice()))
 }
 
 #[test]
@@ -77,21 +69,18 @@ fn a_sequence_has_its_words(rt: HostRuntime) -> Result<(), Fail> {
     let alloc = rt.alloc();
     let automaton = Automaton::of(alloc, &one_and_repeated(alloc)?)?;
     for row in WORDS {
-        check_word(alloc, &automaton, row)?;
+        let found = is_accepted(alloc, &automaton, row.letters)?;
+        check(found == row.is_accepted, row.letters.as_bytes())?;
     }
     Ok(())
 }
 
-fn has_two_positions(automaton: &Automaton) -> bool {
+fn has_its_positions(automaton: &Automaton) -> bool {
     automaton.positions() == 2
         && !automaton.has_empty()
         && automaton.first(0)
         && !automaton.first(1)
         && automaton.letter(1).is_some()
-}
-
-fn has_their_order(automaton: &Automaton) -> bool {
-    automaton.positions() == 2
         && automaton.last(0)
         && automaton.last(1)
         && automaton.follows(0, 1)
@@ -110,21 +99,20 @@ fn steps_to_its_end(automaton: &Automaton, label: &Str) -> bool {
 fn a_sequence_has_two_positions(rt: HostRuntime) -> Result<(), Fail> {
     let alloc = rt.alloc();
     let automaton = Automaton::of(alloc, &one_and_repeated(alloc)?)?;
-    check(has_two_positions(&automaton), "positions")?;
-    check(has_their_order(&automaton), "what follows")?;
+    check(has_its_positions(&automaton), b"positions")?;
     let label = Str::new(alloc, b"b")?;
-    check(steps_to_its_end(&automaton, &label), "steps")
-}
-
-fn is_refused(alloc: Global, expression: &Rpe) -> bool {
-    matches!(Automaton::of(alloc, expression), Err(refusal) if refusal == RpeRefusal::TooManyPositions)
+    check(steps_to_its_end(&automaton, &label), b"steps")
 }
 
 #[test]
 fn one_position_past_the_limit_is_refused(rt: HostRuntime) -> Result<(), Fail> {
     let alloc = rt.alloc();
     let most = doubled(alloc, 8)?;
-    check(Automaton::of(alloc, &most).is_ok(), "the most are refused")?;
+    check(Automaton::of(alloc, &most).is_ok(), b"the most positions")?;
     let more = Rpe::Seq(Box::new(alloc, most)?, label(alloc, "a")?);
-    check(is_refused(alloc, &more), "one more is taken")
+    let found = Automaton::of(alloc, &more).err();
+    check(
+        found == Some(RpeRefusal::TooManyPositions),
+        b"one position more",
+    )
 }

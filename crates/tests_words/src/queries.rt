@@ -1,208 +1,213 @@
 // Queries and texts that are none, with the reader's answers, worked out by hand from the grammar.
+use crate::checks::check;
 use query_scoping::scoped_blocks;
-use sd_value::{NoMemory, Str};
+use sd_value::Str;
 use std::alloc::Global;
-use std::process::Abort;
 use std::test::Fail;
-use struql_ast::{Block, Query};
+use struql_ast::Query;
 use struql_parse::{ParseRefusal, parse};
 
-// The most bytes of a text here.
-const LIMIT: u64 = 65_536;
-
-// A text, with `'` for each quote, and why it is refused.
-struct RefusalRow {
+// A text, how many times `().` stands behind it, the most bytes that it may have, and why it is refused.
+struct Row {
     text: &'static str,
+    dots: usize,
+    limit: u64,
     refusal: ParseRefusal,
 }
 
-const REFUSED: &[RefusalRow] = &[
+// What most rows have.
+const ROW: Row = Row {
+    text: "",
+    dots: 0,
+    limit: 65_536,
+    refusal: ParseRefusal::NoMemory,
+};
+
+// A query of 58 bytes.
+const PLACES: &str = "STRUQL 2 INPUT D WHERE x->TRUE->y { CREATE F(x) } output S";
+
+const ROWS: &[Row] = &[
     // A 17th block, and a 16th in a block without braces.
-    RefusalRow {
+    Row {
         text: "INPUT D {{{{{{{{{{{{{{{{{",
         refusal: ParseRefusal::TooDeep(24),
+        ..ROW
     },
-    RefusalRow {
+    Row {
         text: "INPUT D CREATE F() {{{{{{{{{{{{{{{{",
         refusal: ParseRefusal::TooDeep(34),
+        ..ROW
     },
     // One brace fewer: the text only ends too early.
-    RefusalRow {
+    Row {
         text: "INPUT D {{{{{{{{{{{{{{{{",
         refusal: ParseRefusal::Expected(24),
+        ..ROW
     },
-    RefusalRow {
+    Row {
         text: "INPUT D CREATE F() {{{{{{{{{{{{{{{",
         refusal: ParseRefusal::Expected(34),
+        ..ROW
     },
     // 65 stars one within another, and 65 open parentheses.
-    RefusalRow {
+    Row {
         text: "INPUT D WHERE x -> true*****************************************************************",
         refusal: ParseRefusal::TooDeep(87),
+        ..ROW
     },
-    RefusalRow {
+    Row {
         text: "INPUT D WHERE x -> (((((((((((((((((((((((((((((((((((((((((((((((((((((((((((((((((",
         refusal: ParseRefusal::TooDeep(83),
+        ..ROW
     },
-    RefusalRow {
+    Row {
         text: "STRUQL 3",
         refusal: ParseRefusal::BadVersion(7),
+        ..ROW
     },
-    RefusalRow {
+    Row {
         text: "STRUQL x",
         refusal: ParseRefusal::Expected(7),
+        ..ROW
     },
     // A word of the grammar is no name, and a word in mixed case is one.
-    RefusalRow {
+    Row {
         text: "INPUT TRUE",
         refusal: ParseRefusal::Expected(6),
+        ..ROW
     },
-    RefusalRow {
+    Row {
         text: "INPUT D Where C(x)",
         refusal: ParseRefusal::Expected(8),
+        ..ROW
     },
     // No constant is collected, no negation negated, and a step is between two arrows.
-    RefusalRow {
+    Row {
         text: "INPUT D COLLECT C(1)",
         refusal: ParseRefusal::Expected(18),
+        ..ROW
     },
-    RefusalRow {
+    Row {
         text: "INPUT D WHERE not(not(",
         refusal: ParseRefusal::Expected(18),
+        ..ROW
     },
-    RefusalRow {
-        text: "INPUT D WHERE x -> 'a' y",
+    Row {
+        text: "INPUT D WHERE x -> \"a\" y",
         refusal: ParseRefusal::Expected(23),
+        ..ROW
     },
     // A quoted text names a collection alone, with one variable; a number names nothing.
-    RefusalRow {
-        text: "INPUT 'D'",
+    Row {
+        text: "INPUT \"D\"",
         refusal: ParseRefusal::Expected(6),
+        ..ROW
     },
-    RefusalRow {
-        text: "INPUT D WHERE 'C'('x')",
+    Row {
+        text: "INPUT D WHERE \"C\"(\"x\")",
         refusal: ParseRefusal::Expected(18),
+        ..ROW
     },
-    RefusalRow {
-        text: "INPUT D WHERE 'C'()",
+    Row {
+        text: "INPUT D WHERE \"C\"()",
         refusal: ParseRefusal::Expected(18),
+        ..ROW
     },
-    RefusalRow {
-        text: "INPUT D WHERE 'C'(x) -> 'a' -> y",
+    Row {
+        text: "INPUT D WHERE \"C\"(x) -> \"a\" -> y",
         refusal: ParseRefusal::Expected(21),
+        ..ROW
     },
-    RefusalRow {
-        text: "INPUT D WHERE x -> 'a' -> 'C'(x)",
+    Row {
+        text: "INPUT D WHERE x -> \"a\" -> \"C\"(x)",
         refusal: ParseRefusal::Expected(29),
+        ..ROW
     },
-    RefusalRow {
+    Row {
         text: "INPUT D WHERE 1(x)",
         refusal: ParseRefusal::Expected(15),
+        ..ROW
     },
-    RefusalRow {
-        text: "INPUT D CREATE 'F'()",
+    Row {
+        text: "INPUT D CREATE \"F\"()",
         refusal: ParseRefusal::Expected(15),
+        ..ROW
     },
-    RefusalRow {
-        text: "INPUT D LINK 'F'() -> 'a' -> x",
+    Row {
+        text: "INPUT D LINK \"F\"() -> \"a\" -> x",
         refusal: ParseRefusal::Expected(13),
+        ..ROW
     },
-    RefusalRow {
+    Row {
         text: "INPUT D COLLECT 1(x)",
         refusal: ParseRefusal::Expected(16),
+        ..ROW
     },
-    RefusalRow {
-        text: "INPUT D COLLECT 'C' x",
+    Row {
+        text: "INPUT D COLLECT \"C\" x",
         refusal: ParseRefusal::Expected(20),
+        ..ROW
     },
-    RefusalRow {
-        text: "INPUT D COLLECT 'C'('F'(x))",
+    Row {
+        text: "INPUT D COLLECT \"C\"(\"F\"(x))",
         refusal: ParseRefusal::Expected(20),
+        ..ROW
     },
     // Faults of tokens come first.
-    RefusalRow {
+    Row {
         text: "OUTPUT ?",
         refusal: ParseRefusal::BadByte(7),
+        ..ROW
+    },
+    // The dot past the limit.
+    Row {
+        text: "INPUT D WHERE x -> ",
+        dots: 1024,
+        refusal: ParseRefusal::TooDeep(3090),
+        ..ROW
+    },
+    Row {
+        text: PLACES,
+        limit: 57,
+        refusal: ParseRefusal::TooLong(57),
+        ..ROW
     },
 ];
 
-fn refusal(alloc: Global, text: &[u8], limit: u64) -> Option<ParseRefusal> {
-    match parse(alloc, text, limit) {
-        Ok(_) => None,
-        Err(refusal) => Some(refusal),
-    }
-}
-
-fn check_refusal<R: AllocGlobal + Abort>(rt: &R, text: &[u8], limit: u64, wanted: ParseRefusal) {
-    let found = refusal(rt.alloc(), text, limit);
-    assert_eq!(rt; found, Some(wanted));
-}
-
-// The text with its quotes.
-fn quoted(alloc: Global, text: &str) -> Result<Vec<u8>, NoMemory> {
-    let mut out = Vec::new(alloc);
-    for byte in text.as_bytes() {
-        match byte {
-            b'\'' => out.push(b'"')?,
-            _ => out.push(*byte)?,
-        }
-    }
-    Ok(out)
-}
-
-fn check_refused<R: AllocGlobal + Abort>(rt: &R, row: &RefusalRow) -> Result<(), NoMemory> {
-    let text = quoted(rt.alloc(), row.text)?;
-    check_refusal(rt, text.as_slice(), LIMIT, row.refusal);
-    Ok(())
+fn check_row(alloc: Global, row: &Row) -> Result<(), Fail> {
+    let dots = "().".repeat(alloc, row.dots)?;
+    let mut text = Vec::from_slice(alloc, row.text.as_bytes())?;
+    text.extend_from_slice(dots.as_bytes())?;
+    let found = parse(alloc, &text, row.limit).err();
+    check(found == Some(row.refusal), row.text.as_bytes())
 }
 
 #[test]
 fn the_first_token_that_does_not_fit_is_refused(rt: HostRuntime) -> Result<(), Fail> {
-    for row in REFUSED {
-        check_refused(&rt, row)?;
+    for row in ROWS {
+        check_row(rt.alloc(), row)?;
     }
     Ok(())
 }
 
-// An expression of 1,024 empty words, each with a dot behind it.
-fn many_dots(alloc: Global) -> Result<Vec<u8>, NoMemory> {
-    let mut text = quoted(alloc, "INPUT D WHERE x -> ")?;
-    for _ in 0..1024 {
-        text.extend_from_slice(b"().")?;
+// It has one block of one condition and one block, from its byte 17 to 49.
+fn has_its_places(query: &Query) -> bool {
+    match query.blocks.as_slice() {
+        [block] => {
+            query.version == 2
+                && block.conditions.len() == 1
+                && block.blocks.len() == 1
+                && block.span.start == 17
+                && block.span.end == 49
+        }
+        _ => false,
     }
-    Ok(text)
-}
-
-#[test]
-fn the_dot_past_the_limit_is_refused(rt: HostRuntime) -> Result<(), Fail> {
-    let text = many_dots(rt.alloc())?;
-    check_refusal(&rt, text.as_slice(), LIMIT, ParseRefusal::TooDeep(3090));
-    Ok(())
-}
-
-// How many conditions and blocks a block has, and its place.
-fn counts_of(block: &Block) -> [u64; 4] {
-    [
-        block.conditions.len() as u64,
-        block.blocks.len() as u64,
-        block.span.start,
-        block.span.end,
-    ]
-}
-
-fn check_query<R: Abort>(rt: &R, query: &Query) {
-    assert_eq!(rt; query.version, 2);
-    assert_eq!(rt; query.blocks.len(), 1);
-    assert_eq!(rt; counts_of(&query.blocks[0]), [1, 1, 17, 49]);
 }
 
 #[test]
 fn a_query_is_read_with_its_places(rt: HostRuntime) -> Result<(), Fail> {
-    let text = b"STRUQL 2 INPUT D WHERE x->TRUE->y { CREATE F(x) } output S";
-    let query = parse(rt.alloc(), text, 58)?;
-    check_query(&rt, &query);
-    check_refusal(&rt, text, 57, ParseRefusal::TooLong(57));
-    Ok(())
+    let query = parse(rt.alloc(), PLACES.as_bytes(), 58)?;
+    check(has_its_places(&query), PLACES.as_bytes())
 }
 
 #[test]
@@ -215,6 +220,5 @@ fn a_query_without_blocks_has_none(rt: HostRuntime) -> Result<(), Fail> {
     };
     let checked = struql_check::check(rt.alloc(), query)?;
     let blocks = scoped_blocks(rt.alloc(), &checked)?;
-    assert_eq!(rt; blocks.len(), 0);
-    Ok(())
+    check(blocks.is_empty(), b"a query without blocks")
 }

@@ -4,5 +4,4 @@ mod data_texts;
 mod files;
 mod graphs;
 mod json_texts;
-mod lenient_texts;
 mod steps;

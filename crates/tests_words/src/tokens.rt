@@ -1,5 +1,5 @@
 // Tokens of texts, worked out by hand: as they are split, read one after another, and written back.
-use crate::checks::check;
+use crate::checks::{check, check_text};
 use sd_lex::{LexRefusal, Sign, Token, TokenKind, token_at, tokens};
 use std::alloc::Global;
 use std::test::Fail;
@@ -9,64 +9,60 @@ use token_reader::{
 use token_writer::{put, put_int, put_quoted};
 
 // A text, the most bytes that it may have, and its first fault, or none.
-struct FaultRow {
+struct Row {
     text: &'static [u8],
     limit: u64,
     fault: Option<LexRefusal>,
 }
 
-const FAULTS: &[FaultRow] = &[
-    FaultRow {
+const ROWS: &[Row] = &[
+    Row {
         text: b"a ? b",
         limit: 100,
         fault: Some(LexRefusal::BadByte(2)),
     },
-    FaultRow {
+    Row {
         text: b"a \"x\\q",
         limit: 100,
         fault: Some(LexRefusal::OpenString(2)),
     },
-    FaultRow {
+    Row {
         text: b"a \"x\\q\"",
         limit: 100,
         fault: Some(LexRefusal::BadByte(4)),
     },
-    FaultRow {
+    Row {
         text: b"-9223372036854775809",
         limit: 100,
         fault: Some(LexRefusal::IntOutOfRange(0)),
     },
-    FaultRow {
+    Row {
         text: b"-9223372036854775808 9223372036854775807",
         limit: 100,
         fault: None,
     },
-    FaultRow {
+    Row {
         text: b"? abc",
         limit: 4,
         fault: Some(LexRefusal::TooLong(4)),
     },
-    FaultRow {
+    Row {
         text: b"\xef\xbb\xbf?",
         limit: 4,
         fault: Some(LexRefusal::BadByte(3)),
     },
-    FaultRow {
+    Row {
         text: b"// a comment ?",
         limit: 100,
         fault: None,
     },
 ];
 
-fn refusal(alloc: Global, bytes: &[u8], limit: u64) -> Option<LexRefusal> {
-    tokens(alloc, bytes, limit).err()
-}
-
 #[test]
 fn the_first_fault_is_reported(rt: HostRuntime) -> Result<(), Fail> {
-    for row in FAULTS {
-        let found = refusal(rt.alloc(), row.text, row.limit);
-        check(found == row.fault, "another fault")?;
+    for row in ROWS {
+        let found = tokens(rt.alloc(), row.text, row.limit).err();
+        check(found == row.fault, row.text)?;
     }
     Ok(())
 }
@@ -85,20 +81,17 @@ fn are_longest(found: &[Token]) -> bool {
 
 #[test]
 fn the_longest_token_is_taken(rt: HostRuntime) -> Result<(), Fail> {
-    match tokens(rt.alloc(), b"12ab<=-7->\"a\\n\\\"\"", 100) {
-        Ok(found) => check(are_longest(&found), "other tokens"),
-        Err(_) => check(false, "no tokens"),
-    }
+    let text = b"12ab<=-7->\"a\\n\\\"\"";
+    let found = tokens(rt.alloc(), text, 100)?;
+    check(are_longest(&found), text)
 }
 
 #[test]
 fn one_token_ends_before_the_text_or_with_it(rt: HostRuntime) -> Result<(), Fail> {
-    let refused = token_at(rt.alloc(), b"ab cd", 2).err() == Some(LexRefusal::BadByte(2));
-    check(refused, "a token that ends before the text")?;
-    check(
-        token_at(rt.alloc(), b"ab>=", 2).is_ok(),
-        "no token at the text's end",
-    )
+    let before = token_at(rt.alloc(), b"ab cd", 2).err();
+    check(before == Some(LexRefusal::BadByte(2)), b"ab cd")?;
+    let with = token_at(rt.alloc(), b"ab>=", 2);
+    check(with.is_ok(), b"ab>=")
 }
 
 // The tokens behind the first n.
@@ -127,20 +120,13 @@ fn reads_words(all: &[Token]) -> bool {
         && place_of(behind(all, 5), 12) == 12
 }
 
-fn check_readers(alloc: Global, all: &[Token]) -> Result<(), Fail> {
-    check(is_a_name(all), "not a name")?;
-    check(reads_texts(alloc, all), "another text")?;
-    check(reads_signs(all), "another sign")?;
-    check(reads_words(all), "another word")
-}
-
 // Each reader of one token, on `a "b" 7 { in`.
 #[test]
 fn each_reader_takes_its_token(rt: HostRuntime) -> Result<(), Fail> {
-    match tokens(rt.alloc(), b"a \"b\" 7 { in", 100) {
-        Ok(found) => check_readers(rt.alloc(), &found),
-        Err(_) => check(false, "no tokens"),
-    }
+    let all = tokens(rt.alloc(), b"a \"b\" 7 { in", 100)?;
+    check(is_a_name(&all), b"a name")?;
+    check(reads_texts(rt.alloc(), &all), b"a text")?;
+    check(reads_signs(&all) && reads_words(&all), b"a sign or a word")
 }
 
 #[test]
@@ -150,5 +136,5 @@ fn tokens_are_written(rt: HostRuntime) -> Result<(), Fail> {
     put_int(-9223372036854775808, &mut out)?;
     put_quoted(b"a\"\\\n\r\t\xff", &mut out)?;
     let wanted = b"x -9223372036854775808\"a\\\"\\\\\\n\\r\\t\xff\"";
-    check(out.as_slice() == wanted.as_slice(), "another text")
+    check_text(b"tokens", &out, wanted)
 }

@@ -1,9 +1,7 @@
 // Runs of a hub over a wire in memory.
-ghost use Rattle.std.specs.Prelude.{◌<◌};
-
 use super::no_pages::NoPages;
 use super::socket::{MISSING, REQUEST};
-use crate::inputs::{Repeated, check, check_text, push_all, repeated_text, wire_of};
+use crate::inputs::{Repeated, are_same, check, push_all, repeated_text, wire_of};
 use hub::{Hub, HubEnd, Tally, serve};
 use mem_wire::{FailingSend, MemWire};
 use page_cache::Cached;
@@ -13,9 +11,6 @@ use std::num::NonZeroUsize;
 use std::test::Fail;
 use versions::Still;
 
-const BAD: &[u8] =
-    b"HTTP/1.1 400 Bad Request\r\nContent-Type: text/plain; charset=utf-8\r\nContent-Length: 12\r\nConnection: close\r\n\r\nbad request\n";
-
 // A connection, what it is sent, and whether it is closed.
 struct Sent {
     connection: u64,
@@ -23,43 +18,41 @@ struct Sent {
     is_closed: bool,
 }
 
-fn check_sent(wire: &MemWire, rows: &[Sent]) -> Result<(), Fail> {
-    for row in rows {
-        check_text(wire.taken(row.connection), row.bytes)?;
-        check(
-            wire.closed(row.connection) == row.is_closed,
-            "closed or not",
-        )?;
-    }
-    Ok(())
+// What the events are.
+enum Script {
+    Text(&'static [u8]),
+    // A text with a repeated part.
+    Repeated(Repeated<'static>),
+    // Two connections send these bytes one by one, in turn.
+    InTurn(&'static [u8]),
 }
 
-// Runs the script, in which each connection has at most this many replies, and compares what is sent.
-fn check_run(
-    alloc: Global,
-    script: &[u8],
-    sends: &[FailingSend],
-    requests: u64,
-    sent: &[Sent],
-) -> Result<(), Fail>
-    requires { 0 < requests }
-{
-    let mut wire = wire_of(alloc, script, sends)?;
-    let mut hub = Hub::of(alloc, Still { pages: NoPages }, requests, None);
-    let end = serve(alloc, &mut hub, &mut wire, 1000);
-    check(end == HubEnd::Done && !wire.short(), "another end")?;
-    check_sent(&wire, sent)
+// How many pages are kept, and the counts at the end.
+struct Kept {
+    capacity: usize,
+    tally: Tally,
 }
 
-// A script of one connection, which has at most one reply, and what is sent.
+// A run in which each connection has at most this many replies, over pages that are kept or not, and what is sent.
 struct Run {
-    script: &'static [u8],
+    name: &'static str,
+    script: Script,
+    failing: &'static [FailingSend],
+    requests: u64,
+    kept: Option<Kept>,
     sent: &'static [Sent],
 }
 
+const BAD: &[u8] =
+    b"HTTP/1.1 400 Bad Request\r\nContent-Type: text/plain; charset=utf-8\r\nContent-Length: 12\r\nConnection: close\r\n\r\nbad request\n";
+
 const RUNS: &[Run] = &[
     Run {
-        script: b"open 1 bytes 1 \"GET / HT\" end 1",
+        name: "half a head",
+        script: Script::Text(b"open 1 bytes 1 \"GET / HT\" end 1"),
+        failing: &[],
+        requests: 1,
+        kept: None,
         sent: &[Sent {
             connection: 1,
             bytes: BAD,
@@ -67,7 +60,11 @@ const RUNS: &[Run] = &[
         }],
     },
     Run {
-        script: b"open 1 bytes 1 \"\\r\\n\\r\\n\" end 1",
+        name: "empty lines",
+        script: Script::Text(b"open 1 bytes 1 \"\\r\\n\\r\\n\" end 1"),
+        failing: &[],
+        requests: 1,
+        kept: None,
         sent: &[Sent {
             connection: 1,
             bytes: b"",
@@ -75,7 +72,13 @@ const RUNS: &[Run] = &[
         }],
     },
     Run {
-        script: b"open 1 bytes 1 \"GET /x.html HTTP/1.1\\r\\nHost: a\\r\\n\\r\\n\" end 1",
+        name: "a request",
+        script: Script::Text(
+            b"open 1 bytes 1 \"GET /x.html HTTP/1.1\\r\\nHost: a\\r\\n\\r\\n\" end 1",
+        ),
+        failing: &[],
+        requests: 1,
+        kept: None,
         sent: &[Sent {
             connection: 1,
             bytes: MISSING,
@@ -83,63 +86,96 @@ const RUNS: &[Run] = &[
         }],
     },
     Run {
-        script: b"open 1 bytes 1 \"GET /x.html HTTP/1.1\" lost 1",
+        name: "a connection that is lost",
+        script: Script::Text(b"open 1 bytes 1 \"GET /x.html HTTP/1.1\" lost 1"),
+        failing: &[],
+        requests: 1,
+        kept: None,
         sent: &[Sent {
             connection: 1,
             bytes: b"",
             is_closed: false,
         }],
     },
+    Run {
+        name: "letters without a line",
+        script: Script::Repeated(Repeated {
+            head: b"open 1 bytes 1 \"",
+            text: b"A",
+            count: 16384,
+            tail: b"\" end 1",
+        }),
+        failing: &[],
+        requests: 1,
+        kept: None,
+        sent: &[Sent {
+            connection: 1,
+            bytes: BAD,
+            is_closed: true,
+        }],
+    },
+    // Replies of 121 and 116 bytes.
+    Run {
+        name: "two requests in one piece",
+        script: Script::Text(
+            b"open 1 bytes 1 \"GET /x.html HTTP/1.1\\r\\nHost: a\\r\\n\\r\\nGET /x.html HTTP/1.1\\r\\nHost: a\\r\\n\\r\\n\"",
+        ),
+        failing: &[],
+        requests: 2,
+        kept: None,
+        sent: &[Sent {
+            connection: 1,
+            bytes: b"HTTP/1.1 404 Not Found\r\nContent-Type: text/plain; charset=utf-8\r\nContent-Length: 10\r\n\
+                Connection: keep-alive\r\n\r\nnot found\nHTTP/1.1 404 Not Found\r\nContent-Type: text/plain; \
+                charset=utf-8\r\nContent-Length: 10\r\nConnection: close\r\n\r\nnot found\n",
+            is_closed: true,
+        }],
+    },
+    Run {
+        name: "a failed send, which harms no other",
+        script: Script::InTurn(REQUEST),
+        failing: &[FailingSend {
+            connection: 1,
+            number: 1,
+            taken: 5,
+        }],
+        requests: 1,
+        kept: None,
+        sent: &[
+            Sent {
+                connection: 1,
+                bytes: b"HTTP/",
+                is_closed: false,
+            },
+            Sent {
+                connection: 2,
+                bytes: MISSING,
+                is_closed: true,
+            },
+        ],
+    },
+    Run {
+        name: "kept pages",
+        script: Script::InTurn(REQUEST),
+        failing: &[],
+        requests: 1,
+        kept: Some(Kept {
+            capacity: 4,
+            tally: Tally {
+                connections: 2,
+                replies: 2,
+                hits: 0,
+                changes: 0,
+                refused: 0,
+            },
+        }),
+        sent: &[Sent {
+            connection: 2,
+            bytes: MISSING,
+            is_closed: true,
+        }],
+    },
 ];
-
-fn check_runs(alloc: Global, rows: &[Run]) -> Result<(), Fail> {
-    for row in rows {
-        check_run(alloc, row.script, &[], 1, row.sent)?;
-    }
-    Ok(())
-}
-
-#[test]
-fn a_connection_ends_with_its_reply(rt: HostRuntime) -> Result<(), Fail> {
-    check_runs(rt.alloc(), RUNS)
-}
-
-const REFUSED: &[Sent] = &[Sent {
-    connection: 1,
-    bytes: BAD,
-    is_closed: true,
-}];
-
-fn check_letters(alloc: Global, letters: usize, sent: &[Sent]) -> Result<(), Fail> {
-    let script = Repeated {
-        head: b"open 1 bytes 1 \"",
-        text: b"A",
-        count: letters,
-        tail: b"\" end 1",
-    };
-    check_run(alloc, &repeated_text(alloc, &script)?, &[], 1, sent)
-}
-
-#[test]
-fn letters_without_a_line_are_a_bad_request(rt: HostRuntime) -> Result<(), Fail> {
-    check_letters(rt.alloc(), 16384, REFUSED)
-}
-
-// Replies of 121 and 116 bytes.
-const BOTH: &[Sent] = &[Sent {
-    connection: 1,
-    bytes: b"HTTP/1.1 404 Not Found\r\nContent-Type: text/plain; charset=utf-8\r\nContent-Length: 10\r\n\
-        Connection: keep-alive\r\n\r\nnot found\nHTTP/1.1 404 Not Found\r\nContent-Type: text/plain; \
-        charset=utf-8\r\nContent-Length: 10\r\nConnection: close\r\n\r\nnot found\n",
-    is_closed: true,
-}];
-
-#[test]
-fn two_requests_in_one_piece_have_two_replies(rt: HostRuntime) -> Result<(), Fail> {
-    let script =
-        b"open 1 bytes 1 \"GET /x.html HTTP/1.1\\r\\nHost: a\\r\\n\\r\\nGET /x.html HTTP/1.1\\r\\nHost: a\\r\\n\\r\\n\"";
-    check_run(rt.alloc(), script, &[], 2, BOTH)
-}
 
 fn in_quotes(piece: &[u8]) -> &[u8] {
     match piece {
@@ -162,64 +198,63 @@ fn in_turn(alloc: Global, bytes: &[u8]) -> Result<Vec<u8>, NoMemory> {
     Ok(script)
 }
 
-const FIRST_SEND: &[FailingSend] = &[FailingSend {
-    connection: 1,
-    number: 1,
-    taken: 5,
-}];
-
-const SENT_IN_PART: &[Sent] = &[
-    Sent {
-        connection: 1,
-        bytes: b"HTTP/",
-        is_closed: false,
-    },
-    Sent {
-        connection: 2,
-        bytes: MISSING,
-        is_closed: true,
-    },
-];
-
-fn check_in_turn(alloc: Global, sends: &[FailingSend], sent: &[Sent]) -> Result<(), Fail> {
-    let script = in_turn(alloc, REQUEST)?;
-    check_run(alloc, &script, sends, 1, sent)
+fn script_of(alloc: Global, script: &Script) -> Result<Vec<u8>, NoMemory> {
+    match script {
+        Script::Text(text) => Ok(Vec::from_slice(alloc, *text)?),
+        Script::Repeated(text) => repeated_text(alloc, text),
+        Script::InTurn(bytes) => in_turn(alloc, bytes),
+    }
 }
 
-#[test]
-fn a_failed_send_harms_no_other(rt: HostRuntime) -> Result<(), Fail> {
-    check_in_turn(rt.alloc(), FIRST_SEND, SENT_IN_PART)
+// Whether each connection was sent what its row says.
+fn are_sent(wire: &MemWire, rows: &[Sent]) -> bool {
+    for row in rows {
+        let number = row.connection;
+        if !are_same(wire.taken(number), row.bytes) || wire.closed(number) != row.is_closed {
+            return false;
+        }
+    }
+    true
 }
 
-fn check_kept(
-    alloc: Global,
-    wire: &mut MemWire,
-    capacity: NonZeroUsize,
-    tally: Tally,
-) -> Result<(), Fail> {
-    let pages = Cached::of(alloc, Still { pages: NoPages }, capacity)?;
-    let mut hub = Hub::of(alloc, pages, 1, None);
-    let end = serve(alloc, &mut hub, wire, 1000);
-    check(end == HubEnd::Done, "another end")?;
-    check(hub.tally() == tally, "another tally")
+// Serves the wire's events, with at most so many replies for a connection. Is it done?
+fn is_served(alloc: Global, wire: &mut MemWire, requests: u64) -> bool {
+    if requests == 0 {
+        return false;
+    }
+    let mut hub = Hub::of(alloc, Still { pages: NoPages }, requests, None);
+    serve(alloc, &mut hub, wire, 1000) == HubEnd::Done
 }
 
-fn check_kept_pages(alloc: Global, capacity: usize, tally: Tally) -> Result<(), Fail> {
-    let capacity = NonZeroUsize::new(capacity).ok_or("no capacity")?;
-    let script = in_turn(alloc, REQUEST)?;
-    let mut wire = wire_of(alloc, &script, &[])?;
-    check_kept(alloc, &mut wire, capacity, tally)?;
-    check_text(wire.taken(2), MISSING)
-}
-
-#[test]
-fn a_hub_serves_kept_pages(rt: HostRuntime) -> Result<(), Fail> {
-    let tally = Tally {
-        connections: 2,
-        replies: 2,
-        hits: 0,
-        changes: 0,
-        refused: 0,
+// Serves the wire's events with pages that are kept. Is it done, with these counts?
+fn is_served_kept(alloc: Global, wire: &mut MemWire, kept: &Kept) -> bool {
+    let Some(capacity) = NonZeroUsize::new(kept.capacity) else {
+        return false;
     };
-    check_kept_pages(rt.alloc(), 4, tally)
+    let Ok(pages) = Cached::of(alloc, Still { pages: NoPages }, capacity) else {
+        return false;
+    };
+    let mut hub = Hub::of(alloc, pages, 1, None);
+    serve(alloc, &mut hub, wire, 1000) == HubEnd::Done && hub.tally() == kept.tally
+}
+
+fn check_run(alloc: Global, run: &Run) -> Result<(), Fail> {
+    let script = script_of(alloc, &run.script)?;
+    let mut wire = wire_of(alloc, &script, run.failing)?;
+    let is_done = match &run.kept {
+        Some(kept) => is_served_kept(alloc, &mut wire, kept),
+        None => is_served(alloc, &mut wire, run.requests),
+    };
+    check(
+        is_done && !wire.short() && are_sent(&wire, run.sent),
+        run.name,
+    )
+}
+
+#[test]
+fn each_connection_is_sent_what_its_run_says(rt: HostRuntime) -> Result<(), Fail> {
+    for run in RUNS {
+        check_run(rt.alloc(), run)?;
+    }
+    Ok(())
 }

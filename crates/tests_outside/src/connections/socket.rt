@@ -1,11 +1,13 @@
 // A request over a socket.
 use super::no_pages::NoPages;
-use crate::inputs::{check, check_text};
+use crate::inputs::check;
 use edge_io::RealFiles;
 use hub::{Hub, HubEnd, serve};
 use std::io::{Read, Write};
-use std::net::{Ipv4Addr, SocketAddr, SocketAddrV4, TcpStream};
+use std::net::{Ipv4Addr, Net, SocketAddr, SocketAddrV4, TcpStream};
+use std::rt::Files;
 use std::test::Fail;
+use std::time::Clock;
 use tcp_wire::{TcpWire, Waits};
 use versions::Still;
 use wire::Wire;
@@ -22,20 +24,35 @@ const WAITS: Waits = Waits {
     stall: 10_000,
 };
 
+// A client that has sent its request to the wire, where the wire listens.
+fn asking<R: Net + Clock + Files>(
+    system: &R,
+    wire: &mut TcpWire<'_, R, RealFiles<'_, R>>,
+) -> Option<R::Stream> {
+    if wire.listen(0, 1).is_err() {
+        return None;
+    }
+    let port = wire.port()?;
+    let address = SocketAddr::from(SocketAddrV4::new(Ipv4Addr::LOCALHOST, port));
+    let mut client = TcpStream::connect(system, address).ok()?;
+    match client.write_all(REQUEST) {
+        Ok(()) => Some(client),
+        Err(_) => None,
+    }
+}
+
 // One thread is client and server: the system keeps what a connection sends until it is taken.
 #[test]
 fn a_request_over_a_socket_has_its_reply(rt: HostRuntime) -> Result<(), Fail> {
     let alloc = rt.alloc();
     let mut wire = TcpWire::new(alloc, &rt, RealFiles::new(&rt, 0), WAITS);
-    check(wire.listen(0, 1).is_ok(), "no socket")?;
-    let port = wire.port().ok_or("no port")?;
-    let address = SocketAddr::from(SocketAddrV4::new(Ipv4Addr::LOCALHOST, port));
-    let mut client = TcpStream::connect(&rt, address)?;
-    client.write_all(REQUEST)?;
+    let mut client = asking(&rt, &mut wire).ok_or("no socket")?;
     let mut hub = Hub::of(alloc, Still { pages: NoPages }, 1, None);
     let end = serve(alloc, &mut hub, &mut wire, 1000);
-    check(end == HubEnd::Done, "another end")?;
     let mut taken = Vec::new(alloc);
-    client.read_to_end(&mut taken)?;
-    check_text(&taken, MISSING)
+    let is_read = client.read_to_end(&mut taken).is_ok();
+    check(
+        end == HubEnd::Done && is_read && taken.as_slice() == MISSING,
+        "another end or reply",
+    )
 }

@@ -1,31 +1,19 @@
-// Refusals with their places, in tables by topic.
-use super::marked::{Reported, check_marked, check_reported};
+// Files of templates that are refused with their places, and others that are not.
+use super::marked::{Reported, is_marked, report_of};
+use crate::inputs::check;
 use std::alloc::Global;
 use std::test::Fail;
 
-// Texts that are refused with the same number, each with `^` before the refused place and `'` for each quote.
-struct Refused {
+// Texts that are refused with the same number, each with `^` before the refused place and `'` for each quote. A text
+// without a mark is a file of templates.
+struct Row {
     number: u32,
     texts: &'static [&'static str],
 }
 
-fn check_texts(alloc: Global, number: u32, texts: &[&str]) -> Result<(), Fail> {
-    for text in texts {
-        check_marked(alloc, number, text)?;
-    }
-    Ok(())
-}
-
-fn check_rows(alloc: Global, rows: &[Refused]) -> Result<(), Fail> {
-    for row in rows {
-        check_texts(alloc, row.number, row.texts)?;
-    }
-    Ok(())
-}
-
-// What is between templates, their names, and two of one name.
-const FILES: &[Refused] = &[
-    Refused {
+const ROWS: &[Row] = &[
+    // What is between templates, their names, and two of one name.
+    Row {
         number: 81,
         texts: &[
             "^x",
@@ -47,7 +35,7 @@ const FILES: &[Refused] = &[
             "<TEMPLATE F><TEMPLATE G>x</TEMPLATE>^</TEMPLATE>",
         ],
     },
-    Refused {
+    Row {
         number: 83,
         texts: &[
             "<TEMPLATE F>a</TEMPLATE><TEMPLATE ^F>b</TEMPLATE>",
@@ -57,11 +45,8 @@ const FILES: &[Refused] = &[
             "<TEMPLATE COLLECTION 'F g'>a</TEMPLATE><TEMPLATE COLLECTION ^'F g'>b</TEMPLATE>",
         ],
     },
-];
-
-// Expressions, and variables of no loop round them.
-const VALUES: &[Refused] = &[
-    Refused {
+    // Expressions, and variables of no loop round them.
+    Row {
         number: 81,
         texts: &[
             "<TEMPLATE F><SFMT ^></TEMPLATE>",
@@ -75,7 +60,7 @@ const VALUES: &[Refused] = &[
             "<TEMPLATE F><SFMT @a^",
         ],
     },
-    Refused {
+    Row {
         number: 85,
         texts: &[
             "<TEMPLATE F><SFMT ^v.a></TEMPLATE>",
@@ -88,48 +73,43 @@ const VALUES: &[Refused] = &[
             "<TEMPLATE F><SFOR v IN @a><SFMT v></SFOR><SFOR w IN @a><SFMT ^v></SFOR></TEMPLATE>",
         ],
     },
-];
-
-// Options of tags.
-const OPTIONS: &[Refused] = &[Refused {
-    number: 81,
-    texts: &[
-        "<TEMPLATE F><SFMT @a EMBED ^LINK></TEMPLATE>",
-        "<TEMPLATE F><SFMT @a EMBED ^EMBED></TEMPLATE>",
-        "<TEMPLATE F><SFMT @a LINK=b ^EMBED></TEMPLATE>",
-        "<TEMPLATE F><SFMT @a ORDER=^up></TEMPLATE>",
-        "<TEMPLATE F><SFMT @a KEY^></TEMPLATE>",
-        "<TEMPLATE F><SFMT @a KEY=^></TEMPLATE>",
-        "<TEMPLATE F><SFMT @a KEY=^@b></TEMPLATE>",
-        "<TEMPLATE F><SFMT @a DELIM=^x></TEMPLATE>",
-        "<TEMPLATE F><SFMT @a DELIM=^'x></TEMPLATE>",
-        "<TEMPLATE F><SFMT @a DELIM='x' ^DELIM='y'></TEMPLATE>",
-        "<TEMPLATE F><SFMT @a KEY=b ^KEY=c></TEMPLATE>",
-        "<TEMPLATE F><SFMT @a ^foo></TEMPLATE>",
-        "<TEMPLATE F><SFOR v IN @a ^EMBED>x</SFOR></TEMPLATE>",
-    ],
-}];
-
-// Tags of branches and loops.
-const BRANCHES: &[Refused] = &[Refused {
-    number: 81,
-    texts: &[
-        "<TEMPLATE F><SIF ^>x</SIF></TEMPLATE>",
-        "<TEMPLATE F><SIF NOT ^>x</SIF></TEMPLATE>",
-        "<TEMPLATE F><SIF @a EQ ^>x</SIF></TEMPLATE>",
-        "<TEMPLATE F><SIF @a EQ ^b>x</SIF></TEMPLATE>",
-        "<TEMPLATE F><SIF @a EQ 1 ^2>x</SIF></TEMPLATE>",
-        "<TEMPLATE F><SIF @a ^eq 1>x</SIF></TEMPLATE>",
-        "<TEMPLATE F><SFOR ^@a>x</SFOR></TEMPLATE>",
-        "<TEMPLATE F><SFOR v ^@a>x</SFOR></TEMPLATE>",
-        "<TEMPLATE F><SFOR v IN ^>x</SFOR></TEMPLATE>",
-        "<TEMPLATE F><SFOR ^IN IN @a>x</SFOR></TEMPLATE>",
-    ],
-}];
-
-// Tags that close nothing, texts that end in a body, and tags one within another.
-const CLOSING: &[Refused] = &[
-    Refused {
+    // Options of tags.
+    Row {
+        number: 81,
+        texts: &[
+            "<TEMPLATE F><SFMT @a EMBED ^LINK></TEMPLATE>",
+            "<TEMPLATE F><SFMT @a EMBED ^EMBED></TEMPLATE>",
+            "<TEMPLATE F><SFMT @a LINK=b ^EMBED></TEMPLATE>",
+            "<TEMPLATE F><SFMT @a ORDER=^up></TEMPLATE>",
+            "<TEMPLATE F><SFMT @a KEY^></TEMPLATE>",
+            "<TEMPLATE F><SFMT @a KEY=^></TEMPLATE>",
+            "<TEMPLATE F><SFMT @a KEY=^@b></TEMPLATE>",
+            "<TEMPLATE F><SFMT @a DELIM=^x></TEMPLATE>",
+            "<TEMPLATE F><SFMT @a DELIM=^'x></TEMPLATE>",
+            "<TEMPLATE F><SFMT @a DELIM='x' ^DELIM='y'></TEMPLATE>",
+            "<TEMPLATE F><SFMT @a KEY=b ^KEY=c></TEMPLATE>",
+            "<TEMPLATE F><SFMT @a ^foo></TEMPLATE>",
+            "<TEMPLATE F><SFOR v IN @a ^EMBED>x</SFOR></TEMPLATE>",
+        ],
+    },
+    // Tags of branches and loops.
+    Row {
+        number: 81,
+        texts: &[
+            "<TEMPLATE F><SIF ^>x</SIF></TEMPLATE>",
+            "<TEMPLATE F><SIF NOT ^>x</SIF></TEMPLATE>",
+            "<TEMPLATE F><SIF @a EQ ^>x</SIF></TEMPLATE>",
+            "<TEMPLATE F><SIF @a EQ ^b>x</SIF></TEMPLATE>",
+            "<TEMPLATE F><SIF @a EQ 1 ^2>x</SIF></TEMPLATE>",
+            "<TEMPLATE F><SIF @a ^eq 1>x</SIF></TEMPLATE>",
+            "<TEMPLATE F><SFOR ^@a>x</SFOR></TEMPLATE>",
+            "<TEMPLATE F><SFOR v ^@a>x</SFOR></TEMPLATE>",
+            "<TEMPLATE F><SFOR v IN ^>x</SFOR></TEMPLATE>",
+            "<TEMPLATE F><SFOR ^IN IN @a>x</SFOR></TEMPLATE>",
+        ],
+    },
+    // Tags that close nothing, texts that end in a body, and tags one within another.
+    Row {
         number: 81,
         texts: &[
             "<TEMPLATE F>a^</SIF></TEMPLATE>",
@@ -141,7 +121,7 @@ const CLOSING: &[Refused] = &[
             "<TEMPLATE F><SIF @a>^</TEMPLATE>",
         ],
     },
-    Refused {
+    Row {
         number: 82,
         texts: &[
             "^<TEMPLATE F>abc",
@@ -152,7 +132,7 @@ const CLOSING: &[Refused] = &[
             "<TEMPLATE G>x</TEMPLATE>^<TEMPLATE F>",
         ],
     },
-    Refused {
+    Row {
         number: 84,
         texts: &[
             "<TEMPLATE F><SIF @a><SIF @a><SIF @a><SIF @a><SIF @a><SIF @a><SIF @a><SIF @a><SIF @a><SIF \
@@ -171,57 +151,75 @@ const CLOSING: &[Refused] = &[
                 @a></SIF><SFOR v IN @a><SFOR v IN @a>^<SFOR v IN v>",
         ],
     },
+    // Files of templates that are near to those, and are not refused.
+    Row {
+        number: 0,
+        texts: &[
+            "",
+            " <TEMPLATE F>a</TEMPLATE> <TEMPLATE COLLECTION F>b</TEMPLATE> ",
+            "<TEMPLATE COLLECTION>a</TEMPLATE><TEMPLATE COLLECTION 'COLLECTION'>b</TEMPLATE>",
+            "<TEMPLATE COLLECTION'F'>a</TEMPLATE><TEMPLATE COLLECTION '3166-1' ><SFMT #'my file'.'a'></TEMPLATE>",
+            "<TEMPLATE F><SFMT @>=x <b>bold</b> <SIFT> <SFMT</TEMPLATE>",
+            "<TEMPLATE F><SFMT @a.'b c' DELIM=', ' KEY=b.c ORDER=descend LINK=d></TEMPLATE>",
+            "<TEMPLATE F><SIF NOT #C.a LE -1>x<SELSE>y</SIF></TEMPLATE>",
+            "<TEMPLATE F><SFOR v IN #C><SFOR v IN v.a><SFMT v EMBED></SFOR></SFOR></TEMPLATE>",
+            "<TEMPLATE F><SIF @a><SIF @a><SIF @a><SIF @a><SIF @a><SIF @a><SIF @a><SIF @a><SIF @a><SIF @a><SIF \
+                @a><SIF @a><SIF @a><SIF @a><SIF @a><SIF @a><SIF @a><SIF @a><SIF @a><SIF @a><SIF @a><SIF @a><SIF \
+                @a><SIF @a><SIF @a><SIF @a><SIF @a><SIF @a><SIF @a><SIF @a><SIF @a><SIF \
+                @a></SIF></SIF></SIF></SIF></SIF></SIF></SIF></SIF></SIF></SIF></SIF></SIF></SIF></SIF></SIF></SIF>\
+                </SIF></SIF></SIF></SIF></SIF></SIF></SIF></SIF></SIF></SIF></SIF></SIF></SIF></SIF></SIF></SIF>\
+                </TEMPLATE>",
+            "<TEMPLATE F><SFMT @a DELIM='>'></TEMPLATE>",
+        ],
+    },
 ];
 
-// Files of templates that are near to those.
-const ACCEPTED: &[&str] = &[
-    "",
-    " <TEMPLATE F>a</TEMPLATE> <TEMPLATE COLLECTION F>b</TEMPLATE> ",
-    "<TEMPLATE COLLECTION>a</TEMPLATE><TEMPLATE COLLECTION 'COLLECTION'>b</TEMPLATE>",
-    "<TEMPLATE COLLECTION'F'>a</TEMPLATE><TEMPLATE COLLECTION '3166-1' ><SFMT #'my file'.'a'></TEMPLATE>",
-    "<TEMPLATE F><SFMT @>=x <b>bold</b> <SIFT> <SFMT</TEMPLATE>",
-    "<TEMPLATE F><SFMT @a.'b c' DELIM=', ' KEY=b.c ORDER=descend LINK=d></TEMPLATE>",
-    "<TEMPLATE F><SIF NOT #C.a LE -1>x<SELSE>y</SIF></TEMPLATE>",
-    "<TEMPLATE F><SFOR v IN #C><SFOR v IN v.a><SFMT v EMBED></SFOR></SFOR></TEMPLATE>",
-    "<TEMPLATE F><SIF @a><SIF @a><SIF @a><SIF @a><SIF @a><SIF @a><SIF @a><SIF @a><SIF @a><SIF @a><SIF \
-        @a><SIF @a><SIF @a><SIF @a><SIF @a><SIF @a><SIF @a><SIF @a><SIF @a><SIF @a><SIF @a><SIF @a><SIF \
-        @a><SIF @a><SIF @a><SIF @a><SIF @a><SIF @a><SIF @a><SIF @a><SIF @a><SIF \
-        @a></SIF></SIF></SIF></SIF></SIF></SIF></SIF></SIF></SIF></SIF></SIF></SIF></SIF></SIF></SIF></SIF>\
-        </SIF></SIF></SIF></SIF></SIF></SIF></SIF></SIF></SIF></SIF></SIF></SIF></SIF></SIF></SIF></SIF>\
-        </TEMPLATE>",
-    "<TEMPLATE F><SFMT @a DELIM='>'></TEMPLATE>",
-];
-
-fn check_tables(alloc: Global, tables: &[&[Refused]]) -> Result<(), Fail> {
-    for rows in tables {
-        check_rows(alloc, rows)?;
+fn check_row(alloc: Global, row: &Row) -> Result<(), Fail> {
+    for text in row.texts {
+        check(is_marked(alloc, row.number, text)?, text)?;
     }
     Ok(())
 }
 
 #[test]
 fn templates_are_refused_at_their_places(rt: HostRuntime) -> Result<(), Fail> {
-    let tables = [FILES, VALUES, OPTIONS, BRANCHES, CLOSING];
-    check_tables(rt.alloc(), &tables)
+    for row in ROWS {
+        check_row(rt.alloc(), row)?;
+    }
+    Ok(())
 }
 
-// A text without a mark is refused with no number.
+// How many signs a text has, and what is reported of it.
+struct SignsRow {
+    name: &'static str,
+    count: usize,
+    reported: Reported,
+}
+
+const SIGNS: &[SignsRow] = &[
+    SignsRow {
+        name: "a text past the limit is too long",
+        count: 4097,
+        reported: Reported {
+            number: 24,
+            place: 4096,
+        },
+    },
+    SignsRow {
+        name: "the longest text is read",
+        count: 4096,
+        reported: Reported {
+            number: 81,
+            place: 0,
+        },
+    },
+];
+
 #[test]
-fn other_templates_are_accepted(rt: HostRuntime) -> Result<(), Fail> {
-    check_texts(rt.alloc(), 0, ACCEPTED)
-}
-
-fn check_signs(alloc: Global, count: usize, number: u32, place: u64) -> Result<(), Fail> {
-    let text = b"$".repeat(alloc, count)?;
-    check_reported(alloc, &text, Some(Reported { number, place }), "signs")
-}
-
-#[test]
-fn a_text_past_the_limit_is_too_long(rt: HostRuntime) -> Result<(), Fail> {
-    check_signs(rt.alloc(), 4097, 24, 4096)
-}
-
-#[test]
-fn the_longest_text_is_read(rt: HostRuntime) -> Result<(), Fail> {
-    check_signs(rt.alloc(), 4096, 81, 0)
+fn a_text_is_read_up_to_the_limit(rt: HostRuntime) -> Result<(), Fail> {
+    for row in SIGNS {
+        let text = b"$".repeat(rt.alloc(), row.count)?;
+        check(report_of(rt.alloc(), &text) == Some(row.reported), row.name)?;
+    }
+    Ok(())
 }

@@ -57,21 +57,6 @@ fn is_edge(graph: &Graph, from: &Value, label: &Value, to: &Value) -> bool {
     false
 }
 
-fn is_among(values: &[Value], value: &Value) -> bool {
-    for other in values {
-        if other == value {
-            return true;
-        }
-    }
-    false
-}
-
-fn start_of(alloc: Global, value: &Value) -> Result<Vec<Value>, NoMemory> {
-    let mut start = Vec::new(alloc);
-    start.push(sd_value::copy(alloc, value)?)?;
-    Ok(start)
-}
-
 fn is_path(
     alloc: Global,
     at: Assigned<'_>,
@@ -85,9 +70,9 @@ fn is_path(
             None => Ok(false),
         },
         PathStep::Expression(expression, _) => {
-            let start = start_of(alloc, from)?;
+            let start = vec![in alloc; sd_value::copy(alloc, from)?]?;
             let reached = ends(alloc, at.graph, expression, start.as_slice())?;
-            Ok(is_among(reached.as_slice(), to))
+            Ok(reached.contains(to))
         }
     }
 }
@@ -173,19 +158,6 @@ fn has_kind(test: Test, value: &Value) -> bool {
     }
 }
 
-fn are_compared(
-    alloc: Global,
-    at: Assigned<'_>,
-    left: &Operand,
-    op: Op,
-    right: &Operand,
-) -> Result<bool, NoMemory> {
-    match (value_of(at, left), value_of(at, right)) {
-        (Some(a), Some(b)) => compares(alloc, at.version, a, op, b),
-        _ => Ok(false),
-    }
-}
-
 fn holds_without_not(
     alloc: Global,
     at: Assigned<'_>,
@@ -206,7 +178,10 @@ fn holds_without_not(
             op,
             right,
             ..
-        } => are_compared(alloc, at, left, *op, right),
+        } => match (value_of(at, left), value_of(at, right)) {
+            (Some(left), Some(right)) => compares(alloc, at.version, left, *op, right),
+            _ => Ok(false),
+        },
         Condition::OneOf {
             operand,
             constants,

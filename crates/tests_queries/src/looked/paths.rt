@@ -1,7 +1,7 @@
 // The ends of walks, by the parts of their expression.
 use edge_queries::copy_values;
 use rpe::Rpe;
-use sd_graph::{Edge, Graph};
+use sd_graph::Graph;
 use sd_value::{Datum, NoMemory, Str, Value, copy, sort_and_dedup};
 use std::alloc::Global;
 
@@ -13,13 +13,6 @@ pub fn is_node(name: &Str, value: &Value) -> bool {
     }
 }
 
-fn has_label(edge: &Edge, label: Option<&Str>) -> bool {
-    match label {
-        Some(label) => edge.label == *label,
-        None => true,
-    }
-}
-
 fn push_ends(
     alloc: Global,
     graph: &Graph,
@@ -28,7 +21,11 @@ fn push_ends(
     ends: &mut Vec<Value>,
 ) -> Result<(), NoMemory> {
     for edge in graph.edges() {
-        if is_node(&edge.from, start) && has_label(edge, label) {
+        let has_label = match label {
+            Some(label) => edge.label == *label,
+            None => true,
+        };
+        if has_label && is_node(&edge.from, start) {
             ends.push(copy(alloc, &edge.to)?)?;
         }
     }

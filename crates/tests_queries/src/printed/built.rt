@@ -14,29 +14,12 @@ fn variable(alloc: Global, name: &[u8]) -> Result<Operand, NoMemory> {
     Ok(Operand::Variable(Str::new(alloc, name)?, NOWHERE))
 }
 
-fn one<T: Drop>(alloc: Global, item: T) -> Result<Vec<T>, NoMemory> {
-    let mut items = Vec::new(alloc);
-    items.push(item)?;
-    Ok(items)
-}
-
-fn two<T: Drop>(alloc: Global, first: T, second: T) -> Result<Vec<T>, NoMemory> {
-    let mut items = one(alloc, first)?;
-    items.push(second)?;
-    Ok(items)
-}
-
-/// `"a"|true`
-fn either(alloc: Global) -> Result<Rpe, NoMemory> {
-    let label = Box::new(alloc, Rpe::Label(Str::new(alloc, b"a")?))?;
-    Ok(Rpe::Alt(label, Box::new(alloc, Rpe::Any)?))
-}
-
 /// `("a"|true).true*`
 fn expression(alloc: Global) -> Result<Rpe, NoMemory> {
-    let first = Box::new(alloc, either(alloc)?)?;
+    let label = Box::new(alloc, Rpe::Label(Str::new(alloc, b"a")?))?;
+    let either = Rpe::Alt(label, Box::new(alloc, Rpe::Any)?);
     let star = Rpe::Star(Box::new(alloc, Rpe::Any)?);
-    Ok(Rpe::Seq(first, Box::new(alloc, star)?))
+    Ok(Rpe::Seq(Box::new(alloc, either)?, Box::new(alloc, star)?))
 }
 
 /// `x -> ("a"|true).true* -> y`
@@ -49,20 +32,16 @@ fn some_path(alloc: Global) -> Result<Condition, NoMemory> {
     })
 }
 
-/// `F(x, 1)`
-fn some_term(alloc: Global) -> Result<SkolemTerm, NoMemory> {
-    let constant = Operand::Constant(Value::Data(Datum::Int(1)), NOWHERE);
-    Ok(SkolemTerm {
-        function: Str::new(alloc, b"F")?,
-        args: two(alloc, variable(alloc, b"x")?, constant)?,
-        span: NOWHERE,
-    })
-}
-
 /// `F(x, 1) -> "l" -> y`
 fn some_link(alloc: Global) -> Result<Link, NoMemory> {
+    let constant = Operand::Constant(Value::Data(Datum::Int(1)), NOWHERE);
+    let term = SkolemTerm {
+        function: Str::new(alloc, b"F")?,
+        args: vec![in alloc; variable(alloc, b"x")?, constant]?,
+        span: NOWHERE,
+    };
     Ok(Link {
-        source: Target::Made(some_term(alloc)?),
+        source: Target::Made(term),
         label: LinkLabel::Quoted(Str::new(alloc, b"l")?),
         target: Target::Plain(variable(alloc, b"y")?),
         span: NOWHERE,
@@ -71,9 +50,9 @@ fn some_link(alloc: Global) -> Result<Link, NoMemory> {
 
 fn some_block(alloc: Global) -> Result<Block, NoMemory> {
     Ok(Block {
-        conditions: one(alloc, some_path(alloc)?)?,
+        conditions: vec![in alloc; some_path(alloc)?]?,
         creates: Vec::new(alloc),
-        links: two(alloc, some_link(alloc)?, some_link(alloc)?)?,
+        links: vec![in alloc; some_link(alloc)?, some_link(alloc)?]?,
         collects: Vec::new(alloc),
         blocks: Vec::new(alloc),
         span: NOWHERE,
@@ -84,28 +63,21 @@ fn some_query(alloc: Global) -> Result<Query, NoMemory> {
     Ok(Query {
         version: 2,
         input: Str::new(alloc, b"D")?,
-        blocks: one(alloc, some_block(alloc)?)?,
+        blocks: vec![in alloc; some_block(alloc)?]?,
         output: Str::new(alloc, b"S")?,
     })
 }
 
-fn negated(alloc: Global) -> Result<Condition, NoMemory> {
-    Ok(Condition::Not(Box::new(alloc, some_path(alloc)?)?, NOWHERE))
-}
-
-fn printed(alloc: Global) -> Result<Vec<u8>, NoMemory> {
-    let mut out = Vec::new(alloc);
-    print_condition(&negated(alloc)?, &mut out)?;
-    print_link(&some_link(alloc)?, &mut out)?;
-    print(&some_query(alloc)?, &mut out)?;
-    Ok(out)
-}
-
 #[test]
 fn parts_that_no_text_gave_are_printed(rt: HostRuntime) -> Result<(), Fail> {
-    let out = printed(rt.alloc())?;
+    let alloc = rt.alloc();
+    let mut out = Vec::new(alloc);
+    let negated = Condition::Not(Box::new(alloc, some_path(alloc)?)?, NOWHERE);
+    print_condition(&negated, &mut out)?;
+    print_link(&some_link(alloc)?, &mut out)?;
+    print(&some_query(alloc)?, &mut out)?;
     let wanted =
         "not(x -> ('a'|true).true* -> y)F(x, 1) -> 'l' -> ySTRUQL 2\nINPUT D\n{ WHERE x -> ('a'|true).true* \
             -> y LINK F(x, 1) -> 'l' -> y, F(x, 1) -> 'l' -> y }\nOUTPUT S\n";
-    Ok(check_text(&rt, out.as_slice(), wanted)?)
+    check_text(&rt, out.as_slice(), wanted, "parts of no text")
 }

@@ -1,15 +1,11 @@
 // Queries at the limits of the grammar, which are printed as they are.
-use crate::inputs::{check_bytes, push_quoted, quoted};
-use crate::printed::queries::printed;
-use sd_value::NoMemory;
-use std::alloc::Global;
-use std::process::Abort;
+use crate::printed::queries::check_printed;
 use std::test::Fail;
 
 // A piece this many times.
 struct Pieces {
     piece: &'static str,
-    count: u32,
+    count: usize,
 }
 
 // A canonical text, with `'` for each quote: pieces before and behind a middle, between a head and an end.
@@ -92,33 +88,15 @@ const LIMITS: &[Repeated] = &[
     },
 ];
 
-fn push_pieces(out: &mut Vec<u8>, pieces: &Pieces) -> Result<(), NoMemory> {
-    for _ in 0..pieces.count {
-        push_quoted(out, pieces.piece)?;
-    }
-    Ok(())
-}
-
-fn text_of(alloc: Global, row: &Repeated) -> Result<Vec<u8>, NoMemory> {
-    let mut text = quoted(alloc, row.head)?;
-    push_pieces(&mut text, &row.before)?;
-    push_quoted(&mut text, row.middle)?;
-    push_pieces(&mut text, &row.behind)?;
-    push_quoted(&mut text, row.end)?;
-    Ok(text)
-}
-
-fn check_canonical<R: AllocGlobal + Abort>(rt: &R, row: &Repeated) -> Result<(), Fail> {
-    let text = text_of(rt.alloc(), row)?;
-    let out = printed(rt.alloc(), text.as_slice())?;
-    check_bytes(rt, out.as_slice(), text.as_slice(), row.before.piece);
-    Ok(())
-}
-
 #[test]
 fn queries_at_limits_are_printed(rt: HostRuntime) -> Result<(), Fail> {
+    let alloc = rt.alloc();
     for row in LIMITS {
-        check_canonical(&rt, row)?;
+        let before = row.before.piece.repeat(alloc, row.before.count)?;
+        let behind = row.behind.piece.repeat(alloc, row.behind.count)?;
+        let parts = [row.head, &before, row.middle, &behind, row.end];
+        let text = parts.concat(alloc)?;
+        check_printed(&rt, &text, &text)?;
     }
     Ok(())
 }

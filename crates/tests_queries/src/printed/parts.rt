@@ -1,291 +1,453 @@
 // Conditions and links alone.
 use crate::inputs::{LIMIT, check_text, query_with};
-use std::alloc::Global;
 use std::process::Abort;
 use std::test::Fail;
-use struql_ast::Block;
 use struql_parse::parse;
 use struql_print::{print_condition, print_link};
 
-// A condition or a link, and its canonical text, both with `'` for each quote.
+const WHERE: &str = "INPUT D WHERE ";
+
+const LINK: &str = "INPUT D LINK ";
+
+// What stands before a condition or a link in a query, its canonical text, and another text of it, if there is one, with `'`
+// for each quote.
 struct PartRow {
-    text: &'static str,
+    head: &'static str,
+    text: Option<&'static str>,
     canonical: &'static str,
 }
 
-const CONDITIONS: &[PartRow] = &[
+const PARTS: &[PartRow] = &[
     PartRow {
-        text: "Publications( x )",
+        head: WHERE,
+        text: Some("Publications( x )"),
         canonical: "Publications(x)",
     },
     PartRow {
-        text: "x->l->v",
+        head: WHERE,
+        text: Some("x->l->v"),
         canonical: "x -> l -> v",
     },
     PartRow {
-        text: "l='year'",
+        head: WHERE,
+        text: Some("l='year'"),
         canonical: "l = 'year'",
     },
     PartRow {
-        text: "1997 -> * -> y",
+        head: WHERE,
+        text: Some("1997 -> * -> y"),
         canonical: "1997 -> true* -> y",
     },
     // Comparisons, with numbers in their one decimal form.
     PartRow {
-        text: "x!=1",
+        head: WHERE,
+        text: Some("x!=1"),
         canonical: "x != 1",
     },
     PartRow {
-        text: "x<-2",
+        head: WHERE,
+        text: Some("x<-2"),
         canonical: "x < -2",
     },
     PartRow {
-        text: "x<=007",
+        head: WHERE,
+        text: Some("x<=007"),
         canonical: "x <= 7",
     },
     PartRow {
-        text: "-0 > x",
+        head: WHERE,
+        text: Some("-0 > x"),
         canonical: "0 > x",
     },
     PartRow {
-        text: "x>='a'",
+        head: WHERE,
+        text: Some("x>='a'"),
         canonical: "x >= 'a'",
     },
     // Lists, tests and negations.
     PartRow {
-        text: "x IN {1,'a', 2}",
+        head: WHERE,
+        text: Some("x IN {1,'a', 2}"),
         canonical: "x in {1, 'a', 2}",
     },
     PartRow {
-        text: "'a' in{'a'}",
+        head: WHERE,
+        text: Some("'a' in{'a'}"),
         canonical: "'a' in {'a'}",
     },
     PartRow {
-        text: "isInt( x )",
+        head: WHERE,
+        text: Some("isInt( x )"),
         canonical: "isInt(x)",
     },
     PartRow {
-        text: "NOT ( x->'a'->y )",
+        head: WHERE,
+        text: Some("NOT ( x->'a'->y )"),
         canonical: "not(x -> 'a' -> y)",
     },
     // Quoted names of collections, without quotes where a bare name means the same.
     PartRow {
-        text: "'Publications'( x )",
+        head: WHERE,
+        text: Some("'Publications'( x )"),
         canonical: "Publications(x)",
     },
     PartRow {
-        text: "NOT ( '_9a' (x) )",
+        head: WHERE,
+        text: Some("NOT ( '_9a' (x) )"),
         canonical: "not(_9a(x))",
     },
     PartRow {
-        text: "'Where'(x)",
+        head: WHERE,
+        text: Some("'Where'(x)"),
         canonical: "Where(x)",
     },
     PartRow {
-        text: "'isint'(x)",
+        head: WHERE,
+        text: Some("'isint'(x)"),
         canonical: "isint(x)",
     },
     PartRow {
-        text: "'my\nfile' ( x )",
+        head: WHERE,
+        text: Some("'my\nfile' ( x )"),
         canonical: "'my\\nfile'(x)",
     },
     // Expressions: signs without blanks, and the other spellings of any label.
     PartRow {
-        text: "x -> 'a' . 'b' * -> y",
+        head: WHERE,
+        text: Some("x -> 'a' . 'b' * -> y"),
         canonical: "x -> 'a'.'b'* -> y",
     },
     PartRow {
-        text: "x -> 'a' | 'b' -> y",
+        head: WHERE,
+        text: Some("x -> 'a' | 'b' -> y"),
         canonical: "x -> 'a'|'b' -> y",
     },
     PartRow {
-        text: "x -> * -> y",
+        head: WHERE,
+        text: Some("x -> * -> y"),
         canonical: "x -> true* -> y",
     },
     PartRow {
-        text: "x -> TRUE -> y",
+        head: WHERE,
+        text: Some("x -> TRUE -> y"),
         canonical: "x -> true -> y",
     },
     PartRow {
-        text: "x -> *.* -> y",
+        head: WHERE,
+        text: Some("x -> *.* -> y"),
         canonical: "x -> true*.true* -> y",
     },
     PartRow {
-        text: "x -> ** -> y",
+        head: WHERE,
+        text: Some("x -> ** -> y"),
         canonical: "x -> true** -> y",
     },
     PartRow {
-        text: "x -> ( ) -> y",
+        head: WHERE,
+        text: Some("x -> ( ) -> y"),
         canonical: "x -> () -> y",
     },
     // Parentheses that aren't.
     PartRow {
-        text: "x -> ((('a'))) -> y",
+        head: WHERE,
+        text: Some("x -> ((('a'))) -> y"),
         canonical: "x -> 'a' -> y",
     },
     PartRow {
-        text: "x -> ('a')* -> y",
+        head: WHERE,
+        text: Some("x -> ('a')* -> y"),
         canonical: "x -> 'a'* -> y",
     },
     PartRow {
-        text: "x -> ('a'*)* -> y",
+        head: WHERE,
+        text: Some("x -> ('a'*)* -> y"),
         canonical: "x -> 'a'** -> y",
     },
     PartRow {
-        text: "x -> ('a'.'b').'c' -> y",
+        head: WHERE,
+        text: Some("x -> ('a'.'b').'c' -> y"),
         canonical: "x -> 'a'.'b'.'c' -> y",
     },
     PartRow {
-        text: "x -> ('a'|'b')|'c' -> y",
+        head: WHERE,
+        text: Some("x -> ('a'|'b')|'c' -> y"),
         canonical: "x -> 'a'|'b'|'c' -> y",
     },
     PartRow {
-        text: "x -> 'a'|('b'.'c') -> y",
+        head: WHERE,
+        text: Some("x -> 'a'|('b'.'c') -> y"),
         canonical: "x -> 'a'|'b'.'c' -> y",
     },
     PartRow {
-        text: "x -> ('a'.'b')|'c' -> y",
+        head: WHERE,
+        text: Some("x -> ('a'.'b')|'c' -> y"),
         canonical: "x -> 'a'.'b'|'c' -> y",
     },
     PartRow {
-        text: "x -> ('a'.'b'*) -> y",
+        head: WHERE,
+        text: Some("x -> ('a'.'b'*) -> y"),
         canonical: "x -> 'a'.'b'* -> y",
     },
     // Texts with escapes, and bytes that need none.
     PartRow {
-        text: "x = 'a\nb\tc\rd'",
+        head: WHERE,
+        text: Some("x = 'a\nb\tc\rd'"),
         canonical: "x = 'a\\nb\\tc\\rd'",
     },
-];
-
-const CANONICAL_CONDITIONS: &[&str] = &[
-    "'a' -> l -> -5",
-    // Comparisons, with numbers in their one decimal form.
-    "x = -9223372036854775808",
-    // Lists, tests and negations.
-    "isText(x)",
-    "isUrl(x)",
-    "isFile(x)",
-    "isNode(x)",
-    "not(C(x))",
-    "not(x in {1})",
-    // Collections that no bare name means: no names, words of the grammar, and tests.
-    "'3166-1'(x)",
-    "'my file'(x)",
-    "'9'(x)",
-    "''(x)",
-    "'é'(x)",
-    "'a\\'b\\\\'(x)",
-    "not('my file'(x))",
-    "'where'(x)",
-    "'NOT'(x)",
-    "'true'(x)",
-    "'isInt'(x)",
-    "'isNode'(x)",
-    "not('isText'(x))",
-    // A quoted text that nothing opens behind is a constant as ever.
-    "'my file' = x",
-    "'isInt' -> 'a' -> x",
-    // Expressions: signs without blanks, and the other spellings of any label.
-    "x -> ()* -> y",
-    // Parentheses that are needed.
-    "x -> ('a'|'b').'c' -> y",
-    "x -> 'a'.('b'|'c') -> y",
-    "x -> ('a'.'b')* -> y",
-    "x -> ('a'|'b')* -> y",
-    "x -> 'a'.('b'.'c') -> y",
-    "x -> 'a'|('b'|'c') -> y",
-    // Texts with escapes, and bytes that need none.
-    "x -> 'a\\'b' -> y",
-    "x = '\\\\'",
-    "x = '\\n\\r\\t'",
-    "x = 'é // no comment'",
-    "x = ''",
-];
-
-const LINKS: &[PartRow] = &[
     PartRow {
-        text: "PaperPage(x)->l->v",
+        head: WHERE,
+        text: None,
+        canonical: "'a' -> l -> -5",
+    },
+    // Comparisons, with numbers in their one decimal form.
+    PartRow {
+        head: WHERE,
+        text: None,
+        canonical: "x = -9223372036854775808",
+    },
+    // Lists, tests and negations.
+    PartRow {
+        head: WHERE,
+        text: None,
+        canonical: "isText(x)",
+    },
+    PartRow {
+        head: WHERE,
+        text: None,
+        canonical: "isUrl(x)",
+    },
+    PartRow {
+        head: WHERE,
+        text: None,
+        canonical: "isFile(x)",
+    },
+    PartRow {
+        head: WHERE,
+        text: None,
+        canonical: "isNode(x)",
+    },
+    PartRow {
+        head: WHERE,
+        text: None,
+        canonical: "not(C(x))",
+    },
+    PartRow {
+        head: WHERE,
+        text: None,
+        canonical: "not(x in {1})",
+    },
+    // Collections that no bare name means: no names, words of the grammar, and tests.
+    PartRow {
+        head: WHERE,
+        text: None,
+        canonical: "'3166-1'(x)",
+    },
+    PartRow {
+        head: WHERE,
+        text: None,
+        canonical: "'my file'(x)",
+    },
+    PartRow {
+        head: WHERE,
+        text: None,
+        canonical: "'9'(x)",
+    },
+    PartRow {
+        head: WHERE,
+        text: None,
+        canonical: "''(x)",
+    },
+    PartRow {
+        head: WHERE,
+        text: None,
+        canonical: "'é'(x)",
+    },
+    PartRow {
+        head: WHERE,
+        text: None,
+        canonical: "'a\\'b\\\\'(x)",
+    },
+    PartRow {
+        head: WHERE,
+        text: None,
+        canonical: "not('my file'(x))",
+    },
+    PartRow {
+        head: WHERE,
+        text: None,
+        canonical: "'where'(x)",
+    },
+    PartRow {
+        head: WHERE,
+        text: None,
+        canonical: "'NOT'(x)",
+    },
+    PartRow {
+        head: WHERE,
+        text: None,
+        canonical: "'true'(x)",
+    },
+    PartRow {
+        head: WHERE,
+        text: None,
+        canonical: "'isInt'(x)",
+    },
+    PartRow {
+        head: WHERE,
+        text: None,
+        canonical: "'isNode'(x)",
+    },
+    PartRow {
+        head: WHERE,
+        text: None,
+        canonical: "not('isText'(x))",
+    },
+    // A quoted text that nothing opens behind is a constant as ever.
+    PartRow {
+        head: WHERE,
+        text: None,
+        canonical: "'my file' = x",
+    },
+    PartRow {
+        head: WHERE,
+        text: None,
+        canonical: "'isInt' -> 'a' -> x",
+    },
+    // Expressions: signs without blanks, and the other spellings of any label.
+    PartRow {
+        head: WHERE,
+        text: None,
+        canonical: "x -> ()* -> y",
+    },
+    // Parentheses that are needed.
+    PartRow {
+        head: WHERE,
+        text: None,
+        canonical: "x -> ('a'|'b').'c' -> y",
+    },
+    PartRow {
+        head: WHERE,
+        text: None,
+        canonical: "x -> 'a'.('b'|'c') -> y",
+    },
+    PartRow {
+        head: WHERE,
+        text: None,
+        canonical: "x -> ('a'.'b')* -> y",
+    },
+    PartRow {
+        head: WHERE,
+        text: None,
+        canonical: "x -> ('a'|'b')* -> y",
+    },
+    PartRow {
+        head: WHERE,
+        text: None,
+        canonical: "x -> 'a'.('b'.'c') -> y",
+    },
+    PartRow {
+        head: WHERE,
+        text: None,
+        canonical: "x -> 'a'|('b'|'c') -> y",
+    },
+    // Texts with escapes, and bytes that need none.
+    PartRow {
+        head: WHERE,
+        text: None,
+        canonical: "x -> 'a\\'b' -> y",
+    },
+    PartRow {
+        head: WHERE,
+        text: None,
+        canonical: "x = '\\\\'",
+    },
+    PartRow {
+        head: WHERE,
+        text: None,
+        canonical: "x = '\\n\\r\\t'",
+    },
+    PartRow {
+        head: WHERE,
+        text: None,
+        canonical: "x = 'é // no comment'",
+    },
+    PartRow {
+        head: WHERE,
+        text: None,
+        canonical: "x = ''",
+    },
+    // Links.
+    PartRow {
+        head: LINK,
+        text: Some("PaperPage(x)->l->v"),
         canonical: "PaperPage(x) -> l -> v",
     },
     PartRow {
-        text: "RootPage( ) -> 'Paper' -> PaperPage(x)",
+        head: LINK,
+        text: Some("RootPage( ) -> 'Paper' -> PaperPage(x)"),
         canonical: "RootPage() -> 'Paper' -> PaperPage(x)",
     },
     PartRow {
-        text: "F( x ,01,'a')->l->G()",
+        head: LINK,
+        text: Some("F( x ,01,'a')->l->G()"),
         canonical: "F(x, 1, 'a') -> l -> G()",
     },
     PartRow {
-        text: "x->'l'->F(x)",
+        head: LINK,
+        text: Some("x->'l'->F(x)"),
         canonical: "x -> 'l' -> F(x)",
+    },
+    PartRow {
+        head: LINK,
+        text: None,
+        canonical: "YearPage(v) -> 'Year' -> v",
+    },
+    PartRow {
+        head: LINK,
+        text: None,
+        canonical: "YearPage(v) -> 'Paper' -> PaperPage(x)",
+    },
+    PartRow {
+        head: LINK,
+        text: None,
+        canonical: "RootPage() -> 'Year' -> YearPage(v)",
+    },
+    PartRow {
+        head: LINK,
+        text: None,
+        canonical: "F() -> '' -> -7",
+    },
+    PartRow {
+        head: LINK,
+        text: None,
+        canonical: "F() -> 'l' -> 'a\\'b'",
     },
 ];
 
-const CANONICAL_LINKS: &[&str] = &[
-    "YearPage(v) -> 'Year' -> v",
-    "YearPage(v) -> 'Paper' -> PaperPage(x)",
-    "RootPage() -> 'Year' -> YearPage(v)",
-    "F() -> '' -> -7",
-    "F() -> 'l' -> 'a\\'b'",
-];
-
-// The block's first condition, and its first link.
-fn printed_part(alloc: Global, block: &Block) -> Result<Vec<u8>, Fail> {
+// Compares what is printed of the first condition and the first link of the part with the row's canonical text.
+fn check_part<R: AllocGlobal + Abort>(rt: &R, part: &str, row: &PartRow) -> Result<(), Fail> {
+    let alloc = rt.alloc();
+    let text = query_with(alloc, row.head, part)?;
+    let query = parse(alloc, text.as_bytes(), LIMIT)?;
     let mut out = Vec::new(alloc);
-    if let Some(condition) = block.conditions.first() {
-        print_condition(condition, &mut out)?;
+    if let Some(block) = query.blocks.first() {
+        if let Some(condition) = block.conditions.first() {
+            print_condition(condition, &mut out)?;
+        }
+        if let Some(link) = block.links.first() {
+            print_link(link, &mut out)?;
+        }
     }
-    if let Some(link) = block.links.first() {
-        print_link(link, &mut out)?;
-    }
-    Ok(out)
-}
-
-// The part that is spelled behind the head.
-fn printed(alloc: Global, head: &str, part: &str) -> Result<Vec<u8>, Fail> {
-    let text = query_with(alloc, head, part)?;
-    let query = parse(alloc, text.as_slice(), LIMIT)?;
-    match query.blocks.first() {
-        Some(block) => printed_part(alloc, block),
-        None => Err(Fail::new("there is no block")),
-    }
-}
-
-fn check_part<R: AllocGlobal + Abort>(
-    rt: &R,
-    head: &str,
-    part: &str,
-    canonical: &str,
-) -> Result<(), Fail> {
-    let out = printed(rt.alloc(), head, part)?;
-    Ok(check_text(rt, out.as_slice(), canonical)?)
-}
-
-// Each text is printed as its canonical text, which is printed as it is.
-fn check_parts<R: AllocGlobal + Abort>(rt: &R, head: &str, rows: &[PartRow]) -> Result<(), Fail> {
-    for row in rows {
-        check_part(rt, head, row.text, row.canonical)?;
-        check_part(rt, head, row.canonical, row.canonical)?;
-    }
-    Ok(())
-}
-
-fn check_canonical<R: AllocGlobal + Abort>(rt: &R, head: &str, texts: &[&str]) -> Result<(), Fail> {
-    for text in texts {
-        check_part(rt, head, text, text)?;
-    }
-    Ok(())
+    check_text(rt, out.as_slice(), row.canonical, row.canonical)
 }
 
 #[test]
 fn conditions_and_links_are_printed(rt: HostRuntime) -> Result<(), Fail> {
-    check_parts(&rt, "INPUT D WHERE ", CONDITIONS)?;
-    check_parts(&rt, "INPUT D LINK ", LINKS)
-}
-
-#[test]
-fn canonical_conditions_and_links_are_printed_as_they_are(rt: HostRuntime) -> Result<(), Fail> {
-    check_canonical(&rt, "INPUT D WHERE ", CANONICAL_CONDITIONS)?;
-    check_canonical(&rt, "INPUT D LINK ", CANONICAL_LINKS)
+    for row in PARTS {
+        if let Some(text) = row.text {
+            check_part(&rt, text, row)?;
+        }
+        check_part(&rt, row.canonical, row)?;
+    }
+    Ok(())
 }

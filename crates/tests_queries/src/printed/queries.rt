@@ -1,6 +1,5 @@
 // Whole queries.
 use crate::inputs::{LIMIT, check_text, quoted};
-use std::alloc::Global;
 use std::process::Abort;
 use std::test::Fail;
 use struql_parse::parse;
@@ -64,25 +63,24 @@ const QUERIES: &[QueryRow] = &[
     },
 ];
 
-/// The canonical text of the query that a text spells.
-pub fn printed(alloc: Global, text: &[u8]) -> Result<Vec<u8>, Fail> {
-    let query = parse(alloc, text, LIMIT)?;
-    let mut out = Vec::new(alloc);
-    print(&query, &mut out)?;
-    Ok(out)
-}
-
-fn check_query<R: AllocGlobal + Abort>(rt: &R, text: &str, canonical: &str) -> Result<(), Fail> {
+/// Compares what is printed of the query that a text spells with its canonical text.
+pub fn check_printed<R: AllocGlobal + Abort>(
+    rt: &R,
+    text: &str,
+    canonical: &str,
+) -> Result<(), Fail> {
     let text = quoted(rt.alloc(), text)?;
-    let out = printed(rt.alloc(), text.as_slice())?;
-    Ok(check_text(rt, out.as_slice(), canonical)?)
+    let query = parse(rt.alloc(), text.as_bytes(), LIMIT)?;
+    let mut out = Vec::new(rt.alloc());
+    print(&query, &mut out)?;
+    check_text(rt, out.as_slice(), canonical, canonical)
 }
 
 #[test]
 fn queries_are_printed(rt: HostRuntime) -> Result<(), Fail> {
     for row in QUERIES {
-        check_query(&rt, row.text, row.canonical)?;
-        check_query(&rt, row.canonical, row.canonical)?;
+        check_printed(&rt, row.text, row.canonical)?;
+        check_printed(&rt, row.canonical, row.canonical)?;
     }
     Ok(())
 }

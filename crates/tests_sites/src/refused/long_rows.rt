@@ -1,86 +1,127 @@
 // Refusals of long texts, which are made here.
-use crate::refused::marked::check_reported;
-use crate::refused::reported::Reported;
-use sd_value::NoMemory;
-use std::alloc::Global;
-use std::process::Abort;
+use crate::refused::{Reported, check_reported};
 use std::test::Fail;
 
 const HEAD: &[u8] = b"INPUT D WHERE x -> \"a\"";
 
-// A query whose expression has the label once, and then this many times more after a sign.
-fn chain(alloc: Global, more: u32, link: &[u8]) -> Result<Vec<u8>, NoMemory> {
-    let mut text = Vec::from_slice(alloc, HEAD)?;
-    for _ in 0..more {
-        text.extend_from_slice(link)?;
-    }
-    text.extend_from_slice(b" -> y OUTPUT S")?;
-    Ok(text)
-}
+const END: &[u8] = b" -> y OUTPUT S";
 
-// How many times the label follows the first one, and what is reported, or none for a query.
+// A text: a piece this many times, between a head and an end; and what is reported of it, or none for a query.
 struct LongRow {
-    more: u32,
+    head: &'static [u8],
+    piece: &'static [u8],
+    count: usize,
+    end: &'static [u8],
     reported: Option<Reported>,
 }
 
 const LONG: &[LongRow] = &[
+    // The label once, and then this many times more after a sign.
     LongRow {
-        more: 255,
+        head: HEAD,
+        piece: b".\"a\"",
+        count: 255,
+        end: END,
         reported: None,
     },
     LongRow {
-        more: 256,
+        head: HEAD,
+        piece: b".\"a\"",
+        count: 256,
+        end: END,
         reported: Some(Reported {
             number: 51,
             place: 19,
         }),
     },
     LongRow {
-        more: 1023,
+        head: HEAD,
+        piece: b".\"a\"",
+        count: 1023,
+        end: END,
         reported: Some(Reported {
             number: 51,
             place: 19,
         }),
     },
     LongRow {
-        more: 1024,
+        head: HEAD,
+        piece: b".\"a\"",
+        count: 1024,
+        end: END,
         reported: Some(Reported {
             number: 72,
             place: 22 + 4 * 1023,
         }),
     },
+    LongRow {
+        head: HEAD,
+        piece: b"|\"a\"",
+        count: 255,
+        end: END,
+        reported: None,
+    },
+    LongRow {
+        head: HEAD,
+        piece: b"|\"a\"",
+        count: 256,
+        end: END,
+        reported: Some(Reported {
+            number: 51,
+            place: 19,
+        }),
+    },
+    LongRow {
+        head: HEAD,
+        piece: b"|\"a\"",
+        count: 1023,
+        end: END,
+        reported: Some(Reported {
+            number: 51,
+            place: 19,
+        }),
+    },
+    LongRow {
+        head: HEAD,
+        piece: b"|\"a\"",
+        count: 1024,
+        end: END,
+        reported: Some(Reported {
+            number: 72,
+            place: 22 + 4 * 1023,
+        }),
+    },
+    // A text past the limit, and one at it.
+    LongRow {
+        head: b"",
+        piece: b"$",
+        count: 65_537,
+        end: b"",
+        reported: Some(Reported {
+            number: 24,
+            place: 65_536,
+        }),
+    },
+    LongRow {
+        head: b"",
+        piece: b"$",
+        count: 65_536,
+        end: b"",
+        reported: Some(Reported {
+            number: 21,
+            place: 0,
+        }),
+    },
 ];
 
-fn check_long<R: AllocGlobal + Abort>(rt: &R, row: &LongRow, link: &[u8]) -> Result<(), NoMemory> {
-    let text = chain(rt.alloc(), row.more, link)?;
-    check_reported(rt, text.as_slice(), row.reported, "a long expression");
-    Ok(())
-}
-
 #[test]
-fn signs_and_positions_past_their_limits_are_refused(rt: HostRuntime) -> Result<(), Fail> {
+fn long_texts_are_refused_past_the_limits(rt: HostRuntime) -> Result<(), Fail> {
+    let alloc = rt.alloc();
     for row in LONG {
-        check_long(&rt, row, b".\"a\"")?;
-        check_long(&rt, row, b"|\"a\"")?;
+        let pieces = row.piece.repeat(alloc, row.count)?;
+        let text = [row.head, pieces.as_slice(), row.end].concat(alloc)?;
+        let name = format!(in alloc; "{} pieces", row.count)?;
+        check_reported(&rt, text.as_slice(), row.reported, &name);
     }
-    Ok(())
-}
-
-const PAST_THE_LIMIT: Reported = Reported {
-    number: 24,
-    place: 65_536,
-};
-
-const AT_THE_LIMIT: Reported = Reported {
-    number: 21,
-    place: 0,
-};
-
-#[test]
-fn a_text_past_the_limit_is_too_long(rt: HostRuntime) -> Result<(), Fail> {
-    let text = vec![in rt.alloc(); b'$'; 65_537]?;
-    check_reported(&rt, &text, Some(PAST_THE_LIMIT), "past the limit");
-    check_reported(&rt, &text[..65_536], Some(AT_THE_LIMIT), "at the limit");
     Ok(())
 }

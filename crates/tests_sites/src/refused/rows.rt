@@ -1,18 +1,18 @@
 // Refusals with their places, and queries that are near to them.
-use crate::refused::marked::check_marked;
+use crate::refused::{Reported, check_reported};
 use std::process::Abort;
 use std::test::Fail;
 
-// Texts that are refused with the same number, each with `^` before the refused place and `'` for each quote.
+// Texts that are refused with the same number, each with `^` before the refused place and `'` for each quote, or queries.
 struct Refused {
-    number: u32,
+    number: Option<u32>,
     texts: &'static [&'static str],
 }
 
 const REFUSED: &[Refused] = &[
     // Texts that don't split into tokens, which comes before all else.
     Refused {
-        number: 21,
+        number: Some(21),
         texts: &[
             "INPUT D ^; OUTPUT S",
             "INPUT D WHERE x -> ^$ -> y OUTPUT S",
@@ -21,14 +21,14 @@ const REFUSED: &[Refused] = &[
         ],
     },
     Refused {
-        number: 22,
+        number: Some(22),
         texts: &[
             "INPUT D WHERE x = ^'abc OUTPUT S",
             "INPUT D WHERE x = ^'abc\\' OUTPUT S",
         ],
     },
     Refused {
-        number: 23,
+        number: Some(23),
         texts: &[
             "INPUT D WHERE x = ^9223372036854775808 OUTPUT S",
             "INPUT D WHERE x = ^-9223372036854775809 OUTPUT S",
@@ -36,7 +36,7 @@ const REFUSED: &[Refused] = &[
     },
     // The head and the end, and the version.
     Refused {
-        number: 71,
+        number: Some(71),
         texts: &[
             "^",
             "^WHERE C(x) OUTPUT S",
@@ -55,7 +55,7 @@ const REFUSED: &[Refused] = &[
         ],
     },
     Refused {
-        number: 73,
+        number: Some(73),
         texts: &[
             "STRUQL ^3 INPUT D OUTPUT S",
             "STRUQL ^0 D",
@@ -63,7 +63,7 @@ const REFUSED: &[Refused] = &[
         ],
     },
     Refused {
-        number: 71,
+        number: Some(71),
         texts: &[
             // Conditions.
             "INPUT D WHERE ^OUTPUT S",
@@ -110,7 +110,7 @@ const REFUSED: &[Refused] = &[
     },
     // Limits of depth: blocks, parentheses, and stars one within another.
     Refused {
-        number: 72,
+        number: Some(72),
         texts: &[
             "INPUT D {{{{{{{{{{{{{{{{^{",
             "INPUT D CREATE F() {{{{{{{{{{{{{{{^{",
@@ -122,7 +122,7 @@ const REFUSED: &[Refused] = &[
     },
     // Queries that are spelled and have a fault.
     Refused {
-        number: 61,
+        number: Some(61),
         texts: &[
             "INPUT D CREATE F(^x) OUTPUT S",
             "INPUT D WHERE C(x) CREATE F(x) LINK F(x) -> ^l -> x OUTPUT S",
@@ -135,7 +135,7 @@ const REFUSED: &[Refused] = &[
         ],
     },
     Refused {
-        number: 62,
+        number: Some(62),
         texts: &[
             "INPUT D WHERE C(x) CREATE F(x) LINK F(x) -> 'a' -> ^G(x) OUTPUT S",
             "INPUT D WHERE C(x) COLLECT C(^G(x)) OUTPUT S",
@@ -144,7 +144,7 @@ const REFUSED: &[Refused] = &[
         ],
     },
     Refused {
-        number: 63,
+        number: Some(63),
         texts: &[
             "INPUT D WHERE C(x) CREATE F(x), ^F(x, x) OUTPUT S",
             "INPUT D WHERE C(x) CREATE F(x) LINK F(x) -> 'a' -> ^F() OUTPUT S",
@@ -152,14 +152,14 @@ const REFUSED: &[Refused] = &[
         ],
     },
     Refused {
-        number: 64,
+        number: Some(64),
         texts: &[
             "INPUT D WHERE C(x) LINK ^x -> 'l' -> F(x) OUTPUT S",
             "INPUT D WHERE C(x) CREATE F(x) LINK ^x -> 'l' -> y OUTPUT S",
         ],
     },
     Refused {
-        number: 65,
+        number: Some(65),
         texts: &[
             "INPUT D WHERE x -> l -> y, ^l -> 'a' -> z OUTPUT S",
             "INPUT D WHERE x -> l -> y, C(^l) OUTPUT S",
@@ -169,14 +169,14 @@ const REFUSED: &[Refused] = &[
         ],
     },
     Refused {
-        number: 66,
+        number: Some(66),
         texts: &[
             "INPUT D WHERE C(l), C(x) CREATE F(x) LINK F(x) -> ^l -> x OUTPUT S",
             "INPUT D WHERE C(l) CREATE F(l) { WHERE l -> ^l -> x } OUTPUT S",
         ],
     },
     Refused {
-        number: 67,
+        number: Some(67),
         texts: &[
             "INPUT D CREATE ^index() OUTPUT S",
             "INPUT D CREATE ^isInt() OUTPUT S",
@@ -185,7 +185,7 @@ const REFUSED: &[Refused] = &[
         ],
     },
     Refused {
-        number: 68,
+        number: Some(68),
         texts: &[
             "INPUT D WHERE C(a1), C(a2), C(a3), C(a4), C(a5), C(a6), C(a7), C(a8), C(a9), C(a10), C(a11), \
                 C(a12), C(a13), C(a14), C(a15), C(a16), C(a17), C(a18), C(a19), C(a20), C(a21), C(a22), \
@@ -197,15 +197,40 @@ const REFUSED: &[Refused] = &[
                 -> 'a' -> ^b } OUTPUT S",
         ],
     },
+    // Queries that are near to those.
+    Refused {
+        number: None,
+        texts: &[
+            "INPUT D OUTPUT S",
+            "STRUQL 2 INPUT D OUTPUT S",
+            "INPUT Where OUTPUT Output",
+            "INPUT D WHERE C(x) CREATE F(x) WHERE C(y) CREATE G(y) OUTPUT S",
+            "INPUT D {} OUTPUT S",
+            "INPUT D {{{{{{{{{{{{{{{{}}}}}}}}}}}}}}}} OUTPUT S",
+            "INPUT D WHERE x -> (((((((((((((((((((((((((((((((((((((((((((((((((((((((((((((((('a')))))))))))))))))\
+                ))))))))))))))))))))))))))))))))))))))))))))))) -> y OUTPUT S",
+            "INPUT D WHERE x -> 'a'**************************************************************** -> y OUTPUT S",
+            "INPUT D WHERE C(a1), C(a2), C(a3), C(a4), C(a5), C(a6), C(a7), C(a8), C(a9), C(a10), C(a11), C(a12), \
+                C(a13), C(a14), C(a15), C(a16), C(a17), C(a18), C(a19), C(a20), C(a21), C(a22), C(a23), C(a24), \
+                C(a25), C(a26), C(a27), C(a28), C(a29), C(a30), C(a31), C(a32) OUTPUT S",
+            "INPUT D CREATE F() COLLECT index(F()) OUTPUT S",
+            "INPUT D WHERE x = 9223372036854775807, y = -9223372036854775808 OUTPUT S",
+        ],
+    },
 ];
 
-fn check_texts<R: AllocGlobal + Abort>(
-    rt: &R,
-    number: Option<u32>,
-    texts: &[&str],
-) -> Result<(), Fail> {
-    for text in texts {
-        check_marked(rt, number, text)?;
+fn check_texts<R: AllocGlobal + Abort>(rt: &R, row: &Refused) -> Result<(), Fail> {
+    for text in row.texts {
+        let wanted = match (row.number, text.find('^')) {
+            (Some(number), Some(place)) => Some(Reported {
+                number,
+                place: place as u64,
+            }),
+            _ => None,
+        };
+        let unmarked = text.replace(rt.alloc(), '^', "")?;
+        let query = unmarked.replace(rt.alloc(), '\'', "\"")?;
+        check_reported(rt, query.as_bytes(), wanted, text);
     }
     Ok(())
 }
@@ -213,30 +238,7 @@ fn check_texts<R: AllocGlobal + Abort>(
 #[test]
 fn queries_are_refused_at_their_places(rt: HostRuntime) -> Result<(), Fail> {
     for row in REFUSED {
-        check_texts(&rt, Some(row.number), row.texts)?;
+        check_texts(&rt, row)?;
     }
     Ok(())
-}
-
-// Queries that are near to those.
-const QUERIES: &[&str] = &[
-    "INPUT D OUTPUT S",
-    "STRUQL 2 INPUT D OUTPUT S",
-    "INPUT Where OUTPUT Output",
-    "INPUT D WHERE C(x) CREATE F(x) WHERE C(y) CREATE G(y) OUTPUT S",
-    "INPUT D {} OUTPUT S",
-    "INPUT D {{{{{{{{{{{{{{{{}}}}}}}}}}}}}}}} OUTPUT S",
-    "INPUT D WHERE x -> (((((((((((((((((((((((((((((((((((((((((((((((((((((((((((((((('a')))))))))))))))))\
-        ))))))))))))))))))))))))))))))))))))))))))))))) -> y OUTPUT S",
-    "INPUT D WHERE x -> 'a'**************************************************************** -> y OUTPUT S",
-    "INPUT D WHERE C(a1), C(a2), C(a3), C(a4), C(a5), C(a6), C(a7), C(a8), C(a9), C(a10), C(a11), C(a12), \
-        C(a13), C(a14), C(a15), C(a16), C(a17), C(a18), C(a19), C(a20), C(a21), C(a22), C(a23), C(a24), \
-        C(a25), C(a26), C(a27), C(a28), C(a29), C(a30), C(a31), C(a32) OUTPUT S",
-    "INPUT D CREATE F() COLLECT index(F()) OUTPUT S",
-    "INPUT D WHERE x = 9223372036854775807, y = -9223372036854775808 OUTPUT S",
-];
-
-#[test]
-fn other_queries_are_accepted(rt: HostRuntime) -> Result<(), Fail> {
-    check_texts(&rt, None, QUERIES)
 }

@@ -1,13 +1,27 @@
 // The outcomes of requests for the pages of terms, as a text.
+use crate::inputs::check_text;
 use address::{address, show};
 use page_spec::Outcome;
 use sd_value::{NoMemory, Term};
 use site_view::Pages;
 use std::alloc::Global;
+use std::process::Abort;
+use std::test::Fail;
 
-// A page's text, `-` where there is none, `@` and the value at which it embeds itself, or `+` where it is too long.
-fn put_outcome(alloc: Global, outcome: &Outcome, out: &mut Vec<u8>) -> Result<(), NoMemory> {
-    match outcome {
+// A page's address, a blank, and its text, `-` where there is none, `@` and the value at which it embeds itself, or `+`
+// where it is too long.
+fn put_page<P: Pages>(
+    alloc: Global,
+    pages: &mut P,
+    term: &Term,
+    out: &mut Vec<u8>,
+) -> Result<(), NoMemory>
+    requires { P.Own pages.old }
+    ensures { P.Own pages.new }
+{
+    address(alloc, term, out)?;
+    out.push(b' ')?;
+    match &pages.page(alloc, term)? {
         Outcome::Page(text) => Ok(out.extend_from_slice(text.bytes())?),
         Outcome::Missing => Ok(out.push(b'-')?),
         Outcome::TooLong => Ok(out.push(b'+')?),
@@ -18,36 +32,21 @@ fn put_outcome(alloc: Global, outcome: &Outcome, out: &mut Vec<u8>) -> Result<()
     }
 }
 
-// A page's address, a blank, the outcome of a request for it, and a semicolon.
-fn put_page<P: Pages>(
-    alloc: Global,
-    pages: &mut P,
-    term: &Term,
-    out: &mut Vec<u8>,
-) -> Result<(), NoMemory>
-    requires { P.Own pages.old }
-    ensures { P.Own pages.new }
-{
-    let outcome = pages.page(alloc, term)?;
-    address(alloc, term, out)?;
-    out.push(b' ')?;
-    put_outcome(alloc, &outcome, out)?;
-    out.push(b';')?;
-    Ok(())
-}
-
-/// The outcomes of requests for the pages of the terms, one after another.
-pub fn outcomes_text<P: Pages>(
-    alloc: Global,
+/// Compares the outcomes of requests for the pages of the terms, each with a semicolon behind it, with a text.
+pub fn check_pages<R: AllocGlobal + Abort, P: Pages>(
+    rt: &R,
     pages: &mut P,
     terms: &[Term],
-) -> Result<Vec<u8>, NoMemory>
+    wanted: &str,
+) -> Result<(), Fail>
     requires { P.Own pages.old }
     ensures { P.Own pages.new }
 {
+    let alloc = rt.alloc();
     let mut out = Vec::new(alloc);
     for term in terms {
         put_page(alloc, pages, term, &mut out)?;
+        out.push(b';')?;
     }
-    Ok(out)
+    check_text(rt, out.as_slice(), wanted, wanted)
 }

@@ -25,7 +25,7 @@ fn text_of(alloc: Global, words: &[Str]) -> Result<Vec<u8>, NoMemory> {
 fn check_command(alloc: Global, words: &[&str], command: &str) -> Result<(), Fail> {
     let words = words_of(alloc, words)?;
     let found = text_of(alloc, &words)?;
-    check_text(&found, command.as_bytes())
+    check_text(command.as_bytes(), &found, command.as_bytes())
 }
 
 // Words, and the text of their command.
@@ -628,5 +628,5 @@ fn not_utf_8(alloc: Global, word: &[u8]) -> Result<Vec<u8>, NoMemory> {
 #[test]
 fn a_word_that_is_not_utf_8_gives_no_command(rt: HostRuntime) -> Result<(), Fail> {
     let found = not_utf_8(rt.alloc(), b"\xff")?;
-    check_text(&found, b"")
+    check_text(b"data", &found, b"")
 }

@@ -1,113 +1,202 @@
-// Whole texts in CSV, with answers worked out by hand.
+// Whole texts in CSV, read strictly or leniently, with answers worked out by hand.
 use super::graphs::{check_graph, graph_for};
 use crate::checks::check;
 use csv_source::{CsvRefusal, read_csv};
-use sd_value::{NoMemory, Str};
+use lenient_csv::read_lenient_csv;
+use sd_value::Str;
 use std::alloc::Global;
 use std::test::Fail;
 
-// A text, the most nodes and edges that are added, and why it is refused, or none.
-struct RefusalRow {
+// A text, the stem of its names, the most nodes and edges that are added, how it is read, why it is refused, or none, and
+// the data text of what is stated, if it is compared.
+struct Row {
     text: &'static [u8],
+    stem: &'static str,
     nodes: u64,
     edges: u64,
+    lenient: bool,
     refusal: Option<CsvRefusal>,
+    graph: Option<&'static str>,
 }
 
-const REFUSALS: &[RefusalRow] = &[
-    RefusalRow {
+// What most rows have.
+const ROW: Row = Row {
+    text: b"",
+    stem: "p",
+    nodes: 9,
+    edges: 99,
+    lenient: false,
+    refusal: None,
+    graph: None,
+};
+
+const ROWS: &[Row] = &[
+    Row {
         text: b"a,,b\n",
-        nodes: 9,
+        stem: "c",
         edges: 9,
         refusal: Some(CsvRefusal::EmptyLabel(1)),
+        ..ROW
     },
-    RefusalRow {
+    Row {
         text: b"a,b\n1,2\n\n3\n",
-        nodes: 9,
+        stem: "c",
         edges: 9,
         refusal: Some(CsvRefusal::Ragged(2)),
+        ..ROW
     },
-    RefusalRow {
-        text: b"a,b\n1,\xFF\n",
-        nodes: 9,
+    Row {
+        text: b"a,b\n1,\xff\n",
+        stem: "c",
         edges: 9,
         refusal: Some(CsvRefusal::NotUtf8(1)),
+        ..ROW
     },
-    RefusalRow {
-        text: b"a,\xFF,\n",
-        nodes: 9,
+    Row {
+        text: b"a,\xff,\n",
+        stem: "c",
         edges: 9,
         refusal: Some(CsvRefusal::NotUtf8(0)),
+        ..ROW
     },
-    RefusalRow {
-        text: b"a,b\n\xFF\n",
-        nodes: 9,
+    Row {
+        text: b"a,b\n\xff\n",
+        stem: "c",
         edges: 9,
         refusal: Some(CsvRefusal::Ragged(1)),
+        ..ROW
     },
-    RefusalRow {
+    Row {
         text: b"a,b\n1,2\n3,4\n",
+        stem: "c",
         nodes: 2,
         edges: 6,
-        refusal: None,
+        ..ROW
     },
-    RefusalRow {
+    Row {
         text: b"a,b\n1,2\n3,4\n",
+        stem: "c",
         nodes: 2,
         edges: 5,
         refusal: Some(CsvRefusal::TooManyEdges(2)),
+        ..ROW
     },
-    RefusalRow {
+    Row {
         text: b"a,b\n1,2\n3,4\n",
+        stem: "c",
         nodes: 1,
         edges: 9,
         refusal: Some(CsvRefusal::TooManyNodes(2)),
+        ..ROW
     },
-    RefusalRow {
+    Row {
         text: b"",
+        stem: "c",
         nodes: 0,
         edges: 0,
-        refusal: None,
+        ..ROW
+    },
+    Row {
+        text: b"\xef\xbb\xbftitle,year,note\r\n\"Two\nlines\",1999,\r\n",
+        stem: "bib",
+        graph: Some(
+            "object \"bib_1\" in \"bib\" {\n  \"title\" \"Two\\nlines\"\n  \"year\" 1999\n}\n",
+        ),
+        ..ROW
+    },
+    Row {
+        text: b"n,n,n,n,n,n\n-9223372036854775808,0,-0,07,9223372036854775808, 1\n",
+        stem: "bib",
+        graph: Some(
+            "object \"bib_1\" in \"bib\" {\n  \"n\" -9223372036854775808\n  \"n\" 0\n  \"n\" \" \
+            1\"\n  \"n\" \"-0\"\n  \"n\" \"07\"\n  \"n\" \"9223372036854775808\"\n}\n",
+        ),
+        ..ROW
+    },
+    Row {
+        text: b"a,b\n1\n",
+        refusal: Some(CsvRefusal::Ragged(1)),
+        ..ROW
+    },
+    Row {
+        text: b"a,b\n1\n",
+        lenient: true,
+        graph: Some("object \"p_1\" in \"p\" {\n  \"a\" 1\n}\n"),
+        ..ROW
+    },
+    Row {
+        text: b"a,b\n1,2,3\n",
+        refusal: Some(CsvRefusal::Ragged(1)),
+        ..ROW
+    },
+    Row {
+        text: b"a,b\n1,2,3\n",
+        lenient: true,
+        refusal: Some(CsvRefusal::Ragged(1)),
+        graph: Some(""),
+        ..ROW
+    },
+    Row {
+        text: b"a;b\n1;2\n",
+        ..ROW
+    },
+    Row {
+        text: b"a;b\n1;2\n",
+        lenient: true,
+        graph: Some("object \"p_1\" in \"p\" {\n  \"a\" 1\n  \"b\" 2\n}\n"),
+        ..ROW
+    },
+    Row {
+        text: b"a\tb;c\n1\t2,5\n",
+        refusal: Some(CsvRefusal::Ragged(1)),
+        ..ROW
+    },
+    Row {
+        text: b"a\tb;c\n1\t2,5\n",
+        lenient: true,
+        graph: Some("object \"p_1\" in \"p\" {\n  \"a\" 1\n  \"b;c\" \"2,5\"\n}\n"),
+        ..ROW
+    },
+    Row {
+        text: b"\"a,b;c\"\n1;2\n",
+        ..ROW
+    },
+    Row {
+        text: b"\"a,b;c\"\n1;2\n",
+        lenient: true,
+        graph: Some("object \"p_1\" in \"p\" {\n  \"a,b;c\" \"1;2\"\n}\n"),
+        ..ROW
+    },
+    Row {
+        text: b"u,v\nhttp://x.org/,ftp://y\n",
+        ..ROW
+    },
+    Row {
+        text: b"u,v\nhttp://x.org/,ftp://y\n",
+        lenient: true,
+        graph: Some(
+            "object \"p_1\" in \"p\" {\n  \"u\" url \"http://x.org/\"\n  \"v\" \"ftp://y\"\n}\n",
+        ),
+        ..ROW
     },
 ];
 
-fn answer(alloc: Global, row: &RefusalRow) -> Result<Option<CsvRefusal>, NoMemory> {
-    let stem = Str::new(alloc, b"c")?;
+fn check_row(alloc: Global, row: &Row) -> Result<(), Fail> {
+    let stem = Str::new(alloc, row.stem.as_bytes())?;
     let mut graph = graph_for(alloc, row.nodes, row.edges);
-    Ok(read_csv(alloc, &stem, row.text, &mut graph).err())
+    let end = if row.lenient {
+        read_lenient_csv(alloc, &stem, row.text, &mut graph)
+    } else {
+        read_csv(alloc, &stem, row.text, &mut graph)
+    };
+    check(end.err() == row.refusal, row.text)?;
+    check_graph(alloc, row.text, graph, row.graph)
 }
 
-fn check_refusals(alloc: Global, rows: &[RefusalRow]) -> Result<(), Fail> {
-    for row in rows {
-        check(answer(alloc, row)? == row.refusal, "another answer")?;
+#[test]
+fn each_csv_text_is_read_as_its_row_says(rt: HostRuntime) -> Result<(), Fail> {
+    for row in ROWS {
+        check_row(rt.alloc(), row)?;
     }
     Ok(())
-}
-
-#[test]
-fn csv_texts_are_refused_at_their_rows(rt: HostRuntime) -> Result<(), Fail> {
-    check_refusals(rt.alloc(), REFUSALS)
-}
-
-fn check_text_of(alloc: Global, text: &[u8], wanted: &[u8]) -> Result<(), Fail> {
-    let stem = Str::new(alloc, b"bib")?;
-    let mut graph = graph_for(alloc, 9, 99);
-    read_csv(alloc, &stem, text, &mut graph)?;
-    check_graph(alloc, graph, wanted)
-}
-
-#[test]
-fn a_row_of_a_spreadsheet_is_an_object(rt: HostRuntime) -> Result<(), Fail> {
-    let text = b"\xEF\xBB\xBFtitle,year,note\r\n\"Two\nlines\",1999,\r\n";
-    let graph = b"object \"bib_1\" in \"bib\" {\n  \"title\" \"Two\\nlines\"\n  \"year\" 1999\n}\n";
-    check_text_of(rt.alloc(), text, graph)
-}
-
-#[test]
-fn only_canonical_decimals_are_numbers(rt: HostRuntime) -> Result<(), Fail> {
-    let text = b"n,n,n,n,n,n\n-9223372036854775808,0,-0,07,9223372036854775808, 1\n";
-    let graph =
-        b"object \"bib_1\" in \"bib\" {\n  \"n\" -9223372036854775808\n  \"n\" 0\n  \"n\" \" 1\"\n  \"n\" \
-            \"-0\"\n  \"n\" \"07\"\n  \"n\" \"9223372036854775808\"\n}\n";
-    check_text_of(rt.alloc(), text, graph)
 }

@@ -9,128 +9,123 @@ const KINDS: &[u8] = b"collection A { u url } collection B { u file } object o i
 
 const EDGE: &[u8] = b"object a in C { v &b }";
 
-// A text, the most nodes and edges that are added, and why it is refused, or none.
-struct RefusalRow {
+// A text, the most nodes and edges that are added, why it is refused, or none, and its canonical text, if it is compared.
+struct Row {
     text: &'static [u8],
     nodes: u64,
     edges: u64,
     refusal: Option<DdlRefusal>,
+    graph: Option<&'static str>,
 }
 
-const REFUSALS: &[RefusalRow] = &[
-    RefusalRow {
+// What most rows have.
+const ROW: Row = Row {
+    text: b"",
+    nodes: 9,
+    edges: 9,
+    refusal: None,
+    graph: None,
+};
+
+const ROWS: &[Row] = &[
+    Row {
         text: b"object a {",
-        nodes: 9,
-        edges: 9,
         refusal: Some(DdlRefusal::Expected(10)),
+        ..ROW
     },
-    RefusalRow {
+    Row {
         text: b"object a { v \"x",
-        nodes: 9,
-        edges: 9,
         refusal: Some(DdlRefusal::OpenString(13)),
+        ..ROW
     },
-    RefusalRow {
+    Row {
         text: KINDS,
-        nodes: 9,
-        edges: 9,
         refusal: Some(DdlRefusal::KindConflict(68)),
+        ..ROW
     },
-    RefusalRow {
+    Row {
         text: KINDS,
         nodes: 0,
-        edges: 9,
         refusal: Some(DdlRefusal::TooManyNodes(54)),
+        ..ROW
     },
-    RefusalRow {
+    Row {
         text: EDGE,
         nodes: 2,
         edges: 2,
-        refusal: None,
+        ..ROW
     },
-    RefusalRow {
+    Row {
         text: EDGE,
         nodes: 1,
         edges: 2,
         refusal: Some(DdlRefusal::TooManyNodes(18)),
+        ..ROW
     },
-    RefusalRow {
+    Row {
         text: EDGE,
         nodes: 2,
         edges: 1,
         refusal: Some(DdlRefusal::TooManyEdges(18)),
+        ..ROW
     },
-    RefusalRow {
+    Row {
         text: EDGE,
         nodes: 2,
         edges: 0,
         refusal: Some(DdlRefusal::TooManyEdges(12)),
+        ..ROW
     },
-    RefusalRow {
+    Row {
         text: b"object a { } object b {",
-        nodes: 9,
-        edges: 9,
         refusal: Some(DdlRefusal::Expected(23)),
+        ..ROW
     },
-    RefusalRow {
+    Row {
         text: b"object a { } }",
-        nodes: 9,
-        edges: 9,
         refusal: Some(DdlRefusal::Expected(13)),
+        ..ROW
     },
-    RefusalRow {
+    Row {
         text: b"object a { } object b { v \"x",
-        nodes: 9,
-        edges: 9,
         refusal: Some(DdlRefusal::OpenString(26)),
+        ..ROW
     },
-    RefusalRow {
+    Row {
         text: b"object a { } object b { v &c }",
         nodes: 2,
-        edges: 9,
         refusal: Some(DdlRefusal::TooManyNodes(26)),
+        ..ROW
     },
-    RefusalRow {
+    Row {
         text: b"// no object",
-        nodes: 9,
-        edges: 9,
-        refusal: None,
+        ..ROW
     },
-    RefusalRow {
+    Row {
         text: b"\xef\xbb\xbfobject a { } // }",
-        nodes: 9,
-        edges: 9,
-        refusal: None,
+        ..ROW
+    },
+    Row {
+        text: b"object b { u url \"http://a/\" v &c } object a in \"x y\" { n -07 }",
+        graph: Some(
+            "object \"a\" in \"x y\" {\n  \"n\" -7\n}\nobject \"b\" {\n  \"u\" url \
+            \"http://a/\"\n  \"v\" &\"c\"\n}\nobject \"c\" {\n}\n",
+        ),
+        ..ROW
     },
 ];
 
-fn answer(alloc: Global, row: &RefusalRow) -> Option<DdlRefusal> {
+fn check_row(alloc: Global, row: &Row) -> Result<(), Fail> {
     let mut graph = graph_for(alloc, row.nodes, row.edges);
-    read_ddl(alloc, row.text, 80, &mut graph).err()
+    let end = read_ddl(alloc, row.text, 80, &mut graph);
+    check(end.err() == row.refusal, row.text)?;
+    check_graph(alloc, row.text, graph, row.graph)
 }
 
-fn check_refusals(alloc: Global, rows: &[RefusalRow]) -> Result<(), Fail> {
-    for row in rows {
-        check(answer(alloc, row) == row.refusal, "another answer")?;
+#[test]
+fn each_data_text_is_read_as_its_row_says(rt: HostRuntime) -> Result<(), Fail> {
+    for row in ROWS {
+        check_row(rt.alloc(), row)?;
     }
     Ok(())
-}
-
-#[test]
-fn data_texts_are_refused_at_their_places(rt: HostRuntime) -> Result<(), Fail> {
-    check_refusals(rt.alloc(), REFUSALS)
-}
-
-fn check_text_of(alloc: Global, text: &[u8], wanted: &[u8]) -> Result<(), Fail> {
-    let mut graph = graph_for(alloc, 9, 9);
-    read_ddl(alloc, text, 80, &mut graph)?;
-    check_graph(alloc, graph, wanted)
-}
-
-#[test]
-fn a_data_text_has_its_canonical_text(rt: HostRuntime) -> Result<(), Fail> {
-    let text = b"object b { u url \"http://a/\" v &c } object a in \"x y\" { n -07 }";
-    let canonical =
-        b"object \"a\" in \"x y\" {\n  \"n\" -7\n}\nobject \"b\" {\n  \"u\" url \"http://a/\"\n  \"v\" &\"c\"\n}\nobject \"c\" {\n}\n";
-    check_text_of(rt.alloc(), text, canonical)
 }

@@ -1,87 +1,111 @@
-// Files of each format, with answers worked out by hand.
+// Files of each format, and the format that a path gives, with answers worked out by hand.
+use super::graphs::check_graph;
 use crate::checks::{check, check_text};
-use data_source::{Format, SourceRefusal, format_of, read_source};
+use data_source::{
+    Format, SourceRefusal, format_of, lenient_format_of, read_source, read_source_leniently,
+};
 use run_report::Place;
 use sd_graph::{GraphBuilder, PROGRAM_LIMITS};
 use sd_value::{NoMemory, Str};
 use std::alloc::Global;
 use std::test::Fail;
 
-// A file, the number of its refusal, and the byte, the record or the column where it is, or the length of its pointer.
-// Number 0 is no refusal.
-struct FileRow {
-    path: &'static [u8],
-    bytes: &'static [u8],
+// A file, how it is read, the number of its refusal, the byte, the record or the column where it is, or the length of its
+// pointer, and the data text of what is stated, if it is compared. Number 0 is no refusal.
+struct Row {
+    path: &'static str,
+    text: &'static str,
+    lenient: bool,
     number: u32,
     count: u64,
+    graph: Option<&'static str>,
 }
 
-const FILES: &[FileRow] = &[
-    FileRow {
-        path: b"a.ddl",
-        bytes: b"object a {",
+// What most rows have.
+const ROW: Row = Row {
+    path: "",
+    text: "",
+    lenient: false,
+    number: 0,
+    count: 0,
+    graph: None,
+};
+
+const FILES: &[Row] = &[
+    Row {
+        path: "a.ddl",
+        text: "object a {",
         number: 31,
         count: 10,
+        ..ROW
     },
-    FileRow {
-        path: b"a.ddl",
-        bytes: b"object a { }",
-        number: 0,
-        count: 0,
+    Row {
+        path: "a.ddl",
+        text: "object a { }",
+        ..ROW
     },
-    FileRow {
-        path: b"c.csv",
-        bytes: b"a,,b\n",
+    Row {
+        path: "c.csv",
+        text: "a,,b\n",
         number: 42,
         count: 1,
+        ..ROW
     },
-    FileRow {
-        path: b"c.csv",
-        bytes: b"a,b\n1,2\n3\n",
+    Row {
+        path: "c.csv",
+        text: "a,b\n1,2\n3\n",
         number: 43,
         count: 2,
+        ..ROW
     },
-    FileRow {
-        path: b"c.csv",
-        bytes: b"a,b\n1,2\n",
-        number: 0,
-        count: 0,
+    Row {
+        path: "c.csv",
+        text: "a,b\n1,2\n",
+        ..ROW
     },
-    FileRow {
-        path: b"x.json",
-        bytes: b"{",
+    Row {
+        path: "x.json",
+        text: "{",
         number: 44,
-        count: 0,
+        ..ROW
     },
-    FileRow {
-        path: b"x.json",
-        bytes: b"[{\"price\": 3.5}]",
+    Row {
+        path: "x.json",
+        text: "[{\"price\": 3.5}]",
         number: 45,
         count: 8,
+        ..ROW
     },
-    FileRow {
-        path: b"x.json",
-        bytes: b"[]",
-        number: 0,
-        count: 0,
+    Row {
+        path: "x.json",
+        text: "[]",
+        ..ROW
     },
-    FileRow {
-        path: b"b.bib",
-        bytes: b"@misc{k",
+    Row {
+        path: "b.bib",
+        text: "@misc{k",
         number: 121,
         count: 7,
+        ..ROW
     },
-    FileRow {
-        path: b"b.bib",
-        bytes: b"@misc{k, note = x}",
+    Row {
+        path: "b.bib",
+        text: "@misc{k, note = x}",
         number: 122,
         count: 16,
+        ..ROW
     },
-    FileRow {
-        path: b"b.bib",
-        bytes: b"@misc{k}",
-        number: 0,
-        count: 0,
+    Row {
+        path: "b.bib",
+        text: "@misc{k}",
+        ..ROW
+    },
+    Row {
+        path: "p.CSV",
+        text: "a;b\n1\n",
+        lenient: true,
+        graph: Some("object \"p_1\" in \"p\" {\n  \"a\" 1\n}\n"),
+        ..ROW
     },
 ];
 
@@ -101,81 +125,106 @@ fn reported(end: &Result<(), SourceRefusal>) -> (u32, u64) {
     }
 }
 
-fn report_of(alloc: Global, path: &[u8], bytes: &[u8]) -> Result<(u32, u64), NoMemory> {
-    let path = Str::new(alloc, path)?;
+fn check_file(alloc: Global, row: &Row) -> Result<(), Fail> {
+    let text = row.text.as_bytes();
+    let path = Str::new(alloc, row.path.as_bytes())?;
     let mut graph = GraphBuilder::new(alloc, PROGRAM_LIMITS);
-    let end = read_source(alloc, &path, bytes, 80, &mut graph);
-    Ok(reported(&end))
+    let end = if row.lenient {
+        read_source_leniently(alloc, &path, text, 80, &mut graph)
+    } else {
+        read_source(alloc, &path, text, 80, &mut graph)
+    };
+    check(reported(&end) == (row.number, row.count), text)?;
+    check_graph(alloc, text, graph, row.graph)
 }
 
-fn check_files(alloc: Global, rows: &[FileRow]) -> Result<(), Fail> {
-    for row in rows {
-        let found = report_of(alloc, row.path, row.bytes)?;
-        check(found == (row.number, row.count), "another answer")?;
+#[test]
+fn each_file_is_read_in_its_format(rt: HostRuntime) -> Result<(), Fail> {
+    for row in FILES {
+        check_file(rt.alloc(), row)?;
     }
     Ok(())
 }
 
-#[test]
-fn files_are_refused_in_their_format(rt: HostRuntime) -> Result<(), Fail> {
-    check_files(rt.alloc(), FILES)
-}
-
-// A path, the format that it gives its file, and the stem of the format's names.
+// A path, and the formats that it gives its file where the file is read strictly and, if that is compared, leniently,
+// each with the stem of its names.
 struct FormatRow {
-    path: &'static [u8],
-    format: &'static [u8],
-    stem: &'static [u8],
+    path: &'static str,
+    strict: &'static str,
+    lenient: Option<&'static str>,
 }
 
 const FORMATS: &[FormatRow] = &[
     FormatRow {
-        path: b"/data.d/my.bib.csv",
-        format: b"csv",
-        stem: b"my.bib",
+        path: "/data.d/my.bib.csv",
+        strict: "CSV my.bib",
+        lenient: None,
     },
     FormatRow {
-        path: b"p.json",
-        format: b"json",
-        stem: b"p",
+        path: "p.json",
+        strict: "JSON p",
+        lenient: None,
     },
     FormatRow {
-        path: b"d/p.bib",
-        format: b"bibtex",
-        stem: b"p",
+        path: "d/p.bib",
+        strict: "BibTeX p",
+        lenient: None,
     },
     FormatRow {
-        path: b"p.JSON",
-        format: b"data text",
-        stem: b"",
+        path: "d/P.CSV",
+        strict: "data text",
+        lenient: Some("CSV P"),
+    },
+    FormatRow {
+        path: "p.csv",
+        strict: "CSV p",
+        lenient: Some("CSV p"),
+    },
+    FormatRow {
+        path: "p.JSON",
+        strict: "data text",
+        lenient: Some("JSON p"),
+    },
+    FormatRow {
+        path: "p.BIB",
+        strict: "data text",
+        lenient: Some("BibTeX p"),
+    },
+    FormatRow {
+        path: "p.Csv",
+        strict: "data text",
+        lenient: Some("data text"),
     },
 ];
 
 // The name of the format, and its stem.
-fn named(format: &Format) -> (&[u8], &[u8]) {
-    match format {
-        Format::DataText => (b"data text", b""),
-        Format::Csv(stem) => (b"csv", stem.bytes()),
-        Format::Json(stem) => (b"json", stem.bytes()),
-        Format::BibTex(stem) => (b"bibtex", stem.bytes()),
-    }
+fn name_of(alloc: Global, format: &Format) -> Result<Vec<u8>, NoMemory> {
+    let (name, stem) = match format {
+        Format::DataText => (b"data text".as_slice(), b"".as_slice()),
+        Format::Csv(stem) => (b"CSV ".as_slice(), stem.bytes()),
+        Format::Json(stem) => (b"JSON ".as_slice(), stem.bytes()),
+        Format::BibTex(stem) => (b"BibTeX ".as_slice(), stem.bytes()),
+    };
+    let mut text = Vec::from_slice(alloc, name)?;
+    text.extend_from_slice(stem)?;
+    Ok(text)
 }
 
 fn check_format(alloc: Global, row: &FormatRow) -> Result<(), Fail> {
-    let format = format_of(alloc, &Str::new(alloc, row.path)?)?;
-    let (name, stem) = named(&format);
-    check_text(name, row.format)?;
-    check_text(stem, row.stem)
-}
-
-fn check_formats(alloc: Global, rows: &[FormatRow]) -> Result<(), Fail> {
-    for row in rows {
-        check_format(alloc, row)?;
-    }
-    Ok(())
+    let path = Str::new(alloc, row.path.as_bytes())?;
+    let strict = name_of(alloc, &format_of(alloc, &path)?)?;
+    check_text(path.bytes(), &strict, row.strict.as_bytes())?;
+    let Some(wanted) = row.lenient else {
+        return Ok(());
+    };
+    let lenient = name_of(alloc, &lenient_format_of(alloc, &path)?)?;
+    check_text(path.bytes(), &lenient, wanted.as_bytes())
 }
 
 #[test]
-fn a_path_gives_the_format(rt: HostRuntime) -> Result<(), Fail> {
-    check_formats(rt.alloc(), FORMATS)
+fn each_path_gives_the_format_of_its_row(rt: HostRuntime) -> Result<(), Fail> {
+    for row in FORMATS {
+        check_format(rt.alloc(), row)?;
+    }
+    Ok(())
 }

@@ -1,8 +1,7 @@
 // Graphs as data texts.
 use crate::checks::check_text;
 use sd_ddl::write_ddl;
-use sd_graph::{Graph, GraphBuilder, Limits};
-use sd_value::NoMemory;
+use sd_graph::{GraphBuilder, Limits};
 use std::alloc::Global;
 use std::test::Fail;
 
@@ -11,14 +10,18 @@ pub fn graph_for(alloc: Global, nodes: u64, edges: u64) -> GraphBuilder {
     GraphBuilder::new(alloc, Limits { nodes, edges })
 }
 
-fn text_of(alloc: Global, graph: &Graph) -> Result<Vec<u8>, NoMemory> {
-    let mut text = Vec::new(alloc);
-    write_ddl(alloc, graph, &mut text)?;
-    Ok(text)
-}
-
-/// Compares the finished graph, as a data text.
-pub fn check_graph(alloc: Global, graph: GraphBuilder, wanted: &[u8]) -> Result<(), Fail> {
+/// Compares the finished graph of the row with this text, as a data text, where the row has one.
+pub fn check_graph(
+    alloc: Global,
+    text: &[u8],
+    graph: GraphBuilder,
+    wanted: Option<&str>,
+) -> Result<(), Fail> {
+    let Some(wanted) = wanted else {
+        return Ok(());
+    };
     let graph = graph.finish(alloc)?;
-    check_text(&text_of(alloc, &graph)?, wanted)
+    let mut found = Vec::new(alloc);
+    write_ddl(alloc, &graph, &mut found)?;
+    check_text(text, &found, wanted.as_bytes())
 }

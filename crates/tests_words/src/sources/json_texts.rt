@@ -1,76 +1,227 @@
-// Whole texts in JSON, with answers worked out by hand.
+// Whole texts in JSON, read strictly or leniently, with answers worked out by hand.
 use super::graphs::{check_graph, graph_for};
 use crate::checks::{check, check_text};
 use json_source::{JsonRefusal, read_json};
+use lenient_json::read_lenient_json;
 use sd_value::Str;
 use std::alloc::Global;
 use std::test::Fail;
 
-// The most nodes and edges that are added, a text, and the number and the place of its refusal. Number 0 is no refusal.
-struct JsonRow {
+// A text, the most nodes and edges that are added, how it is read, the number and the place of its refusal, and the data
+// text of what is stated; the last two where they are compared. Number 0 is no refusal.
+struct Row {
+    text: &'static [u8],
     nodes: u64,
     edges: u64,
-    text: &'static [u8],
+    lenient: bool,
     number: u32,
-    place: &'static [u8],
+    place: Option<&'static str>,
+    graph: Option<&'static str>,
 }
 
-const REFUSALS: &[JsonRow] = &[
-    JsonRow {
-        nodes: 9,
-        edges: 9,
+// What most rows have.
+const ROW: Row = Row {
+    text: b"",
+    nodes: 9,
+    edges: 99,
+    lenient: false,
+    number: 0,
+    place: Some(""),
+    graph: None,
+};
+
+const RECORD: &[u8] = b"{\"P\": [{\"a\": [1, null, {\"b\": true}]}]}";
+
+const ROWS: &[Row] = &[
+    Row {
         text: b"{",
-        number: 44,
-        place: b"",
-    },
-    JsonRow {
-        nodes: 9,
         edges: 9,
-        text: b"\xEF\xBB\xBF\xEF\xBB\xBF[]",
         number: 44,
-        place: b"",
+        ..ROW
     },
-    JsonRow {
+    Row {
+        text: b"\xef\xbb\xbf\xef\xbb\xbf[]",
+        edges: 9,
+        number: 44,
+        ..ROW
+    },
+    Row {
+        text: b"\xef\xbb\xbf[]",
         nodes: 0,
         edges: 0,
-        text: b"\xEF\xBB\xBF[]",
-        number: 0,
-        place: b"",
+        ..ROW
     },
-    JsonRow {
-        nodes: 9,
-        edges: 9,
+    Row {
         text: b"3",
-        number: 46,
-        place: b"",
-    },
-    JsonRow {
-        nodes: 9,
         edges: 9,
+        number: 46,
+        ..ROW
+    },
+    Row {
+        text: b"[1]",
+        edges: 9,
+        number: 46,
+        place: Some("/0"),
+        ..ROW
+    },
+    Row {
+        text: b"{\"a\": [], \"b\": {}}",
+        edges: 9,
+        number: 46,
+        place: Some("/b"),
+        ..ROW
+    },
+    Row {
+        text: b"[{\"price\": 3.5}]",
+        edges: 9,
+        number: 45,
+        place: Some("/0/price"),
+        ..ROW
+    },
+    Row {
+        text: b"[{\"a/b~\": [1.5]}]",
+        edges: 9,
+        number: 45,
+        place: Some("/0/a~1b~0/0"),
+        ..ROW
+    },
+    Row {
+        text: RECORD,
+        nodes: 2,
+        edges: 4,
+        ..ROW
+    },
+    Row {
+        text: RECORD,
+        nodes: 2,
+        edges: 3,
+        number: 11,
+        place: Some("/P/0/a/2/b"),
+        ..ROW
+    },
+    Row {
+        text: RECORD,
+        nodes: 1,
+        edges: 4,
+        number: 12,
+        place: Some("/P/0/a/2"),
+        ..ROW
+    },
+    Row {
+        text: RECORD,
+        nodes: 0,
+        edges: 4,
+        number: 12,
+        place: Some("/P/0"),
+        ..ROW
+    },
+    Row {
+        text: b"{\"P\": [{\"a\": [1, null, {\"b\": true}], \"x y\": [[{}]]}]}",
+        graph: Some(
+            "object \"p_P_1\" in \"P\" {\n  \"a\" 1\n  \"a\" &\"p_P_1_a_3\"\n  \"x y\" \
+            &\"p_P_1_x~20y_1_1\"\n}\nobject \"p_P_1_a_3\" {\n  \"b\" \"true\"\n}\nobject \
+            \"p_P_1_x~20y_1_1\" {\n}\n",
+        ),
+        ..ROW
+    },
+    Row {
+        text: b"[{\"p\": 1.50, \"q\": -0, \"r\": 9223372036854775808, \"s\": -7}]",
+        number: 45,
+        place: None,
+        ..ROW
+    },
+    Row {
+        text: b"[{\"p\": 1.50, \"q\": -0, \"r\": 9223372036854775808, \"s\": -7}]",
+        lenient: true,
+        graph: Some(
+            "object \"p_1\" in \"p\" {\n  \"p\" \"1.50\"\n  \"q\" \"-0\"\n  \"r\" \
+            \"9223372036854775808\"\n  \"s\" -7\n}\n",
+        ),
+        ..ROW
+    },
+    Row {
+        text: b"{\"meta\": \"x\", \"rows\": [{\"a\": 1}], \"none\": []}",
+        number: 46,
+        place: None,
+        ..ROW
+    },
+    Row {
+        text: b"{\"meta\": \"x\", \"rows\": [{\"a\": 1}], \"none\": []}",
+        lenient: true,
+        graph: Some("object \"p_rows_1\" in \"rows\" {\n  \"a\" 1\n}\n"),
+        ..ROW
+    },
+    Row {
+        text: b"{\"name\": \"x\", \"tags\": [1, 2]}",
+        number: 46,
+        place: None,
+        ..ROW
+    },
+    Row {
+        text: b"{\"name\": \"x\", \"tags\": [1, 2]}",
+        lenient: true,
+        graph: Some("object \"p_1\" in \"p\" {\n  \"name\" \"x\"\n  \"tags\" 1\n  \"tags\" 2\n}\n"),
+        ..ROW
+    },
+    Row {
+        text: b"{\"rows\": [{\"a\": 1}, 2]}",
+        number: 46,
+        place: None,
+        ..ROW
+    },
+    Row {
+        text: b"{\"rows\": [{\"a\": 1}, 2]}",
+        lenient: true,
+        graph: Some(
+            "object \"p_1\" in \"p\" {\n  \"rows\" 2\n  \"rows\" &\"p_1_rows_1\"\n}\nobject \
+            \"p_1_rows_1\" {\n  \"a\" 1\n}\n",
+        ),
+        ..ROW
+    },
+    Row { text: b"{}", ..ROW },
+    Row {
+        text: b"{}",
+        lenient: true,
+        graph: Some("object \"p_1\" in \"p\" {\n}\n"),
+        ..ROW
+    },
+    Row {
         text: b"[1]",
         number: 46,
-        place: b"/0",
+        place: None,
+        ..ROW
     },
-    JsonRow {
-        nodes: 9,
-        edges: 9,
-        text: b"{\"a\": [], \"b\": {}}",
+    Row {
+        text: b"[1]",
+        lenient: true,
         number: 46,
-        place: b"/b",
+        place: None,
+        graph: Some(""),
+        ..ROW
     },
-    JsonRow {
-        nodes: 9,
-        edges: 9,
-        text: b"[{\"price\": 3.5}]",
-        number: 45,
-        place: b"/0/price",
+    Row {
+        text: b"[{\"a\": 01}]",
+        number: 44,
+        ..ROW
     },
-    JsonRow {
-        nodes: 9,
-        edges: 9,
-        text: b"[{\"a/b~\": [1.5]}]",
-        number: 45,
-        place: b"/0/a~1b~0/0",
+    Row {
+        text: b"[{\"a\": 01}]",
+        lenient: true,
+        number: 44,
+        graph: Some(""),
+        ..ROW
+    },
+    Row {
+        text: b"[{\"u\": \"https://x\", \"v\": \"see http://x\"}]",
+        ..ROW
+    },
+    Row {
+        text: b"[{\"u\": \"https://x\", \"v\": \"see http://x\"}]",
+        lenient: true,
+        graph: Some(
+            "object \"p_1\" in \"p\" {\n  \"u\" url \"https://x\"\n  \"v\" \"see http://x\"\n}\n",
+        ),
+        ..ROW
     },
 ];
 
@@ -87,77 +238,26 @@ fn reported(end: &Result<(), JsonRefusal>) -> (u32, &[u8]) {
     }
 }
 
-fn check_row(alloc: Global, row: &JsonRow) -> Result<(), Fail> {
+fn check_row(alloc: Global, row: &Row) -> Result<(), Fail> {
     let stem = Str::new(alloc, b"p")?;
     let mut graph = graph_for(alloc, row.nodes, row.edges);
-    let end = read_json(alloc, &stem, row.text, &mut graph);
+    let end = if row.lenient {
+        read_lenient_json(alloc, &stem, row.text, &mut graph)
+    } else {
+        read_json(alloc, &stem, row.text, &mut graph)
+    };
     let (number, place) = reported(&end);
-    check(number == row.number, "another number")?;
-    check_text(place, row.place)
+    check(number == row.number, row.text)?;
+    if let Some(wanted) = row.place {
+        check_text(row.text, place, wanted.as_bytes())?;
+    }
+    check_graph(alloc, row.text, graph, row.graph)
 }
 
-fn check_rows(alloc: Global, rows: &[JsonRow]) -> Result<(), Fail> {
-    for row in rows {
-        check_row(alloc, row)?;
+#[test]
+fn each_json_text_is_read_as_its_row_says(rt: HostRuntime) -> Result<(), Fail> {
+    for row in ROWS {
+        check_row(rt.alloc(), row)?;
     }
     Ok(())
-}
-
-#[test]
-fn json_texts_are_refused_at_their_pointers(rt: HostRuntime) -> Result<(), Fail> {
-    check_rows(rt.alloc(), REFUSALS)
-}
-
-const RECORD: &[u8] = b"{\"P\": [{\"a\": [1, null, {\"b\": true}]}]}";
-
-const SIZES: &[JsonRow] = &[
-    JsonRow {
-        nodes: 2,
-        edges: 4,
-        text: RECORD,
-        number: 0,
-        place: b"",
-    },
-    JsonRow {
-        nodes: 2,
-        edges: 3,
-        text: RECORD,
-        number: 11,
-        place: b"/P/0/a/2/b",
-    },
-    JsonRow {
-        nodes: 1,
-        edges: 4,
-        text: RECORD,
-        number: 12,
-        place: b"/P/0/a/2",
-    },
-    JsonRow {
-        nodes: 0,
-        edges: 4,
-        text: RECORD,
-        number: 12,
-        place: b"/P/0",
-    },
-];
-
-#[test]
-fn a_graph_that_is_full_is_reported_at_its_pointer(rt: HostRuntime) -> Result<(), Fail> {
-    check_rows(rt.alloc(), SIZES)
-}
-
-fn check_text_of(alloc: Global, text: &[u8], wanted: &[u8]) -> Result<(), Fail> {
-    let stem = Str::new(alloc, b"p")?;
-    let mut graph = graph_for(alloc, 9, 99);
-    read_json(alloc, &stem, text, &mut graph)?;
-    check_graph(alloc, graph, wanted)
-}
-
-#[test]
-fn nested_records_are_objects(rt: HostRuntime) -> Result<(), Fail> {
-    let text = b"{\"P\": [{\"a\": [1, null, {\"b\": true}], \"x y\": [[{}]]}]}";
-    let graph =
-        b"object \"p_P_1\" in \"P\" {\n  \"a\" 1\n  \"a\" &\"p_P_1_a_3\"\n  \"x y\" &\"p_P_1_x~20y_1_1\"\n\
-            }\nobject \"p_P_1_a_3\" {\n  \"b\" \"true\"\n}\nobject \"p_P_1_x~20y_1_1\" {\n}\n";
-    check_text_of(rt.alloc(), text, graph)
 }

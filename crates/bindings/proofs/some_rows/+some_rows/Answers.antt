@@ -53,3 +53,6 @@ returns-clause-adds g t c =
     let ch = rw c.in-Some-3.is at c.in_ok-choice.ensures.choice in
     let empty : length c.loop-value.values.items ≡ 0 = omega (arith, c.loop-value.values.ok, c.in_default-pop.ensures.cases.0) in
     some_from_passed _ _ _ _ _ _ _ _ _ _ ps (someway-end _ _ _ _ _ _ _ _ _ _ _ _ _ _ c.loop-value.invariant.someway empty ch)
+
+pub returns-in-Some-clause-told : goal.returns-in-Some-clause-told
+returns-in-Some-clause-told g t c = c.in_ok-add_witness.ensures.told _ (rw c.in-Some.is at c.in_ok-part.ensures) c.requires.told
