@@ -18,7 +18,7 @@ use Rattle.struql_text.specs.Terminals.{from_to, is_name, is_keyword, operand_sp
 use Rattle.token_reader.specs.Terminals.{is_sign}
 use Rattle.struql_text.specs.Expression.{sign, keyword, Counted, expression_within, expression_spelled}
 use Rattle.struql_text.specs.Grammar.{name, operand, call_with, call, between, comparison, membership, arc_step, expression_step, step, path, relation, behind, plain, negated, condition}
-use Rattle.struql_text.specs.Reading.{read_call, read_comparison, read_membership, read_arc_step, read_expression_step, read_step, read_path, read_relation, read_behind, read_plain, read_negated, read_condition}
+use Rattle.struql_text.specs.Reading.{read_call, read_comparison, read_membership, read_arc_step, read_path_step, read_step, read_path, read_relation, read_behind, read_plain, read_negated, read_condition}
 use Rattle.struql_text.proofs.TokenParts.{sign_part, sign_opens, keyword_opens, keyword_no_sign, in_part, not_part, name_part, name_opens, operand_part, constant_part, op_part, operand_opens_no_keyword, op_opens_no_keyword, op_opens_no_sign}
 use Rattle.token_reader.proofs.Terminals.{other_sign}
 use Rattle.struql_text.proofs.ExpressionParts.{AfterAlt, limited_part, expression_opens_no_name}
@@ -67,8 +67,8 @@ arc_step_part = do
   x ← name_part
   give_part (tree.arc_variable x.text x.span)
 
-expression_step_part : Part IsReal (expression_step E) (expression_step S) AfterAlt read_expression_step
-unfolding read_expression_step
+expression_step_part : Part IsReal (expression_step E) (expression_step S) AfterAlt read_path_step
+unfolding read_path_step
 expression_step_part =
     then_part limited_part
     (λ e. weaken_part AfterAlt (λ _ _. tt) (give_part (tree.expression e.tree e.span)))

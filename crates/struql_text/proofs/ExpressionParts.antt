@@ -17,7 +17,7 @@ use Rattle.struql_text.specs.declared.keyword.Keyword.TheVariants as words
 use Rattle.struql_text.specs.Terminals.{from_to, is_name, is_name_kind, is_free, is_found, keyword_of}
 use Rattle.token_reader.specs.Terminals.{is_sign, is_sign_kind, number}
 use Rattle.struql_text.specs.Expression.{sign, Leaf, Counted, Limits, bounded, unbounded, leaf_kind, leaf_value, leaf, empty_close, inner_close, paren, star_step, post, dot_step, seq, bar_step, alt, expression, expression_within, expression_spelled}
-use Rattle.struql_text.specs.Reading.{read_leaf, read_empty_close, read_inner_close, read_paren, read_star_step, read_post, read_dot_step, read_seq, read_bar_step, read_alt, read_atom, read_expression}
+use Rattle.struql_text.specs.Reading.{read_leaf, read_empty_close, read_within, read_paren, read_star_step, read_post, read_dot_step, read_seq, read_bar_step, read_alt, read_atom, read_expression}
 use Rattle.struql_text.proofs.TokenParts.{somewhere, sign_no_name, sign_opens, sign_part, is_that}
 use Rattle.token_reader.proofs.Terminals.{made, other_sign}
 use Rattle.token_reader.specs.Gives.{IsReal}
@@ -171,8 +171,8 @@ empty_close_part opening n = do
 
 module _ (inner inner_all : ℕ → List Token → Counted → Type 0) (read_inner : ℕ → List Token → Outcome Token Counted) (inner_part : (n : ℕ) → Part IsReal (inner n) (inner_all n) AfterAlt (read_inner n))
     (inner_opens : (n : ℕ) → Opens (inner_all n) (λ t. is_sign signs.CloseParen t ≡ false)) where
-  inner_close_part : (opening : Span) (n : ℕ) → Part IsReal (inner_close inner opening n) (inner_close inner_all opening n) Always (read_inner_close read_inner opening n)
-  unfolding read_inner_close
+  inner_close_part : (opening : Span) (n : ℕ) → Part IsReal (inner_close inner opening n) (inner_close inner_all opening n) Always (read_within read_inner opening n)
+  unfolding read_within
   inner_close_part opening n =
       then_opens (λ t. is_sign signs.CloseParen t ≡ true) (inner_part n)
       (λ e. do

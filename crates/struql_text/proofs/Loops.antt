@@ -12,7 +12,7 @@ use Rattle.token_reader.specs.declared.halt.Halt.TheVariants.{Expected, TooDeep,
 use Rattle.token_reader.specs.Gives.{Fails}
 use Rattle.struql_text.specs.Terminals.{sign_value}
 use Rattle.struql_text.specs.Expression.{Counted, bounded, leaf_value}
-use Rattle.struql_text.specs.Reading.{read_empty_close, read_inner_close, read_star_step, read_post, read_seq, read_bar_step, read_dot_step, read_atom, read_leaf, read_paren, read_alt}
+use Rattle.struql_text.specs.Reading.{read_empty_close, read_within, read_star_step, read_post, read_seq, read_bar_step, read_dot_step, read_atom, read_leaf, read_paren, read_alt}
 use Rattle.struql_text.proofs.Shorter.{Takes, takes_keeps, give_keeps, past_takes, one_takes, guard_takes, choose_takes, then_takes, then_keeps, iterate_keeps}
 
 -- a loop that ends by an error
@@ -58,13 +58,13 @@ module _ (inner : ℕ → List Token → Outcome Token Counted) (takes : (n : �
   unfolding read_empty_close
   empty_close_takes opening = then_takes _ _ (λ close. give_keeps _) (one_takes (sign_value signs.CloseParen))
 
-  inner_close_takes : (opening : Span) → Takes (read_inner_close inner opening n)
-  unfolding read_inner_close
+  inner_close_takes : (opening : Span) → Takes (read_within inner opening n)
+  unfolding read_within
   inner_close_takes opening = then_takes _ _ (λ e. takes_keeps _ (then_takes _ _ (λ close. give_keeps _) (one_takes (sign_value signs.CloseParen)))) (takes n)
 
   paren_takes : Takes (read_paren inner n)
   unfolding read_paren
-  paren_takes = then_takes _ _ (λ opening. takes_keeps _ (choose_takes (is_sign signs.CloseParen) (read_empty_close opening n) (read_inner_close inner opening n) (empty_close_takes opening) (inner_close_takes opening))) (one_takes (sign_value signs.OpenParen))
+  paren_takes = then_takes _ _ (λ opening. takes_keeps _ (choose_takes (is_sign signs.CloseParen) (read_empty_close opening n) (read_within inner opening n) (empty_close_takes opening) (inner_close_takes opening))) (one_takes (sign_value signs.OpenParen))
 
 atom_takes : (depth n : ℕ) → Takes (read_atom depth n)
 unfolding read_atom

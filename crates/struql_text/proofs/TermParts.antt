@@ -14,7 +14,7 @@ use Rattle.struql_text.specs.Terminals.{from_to}
 use Rattle.token_reader.specs.Terminals.{is_sign}
 use Rattle.struql_text.specs.Expression.{sign}
 use Rattle.struql_text.specs.Grammar.{listed, operand, term_of, no_arguments, some_arguments, arguments, term, made, variable_of, named_target, source, operand_target, target, target_span, link, collect}
-use Rattle.struql_text.specs.Reading.{read_no_arguments, read_some_arguments, read_arguments, read_term, read_made, read_named_target, read_source, read_operand_target, read_target, read_link, read_collect}
+use Rattle.struql_text.specs.Reading.{read_nullary, read_applied, read_arguments, read_term, read_made, read_named_target, read_source, read_operand_target, read_target, read_link, read_collect}
 use Rattle.struql_text.proofs.TokenParts.{sign_part, sign_opens, name_part, collection_part, operand_part, label_part, operand_opens_no_sign}
 use Rattle.token_reader.proofs.Terminals.{other_sign}
 use Rattle.struql_text.proofs.ListParts.{listed_part}
@@ -33,14 +33,14 @@ module _ {T A : Type 0} {Real : T → Type 0} {P U : List T → A → Type 0} {F
 pub ends_with : {T A : Type 0} (F : List T → Type 0) (v : A) (y : List T) (w : A) (rest : List T) → nothing v y w → F rest → F (y ++ rest)
 ends_with F v y w rest h f = subst (λ x. F (x ++ rest)) (sym h.0) f
 
-no_arguments_part : (f : Word) → Part IsReal (no_arguments f) (no_arguments f) Always (read_no_arguments f)
-unfolding read_no_arguments
+no_arguments_part : (f : Word) → Part IsReal (no_arguments f) (no_arguments f) Always (read_nullary f)
+unfolding read_nullary
 no_arguments_part f = do
   close ← sign_part signs.CloseParen refl
   give_part (term_of f [] close)
 
-some_arguments_part : (f : Word) → Part IsReal (some_arguments f) (some_arguments f) Always (read_some_arguments f)
-unfolding read_some_arguments
+some_arguments_part : (f : Word) → Part IsReal (some_arguments f) (some_arguments f) Always (read_applied f)
+unfolding read_applied
 some_arguments_part f =
     then_opens (λ t. is_sign signs.CloseParen t ≡ true) (listed_part operand_part (λ _ _ _. tt))
     (λ args. do

@@ -45,9 +45,9 @@ read_empty_close opening n = do
   give (record { tree = empty; span = from_to opening close; signs = n })
 
 -- an expression, and the end of its parenthesis
-unfoldable pub read_inner_close : (ℕ → List Token → Outcome Token Counted) → Span → ℕ → List Token
+unfoldable pub read_within : (ℕ → List Token → Outcome Token Counted) → Span → ℕ → List Token
     → Outcome Token Counted
-read_inner_close inner opening n = do
+read_within inner opening n = do
   e ← inner n
   close ← read_sign signs.CloseParen
   give (record { tree = e.tree; span = from_to opening close; signs = e.signs })
@@ -57,7 +57,7 @@ unfoldable pub read_paren : (ℕ → List Token → Outcome Token Counted) → �
     → Outcome Token Counted
 read_paren inner n = do
   opening ← read_sign signs.OpenParen
-  choose (is_sign signs.CloseParen) (read_empty_close opening n) (read_inner_close inner opening n)
+  choose (is_sign signs.CloseParen) (read_empty_close opening n) (read_within inner opening n)
 
 -- a star behind an expression
 unfoldable pub read_star_step : Counted → List Token → Outcome Token Counted
@@ -155,14 +155,14 @@ abbrev pub read_operand : List Token → Outcome Token Operand
 read_operand = take_one true operand_value
 
 -- the end of a term without arguments
-unfoldable pub read_no_arguments : Word → List Token → Outcome Token Term
-read_no_arguments f = do
+unfoldable pub read_nullary : Word → List Token → Outcome Token Term
+read_nullary f = do
   close ← read_sign signs.CloseParen
   give (term_of f [] close)
 
 -- the arguments of a term, and its end
-unfoldable pub read_some_arguments : Word → List Token → Outcome Token Term
-read_some_arguments f = do
+unfoldable pub read_applied : Word → List Token → Outcome Token Term
+read_applied f = do
   args ← read_listed read_operand
   close ← read_sign signs.CloseParen
   give (term_of f args close)
@@ -171,7 +171,7 @@ read_some_arguments f = do
 unfoldable pub read_arguments : Word → List Token → Outcome Token Term
 read_arguments f = do
   read_sign signs.OpenParen
-  choose (is_sign signs.CloseParen) (read_no_arguments f) (read_some_arguments f)
+  choose (is_sign signs.CloseParen) (read_nullary f) (read_applied f)
 
 -- a term
 unfoldable pub read_term : List Token → Outcome Token Term
@@ -264,14 +264,14 @@ read_arc_step = do
   give (tree.arc_variable x.text x.span)
 
 -- a path expression
-unfoldable pub read_expression_step : List Token → Outcome Token Step
-read_expression_step = do
+unfoldable pub read_path_step : List Token → Outcome Token Step
+read_path_step = do
   e ← read_expression 64 0
   give (tree.expression e.tree e.span)
 
 -- what is between arrows
 unfoldable pub read_step : List Token → Outcome Token Step
-read_step = choose is_name read_arc_step read_expression_step
+read_step = choose is_name read_arc_step read_path_step
 
 -- a path behind its first operand
 unfoldable pub read_path : Operand → List Token → Outcome Token Condition

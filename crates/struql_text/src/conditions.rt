@@ -8,7 +8,7 @@ ghost use Rattle.token_reader.specs.Terminals.{is_sign};
 ghost use Rattle.struql_text.specs.Terminals.{test_of, constant_value, operand_span};
 ghost use Rattle.token_reader.specs.Gives.{Gives};
 ghost use Rattle.struql_text.specs.Reading.{read_further, read_next, read_listed, read_call, read_comparison};
-ghost use Rattle.struql_text.specs.Reading.{read_membership, read_arc_step, read_expression_step, read_step};
+ghost use Rattle.struql_text.specs.Reading.{read_membership, read_arc_step, read_path_step, read_step};
 ghost use Rattle.struql_text.specs.Reading.{read_path, read_relation, read_behind, read_plain, read_negated};
 ghost use Rattle.struql_text.specs.Reading.{read_condition};
 
@@ -178,7 +178,7 @@ fn membership_at(
 }
 
 /// What is between the arrows of a path.
-#[tactic(auto, unfolding(crate::specs::Reading::read_step, crate::specs::Reading::read_arc_step, crate::specs::Reading::read_expression_step))]
+#[tactic(auto, unfolding(crate::specs::Reading::read_step, crate::specs::Reading::read_arc_step, crate::specs::Reading::read_path_step))]
 fn step_at(alloc: Global, tokens: &[Token]) -> Result<(PathStep, &[Token]), Halt<Token>>
     ensures { Gives (λ x. step_written x.0) (λ x. x.1.now) result (read_step tokens.now) }
 {

@@ -279,7 +279,7 @@ fn atom_at<'a>(
 }
 
 #[cycle(expression)]
-#[tactic(auto, unfolding(crate::specs::Reading::read_paren, crate::specs::Reading::read_empty_close, crate::specs::Reading::read_inner_close))]
+#[tactic(auto, unfolding(crate::specs::Reading::read_paren, crate::specs::Reading::read_empty_close, crate::specs::Reading::read_within))]
 fn paren_at<'a>(
     alloc: Global,
     depth: u32,

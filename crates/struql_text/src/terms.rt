@@ -57,7 +57,7 @@ fn operands_at(alloc: Global, tokens: &[Token]) -> Result<(Vec<Operand>, &[Token
 }
 
 /// The arguments of a function, which make its name a term.
-#[tactic(auto, unfolding(crate::specs::Reading::read_arguments, crate::specs::Reading::read_no_arguments, crate::specs::Reading::read_some_arguments))]
+#[tactic(auto, unfolding(crate::specs::Reading::read_arguments, crate::specs::Reading::read_nullary, crate::specs::Reading::read_applied))]
 fn arguments_at(
     alloc: Global,
     function: Word,

@@ -474,8 +474,12 @@ const FIRST_NAME: &[Written] = &[
 ];
 
 // Each of the 100 dots is three bytes of the name.
-const TOO_LONG: &str =
-    "strudel: page /F/t~2E~2E~2E~2E~2E~2E~2E~2E~2E~2E~2E~2E~2E~2E~2E~2E~2E~2E~2E~2E~2E~2E~2E~2E~2E~2E~2E~2E~2E~2E~2E~2E~2E~2E~2E~2E~2E~2E~2E~2E~2E~2E~2E~2E~2E~2E~2E~2E~2E~2E~2E~2E~2E~2E~2E~2E~2E~2E~2E~2E~2E~2E~2E~2E~2E~2E~2E~2E~2E~2E~2E~2E~2E~2E~2E~2E~2E~2E~2E~2E~2E~2E~2E~2E~2E~2E~2E~2E~2E~2E~2E~2E~2E~2E~2E~2E~2E~2E~2E~2E.html: name too long\n";
+const TOO_LONG: &str = "strudel: page /F/t\
+     ~2E~2E~2E~2E~2E~2E~2E~2E~2E~2E~2E~2E~2E~2E~2E~2E~2E~2E~2E~2E~2E~2E~2E~2E~2E~2E~2E~2E~2E~2E\
+     ~2E~2E~2E~2E~2E~2E~2E~2E~2E~2E~2E~2E~2E~2E~2E~2E~2E~2E~2E~2E~2E~2E~2E~2E~2E~2E~2E~2E~2E~2E\
+     ~2E~2E~2E~2E~2E~2E~2E~2E~2E~2E~2E~2E~2E~2E~2E~2E~2E~2E~2E~2E~2E~2E~2E~2E~2E~2E~2E~2E~2E~2E\
+     ~2E~2E~2E~2E~2E~2E~2E~2E~2E~2E\
+     .html: name too long\n";
 
 const SITE_RUNS: &[Run] = &[
     // Sites are built.

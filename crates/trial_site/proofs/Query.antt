@@ -9,13 +9,13 @@ use Rattle.struql_parse.specs.Blocks.{query_within}
 use Rattle.struql_parse.specs.Reading.{read_clause, read_optional, read_braces, read_body_of, read_body}
 use Rattle.struql_parse.specs.Reading.{read_block, read_item, read_top_braces, read_item_step, read_version}
 use Rattle.struql_parse.specs.Reading.{read_head, read_query}
-use Rattle.struql_text.specs.Reading.{read_leaf, read_empty_close, read_inner_close, read_paren, read_star_step}
+use Rattle.struql_text.specs.Reading.{read_leaf, read_empty_close, read_within, read_paren, read_star_step}
 use Rattle.struql_text.specs.Reading.{read_post, read_dot_step, read_seq, read_bar_step, read_alt, read_atom}
-use Rattle.struql_text.specs.Reading.{read_next, read_further, read_listed, read_no_arguments}
-use Rattle.struql_text.specs.Reading.{read_some_arguments, read_arguments, read_term, read_made}
+use Rattle.struql_text.specs.Reading.{read_next, read_further, read_listed, read_nullary}
+use Rattle.struql_text.specs.Reading.{read_applied, read_arguments, read_term, read_made}
 use Rattle.struql_text.specs.Reading.{read_named_target, read_source, read_operand_target, read_target}
 use Rattle.struql_text.specs.Reading.{read_link, read_collect, read_call, read_comparison, read_membership}
-use Rattle.struql_text.specs.Reading.{read_arc_step, read_expression_step, read_step, read_path, read_relation}
+use Rattle.struql_text.specs.Reading.{read_arc_step, read_path_step, read_step, read_path, read_relation}
 use Rattle.struql_text.specs.Reading.{read_behind, read_plain, read_negated, read_condition}
 use Rattle.struql_text.specs.Terminals.{keyword_of, test_of}
 use Rattle.struql_parse.proofs.Whole.{is_spelled}
@@ -50,10 +50,10 @@ query_or (Past rest) = record { version = 0; input = []; blocks = no_blocks; out
 unfoldable query : Query
 unfolding tokens query_or iterate keyword_of test_of read_clause read_optional read_braces read_body_of
     read_body read_block read_item read_top_braces read_item_step read_version read_head read_query read_leaf
-    read_empty_close read_inner_close read_paren read_star_step read_post read_dot_step read_seq read_bar_step
-    read_alt read_atom read_next read_further read_listed read_no_arguments read_some_arguments read_arguments
+    read_empty_close read_within read_paren read_star_step read_post read_dot_step read_seq read_bar_step
+    read_alt read_atom read_next read_further read_listed read_nullary read_applied read_arguments
     read_term read_made read_named_target read_source read_operand_target read_target read_link read_collect
-    read_call read_comparison read_membership read_arc_step read_expression_step read_step read_path
+    read_call read_comparison read_membership read_arc_step read_path_step read_step read_path
     read_relation read_behind read_plain read_negated read_condition
 query = query_or (read_query tokens)
 
