@@ -11,4 +11,4 @@ mod written;
 pub use laws::addresses_differ;
 pub use named::term_of;
 pub use places::{FileRefusal, file_of};
-pub use written::{address, show};
+pub use written::{address, push_shown, show};

@@ -26,12 +26,13 @@ pub fn show(alloc: Global, value: &Value, out: &mut Vec<u8>) -> Result<(), NoMem
         ≡ (if is_ok result then out.old.items ++ spec.show value.now else out.old.items) }
 {
     let mut text = Vec::new(alloc);
-    push_shown(alloc, &mut text, value)?;
+    push_shown(alloc, value, &mut text)?;
     out.extend_from_slice(text.as_slice())?;
     Ok(())
 }
 
-fn push_shown(alloc: Global, out: &mut Vec<u8>, value: &Value) -> Result<(), NoMemory>
+/// The same with no text of its own between: `out` may have a part of the value where it is out of memory.
+pub fn push_shown(alloc: Global, value: &Value, out: &mut Vec<u8>) -> Result<(), NoMemory>
     ensures { OnOk result (out.new.items ≡ out.old.items ++ spec.show value.now) }
 {
     match value {

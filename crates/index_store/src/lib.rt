@@ -18,7 +18,7 @@ mod ranks;
 mod slots;
 mod spans;
 
-use crate::named::Named;
+use crate::named::{Named, has_named, member_places};
 use crate::orders::{by_end, label_ranks, labels_at, node_values, value_ranks};
 use crate::positions::{AtPositions, give_at};
 use crate::ranks::{Ranked, by_rank};
@@ -56,6 +56,8 @@ pub struct IndexStore {
     of_label: Vec<Span>,
     collections: Vec<Str>,
     of_collection: Vec<Span>,
+    // Of each node where it is among the members of a collection that has it, and 0 where none has.
+    places: Vec<u32>,
 }
 
 // Written out, so that it is proved here once, and not again in each crate that drops one.
@@ -73,6 +75,7 @@ impl Drop for IndexStore {
             of_label: _of_label,
             collections: _collections,
             of_collection: _of_collection,
+            places: _places,
         } = self;
     }
 }
@@ -115,6 +118,7 @@ impl IndexStore {
         let of_label = spans_labelled(alloc, labels.as_slice(), edges, by_label.as_slice())?;
         let collections = collections_of(alloc, members)?;
         let of_collection = spans_collected(alloc, collections.as_slice(), members)?;
+        let places = member_places(alloc, &graph, &slots, values.as_slice())?;
         Ok(IndexStore {
             graph,
             by_end,
@@ -127,6 +131,7 @@ impl IndexStore {
             of_label,
             collections,
             of_collection,
+            places,
         })
     }
 
@@ -229,6 +234,15 @@ impl IndexStore {
         }
         part(members, &Members { collection })
     }
+
+    // Where the node may be among the members of a collection.
+    fn member_place(&self, node: &Value) -> Option<usize> {
+        let values = self.values.as_slice();
+        let number = self.slots.find(&self.graph, values, node)?;
+        let node = values.get(number)?;
+        let place = self.places.as_slice().get(*node as usize)?;
+        Some(*place as usize)
+    }
 }
 
 impl Store for IndexStore {
@@ -282,7 +296,9 @@ impl Store for IndexStore {
 
     fn is_member(&self, collection: &Str, value: &Value) -> bool {
         match value {
-            Value::Data(Datum::Node(name)) => has(self.members_in(collection), &Named { name }),
+            Value::Data(Datum::Node(name)) => {
+                has_named(self.members_in(collection), self.member_place(value), name)
+            }
             Value::Data(Datum::Int(_) | Datum::Text(_) | Datum::Url(_) | Datum::File(_)) => false,
             Value::Page(_) => false,
         }

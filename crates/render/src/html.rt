@@ -2,7 +2,7 @@
 ghost use Rattle.std.specs.Prelude.{◌≡◌, [], ◌∷◌, ◌++◌, MatchOption, OnOk};
 ghost use Rattle.page_spec.specs.Show as spec;
 
-use address::show;
+use address::push_shown;
 use sd_value::{Datum, NoMemory, Value};
 use std::alloc::Global;
 
@@ -40,8 +40,9 @@ fn entity_of(byte: u8) -> Option<&'static [u8]>
 pub fn push_escaped_value(alloc: Global, out: &mut Vec<u8>, value: &Value) -> Result<(), NoMemory>
     ensures { OnOk result (out.new.items ≡ out.old.items ++ spec.escaped (spec.show value.now)) }
 {
-    let mut text = Vec::new(alloc);
-    show(alloc, value, &mut text)?;
+    // Most values have no more bytes.
+    let mut text = Vec::with_capacity(alloc, 64)?;
+    push_shown(alloc, value, &mut text)?;
     push_escaped(out, text.as_slice())
 }
 

@@ -48,7 +48,8 @@ fn add_link(
 ) -> Result<(), NoMemory>
     ensures { IfOk result (λ _. Adds out.old out.new (bytes (link value.now label.now))) }
 {
-    let mut text = Vec::new(alloc);
+    // Most links have no more bytes.
+    let mut text = Vec::with_capacity(alloc, 64)?;
     push_link(alloc, &mut text, value, label)?;
     out.add_text(Str::of(alloc, text)?)
 }

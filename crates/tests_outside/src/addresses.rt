@@ -1,6 +1,6 @@
 // Addresses by example.
 use crate::inputs::{check, check_row, check_text, term};
-use address::{FileRefusal, address, file_of, show, term_of};
+use address::{FileRefusal, address, file_of, push_shown, show, term_of};
 use sd_value::{Datum, NoMemory, Str, Term, Value};
 use std::alloc::Global;
 use std::test::Fail;
@@ -174,17 +174,18 @@ fn a_file_is_named_unless_its_name_is_too_long(rt: HostRuntime) -> Result<(), Fa
     Ok(())
 }
 
-// A number and a page, one after the other.
+// A number, and a page in both ways, one after the other.
 fn shown(alloc: Global) -> Result<Vec<u8>, NoMemory> {
     let node = Datum::Node(Str::new(alloc, b"x/.")?);
     let page = Value::Page(one(alloc, b"P", node)?);
     let mut out = Vec::new(alloc);
     show(alloc, &Value::Data(Datum::Int(-5)), &mut out)?;
     show(alloc, &page, &mut out)?;
+    push_shown(alloc, &page, &mut out)?;
     Ok(out)
 }
 
 #[test]
 fn values_are_shown(rt: HostRuntime) -> Result<(), Fail> {
-    check_text(&shown(rt.alloc())?, b"-5/P/nx~2F~2E.html")
+    check_text(&shown(rt.alloc())?, b"-5/P/nx~2F~2E.html/P/nx~2F~2E.html")
 }

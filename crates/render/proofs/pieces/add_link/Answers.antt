@@ -7,5 +7,5 @@ use Rattle.render.proofs.pieces.add_link.Goals as goal
 pub returns : goal.returns
 returns c =
     let linked = link c.args.value.now c.args.label.now in
-    let e : c.in_ok-of.field-0 ≡ linked = c.in_ok-of.ensures ∙ c.in_ok-push_link.ensures ∙ ap (λ (l : List ℕ). l ++ linked) c.new-text.ensures.items in
+    let e : c.in_ok-of.field-0 ≡ linked = c.in_ok-of.ensures ∙ c.in_ok-push_link.ensures ∙ ap (λ (l : List ℕ). l ++ linked) c.in_ok-text.ensures.items in
     subst (λ (t : List ℕ). IfOk c.add_text.result (λ x. Adds c.args.out.now c.add_text.new.self (bytes t))) e c.add_text.ensures
