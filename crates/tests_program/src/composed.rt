@@ -1,4 +1,6 @@
-// Runs over a first query: its site as the data of `data`, `page` and `build`, and the faults of the inputs in their order.
+// Runs over a first query: its site as the data of `data`, `page` and `build`, the faults of the inputs in their order,
+// and texts that change its data.
+use crate::connections::{Replay, check_replays};
 use crate::runs::{FileRow, PLAIN, Run, check_runs};
 use std::test::Fail;
 
@@ -176,4 +178,37 @@ const RUNS: &[Run] = &[
 #[test]
 fn each_run_over_a_first_query_ends_as_its_row_says(rt: HostRuntime) -> Result<(), Fail> {
     check_runs(&rt, FILES, RUNS)
+}
+
+const CHANGES: &[Replay] = &[
+    // A text is accepted, and the graph of the first query's site over it replaces the data. The next is no data text.
+    Replay {
+        script: "open 1 bytes 1 \"GET /G/i1.html HTTP/1.1\\r\\nHost: a\\r\\n\\r\\n\" change \"object o in C \
+            { v 2 }\" open 2 bytes 2 \"GET /G/i2.html HTTP/1.1\\r\\nHost: a\\r\\n\\r\\n\" open 3 bytes 3 \
+            \"GET /G/i1.html HTTP/1.1\\r\\nHost: a\\r\\n\\r\\n\" change \"object\" open 4 bytes 4 \"GET \
+            /G/i2.html HTTP/1.1\\r\\nHost: a\\r\\n\\r\\n\"",
+        out: "connection 1 98\nHTTP/1.1 200 OK\r\nContent-Type: text/html; charset=utf-8\r\nContent-Length: \
+            1\r\nConnection: close\r\n\r\n1\nconnection 2 98\nHTTP/1.1 200 OK\r\nContent-Type: text/html; \
+            charset=utf-8\r\nContent-Length: 1\r\nConnection: close\r\n\r\n2\nconnection 3 116\nHTTP/1.1 \
+            404 Not Found\r\nContent-Type: text/plain; charset=utf-8\r\nContent-Length: 10\r\nConnection: \
+            close\r\n\r\nnot found\n\nconnection 4 98\nHTTP/1.1 200 OK\r\nContent-Type: text/html; \
+            charset=utf-8\r\nContent-Length: 1\r\nConnection: close\r\n\r\n2\nconnections 4\nreplies 4\n\
+            hits 1\nchanges 2\nrefused 1\n",
+    },
+    // The site of the first query has the stated data too.
+    Replay {
+        script: "change \"object p in Made { at &o } object o in E { v 3 } object q in C { v 4 }\" open 1 \
+            bytes 1 \"GET /G/i3.html HTTP/1.1\\r\\nHost: a\\r\\n\\r\\n\" open 2 bytes 2 \"GET /G/i4.html \
+            HTTP/1.1\\r\\nHost: a\\r\\n\\r\\n\"",
+        out: "connection 1 98\nHTTP/1.1 200 OK\r\nContent-Type: text/html; charset=utf-8\r\nContent-Length: \
+            1\r\nConnection: close\r\n\r\n3\nconnection 2 98\nHTTP/1.1 200 OK\r\nContent-Type: text/html; \
+            charset=utf-8\r\nContent-Length: 1\r\nConnection: close\r\n\r\n4\nconnections 2\nreplies 2\n\
+            hits 0\nchanges 1\nrefused 0\n",
+    },
+];
+
+#[test]
+fn texts_change_the_data_of_a_first_query(rt: HostRuntime) -> Result<(), Fail> {
+    let words = ["replay", "--over", "q1", "q2", "t", "s", "d"];
+    check_replays(&rt, FILES, &words, CHANGES)
 }

@@ -21,6 +21,10 @@ const TEMPLATES: &str = "<TEMPLATE F>ok</TEMPLATE>";
 const SCRIPT: &str =
     "open 1 bytes 1 \"GET /F/na1/na2/na3.html HTTP/1.1\\r\\nHost: a\\r\\n\\r\\n\" end 1";
 
+// The same, where the connection stays open at its end.
+const OPEN_SCRIPT: &str =
+    "open 1 bytes 1 \"GET /F/na1/na2/na3.html HTTP/1.1\\r\\nHost: a\\r\\n\\r\\n\"";
+
 // The reply, of 99 bytes.
 const REPLY: &str =
     "HTTP/1.1 200 OK\r\nContent-Type: text/html; charset=utf-8\r\nContent-Length: 2\r\nConnection: close\r\n\r\nok";
@@ -33,6 +37,12 @@ const NOTHING_TAKEN: &[Taken] = &[Taken {
     connection: 1,
     bytes: "",
     is_closed: false,
+}];
+
+const REPLIED: &[Taken] = &[Taken {
+    connection: 1,
+    bytes: REPLY,
+    is_closed: true,
 }];
 
 const RUNS: &[Run] = &[
@@ -53,15 +63,32 @@ const RUNS: &[Run] = &[
         code: 0,
         out: "serving 8080\nconnections 1\nreplies 1\nhits 0\n",
         err: "",
-        taken: &[Taken {
-            connection: 1,
-            bytes: REPLY,
-            is_closed: true,
+        taken: REPLIED,
+        ..PLAIN
+    },
+    Run {
+        name: "open at its end",
+        words: &["serve", "q", "t", "d"],
+        script: &[Part {
+            text: OPEN_SCRIPT,
+            count: 1,
         }],
+        code: 0,
+        out: "serving 8080\nconnections 1\nreplies 1\nhits 0\n",
+        err: "",
+        taken: REPLIED,
         ..PLAIN
     },
     Run {
         words: &["replay", "q", "t", "s", "d"],
+        code: 0,
+        out: REPLAYED,
+        err: "",
+        taken: NOTHING_TAKEN,
+        ..PLAIN
+    },
+    Run {
+        words: &["replay", "q", "t", "open", "d"],
         code: 0,
         out: REPLAYED,
         err: "",
@@ -89,6 +116,10 @@ fn a_page_of_a_site_that_is_never_made_is_given(rt: HostRuntime) -> Result<(), F
         FileRow {
             path: "s",
             text: SCRIPT,
+        },
+        FileRow {
+            path: "open",
+            text: OPEN_SCRIPT,
         },
     ];
     check_runs(&rt, &files, RUNS)

@@ -16,7 +16,7 @@ pub struct FileRow<'a> {
     pub text: &'a str,
 }
 
-/// A part of a script of events: a text, and how often it stands there.
+/// A part of a text: a text, and how often it stands there.
 pub struct Part {
     pub text: &'static str,
     pub count: usize,
@@ -38,9 +38,9 @@ pub struct Written {
 /// The words of a run, the events of its wire, the calls that fail, its exit code, what it puts on the output and the
 /// standard error, what its connections took and its files hold. The name says which run it is where the words don't.
 #[derive(Drop)]
-pub struct Run<'a> {
+pub struct Run<'w, 's, 'o> {
     pub name: &'static str,
-    pub words: &'a [&'a str],
+    pub words: &'w [&'s str],
     pub script: &'static [Part],
     /// Of the files.
     pub failing_calls: &'static [u64],
@@ -52,7 +52,7 @@ pub struct Run<'a> {
     pub failing_nexts: &'static [u64],
     pub failing_sends: &'static [FailingSend],
     pub code: u8,
-    pub out: &'static str,
+    pub out: &'o str,
     pub err: &'static str,
     pub taken: &'static [Taken],
     pub written: &'static [Written],
@@ -82,7 +82,8 @@ fn file(alloc: Global, row: &FileRow) -> Result<MemFile, NoMemory> {
     })
 }
 
-fn files_of(alloc: Global, rows: &[FileRow], failing: &[u64]) -> Result<MemFiles, NoMemory> {
+/// These files, of which calls fail.
+pub fn files_of(alloc: Global, rows: &[FileRow], failing: &[u64]) -> Result<MemFiles, NoMemory> {
     let mut files = Vec::new(alloc);
     for row in rows {
         files.push(file(alloc, row)?)?;
@@ -90,16 +91,19 @@ fn files_of(alloc: Global, rows: &[FileRow], failing: &[u64]) -> Result<MemFiles
     Ok(MemFiles::new(alloc, files, failing.to_vec(alloc)?))
 }
 
-fn script_text(alloc: Global, parts: &[Part]) -> Result<Vec<u8>, NoMemory> {
+/// The parts one after the other.
+pub fn text_of(alloc: Global, parts: &[Part]) -> Result<Vec<u8>, NoMemory> {
     let mut text = Vec::new(alloc);
     for part in parts {
-        text.extend_from_slice(&part.text.as_bytes().repeat(alloc, part.count)?)?;
+        let repeated = part.text.repeat(alloc, part.count)?;
+        text.extend_from_slice(repeated.as_bytes())?;
     }
     Ok(text)
 }
 
-fn wire_of(alloc: Global, run: &Run) -> Result<MemWire, Fail> {
-    let script = script_text(alloc, run.script)?;
+/// The wire of the run.
+pub fn wire_of(alloc: Global, run: &Run) -> Result<MemWire, Fail> {
+    let script = text_of(alloc, run.script)?;
     let events = read_script(alloc, &script, 65_536)?;
     let nexts = run.failing_nexts.to_vec(alloc)?;
     let sends = run.failing_sends.to_vec(alloc)?;
@@ -129,8 +133,8 @@ fn exit_code<F: Files, O: Sink, W: Wire>(
     Ok(status.code())
 }
 
-// Fails with the words and the name of the run, and with what isn't as it says.
-fn check<R: Abort>(rt: &R, run: &Run, holds: bool, what: &str) {
+/// Fails with the words and the name of the run, and with what isn't as it says.
+pub fn check<R: Abort>(rt: &R, run: &Run, holds: bool, what: &str) {
     assert!(rt;
         holds,
         "{:?} {}: not as wanted: {what}",
@@ -160,20 +164,31 @@ fn check_written<R: AllocGlobal + Abort>(rt: &R, run: &Run, files: &MemFiles) ->
     Ok(())
 }
 
+/// The run over these files and this wire ends as it says.
+pub fn check_with<R: AllocGlobal + Abort, F: Files, W: Wire>(
+    rt: &R,
+    run: &Run,
+    files: &mut F,
+    wire: &mut W,
+) -> Result<(), Fail> {
+    let alloc = rt.alloc();
+    let mut out = MemSink::new(alloc, run.failing_puts.to_vec(alloc)?);
+    let mut err = MemSink::new(alloc, run.failing_lines.to_vec(alloc)?);
+    let code = exit_code(alloc, run.words, files, &mut out, &mut err, wire);
+    check_text(rt, run, err.bytes(), run.err);
+    check_text(rt, run, out.bytes(), run.out);
+    check(rt, run, code == Ok(run.code), "the exit code");
+    Ok(())
+}
+
 /// The run over these files ends as it says.
 pub fn check_over<R: AllocGlobal + Abort, F: Files>(
     rt: &R,
     run: &Run,
     files: &mut F,
 ) -> Result<(), Fail> {
-    let alloc = rt.alloc();
-    let mut out = MemSink::new(alloc, run.failing_puts.to_vec(alloc)?);
-    let mut err = MemSink::new(alloc, run.failing_lines.to_vec(alloc)?);
-    let mut wire = wire_of(alloc, run)?;
-    let code = exit_code(alloc, run.words, files, &mut out, &mut err, &mut wire);
-    check_text(rt, run, err.bytes(), run.err);
-    check_text(rt, run, out.bytes(), run.out);
-    check(rt, run, code == Ok(run.code), "the exit code");
+    let mut wire = wire_of(rt.alloc(), run)?;
+    check_with(rt, run, files, &mut wire)?;
     check_taken(rt, run, &wire);
     Ok(())
 }
@@ -183,6 +198,23 @@ pub fn check_run<R: AllocGlobal + Abort>(rt: &R, rows: &[FileRow], run: &Run) ->
     let mut files = files_of(rt.alloc(), rows, run.failing_calls)?;
     check_over(rt, run, &mut files)?;
     check_written(rt, run, &files)
+}
+
+/// The run over these files ends as it says, where these bytes are at the path, in place of any that are there.
+pub fn check_beside<R: AllocGlobal + Abort>(
+    rt: &R,
+    rows: &[FileRow],
+    path: &str,
+    bytes: &[u8],
+    run: &Run,
+) -> Result<(), Fail> {
+    let alloc = rt.alloc();
+    let mut files = files_of(alloc, rows, &[])?;
+    let path = Str::new(alloc, path.as_bytes())?;
+    if files.write(&path, bytes).is_err() {
+        return Err(Fail::new("no file"));
+    }
+    check_over(rt, run, &mut files)
 }
 
 /// Each of the runs, over these files in memory, ends as it says.

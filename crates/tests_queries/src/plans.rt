@@ -1,5 +1,5 @@
 // Plans and rows of queries, worked by hand; the rows of each block are behind a bar.
-use crate::inputs::{check_text, graph_of, query_of, quoted, scopes_of};
+use crate::inputs::{BIBLIOGRAPHY, check_text, graph_of, query_of, quoted, scopes_of};
 use crate::rows::check_rows;
 use command_explain::plans_text;
 use index_store::IndexStore;
@@ -15,10 +15,6 @@ struct Example {
     plans: &'static str,
     rows: &'static str,
 }
-
-const BIBLIOGRAPHY: &str =
-    "object pub1 in Publications { title 'Strudel' year 1998 author 'Mary' author 'Dan' } object pub2 in \
-        Publications { title 'Lorel <1>' year 1997 author 'Dan' }";
 
 const SEVENS: &str = "object o { v 7 v '7' v '07' }";
 
@@ -148,24 +144,28 @@ const EXAMPLES: &[Example] = &[
 fn check_plan<R: AllocGlobal + Abort, S: Store + Drop>(
     rt: &R,
     store: S,
-    query: &str,
     example: &Example,
 ) -> Result<(), Fail> {
-    let checked = query_of(rt.alloc(), query)?;
+    let checked = query_of(rt.alloc(), example.query)?;
     let text = plans_text(rt.alloc(), &checked, &store)?;
     check_text(rt, text.as_slice(), example.plans, example.query)
 }
 
 fn check_example<R: AllocGlobal + Abort>(rt: &R, example: &Example) -> Result<(), Fail> {
     let alloc = rt.alloc();
-    let query = quoted(alloc, example.query)?;
     let store = ListStore::of(alloc, graph_of(alloc, example.data_text)?)?;
-    check_plan(rt, store, &query, example)?;
+    check_plan(rt, store, example)?;
     let store = IndexStore::of(alloc, graph_of(alloc, example.data_text)?)?;
-    check_plan(rt, store, &query, example)?;
-    let scopes = scopes_of(alloc, &query)?;
+    check_plan(rt, store, example)?;
+    let scopes = scopes_of(alloc, example.query)?;
     let rows = quoted(alloc, example.rows)?;
-    check_rows(rt, example.data_text, &scopes, rows.as_bytes(), &query)
+    check_rows(
+        rt,
+        example.data_text,
+        &scopes,
+        rows.as_bytes(),
+        example.query,
+    )
 }
 
 #[test]

@@ -6,7 +6,8 @@ use sd_value::{NoMemory, Str};
 use std::alloc::Global;
 use std::test::Fail;
 
-fn words_of(alloc: Global, words: &[&str]) -> Result<Vec<Str>, NoMemory> {
+/// The words of a command.
+pub fn words_of(alloc: Global, words: &[&str]) -> Result<Vec<Str>, NoMemory> {
     let mut texts = Vec::new(alloc);
     for word in words {
         texts.push(Str::new(alloc, word.as_bytes())?)?;

@@ -1,0 +1,54 @@
+// Queries that are refused, each with its number and place, worked out by hand from the grammar and the checks.
+mod long_rows;
+mod rows;
+
+use crate::inputs::LIMIT;
+use query_reader::{QueryRefusal, read_query};
+use std::process::Abort;
+use struql_check::CheckRefusal;
+use struql_parse::ParseRefusal;
+
+/// What is reported of a refused text: a number, and a place in the text.
+#[derive(Clone, Copy, Debug, PartialEq)]
+pub struct Reported {
+    pub number: u32,
+    pub place: u64,
+}
+
+fn report_of(refusal: QueryRefusal) -> Option<Reported> {
+    let (number, place) = match refusal {
+        QueryRefusal::NotSpelled(ParseRefusal::BadByte(place)) => (21, place),
+        QueryRefusal::NotSpelled(ParseRefusal::OpenString(place)) => (22, place),
+        QueryRefusal::NotSpelled(ParseRefusal::IntOutOfRange(place)) => (23, place),
+        QueryRefusal::NotSpelled(ParseRefusal::TooLong(place)) => (24, place),
+        QueryRefusal::NotSpelled(ParseRefusal::Expected(place)) => (71, place),
+        QueryRefusal::NotSpelled(ParseRefusal::TooDeep(place)) => (72, place),
+        QueryRefusal::NotSpelled(ParseRefusal::BadVersion(place)) => (73, place),
+        QueryRefusal::NotSpelled(ParseRefusal::NoMemory) => return None,
+        QueryRefusal::NotChecked(CheckRefusal::TooManyPositions(place)) => (51, place),
+        QueryRefusal::NotChecked(CheckRefusal::Unbound(place)) => (61, place),
+        QueryRefusal::NotChecked(CheckRefusal::NeverCreated(place)) => (62, place),
+        QueryRefusal::NotChecked(CheckRefusal::Arity(place)) => (63, place),
+        QueryRefusal::NotChecked(CheckRefusal::LinkFromData(place)) => (64, place),
+        QueryRefusal::NotChecked(CheckRefusal::ArcAsNode(place)) => (65, place),
+        QueryRefusal::NotChecked(CheckRefusal::NotLabel(place)) => (66, place),
+        QueryRefusal::NotChecked(CheckRefusal::Reserved(place)) => (67, place),
+        QueryRefusal::NotChecked(CheckRefusal::TooManyVariables(place)) => (68, place),
+        QueryRefusal::NotChecked(CheckRefusal::NoMemory) => return None,
+    };
+    Some(Reported { number, place })
+}
+
+/// Compares what is reported of a text with a row, which has none for a query.
+pub fn check_reported<R: AllocGlobal + Abort>(
+    rt: &R,
+    text: &[u8],
+    wanted: Option<Reported>,
+    row: &str,
+) {
+    let found = match read_query(rt.alloc(), text, LIMIT) {
+        Ok(_) => None,
+        Err(refusal) => report_of(refusal),
+    };
+    assert_eq!(rt; found, wanted, "{row}");
+}
