@@ -1,6 +1,6 @@
 // What one connection sends and is sent, by `replay` and by `serve`: requests of each kind, one of them byte by byte,
 // and heads at their limits.
-use super::{BAD_REPLY, CYCLIC_REPLY, FILES, HOME_REPLY, REPLAY, SERVE, YEAR_REPLY};
+use super::{BAD_REPLY, CYCLIC_REPLY, FILES, HOME_REPLY, NOT_FOUND, REPLAY, SERVE, YEAR_REPLY};
 use crate::runs::{PLAIN, Part, Run, Taken, check_beside, check_run, text_of};
 use std::process::Abort;
 use std::test::Fail;
@@ -160,8 +160,7 @@ const EXCHANGES: &[Exchange] = &[
         length: "116",
         sent: &[Taken {
             connection: 1,
-            bytes: "HTTP/1.1 404 Not Found\r\nContent-Type: text/plain; charset=utf-8\r\nContent-Length: \
-                10\r\nConnection: close\r\n\r\nnot found\n",
+            bytes: NOT_FOUND,
             is_closed: true,
         }],
         ..ONE_REPLY
@@ -312,7 +311,7 @@ const EXCHANGES: &[Exchange] = &[
                 count: 16_384,
             },
             Part {
-                text: "\" end 1",
+                text: "\"",
                 count: 1,
             },
         ],
