@@ -1,5 +1,7 @@
 // Commands as texts: the name, and then each part behind a blank.
-use command_spec::{Command, CommandName, DataFiles, HelpCommand, ServeCommand};
+use command_spec::{
+    Command, CommandName, DataFiles, HelpCommand, HereCommand, ReplayCommand, ServeCommand,
+};
 use sd_value::{NoMemory, Str};
 use std::alloc::Global;
 
@@ -118,6 +120,20 @@ fn serve_text(alloc: Global, c: &ServeCommand) -> Result<Vec<u8>, NoMemory> {
     }
 }
 
+fn here_text(alloc: Global, c: &HereCommand) -> Result<Vec<u8>, NoMemory> {
+    let paths = [&c.query, &c.constraints];
+    let text = named(alloc, b"check", &paths, c.sources.paths.items(), &[])?;
+    mode_text(text, &c.sources)
+}
+
+fn replay_text(alloc: Global, c: &ReplayCommand) -> Result<Vec<u8>, NoMemory> {
+    let paths = [&c.query, &c.templates, &c.script];
+    let limits = &c.limits;
+    let numbers = [limits.requests, limits.turns, u64::from(limits.cache)];
+    let text = named(alloc, b"replay", &paths, c.sources.paths.items(), &numbers)?;
+    data_text(text, &c.sources, &c.over)
+}
+
 /// The command as a text: its paths as they are in it, behind them its numbers, then whether its data are read leniently, and
 /// last the file of a first query.
 pub fn command_text(alloc: Global, command: &Command) -> Result<Vec<u8>, NoMemory> {
@@ -144,11 +160,7 @@ pub fn command_text(alloc: Global, command: &Command) -> Result<Vec<u8>, NoMemor
             let numbers: &[u64] = if c.dot { &[1] } else { &[] };
             named(alloc, b"schema", &[&c.query], &[], numbers)
         }
-        Command::Check(c) => {
-            let paths = [&c.query, &c.constraints];
-            let text = named(alloc, b"check", &paths, c.sources.paths.items(), &[])?;
-            mode_text(text, &c.sources)
-        }
+        Command::Check(c) => here_text(alloc, c),
         Command::CheckAll(c) => {
             let paths = [&c.query, &c.constraints];
             named(alloc, b"check all", &paths, &[], &[])
@@ -159,13 +171,7 @@ pub fn command_text(alloc: Global, command: &Command) -> Result<Vec<u8>, NoMemor
             mode_text(text, &c.sources)
         }
         Command::Serve(c) => data_text(serve_text(alloc, c)?, &c.sources, &c.over),
-        Command::Replay(c) => {
-            let paths = [&c.query, &c.templates, &c.script];
-            let limits = &c.limits;
-            let numbers = [limits.requests, limits.turns, u64::from(limits.cache)];
-            let text = named(alloc, b"replay", &paths, c.sources.paths.items(), &numbers)?;
-            data_text(text, &c.sources, &c.over)
-        }
+        Command::Replay(c) => replay_text(alloc, c),
         Command::Trial(c) => named(alloc, b"trial", &[], &[], &[u64::from(c.entries)]),
         Command::Help(c) => named(alloc, help_text(c), &[], &[], &[]),
         Command::Version => named(alloc, b"version", &[], &[], &[]),
