@@ -19,6 +19,7 @@ use Rattle.command_spec.specs.declared.numbers.NumberOption.TheVariants.{Port, C
 use Rattle.command_spec.specs.declared.numbers.NumberOption.TheVariants.{Requests, Turns, Cache, Idle, Stall, Every}
 use Rattle.command_spec.specs.declared.options.PathOption.TheVariants.{Watch, Over}
 use Rattle.command_spec.specs.declared.options.ValueOption.TheVariants.{Number, Path}
+use Rattle.command_words.specs.declared.program.CommandRow.{CommandRow}
 use Rattle.command_spec.specs.declared.RunLimits.{RunLimits}
 use Rattle.command_spec.specs.declared.ServeOptions.{ServeOptions}
 use Rattle.command_spec.specs.declared.ServeWaits.{ServeWaits}
@@ -51,6 +52,10 @@ abbrev pub leaf : List ℕ → List ValueOption → Shape
 leaf name options = record (new_shape name) {
   rules = words_rule ∷ map (λ option. option_rule (option_name option)) options;
 }
+
+-- the subcommand of a row of the table of commands
+unfoldable pub row_leaf : CommandRow → Shape
+row_leaf row = leaf row.name.now row.options.now
 
 -- a command line that is such a subcommand alone
 abbrev pub IsLeaf : List ℕ → List ValueOption → Program → Type 0

@@ -1,6 +1,7 @@
 // The command line as `clap` has it: a subcommand for each command.
 
 ghost use Rattle.std.specs.Prelude.{◌≡◌, IfOk, false};
+ghost use Rattle.clap.specs.Simple.{with_subcommand};
 ghost use Rattle.clap.specs.Words.{rule_of, app_of};
 ghost use Rattle.command_words.specs.Parsed as specs;
 
@@ -44,46 +45,112 @@ fn command_of<'a>(
     Ok(command)
 }
 
+// A command's name, and its options that have a value.
+struct CommandRow {
+    name: &'static str,
+    options: &'static [ValueOption],
+}
+
+const PAGE_OPTIONS: &[ValueOption] = &[ValueOption::Path(PathOption::Over)];
+
+const REPLAY_OPTIONS: &[ValueOption] = &[
+    ValueOption::Number(NumberOption::Requests),
+    ValueOption::Number(NumberOption::Turns),
+    ValueOption::Number(NumberOption::Cache),
+    ValueOption::Path(PathOption::Over),
+];
+
+const SERVE_OPTIONS: &[ValueOption] = &[
+    ValueOption::Number(NumberOption::Port),
+    ValueOption::Number(NumberOption::Connections),
+    ValueOption::Number(NumberOption::Requests),
+    ValueOption::Number(NumberOption::Turns),
+    ValueOption::Number(NumberOption::Cache),
+    ValueOption::Number(NumberOption::Idle),
+    ValueOption::Number(NumberOption::Stall),
+    ValueOption::Path(PathOption::Watch),
+    ValueOption::Number(NumberOption::Every),
+    ValueOption::Path(PathOption::Over),
+];
+
+const COMMANDS: &[CommandRow] = &[
+    CommandRow {
+        name: "page",
+        options: PAGE_OPTIONS,
+    },
+    CommandRow {
+        name: "build",
+        options: PAGE_OPTIONS,
+    },
+    CommandRow {
+        name: "data",
+        options: PAGE_OPTIONS,
+    },
+    CommandRow {
+        name: "explain",
+        options: &[],
+    },
+    CommandRow {
+        name: "schema",
+        options: &[],
+    },
+    CommandRow {
+        name: "check",
+        options: &[],
+    },
+    CommandRow {
+        name: "lint",
+        options: &[],
+    },
+    CommandRow {
+        name: "serve",
+        options: SERVE_OPTIONS,
+    },
+    CommandRow {
+        name: "replay",
+        options: REPLAY_OPTIONS,
+    },
+    CommandRow {
+        name: "trial",
+        options: &[],
+    },
+    CommandRow {
+        name: "help",
+        options: &[],
+    },
+    CommandRow {
+        name: "version",
+        options: &[],
+    },
+];
+
+// The command line with the subcommand of the row behind those that it has.
+fn with_command<'a>(
+    alloc: Global,
+    program: Command<'a>,
+    row: &CommandRow,
+) -> Result<Command<'a>, NoMemory>
+    ensures { IfOk result
+        (λ c. app_of c ≡ with_subcommand (app_of program.entry) (specs.row_leaf row.now)) }
+{
+    let name: &'a str = row.name;
+    let command = command_of(alloc, name, row.options)?;
+    let program = program.subcommand(command)?;
+    Ok(program)
+}
+
 /// The command line.
 pub fn program<'a>(alloc: Global) -> Result<Command<'a>, NoMemory>
     ensures { IfOk result (λ c. app_of c ≡ specs.program) }
 {
-    let page = [ValueOption::Path(PathOption::Over)];
-    let run = [
-        ValueOption::Number(NumberOption::Requests),
-        ValueOption::Number(NumberOption::Turns),
-        ValueOption::Number(NumberOption::Cache),
-        ValueOption::Path(PathOption::Over),
-    ];
-    let serve = [
-        ValueOption::Number(NumberOption::Port),
-        ValueOption::Number(NumberOption::Connections),
-        ValueOption::Number(NumberOption::Requests),
-        ValueOption::Number(NumberOption::Turns),
-        ValueOption::Number(NumberOption::Cache),
-        ValueOption::Number(NumberOption::Idle),
-        ValueOption::Number(NumberOption::Stall),
-        ValueOption::Path(PathOption::Watch),
-        ValueOption::Number(NumberOption::Every),
-        ValueOption::Path(PathOption::Over),
-    ];
-    let program = Command::new(alloc, "strudel")
+    let mut program = Command::new(alloc, "strudel")
         .no_binary_name(true)
         .disable_help_flag(true)
         .disable_help_subcommand(true)
         .disable_version_flag(true)
-        .subcommand_required(true)
-        .subcommand(command_of(alloc, "page", &page)?)?
-        .subcommand(command_of(alloc, "build", &page)?)?
-        .subcommand(command_of(alloc, "data", &page)?)?
-        .subcommand(command_of(alloc, "explain", &[])?)?
-        .subcommand(command_of(alloc, "schema", &[])?)?
-        .subcommand(command_of(alloc, "check", &[])?)?
-        .subcommand(command_of(alloc, "lint", &[])?)?
-        .subcommand(command_of(alloc, "serve", &serve)?)?
-        .subcommand(command_of(alloc, "replay", &run)?)?
-        .subcommand(command_of(alloc, "trial", &[])?)?
-        .subcommand(command_of(alloc, "help", &[])?)?
-        .subcommand(command_of(alloc, "version", &[])?)?;
+        .subcommand_required(true);
+    for row in COMMANDS {
+        program = with_command(alloc, program, row)?;
+    }
     Ok(program)
 }
