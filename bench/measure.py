@@ -59,7 +59,9 @@ def written(path, pieces):
 
 
 def exponent(seconds, low, high):
-    """The power of the amount with which the seconds grow."""
+    """The power of the amount with which the seconds grow; none where a difference of two runs is lost in what they vary by."""
+    if min(seconds[low], seconds[high]) <= 0:
+        return "growth: not told, since one is less than what runs vary by"
     return f"N^{log(seconds[high] / seconds[low]) / log(high / low):.2f}"
 
 
@@ -80,4 +82,4 @@ def table(rows):
     """The rows of a benchmark (what, processor seconds, megabytes, a note) as a table."""
     yield "| What | processor seconds | MB | |\n|---|---|---|---|\n"
     for what, seconds, memory, note in rows:
-        yield f"| {what} | {'' if seconds is None else f'{seconds:.2f}' if seconds >= 0.01 else f'{seconds:.2g}'} | {'' if memory is None else f'{memory:.0f}'} | {note} |\n"
+        yield f"| {what} | {'' if seconds is None else f'{seconds:.2f}' if seconds >= 0.01 else f'{round(seconds, 10):.2g}'} | {'' if memory is None else f'{memory:.0f}'} | {note} |\n"
