@@ -1,5 +1,5 @@
-# Which program the launcher runs in a checkout: the released one exactly where it was built from these sources, or else the one
-# that is proved and built here. The launcher, release/make and release/verify read this file, with `top` set.
+# Which program the launcher runs in a checkout: the released one, or with `--build` the one that is proved and built here. The
+# launcher, release/make and release/verify read this file, with `top` set.
 
 released=$top/release/strudel-x86_64-linux
 built_here=$top/crates/strudel/out/strudel
@@ -41,27 +41,30 @@ is_release_of_sources() {
   [ -n "$sources" ] && [ "$sources" = "$(sum_of_sources "$kit")" ]
 }
 
-# The same, remembered until a file changes: `release/.fits` has the answer, and its time is before all that was read for it.
-# Files are compared by the time of their last change of any kind, which no copying sets back.
-fits_sources() {
-  local stamp=$top/release/.fits answer
-  [ -e "$released" ] || return 1
-  # (an answer from the future tells of a clock that was set back)
-  if [ -e "$stamp" ] && [ -z "$(
-    cd "$top" && find release/.fits crates crates.txt release/strudel-x86_64-linux release/strudel-x86_64-linux.sha256 release/built-from \
-      -path release/.fits \( -newermt now -print -quit -o -prune \) -o \
-      -path 'crates/*/out' ! -path 'crates/*/*/out' -prune -o -cnewer release/.fits -print -quit 2>&1
-  )" ]; then
-    read -r answer <"$stamp"
+# Whether a source of the program is newer than the release. That is seen from the times at which code was last changed, against
+# `release/.fits` or, while there is none, the release itself, so a call costs some milliseconds. Only after a change the checksums
+# decide, once: `release/.fits` keeps their answer. (Files are compared by the time of their last change of any kind, which no
+# copying sets back.)
+sources_are_newer() {
+  local stamp=$top/release/.fits answer=yes since
+  since=$stamp
+  [ -e "$stamp" ] || since=$released
+  if [ -z "$(cd "$top" && find crates.txt crates/*/src -cnewer "$since" -print -quit 2>&1)" ]; then
+    [ "$since" = "$released" ] || read -r answer <"$stamp"
   else
-    { : >"$stamp.$$" && touch -d '-2 seconds' "$stamp.$$" && touch -r "$stamp.$$" "$stamp.time.$$"; } 2>/dev/null
-    is_release_of_sources && answer=yes || answer=no
-    {
-      [ -e "$stamp.time.$$" ] && echo $answer >"$stamp.$$" && touch -r "$stamp.time.$$" "$stamp.$$" && mv -f "$stamp.$$" "$stamp"
-    } 2>/dev/null
+    # (its time is before all that is read for it)
+    { : >"$stamp.time.$$" && touch -d '-2 seconds' "$stamp.time.$$"; } 2>/dev/null
+    is_release_of_sources || answer=no
+    { echo $answer >"$stamp.$$" && touch -r "$stamp.time.$$" "$stamp.$$" && mv -f "$stamp.$$" "$stamp"; } 2>/dev/null
     rm -f "$stamp.$$" "$stamp.time.$$" 2>/dev/null
   fi
-  [ "$answer" = yes ]
+  [ "$answer" != yes ]
+}
+
+# released_version: the version of the released program, as release/make wrote it.
+released_version() {
+  local name value
+  while read -r name value; do [ "$name" != version ] || echo "$value"; done <"$top/release/built-from"
 }
 
 # The crates that the program is made of, itself the last.
@@ -111,8 +114,7 @@ show_progress() {
 # Proves and builds the program, with each crate that it is made of.
 build_program() {
   local log watcher=''
-  [ ! -e "$released" ] || echo "strudel: the released program wasn't built from these sources, or isn't for this system" >&2
-  echo "strudel: proving and building the program, once; that takes more than an hour of one processor" >&2
+  echo "strudel: proving and building the program; from nothing that takes hours of one processor" >&2
   log=$(mktemp) || return 70
   SECONDS=0
   trap 'trap - INT; rm -f "$log"; printf "\nstrudel: not built; the next start goes on with what is proved by now\n" >&2; kill -INT $$' INT
@@ -137,34 +139,40 @@ build_program() {
   echo "strudel: proved and built in $(clock $SECONDS)" >&2
 }
 
-# What is missing where there is no program and nothing to build it with.
+# Why the released program can't run here.
 tell_missing() {
   {
     echo "strudel: there is no program to run"
     if [ ! -e "$released" ]; then
-      echo "This checkout has no released program (release/strudel-x86_64-linux),"
-    elif [ "$HOSTTYPE" != x86_64 ] || [[ $OSTYPE != linux-gnu* ]]; then
-      echo "The released program is for x86-64 Linux with glibc, and this system is $HOSTTYPE $OSTYPE,"
+      echo "This checkout has no released program (release/strudel-x86_64-linux)."
     else
-      echo "The released program wasn't built from these sources: a file of crates/, crates.txt or the release itself was changed,"
+      echo "The released program is for x86-64 Linux with glibc, and this system is $HOSTTYPE $OSTYPE."
     fi
-    echo "and the kit that proves and builds one (\`rt\`) isn't in the PATH. Any one of these helps:"
+    echo "Any one of these helps:"
     echo "  a checkout of a release as it was published, or its package or archive (\`git status\` shows what was changed here);"
-    echo "  the folder of \`rt\` in PATH: then the program is proved and built, which takes more than an hour;"
+    echo "  ./strudel --build, with the folder of \`rt\` in PATH: the program is proved and built, which takes more than an hour;"
     echo "  STRUDEL_PROGRAM=FILE, which names a program that is elsewhere."
   } >&2
 }
 
-# Sets `program`, or ends with 69 where there is none and no kit, and with 70 where it isn't proved or not built.
+# Sets `program` to the released one, and reports sources that are newer; ends with 69 if there is none for this system.
 find_program() {
-  if fits_sources; then
-    program=$released
-  elif [ -x "$built_here" ]; then
-    program=$built_here
-  elif command -v rt >/dev/null; then
-    build_program && program=$built_here
-  else
+  program=$released
+  if [ ! -x "$released" ] || [ "$HOSTTYPE" != x86_64 ] || [[ $OSTYPE != linux-gnu* ]]; then
     tell_missing
     return 69
   fi
+  if sources_are_newer && [ -z "${STRUDEL_PLAIN:-}" ]; then
+    echo "strudel: the sources are not those of this program ($(released_version)); ./strudel --build proves and builds them" >&2
+  fi
+}
+
+# Proves and builds the sources, and sets `program` to what was built; ends with 69 without the kit, and with 70 if it isn't built.
+find_built_program() {
+  program=$built_here
+  if ! command -v rt >/dev/null; then
+    echo "strudel: the kit that proves and builds the program (\`rt\`) isn't in PATH" >&2
+    return 69
+  fi
+  build_program
 }
