@@ -5,7 +5,6 @@
     bench/answers.py -v     prints each with its answer
 """
 import collections
-import os
 import re
 import subprocess
 import sys

@@ -1,6 +1,5 @@
 """The server under many requests and beside silent clients, over real sockets on 127.0.0.1."""
 import contextlib
-import os
 import random
 import socket
 import subprocess

@@ -2,7 +2,7 @@
 import os
 import random
 
-from measure import STRUDEL, exponent, least, measured, strudel, written
+from measure import exponent, least, strudel, written
 import shapes
 
 # What a run may use before it is ended: queries that took minutes before are shown as such.
