@@ -1,18 +1,30 @@
-// Elements of ordered sets.
+// Copies of what ordered sets and lists have.
 ghost use Rattle.std.specs.Prelude.{◌≡◌, IfOk};
 
 use graph_spec::{Edge, Member};
-use sd_value::{ExactOrd, NoMemory, copy};
+use sd_value::{ExactOrd, NoMemory, Str, Value, copy};
 use std::alloc::Global;
 
-/// What an ordered set of a graph has.
-pub(crate) trait Element: ExactOrd + Drop {
-    /// An equal element. Its texts share their bytes with this one's.
+/// What an ordered set has, or what its groups are found by.
+pub trait Copied: ExactOrd + Drop {
+    /// An equal one. Its texts share their bytes with this one's.
     fn copied(&self, alloc: Global) -> Result<Self, NoMemory>
-        ensures { IfOk result (λ element. element ≡ self.now) };
+        ensures { IfOk result (λ copied. copied ≡ self.now) };
 }
 
-impl Element for Edge {
+impl Copied for Str {
+    fn copied(&self, alloc: Global) -> Result<Str, NoMemory> {
+        self.copy(alloc)
+    }
+}
+
+impl Copied for Value {
+    fn copied(&self, alloc: Global) -> Result<Value, NoMemory> {
+        copy(alloc, self)
+    }
+}
+
+impl Copied for Edge {
     fn copied(&self, alloc: Global) -> Result<Edge, NoMemory> {
         Ok(Edge {
             from: self.from.copy(alloc)?,
@@ -22,11 +34,22 @@ impl Element for Edge {
     }
 }
 
-impl Element for Member {
+impl Copied for Member {
     fn copied(&self, alloc: Global) -> Result<Member, NoMemory> {
         Ok(Member {
             collection: self.collection.copy(alloc)?,
             node: self.node.copy(alloc)?,
         })
     }
+}
+
+/// Equal ones in the same order.
+pub fn copied_list<K: Copied>(alloc: Global, items: &[K]) -> Result<Vec<K>, NoMemory>
+    ensures { IfOk result (λ copied. copied.items ≡ items.now) }
+{
+    let mut copied = Vec::with_capacity(alloc, items.len())?;
+    for item in items {
+        copied.push(item.copied(alloc)?)?;
+    }
+    Ok(copied)
 }
