@@ -1,5 +1,5 @@
 -- How the count of what was handed out rises.
-use Rattle.std.specs.Prelude.{◌≡◌, ◌⊎◌, ℕ, ◌≤◌, ◌+◌, ◌-◌, ◌^◌, min}
+use Rattle.std.specs.Prelude.{◌≡◌, ℕ, ◌≤◌, ◌+◌, ◌-◌, ◌^◌, min}
 
 -- the count rises by n, and stays at its last value once it is there
 abbrev pub IsCounted : ℕ → ℕ → ℕ → Type 0
@@ -9,7 +9,3 @@ IsCounted old n new = new ≡ min (old + n) (2 ^ 128 - 1)
 pub record Gives (old n new : ℕ) : Type 0 where
   pub low : old ≤ new
   pub high : new ≤ old + n
-
--- the count is where it was, or has risen by at most a number with P
-abbrev pub Spends : (ℕ → Type 0) → ℕ → ℕ → Type 0
-Spends P old new = (new ≡ old) ⊎ ((n : ℕ) × P n × Gives old n new)

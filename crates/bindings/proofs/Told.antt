@@ -70,13 +70,6 @@ module _ (wanted : List Bool) where
   pub part_added : (xs ys : List (List Value)) (r part : List Value) → ys ≡ xs ++ r ∷ [] → wanted_part wanted r ≡ part → HasPart wanted ys part
   part_added xs ys r part rows is = (r, subst (λ zs. Contains zs r) (sym rows) (Contains-push xs r), is)
 
-  -- the part of a row that was found is kept as the first
-  pub told_first : (old new : Told) (part : Vec Value) → new.first ≡ Some part → new.others ≡ old.others → new.rows ≡ old.rows → HasPart wanted old.rows.items part.items → AreTold wanted old → AreTold wanted new
-  told_first old new part first others rows has told = record {
-    first = λ q h. (let e : part ≡ q = cc in subst (λ s. HasPart wanted s.items q.items) (sym rows) (subst (λ p. HasPart wanted old.rows.items p.items) e has));
-    others = λ q h. subst (λ s. HasPart wanted s.items q.items) (sym rows) (told.others q (subst (λ s. contains same_part s q ≡ true) others h));
-  }
-
   -- it is kept beside the first
   pub told_other : (old new : Told) (part : Vec Value) → new.first ≡ old.first → ((q : Vec Value) → contains same_part new.others q ≡ cond (same_part part q) true (contains same_part old.others q)) → new.rows ≡ old.rows
       → HasPart wanted old.rows.items part.items → AreTold wanted old → AreTold wanted new
@@ -177,9 +170,6 @@ take_unwanted (true ∷ wanted) (a ∷ t) zero d l w = cc
 take_unwanted (false ∷ wanted) (a ∷ t) zero d l w = refl
 take_unwanted (true ∷ wanted) (a ∷ t) (suc k) d l w = ap (λ xs. a ∷ xs) (take_unwanted wanted t k d (omega arith) w)
 take_unwanted (false ∷ wanted) (a ∷ t) (suc k) d l w = take_unwanted wanted t k d (omega arith) w
-
-pub part-none : (wanted : List Bool) (t : List Value) → wanted_part (take 0 wanted) t ≡ []
-part-none wanted t = refl
 
 pub part-more : (wanted : List Bool) (s : List (Option Value)) (k : ℕ) (d : Bool) (v : Value) (values : List Value) → k < length wanted → get_or wanted k d ≡ true → slice_get s k ≡ Some (Some v)
     → ((t : List Value) → Agrees t s → wanted_part (take k wanted) t ≡ values) → (t : List Value) → Agrees t s → wanted_part (take (k + 1) wanted) t ≡ values ++ v ∷ []

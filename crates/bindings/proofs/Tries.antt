@@ -18,7 +18,7 @@ use Rattle.condition_tests.specs.Places.{IsKnown}
 use Rattle.condition_tests.proofs.Decided.{known_stands}
 use Rattle.condition_tests.specs.Known.{Agrees, IsCandidate, is_arc}
 use Rattle.candidate_values.specs.Offers.{IsSettled}
-use Rattle.bindings.specs.Fits.{Fits, SomeFits, IsChoice}
+use Rattle.bindings.specs.Fits.{Fits, SomeFits}
 use Rattle.bindings.specs.Tries.{AreTried, GoalAt, IsTry}
 use Rattle.bindings.proofs.Known.{slice_get-set_same}
 use Rattle.bindings.proofs.Found.{agrees_less}
@@ -68,9 +68,6 @@ module _ (G : DataGraph) (version : ℕ) (arcs : List Bool) (goals : List Goal) 
   pub witness_tells : (s : List (Option Value)) (o : Option (List Value)) → MatchOption o (SomeFits G version arcs goals 0 s → ⊥) (λ t. Fits G version arcs goals 0 s t) → IsTrue (is_some o) ↔ SomeFits G version arcs goals 0 s
   witness_tells s None none = ((λ yes. cc), (λ f. absurd (none f)))
   witness_tells s (Some t) fits = ((λ yes. record { row = t; fits = fits }), (λ f. refl))
-
-  pub try_of : (at : ℕ) (s : List (Option Value)) (slot : ℕ) (values : List Value) (next : ℕ) → IsChoice G version arcs goals at s slot values next → IsTry G version arcs goals at s slot values next
-  try_of at s slot values next c = record { free = c.free; within = c.within; exact = c.exact }
 
   pub try_join : (at next : ℕ) (s : List (Option Value)) (slot : ℕ) (values : List Value) (v : Value) → IsTry G version arcs goals at s slot values next → Contains values v → (t : List Value) → Fits G version arcs goals next (slice_set s slot (Some v)) t → Fits G version arcs goals at s t
   try_join at next s slot values v c one t f =

@@ -13,33 +13,10 @@ use crate::search::{Choice, choose, finds, passed, put};
 use candidate_values::{Ends, Offer, Reaches, Search, settle};
 use condition_tests::{Atom, Place, Property, Relation, free_at, known};
 use goal_choice::{fewest, literal_at};
-use query_spec::Row;
-use sd_value::{NoMemory, Value, copy};
+use query_spec::{Row, copied_bound};
+use sd_value::{NoMemory, Value};
 use std::alloc::Global;
 use store::Store;
-
-fn copied(alloc: Global, value: &Option<Value>) -> Result<Option<Value>, NoMemory>
-    ensures { IfOk result (λ v. v ≡ value.now) }
-{
-    match value {
-        Some(value) => {
-            let value = copy(alloc, value)?;
-            Ok(Some(value))
-        }
-        None => Ok(None),
-    }
-}
-
-fn copies(alloc: Global, current: &[Option<Value>]) -> Result<Vec<Option<Value>>, NoMemory>
-    ensures { IfOk result (λ copied. copied.items ≡ current.now) }
-{
-    let mut copies = Vec::with_capacity(alloc, current.len())?;
-    for value in current {
-        let value = copied(alloc, value)?;
-        copies.push(value)?;
-    }
-    Ok(copies)
-}
 
 // Where the relation is an edge of a label: the first end of one from the known place, where the other one is free.
 fn first_after<S: Store>(
@@ -325,7 +302,7 @@ fn first_witness<S: Store>(
         (Fits (S.graph search.now.store.now) search.now.version search.now.arcs.now
         search.now.goals.now at current.now)) }
 {
-    let mut trial = copies(alloc, current)?;
+    let mut trial = copied_bound(alloc, current)?;
     if finds_first(alloc, search, kept, at, trial.as_mut_slice())? {
         let row = row_of(alloc, trial.as_slice())?;
         Ok(Some(row))
@@ -358,7 +335,7 @@ pub(crate) fn witness<S: Store>(
     if let Some(row) = first_witness(alloc, search, kept, at, current)? {
         return Ok(Some(row));
     }
-    let mut trial = copies(alloc, current)?;
+    let mut trial = copied_bound(alloc, current)?;
     if finds(alloc, search, kept, at, trial.as_mut_slice())? {
         let row = row_of(alloc, trial.as_slice())?;
         Ok(Some(row))

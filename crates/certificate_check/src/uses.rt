@@ -6,7 +6,7 @@ ghost use Rattle.query_spec.specs.Mentions.{variables_of as own_variables};
 ghost use Rattle.query_blocks.specs.Blocks.{scope_of};
 ghost use Rattle.struql_ast.specs.Reading.{term_of, label_of};
 ghost use Rattle.constraint_spec.specs.Use.{rename_target, naming};
-ghost use Rattle.constraint_recheck.specs.Same.{same_target};
+ghost use Rattle.query_copies.specs.Same.{same_target};
 ghost use Rattle.constraint_recheck.specs.Recheck.{is_quoted, is_use as makes_use, use_from as is_use_from};
 ghost use Rattle.constraint_recheck.specs.Recheck.{shows as is_shown, lead_back, shows_reached as is_reached};
 ghost use Rattle.certificate_check.specs.Links.{placed_link, HasOwnVariables, AreLinks, ends_at, mention_of, shown_on};

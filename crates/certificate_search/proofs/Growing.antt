@@ -8,7 +8,7 @@ use Rattle.query_spec.specs.Query.{Operand, Condition, SkolemTerm, Target, plain
 use Rattle.query_spec.specs.Mentions.{variables_of}
 use Rattle.site_spec.specs.Site.{Scope}
 use Rattle.constraint_spec.specs.Placed.{links_of}
-use Rattle.constraint_recheck.specs.Same.{same_term}
+use Rattle.query_copies.specs.Same.{same_term}
 use Rattle.constraint_recheck.specs.Entails.{Tests}
 use Rattle.constraint_recheck.specs.Recheck.{is_of, zip_all}
 use Rattle.query_spec.specs.declared.Variable.{Variable}
@@ -115,10 +115,6 @@ with_one s a [] = refl
 with_one s a (bs ∷ cs) =
     ap (λ zs. record { function = s.function; args = zs } ∷ with_args s (map (λ es. a ∷ es) cs)) (sym (append_assoc s.args (a ∷ []) bs))
     ∙ ap (λ zs. record { function = s.function; args = (s.args ++ a ∷ []) ++ bs } ∷ zs) (with_one s a cs)
-
--- no argument is left
-pub with_none : (s : SkolemTerm) → with_args s ([] ∷ []) ≡ s ∷ []
-with_none s = ap (λ zs. record { function = s.function; args = zs } ∷ []) (append-nil s.args)
 
 -- one choice for the first argument that is left
 pub choice_more : {Y X : Type 0} (h : Y → SkolemTerm → Y) (y : Y) (s : SkolemTerm) (cs : List (List Operand)) (g : X → Operand) (xs : List X) (i : ℕ) (x : X) → i < length xs → x ≡ get_or xs i x

@@ -6,7 +6,7 @@ ghost use Rattle.std.specs.Prelude.{if◌then◌else◌};
 ghost use Rattle.query_spec.specs.Mentions.{chain_of};
 ghost use Rattle.struql_ast.specs.Reading.{term_of};
 ghost use Rattle.query_blocks.specs.Blocks.{scope_of};
-ghost use Rattle.constraint_recheck.specs.Same.{same_term};
+ghost use Rattle.query_copies.specs.Same.{same_term};
 ghost use Rattle.constraint_search.specs.Options.{first_of, fold_over};
 ghost use Rattle.constraint_search.specs.Search.{add_links as links_added, levels};
 ghost use Rattle.constraint_search.specs.Search.{find_back as found_back, root_term};

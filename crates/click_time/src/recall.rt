@@ -19,20 +19,11 @@ ghost use Rattle.click_time.specs.Told.{AreTerms, AreEnds, AreGathered, AreNumbe
 use crate::known::Known;
 use asker::Asker;
 use query_blocks::QueryBlocks;
+use query_copies::copied_values;
 use sd_value::{NoMemory, Str, Term, Value, copy};
 use site_lookups::{collected, edges_out, in_site, template};
 use std::alloc::Global;
 use tmpl::Templates;
-
-fn copied(alloc: Global, values: &[Value]) -> Result<Vec<Value>, NoMemory>
-    ensures { IfOk result (λ vs. vs.items ≡ values.now) }
-{
-    let mut copies = Vec::new(alloc);
-    for value in values {
-        copies.push(copy(alloc, value)?)?;
-    }
-    Ok(copies)
-}
 
 fn edge_key(alloc: Global, value: &Value, label: &Str) -> Result<(Value, Str), NoMemory>
     ensures { IfOk result (λ k. k ≡ (value.now, label.now)) }
@@ -45,7 +36,7 @@ fn recalled(alloc: Global, told: &Option<Vec<Value>>) -> Result<Vec<Value>, NoMe
     ensures { IfOk result (λ vs. IsSomeAnd told.now (λ kept. vs.items ≡ kept.items)) }
 {
     match told {
-        Some(values) => copied(alloc, values.as_slice()),
+        Some(values) => copied_values(alloc, values.as_slice()),
         None => Err(NoMemory),
     }
 }
@@ -142,7 +133,7 @@ fn ends_first<A: Asker>(
     let again = edge_key(alloc, value, label)?;
     known.put(first, None)?;
     let ends = edges_out(alloc, asker, scopes, value, label)?;
-    let kept = copied(alloc, ends.as_slice())?;
+    let kept = copied_values(alloc, ends.as_slice())?;
     known.put(again, Some(kept))?;
     Ok(ends)
 }
@@ -210,7 +201,7 @@ fn gathered_first<A: Asker>(
     let again = name.copy(alloc)?;
     known.put(first, None)?;
     let values = collected(alloc, asker, scopes, name)?;
-    let kept = copied(alloc, values.as_slice())?;
+    let kept = copied_values(alloc, values.as_slice())?;
     known.put(again, Some(kept))?;
     Ok(values)
 }

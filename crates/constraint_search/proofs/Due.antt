@@ -13,11 +13,11 @@ use Rattle.query_spec.specs.Mentions.{same_name, operand_names, names, variables
 use Rattle.constraint_spec.specs.Placed.{PlacedLink}
 use Rattle.constraint_spec.specs.Entailed.{IsEntailed}
 use Rattle.constraint_spec.specs.Use.{rename_operand, rename, rename_term, rename_target, naming, IsUse}
-use Rattle.constraint_recheck.specs.Same.{same_operand}
+use Rattle.query_copies.specs.Same.{same_operand}
 use Rattle.constraint_recheck.specs.Entails.{Tests, IsKnown, AreTests, entails}
 use Rattle.constraint_recheck.specs.Recheck.{zip_all}
-use Rattle.constraint_recheck.proofs.Bools.{never, always, as_well, both, every_in}
-use Rattle.constraint_recheck.proofs.Same.{name_decides, operand_decides}
+use Rattle.query_copies.proofs.Bools.{never, always, as_well, both, every_in}
+use Rattle.query_copies.proofs.Same.{name_decides, operand_decides}
 use Rattle.constraint_recheck.proofs.Entails.{entails_decides, known_renamed, number_decides}
 use Rattle.constraint_recheck.proofs.Links.{zip_decides, implies, all_each}
 use Rattle.constraint_search.specs.Options.{Finds}

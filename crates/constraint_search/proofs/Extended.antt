@@ -6,7 +6,7 @@ use Rattle.std.specs.List.{AllZip}
 use Rattle.sd_value.specs.Names.{Name}
 use Rattle.query_spec.specs.declared.Variable.{Variable}
 use Rattle.constraint_recheck.specs.Recheck.{same_sort}
-use Rattle.constraint_recheck.proofs.Bools.{as_well, both, always}
+use Rattle.query_copies.proofs.Bools.{as_well, both, always}
 use Rattle.constraint_recheck.proofs.Links.{sort_decides}
 use Rattle.constraint_search.specs.Options.{Finds, first_of}
 use Rattle.constraint_search.specs.Search.{extend}

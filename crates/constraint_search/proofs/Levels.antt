@@ -14,10 +14,10 @@ use Rattle.site_spec.specs.Site.{Scope}
 use Rattle.constraint_spec.specs.Placed.{PlacedLink, links_of, IsNumbered}
 use Rattle.constraint_spec.specs.Use.{LinkUse, name_for, naming, rename_operand, rename_term, rename_target, IsUseOf, source_of, target_of}
 use Rattle.constraint_spec.specs.Certificate.{LeadBack}
-use Rattle.constraint_recheck.specs.Same.{same_term}
+use Rattle.query_copies.specs.Same.{same_term}
 use Rattle.constraint_recheck.specs.Entails.{Tests, IsKnown, AreKnown, AreTests}
-use Rattle.constraint_recheck.proofs.Bools.{some}
-use Rattle.constraint_recheck.proofs.Same.{term_decides}
+use Rattle.query_copies.proofs.Bools.{some}
+use Rattle.query_copies.proofs.Same.{term_decides}
 use Rattle.constraint_recheck.proofs.Recheck.{link_known}
 use Rattle.constraint_laws.proofs.Links.{numbered_within}
 use Rattle.constraint_search.specs.Options.{Finds, first_of, fold_over}

@@ -12,11 +12,11 @@ use Rattle.constraint_spec.specs.declared.Constraint.TheVariants.{Reachable, Eac
 use Rattle.constraint_spec.specs.Placed.{PlacedLink, Mention, links_of, mentions_of}
 use Rattle.constraint_spec.specs.Use.{LinkUse}
 use Rattle.constraint_spec.specs.Certificate.{Certificate, IsOf, MayCarry, ShowsLinkTo, ShowsLink, LeadBack, ShowsReached, IsSingle, IsCertificate}
-use Rattle.constraint_recheck.specs.Same.{same_term}
+use Rattle.query_copies.specs.Same.{same_term}
 use Rattle.constraint_recheck.specs.Entails.{Tests, IsKnown, AreKnown, AreTests}
 use Rattle.constraint_recheck.specs.Recheck.{is_of, may_carry, single, determined, each_may}
-use Rattle.constraint_recheck.proofs.Bools.{never}
-use Rattle.constraint_recheck.proofs.Same.{name_decides, term_decides}
+use Rattle.query_copies.proofs.Bools.{never}
+use Rattle.query_copies.proofs.Same.{name_decides, term_decides}
 use Rattle.constraint_recheck.proofs.Links.{of_decides}
 use Rattle.constraint_recheck.proofs.Recheck.{mention_known, may_list_decides, one_decides}
 use Rattle.constraint_search.specs.Options.{Finds, for_each}

@@ -11,7 +11,7 @@ use Rattle.constraint_spec.specs.Use.{LinkUse}
 use Rattle.constraint_spec.specs.Certificate.{IsOf, IsUseFrom, ShowsLinkTo, ShowsLink}
 use Rattle.constraint_recheck.specs.Entails.{Tests, IsKnown, AreKnown, AreTests}
 use Rattle.constraint_recheck.specs.Recheck.{is_of, is_quoted}
-use Rattle.constraint_recheck.proofs.Bools.{both, always}
+use Rattle.query_copies.proofs.Bools.{both, always}
 use Rattle.constraint_recheck.proofs.Links.{of_decides, quoted_decides}
 use Rattle.constraint_recheck.proofs.Recheck.{link_known}
 use Rattle.constraint_laws.proofs.Links.{numbered_within}

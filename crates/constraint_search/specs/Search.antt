@@ -16,7 +16,7 @@ use Rattle.constraint_spec.specs.declared.Constraint.TheVariants.{One}
 use Rattle.constraint_spec.specs.Placed.{PlacedLink, Mention, links_of, mentions_of}
 use Rattle.constraint_spec.specs.Use.{rename_operand, rename, name_for, LinkUse}
 use Rattle.constraint_spec.specs.Certificate.{Certificate}
-use Rattle.constraint_recheck.specs.Same.{same_operand, same_term}
+use Rattle.query_copies.specs.Same.{same_operand, same_term}
 use Rattle.constraint_recheck.specs.Entails.{Tests, entails}
 use Rattle.constraint_recheck.specs.Recheck.{zip_all, same_sort, on_made, is_of, is_quoted}
 use Rattle.constraint_recheck.specs.Recheck.{may_carry, single, determined, each_may}

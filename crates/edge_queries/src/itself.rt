@@ -1,5 +1,4 @@
 // Values and names in ascending lists.
-ghost use Rattle.std.specs.Prelude.{◌≡◌, IfOk};
 ghost use Rattle.sd_value.specs.Order.{bytes_cmp, value_cmp};
 
 use list_lookup::Query;
@@ -49,26 +48,4 @@ impl<'a> Query<Str> for NameAt<'a> {
     fn give(&self, alloc: Global, item: &Str) -> Result<Str, NoMemory> {
         item.copy(alloc)
     }
-}
-
-/// Equal values.
-pub fn copy_values(alloc: Global, values: &[Value]) -> Result<Vec<Value>, NoMemory>
-    ensures { IfOk result (λ copied. copied.items ≡ values.now) }
-{
-    let mut copied = Vec::with_capacity(alloc, values.len())?;
-    for value in values {
-        copied.push(copy(alloc, value)?)?;
-    }
-    Ok(copied)
-}
-
-/// Equal names. They share their bytes.
-pub fn copy_names(alloc: Global, names: &[Str]) -> Result<Vec<Str>, NoMemory>
-    ensures { IfOk result (λ copied. copied.items ≡ names.now) }
-{
-    let mut copied = Vec::with_capacity(alloc, names.len())?;
-    for name in names {
-        copied.push(name.copy(alloc)?)?;
-    }
-    Ok(copied)
 }

@@ -12,8 +12,9 @@ mod itself;
 
 pub use contents::{all_labels, all_values};
 use graph_spec::{Edge, Member, Step};
-pub use itself::{NameAt, ValueAt, copy_names, copy_values};
+pub use itself::{NameAt, ValueAt};
 use list_lookup::Query;
+use sd_graph::Copied;
 use sd_value::{Datum, NoMemory, Str, Value, copy};
 use std::alloc::Global;
 use std::cmp::Ordering;
@@ -35,16 +36,6 @@ fn node_value(alloc: Global, name: &Str) -> Result<Value, NoMemory>
     ensures { IfOk result (λ value. value ≡ node name.now) }
 {
     Ok(Value::Data(Datum::Node(name.copy(alloc)?)))
-}
-
-fn edge_copy(alloc: Global, edge: &Edge) -> Result<Edge, NoMemory>
-    ensures { IfOk result (λ copied. copied ≡ edge.now) }
-{
-    Ok(Edge {
-        from: edge.from.copy(alloc)?,
-        label: edge.label.copy(alloc)?,
-        to: copy(alloc, &edge.to)?,
-    })
 }
 
 /// The edges from a value, as steps.
@@ -116,7 +107,7 @@ impl<'a> Query<Edge> for EdgeAt<'a> {
     }
 
     fn give(&self, alloc: Global, item: &Edge) -> Result<Edge, NoMemory> {
-        edge_copy(alloc, item)
+        item.copied(alloc)
     }
 }
 
@@ -186,7 +177,7 @@ impl<'a> Query<Edge> for Labelled<'a> {
     }
 
     fn give(&self, alloc: Global, item: &Edge) -> Result<Edge, NoMemory> {
-        edge_copy(alloc, item)
+        item.copied(alloc)
     }
 }
 

@@ -8,13 +8,13 @@ ghost use Rattle.query_spec.specs.Query.{compare, variable};
 ghost use Rattle.rpe.specs.Reading.{regex_of};
 ghost use Rattle.struql_ast.specs.Reading.{operand_of, condition_of};
 ghost use Rattle.constraint_spec.specs.Entailed.{turned};
-ghost use Rattle.constraint_recheck.specs.Same.{same_condition, same_operand, same_test};
+ghost use Rattle.query_copies.specs.Same.{same_condition, same_operand};
 ghost use Rattle.query_spec.specs.declared.Test.TheVariants.{IsText};
 ghost use Rattle.constraint_recheck.specs.Entails.{Tests, twins, equal, among, without_twin, has_kind as kind_of};
 ghost use Rattle.constraint_recheck.specs.Entails.{contains, below, stricter, narrower, on_constant, fixes, fewer};
 ghost use Rattle.constraint_recheck.specs.Entails.{follows, plainly, negates, follows_turned, entails};
 
-use crate::{number_of_op, number_of_test, same_conditions, same_operands};
+use query_copies::{same_conditions, same_operands, same_ops, same_tests};
 use query_spec::{Op, Test};
 use rpe::Rpe;
 use sd_value::{Datum, Str, Value};
@@ -57,10 +57,7 @@ fn is_compare(condition: &Condition, one: &Operand, by: Op, other: &Operand) -> 
             op,
             right,
             span: _,
-        } => {
-            same_operands(left, one)
-                && (number_of_op(*op) == number_of_op(by) && same_operands(right, other))
-        }
+        } => same_operands(left, one) && (same_ops(*op, by) && same_operands(right, other)),
         _ => false,
     }
 }
@@ -211,7 +208,7 @@ fn fixes_among<J: Judge>(
             right,
             span: _,
         } => {
-            number_of_op(*op) == number_of_op(Op::Eq)
+            same_ops(*op, Op::Eq)
                 && ((same_operands(left, operand)
                     && is_constant_among(judge, version, values, right))
                     || (same_operands(right, operand)
@@ -249,7 +246,7 @@ fn fixes_kind<J: Judge>(
             right,
             span: _,
         } => {
-            number_of_op(*op) == number_of_op(Op::Eq)
+            same_ops(*op, Op::Eq)
                 && ((is_variable(left, name) && is_constant_of(judge, version, test, right))
                     || (is_variable(right, name) && is_constant_of(judge, version, test, left)))
         }
@@ -488,7 +485,7 @@ fn follows_from<J: Judge>(
             right,
             ..
         } => {
-            (number_of_op(*op) == number_of_op(Op::Eq) && same_operands(left, right))
+            (same_ops(*op, Op::Eq) && same_operands(left, right))
                 || (has_compare(conditions, right, turned_op(*op), left)
                     || is_stricter(conditions, left, *op, right))
         }
@@ -503,7 +500,7 @@ fn follows_from<J: Judge>(
             ..
         } => {
             has_known_kind(judge, version, conditions, *test, x)
-                || (number_of_test(*test) == number_of_test(Test::IsText) && is_arc(conditions, x))
+                || (same_tests(*test, Test::IsText) && is_arc(conditions, x))
         }
         Condition::Member { .. } => false,
         Condition::Not(_, _) => false,

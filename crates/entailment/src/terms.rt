@@ -1,35 +1,12 @@
-// Whether terms are the same, their places aside.
+// What a term is, its places aside.
 
 ghost use Rattle.std.specs.Prelude.{◌≡◌, [], map};
 ghost use Rattle.struql_ast.specs.Reading.{operand_of, term_of, target_of};
-ghost use Rattle.constraint_recheck.specs.Same.{same_list, same_operand, same_term};
+ghost use Rattle.query_copies.specs.Same.{same_list, same_operand, same_term};
 ghost use Rattle.constraint_recheck.specs.Recheck.{is_of as ends_in};
 
-use crate::same_operands;
 use sd_value::Str;
 use struql_ast::{Operand, SkolemTerm, Target};
-
-fn same_args(args: &[Operand], others: &[Operand]) -> bool
-    ensures { result
-        ≡ same_list same_operand (map operand_of args.now) (map operand_of others.now) }
-{
-    if args.len() != others.len() {
-        return false;
-    }
-    for (place, arg) in args.iter().enumerate() {
-        if !same_operands(arg, &others[place]) {
-            return false;
-        }
-    }
-    true
-}
-
-/// Whether two terms are the same.
-pub fn same_terms(one: &SkolemTerm, other: &SkolemTerm) -> bool
-    ensures { result ≡ same_term (term_of one.now) (term_of other.now) }
-{
-    one.function == other.function && same_args(&one.args, &other.args)
-}
 
 fn are_none(args: &[Operand]) -> bool
     ensures { result ≡ same_list same_operand (map operand_of args.now) [] }

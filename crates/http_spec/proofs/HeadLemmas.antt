@@ -9,7 +9,7 @@ use Rattle.httparse.specs.Grammar.{LineEnd, crlf, lf, print_end, print_blank, pr
 use Rattle.httparse.specs.Grammar.{IsToken, is_token_byte}
 use Rattle.httparse.proofs.PieceLemmas.{token_is_no_newline}
 use Rattle.httparse.proofs.GrammarLemmas.{request_unique, print_request-append}
-use Rattle.http_spec.specs.Heads.{max_head, IsHead, ReadsHead, HasNoHead, CannotBecomeHead, Cuts, print_heads, is_line_end_byte}
+use Rattle.http_spec.specs.Heads.{max_head, IsHead, HasNoHead, CannotBecomeHead, Cuts, print_heads, is_line_end_byte}
 
 -- a line end has a line feed last
 pub end_last : (e : LineEnd) → (front : List ℕ) × (print_end e ≡ front ++ 10 ∷ [])
@@ -77,10 +77,6 @@ doomed_more bytes more doomed = record {
   no_head = λ next h head e. doomed.no_head (more ++ next) h head (sym (append_assoc bytes more next) ∙ e);
   no_line_ends = λ next ends. doomed.no_line_ends (more ++ next) (ends.0, sym (append_assoc bytes more next) ∙ ends.1);
 }
-
--- a head at the front of the bytes, with one rest
-pub reads_unique : (bytes : List ℕ) (h k : RequestHead) (r q : List ℕ) → ReadsHead bytes h r → ReadsHead bytes k q → (h ≡ k) × (r ≡ q)
-reads_unique bytes h k r q x y = request_unique bytes h k r q (x.head.valid, x.whole) (y.head.valid, y.whole)
 
 -- the bytes are cut in one way
 cut_once : (bytes : List ℕ) (hs ks : List RequestHead) (r q : List ℕ)

@@ -113,10 +113,3 @@ module _ {D : Type 0} (page : D → OutcomeAt) (limit : ℕ) where
   HasAnswer stream ended standing replies =
       Answers stream ended standing replies
       ⊎ ((standing ≡ Short) × (replies ≡ no_memory_bytes ∷ []))
-
--- the server shuts the connection after these replies
-abbrev pub is_shut : Standing → Bool
-is_shut Open = false
-is_shut Closed = true
-is_shut Short = true
-is_shut Lost = false

@@ -78,9 +78,6 @@ has_skip P p mask below off i = (
 abbrev pub ReachBelow : List ℕ → ℕ → ℕ → ℕ → Type 0
 ReachBelow next set p reach = (i : ℕ) → Bit reach i ↔ ((r : ℕ) × (r < p) × Bit set r × Bit (slice_index next r) i)
 
-pub reach_none : (next : List ℕ) (set : ℕ) → ReachBelow next set 0 0
-reach_none next set i = (λ h. absurd (none_in_zero i h), λ k. absurd (omega (arith, k.1)))
-
 pub reach_turn : (next : List ℕ) (set p reach here : ℕ) → ReachBelow next set p reach → here ≡ slice_index next p → Bit set p
     → ReachBelow next set (p + 1) (bit_or reach here)
 reach_turn next set p reach here below e on i = (to, from)

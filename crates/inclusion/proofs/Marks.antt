@@ -1,9 +1,8 @@
 -- Marks of pairs, and lists that grow by a pair.
-use Rattle.std.proofs.Common.{◌≡◌, ℕ, zero, suc, ◌+◌, ◌*◌, ◌<◌, ◌≤◌, Bool, true, false, cond, List, [], ◌∷◌, ◌++◌, length, ◌⊎◌, inl, inr, refl, sym, ◌∙◌, ap, subst, arith, get_or, set, length-set, get_or-set_other, append_assoc}
+use Rattle.std.proofs.Common.{◌≡◌, ℕ, ◌+◌, ◌*◌, ◌<◌, ◌≤◌, Bool, true, false, List, [], ◌∷◌, ◌++◌, length, ◌⊎◌, inl, inr, refl, sym, ◌∙◌, ap, subst, arith, get_or, set, get_or-set_other, append_assoc}
 use Rattle.std.specs.Prelude.{Contains, slice_index, bit_and}
 use Rattle.std.proofs.Math.Nat.{mul-le-mul_right}
-use Rattle.std.proofs.lemmas.List.{append-nil, length_push}
-use Rattle.std.proofs.lemmas.List.Sums.{sum_by-set}
+use Rattle.std.proofs.lemmas.List.{append-nil}
 use Rattle.std.proofs.lemmas.List.Elements.{Contains-append_left, Contains-append_cases, Contains-push}
 use Rattle.automaton.proofs.Sets.{same_or_not}
 use Rattle.inclusion.specs.declared.search.Pair.{Pair}
@@ -93,27 +92,8 @@ module _ (width : ℕ) (marks : List Bool) (order : List Pair) (pair : Pair) whe
         Contains-append_left order (pair ∷ []) (made p s) (listed p s f (sym other ∙ e))
   ]
 
-  pub grows_push : place < length marks → get_or marks place false ≡ false
-      → Grows (λ x. x ≡ pair) marks (set marks place true) order (order ++ pair ∷ [])
-  grows_push within off =
-      let now = sum_by-set (λ (m : Bool). cond m 0 1) marks place true false within in
-      let was : ◌≡◌ {A = ℕ} (cond (get_or marks place false) 0 1) 1 = rw off in
-      let len = length_push order pair in
-      record {
-        more = (pair ∷ [], refl, λ x h. only x h);
-        size = length-set marks place true;
-        left = omega arith;
-      }
-    where
-      only : (x : Pair) → Contains (pair ∷ []) x → x ≡ pair
-      only x (zero, small, e) = sym e
-      only x (suc k, small, e) = absurd (omega arith)
-
   pub has_pushed : HasEach (λ x. x ≡ pair) (order ++ pair ∷ [])
   has_pushed x e = subst (λ y. Contains (order ++ pair ∷ []) y) (sym e) (Contains-push order pair)
-
-  pub has_marked : pair.set < width → AreListed width marks order → get_or marks place false ≡ true → HasEach (λ x. x ≡ pair) order
-  has_marked small listed on x e = subst (λ y. Contains order y) (sym e) (listed pair.position pair.set small on)
 
 -- ---- the pairs of a set of positions
 

@@ -1,6 +1,6 @@
 // What is asked of an expression itself.
 
-ghost use Rattle.std.specs.Prelude.{◌≡◌, ℕ, ◌<◌, ◌≤◌, ◌↔◌, IsTrue, IfOk, min, length};
+ghost use Rattle.std.specs.Prelude.{◌≡◌, ◌<◌, ◌≤◌, ◌↔◌, IsTrue, IfOk, min, length};
 ghost use Rattle.rpe.specs.Regex.{Word};
 ghost use Rattle.rpe.specs.Language.{InLanguage, positions};
 ghost use Rattle.rpe.specs.Reading.{regex_of};
@@ -31,38 +31,6 @@ pub fn is_searched(expression: &Rpe) -> bool
     ensures { IsTrue result ↔ (positions (regex_of expression.now) ≤ 16) }
 {
     count_positions(expression) <= MAX_SEARCHED
-}
-
-/// Whether the two are one expression.
-pub fn same(a: &Rpe, b: &Rpe) -> bool
-    ensures { IsTrue result ↔ (regex_of a.now ≡ regex_of b.now) }
-{
-    match a {
-        Rpe::Label(k) => match b {
-            Rpe::Label(l) => k.bytes() == l.bytes(),
-            _ => false,
-        },
-        Rpe::Any => match b {
-            Rpe::Any => true,
-            _ => false,
-        },
-        Rpe::Empty => match b {
-            Rpe::Empty => true,
-            _ => false,
-        },
-        Rpe::Seq(one, other) => match b {
-            Rpe::Seq(third, fourth) => same(one, third) && same(other, fourth),
-            _ => false,
-        },
-        Rpe::Alt(one, other) => match b {
-            Rpe::Alt(third, fourth) => same(one, third) && same(other, fourth),
-            _ => false,
-        },
-        Rpe::Star(one) => match b {
-            Rpe::Star(other) => same(one, other),
-            _ => false,
-        },
-    }
 }
 
 /// The automaton of an expression with few positions.

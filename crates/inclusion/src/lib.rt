@@ -16,8 +16,9 @@ ghost use Rattle.rpe.specs.Reading.{regex_of};
 ghost use Rattle.constraint_spec.specs.Entailed.{IsIncluded};
 ghost use Rattle.inclusion.specs.Inclusion.{HasEachWord};
 
-use expressions::{automaton_of, same};
+use expressions::automaton_of;
 pub use expressions::{MAX_SEARCHED, is_searched};
+use query_copies::same_rpe;
 use rpe::Rpe;
 use sd_value::{NoMemory, Str};
 use std::alloc::Global;
@@ -28,7 +29,7 @@ pub fn included(alloc: Global, a: &Rpe, b: &Rpe) -> Result<bool, NoMemory>
     ensures { IfOk result (λ yes. IsTrue yes ↔ IsIncluded (regex_of a.now) (regex_of b.now)) }
 {
     if !is_searched(a) || !is_searched(b) {
-        return Ok(same(a, b));
+        return Ok(same_rpe(a, b));
     }
     let missing = missing_word(alloc, a, b)?;
     Ok(missing.is_none())

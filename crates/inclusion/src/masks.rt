@@ -1,7 +1,7 @@
 // The tables of a second automaton as sets of its positions, one bit for each, against those of a
 // first one.
 
-ghost use Rattle.std.specs.Prelude.{◌≡◌, ℕ, ◌+◌, ◌^◌, ◌<◌, ◌≤◌, ◌↔◌, IsTrue, IfOk, length, slice_index};
+ghost use Rattle.std.specs.Prelude.{◌≡◌, ℕ, ◌^◌, ◌<◌, ◌≤◌, ◌↔◌, IsTrue, IfOk, length, slice_index};
 ghost use Rattle.std.specs.Option.{option_copied};
 ghost use Rattle.automaton.specs.PositionSet.{Has};
 ghost use Rattle.automaton.specs.Table.{row};

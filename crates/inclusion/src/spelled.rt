@@ -1,6 +1,6 @@
 // A word that the search found, by the pairs that led to its end.
 
-ghost use Rattle.std.specs.Prelude.{◌≡◌, ℕ, ◌<◌, ◌≤◌, IfOk, MatchOption, Option, Some, length, slice_get};
+ghost use Rattle.std.specs.Prelude.{◌≡◌, ◌<◌, IfOk, Option, Some, length, slice_get};
 ghost use Rattle.rpe.specs.Regex.{Label};
 ghost use Rattle.automaton.specs.Table.{HasWord};
 ghost use Rattle.inclusion.specs.Spelled.{IsUnnamed, filled, IsTrail};

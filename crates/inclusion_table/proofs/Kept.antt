@@ -3,7 +3,7 @@ use Rattle.std.proofs.Common.{◌≡◌, List, [], ◌∷◌, ◌++◌, refl, sy
 use Rattle.std.specs.Prelude.{Bool, true, false, ◌||◌, map, All, Contains}
 use Rattle.std.specs.List.{list_any}
 use Rattle.std.proofs.lemmas.List.{map-append, take_all}
-use Rattle.std.proofs.lemmas.List.Elements.{Contains-append_left, Contains-push, All-weaker, All-more, All-map, All-contains}
+use Rattle.std.proofs.lemmas.List.Elements.{Contains-push, All-weaker, All-more, All-map, All-contains}
 use Rattle.sd_value.specs.Members.{Contains-here, Contains-there}
 use Rattle.rpe.specs.declared.Rpe.{Rpe}
 use Rattle.rpe.specs.Regex.{Regex}
@@ -11,9 +11,9 @@ use Rattle.rpe.specs.Reading.{regex_of}
 use Rattle.query_spec.specs.Query.{Condition, member, path, compare, one_of, kind, negation, arc_variable, expression, Body}
 use Rattle.query_blocks.specs.declared.QueryBlocks.{QueryBlocks}
 use Rattle.query_blocks.specs.Blocks.{body_of, scope_of}
-use Rattle.constraint_recheck.specs.Same.{same_regex}
+use Rattle.query_copies.specs.Same.{same_regex}
 use Rattle.constraint_recheck.specs.Entails.{IsKnown, AreKnown}
-use Rattle.constraint_recheck.proofs.Same.{regex_decides}
+use Rattle.query_copies.proofs.Same.{regex_decides}
 use Rattle.inclusion_table.specs.Known.{Keeps, IsKnownBody, AreKnownBlocks}
 
 by_test : (all : List Rpe) (e : Rpe) (r : Regex) (b rest : Bool) → (b ≡ true → regex_of e ≡ r) → (rest ≡ true → Contains (map regex_of all) r) → (b || rest) ≡ true → Contains (regex_of e ∷ map regex_of all) r
@@ -27,10 +27,6 @@ found_there (e ∷ all) r h = by_test all e r (same_regex (regex_of e) r) (list_
 -- an expression that a scan finds is there
 pub found_scanned : (all scanned : List Rpe) (r : Regex) (b : Bool) → scanned ≡ all → b ≡ list_any (λ e. same_regex (regex_of e) r) scanned → b ≡ true → Contains (map regex_of all) r
 found_scanned all scanned r b same is t = found_there all r (subst (λ l. list_any (λ e. same_regex (regex_of e) r) l ≡ true) same (sym is ∙ t))
-
--- a list with one expression more at its end
-pub keeps_pushed : (all : List Rpe) (e : Rpe) → Keeps all (all ++ e ∷ [])
-keeps_pushed all e = λ r h. subst (λ l. Contains l r) (sym (map-append regex_of all (e ∷ []))) (Contains-append_left (map regex_of all) (regex_of e ∷ []) r h)
 
 pub has_pushed : (all : List Rpe) (e : Rpe) (r : Regex) → regex_of e ≡ r → Contains (map regex_of (all ++ e ∷ [])) r
 has_pushed all e r is = subst (λ l. Contains l r) (sym (map-append regex_of all (e ∷ []))) (subst (Contains (map regex_of all ++ regex_of e ∷ [])) is (Contains-push (map regex_of all) (regex_of e)))

@@ -20,9 +20,9 @@ use Rattle.sd_value.specs.declared.Value.TheVariants.{Data, Page}
 use Rattle.sd_value.specs.Names.{Name}
 use Rattle.query_spec.specs.Mentions.{same_name}
 use Rattle.query_spec.specs.Holds.{AreTwins, IsTwinOf}
-use Rattle.constraint_recheck.specs.Same.{same_value, same_list}
-use Rattle.constraint_recheck.proofs.Bools.{never, as_well, both}
-use Rattle.constraint_recheck.proofs.Same.{name_decides, value_decides, list_decides}
+use Rattle.query_copies.specs.Same.{same_value, same_list}
+use Rattle.query_copies.proofs.Bools.{never, as_well, both}
+use Rattle.query_copies.proofs.Same.{name_decides, value_decides, list_decides}
 use Rattle.inclusion_table.specs.Spelled.{IsShort, is_short, spells, has_twin}
 
 -- ---- numbers of 64 bits

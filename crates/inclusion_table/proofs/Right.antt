@@ -15,9 +15,9 @@ use Rattle.rpe.specs.Regex.{Label, Word, Regex, label, any, empty, seq, alt, sta
 use Rattle.rpe.specs.Language.{InLanguage}
 use Rattle.rpe.specs.Reading.{regex_of}
 use Rattle.constraint_spec.specs.Entailed.{IsIncluded}
-use Rattle.constraint_recheck.specs.Same.{same_regex}
-use Rattle.constraint_recheck.proofs.Bools.{never, always, as_well, both, either}
-use Rattle.constraint_recheck.proofs.Same.{name_decides, regex_decides}
+use Rattle.query_copies.specs.Same.{same_regex}
+use Rattle.query_copies.proofs.Bools.{never, always, as_well, both, either}
+use Rattle.query_copies.proofs.Same.{name_decides, regex_decides}
 use Rattle.query_spec.specs.Mentions.{same_name}
 use Rattle.inclusion_table.specs.Answers.{IsRow, number_of, bit_in, bit_at, has_empty}
 

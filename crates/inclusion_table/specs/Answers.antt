@@ -10,7 +10,7 @@ use Rattle.rpe.specs.Reading.{regex_of}
 use Rattle.query_spec.specs.Mentions.{same_name}
 use Rattle.site_spec.specs.Site.{Scope}
 use Rattle.constraint_spec.specs.Entailed.{IsIncluded}
-use Rattle.constraint_recheck.specs.Same.{same_regex}
+use Rattle.query_copies.specs.Same.{same_regex}
 use Rattle.constraint_recheck.specs.Entails.{Tests, AreTests, AreKnown}
 use Rattle.inclusion_table.specs.Spelled.{spells, has_twin}
 use Rattle.inclusion_table.specs.declared.table.Inclusions.{Inclusions}

@@ -7,13 +7,12 @@ ghost use Rattle.rpe.specs.Reading.{regex_of};
 ghost use Rattle.query_spec.specs.Query.{Body};
 ghost use Rattle.struql_ast.specs.Reading.{condition_of};
 ghost use Rattle.query_blocks.specs.Blocks.{body_of};
-ghost use Rattle.constraint_recheck.specs.Same.{same_regex};
+ghost use Rattle.query_copies.specs.Same.{same_regex};
 ghost use Rattle.constraint_recheck.specs.Entails.{IsKnown};
 ghost use Rattle.inclusion_table.specs.Known.{Keeps, AreKnownBlocks};
 
-use entailment::same_rpe;
 use query_blocks::QueryBlock;
-use query_copies::copied_rpe;
+use query_copies::{copied_rpe, same_rpe};
 use rpe::Rpe;
 use sd_value::NoMemory;
 use std::alloc::Global;

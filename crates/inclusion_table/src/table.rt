@@ -9,9 +9,10 @@ ghost use Rattle.inclusion_table.specs.Answers.{has_empty, tests_of, IsTableOf};
 
 use crate::expressions::expressions_of;
 use crate::twins::{has_twin, spells};
-use entailment::{Judge, same_rpe};
+use entailment::Judge;
 use inclusion::included;
 use query_blocks::QueryBlocks;
+use query_copies::same_rpe;
 use rpe::Rpe;
 use sd_value::{Datum, NoMemory, Value};
 use std::alloc::Global;

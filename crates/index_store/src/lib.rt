@@ -26,11 +26,9 @@ use crate::slots::Slots;
 use crate::spans::{
     Span, collections_of, in_span, spans_collected, spans_from, spans_labelled, spans_to,
 };
-use edge_queries::{
-    EdgeAt, Incoming, IncomingBy, Labelled, Members, NameAt, Out, OutAll, copy_names,
-};
+use edge_queries::{EdgeAt, Incoming, IncomingBy, Labelled, Members, NameAt, Out, OutAll};
 use list_lookup::{first, give_all, has, part};
-use sd_graph::{Edge, Graph, Member, Sizes, Step, Store};
+use sd_graph::{Edge, Graph, Member, Sizes, Step, Store, copied_list};
 use sd_value::{Datum, NoMemory, Str, Value, copy};
 use std::alloc::Global;
 use std::marker::Model;
@@ -287,7 +285,7 @@ impl Store for IndexStore {
     }
 
     fn labels(&self, alloc: Global) -> Result<Vec<Str>, NoMemory> {
-        copy_names(alloc, self.labels.as_slice())
+        copied_list(alloc, self.labels.as_slice())
     }
 
     fn has_edge(&self, from: &Value, label: &Str, to: &Value) -> bool {

@@ -1,13 +1,13 @@
 -- How the search goes on with one name more.
 use Rattle.std.proofs.Common.{◌≡◌, ℕ, suc, ◌-◌, ◌<◌, ◌≤◌, List, [], ◌∷◌, ◌++◌, length, take, drop, get_or, refl, ap, sym, ◌∙◌, arith}
 use Rattle.std.proofs.lemmas.List.{take_all}
-use Rattle.std.specs.Prelude.{Bool, true, false, ◌&&◌, if◌then◌else◌, Option, Some, None}
+use Rattle.std.specs.Prelude.{Bool, true, ◌&&◌, if◌then◌else◌, Option, Some, None}
 use Rattle.sd_value.specs.Names.{Name}
 use Rattle.query_spec.specs.declared.Variable.{Variable}
 use Rattle.constraint_recheck.specs.Recheck.{same_sort}
 use Rattle.constraint_search.specs.Options.{first_of}
 use Rattle.constraint_search.specs.Search.{extend}
-use Rattle.link_uses.proofs.Steps.{and_false, first_some}
+use Rattle.link_uses.proofs.Steps.{first_some}
 
 -- what is found where the variable v is mapped to w
 abbrev pub extend_by : (List Name → Bool) → List Variable → List Variable → Variable → List Name → Variable → Option (List Name)
@@ -19,13 +19,6 @@ pub extend_first : (test : List Name → Bool) (targets left : List Variable) (v
 extend_first test targets left v ys = refl
 
 module _ (test : List Name → Bool) (targets left : List Variable) (v : Variable) (ys : List Name) (w : Variable) where
-  pub by_other_sort : same_sort w.arc v.arc ≡ false → extend_by test targets left v ys w ≡ None
-  by_other_sort e = ap (λ b. if b && test (ys ++ w.name ∷ []) then extend test targets left (ys ++ w.name ∷ []) else None) e
-
-  pub by_failed : test (ys ++ w.name ∷ []) ≡ false → extend_by test targets left v ys w ≡ None
-  by_failed e =
-      ap (λ b. if b then extend test targets left (ys ++ w.name ∷ []) else None) (and_false (same_sort w.arc v.arc) (test (ys ++ w.name ∷ [])) e)
-
   pub by_passed : same_sort w.arc v.arc ≡ true → test (ys ++ w.name ∷ []) ≡ true → extend_by test targets left v ys w ≡ extend test targets left (ys ++ w.name ∷ [])
   by_passed e p =
       ap (λ b. if b && test (ys ++ w.name ∷ []) then extend test targets left (ys ++ w.name ∷ []) else None) e

@@ -53,11 +53,3 @@ zip_true f g h xs ys i x y lt lu at au e =
     ap (λ zs. zip_all f (map g zs) (map h (drop i ys))) (dropped xs i x lt at)
     ∙ ap (λ zs. zip_all f (map g (x ∷ drop (i + 1) xs)) (map h zs)) (dropped ys i y lu au)
     ∙ ap (λ b. b && zip_all f (map g (drop (i + 1) xs)) (map h (drop (i + 1) ys))) e
-
--- lists of two lengths
-pub zip_uneven : {X Y A B : Type 0} (f : A → B → Bool) (g : X → A) (h : Y → B) (xs : List X) (ys : List Y)
-    → (length xs ≡ length ys → ⊥) → zip_all f (map g xs) (map h ys) ≡ false
-zip_uneven f g h [] [] ne = absurd (ne refl)
-zip_uneven f g h [] (y ∷ ys) ne = refl
-zip_uneven f g h (x ∷ xs) [] ne = refl
-zip_uneven f g h (x ∷ xs) (y ∷ ys) ne = and_false (f (g x) (h y)) (zip_all f (map g xs) (map h ys)) (zip_uneven f g h xs ys (λ e. ne (ap suc e)))

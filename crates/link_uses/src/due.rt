@@ -6,7 +6,7 @@ ghost use Rattle.struql_ast.specs.Reading.{operand_of, condition_of, term_of, ta
 ghost use Rattle.query_spec.specs.Mentions.{operand_names, names as names_of};
 ghost use Rattle.constraint_spec.specs.Use.{rename_operand};
 ghost use Rattle.constraint_spec.specs.Use.{name_for as mapped_name};
-ghost use Rattle.constraint_recheck.specs.Same.{same_operand};
+ghost use Rattle.query_copies.specs.Same.{same_operand};
 ghost use Rattle.constraint_recheck.specs.Recheck.{zip_all};
 ghost use Rattle.constraint_search.specs.Search.{due_arg, due_same, ends_fit, due_condition};
 ghost use Rattle.constraint_search.specs.Search.{depth as depth_of, may_go_on};

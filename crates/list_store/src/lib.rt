@@ -8,10 +8,9 @@ mod contents;
 use contents::{labels_of, values_of};
 use edge_queries::{
     EdgeAt, Incoming, IncomingBy, Labelled, MemberAt, Members, NameAt, Out, OutAll, ValueAt,
-    copy_names, copy_values,
 };
 use list_lookup::{any, count, first, has, scan};
-use sd_graph::{Edge, Graph, Sizes, Step, Store};
+use sd_graph::{Edge, Graph, Sizes, Step, Store, copied_list};
 use sd_value::{NoMemory, Str, Value, sort_and_dedup};
 use std::alloc::Global;
 use std::marker::Model;
@@ -94,11 +93,11 @@ impl Store for ListStore {
     }
 
     fn values(&self, alloc: Global) -> Result<Vec<Value>, NoMemory> {
-        copy_values(alloc, self.values.as_slice())
+        copied_list(alloc, self.values.as_slice())
     }
 
     fn labels(&self, alloc: Global) -> Result<Vec<Str>, NoMemory> {
-        copy_names(alloc, self.labels.as_slice())
+        copied_list(alloc, self.labels.as_slice())
     }
 
     fn has_edge(&self, from: &Value, label: &Str, to: &Value) -> bool {
@@ -192,6 +191,6 @@ impl Store for ListStore {
     }
 
     fn first_values(&self, alloc: Global, most: usize) -> Result<Vec<Value>, NoMemory> {
-        copy_values(alloc, first(self.values.as_slice(), most))
+        copied_list(alloc, first(self.values.as_slice(), most))
     }
 }

@@ -10,9 +10,9 @@ ghost use Rattle.graph_spec.specs.DataGraph.{node};
 ghost use Rattle.graph_spec.specs.Orders.{edge_cmp};
 ghost use Rattle.live_layers.specs.Grouped.{elements, node_name, AreOrders, AreNear};
 
-use crate::copied::Copied;
 use crate::orders::Orders;
 use graph_spec::Edge;
+use sd_graph::Copied;
 use sd_value::{Datum, NoMemory, Str, Value};
 use std::alloc::Global;
 use std::collections::BTreeSet;

@@ -1,7 +1,6 @@
 //! What came to a graph, or went from it: sets in order that take one change at a time.
 #![tactic(auto)]
 
-mod copied;
 mod edges;
 mod groups;
 mod layer;

@@ -10,9 +10,9 @@ ghost use Rattle.graph_spec.specs.declared.Member.{Member as AnyMember};
 ghost use Rattle.graph_spec.specs.Orders.{member_cmp};
 ghost use Rattle.live_layers.specs.Grouped.{elements, IsGrouped, IsNear};
 
-use crate::copied::Copied;
 use crate::groups::Groups;
 use graph_spec::Member;
+use sd_graph::Copied;
 use sd_value::{NoMemory, Str};
 use std::alloc::Global;
 use std::collections::BTreeSet;

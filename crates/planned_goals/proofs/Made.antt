@@ -159,9 +159,6 @@ chain_ready c written e w = record {
       });
 }
 
-pub written_length : (c : Chain) (written : List Written) → map condition_of written ≡ c.conditions → length written ≡ length c.conditions
-written_length c written e = sym (length_map condition_of written) ∙ ap length e
-
 pub length_push : {X : Type 0} (xs : List X) (x : X) → length (xs ++ x ∷ []) ≡ length xs + 1
 length_push [] x = refl
 length_push (y ∷ xs) x = omega (arith, length_push xs x)

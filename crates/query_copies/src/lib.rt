@@ -1,4 +1,4 @@
-//! Equal parts of queries.
+//! Equal parts of queries: copies, and whether two parts are the same.
 #![tactic(auto)]
 
 ghost use Rattle.std.specs.Prelude.{◌≡◌, ◌++◌, IfOk, map};
@@ -14,6 +14,12 @@ use sd_value::{NoMemory, Str, Value};
 use std::alloc::Global;
 use struql_ast::{
     Collect, Condition, Constants, Link, LinkLabel, Operand, PathStep, SkolemTerm, Target,
+};
+
+mod equality;
+
+pub use equality::{
+    same_conditions, same_operands, same_ops, same_rpe, same_steps, same_terms, same_tests,
 };
 
 /// An equal operand.

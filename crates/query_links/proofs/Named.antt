@@ -4,7 +4,7 @@ use Rattle.std.specs.Prelude.{Bool, true, false, cond, map, filter}
 use Rattle.std.specs.Borrow.{Bor}
 use Rattle.std.specs.List.{flat_map}
 use Rattle.std.proofs.lemmas.List.{map-append}
-use Rattle.std.proofs.lemmas.List.Elements.{filter-append, All-push}
+use Rattle.std.proofs.lemmas.List.Elements.{All-push}
 use Rattle.sd_value.specs.Names.{Name}
 use Rattle.query_spec.specs.Mentions.{same_name, chain_of}
 use Rattle.query_spec.specs.Query.{Condition, SkolemTerm as PlainTerm, Collect as PlainCollect}
@@ -32,9 +32,6 @@ module _ (f : Name) where
 
   pub collects_named : (collects : List Collect) → flat_map (λ c. of_function f (target_terms (collect_of c).target)) collects ≡ of_function f (flat_map (λ c. target_terms c.target) (map collect_of collects))
   collects_named collects = sym (ap (filter Is) (flat_mapped (λ (c : PlainCollect). target_terms c.target) collect_of collects) ∙ kept_flat Is (λ c. target_terms (collect_of c).target) collects)
-
-  pub joined_named : (a b c : List PlainTerm) → (of_function f a ++ of_function f b) ++ of_function f c ≡ of_function f ((a ++ b) ++ c)
-  joined_named a b c = sym (filter-append Is (a ++ b) c ∙ ap (λ l. l ++ of_function f c) (filter-append Is a b))
 
   kept_under : (conditions : List Condition) (b : Bool) (t : PlainTerm) (kept : List PlainTerm) (rest : List PlainMention) → map (mention_under conditions) kept ≡ rest → map (mention_under conditions) (cond b (t ∷ kept) kept) ≡ cond b (mention_under conditions t ∷ rest) rest
   kept_under conditions true t kept rest e = ap (λ l. mention_under conditions t ∷ l) e

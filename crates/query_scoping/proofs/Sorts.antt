@@ -79,9 +79,6 @@ sound_step round own s never = record {
       (Contains-append_cases (joined round) own m (subst (λ (ms : List Mention). Contains ms m) (joined_push round own) h));
 }
 
-pub sound_none : IsSound []
-sound_none = record { ends = λ m h role. absurd (Contains-nil m h); arcs = λ m h role. absurd (Contains-nil m h) }
-
 -- a variable that has a sort is mentioned
 pub sorted_in : (round : List (List Mention)) (x : Name) → (sort_of round x ≡ None → ⊥) → is_in (joined round) x ≡ true
 sorted_in [] x n = absurd (n refl)

@@ -6,7 +6,7 @@ ghost use Rattle.std.specs.List.Sorted.{IsStrictlySortedBy};
 ghost use Rattle.sd_value.specs.Ascending.{ListsExactly};
 ghost use Rattle.sd_graph.specs.Gathered.{elements, insert_all, IsInOrder, IsSettled};
 
-use crate::element::Element;
+use crate::copied::{Copied, copied_list};
 use sd_value::NoMemory;
 use std::alloc::Global;
 use std::collections::BTreeSet;
@@ -25,7 +25,7 @@ pub(crate) struct Gathered<K: Ord> {
 
 // Where a new element goes, so that those which come together are in order: behind the last element near the end that
 // isn't above it. Where there is none it begins a new run at the end.
-fn place<K: Element>(items: &[K], key: &K) -> usize
+fn place<K: Copied>(items: &[K], key: &K) -> usize
     ensures { result ≤ length items.now }
 {
     let nearest = items.len().saturating_sub(NEAR);
@@ -40,7 +40,7 @@ fn place<K: Element>(items: &[K], key: &K) -> usize
 }
 
 // The elements of a list, ascending, each once.
-fn ascending<K: Element>(items: Vec<K>) -> Result<Vec<K>, NoMemory>
+fn ascending<K: Copied>(items: Vec<K>) -> Result<Vec<K>, NoMemory>
     ensures { IfOk result (λ list. ListsExactly K.cmp (Contains items.items) list.items) }
 {
     let mut list = items;
@@ -50,7 +50,7 @@ fn ascending<K: Element>(items: Vec<K>) -> Result<Vec<K>, NoMemory>
 }
 
 // The elements of a set, ascending.
-fn listed<K: Element>(alloc: Global, set: BTreeSet<K>) -> Result<Vec<K>, NoMemory>
+fn listed<K: Copied>(alloc: Global, set: BTreeSet<K>) -> Result<Vec<K>, NoMemory>
     ensures { IfOk result (λ items. items.items ≡ set.keys) }
 {
     let mut items = Vec::with_capacity(alloc, set.len())?;
@@ -61,7 +61,7 @@ fn listed<K: Element>(alloc: Global, set: BTreeSet<K>) -> Result<Vec<K>, NoMemor
 }
 
 // Inserts copies of these elements, on `Err` some of them.
-fn insert_copies<K: Element>(
+fn insert_copies<K: Copied>(
     alloc: Global,
     ordered: &mut BTreeSet<K>,
     fresh: &[K],
@@ -77,18 +77,8 @@ fn insert_copies<K: Element>(
     Ok(())
 }
 
-fn copied_list<K: Element>(alloc: Global, items: &[K]) -> Result<Vec<K>, NoMemory>
-    ensures { IfOk result (λ copied. copied.items ≡ items.now) }
-{
-    let mut copied = Vec::with_capacity(alloc, items.len())?;
-    for item in items {
-        copied.push(item.copied(alloc)?)?;
-    }
-    Ok(copied)
-}
-
 // An equal set.
-fn copied<K: Element>(alloc: Global, set: &BTreeSet<K>) -> Result<BTreeSet<K>, NoMemory>
+fn copied<K: Copied>(alloc: Global, set: &BTreeSet<K>) -> Result<BTreeSet<K>, NoMemory>
     ensures { IfOk result (λ copied. copied.keys ≡ set.now.keys) }
 {
     let mut copied = BTreeSet::new(alloc);
@@ -98,7 +88,7 @@ fn copied<K: Element>(alloc: Global, set: &BTreeSet<K>) -> Result<BTreeSet<K>, N
     Ok(copied)
 }
 
-impl<K: Element> Gathered<K> {
+impl<K: Copied> Gathered<K> {
     /// The empty set.
     pub(crate) fn new(alloc: Global) -> Gathered<K>
         ensures { elements K.cmp result ≡ [] }

@@ -5,7 +5,7 @@ ghost use Rattle.std.specs.BTreeSet.{insert_key};
 ghost use Rattle.sd_graph.specs.Statement.{Fits, Refuses};
 ghost use Rattle.sd_graph.specs.Gathered.{elements, IsInOrder, IsSettled};
 
-use crate::element::Element;
+use crate::copied::Copied;
 use crate::gathered::Gathered;
 use crate::{GraphRefusal, Limits, over};
 use std::alloc::Global;
@@ -13,7 +13,7 @@ use std::collections::BTreeSet;
 
 // Why an element has no room in its set: `nodes` is the number of nodes then, and `others` that of the other set's
 // elements. It is looked for only where there is no room for one element more.
-fn no_room<K: Element>(
+fn no_room<K: Copied>(
     limits: Limits,
     nodes: usize,
     set: &BTreeSet<K>,
@@ -33,7 +33,7 @@ fn no_room<K: Element>(
 }
 
 // Puts an element into a set that is in order, if there is room. On `Err` nothing has changed.
-fn put_ordered<K: Element>(
+fn put_ordered<K: Copied>(
     limits: Limits,
     nodes: usize,
     set: &mut BTreeSet<K>,
@@ -55,7 +55,7 @@ fn put_ordered<K: Element>(
 }
 
 // Whether two sets are surely below their limit. Only a true answer means something.
-fn is_below<K: Element, J: Element>(set: &Gathered<K>, others: &Gathered<J>, limit: u64) -> bool
+fn is_below<K: Copied, J: Copied>(set: &Gathered<K>, others: &Gathered<J>, limit: u64) -> bool
     ensures below { IsTrue result
         → length (elements K.cmp set.now) + length (elements J.cmp others.now) < limit }
     ensures set { IsInOrder K.cmp set.now }
@@ -65,7 +65,7 @@ fn is_below<K: Element, J: Element>(set: &Gathered<K>, others: &Gathered<J>, lim
 }
 
 // The same for sets that are in order.
-fn put_settled<K: Element, J: Element>(
+fn put_settled<K: Copied, J: Copied>(
     limits: Limits,
     nodes: usize,
     set: &mut Gathered<K>,
@@ -86,7 +86,7 @@ fn put_settled<K: Element, J: Element>(
 
 /// Puts an element into its set, if there is room for it beside the other set's. `nodes` is the number of nodes then.
 /// On `Err` nothing has changed.
-pub(crate) fn put<K: Element, J: Element>(
+pub(crate) fn put<K: Copied, J: Copied>(
     alloc: Global,
     limits: Limits,
     nodes: usize,

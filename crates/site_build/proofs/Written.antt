@@ -1,42 +1,19 @@
 -- Terms that are written alike, and what they name under rows.
-use Rattle.std.proofs.Common.{◌≡◌, ℕ, ◌+◌, ◌<◌, ◌≤◌, List, [], ◌∷◌, ◌++◌, map, length, get_or, take, arith, inl, ⊎_elim, sym, ap, ◌∙◌, refl, subst}
-use Rattle.std.specs.Prelude.{Bool, true, false, not, Contains}
-use Rattle.std.specs.Ordering.{eq_by_cmp}
-use Rattle.std.proofs.lemmas.List.{take_all, take_more_same, length-map, get_or-map}
+use Rattle.std.proofs.Common.{◌≡◌, ◌+◌, List, [], ◌∷◌, ◌++◌, inl, ⊎_elim, sym, subst}
+use Rattle.std.specs.Prelude.{Contains}
 use Rattle.sd_value.specs.declared.Term.{Term}
 use Rattle.sd_value.specs.declared.Value.{Value}
-use Rattle.sd_value.specs.Order.{bytes_cmp}
-use Rattle.sd_value.specs.OrderLaws.{same_bytes}
 use Rattle.sd_value.specs.Members.{Contains-nil}
 use Rattle.query_spec.specs.declared.Variable.{Variable}
 use Rattle.query_spec.specs.Query.{SkolemTerm}
 use Rattle.query_spec.specs.Rows.{value_in}
-use Rattle.struql_ast.specs.declared.Operand.{Operand}
 use Rattle.struql_ast.specs.declared.SkolemTerm.{SkolemTerm as WrittenTerm}
-use Rattle.struql_ast.specs.Reading.{operand_of, term_of}
+use Rattle.struql_ast.specs.Reading.{term_of}
 use Rattle.site_spec.specs.Site.{SomeOf, IsTermUnder}
 use Rattle.site_lookups.proofs.Some.{some_from, some_cons}
 use Rattle.site_build.specs.Gains.{Gains}
 use Rattle.site_build.specs.Materialised.{HasCreated}
 use Rattle.site_build.proofs.Growing.{gains_none, gains_both, gains_only, gains_turned}
-
-pub one_operand_more : (xs ys : List Operand) (i : ℕ) (x y : Operand) → i < length xs → i < length ys → x ≡ get_or xs i x → y ≡ get_or ys i y → operand_of x ≡ operand_of y
-    → take i (map operand_of xs) ≡ take i (map operand_of ys) → take (i + 1) (map operand_of xs) ≡ take (i + 1) (map operand_of ys)
-one_operand_more xs ys i x y l m at_x at_y e before =
-    take_more_same (map operand_of xs) (map operand_of ys) i (operand_of x) (omega (arith, l, length-map xs operand_of)) (omega (arith, m, length-map ys operand_of)) before
-    (get_or-map operand_of xs i x (operand_of x) l ∙ ap operand_of (sym at_x) ∙ e ∙ ap operand_of at_y ∙ sym (get_or-map operand_of ys i y (operand_of x) m))
-
-not_false : (b : Bool) → false ≡ not b → b ≡ true
-not_false true e = refl
-not_false false e = cc
-
-pub written_alike : (t u : WrittenTerm) (differ : Bool) (i : ℕ) → differ ≡ not (eq_by_cmp bytes_cmp t.function u.function) → differ ≡ false → length t.args.items ≤ i → length u.args.items ≤ i
-    → take i (map operand_of t.args.items) ≡ take i (map operand_of u.args.items) → term_of t ≡ term_of u
-written_alike t u differ i is e l m same =
-    let f = same_bytes t.function u.function (not_false _ (sym e ∙ is)) in
-    let whole : map operand_of t.args.items ≡ map operand_of u.args.items =
-    sym (take_all i (map operand_of t.args.items) (omega (arith, l, length-map t.args.items operand_of))) ∙ same ∙ take_all i (map operand_of u.args.items) (omega (arith, m, length-map u.args.items operand_of)) in
-    λ j. record { function = f j; args = whole j }
 
 -- the terms that one of these names under one of the rows
 abbrev pub NamedBy : List Variable → List (List Value) → List SkolemTerm → Term → Type 0

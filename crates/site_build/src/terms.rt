@@ -1,7 +1,7 @@
 // The terms that clauses name under rows.
 ghost use Rattle.std.specs.Prelude.{◌≡◌, IsTrue, OnOk};
 ghost use Rattle.query_spec.specs.Rows.{value_in};
-ghost use Rattle.struql_ast.specs.Reading.{operand_of, term_of, target_of, link_of, collect_of};
+ghost use Rattle.struql_ast.specs.Reading.{term_of, target_of, link_of, collect_of};
 ghost use Rattle.site_spec.specs.Site.{IsTermUnder, SomeOf, target_terms, ends_of};
 ghost use Rattle.site_build.specs.Gains.{Gains};
 ghost use Rattle.site_build.specs.Materialised.{HasCreated};
@@ -9,11 +9,12 @@ ghost use Rattle.site_build.specs.Materialised.{HasCreated};
 use crate::made::{Clause, add_clause, insert_one};
 use crate::repeats::term_width;
 use indexmap::IndexSet;
+use query_copies::same_terms;
 use query_spec::{Row, Variable};
 use sd_value::{NoMemory, Term, Value};
 use skolem::instance;
 use std::alloc::Global;
-use struql_ast::{Collect, Link, Operand, SkolemTerm, Target};
+use struql_ast::{Collect, Link, SkolemTerm, Target};
 
 fn add_term(
     alloc: Global,
@@ -49,39 +50,11 @@ impl Clause<Term> for SkolemTerm {
     }
 }
 
-fn same_operand(a: &Operand, b: &Operand) -> bool
-    ensures { IsTrue result → operand_of a.now ≡ operand_of b.now }
-{
-    match (a, b) {
-        (Operand::Variable(x, _), Operand::Variable(y, _)) => *x == *y,
-        (Operand::Constant(v, _), Operand::Constant(w, _)) => *v == *w,
-        _ => false,
-    }
-}
-
-// Whether the terms are written alike.
-fn same_term(a: &SkolemTerm, b: &SkolemTerm) -> bool
-    ensures { IsTrue result → term_of a.now ≡ term_of b.now }
-{
-    if a.function != b.function {
-        return false;
-    }
-    if a.args.len() != b.args.len() {
-        return false;
-    }
-    for i in 0..a.args.len() {
-        if !same_operand(&a.args[i], &b.args[i]) {
-            return false;
-        }
-    }
-    true
-}
-
 fn is_among(terms: &[SkolemTerm], term: &SkolemTerm) -> bool
     ensures { IsTrue result → SomeOf (λ w. term_of w ≡ term_of term.now) terms.now }
 {
     for other in terms {
-        if same_term(other, term) {
+        if same_terms(other, term) {
             return true;
         }
     }

@@ -4,10 +4,10 @@ mod paths;
 
 use crate::rows::put_row;
 use conditions::{Assigned, holds};
-use edge_queries::{all_labels, all_values, copy_values};
+use edge_queries::{all_labels, all_values};
 use query_blocks::QueryBlocks;
 use query_spec::Variable;
-use sd_graph::Graph;
+use sd_graph::{Graph, copied_list};
 use sd_value::{Datum, NoMemory, Value, copy, sort_and_dedup};
 use std::alloc::Global;
 use struql_ast::{Chain, Condition};
@@ -29,7 +29,7 @@ fn push_extended(
     rows: &mut Vec<Vec<Value>>,
 ) -> Result<(), NoMemory> {
     for value in domain {
-        let mut longer = copy_values(alloc, row)?;
+        let mut longer = copied_list(alloc, row)?;
         longer.push(copy(alloc, value)?)?;
         rows.push(longer)?;
     }

@@ -1,7 +1,6 @@
 // The ends of walks, by the parts of their expression.
-use edge_queries::copy_values;
 use rpe::Rpe;
-use sd_graph::Graph;
+use sd_graph::{Graph, copied_list};
 use sd_value::{Datum, NoMemory, Str, Value, copy, sort_and_dedup};
 use std::alloc::Global;
 
@@ -65,7 +64,7 @@ pub fn ends(
     match expression {
         Rpe::Label(label) => stepped(alloc, graph, Some(label), starts),
         Rpe::Any => stepped(alloc, graph, None, starts),
-        Rpe::Empty => copy_values(alloc, starts),
+        Rpe::Empty => copied_list(alloc, starts),
         Rpe::Seq(first, second) => {
             let middle = ends(alloc, graph, first, starts)?;
             ends(alloc, graph, second, middle.as_slice())
@@ -76,7 +75,7 @@ pub fn ends(
             Ok(found)
         }
         Rpe::Star(body) => {
-            let mut reached = copy_values(alloc, starts)?;
+            let mut reached = copied_list(alloc, starts)?;
             for _edge in graph.edges() {
                 let more = ends(alloc, graph, body, reached.as_slice())?;
                 join(&mut reached, more)?;

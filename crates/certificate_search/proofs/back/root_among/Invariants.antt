@@ -1,6 +1,6 @@
 use Rattle.std.proofs.Common.{◌≡◌, drop}
 use Rattle.std.specs.Prelude.{map, Some, None, if◌then◌else◌}
-use Rattle.constraint_recheck.specs.Same.{same_term}
+use Rattle.query_copies.specs.Same.{same_term}
 use Rattle.constraint_search.specs.Options.{first_of}
 use Rattle.constraint_search.specs.Search.{root_term}
 use Rattle.certificate_search.specs.Reaching.{reached_of}

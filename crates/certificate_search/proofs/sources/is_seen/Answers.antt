@@ -1,6 +1,6 @@
 use Rattle.std.proofs.Common.{sym, ◌∙◌}
 use Rattle.struql_ast.specs.Reading.{term_of}
-use Rattle.constraint_recheck.specs.Same.{same_term}
+use Rattle.query_copies.specs.Same.{same_term}
 use Rattle.constraint_search.specs.Search.{Reached}
 use Rattle.certificate_search.specs.Reaching.{reached_of}
 use Rattle.certificate_search.proofs.Steps.{any_true, any_false}

@@ -1,8 +1,8 @@
 use Rattle.std.proofs.Common.{◌≡◌, drop}
 use Rattle.std.specs.Prelude.{map}
 use Rattle.struql_ast.specs.Reading.{operand_of}
-use Rattle.constraint_recheck.specs.Same.{same_list, same_operand}
-use Rattle.entailment.proofs.terms.same_args.Given as goal
+use Rattle.query_copies.specs.Same.{same_list, same_operand}
+use Rattle.query_copies.proofs.equality.same_args.Given as goal
 
 abbrev pub invariant-loop-place : goal.invariant-loop-place
 invariant-loop-place l =

@@ -10,15 +10,15 @@ use Rattle.sd_value.specs.declared.Value.{Value}
 use Rattle.sd_value.specs.Order.{bytes_cmp, value_cmp}
 use Rattle.sd_value.specs.OrderLaws.{bytes_cmp-exact, bytes_cmp-total, value_cmp-exact, value_cmp-total}
 use Rattle.rpe.specs.Regex.{Regex, label, any, empty, seq, alt, star}
-use Rattle.graph_spec.specs.DataGraph.{Name}
+use Rattle.sd_value.specs.Names.{Name}
 use Rattle.query_spec.specs.declared.Op.{Op}
 use Rattle.query_spec.specs.declared.Op.TheVariants.{Eq, Ne, Lt, Le, Gt, Ge}
 use Rattle.query_spec.specs.declared.Test.{Test}
 use Rattle.query_spec.specs.declared.Test.TheVariants.{IsInt, IsText, IsUrl, IsFile, IsNode}
 use Rattle.query_spec.specs.Query.{Operand, variable, constant, PathStep, arc_variable, expression, Condition, member, path, compare, one_of, kind, negation, SkolemTerm, Target, plain, made}
 use Rattle.query_spec.specs.Mentions.{same_name}
-use Rattle.constraint_recheck.specs.Same.{same_list, same_value, same_regex, same_op, same_test, same_operand, same_step, same_condition, same_term, same_target}
-use Rattle.constraint_recheck.proofs.Bools.{never, always, as_well, both}
+use Rattle.query_copies.specs.Same.{same_list, same_value, same_regex, same_op, same_test, same_operand, same_step, same_condition, same_term, same_target}
+use Rattle.query_copies.proofs.Bools.{never, always, as_well, both}
 
 tie : (o : Ordering) → is_eq o ≡ true → o ≡ Equal
 tie Less e = cc

@@ -1,12 +1,12 @@
-// Copies of what the sets have.
+// Copies of what ordered sets and lists have.
 ghost use Rattle.std.specs.Prelude.{◌≡◌, IfOk};
 
 use graph_spec::{Edge, Member};
 use sd_value::{ExactOrd, NoMemory, Str, Value, copy};
 use std::alloc::Global;
 
-/// What a set has, or what its groups are found by.
-pub(crate) trait Copied: ExactOrd + Drop {
+/// What an ordered set has, or what its groups are found by.
+pub trait Copied: ExactOrd + Drop {
     /// An equal one. Its texts share their bytes with this one's.
     fn copied(&self, alloc: Global) -> Result<Self, NoMemory>
         ensures { IfOk result (λ copied. copied ≡ self.now) };
@@ -41,4 +41,15 @@ impl Copied for Member {
             node: self.node.copy(alloc)?,
         })
     }
+}
+
+/// Equal ones in the same order.
+pub fn copied_list<K: Copied>(alloc: Global, items: &[K]) -> Result<Vec<K>, NoMemory>
+    ensures { IfOk result (λ copied. copied.items ≡ items.now) }
+{
+    let mut copied = Vec::with_capacity(alloc, items.len())?;
+    for item in items {
+        copied.push(item.copied(alloc)?)?;
+    }
+    Ok(copied)
 }

@@ -1,8 +1,8 @@
 use Rattle.std.proofs.Common.{arith}
 use Rattle.struql_ast.specs.Reading.{operand_of}
-use Rattle.constraint_recheck.specs.Same.{same_operand}
-use Rattle.entailment.proofs.Pairs.{pairs_false, pairs_true}
-use Rattle.entailment.proofs.terms.same_args.Goals as goal
+use Rattle.query_copies.specs.Same.{same_operand}
+use Rattle.query_copies.proofs.Pairs.{pairs_false, pairs_true}
+use Rattle.query_copies.proofs.equality.same_args.Goals as goal
 
 pub returns-then-not-same_operands : goal.returns-then-not-same_operands
 returns-then-not-same_operands c =

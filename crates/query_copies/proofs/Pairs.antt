@@ -1,14 +1,10 @@
 -- Two lists that are gone through side by side from the front.
-use Rattle.std.proofs.Common.{◌≡◌, ℕ, suc, ◌+◌, ◌<◌, List, [], ◌∷◌, length, drop, get_or, refl, ap, sym, ◌∙◌, drop-cons, add-one}
+use Rattle.std.proofs.Common.{◌≡◌, ℕ, suc, ◌+◌, ◌<◌, List, ◌∷◌, length, drop, get_or, ap, sym, ◌∙◌, drop-cons, add-one}
 use Rattle.std.specs.Prelude.{Bool, true, false, ◌&&◌, map}
 use Rattle.std.specs.Cmp.Lexicographic.{pointwise}
 
 dropped : {X : Type 0} (xs : List X) (i : ℕ) (x : X) → i < length xs → x ≡ get_or xs i x → drop i xs ≡ x ∷ drop (i + 1) xs
 dropped {X} xs i x lt at = rw add-one (drop-cons xs i x lt ∙ ap (λ (y : X). y ∷ drop (suc i) xs) (sym at))
-
-and_false : (a b : Bool) → b ≡ false → (a && b) ≡ false
-and_false true b e = e
-and_false false b e = refl
 
 pub pairs_false : {X Y A B : Type 0} (f : A → B → Bool) (g : X → A) (h : Y → B) (xs : List X) (ys : List Y) (i : ℕ) (x : X) (y : Y)
     → i < length xs → i < length ys → x ≡ get_or xs i x → y ≡ get_or ys i y → f (g x) (h y) ≡ false → pointwise f (map g (drop i xs)) (map h (drop i ys)) ≡ false
@@ -24,10 +20,3 @@ pairs_true f g h xs ys i x y lt lu at au e =
     ap (λ zs. pointwise f (map g zs) (map h (drop i ys))) (dropped xs i x lt at)
     ∙ ap (λ zs. pointwise f (map g (x ∷ drop (i + 1) xs)) (map h zs)) (dropped ys i y lu au)
     ∙ ap (λ b. b && pointwise f (map g (drop (i + 1) xs)) (map h (drop (i + 1) ys))) e
-
-pub pairs_uneven : {X Y A B : Type 0} (f : A → B → Bool) (g : X → A) (h : Y → B) (xs : List X) (ys : List Y)
-    → (length xs ≡ length ys → ⊥) → pointwise f (map g xs) (map h ys) ≡ false
-pairs_uneven f g h [] [] ne = absurd (ne refl)
-pairs_uneven f g h [] (y ∷ ys) ne = refl
-pairs_uneven f g h (x ∷ xs) [] ne = refl
-pairs_uneven f g h (x ∷ xs) (y ∷ ys) ne = and_false (f (g x) (h y)) (pointwise f (map g xs) (map h ys)) (pairs_uneven f g h xs ys (λ e. ne (ap suc e)))
