@@ -1,10 +1,10 @@
 // How values are written: as text, and as an address.
 ghost use Rattle.std.specs.Prelude.{◌≡◌, ℕ, ◌<◌, List, ◌++◌, OnOk, IfOk, codes, [], ◌∷◌, Option, if◌then◌else◌, is_ok};
-ghost use Rattle.std.specs.Fmt.{signed_decimal};
 ghost use Rattle.page_spec.specs.Show as spec;
 
 use sd_value::{Datum, NoMemory, Str, Term, Value};
 use std::alloc::Global;
+use token_writer::put_int;
 
 /// The address of the term is put after what `out` has: `/F.html`, and with arguments `/F/a1/a2.html`, where an
 /// argument is its kind's letter and then its text, a byte other than A-Z a-z 0-9 `-` and `_` as `~XX`. `out` is as
@@ -36,28 +36,21 @@ pub fn push_shown(alloc: Global, value: &Value, out: &mut Vec<u8>) -> Result<(),
     ensures { OnOk result (out.new.items ≡ out.old.items ++ spec.show value.now) }
 {
     match value {
-        Value::Data(datum) => push_datum(alloc, out, datum),
+        Value::Data(datum) => push_datum(out, datum),
         Value::Page(term) => push_address(alloc, out, term),
     }
 }
 
-fn push_datum(alloc: Global, out: &mut Vec<u8>, datum: &Datum) -> Result<(), NoMemory>
+fn push_datum(out: &mut Vec<u8>, datum: &Datum) -> Result<(), NoMemory>
     ensures { OnOk result (out.new.items ≡ out.old.items ++ spec.show_datum datum.now) }
 {
     match datum {
-        Datum::Int(number) => push_number(alloc, out, *number),
+        Datum::Int(number) => put_int(*number, out),
         Datum::Text(text) => push(out, text.bytes()),
         Datum::Url(text) => push(out, text.bytes()),
         Datum::File(text) => push(out, text.bytes()),
         Datum::Node(text) => push(out, text.bytes()),
     }
-}
-
-fn push_number(alloc: Global, out: &mut Vec<u8>, number: i64) -> Result<(), NoMemory>
-    ensures { OnOk result (out.new.items ≡ out.old.items ++ signed_decimal number) }
-{
-    let text = number.to_string(alloc)?;
-    push(out, text.as_str().as_bytes())
 }
 
 fn push_address(alloc: Global, out: &mut Vec<u8>, term: &Term) -> Result<(), NoMemory>
@@ -82,7 +75,7 @@ fn push_argument(alloc: Global, out: &mut Vec<u8>, datum: &Datum) -> Result<(), 
     ensures { OnOk result (out.new.items ≡ out.old.items ++ 47 ∷ spec.argument datum.now) }
 {
     let mut text = Vec::new(alloc);
-    push_datum(alloc, &mut text, datum)?;
+    push_datum(&mut text, datum)?;
     out.push(b'/')?;
     out.push(kind_letter(datum))?;
     push_in_address(out, text.as_slice())

@@ -6,19 +6,17 @@ ghost use Rattle.std.specs.Fmt.{decimal};
 ghost use Rattle.struql_ast.specs.Reading.{blocks_of};
 ghost use Rattle.schema_spec.specs.Paths.{paths_from};
 
-use itoa::Buffer;
 use sd_value::{NoMemory, Str};
 use std::alloc::Global;
 use struql_ast::Block;
-use token_writer::put;
+use token_writer::{put, put_number};
 
 /// The number behind the front.
 fn numbered(alloc: Global, front: &[u8], number: usize) -> Result<Str, NoMemory>
     ensures { IfOk result (λ path. path ≡ front.now ++ decimal number) }
 {
     let mut path = Vec::from_slice(alloc, front)?;
-    let mut buffer = Buffer::new();
-    put(buffer.format(number).as_bytes(), &mut path)?;
+    put_number(number as u128, &mut path)?;
     Str::of(alloc, path)
 }
 

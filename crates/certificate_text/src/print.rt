@@ -1,7 +1,6 @@
 // The lines of an answer.
 
 ghost use Rattle.std.specs.Prelude.{◌≡◌, ◌++◌, IfOk, length, map, codes};
-ghost use Rattle.std.specs.Fmt.{decimal};
 ghost use Rattle.std.specs.List.{flat_map};
 ghost use Rattle.struql_print.specs.Texts.{joined, further};
 ghost use Rattle.query_blocks.specs.Blocks.{body_of, scope_of, AreCheckedBlocks};
@@ -15,20 +14,12 @@ use crate::terms::{WrittenTerm, terms_of};
 use crate::variables::{variables_at, variables_by_link};
 use certificates::{Certificate, LinkUse, MentionProof};
 use constraint_spec::Constraint;
-use itoa::Buffer;
 use query_blocks::QueryBlocks;
 use query_spec::Variable;
 use sd_value::{NoMemory, Str};
 use std::alloc::Global;
 use struql_print::print_term;
-use token_writer::put;
-
-fn put_number(number: usize, out: &mut Vec<u8>) -> Result<(), NoMemory>
-    ensures { IfOk result (λ _. out.new.items ≡ out.old.items ++ decimal number) }
-{
-    let mut buffer = Buffer::new();
-    put(buffer.format(number).as_bytes(), out)
-}
+use token_writer::{put, put_number};
 
 fn put_mapped(variable: &Variable, name: &Str, out: &mut Vec<u8>) -> Result<(), NoMemory>
     ensures { IfOk result (λ _. out.new.items
@@ -74,7 +65,7 @@ fn put_use(variables: &[&[Variable]], given: &LinkUse, out: &mut Vec<u8>) -> Res
         ≡ out.old.items ++ use_text (map (λ v. v.now) variables.now) given.now) }
 {
     put(b" link ", out)?;
-    put_number(given.link(), out)?;
+    put_number(given.link() as u128, out)?;
     put(b" {", out)?;
     put_all_mapped(variables_at(variables, given.link()), given.names(), out)?;
     put(b"}", out)
@@ -192,7 +183,7 @@ pub fn print_yes(
         ++ yes_text_by blocks.now.version paths.now (scope_of blocks.now).bodies number
         constraint.now certificate.now) }
 {
-    put_number(number, out)?;
+    put_number(number as u128, out)?;
     put(b" yes\n", out)?;
     put_certificate(alloc, blocks, paths, constraint, certificate, out)
 }
@@ -202,6 +193,6 @@ pub fn print_yes(
 pub fn print_unknown(number: usize, out: &mut Vec<u8>) -> Result<(), NoMemory>
     ensures { IfOk result (λ _. out.new.items ≡ out.old.items ++ unknown_text number) }
 {
-    put_number(number, out)?;
+    put_number(number as u128, out)?;
     put(b" unknown\n", out)
 }

@@ -6,6 +6,7 @@ use Rattle.edge_io.specs.Files.{FileMap}
 use Rattle.command_spec.specs.Limits.{text_limit}
 use Rattle.query_spec.specs.Query.{Query}
 use Rattle.constraint_spec.specs.declared.Constraint.{Constraint}
+use Rattle.token_reader.specs.declared.refusal.TextRefusal.TheVariants as text
 use Rattle.constraints.specs.declared.refusal.ConstraintRefusal.{ConstraintRefusal}
 use Rattle.constraints.specs.declared.refusal.ConstraintRefusal.TheVariants as constraints
 use Rattle.constraints.specs.Constraints.{IsSettled}
@@ -62,14 +63,14 @@ some_is : (a b : Told) → ◌≡◌ {A = Option Told} (Some a) (Some b) → a �
 some_is a b same = cc
 
 settled : (e : ConstraintRefusal) (told : Told) → constraints_told e ≡ Some told → IsSettled (Err e)
-settled (constraints.TooLong at) told h = tt
-settled (constraints.BadByte at) told h = tt
-settled (constraints.OpenString at) told h = tt
-settled (constraints.IntOutOfRange at) told h = tt
-settled (constraints.Expected at) told h = tt
+settled (constraints.Text (text.TooLong at)) told h = tt
+settled (constraints.Text (text.BadByte at)) told h = tt
+settled (constraints.Text (text.OpenString at)) told h = tt
+settled (constraints.Text (text.IntOutOfRange at)) told h = tt
+settled (constraints.Text (text.Expected at)) told h = tt
 settled (constraints.UnknownFunction at) told h = tt
 settled (constraints.RootHasArguments at) told h = tt
-settled constraints.NoMemory told h = absurd cc
+settled (constraints.Text text.NoMemory) told h = absurd cc
 
 module _ (query : Query) (path bytes : List ℕ) where
   abbrev refusal_of : Told → Refusal

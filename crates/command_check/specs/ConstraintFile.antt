@@ -13,17 +13,13 @@ use Rattle.site_inputs.specs.declared.fault.Fault.{Fault}
 use Rattle.site_inputs.specs.declared.fault.Fault.TheVariants.{Refused, NoMemory}
 use Rattle.site_inputs.specs.declared.told.Told.{Told}
 use Rattle.site_inputs.specs.Runs.{Then, FileEnds}
+use Rattle.site_inputs.specs.Sites.{text_told}
 
 -- the number and the place of a refused text of constraints; none where it was out of memory
 abbrev pub constraints_told : ConstraintRefusal → Option Told
-constraints_told (constraints.TooLong at) = Some (record { number = 24; at = at })
-constraints_told (constraints.BadByte at) = Some (record { number = 21; at = at })
-constraints_told (constraints.OpenString at) = Some (record { number = 22; at = at })
-constraints_told (constraints.IntOutOfRange at) = Some (record { number = 23; at = at })
-constraints_told (constraints.Expected at) = Some (record { number = 101; at = at })
+constraints_told (constraints.Text refusal) = text_told 101 refusal
 constraints_told (constraints.UnknownFunction at) = Some (record { number = 102; at = at })
 constraints_told (constraints.RootHasArguments at) = Some (record { number = 103; at = at })
-constraints_told constraints.NoMemory = None
 
 -- How a text of constraints ends: with the constraints over the query, or refused.
 abbrev pub ConstraintsTaken : Query → List ℕ → List ℕ → Result (List Constraint) Fault → Type 0

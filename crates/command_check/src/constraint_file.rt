@@ -5,43 +5,22 @@ ghost use Rattle.site_inputs.specs.Runs.{ReadsHaveCause};
 ghost use Rattle.command_check.specs.ConstraintFile.{constraints_told, constraints_result};
 ghost use Rattle.command_check.specs.ConstraintFile.{ConstraintsTaken, ConstraintsEnd};
 
+use command_spec::TEXT_LIMIT;
 use constraint_spec::Constraint;
 use constraints::{ConstraintRefusal, parse_constraints};
 use edge_io::Files;
 use run_report::Place;
 use sd_value::Str;
-use site_inputs::{Fault, Told, read_file, refused};
+use site_inputs::{Fault, Told, read_file, refused, told_of_text};
 use std::alloc::Global;
 use struql_check::Checked;
-
-// The most bytes of a file of constraints.
-const CONSTRAINTS_LIMIT: u64 = 1_048_576;
 
 // What a refused text of constraints reports; none where it was out of memory.
 fn told_of_constraints(refusal: &ConstraintRefusal) -> Option<Told>
     ensures { result ≡ constraints_told refusal.now }
 {
     match refusal {
-        ConstraintRefusal::TooLong(at) => Some(Told {
-            number: 24,
-            at: *at,
-        }),
-        ConstraintRefusal::BadByte(at) => Some(Told {
-            number: 21,
-            at: *at,
-        }),
-        ConstraintRefusal::OpenString(at) => Some(Told {
-            number: 22,
-            at: *at,
-        }),
-        ConstraintRefusal::IntOutOfRange(at) => Some(Told {
-            number: 23,
-            at: *at,
-        }),
-        ConstraintRefusal::Expected(at) => Some(Told {
-            number: 101,
-            at: *at,
-        }),
+        ConstraintRefusal::Text(refusal) => told_of_text(refusal, 101),
         ConstraintRefusal::UnknownFunction(at) => Some(Told {
             number: 102,
             at: *at,
@@ -50,7 +29,6 @@ fn told_of_constraints(refusal: &ConstraintRefusal) -> Option<Told>
             number: 103,
             at: *at,
         }),
-        ConstraintRefusal::NoMemory => None,
     }
 }
 
@@ -62,7 +40,7 @@ fn take_constraints(
 ) -> Result<Vec<Constraint>, Fault>
     ensures { ConstraintsTaken query.now path.now bytes.now (constraints_result result) }
 {
-    match parse_constraints(alloc, bytes, CONSTRAINTS_LIMIT, query) {
+    match parse_constraints(alloc, bytes, TEXT_LIMIT, query) {
         Ok(constraints) => Ok(constraints),
         Err(refusal) => match told_of_constraints(&refusal) {
             Some(told) => Err(refused(alloc, path, told.number, Place::At(told.at))),
@@ -87,6 +65,6 @@ pub fn load_constraints<F: Files>(
         (F.failed_reads files.old) (F.failed_reads files.new) result }
     ensures writes { F.failed_writes files.new ≡ F.failed_writes files.old }
 {
-    let bytes = read_file(alloc, files, path, CONSTRAINTS_LIMIT)?;
+    let bytes = read_file(alloc, files, path, TEXT_LIMIT)?;
     take_constraints(alloc, query, path, bytes.bytes())
 }

@@ -4,20 +4,18 @@ ghost use Rattle.std.specs.Prelude.{◌≡◌, ◌++◌, IfOk};
 ghost use Rattle.std.specs.List.{flat_map};
 ghost use Rattle.command_explain.specs.Lines.{condition_at, variable_at, cost_text, step_text};
 
-use itoa::Buffer;
 use plan_spec::PlanStep;
 use sd_value::NoMemory;
 use struql_ast::Chain;
 use struql_print::print_condition;
-use token_writer::put;
+use token_writer::{put, put_number};
 
 /// Appends the cost of a step, and the end of its line.
 fn put_cost(cost: u128, out: &mut Vec<u8>) -> Result<(), NoMemory>
     ensures { IfOk result (λ _. out.new.items ≡ out.old.items ++ cost_text cost) }
 {
     put(b" cost ", out)?;
-    let mut buffer = Buffer::new();
-    put(buffer.format(cost).as_bytes(), out)?;
+    put_number(cost, out)?;
     put(b"\n", out)
 }
 

@@ -12,16 +12,13 @@ mod lines;
 mod texts;
 
 use crate::texts::{InputText, report_of};
-use command_spec::DataFiles;
+use command_spec::{DataFiles, TEXT_LIMIT};
 use constraint_report::Report;
 use edge_io::Files;
 pub use laws::reports_are_decided;
 use sd_value::Str;
 use site_inputs::{Fault, load_graph, read_file, take_query, take_templates};
 use std::alloc::Global;
-
-// The most bytes of a query, and of a file of templates.
-const TEXT_LIMIT: u64 = 1_048_576;
 
 /// What a query and its templates ask for and isn't there, over the data: a line for each finding, those in the query
 /// first, each text's in its order, and whether all that they ask for is there.

@@ -11,6 +11,7 @@ ghost use Rattle.command_lint.specs.Ends.{IsLintReport, texts_of};
 
 use crate::lines::push_lines;
 use bindings::StoreAsker;
+use command_spec::TEXT_LIMIT;
 use constraint_report::Report;
 use index_store::IndexStore;
 use link_answers::QueryLinks;
@@ -26,9 +27,6 @@ use struql_parse::parse;
 use template_claims::further_labels;
 use template_items::{Item, items};
 use tmpl::Templates;
-
-// The most bytes of a query, and of a file of templates.
-const TEXT_LIMIT: u64 = 1_048_576;
 
 /// A text, and the path of its file.
 #[derive(Drop)]

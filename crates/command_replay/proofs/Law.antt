@@ -9,8 +9,8 @@ use Rattle.run_report.specs.declared.status.Place.TheVariants.{At}
 use Rattle.run_report.specs.declared.status.Status.{Status}
 use Rattle.run_report.specs.declared.status.Status.TheVariants as status
 use Rattle.command_spec.specs.declared.ReplayCommand.{ReplayCommand}
-use Rattle.script_reader.specs.declared.refusal.ScriptRefusal.{ScriptRefusal}
-use Rattle.script_reader.specs.declared.refusal.ScriptRefusal.TheVariants as script
+use Rattle.token_reader.specs.declared.refusal.TextRefusal.{TextRefusal}
+use Rattle.token_reader.specs.declared.refusal.TextRefusal.TheVariants as script
 use Rattle.script_reader.specs.Script.{Reads, IsSettled}
 use Rattle.script_reader.proofs.Once.{one_answer}
 use Rattle.site_inputs.specs.declared.fault.Fault.{Fault}
@@ -33,7 +33,7 @@ use Rattle.site_serving.proofs.TurnsLeft.{turns_left}
 
 -- ---- a script's bytes decide how it ends
 
-told_settled : (e : ScriptRefusal) (told : Told) → script_told e ≡ Some told → IsSettled (Err e)
+told_settled : (e : TextRefusal) (told : Told) → script_told e ≡ Some told → IsSettled (Err e)
 told_settled (script.TooLong at) told h = tt
 told_settled (script.BadByte at) told h = tt
 told_settled (script.OpenString at) told h = tt
@@ -41,16 +41,16 @@ told_settled (script.IntOutOfRange at) told h = tt
 told_settled (script.Expected at) told h = tt
 told_settled script.NoMemory told h = (let same = h in cc)
 
-same_told : (e f : ScriptRefusal) (told other : Told) → e ≡ f → script_told e ≡ Some told → script_told f ≡ Some other → told ≡ other
+same_told : (e f : TextRefusal) (told other : Told) → e ≡ f → script_told e ≡ Some told → script_told f ≡ Some other → told ≡ other
 same_told e f told other same h k = (let there : Some told ≡ Some other = sym h ∙ ap script_told same ∙ k in cc)
 
-err_events : (e : ScriptRefusal) (events : List WireEvent) → ◌≡◌ {A = Result (List WireEvent) ScriptRefusal} (Err e) (Ok events) → ⊥
+err_events : (e : TextRefusal) (events : List WireEvent) → ◌≡◌ {A = Result (List WireEvent) TextRefusal} (Err e) (Ok events) → ⊥
 err_events e events same = cc
 
-err_script : (e f : ScriptRefusal) → ◌≡◌ {A = Result (List WireEvent) ScriptRefusal} (Err e) (Err f) → e ≡ f
+err_script : (e f : TextRefusal) → ◌≡◌ {A = Result (List WireEvent) TextRefusal} (Err e) (Err f) → e ≡ f
 err_script e f same = cc
 
-ok_events : (a b : List WireEvent) → ◌≡◌ {A = Result (List WireEvent) ScriptRefusal} (Ok a) (Ok b) → a ≡ b
+ok_events : (a b : List WireEvent) → ◌≡◌ {A = Result (List WireEvent) TextRefusal} (Ok a) (Ok b) → a ≡ b
 ok_events a b same = cc
 
 abbrev refused_so : (path : List ℕ) (told : Told) → Refusal

@@ -5,33 +5,27 @@ use Rattle.edge_io.specs.Files.{FileMap}
 use Rattle.command_spec.specs.Limits.{script_limit}
 use Rattle.run_report.specs.declared.status.Place.TheVariants.{At}
 use Rattle.wire.specs.declared.WireEvent.{WireEvent}
-use Rattle.script_reader.specs.declared.refusal.ScriptRefusal.{ScriptRefusal}
-use Rattle.script_reader.specs.declared.refusal.ScriptRefusal.TheVariants as script
+use Rattle.token_reader.specs.declared.refusal.TextRefusal.{TextRefusal}
 use Rattle.script_reader.specs.Script.{Reads}
 use Rattle.command_spec.specs.declared.ReplayCommand.{ReplayCommand}
 use Rattle.site_inputs.specs.declared.fault.Fault.{Fault}
 use Rattle.site_inputs.specs.declared.fault.Fault.TheVariants.{Refused, NoMemory}
 use Rattle.site_inputs.specs.declared.told.Told.{Told}
 use Rattle.site_inputs.specs.Runs.{Then, Gives, FileEnds}
-use Rattle.site_inputs.specs.Sites.{Inputs, InputsEnd}
+use Rattle.site_inputs.specs.Sites.{Inputs, InputsEnd, text_told}
 use Rattle.site_inputs.specs.Values.{inputs_of}
 use Rattle.command_replay.specs.declared.replaying.Script.{Script}
 
--- the number and the place of a refused script; none where it was out of memory
-abbrev pub script_told : ScriptRefusal → Option Told
-script_told (script.TooLong at) = Some (record { number = 24; at = at })
-script_told (script.BadByte at) = Some (record { number = 21; at = at })
-script_told (script.OpenString at) = Some (record { number = 22; at = at })
-script_told (script.IntOutOfRange at) = Some (record { number = 23; at = at })
-script_told (script.Expected at) = Some (record { number = 111; at = at })
-script_told script.NoMemory = None
+-- the number and the place of a refused script; none if the reader was out of memory
+abbrev pub script_told : TextRefusal → Option Told
+script_told = text_told 111
 
 -- How a script's text ends: with its events, or refused.
 abbrev pub ScriptTaken : List ℕ → List ℕ → Result (List WireEvent) Fault → Type 0
 ScriptTaken path bytes (Ok events) = Reads script_limit bytes (Ok events)
 ScriptTaken path bytes (Err (Refused refusal)) =
     (told : Told) × (refusal ≡ record { file = path; number = told.number; place = At told.at })
-    × (e : ScriptRefusal) × Reads script_limit bytes (Err e) × (script_told e ≡ Some told)
+    × (e : TextRefusal) × Reads script_limit bytes (Err e) × (script_told e ≡ Some told)
 ScriptTaken path bytes (Err NoMemory) = ⊤
 ScriptTaken path bytes (Err fault) = ⊥
 

@@ -3,54 +3,23 @@ ghost use Rattle.std.specs.Prelude.{◌≡◌, ◌∷◌, [], IfOk, All};
 ghost use Rattle.std.specs.Option.{ForSome};
 ghost use Rattle.script_reader.specs.Script.{IsScripted};
 ghost use Rattle.site_inputs.specs.Runs.{ReadsHaveCause};
-ghost use Rattle.command_replay.specs.Scripts.{script_told, script_result, ScriptTaken, ScriptEnds};
+ghost use Rattle.command_replay.specs.Scripts.{script_result, ScriptTaken, ScriptEnds};
 
+use command_spec::SCRIPT_LIMIT;
 use edge_io::Files;
 use run_report::Place;
-use script_reader::{ScriptRefusal, read_script};
+use script_reader::read_script;
 use sd_value::Str;
-use site_inputs::{Fault, Told, read_file, refused};
+use site_inputs::{Fault, read_file, refused, told_of_text};
 use std::alloc::Global;
 use wire::WireEvent;
-
-// The most bytes of a script.
-const SCRIPT_LIMIT: u64 = 67_108_864;
-
-// What a refused script reports; none where it was out of memory.
-fn told_of_script(refusal: &ScriptRefusal) -> Option<Told>
-    ensures { result ≡ script_told refusal.now }
-{
-    match refusal {
-        ScriptRefusal::TooLong(at) => Some(Told {
-            number: 24,
-            at: *at,
-        }),
-        ScriptRefusal::BadByte(at) => Some(Told {
-            number: 21,
-            at: *at,
-        }),
-        ScriptRefusal::OpenString(at) => Some(Told {
-            number: 22,
-            at: *at,
-        }),
-        ScriptRefusal::IntOutOfRange(at) => Some(Told {
-            number: 23,
-            at: *at,
-        }),
-        ScriptRefusal::Expected(at) => Some(Told {
-            number: 111,
-            at: *at,
-        }),
-        ScriptRefusal::NoMemory => None,
-    }
-}
 
 fn take_script(alloc: Global, path: &Str, bytes: &[u8]) -> Result<Vec<WireEvent>, Fault>
     ensures { ScriptTaken path.now bytes.now (script_result result) }
 {
     match read_script(alloc, bytes, SCRIPT_LIMIT) {
         Ok(events) => Ok(events),
-        Err(refusal) => match told_of_script(&refusal) {
+        Err(refusal) => match told_of_text(&refusal, 111) {
             Some(told) => Err(refused(alloc, path, told.number, Place::At(told.at))),
             None => Err(Fault::NoMemory),
         },

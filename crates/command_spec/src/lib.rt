@@ -4,10 +4,12 @@
 ghost use Rattle.std.specs.Prelude.{◌≡◌, IfOk, map};
 ghost use Rattle.command_spec.specs.DataFiles.{data_files, read_leniently};
 
+mod limits;
 mod names;
 mod numbers;
 mod options;
 
+pub use limits::{DATA_LIMIT, SCRIPT_LIMIT, TEXT_LIMIT};
 pub use names::CommandName;
 pub use numbers::NumberOption;
 pub use options::{PathOption, ValueOption};

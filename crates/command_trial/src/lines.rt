@@ -2,17 +2,16 @@
 ghost use Rattle.std.specs.Prelude.{◌≡◌, ◌++◌, IfOk, OnOk};
 ghost use Rattle.trial_spec.specs.Numbers.{number_line, lines_of};
 
-use itoa::Buffer;
 use sd_value::{NoMemory, Str};
 use std::alloc::Global;
+use token_writer::put_number;
 use trial_spec::Counts;
 
 fn push_line(text: &mut Vec<u8>, name: &[u8], number: u128) -> Result<(), NoMemory>
     ensures { OnOk result (text.new.items ≡ text.old.items ++ number_line name.now number) }
 {
-    let mut buffer = Buffer::new();
     text.extend_from_slice(name)?;
-    text.extend_from_slice(buffer.format(number).as_bytes())?;
+    put_number(number, text)?;
     text.extend_from_slice(b"\n")?;
     Ok(())
 }

@@ -1,27 +1,19 @@
 //! Texts that change the data of a run whose data may be the site of a first query.
 #![tactic(auto)]
 
-ghost use Rattle.std.specs.Prelude.{◌≡◌, ◌≢◌, IfOk, false};
+ghost use Rattle.std.specs.Prelude.{◌≡◌, IfOk};
 ghost use Rattle.site_spec.specs.Site.{scope_of};
 ghost use Rattle.data_change.specs.Texts.{States, IsRead};
 ghost use Rattle.composed_change.specs.Texts.{StatesOver, MakesData, Readers};
 
+use command_spec::DATA_LIMIT;
 use composed_data::composed_data;
 use data_change::read_change;
-use sd_ddl::{DdlRefusal, read_ddl};
+use sd_ddl::read_ddl;
 use sd_graph::{Graph, GraphBuilder, GraphRefusal, PROGRAM_LIMITS};
 use sd_value::{NoMemory, Str};
 use std::alloc::Global;
 use struql_check::Checked;
-
-// The most bytes of a data text.
-const DATA_LIMIT: u64 = 67_108_864;
-
-fn is_out_of_memory(refusal: &DdlRefusal) -> bool
-    ensures { result ≡ false → refusal.now ≢ DdlRefusal.NoMemory }
-{
-    *refusal == DdlRefusal::NoMemory
-}
 
 // The graph of the first query's site over the data that the text stated, where it is within the limits.
 fn composed(
@@ -49,7 +41,7 @@ fn read_composed(alloc: Global, text: &Str, first: &Checked) -> Result<Option<Gr
     match read_ddl(alloc, text.bytes(), DATA_LIMIT, &mut gathered) {
         Ok(()) => composed(alloc, text, gathered, first),
         Err(refusal) => {
-            if is_out_of_memory(&refusal) {
+            if refusal.is_out_of_memory() {
                 return Err(NoMemory);
             }
             Ok(None)

@@ -1,6 +1,5 @@
 // The lines of what is found of constraints.
 ghost use Rattle.std.specs.Prelude.{◌≡◌, ◌++◌, IfOk, length, map, true};
-ghost use Rattle.std.specs.Fmt.{decimal};
 ghost use Rattle.query_blocks.specs.Blocks.{scope_of, AreCheckedBlocks};
 ghost use Rattle.constraint_verdicts.specs.Told.{finding_lines, indented, no_text};
 ghost use Rattle.constraint_verdicts.specs.Written.{found_in, text_by};
@@ -9,7 +8,6 @@ use crate::finding::Finding;
 use block_paths::paths_of;
 use certificate_text::{print_unknown, print_yes};
 use constraint_spec::Constraint;
-use itoa::Buffer;
 use query_blocks::QueryBlocks;
 use query_scoping::scopes;
 use sd_ddl::write_ddl;
@@ -17,7 +15,7 @@ use sd_graph::Graph;
 use sd_value::{NoMemory, Str};
 use std::alloc::Global;
 use struql_check::Checked;
-use token_writer::put;
+use token_writer::{put, put_number};
 
 // Appends the text, with two spaces before each of its lines.
 fn put_indented(text: &[u8], out: &mut Vec<u8>) -> Result<(), NoMemory>
@@ -40,8 +38,7 @@ fn print_no(alloc: Global, number: usize, graph: &Graph, out: &mut Vec<u8>) -> R
 {
     let mut text = Vec::new(alloc);
     write_ddl(alloc, graph, &mut text)?;
-    let mut buffer = Buffer::new();
-    put(buffer.format(number).as_bytes(), out)?;
+    put_number(number as u128, out)?;
     put(b" no\n", out)?;
     put_indented(&text, out)
 }

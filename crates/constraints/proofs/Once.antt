@@ -8,6 +8,7 @@ use Rattle.sd_lex.specs.Lexing.{IsTextOrFault}
 use Rattle.grammar.specs.Fault.{FirstFault}
 use Rattle.grammar.proofs.Exact.{one_value}
 use Rattle.token_reader.specs.Gives.{place, IsReal}
+use Rattle.token_reader.specs.declared.refusal.TextRefusal.TheVariants.{TooLong, BadByte, OpenString, IntOutOfRange, Expected, NoMemory}
 use Rattle.token_reader.proofs.Tokens.{one_token_list}
 use Rattle.token_reader.proofs.TextFaults.{text_fault, text_spelled_no_fault}
 use Rattle.query_spec.specs.Query.{Query}
@@ -17,7 +18,7 @@ use Rattle.constraints.specs.declared.reading.Phrase.{Phrase}
 use Rattle.constraints.specs.declared.refusal.NameFault.{NameFault}
 use Rattle.constraints.specs.declared.refusal.NameFault.TheVariants.{Unknown, HasArguments}
 use Rattle.constraints.specs.declared.refusal.ConstraintRefusal.{ConstraintRefusal}
-use Rattle.constraints.specs.declared.refusal.ConstraintRefusal.TheVariants.{TooLong, BadByte, OpenString, IntOutOfRange, Expected, UnknownFunction, RootHasArguments, NoMemory}
+use Rattle.constraints.specs.declared.refusal.ConstraintRefusal.TheVariants.{Text, UnknownFunction, RootHasArguments}
 use Rattle.constraints.specs.ConstraintText.{phrases, constraint_of}
 use Rattle.constraints.specs.Reading.{read_phrases}
 use Rattle.constraints.specs.Names.{names_in, FirstFaulty}
@@ -38,19 +39,19 @@ module _ (q : Query) (limit : ℕ) (bytes : List ℕ) where
   -- the three ways to an answer: by the lexer, by the grammar, or by the phrases and their names
   data Way (r : Answer) : Type 0 where
     lexed : (e : LexRefusal) → IsTextOrFault limit bytes (Err e) → r ≡ Err (of_lexer e) → Way r
-    stuck : (at : ℕ) → IsFaultAt limit bytes at → r ≡ Err (Expected at) → Way r
+    stuck : (at : ℕ) → IsFaultAt limit bytes at → r ≡ Err (Text (Expected at)) → Way r
     spelled : (written : List Phrase) (first : Option NameFault) → IsSpelled limit bytes written → FirstFaulty q written first → r ≡ answer_of written first → Way r
 
   way : (r : Answer) → Reads q limit bytes r → IsSettled r → Way r
   way (Ok found) (written, is, none, e) settled = spelled written None is none (ap Ok e)
-  way (Err (TooLong at)) h settled = lexed (lexer.TooLong at) h refl
-  way (Err (BadByte at)) h settled = lexed (lexer.BadByte at) h refl
-  way (Err (OpenString at)) h settled = lexed (lexer.OpenString at) h refl
-  way (Err (IntOutOfRange at)) h settled = lexed (lexer.IntOutOfRange at) h refl
-  way (Err (Expected at)) h settled = stuck at h refl
+  way (Err (Text (TooLong at))) h settled = lexed (lexer.TooLong at) h refl
+  way (Err (Text (BadByte at))) h settled = lexed (lexer.BadByte at) h refl
+  way (Err (Text (OpenString at))) h settled = lexed (lexer.OpenString at) h refl
+  way (Err (Text (IntOutOfRange at))) h settled = lexed (lexer.IntOutOfRange at) h refl
+  way (Err (Text (Expected at))) h settled = stuck at h refl
   way (Err (UnknownFunction at)) (written, is, first) settled = spelled written (Some (Unknown at)) is first refl
   way (Err (RootHasArguments at)) (written, is, first) settled = spelled written (Some (HasArguments at)) is first refl
-  way (Err NoMemory) h settled = absurd settled
+  way (Err (Text NoMemory)) h settled = absurd settled
 
   no_lexed : (tokens : List Token) (e : LexRefusal) → IsTextOrFault limit bytes (Ok tokens) → IsTextOrFault limit bytes (Err e) → ⊥
   no_lexed tokens e l h = let both : Ok tokens ≡ Err e = one_token_list limit bytes (Ok tokens) (Err e) l h in cc
@@ -82,7 +83,7 @@ module _ (q : Query) (limit : ℕ) (bytes : List ℕ) where
   one_way r s (lexed e h is) (stuck at f is2) = absurd (no_lexed f.0 e f.1 h)
   one_way r s (lexed e h is) (spelled written first f g is2) = absurd (no_lexed f.0 e f.1 h)
   one_way r s (stuck at f is) (lexed e h is2) = absurd (no_lexed f.0 e f.1 h)
-  one_way r s (stuck at f is) (stuck other g is2) = is ∙ ap (λ x. Err (Expected x)) (same_place at other f g) ∙ sym is2
+  one_way r s (stuck at f is) (stuck other g is2) = is ∙ ap (λ x. Err (Text (Expected x))) (same_place at other f g) ∙ sym is2
   one_way r s (stuck at f is) (spelled written first g h is2) = absurd (no_fault at written f g)
   one_way r s (spelled written first f g is) (lexed e h is2) = absurd (no_lexed f.0 e f.1 h)
   one_way r s (spelled written first f g is) (stuck at h is2) = absurd (no_fault at written h f)

@@ -6,15 +6,14 @@ use Rattle.sd_lex.specs.declared.refusal.LexRefusal.TheVariants as lexer
 use Rattle.sd_lex.specs.Lexing.{IsTextOrFault}
 use Rattle.grammar.specs.Fault.{FirstFault}
 use Rattle.token_reader.specs.Gives.{place, IsReal}
+use Rattle.token_reader.specs.declared.refusal.TextRefusal.TheVariants.{TooLong, BadByte, OpenString, IntOutOfRange, Expected, NoMemory}
 use Rattle.query_spec.specs.Query.{Query}
 use Rattle.constraint_spec.specs.declared.Constraint.{Constraint}
 use Rattle.constraints.specs.declared.reading.Phrase.{Phrase}
 use Rattle.constraints.specs.declared.refusal.NameFault.{NameFault}
 use Rattle.constraints.specs.declared.refusal.NameFault.TheVariants.{Unknown, HasArguments}
 use Rattle.constraints.specs.declared.refusal.ConstraintRefusal.{ConstraintRefusal}
-use Rattle.constraints.specs.declared.refusal.ConstraintRefusal.TheVariants.{TooLong, BadByte, OpenString}
-use Rattle.constraints.specs.declared.refusal.ConstraintRefusal.TheVariants.{IntOutOfRange, Expected, UnknownFunction}
-use Rattle.constraints.specs.declared.refusal.ConstraintRefusal.TheVariants.{RootHasArguments, NoMemory}
+use Rattle.constraints.specs.declared.refusal.ConstraintRefusal.TheVariants.{Text, UnknownFunction, RootHasArguments}
 use Rattle.constraints.specs.ConstraintText.{phrases, constraint_of}
 use Rattle.constraints.specs.Names.{FirstFaulty}
 
@@ -45,15 +44,18 @@ IsNameFault q limit bytes fault =
 -- constraints has the first fault of the grammar, and one that names functions wrongly has the first fault of its names.
 abbrev pub Reads : Query → ℕ → List ℕ → Result (List Constraint) ConstraintRefusal → Type 0
 Reads q limit bytes (Ok found) = AreConstraints q limit bytes found
-Reads q limit bytes (Err (TooLong at)) = IsTextOrFault limit bytes (Err (lexer.TooLong at))
-Reads q limit bytes (Err (BadByte at)) = IsTextOrFault limit bytes (Err (lexer.BadByte at))
-Reads q limit bytes (Err (OpenString at)) = IsTextOrFault limit bytes (Err (lexer.OpenString at))
-Reads q limit bytes (Err (IntOutOfRange at)) =
+Reads q limit bytes (Err (Text (TooLong at))) =
+    IsTextOrFault limit bytes (Err (lexer.TooLong at))
+Reads q limit bytes (Err (Text (BadByte at))) =
+    IsTextOrFault limit bytes (Err (lexer.BadByte at))
+Reads q limit bytes (Err (Text (OpenString at))) =
+    IsTextOrFault limit bytes (Err (lexer.OpenString at))
+Reads q limit bytes (Err (Text (IntOutOfRange at))) =
     IsTextOrFault limit bytes (Err (lexer.IntOutOfRange at))
-Reads q limit bytes (Err (Expected at)) = IsFaultAt limit bytes at
+Reads q limit bytes (Err (Text (Expected at))) = IsFaultAt limit bytes at
 Reads q limit bytes (Err (UnknownFunction at)) = IsNameFault q limit bytes (Unknown at)
 Reads q limit bytes (Err (RootHasArguments at)) = IsNameFault q limit bytes (HasArguments at)
-Reads q limit bytes (Err NoMemory) = Unit {0}
+Reads q limit bytes (Err (Text NoMemory)) = Unit {0}
 
 -- an answer as a list of constraints
 abbrev pub told
@@ -63,7 +65,7 @@ told (Err e) = Err e
 
 -- any answer but out of memory
 abbrev pub IsSettled : Result (List Constraint) ConstraintRefusal → Type 0
-IsSettled (Err NoMemory) = ⊥
+IsSettled (Err (Text NoMemory)) = ⊥
 IsSettled answer = ⊤
 
 -- two such answers to the same bytes are equal

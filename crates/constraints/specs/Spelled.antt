@@ -5,13 +5,13 @@ use Rattle.sd_lex.specs.declared.token.Token.{Token}
 use Rattle.grammar.specs.Fault.{FirstFault}
 use Rattle.token_reader.specs.Gives.{place, IsReal}
 use Rattle.constraints.specs.declared.reading.Phrase.{Phrase}
-use Rattle.constraints.specs.declared.refusal.Refusal.{Refusal}
-use Rattle.constraints.specs.declared.refusal.Refusal.TheVariants.{Expected, NoMemory}
+use Rattle.token_reader.specs.declared.refusal.TokenRefusal.{TokenRefusal}
+use Rattle.token_reader.specs.declared.refusal.TokenRefusal.TheVariants.{Expected, NoMemory}
 use Rattle.constraints.specs.ConstraintText.{phrases}
 
 -- `Ok` has the constraints that the tokens spell. `Expected` has the place of the first token such that nothing that is
 -- spelled begins with the tokens up to and with it and goes on with tokens that a text can have.
-abbrev pub Spells : List Token → ℕ → Result (Vec Phrase) Refusal → Type 0
+abbrev pub Spells : List Token → ℕ → Result (Vec Phrase) TokenRefusal → Type 0
 Spells tokens text_end (Ok v) = phrases tokens v.items
 Spells tokens text_end (Err (Expected at)) =
     (rest : List Token) × FirstFault IsReal phrases phrases tokens rest

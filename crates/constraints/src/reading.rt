@@ -8,11 +8,10 @@ ghost use Rattle.constraints.specs.Reading.{read_reachable, read_each, read_only
 ghost use Rattle.constraints.specs.Reading.{begins_phrase, read_phrases};
 ghost use Rattle.constraints.specs.Spelled.{Spells};
 
-use crate::refusal::Refusal;
 use sd_lex::{Token, TokenKind};
 use sd_value::Str;
 use std::alloc::Global;
-use token_reader::{Halt, Word, has_word, place_of, quoted_at, word_at};
+use token_reader::{Halt, TokenRefusal, Word, has_word, place_of, quoted_at, word_at};
 
 /// A constraint as it is written: its functions with their places.
 #[derive(Debug)]
@@ -216,14 +215,14 @@ fn all_at(alloc: Global, tokens: &[Token]) -> Result<Vec<Phrase>, Halt<Token>>
 }
 
 /// The constraints that these tokens spell. The text ends at `text_end`.
-pub fn phrases(alloc: Global, tokens: &[Token], text_end: u64) -> Result<Vec<Phrase>, Refusal>
+pub fn phrases(alloc: Global, tokens: &[Token], text_end: u64) -> Result<Vec<Phrase>, TokenRefusal>
     ensures { Spells tokens.now text_end result }
 {
     match all_at(alloc, tokens) {
         Ok(phrases) => Ok(phrases),
-        Err(Halt::Expected(rest)) => Err(Refusal::Expected(place_of(rest, text_end))),
+        Err(Halt::Expected(rest)) => Err(TokenRefusal::Expected(place_of(rest, text_end))),
         // This grammar has no limits, so this never comes.
-        Err(Halt::TooDeep(rest)) => Err(Refusal::Expected(place_of(rest, text_end))),
-        Err(Halt::NoMemory) => Err(Refusal::NoMemory),
+        Err(Halt::TooDeep(rest)) => Err(TokenRefusal::Expected(place_of(rest, text_end))),
+        Err(Halt::NoMemory) => Err(TokenRefusal::NoMemory),
     }
 }

@@ -1,17 +1,10 @@
 //! Why a text of constraints is refused.
 
 ghost use Rattle.std.specs.Prelude.{◌≡◌};
-ghost use Rattle.constraints.specs.Refused.{of_lexer, of_grammar, of_fault};
+ghost use Rattle.constraints.specs.Refused.{of_lexer, of_tokens, of_fault, out_of_memory};
 
 use sd_lex::LexRefusal;
-
-/// Why tokens spell no constraints.
-#[derive(Clone, Copy, Debug, PartialEq, Eq)]
-pub enum Refusal {
-    /// The token at this place doesn't fit, or the text ends too early.
-    Expected(u64),
-    NoMemory,
-}
+use token_reader::{TextRefusal, TokenRefusal};
 
 /// What is wrong with a function that a constraint names.
 #[derive(Clone, Copy, Debug, PartialEq, Eq)]
@@ -25,45 +18,27 @@ pub enum NameFault {
 /// Why a text of constraints is refused. Each place counts bytes from the start.
 #[derive(Clone, Copy, Debug, PartialEq, Eq)]
 pub enum ConstraintRefusal {
-    /// There are more bytes than this limit.
-    TooLong(u64),
-    /// No token begins at this byte, or it is the backslash of an unknown escape.
-    BadByte(u64),
-    /// The text whose quote is here isn't closed.
-    OpenString(u64),
-    /// The number here is outside i64.
-    IntOutOfRange(u64),
-    /// The token at this place doesn't fit, or the text ends too early.
-    Expected(u64),
+    /// The text has no tokens, or they don't fit the grammar.
+    Text(TextRefusal),
     /// The function at this place stands in no CREATE of the query.
     UnknownFunction(u64),
     /// The function at this place, behind FROM, has arguments.
     RootHasArguments(u64),
-    NoMemory,
 }
 
 impl From<LexRefusal> for ConstraintRefusal {
     ghost from_gives = { λ e r. r ≡ of_lexer e };
 
     fn from(e: LexRefusal) -> Self {
-        match e {
-            LexRefusal::TooLong(at) => ConstraintRefusal::TooLong(at),
-            LexRefusal::BadByte(at) => ConstraintRefusal::BadByte(at),
-            LexRefusal::OpenString(at) => ConstraintRefusal::OpenString(at),
-            LexRefusal::IntOutOfRange(at) => ConstraintRefusal::IntOutOfRange(at),
-            LexRefusal::NoMemory => ConstraintRefusal::NoMemory,
-        }
+        ConstraintRefusal::Text(TextRefusal::from(e))
     }
 }
 
-impl From<Refusal> for ConstraintRefusal {
-    ghost from_gives = { λ e r. r ≡ of_grammar e };
+impl From<TokenRefusal> for ConstraintRefusal {
+    ghost from_gives = { λ e r. r ≡ of_tokens e };
 
-    fn from(e: Refusal) -> Self {
-        match e {
-            Refusal::Expected(at) => ConstraintRefusal::Expected(at),
-            Refusal::NoMemory => ConstraintRefusal::NoMemory,
-        }
+    fn from(e: TokenRefusal) -> Self {
+        ConstraintRefusal::Text(TextRefusal::from(e))
     }
 }
 
@@ -79,11 +54,9 @@ impl From<NameFault> for ConstraintRefusal {
 }
 
 impl From<sd_value::NoMemory> for ConstraintRefusal {
-    ghost use Rattle.constraints.specs.declared.refusal.ConstraintRefusal.TheVariants as refusals;
-
-    ghost from_gives = { λ _ e. e ≡ refusals.NoMemory };
+    ghost from_gives = { λ _ e. e ≡ out_of_memory };
 
     fn from(_: sd_value::NoMemory) -> Self {
-        ConstraintRefusal::NoMemory
+        ConstraintRefusal::Text(TextRefusal::NoMemory)
     }
 }

@@ -1,22 +1,14 @@
 //! Texts that change the data of a run.
 #![tactic(auto)]
 
-ghost use Rattle.std.specs.Prelude.{◌≡◌, ◌≢◌, IfOk, false};
+ghost use Rattle.std.specs.Prelude.{IfOk};
 ghost use Rattle.data_change.specs.Texts.{States, IsRead};
 
-use sd_ddl::{DdlRefusal, read_ddl};
+use command_spec::DATA_LIMIT;
+use sd_ddl::read_ddl;
 use sd_graph::{Graph, GraphBuilder, PROGRAM_LIMITS};
 use sd_value::{NoMemory, Str};
 use std::alloc::Global;
-
-// The most bytes of a data text.
-const DATA_LIMIT: u64 = 67_108_864;
-
-fn is_out_of_memory(refusal: &DdlRefusal) -> bool
-    ensures { result ≡ false → refusal.now ≢ DdlRefusal.NoMemory }
-{
-    *refusal == DdlRefusal::NoMemory
-}
 
 /// The data that a text states, where it is an accepted data text; none where it isn't.
 pub fn read_change(alloc: Global, text: &Str) -> Result<Option<Graph>, NoMemory>
@@ -29,7 +21,7 @@ pub fn read_change(alloc: Global, text: &Str) -> Result<Option<Graph>, NoMemory>
             Ok(Some(graph))
         }
         Err(refusal) => {
-            if is_out_of_memory(&refusal) {
+            if refusal.is_out_of_memory() {
                 return Err(NoMemory);
             }
             Ok(None)

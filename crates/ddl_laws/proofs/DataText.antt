@@ -13,7 +13,7 @@ use Rattle.sd_graph.specs.Stating.{Ending, done, fault, too_many_nodes, too_many
 use Rattle.ddl_text.specs.declared.tree.Statement.{Statement}
 use Rattle.ddl_text.specs.DataText.{file}
 use Rattle.ddl_text.specs.Reading.{read_file}
-use Rattle.ddl_text.specs.Refused.{of_lexer}
+use Rattle.token_reader.specs.Refused.{of_lexer}
 use Rattle.ddl_text.proofs.Parts.{file_part}
 use Rattle.sd_ddl.specs.declared.refusal.DdlRefusal.{DdlRefusal}
 use Rattle.sd_ddl.specs.declared.refusal.DdlRefusal.TheVariants.{TooLong, BadByte, OpenString, IntOutOfRange, Expected, KindConflict, TooManyEdges, TooManyNodes, NoMemory}

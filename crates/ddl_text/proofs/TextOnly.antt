@@ -5,10 +5,10 @@ use Rattle.sd_lex.specs.declared.refusal.LexRefusal.{LexRefusal}
 use Rattle.sd_lex.specs.declared.refusal.LexRefusal.TheVariants as lexer
 use Rattle.sd_lex.specs.Lexing.{Answers}
 use Rattle.ddl_text.specs.declared.tree.Statement.{Statement}
-use Rattle.ddl_text.specs.declared.refusal.Refusal.{Refusal}
-use Rattle.ddl_text.specs.declared.refusal.Refusal.TheVariants as grammar
+use Rattle.token_reader.specs.declared.refusal.TokenRefusal.{TokenRefusal}
+use Rattle.token_reader.specs.declared.refusal.TokenRefusal.TheVariants as grammar
 use Rattle.ddl_text.specs.DataText.{file}
-use Rattle.ddl_text.specs.Refused.{of_lexer, of_grammar}
+use Rattle.token_reader.specs.Refused.{of_lexer, of_tokens}
 use Rattle.ddl_text.specs.Stated.{IsOnly}
 use Rattle.ddl_text.specs.Text.{TextGives}
 
@@ -19,6 +19,6 @@ no_tokens (lexer.OpenString at) tokens found h = absurd cc
 no_tokens (lexer.IntOutOfRange at) tokens found h = absurd cc
 no_tokens lexer.NoMemory tokens found h = tt
 
-pub not_spelled : (e : Refusal) (tokens : List Token) (found : List Statement) → IsOnly tokens (Err e) → file tokens found → TextGives found (Err (of_grammar e))
+pub not_spelled : (e : TokenRefusal) (tokens : List Token) (found : List Statement) → IsOnly tokens (Err e) → file tokens found → TextGives found (Err (of_tokens e))
 not_spelled (grammar.Expected at) tokens found only f = only found f
 not_spelled grammar.NoMemory tokens found only f = tt

@@ -3,5 +3,4 @@ pub mod DataText
 pub mod Next
 pub mod Reading
 pub mod Stated
-pub mod Refused
 pub mod Text

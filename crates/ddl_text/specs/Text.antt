@@ -7,8 +7,8 @@ use Rattle.sd_lex.specs.Lexing.{IsTextOrFault}
 use Rattle.grammar.specs.Fault.{FirstFault}
 use Rattle.token_reader.specs.Gives.{place, IsReal}
 use Rattle.ddl_text.specs.declared.tree.Statement.{Statement}
-use Rattle.ddl_text.specs.declared.refusal.TextRefusal.{TextRefusal}
-use Rattle.ddl_text.specs.declared.refusal.TextRefusal.TheVariants.{TooLong, BadByte, OpenString, IntOutOfRange, Expected, NoMemory}
+use Rattle.token_reader.specs.declared.refusal.TextRefusal.{TextRefusal}
+use Rattle.token_reader.specs.declared.refusal.TextRefusal.TheVariants.{TooLong, BadByte, OpenString, IntOutOfRange, Expected, NoMemory}
 use Rattle.ddl_text.specs.DataText.{file}
 
 -- `Ok` has the statements that the text's tokens spell. A text that has no tokens has the lexer's fault. `Expected` has the

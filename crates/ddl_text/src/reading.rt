@@ -14,14 +14,14 @@ ghost use Rattle.ddl_text.specs.Reading.{read_entry, read_directive, read_kinded
 ghost use Rattle.ddl_text.specs.Reading.{read_further_name, read_collections, read_in, read_object, read_statement};
 ghost use Rattle.ddl_text.specs.Reading.{read_file, begins_statement};
 
-use crate::refusal::Refusal;
 use crate::tree::{
     Content, Entries, Entry, Field, Fields, Given, Kind, KindWord, Statement, Words,
 };
 use sd_lex::{Sign, Token, TokenKind};
 use std::alloc::Global;
 use token_reader::{
-    Halt, Word, has_name, has_sign, has_word, name_at, place_of, quoted_at, sign_at, word_at,
+    Halt, TokenRefusal, Word, has_name, has_sign, has_word, name_at, place_of, quoted_at, sign_at,
+    word_at,
 };
 
 /// A kind's word at the front.
@@ -152,8 +152,9 @@ fn value_at(alloc: Global, tokens: &[Token]) -> Result<(Given, &[Token]), Halt<T
     }
 }
 
+/// A label and its value at the front.
 #[tactic(auto, unfolding(crate::specs::Reading::read_field))]
-fn field_at(alloc: Global, tokens: &[Token]) -> Result<(Field, &[Token]), Halt<Token>>
+pub fn field_at(alloc: Global, tokens: &[Token]) -> Result<(Field, &[Token]), Halt<Token>>
     ensures { Gives (λ x. x.0) (λ x. x.1.now) result (read_field tokens.now) }
 {
     let (name, rest) = name_at(alloc, tokens)?;
@@ -283,16 +284,20 @@ fn file_at(alloc: Global, tokens: &[Token]) -> Result<Vec<Statement>, Halt<Token
 }
 
 /// The statements that these tokens spell. The text ends at `text_end`.
-pub fn statements(alloc: Global, tokens: &[Token], text_end: u64) -> Result<Vec<Statement>, Refusal>
+pub fn statements(
+    alloc: Global,
+    tokens: &[Token],
+    text_end: u64,
+) -> Result<Vec<Statement>, TokenRefusal>
     ensures exact { States tokens.now text_end result }
     ensures only { IsOnly tokens.now result }
 {
     match file_at(alloc, tokens) {
         Ok(statements) => Ok(statements),
-        Err(Halt::Expected(rest)) => Err(Refusal::Expected(place_of(rest, text_end))),
+        Err(Halt::Expected(rest)) => Err(TokenRefusal::Expected(place_of(rest, text_end))),
         // This grammar has no limits, so this never comes.
-        Err(Halt::TooDeep(rest)) => Err(Refusal::Expected(place_of(rest, text_end))),
-        Err(Halt::NoMemory) => Err(Refusal::NoMemory),
+        Err(Halt::TooDeep(rest)) => Err(TokenRefusal::Expected(place_of(rest, text_end))),
+        Err(Halt::NoMemory) => Err(TokenRefusal::NoMemory),
     }
 }
 

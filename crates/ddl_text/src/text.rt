@@ -9,10 +9,10 @@ ghost use Rattle.ddl_text.specs.Next.{IsNext};
 ghost use Rattle.ddl_text.specs.Text.{TextStates, TextGives};
 
 use crate::reading::{one_statement, statements};
-use crate::refusal::TextRefusal;
 use crate::tree::Statement;
 use sd_lex::{Rest, Token as LexToken, tokens, tokens_to_close};
 use std::alloc::Global;
+use token_reader::TextRefusal;
 
 /// The statements of a text of at most `limit` bytes.
 pub fn statements_of(alloc: Global, bytes: &[u8], limit: u64) -> Result<Vec<Statement>, TextRefusal>

@@ -17,8 +17,8 @@ use Rattle.command_spec.specs.Limits.{data_limit}
 use Rattle.data_change.proofs.Lexed.{lexed_text}
 use Rattle.edit_spec.specs.declared.Edit.{Edit}
 use Rattle.edit_spec.specs.Edited.{IsOfData}
-use Rattle.edit_reader.specs.declared.refusal.EditRefusal.{EditRefusal}
-use Rattle.edit_reader.specs.declared.refusal.EditRefusal.TheVariants.{TooLong, BadByte, OpenString, IntOutOfRange, Expected, NoMemory}
+use Rattle.token_reader.specs.declared.refusal.TextRefusal.{TextRefusal}
+use Rattle.token_reader.specs.declared.refusal.TextRefusal.TheVariants.{TooLong, BadByte, OpenString, IntOutOfRange, Expected, NoMemory}
 use Rattle.edit_reader.specs.EditText.{value_of, action, edit}
 use Rattle.edit_reader.specs.Reading.{read_whole}
 use Rattle.edit_reader.specs.Reads.{Reads, IsEditText, IsSettled}
@@ -109,7 +109,7 @@ one_spelled text None (Some f) h k = absurd (h f k.0)
 one_spelled text (Some e) None h k = absurd (k e h.0)
 one_spelled text (Some e) (Some f) h k = ap (λ (x : Edit). Some x) (ok_edit text e f h.0 k.0)
 
-settled : (r : EditRefusal) → r ≢ NoMemory → IsSettled (Err r)
+settled : (r : TextRefusal) → r ≢ NoMemory → IsSettled (Err r)
 settled (TooLong at) other = tt
 settled (BadByte at) other = tt
 settled (OpenString at) other = tt
@@ -121,9 +121,9 @@ pub read_some : (text bytes : List ℕ) (e : Edit) → bytes ≡ text → Reads 
 read_some text bytes e is (tokens, lexed, h) =
     subst (λ (t : List ℕ). IsEditText data_limit t e × IsOfData e) is ((tokens, lexed, h), of_edit tokens e h)
 
-pub read_none : (text bytes : List ℕ) (r : EditRefusal) → bytes ≡ text → Reads data_limit bytes (Err r) → r ≢ NoMemory
+pub read_none : (text bytes : List ℕ) (r : TextRefusal) → bytes ≡ text → Reads data_limit bytes (Err r) → r ≢ NoMemory
     → IsSpelled text None
 read_none text bytes r is reads other e h =
     let here : Reads data_limit text (Err r) = subst (λ (t : List ℕ). Reads data_limit t (Err r)) is reads in
-    let same : ◌≡◌ {A = Result Edit EditRefusal} (Ok e) (Err r) = one_answer data_limit text (Ok e) (Err r) h here tt (settled r other) in
+    let same : ◌≡◌ {A = Result Edit TextRefusal} (Ok e) (Err r) = one_answer data_limit text (Ok e) (Err r) h here tt (settled r other) in
     absurd cc

@@ -1,15 +1,16 @@
 //! Texts of a run that are edits of its data, and which pages they touch.
 #![tactic(auto)]
 
-ghost use Rattle.std.specs.Prelude.{◌≡◌, ◌≢◌, IfOk, false, map, not};
+ghost use Rattle.std.specs.Prelude.{◌≡◌, IfOk, map, not};
 ghost use Rattle.sd_value.specs.declared.Term.{Term as AnyTerm};
 ghost use Rattle.tmpl.specs.Reading.{file_of};
 ghost use Rattle.query_blocks.specs.Blocks.{AreCheckedBlocks, scope_of};
 ghost use Rattle.edit_change.specs.Edits.{EditReader, IsSpelled, edit_under};
 ghost use Rattle.edit_change.specs.Touching.{Touching};
 
+use command_spec::DATA_LIMIT;
 use edit_pages::touches_pages;
-use edit_reader::{EditRefusal, read_edit};
+use edit_reader::read_edit;
 use edit_spec::Edit;
 use query_blocks::QueryBlocks;
 use sd_value::{NoMemory, Str, Term};
@@ -17,25 +18,16 @@ use std::alloc::Global;
 use struql_check::Checked;
 use tmpl::Templates;
 
-// The most bytes of an edit's text, as of a data text.
-const EDIT_LIMIT: u64 = 67_108_864;
-
-fn is_out_of_memory(refusal: &EditRefusal) -> bool
-    ensures { result ≡ false → refusal.now ≢ EditRefusal.NoMemory }
-{
-    *refusal == EditRefusal::NoMemory
-}
-
 /// The edit that a text spells; none where it spells none.
 /// # Errors
 /// Out of memory.
 pub fn edit_in(alloc: Global, text: &Str) -> Result<Option<Edit>, NoMemory>
     ensures { IfOk result (IsSpelled text.now) }
 {
-    match read_edit(alloc, text.bytes(), EDIT_LIMIT) {
+    match read_edit(alloc, text.bytes(), DATA_LIMIT) {
         Ok(edit) => Ok(Some(edit)),
         Err(refusal) => {
-            if is_out_of_memory(&refusal) {
+            if refusal.is_out_of_memory() {
                 return Err(NoMemory);
             }
             Ok(None)

@@ -10,23 +10,23 @@ use Rattle.token_reader.specs.Gives.{place, IsReal}
 use Rattle.token_reader.proofs.Tokens.{one_token_list}
 use Rattle.token_reader.proofs.TextFaults.{text_fault, text_spelled_no_fault}
 use Rattle.edit_spec.specs.declared.Edit.{Edit}
-use Rattle.edit_reader.specs.declared.refusal.EditRefusal.{EditRefusal}
-use Rattle.edit_reader.specs.declared.refusal.EditRefusal.TheVariants.{TooLong, BadByte, OpenString, IntOutOfRange, Expected, NoMemory}
+use Rattle.token_reader.specs.declared.refusal.TextRefusal.{TextRefusal}
+use Rattle.token_reader.specs.declared.refusal.TextRefusal.TheVariants.{TooLong, BadByte, OpenString, IntOutOfRange, Expected, NoMemory}
 use Rattle.edit_reader.specs.EditText.{edit}
 use Rattle.edit_reader.specs.Reading.{read_whole}
-use Rattle.edit_reader.specs.Refused.{of_lexer}
+use Rattle.token_reader.specs.Refused.{of_lexer}
 use Rattle.edit_reader.specs.Reads.{Reads, IsSettled, HasOneAnswer}
 use Rattle.edit_reader.proofs.Parts.{edit_part}
 
 -- the three ways to an answer: by the lexer, by the grammar, or by the edit
-data Way (limit : ℕ) (bytes : List ℕ) (r : Result Edit EditRefusal) : Type 0 where
+data Way (limit : ℕ) (bytes : List ℕ) (r : Result Edit TextRefusal) : Type 0 where
   lexed : (e : LexRefusal) → IsTextOrFault limit bytes (Err e) → r ≡ Err (of_lexer e) → Way limit bytes r
   stuck : (tokens rest : List Token) → IsTextOrFault limit bytes (Ok tokens) → FirstFault IsReal edit edit tokens rest
       → r ≡ Err (Expected (place (length bytes) rest)) → Way limit bytes r
   spelled : (tokens : List Token) (found : Edit) → IsTextOrFault limit bytes (Ok tokens) → edit tokens found
       → r ≡ Ok found → Way limit bytes r
 
-way : (limit : ℕ) (bytes : List ℕ) (r : Result Edit EditRefusal) → Reads limit bytes r → IsSettled r → Way limit bytes r
+way : (limit : ℕ) (bytes : List ℕ) (r : Result Edit TextRefusal) → Reads limit bytes r → IsSettled r → Way limit bytes r
 way limit bytes (Ok found) (tokens, l, f) settled = spelled tokens found l f refl
 way limit bytes (Err (TooLong at)) h settled = lexed (lexer.TooLong at) h refl
 way limit bytes (Err (BadByte at)) h settled = lexed (lexer.BadByte at) h refl
@@ -53,7 +53,7 @@ spelled_no_stuck limit bytes tokens tokens2 rest found l m f g =
     let e : tokens2 ≡ tokens = same_tokens limit bytes tokens2 tokens m l in
     text_spelled_no_fault edit edit (λ x v h. h) limit bytes tokens l found rest (subst (λ x. edit x found) e g) f
 
-one_way : (limit : ℕ) (bytes : List ℕ) (r s : Result Edit EditRefusal) → Way limit bytes r → Way limit bytes s → r ≡ s
+one_way : (limit : ℕ) (bytes : List ℕ) (r s : Result Edit TextRefusal) → Way limit bytes r → Way limit bytes s → r ≡ s
 one_way limit bytes r s (lexed e h is) (lexed f k is2) =
     let both : Err e ≡ Err f = one_token_list limit bytes (Err e) (Err f) h k in
     let one : e ≡ f = cc in

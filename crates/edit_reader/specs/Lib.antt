@@ -1,5 +1,4 @@
 pub mod EditText
 pub mod Reading
 pub mod Spelled
-pub mod Refused
 pub mod Reads

@@ -6,8 +6,8 @@ use Rattle.sd_lex.specs.Lexing.{IsTextOrFault}
 use Rattle.grammar.specs.Fault.{FirstFault}
 use Rattle.token_reader.specs.Gives.{place, IsReal}
 use Rattle.edit_spec.specs.declared.Edit.{Edit}
-use Rattle.edit_reader.specs.declared.refusal.EditRefusal.{EditRefusal}
-use Rattle.edit_reader.specs.declared.refusal.EditRefusal.TheVariants.{TooLong, BadByte, OpenString, IntOutOfRange, Expected, NoMemory}
+use Rattle.token_reader.specs.declared.refusal.TextRefusal.{TextRefusal}
+use Rattle.token_reader.specs.declared.refusal.TextRefusal.TheVariants.{TooLong, BadByte, OpenString, IntOutOfRange, Expected, NoMemory}
 use Rattle.edit_reader.specs.EditText.{edit}
 
 -- the text's tokens spell the edit
@@ -24,7 +24,7 @@ IsFaultAt limit bytes at =
 
 -- `Ok` has the edit. A text that has no tokens has the lexer's fault; one whose tokens spell no edit has the first
 -- fault of the grammar.
-abbrev pub Reads : ℕ → List ℕ → Result Edit EditRefusal → Type 0
+abbrev pub Reads : ℕ → List ℕ → Result Edit TextRefusal → Type 0
 Reads limit bytes (Ok e) = IsEditText limit bytes e
 Reads limit bytes (Err (TooLong at)) = IsTextOrFault limit bytes (Err (lexer.TooLong at))
 Reads limit bytes (Err (BadByte at)) = IsTextOrFault limit bytes (Err (lexer.BadByte at))
@@ -35,12 +35,12 @@ Reads limit bytes (Err (Expected at)) = IsFaultAt limit bytes at
 Reads limit bytes (Err NoMemory) = Unit {0}
 
 -- any answer but out of memory
-abbrev pub IsSettled : Result Edit EditRefusal → Type 0
+abbrev pub IsSettled : Result Edit TextRefusal → Type 0
 IsSettled (Err NoMemory) = ⊥
 IsSettled answer = ⊤
 
 -- two such answers to the same bytes are equal
 abbrev pub HasOneAnswer : ℕ → List ℕ → Type 0
 HasOneAnswer limit bytes =
-    (r s : Result Edit EditRefusal) → Reads limit bytes r → Reads limit bytes s
+    (r s : Result Edit TextRefusal) → Reads limit bytes r → Reads limit bytes s
     → IsSettled r → IsSettled s → r ≡ s

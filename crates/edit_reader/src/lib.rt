@@ -2,9 +2,7 @@
 #![tactic(auto)]
 
 mod reading;
-mod refusal;
 mod text;
 
 pub use reading::spelled;
-pub use refusal::{EditRefusal, Refusal};
 pub use text::{an_edit_has_one_answer, read_edit};

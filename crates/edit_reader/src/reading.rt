@@ -1,122 +1,18 @@
 //! The reader of edits over tokens.
 
-ghost use Rattle.std.specs.Prelude.{◌≡◌, [], true};
-ghost use Rattle.grammar.specs.Reading.{take_one};
+ghost use Rattle.std.specs.Prelude.{◌≡◌, []};
 ghost use Rattle.token_reader.specs.Gives.{Gives};
-ghost use Rattle.ddl_text.specs.Terminals.{kind_value};
-ghost use Rattle.ddl_text.specs.Reading.{read_kinded, read_node, read_value, read_field};
 ghost use Rattle.edit_reader.specs.EditText.{kinded_value, value_of, edge_of, member_of};
 ghost use Rattle.edit_reader.specs.Reading.{read_adding, read_removing, read_entering, read_leaving, read_action, read_phrase, read_whole};
 ghost use Rattle.edit_reader.specs.Spelled.{Spells};
 
-use crate::refusal::Refusal;
-use ddl_text::{Content, Field, Given, Kind, KindWord};
+use ddl_text::{Content, Field, Kind, field_at};
 use edit_spec::Edit;
 use graph_spec::{Edge, Member};
-use sd_lex::{Sign, Token, TokenKind};
+use sd_lex::Token;
 use sd_value::{Datum, Str, Value};
 use std::alloc::Global;
-use token_reader::{Halt, Word, has_word, name_at, place_of, quoted_at, sign_at, word_at};
-
-/// A kind's word at the front.
-fn kind_at(tokens: &[Token]) -> Result<(KindWord, &[Token]), Halt<Token>>
-    ensures { Gives (λ x. x.0) (λ x. x.1.now) result (take_one true kind_value tokens.now) }
-{
-    let [first, rest @ ..] = tokens else {
-        return Err(Halt::Expected(tokens));
-    };
-    let TokenKind::Name(word) = &first.kind else {
-        return Err(Halt::Expected(tokens));
-    };
-    let place = first.span.start;
-    if word.bytes() == b"text".as_slice() {
-        Ok((
-            KindWord {
-                kind: Kind::Text,
-                place,
-            },
-            rest,
-        ))
-    } else if word.bytes() == b"url".as_slice() {
-        Ok((
-            KindWord {
-                kind: Kind::Url,
-                place,
-            },
-            rest,
-        ))
-    } else if word.bytes() == b"file".as_slice() {
-        Ok((
-            KindWord {
-                kind: Kind::File,
-                place,
-            },
-            rest,
-        ))
-    } else {
-        Err(Halt::Expected(tokens))
-    }
-}
-
-#[tactic(auto, unfolding(ddl_text::specs::Reading::read_kinded))]
-fn kinded_at(alloc: Global, tokens: &[Token]) -> Result<(Given, &[Token]), Halt<Token>>
-    ensures { Gives (λ x. x.0) (λ x. x.1.now) result (read_kinded tokens.now) }
-{
-    let (word, rest) = kind_at(tokens)?;
-    let (text, rest) = quoted_at(alloc, rest)?;
-    let content = Content::Kinded(word.kind, text.text);
-    Ok((
-        Given {
-            content,
-            place: word.place,
-        },
-        rest,
-    ))
-}
-
-#[tactic(auto, unfolding(ddl_text::specs::Reading::read_node))]
-fn node_at(alloc: Global, tokens: &[Token]) -> Result<(Given, &[Token]), Halt<Token>>
-    ensures { Gives (λ x. x.0) (λ x. x.1.now) result (read_node tokens.now) }
-{
-    let (place, rest) = sign_at(tokens, Sign::Amp)?;
-    let (name, rest) = name_at(alloc, rest)?;
-    let content = Content::Node(name.text);
-    Ok((Given { content, place }, rest))
-}
-
-#[tactic(auto, unfolding(ddl_text::specs::Reading::read_value))]
-fn value_at(alloc: Global, tokens: &[Token]) -> Result<(Given, &[Token]), Halt<Token>>
-    ensures { Gives (λ x. x.0) (λ x. x.1.now) result (read_value tokens.now) }
-{
-    let [first, rest @ ..] = tokens else {
-        return kinded_at(alloc, tokens);
-    };
-    let place = first.span.start;
-    match &first.kind {
-        TokenKind::Int(n) => Ok((
-            Given {
-                content: Content::Number(*n),
-                place,
-            },
-            rest,
-        )),
-        TokenKind::Quoted(text) => {
-            let content = Content::Plain(text.copy(alloc)?);
-            Ok((Given { content, place }, rest))
-        }
-        TokenKind::Sign(Sign::Amp) => node_at(alloc, tokens),
-        TokenKind::Name(_) | TokenKind::Sign(_) => kinded_at(alloc, tokens),
-    }
-}
-
-#[tactic(auto, unfolding(ddl_text::specs::Reading::read_field))]
-fn field_at(alloc: Global, tokens: &[Token]) -> Result<(Field, &[Token]), Halt<Token>>
-    ensures { Gives (λ x. x.0) (λ x. x.1.now) result (read_field tokens.now) }
-{
-    let (name, rest) = name_at(alloc, tokens)?;
-    let (value, rest) = value_at(alloc, rest)?;
-    Ok((Field { name, value }, rest))
-}
+use token_reader::{Halt, TokenRefusal, Word, has_word, name_at, place_of, word_at};
 
 /// A text of a kind, as a value.
 fn kinded(kind: Kind, text: Str) -> Value
@@ -237,14 +133,14 @@ fn whole_at(alloc: Global, tokens: &[Token]) -> Result<Edit, Halt<Token>>
 }
 
 /// The edit that these tokens spell. The text ends at `text_end`.
-pub fn spelled(alloc: Global, tokens: &[Token], text_end: u64) -> Result<Edit, Refusal>
+pub fn spelled(alloc: Global, tokens: &[Token], text_end: u64) -> Result<Edit, TokenRefusal>
     ensures { Spells tokens.now text_end result }
 {
     match whole_at(alloc, tokens) {
         Ok(edit) => Ok(edit),
-        Err(Halt::Expected(rest)) => Err(Refusal::Expected(place_of(rest, text_end))),
+        Err(Halt::Expected(rest)) => Err(TokenRefusal::Expected(place_of(rest, text_end))),
         // This grammar has no limits, so this never comes.
-        Err(Halt::TooDeep(rest)) => Err(Refusal::Expected(place_of(rest, text_end))),
-        Err(Halt::NoMemory) => Err(Refusal::NoMemory),
+        Err(Halt::TooDeep(rest)) => Err(TokenRefusal::Expected(place_of(rest, text_end))),
+        Err(Halt::NoMemory) => Err(TokenRefusal::NoMemory),
     }
 }

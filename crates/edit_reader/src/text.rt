@@ -4,10 +4,10 @@ ghost use Rattle.std.specs.Prelude.{ℕ, List};
 ghost use Rattle.edit_reader.specs.Reads.{Reads, HasOneAnswer};
 
 use crate::reading::spelled;
-use crate::refusal::EditRefusal;
 use edit_spec::Edit;
 use sd_lex::tokens;
 use std::alloc::Global;
+use token_reader::TextRefusal;
 
 /// The edit that a text of at most `limit` bytes spells:
 ///
@@ -19,7 +19,7 @@ use std::alloc::Global;
 /// a quoted value without a kind is a text. A text of more bytes is `TooLong`, one that has no tokens has the lexer's
 /// refusal, and one that is no edit is `Expected` at the first token such that no edit begins with the tokens up to and
 /// with it, or at its end where more is wanted.
-pub fn read_edit(alloc: Global, bytes: &[u8], limit: u64) -> Result<Edit, EditRefusal>
+pub fn read_edit(alloc: Global, bytes: &[u8], limit: u64) -> Result<Edit, TextRefusal>
     ensures { Reads limit bytes.now result }
 {
     let tokens = tokens(alloc, bytes, limit)?;

@@ -4,9 +4,9 @@ ghost use Rattle.std.specs.List.{flat_map};
 ghost use Rattle.json_source.specs.Names.{member_place, item_place, member_name, pointer_byte, name_byte};
 ghost use Rattle.json_source.specs.Names.{is_kept as is_kept_byte, hexadecimal as hexadecimal_code};
 
-use itoa::Buffer;
 use sd_value::{NoMemory, Str};
 use std::alloc::{AllocError, Global};
+use token_writer::put_number;
 
 /// An item's place.
 pub fn place_of_item(alloc: Global, at: &Str, index: u64) -> Result<Str, NoMemory>
@@ -14,8 +14,7 @@ pub fn place_of_item(alloc: Global, at: &Str, index: u64) -> Result<Str, NoMemor
 {
     let mut place = Vec::from_slice(alloc, at.bytes())?;
     place.extend_from_slice(b"/")?;
-    let mut buffer = Buffer::new();
-    place.extend_from_slice(buffer.format(index).as_bytes())?;
+    put_number(index as u128, &mut place)?;
     Str::of(alloc, place)
 }
 

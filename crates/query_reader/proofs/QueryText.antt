@@ -12,6 +12,7 @@ use Rattle.query_spec.specs.Query as plain
 use Rattle.struql_ast.specs.Written as written
 use Rattle.struql_ast.specs.Written.{query_written}
 use Rattle.struql_text.specs.Terminals.{is_other_version}
+use Rattle.token_reader.specs.declared.refusal.TextRefusal.TheVariants as text
 use Rattle.struql_parse.specs.declared.refusal.ParseRefusal.{ParseRefusal}
 use Rattle.struql_parse.specs.declared.refusal.ParseRefusal.TheVariants as parse
 use Rattle.struql_parse.specs.Blocks.{query_within, query_spelled}
@@ -42,7 +43,7 @@ past_of false at = parse.TooDeep at
 data Way (limit : ℕ) (bytes : List ℕ) (r : Result plain.Query QueryRefusal) : Type 0 where
   lexed : (e : LexRefusal) → IsTextOrFault limit bytes (Err e) → r ≡ Err (NotSpelled (of_lexer e)) → Way limit bytes r
   stuck : (tokens rest : List Token) → IsTextOrFault limit bytes (Ok tokens) → FirstFault IsReal query_within query_spelled tokens rest
-      → r ≡ Err (NotSpelled (parse.Expected (place (length bytes) rest))) → Way limit bytes r
+      → r ≡ Err (NotSpelled (parse.Text (text.Expected (place (length bytes) rest)))) → Way limit bytes r
   past : (tokens rest : List Token) → IsTextOrFault limit bytes (Ok tokens) → FirstPast IsReal query_within query_spelled tokens rest
       → r ≡ Err (NotSpelled (past_of (starts is_other_version rest) (place (length bytes) rest))) → Way limit bytes r
   faulty : (tokens : List Token) (q : written.Query) → IsTextOrFault limit bytes (Ok tokens) → query_within tokens q
@@ -77,14 +78,14 @@ past_way limit bytes b at tokens rest l f version is =
 way : (limit : ℕ) (bytes : List ℕ) (r : Result plain.Query QueryRefusal) → Reads limit bytes r → IsSettled r → Way limit bytes r
 way limit bytes (Ok checked) h settled =
     accepted h.spelled.0 (query_written h.query) h.spelled.1 h.spelled.2 h.faultless (ap Ok (h.is_plain ∙ sym (query_same h.query)))
-way limit bytes (Err (NotSpelled (parse.TooLong at))) h settled = lexed (lexer.TooLong at) h refl
-way limit bytes (Err (NotSpelled (parse.BadByte at))) h settled = lexed (lexer.BadByte at) h refl
-way limit bytes (Err (NotSpelled (parse.OpenString at))) h settled = lexed (lexer.OpenString at) h refl
-way limit bytes (Err (NotSpelled (parse.IntOutOfRange at))) h settled = lexed (lexer.IntOutOfRange at) h refl
-way limit bytes (Err (NotSpelled (parse.Expected at))) (tokens, l, rest, f, is) settled = stuck tokens rest l f (ap (λ x. Err (NotSpelled (parse.Expected x))) is)
+way limit bytes (Err (NotSpelled (parse.Text (text.TooLong at)))) h settled = lexed (lexer.TooLong at) h refl
+way limit bytes (Err (NotSpelled (parse.Text (text.BadByte at)))) h settled = lexed (lexer.BadByte at) h refl
+way limit bytes (Err (NotSpelled (parse.Text (text.OpenString at)))) h settled = lexed (lexer.OpenString at) h refl
+way limit bytes (Err (NotSpelled (parse.Text (text.IntOutOfRange at)))) h settled = lexed (lexer.IntOutOfRange at) h refl
+way limit bytes (Err (NotSpelled (parse.Text (text.Expected at)))) (tokens, l, rest, f, is) settled = stuck tokens rest l f (ap (λ x. Err (NotSpelled (parse.Text (text.Expected x)))) is)
 way limit bytes (Err (NotSpelled (parse.TooDeep at))) (tokens, l, rest, f, version, is) settled = past_way limit bytes false at tokens rest l f version is
 way limit bytes (Err (NotSpelled (parse.BadVersion at))) (tokens, l, rest, f, version, is) settled = past_way limit bytes true at tokens rest l f version is
-way limit bytes (Err (NotSpelled parse.NoMemory)) h settled = absurd settled
+way limit bytes (Err (NotSpelled (parse.Text text.NoMemory))) h settled = absurd settled
 way limit bytes (Err (NotChecked e)) (q, (tokens, l, w), t) settled =
     let told_so = tells q e settled t in
     faulty tokens q l w told_so.check told_so.at told_so.least (ap (λ x. Err (NotChecked x)) told_so.is)
@@ -131,7 +132,7 @@ module _ (limit : ℕ) (bytes : List ℕ) where
   one_way r s (stuck tokens rest l f is) (stuck tokens2 rest2 m g is2) =
       let e : tokens2 ≡ tokens = same_tokens tokens2 tokens m l in
       let one : rest ≡ rest2 = text_fault query_within query_spelled is_within limit bytes tokens l rest rest2 f (subst (λ x. FirstFault IsReal query_within query_spelled x rest2) e g) in
-      is ∙ ap (λ x. Err (NotSpelled (parse.Expected (place (length bytes) x)))) one ∙ sym is2
+      is ∙ ap (λ x. Err (NotSpelled (parse.Text (text.Expected (place (length bytes) x))))) one ∙ sym is2
   one_way r s (stuck tokens rest l f is) (past tokens2 rest2 m g is2) = absurd (stuck_past tokens tokens2 rest rest2 l m f g)
   one_way r s (stuck tokens rest l f is) (faulty tokens2 q m w c at least is2) = absurd (spelled_stuck tokens2 tokens rest q m l w f)
   one_way r s (stuck tokens rest l f is) (accepted tokens2 q m w faultless is2) = absurd (spelled_stuck tokens2 tokens rest q m l w f)

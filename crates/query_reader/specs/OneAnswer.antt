@@ -1,6 +1,7 @@
 -- What it means that a query's text has one answer.
 use Rattle.std.specs.Prelude.{◌≡◌, ℕ, List, Result, Ok, Err, ⊤}
 use Rattle.query_spec.specs.Query as plain
+use Rattle.token_reader.specs.declared.refusal.TextRefusal.TheVariants as text
 use Rattle.struql_parse.specs.declared.refusal.ParseRefusal.TheVariants as parse
 use Rattle.struql_check.specs.declared.refusal.CheckRefusal.TheVariants as check
 use Rattle.query_reader.specs.declared.QueryRefusal.{QueryRefusal}
@@ -9,7 +10,7 @@ use Rattle.query_reader.specs.Reads.{Reads}
 
 -- any answer but out of memory
 abbrev pub IsSettled : Result plain.Query QueryRefusal → Type 0
-IsSettled (Err (NotSpelled parse.NoMemory)) = ⊥
+IsSettled (Err (NotSpelled (parse.Text text.NoMemory))) = ⊥
 IsSettled (Err (NotChecked check.NoMemory)) = ⊥
 IsSettled answer = ⊤
 

@@ -7,13 +7,13 @@ ghost use Rattle.schema.specs.Orders.{edge_cmp};
 ghost use Rattle.schema.specs.Picture.{node_text, IsPicture};
 ghost use Rattle.schema.specs.Lines.{end_name, row_label, row_ends, row_statement, row_statements};
 
-use crate::print::{put_function, put_number};
+use crate::print::put_function;
 use crate::starting::links_from;
 use crate::{SchemaEdge, SchemaFunction, schema};
 use sd_value::NoMemory;
 use std::alloc::Global;
 use struql_check::Checked;
-use token_writer::{put, put_quoted};
+use token_writer::{put, put_number, put_quoted};
 
 /// Appends the name of a function's node.
 fn put_node(alloc: Global, function: &SchemaFunction, out: &mut Vec<u8>) -> Result<(), NoMemory>
@@ -43,7 +43,7 @@ fn label_of(alloc: Global, edge: &SchemaEdge) -> Result<Vec<u8>, NoMemory>
     ensures { IfOk result (λ label. label.items ≡ row_label edge.now) }
 {
     let mut label = Vec::new(alloc);
-    put_number(edge.number, &mut label)?;
+    put_number(edge.number as u128, &mut label)?;
     put(b": ", &mut label)?;
     put(edge.label.bytes(), &mut label)?;
     put(edge.conditions.bytes(), &mut label)?;

@@ -1,7 +1,6 @@
 //! The text of the schema.
 
 ghost use Rattle.std.specs.Prelude.{◌≡◌, ◌++◌, IfOk, ℕ, List};
-ghost use Rattle.std.specs.Fmt.{decimal};
 ghost use Rattle.std.specs.List.{flat_map};
 ghost use Rattle.std.specs.List.Sorted.{IsSorted};
 ghost use Rattle.schema.specs.Orders.{edge_cmp};
@@ -10,19 +9,10 @@ ghost use Rattle.schema.specs.Lines.{end_word, row_head, row_line, row_lines};
 
 use crate::starting::links_from;
 use crate::{SchemaEdge, SchemaFunction, schema};
-use itoa::Buffer;
 use sd_value::NoMemory;
 use std::alloc::Global;
 use struql_check::Checked;
-use token_writer::put;
-
-/// Appends a number in digits.
-pub fn put_number(number: usize, out: &mut Vec<u8>) -> Result<(), NoMemory>
-    ensures { IfOk result (λ _. out.new.items ≡ out.old.items ++ decimal number) }
-{
-    let mut buffer = Buffer::new();
-    put(buffer.format(number).as_bytes(), out)
-}
+use token_writer::{put, put_number};
 
 /// Appends `F/ARITY`.
 pub fn put_function(function: &SchemaFunction, out: &mut Vec<u8>) -> Result<(), NoMemory>
@@ -30,7 +20,7 @@ pub fn put_function(function: &SchemaFunction, out: &mut Vec<u8>) -> Result<(), 
 {
     put(function.name.bytes(), out)?;
     put(b"/", out)?;
-    put_number(function.arity, out)
+    put_number(function.arity as u128, out)
 }
 
 /// Appends the function at which a link ends, or `other`.
@@ -48,7 +38,7 @@ fn put_head(edge: &SchemaEdge, out: &mut Vec<u8>) -> Result<(), NoMemory>
     ensures { IfOk result (λ _. out.new.items ≡ out.old.items ++ row_head edge.now) }
 {
     put(b"  link ", out)?;
-    put_number(edge.number, out)?;
+    put_number(edge.number as u128, out)?;
     put(b" in ", out)?;
     put(edge.path.bytes(), out)?;
     put(b": ", out)

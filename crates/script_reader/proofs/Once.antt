@@ -10,21 +10,21 @@ use Rattle.token_reader.specs.Gives.{place, IsReal}
 use Rattle.token_reader.proofs.Tokens.{one_token_list}
 use Rattle.token_reader.proofs.TextFaults.{text_fault, text_spelled_no_fault}
 use Rattle.wire.specs.declared.WireEvent.{WireEvent}
-use Rattle.script_reader.specs.declared.refusal.ScriptRefusal.{ScriptRefusal}
-use Rattle.script_reader.specs.declared.refusal.ScriptRefusal.TheVariants.{TooLong, BadByte, OpenString, IntOutOfRange, Expected, NoMemory}
+use Rattle.token_reader.specs.declared.refusal.TextRefusal.{TextRefusal}
+use Rattle.token_reader.specs.declared.refusal.TextRefusal.TheVariants.{TooLong, BadByte, OpenString, IntOutOfRange, Expected, NoMemory}
 use Rattle.script_reader.specs.ScriptText.{script, events}
 use Rattle.script_reader.specs.Reading.{read_phrases}
-use Rattle.script_reader.specs.Refused.{of_lexer}
+use Rattle.token_reader.specs.Refused.{of_lexer}
 use Rattle.script_reader.specs.Script.{Reads, IsSettled, HasOneAnswer}
 use Rattle.script_reader.proofs.Parts.{script_part}
 
 -- the three ways to an answer: by the lexer, by the grammar, or by the phrases
-data Way (limit : ℕ) (bytes : List ℕ) (r : Result (List WireEvent) ScriptRefusal) : Type 0 where
+data Way (limit : ℕ) (bytes : List ℕ) (r : Result (List WireEvent) TextRefusal) : Type 0 where
   lexed : (e : LexRefusal) → IsTextOrFault limit bytes (Err e) → r ≡ Err (of_lexer e) → Way limit bytes r
   stuck : (tokens rest : List Token) → IsTextOrFault limit bytes (Ok tokens) → FirstFault IsReal script script tokens rest → r ≡ Err (Expected (place (length bytes) rest)) → Way limit bytes r
   spelled : (tokens : List Token) (phrases : List WireEvent) → IsTextOrFault limit bytes (Ok tokens) → script tokens phrases → r ≡ Ok (events phrases) → Way limit bytes r
 
-way : (limit : ℕ) (bytes : List ℕ) (r : Result (List WireEvent) ScriptRefusal) → Reads limit bytes r → IsSettled r → Way limit bytes r
+way : (limit : ℕ) (bytes : List ℕ) (r : Result (List WireEvent) TextRefusal) → Reads limit bytes r → IsSettled r → Way limit bytes r
 way limit bytes (Ok found) (tokens, l, phrases, f, is) settled = spelled tokens phrases l f (ap Ok is)
 way limit bytes (Err (TooLong at)) h settled = lexed (lexer.TooLong at) h refl
 way limit bytes (Err (BadByte at)) h settled = lexed (lexer.BadByte at) h refl
@@ -45,7 +45,7 @@ spelled_no_stuck limit bytes tokens tokens2 rest phrases l m f g =
     let e : tokens2 ≡ tokens = same_tokens limit bytes tokens2 tokens m l in
     text_spelled_no_fault script script (λ x v h. h) limit bytes tokens l phrases rest (subst (λ x. script x phrases) e g) f
 
-one_way : (limit : ℕ) (bytes : List ℕ) (r s : Result (List WireEvent) ScriptRefusal) → Way limit bytes r → Way limit bytes s → r ≡ s
+one_way : (limit : ℕ) (bytes : List ℕ) (r s : Result (List WireEvent) TextRefusal) → Way limit bytes r → Way limit bytes s → r ≡ s
 one_way limit bytes r s (lexed e h is) (lexed f k is2) =
     let both : Err e ≡ Err f = one_token_list limit bytes (Err e) (Err f) h k in
     let one : e ≡ f = cc in

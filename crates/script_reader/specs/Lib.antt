@@ -2,5 +2,4 @@ pub mod Terminals
 pub mod ScriptText
 pub mod Reading
 pub mod Spelled
-pub mod Refused
 pub mod Script

@@ -8,8 +8,8 @@ use Rattle.grammar.specs.Fault.{FirstFault}
 use Rattle.token_reader.specs.Gives.{place, IsReal}
 use Rattle.wire.specs.declared.WireEvent.{WireEvent}
 use Rattle.wire.specs.declared.WireEvent.TheVariants.{Opened, Bytes, Ended, Lost, Change, Done}
-use Rattle.script_reader.specs.declared.refusal.ScriptRefusal.{ScriptRefusal}
-use Rattle.script_reader.specs.declared.refusal.ScriptRefusal.TheVariants.{TooLong, BadByte, OpenString, IntOutOfRange, Expected, NoMemory}
+use Rattle.token_reader.specs.declared.refusal.TextRefusal.{TextRefusal}
+use Rattle.token_reader.specs.declared.refusal.TextRefusal.TheVariants.{TooLong, BadByte, OpenString, IntOutOfRange, Expected, NoMemory}
 use Rattle.script_reader.specs.ScriptText.{script, events}
 
 -- The text's tokens spell phrases with these events.
@@ -27,7 +27,7 @@ IsFaultAt limit bytes at =
 
 -- `Ok` has the events of the script. A text that has no tokens has the lexer's fault; one whose tokens spell no script
 -- has the first fault of the grammar.
-abbrev pub Reads : ℕ → List ℕ → Result (List WireEvent) ScriptRefusal → Type 0
+abbrev pub Reads : ℕ → List ℕ → Result (List WireEvent) TextRefusal → Type 0
 Reads limit bytes (Ok found) = IsScript limit bytes found
 Reads limit bytes (Err (TooLong at)) = IsTextOrFault limit bytes (Err (lexer.TooLong at))
 Reads limit bytes (Err (BadByte at)) = IsTextOrFault limit bytes (Err (lexer.BadByte at))
@@ -47,17 +47,17 @@ IsScripted (Change text) = ⊤
 IsScripted Done = ⊥
 
 -- an answer as a list of events
-abbrev pub told : Result (Vec WireEvent) ScriptRefusal → Result (List WireEvent) ScriptRefusal
+abbrev pub told : Result (Vec WireEvent) TextRefusal → Result (List WireEvent) TextRefusal
 told (Ok v) = Ok v.items
 told (Err e) = Err e
 
 -- any answer but out of memory
-abbrev pub IsSettled : Result (List WireEvent) ScriptRefusal → Type 0
+abbrev pub IsSettled : Result (List WireEvent) TextRefusal → Type 0
 IsSettled (Err NoMemory) = ⊥
 IsSettled answer = ⊤
 
 -- two such answers to the same bytes are equal
 abbrev pub HasOneAnswer : ℕ → List ℕ → Type 0
 HasOneAnswer limit bytes =
-    (r s : Result (List WireEvent) ScriptRefusal) → Reads limit bytes r → Reads limit bytes s
+    (r s : Result (List WireEvent) TextRefusal) → Reads limit bytes r → Reads limit bytes s
     → IsSettled r → IsSettled s → r ≡ s

@@ -9,10 +9,9 @@ ghost use Rattle.script_reader.specs.Reading.{read_opening, read_piece, read_end
 ghost use Rattle.script_reader.specs.Reading.{read_phrase, begins_phrase, read_phrases};
 ghost use Rattle.script_reader.specs.Spelled.{Spells};
 
-use crate::refusal::Refusal;
 use sd_lex::{Token, TokenKind};
 use std::alloc::Global;
-use token_reader::{Halt, has_word, place_of, quoted_at, word_at};
+use token_reader::{Halt, TokenRefusal, has_word, place_of, quoted_at, word_at};
 use wire::WireEvent;
 
 /// The number of a connection at the front.
@@ -129,14 +128,18 @@ fn script_at(alloc: Global, tokens: &[Token]) -> Result<Vec<WireEvent>, Halt<Tok
 }
 
 /// The phrases that these tokens spell, pieces without bytes among them. The text ends at `text_end`.
-pub fn phrases(alloc: Global, tokens: &[Token], text_end: u64) -> Result<Vec<WireEvent>, Refusal>
+pub fn phrases(
+    alloc: Global,
+    tokens: &[Token],
+    text_end: u64,
+) -> Result<Vec<WireEvent>, TokenRefusal>
     ensures { Spells tokens.now text_end result }
 {
     match script_at(alloc, tokens) {
         Ok(phrases) => Ok(phrases),
-        Err(Halt::Expected(rest)) => Err(Refusal::Expected(place_of(rest, text_end))),
+        Err(Halt::Expected(rest)) => Err(TokenRefusal::Expected(place_of(rest, text_end))),
         // This grammar has no limits, so this never comes.
-        Err(Halt::TooDeep(rest)) => Err(Refusal::Expected(place_of(rest, text_end))),
-        Err(Halt::NoMemory) => Err(Refusal::NoMemory),
+        Err(Halt::TooDeep(rest)) => Err(TokenRefusal::Expected(place_of(rest, text_end))),
+        Err(Halt::NoMemory) => Err(TokenRefusal::NoMemory),
     }
 }

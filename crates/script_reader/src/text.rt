@@ -5,9 +5,9 @@ ghost use Rattle.script_reader.specs.Script.{Reads, told, HasOneAnswer, IsScript
 ghost use Rattle.script_reader.specs.ScriptText.{is_event, events};
 
 use crate::reading::phrases;
-use crate::refusal::ScriptRefusal;
 use sd_lex::tokens;
 use std::alloc::Global;
+use token_reader::TextRefusal;
 use wire::WireEvent;
 
 /// Whether the phrase is an event: an empty piece is none.
@@ -43,7 +43,7 @@ fn events_of(phrases: Vec<WireEvent>) -> Vec<WireEvent>
 /// piece of bytes is no event. A text of more bytes is `TooLong`, one that has no tokens has the lexer's refusal, and one that is
 /// no script is `Expected` at the first token such that no script begins with the tokens up to and with it, or at its
 /// end where more is wanted.
-pub fn read_script(alloc: Global, bytes: &[u8], limit: u64) -> Result<Vec<WireEvent>, ScriptRefusal>
+pub fn read_script(alloc: Global, bytes: &[u8], limit: u64) -> Result<Vec<WireEvent>, TextRefusal>
     ensures exact { Reads limit bytes.now (told result) }
     ensures events { IfOk result (λ events. All IsScripted events.items) }
 {

@@ -4,8 +4,8 @@ use Rattle.sd_lex.specs.declared.token.Token.{Token}
 use Rattle.sd_lex.specs.Lexing.{IsTextOrFault}
 use Rattle.sd_graph.specs.Statement.{Building}
 use Rattle.ddl_text.specs.declared.tree.Statement.{Statement}
-use Rattle.ddl_text.specs.declared.refusal.TextRefusal.{TextRefusal}
-use Rattle.ddl_text.specs.declared.refusal.TextRefusal.TheVariants as text
+use Rattle.token_reader.specs.declared.refusal.TextRefusal.{TextRefusal}
+use Rattle.token_reader.specs.declared.refusal.TextRefusal.TheVariants as text
 use Rattle.ddl_text.specs.DataText.{file}
 use Rattle.ddl_text.specs.Text.{TextStates}
 use Rattle.sd_ddl.specs.declared.conflict.Stop.{Stop}

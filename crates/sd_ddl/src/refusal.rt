@@ -1,11 +1,11 @@
 // Why a data text is not read into a graph.
-ghost use Rattle.std.specs.Prelude.{◌≡◌};
+ghost use Rattle.std.specs.Prelude.{◌≡◌, ◌≢◌, true, false};
 ghost use Rattle.sd_ddl.specs.declared.refusal.DdlRefusal.TheVariants.{NoMemory as OutOfMemory};
 ghost use Rattle.sd_ddl.specs.Reads.{of_text, of_stop};
 
 use crate::conflict::Stop;
-use ddl_text::TextRefusal;
 use sd_value::NoMemory;
+use token_reader::TextRefusal;
 
 /// Why a data text is refused, and where. Those of its bytes come first, then `Expected`, then the first of the others.
 #[derive(Clone, Copy, Debug, PartialEq, Eq)]
@@ -21,6 +21,16 @@ pub enum DdlRefusal {
     TooManyEdges(u64),
     TooManyNodes(u64),
     NoMemory,
+}
+
+impl DdlRefusal {
+    /// Whether the reader was out of memory, so that nothing is said of the text.
+    pub fn is_out_of_memory(&self) -> bool
+        ensures is { result ≡ true → self.now ≡ DdlRefusal.NoMemory }
+        ensures no { result ≡ false → self.now ≢ DdlRefusal.NoMemory }
+    {
+        *self == DdlRefusal::NoMemory
+    }
 }
 
 impl From<TextRefusal> for DdlRefusal {

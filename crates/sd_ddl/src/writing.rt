@@ -1,16 +1,15 @@
 // A data graph as it is written.
 ghost use Rattle.std.specs.Prelude.{◌≡◌, ◌∷◌, ◌++◌, [], OnOk, IfSome, IfNone, IsTrue, map};
 ghost use Rattle.std.specs.List.{flat_map};
-ghost use Rattle.std.specs.Fmt.{signed_decimal};
 ghost use Rattle.sd_ddl.specs.Groups.{collection_in, IsByNode};
 ghost use Rattle.sd_ddl.specs.Written.{quoted_byte, quoted, value_text, step_of, step_line, further_text, in_text};
 ghost use Rattle.sd_ddl.specs.Written.{object_text, graph_text};
 
 use crate::groups::{by_node, edges_at, members_at};
-use itoa::Buffer;
 use sd_graph::{Edge, Graph, Member};
 use sd_value::{Datum, NoMemory, Str, Value};
 use std::alloc::Global;
+use token_writer::put_int;
 
 // What stands for a byte of a text in quotes, where that is not the byte itself.
 fn escape(byte: u8) -> Option<&'static [u8]>
@@ -86,19 +85,11 @@ fn push_kinded(out: &mut Vec<u8>, word: &[u8], text: &Str) -> Result<(), NoMemor
     push_quoted(out, text)
 }
 
-fn push_int(out: &mut Vec<u8>, number: i64) -> Result<(), NoMemory>
-    ensures { OnOk result (out.new.items ≡ out.old.items ++ signed_decimal number) }
-{
-    let mut buffer = Buffer::new();
-    out.extend_from_slice(buffer.format(number).as_bytes())?;
-    Ok(())
-}
-
 fn push_value(out: &mut Vec<u8>, value: &Value) -> Result<(), NoMemory>
     ensures { OnOk result (out.new.items ≡ out.old.items ++ value_text value.now) }
 {
     match value {
-        Value::Data(Datum::Int(number)) => push_int(out, *number),
+        Value::Data(Datum::Int(number)) => put_int(*number, out),
         Value::Data(Datum::Text(text)) => push_quoted(out, text),
         Value::Data(Datum::Url(text)) => push_kinded(out, b"url ", text),
         Value::Data(Datum::File(text)) => push_kinded(out, b"file ", text),

@@ -3,11 +3,11 @@ ghost use Rattle.std.specs.Prelude.{◌≡◌, ◌++◌, All, IfOk, OnOk, decima
 ghost use Rattle.mem_wire.specs.WireInMemory.{accounts_of, faults_in};
 ghost use Rattle.serve_run.specs.Texts.{tally_text, change_lines, bytes_taken, connection_line, connection_text, replay_text};
 
-use itoa::Buffer;
 use mem_wire::MemWire;
 use sd_value::NoMemory;
 use serving_spec::Tally;
 use std::alloc::Global;
+use token_writer::put_number;
 
 /// The lines that report the counts of a run, with those of the texts where these are to be told.
 pub fn tally_text(alloc: Global, with_changes: bool, tally: &Tally) -> Result<Vec<u8>, NoMemory>
@@ -94,9 +94,8 @@ fn push_number(text: &mut Vec<u8>, before: &[u8], number: u64, after: &[u8]) -> 
     ensures { OnOk result (text.new.items
         ≡ text.old.items ++ (before.now ++ decimal number ++ after.now)) }
 {
-    let mut buffer = Buffer::new();
     text.extend_from_slice(before)?;
-    text.extend_from_slice(buffer.format(number).as_bytes())?;
+    put_number(number as u128, text)?;
     text.extend_from_slice(after)?;
     Ok(())
 }

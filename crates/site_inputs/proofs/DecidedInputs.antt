@@ -8,6 +8,7 @@ use Rattle.data_source.specs.declared.refusal.SourceRefusal.{SourceRefusal}
 use Rattle.data_source.specs.declared.refusal.SourceRefusal.TheVariants as source
 use Rattle.data_source.proofs.Files as source_law
 use Rattle.query_spec.specs.Query as plain
+use Rattle.token_reader.specs.declared.refusal.TextRefusal.TheVariants as text
 use Rattle.struql_parse.specs.declared.refusal.ParseRefusal.TheVariants as parse
 use Rattle.struql_check.specs.declared.refusal.CheckRefusal.TheVariants as check
 use Rattle.query_reader.specs.declared.QueryRefusal.{QueryRefusal}
@@ -137,14 +138,14 @@ graph_decides map b sources = files_decide sources.lenient map b sources.paths
 -- ---- queries
 
 query_settled : (e : QueryRefusal) (told : Told) → query_told e ≡ Some told → query_text.IsSettled (Err e)
-query_settled (NotSpelled (parse.TooLong at)) told h = tt
-query_settled (NotSpelled (parse.BadByte at)) told h = tt
-query_settled (NotSpelled (parse.OpenString at)) told h = tt
-query_settled (NotSpelled (parse.IntOutOfRange at)) told h = tt
-query_settled (NotSpelled (parse.Expected at)) told h = tt
+query_settled (NotSpelled (parse.Text (text.TooLong at))) told h = tt
+query_settled (NotSpelled (parse.Text (text.BadByte at))) told h = tt
+query_settled (NotSpelled (parse.Text (text.OpenString at))) told h = tt
+query_settled (NotSpelled (parse.Text (text.IntOutOfRange at))) told h = tt
+query_settled (NotSpelled (parse.Text (text.Expected at))) told h = tt
 query_settled (NotSpelled (parse.TooDeep at)) told h = tt
 query_settled (NotSpelled (parse.BadVersion at)) told h = tt
-query_settled (NotSpelled parse.NoMemory) told h = absurd cc
+query_settled (NotSpelled (parse.Text text.NoMemory)) told h = absurd cc
 query_settled (NotChecked (check.TooManyPositions at)) told h = tt
 query_settled (NotChecked (check.Unbound at)) told h = tt
 query_settled (NotChecked (check.NeverCreated at)) told h = tt

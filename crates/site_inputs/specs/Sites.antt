@@ -13,6 +13,8 @@ use Rattle.composed_data.specs.SiteData.{IsDecided}
 use Rattle.page_spec.specs.Site.{Site}
 use Rattle.sd_graph.specs.declared.GraphRefusal.{GraphRefusal}
 use Rattle.sd_graph.specs.declared.GraphRefusal.TheVariants as over
+use Rattle.token_reader.specs.declared.refusal.TextRefusal.{TextRefusal}
+use Rattle.token_reader.specs.declared.refusal.TextRefusal.TheVariants as text
 use Rattle.struql_parse.specs.declared.refusal.ParseRefusal.{ParseRefusal}
 use Rattle.struql_parse.specs.declared.refusal.ParseRefusal.TheVariants as parse
 use Rattle.struql_check.specs.declared.refusal.CheckRefusal.{CheckRefusal}
@@ -34,16 +36,21 @@ use Rattle.site_inputs.specs.Sources.{GraphEnds, empty_building}
 
 -- ---- the query
 
--- the number and the place of a refused spelling; none where it was out of memory
+-- the number and the place of a refused text, if `expected` is the number of its grammar; none if the reader was out of
+-- memory
+abbrev pub text_told : ℕ → TextRefusal → Option Told
+text_told expected (text.BadByte at) = Some (record { number = 21; at = at })
+text_told expected (text.OpenString at) = Some (record { number = 22; at = at })
+text_told expected (text.IntOutOfRange at) = Some (record { number = 23; at = at })
+text_told expected (text.TooLong at) = Some (record { number = 24; at = at })
+text_told expected (text.Expected at) = Some (record { number = expected; at = at })
+text_told expected text.NoMemory = None
+
+-- those of a refused spelling
 abbrev pub parse_told : ParseRefusal → Option Told
-parse_told (parse.TooLong at) = Some (record { number = 24; at = at })
-parse_told (parse.BadByte at) = Some (record { number = 21; at = at })
-parse_told (parse.OpenString at) = Some (record { number = 22; at = at })
-parse_told (parse.IntOutOfRange at) = Some (record { number = 23; at = at })
-parse_told (parse.Expected at) = Some (record { number = 71; at = at })
+parse_told (parse.Text refusal) = text_told 71 refusal
 parse_told (parse.TooDeep at) = Some (record { number = 72; at = at })
 parse_told (parse.BadVersion at) = Some (record { number = 73; at = at })
-parse_told parse.NoMemory = None
 
 -- those of a query that is spelled well and not accepted
 abbrev pub check_told : CheckRefusal → Option Told

@@ -6,16 +6,13 @@ ghost use Rattle.site_inputs.specs.Sources.{TakesIn, TextTaken, SourceEnds, File
 ghost use Rattle.site_inputs.specs.Sources.{graph_result, with_building};
 
 use crate::fault::{Fault, refused, unread};
-use command_spec::DataFiles;
+use command_spec::{DATA_LIMIT, DataFiles};
 use data_source::{SourceRefusal, read_source, read_source_leniently};
 use edge_io::{Files, ReadEnd};
 use run_report::Place;
 use sd_graph::{Graph, GraphBuilder, PROGRAM_LIMITS};
 use sd_value::{NoMemory, Str};
 use std::alloc::Global;
-
-// The most bytes of a data file.
-const DATA_LIMIT: u64 = 67_108_864;
 
 /// The bytes of a file of at most this many.
 pub fn read_file<F: Files>(

@@ -10,7 +10,7 @@ use crate::data::load_data;
 use crate::fault::{Fault, refused};
 use crate::inputs::read_file;
 use crate::told::{told_of_query, told_of_templates};
-use command_spec::DataFiles;
+use command_spec::{DataFiles, TEXT_LIMIT};
 use edge_io::Files;
 use query_reader::read_query;
 use run_report::Place;
@@ -20,9 +20,6 @@ use std::alloc::Global;
 use struql_check::Checked;
 use template_reader::read_templates;
 use tmpl::Templates;
-
-// The most bytes of a query, and of a file of templates.
-const TEXT_LIMIT: u64 = 1_048_576;
 
 /// What a site is made of.
 #[derive(Drop)]

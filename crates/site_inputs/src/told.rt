@@ -1,11 +1,12 @@
 // The numbers of refusals.
 ghost use Rattle.std.specs.Prelude.{◌≡◌};
-ghost use Rattle.site_inputs.specs.Sites.{parse_told, check_told, query_told, templates_told};
+ghost use Rattle.site_inputs.specs.Sites.{text_told, parse_told, check_told, query_told, templates_told};
 
 use query_reader::QueryRefusal;
 use struql_check::CheckRefusal;
 use struql_parse::ParseRefusal;
 use template_reader::TmplRefusal;
+use token_reader::TextRefusal;
 
 /// The number of a refusal, and the byte at which it is.
 #[derive(Clone, Copy, Debug)]
@@ -14,31 +15,41 @@ pub struct Told {
     pub at: u64,
 }
 
+/// What a refused text reports, if `expected` is the number of its grammar; none if the reader was out of memory.
+pub fn told_of_text(refusal: &TextRefusal, expected: u32) -> Option<Told>
+    ensures { result ≡ text_told expected refusal.now }
+{
+    match refusal {
+        TextRefusal::BadByte(at) => Some(Told {
+            number: 21,
+            at: *at,
+        }),
+        TextRefusal::OpenString(at) => Some(Told {
+            number: 22,
+            at: *at,
+        }),
+        TextRefusal::IntOutOfRange(at) => Some(Told {
+            number: 23,
+            at: *at,
+        }),
+        TextRefusal::TooLong(at) => Some(Told {
+            number: 24,
+            at: *at,
+        }),
+        TextRefusal::Expected(at) => Some(Told {
+            number: expected,
+            at: *at,
+        }),
+        TextRefusal::NoMemory => None,
+    }
+}
+
 // What a text that is no query reports.
 fn told_of_parse(refusal: &ParseRefusal) -> Option<Told>
     ensures { result ≡ parse_told refusal.now }
 {
     match refusal {
-        ParseRefusal::TooLong(at) => Some(Told {
-            number: 24,
-            at: *at,
-        }),
-        ParseRefusal::BadByte(at) => Some(Told {
-            number: 21,
-            at: *at,
-        }),
-        ParseRefusal::OpenString(at) => Some(Told {
-            number: 22,
-            at: *at,
-        }),
-        ParseRefusal::IntOutOfRange(at) => Some(Told {
-            number: 23,
-            at: *at,
-        }),
-        ParseRefusal::Expected(at) => Some(Told {
-            number: 71,
-            at: *at,
-        }),
+        ParseRefusal::Text(refusal) => told_of_text(refusal, 71),
         ParseRefusal::TooDeep(at) => Some(Told {
             number: 72,
             at: *at,
@@ -47,7 +58,6 @@ fn told_of_parse(refusal: &ParseRefusal) -> Option<Told>
             number: 73,
             at: *at,
         }),
-        ParseRefusal::NoMemory => None,
     }
 }
 

@@ -4,9 +4,9 @@
 ghost use Rattle.std.specs.Prelude.{◌≡◌, IfOk};
 ghost use Rattle.source_steps.specs.Names.{numbered, without_mark as unmarked};
 
-use itoa::Buffer;
 use sd_value::{NoMemory, Str};
 use std::alloc::Global;
+use token_writer::put_number;
 
 /// The name with `_` and a number behind it.
 pub fn numbered_name(alloc: Global, name: &Str, number: u64) -> Result<Str, NoMemory>
@@ -14,8 +14,7 @@ pub fn numbered_name(alloc: Global, name: &Str, number: u64) -> Result<Str, NoMe
 {
     let mut text = Vec::from_slice(alloc, name.bytes())?;
     text.extend_from_slice(b"_")?;
-    let mut buffer = Buffer::new();
-    text.extend_from_slice(buffer.format(number).as_bytes())?;
+    put_number(number as u128, &mut text)?;
     Str::of(alloc, text)
 }
 

@@ -6,12 +6,12 @@ use Rattle.sd_lex.specs.Lexing.{IsTextOrFault}
 use Rattle.grammar.specs.Fault.{FirstFault, FirstPast}
 use Rattle.grammar.specs.Reading.{starts}
 use Rattle.token_reader.specs.Gives.{place, IsReal}
+use Rattle.token_reader.specs.declared.refusal.TextRefusal.TheVariants.{TooLong, BadByte, OpenString, IntOutOfRange, Expected, NoMemory}
 use Rattle.struql_ast.specs.declared.Query as declared
 use Rattle.struql_ast.specs.Written.{Query, query_written}
 use Rattle.struql_text.specs.Terminals.{is_other_version}
 use Rattle.struql_parse.specs.declared.refusal.ParseRefusal.{ParseRefusal}
-use Rattle.struql_parse.specs.declared.refusal.ParseRefusal.TheVariants.{TooLong, BadByte, OpenString, IntOutOfRange}
-use Rattle.struql_parse.specs.declared.refusal.ParseRefusal.TheVariants.{Expected, TooDeep, BadVersion, NoMemory}
+use Rattle.struql_parse.specs.declared.refusal.ParseRefusal.TheVariants.{Text, TooDeep, BadVersion}
 use Rattle.struql_parse.specs.Blocks.{query_within, query_spelled}
 
 -- `Ok` has the query that the text's tokens spell within the limits, with all its places. A text that has no tokens has
@@ -22,12 +22,15 @@ abbrev pub TextStates : ℕ → List ℕ → Result declared.Query ParseRefusal 
 TextStates limit bytes (Ok q) =
     (tokens : List Token) × IsTextOrFault limit bytes (Ok tokens)
     × query_within tokens (query_written q)
-TextStates limit bytes (Err (TooLong at)) = IsTextOrFault limit bytes (Err (lexer.TooLong at))
-TextStates limit bytes (Err (BadByte at)) = IsTextOrFault limit bytes (Err (lexer.BadByte at))
-TextStates limit bytes (Err (OpenString at)) = IsTextOrFault limit bytes (Err (lexer.OpenString at))
-TextStates limit bytes (Err (IntOutOfRange at)) =
+TextStates limit bytes (Err (Text (TooLong at))) =
+    IsTextOrFault limit bytes (Err (lexer.TooLong at))
+TextStates limit bytes (Err (Text (BadByte at))) =
+    IsTextOrFault limit bytes (Err (lexer.BadByte at))
+TextStates limit bytes (Err (Text (OpenString at))) =
+    IsTextOrFault limit bytes (Err (lexer.OpenString at))
+TextStates limit bytes (Err (Text (IntOutOfRange at))) =
     IsTextOrFault limit bytes (Err (lexer.IntOutOfRange at))
-TextStates limit bytes (Err (Expected at)) =
+TextStates limit bytes (Err (Text (Expected at))) =
     (tokens : List Token) × IsTextOrFault limit bytes (Ok tokens) × (rest : List Token)
     × FirstFault IsReal query_within query_spelled tokens rest × (at ≡ place (length bytes) rest)
 TextStates limit bytes (Err (TooDeep at)) =
@@ -38,16 +41,16 @@ TextStates limit bytes (Err (BadVersion at)) =
     (tokens : List Token) × IsTextOrFault limit bytes (Ok tokens) × (rest : List Token)
     × FirstPast IsReal query_within query_spelled tokens rest
     × (starts is_other_version rest ≡ true) × (at ≡ place (length bytes) rest)
-TextStates limit bytes (Err NoMemory) = Unit {0}
+TextStates limit bytes (Err (Text NoMemory)) = Unit {0}
 
 -- The query that a text spells is the answer, unless it is out of memory.
 abbrev pub TextGives : Query → Result declared.Query ParseRefusal → Type 0
 TextGives query (Ok q) = query_written q ≡ query
-TextGives query (Err (TooLong at)) = ⊥
-TextGives query (Err (BadByte at)) = ⊥
-TextGives query (Err (OpenString at)) = ⊥
-TextGives query (Err (IntOutOfRange at)) = ⊥
-TextGives query (Err (Expected at)) = ⊥
+TextGives query (Err (Text (TooLong at))) = ⊥
+TextGives query (Err (Text (BadByte at))) = ⊥
+TextGives query (Err (Text (OpenString at))) = ⊥
+TextGives query (Err (Text (IntOutOfRange at))) = ⊥
+TextGives query (Err (Text (Expected at))) = ⊥
 TextGives query (Err (TooDeep at)) = ⊥
 TextGives query (Err (BadVersion at)) = ⊥
-TextGives query (Err NoMemory) = Unit {0}
+TextGives query (Err (Text NoMemory)) = Unit {0}

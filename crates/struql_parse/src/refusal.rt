@@ -1,9 +1,10 @@
 //! Why a text is no query.
 
-ghost use Rattle.std.specs.Prelude.{◌≡◌};
+ghost use Rattle.std.specs.Prelude.{◌≡◌, ◌≢◌, true, false};
 ghost use Rattle.struql_parse.specs.Refused.{of_lexer, of_tokens};
 
 use sd_lex::LexRefusal;
+use token_reader::TextRefusal;
 
 /// Why tokens are no query.
 #[derive(Clone, Copy, Debug, PartialEq, Eq)]
@@ -20,36 +21,31 @@ pub enum TokenRefusal {
 /// Why a text is no query. Each place counts bytes from the start.
 #[derive(Clone, Copy, Debug, PartialEq, Eq)]
 pub enum ParseRefusal {
-    /// There are more bytes than this limit.
-    TooLong(u64),
-    /// No token begins at this byte, or it is the backslash of an unknown escape.
-    BadByte(u64),
-    /// The text whose quote is here isn't closed.
-    OpenString(u64),
-    /// The number here is outside i64.
-    IntOutOfRange(u64),
-    /// The token at this place doesn't fit, or the text ends too early.
-    Expected(u64),
+    /// The text has no tokens, or they don't fit the grammar.
+    Text(TextRefusal),
     /// The sign at this place passes a limit: the brace of a block with 16 blocks round it, the
     /// 65th open parenthesis, the star that puts 65 stars one within another, or the 1,024th dot
     /// or bar of an expression.
     TooDeep(u64),
     /// The number at this place, behind `STRUQL`, is neither 1 nor 2.
     BadVersion(u64),
-    NoMemory,
+}
+
+impl ParseRefusal {
+    /// Whether the reader was out of memory, so that nothing is said of the text.
+    pub fn is_out_of_memory(&self) -> bool
+        ensures is { result ≡ true → self.now ≡ ParseRefusal.Text TextRefusal.NoMemory }
+        ensures no { result ≡ false → self.now ≢ ParseRefusal.Text TextRefusal.NoMemory }
+    {
+        *self == ParseRefusal::Text(TextRefusal::NoMemory)
+    }
 }
 
 impl From<LexRefusal> for ParseRefusal {
     ghost from_gives = { λ e r. r ≡ of_lexer e };
 
     fn from(e: LexRefusal) -> Self {
-        match e {
-            LexRefusal::TooLong(at) => ParseRefusal::TooLong(at),
-            LexRefusal::BadByte(at) => ParseRefusal::BadByte(at),
-            LexRefusal::OpenString(at) => ParseRefusal::OpenString(at),
-            LexRefusal::IntOutOfRange(at) => ParseRefusal::IntOutOfRange(at),
-            LexRefusal::NoMemory => ParseRefusal::NoMemory,
-        }
+        ParseRefusal::Text(TextRefusal::from(e))
     }
 }
 
@@ -58,10 +54,10 @@ impl From<TokenRefusal> for ParseRefusal {
 
     fn from(e: TokenRefusal) -> Self {
         match e {
-            TokenRefusal::Expected(at) => ParseRefusal::Expected(at),
+            TokenRefusal::Expected(at) => ParseRefusal::Text(TextRefusal::Expected(at)),
             TokenRefusal::TooDeep(at) => ParseRefusal::TooDeep(at),
             TokenRefusal::BadVersion(at) => ParseRefusal::BadVersion(at),
-            TokenRefusal::NoMemory => ParseRefusal::NoMemory,
+            TokenRefusal::NoMemory => ParseRefusal::Text(TextRefusal::NoMemory),
         }
     }
 }

@@ -5,4 +5,4 @@ mod item;
 mod scanning;
 
 pub use item::{Item, ItemKind, Mark};
-pub use scanning::items;
+pub use scanning::{begins_tag, items};

@@ -1,6 +1,7 @@
 //! From bytes to items.
 
 ghost use Rattle.std.specs.Prelude.{◌≡◌, ◌+◌, ◌^◌, ◌<◌, ◌≤◌, ◌-◌, ◌++◌, List, length, take, drop, codes, IfOk, IfSome, Some, None};
+ghost use Rattle.std.specs.Option.{is_some};
 ghost use Rattle.sd_lex.specs.Bytes.{is_blank, is_letter};
 ghost use Rattle.sd_lex.specs.Lexing.{Answers};
 ghost use Rattle.sd_lex.specs.Reading.{lexeme};
@@ -79,6 +80,13 @@ fn tag_at(bytes: &[u8]) -> Option<(Mark, usize)>
     } else {
         None
     }
+}
+
+/// Whether the bytes begin with a tag of a body.
+pub fn begins_tag(bytes: &[u8]) -> bool
+    ensures { result ≡ is_some (tag_at bytes.now) }
+{
+    tag_at(bytes).is_some()
 }
 
 /// How many bytes are before the first tag of a body.

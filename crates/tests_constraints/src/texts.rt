@@ -6,6 +6,7 @@ use sd_value::NoMemory;
 use std::alloc::Global;
 use std::test::Fail;
 use struql_check::Checked;
+use token_reader::TextRefusal;
 
 const QUERY: &[u8] = b"INPUT D { CREATE R() } { WHERE C(x) CREATE F(x) } OUTPUT S";
 
@@ -43,7 +44,7 @@ const TEXTS: &[TextRow] = &[
         text: "",
         blanks: 1_048_577,
         limit: LIMIT,
-        ends: Err(ConstraintRefusal::TooLong(LIMIT)),
+        ends: Err(ConstraintRefusal::Text(TextRefusal::TooLong(LIMIT))),
     },
     TextRow {
         text: "NONE Zed LINKS \"a\"",
@@ -85,56 +86,56 @@ const TEXTS: &[TextRow] = &[
         text: "none F LINKS \"a\"",
         blanks: 0,
         limit: LIMIT,
-        ends: Err(ConstraintRefusal::Expected(0)),
+        ends: Err(ConstraintRefusal::Text(TextRefusal::Expected(0))),
     },
     TextRow {
         text: "NONE F links \"a\"",
         blanks: 0,
         limit: LIMIT,
-        ends: Err(ConstraintRefusal::Expected(7)),
+        ends: Err(ConstraintRefusal::Text(TextRefusal::Expected(7))),
     },
     TextRow {
         text: "NONE \"F\" LINKS \"a\"",
         blanks: 0,
         limit: LIMIT,
-        ends: Err(ConstraintRefusal::Expected(5)),
+        ends: Err(ConstraintRefusal::Text(TextRefusal::Expected(5))),
     },
     TextRow {
         text: "NONE F LINKS a",
         blanks: 0,
         limit: LIMIT,
-        ends: Err(ConstraintRefusal::Expected(13)),
+        ends: Err(ConstraintRefusal::Text(TextRefusal::Expected(13))),
     },
     TextRow {
         text: "ONE F LINKS \"a\" TO R",
         blanks: 0,
         limit: LIMIT,
-        ends: Err(ConstraintRefusal::Expected(16)),
+        ends: Err(ConstraintRefusal::Text(TextRefusal::Expected(16))),
     },
     TextRow {
         text: "EACH F LINKS \"a\"",
         blanks: 0,
         limit: LIMIT,
-        ends: Err(ConstraintRefusal::Expected(16)),
+        ends: Err(ConstraintRefusal::Text(TextRefusal::Expected(16))),
     },
     // A name is looked at only where the whole text is spelled well.
     TextRow {
         text: "NONE Zed LINKS \"a\" ONE",
         blanks: 0,
         limit: LIMIT,
-        ends: Err(ConstraintRefusal::Expected(22)),
+        ends: Err(ConstraintRefusal::Text(TextRefusal::Expected(22))),
     },
     TextRow {
         text: "NONE F LINKS \"a",
         blanks: 0,
         limit: LIMIT,
-        ends: Err(ConstraintRefusal::OpenString(13)),
+        ends: Err(ConstraintRefusal::Text(TextRefusal::OpenString(13))),
     },
     TextRow {
         text: "NONE ?",
         blanks: 0,
         limit: LIMIT,
-        ends: Err(ConstraintRefusal::BadByte(5)),
+        ends: Err(ConstraintRefusal::Text(TextRefusal::BadByte(5))),
     },
 ];
 

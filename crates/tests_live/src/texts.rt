@@ -1,9 +1,10 @@
 // Edits as texts, and texts that are none, each with its place, worked out by hand from the grammar.
-use edit_reader::{EditRefusal, read_edit};
+use edit_reader::read_edit;
 use edit_spec::Edit;
 use graph_spec::{Edge, Member};
 use sd_value::{Datum, Value};
 use std::test::Fail;
+use token_reader::TextRefusal;
 
 // A value as it is written in a row.
 enum End {
@@ -40,7 +41,7 @@ enum Said {
 struct EditRow {
     text: &'static str,
     limit: u64,
-    ends: Result<Said, EditRefusal>,
+    ends: Result<Said, TextRefusal>,
 }
 
 const EDITS: &[EditRow] = &[
@@ -117,62 +118,62 @@ const EDITS: &[EditRow] = &[
     EditRow {
         text: "edit add o",
         limit: 99,
-        ends: Err(EditRefusal::Expected(10)),
+        ends: Err(TextRefusal::Expected(10)),
     },
     EditRow {
         text: "edit enter o A",
         limit: 13,
-        ends: Err(EditRefusal::TooLong(13)),
+        ends: Err(TextRefusal::TooLong(13)),
     },
     EditRow {
         text: "",
         limit: 99,
-        ends: Err(EditRefusal::Expected(0)),
+        ends: Err(TextRefusal::Expected(0)),
     },
     EditRow {
         text: "add o u 5",
         limit: 99,
-        ends: Err(EditRefusal::Expected(0)),
+        ends: Err(TextRefusal::Expected(0)),
     },
     EditRow {
         text: "edit put o u 5",
         limit: 99,
-        ends: Err(EditRefusal::Expected(5)),
+        ends: Err(TextRefusal::Expected(5)),
     },
     EditRow {
         text: "edit \"add\" o u 5",
         limit: 99,
-        ends: Err(EditRefusal::Expected(5)),
+        ends: Err(TextRefusal::Expected(5)),
     },
     EditRow {
         text: "edit add o u 5 6",
         limit: 99,
-        ends: Err(EditRefusal::Expected(15)),
+        ends: Err(TextRefusal::Expected(15)),
     },
     EditRow {
         text: "edit add o u url 5",
         limit: 99,
-        ends: Err(EditRefusal::Expected(17)),
+        ends: Err(TextRefusal::Expected(17)),
     },
     EditRow {
         text: "edit enter o 5",
         limit: 99,
-        ends: Err(EditRefusal::Expected(13)),
+        ends: Err(TextRefusal::Expected(13)),
     },
     EditRow {
         text: "edit add o u \"a",
         limit: 99,
-        ends: Err(EditRefusal::OpenString(13)),
+        ends: Err(TextRefusal::OpenString(13)),
     },
     EditRow {
         text: "edit add o u ?",
         limit: 99,
-        ends: Err(EditRefusal::BadByte(13)),
+        ends: Err(TextRefusal::BadByte(13)),
     },
     EditRow {
         text: "edit add o u 9999999999999999999",
         limit: 99,
-        ends: Err(EditRefusal::IntOutOfRange(13)),
+        ends: Err(TextRefusal::IntOutOfRange(13)),
     },
 ];
 

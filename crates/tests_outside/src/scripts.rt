@@ -1,8 +1,9 @@
 // Scripts with their events, and their refusals.
 use crate::inputs::check_row;
-use script_reader::{ScriptRefusal, read_script};
+use script_reader::read_script;
 use std::alloc::Global;
 use std::test::Fail;
+use token_reader::TextRefusal;
 use wire::WireEvent;
 
 // What a script gives.
@@ -10,7 +11,7 @@ enum Answer {
     // The first is opened, has a line of its own, the second is lost, and the first ends.
     Events,
     NoEvents,
-    Refused(ScriptRefusal),
+    Refused(TextRefusal),
 }
 
 // A script, the most bytes that it may have, and what it gives.
@@ -34,42 +35,42 @@ const SCRIPTS: &[ScriptRow] = &[
     ScriptRow {
         text: b"open 1",
         limit: 5,
-        answer: Answer::Refused(ScriptRefusal::TooLong(5)),
+        answer: Answer::Refused(TextRefusal::TooLong(5)),
     },
     ScriptRow {
         text: b"open 0",
         limit: 9,
-        answer: Answer::Refused(ScriptRefusal::Expected(5)),
+        answer: Answer::Refused(TextRefusal::Expected(5)),
     },
     ScriptRow {
         text: b"end -1",
         limit: 9,
-        answer: Answer::Refused(ScriptRefusal::Expected(4)),
+        answer: Answer::Refused(TextRefusal::Expected(4)),
     },
     ScriptRow {
         text: b"open 1 done",
         limit: 99,
-        answer: Answer::Refused(ScriptRefusal::Expected(7)),
+        answer: Answer::Refused(TextRefusal::Expected(7)),
     },
     ScriptRow {
         text: b"bytes 1",
         limit: 9,
-        answer: Answer::Refused(ScriptRefusal::Expected(7)),
+        answer: Answer::Refused(TextRefusal::Expected(7)),
     },
     ScriptRow {
         text: b"bytes 1 \"a",
         limit: 99,
-        answer: Answer::Refused(ScriptRefusal::OpenString(8)),
+        answer: Answer::Refused(TextRefusal::OpenString(8)),
     },
     ScriptRow {
         text: b"open ?",
         limit: 9,
-        answer: Answer::Refused(ScriptRefusal::BadByte(5)),
+        answer: Answer::Refused(TextRefusal::BadByte(5)),
     },
     ScriptRow {
         text: b"open 99999999999999999999",
         limit: 99,
-        answer: Answer::Refused(ScriptRefusal::IntOutOfRange(5)),
+        answer: Answer::Refused(TextRefusal::IntOutOfRange(5)),
     },
 ];
 

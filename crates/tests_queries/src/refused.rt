@@ -7,6 +7,7 @@ use query_reader::{QueryRefusal, read_query};
 use std::process::Abort;
 use struql_check::CheckRefusal;
 use struql_parse::ParseRefusal;
+use token_reader::TextRefusal;
 
 /// What is reported of a refused text: a number, and a place in the text.
 #[derive(Clone, Copy, Debug, PartialEq)]
@@ -17,14 +18,16 @@ pub struct Reported {
 
 fn report_of(refusal: QueryRefusal) -> Option<Reported> {
     let (number, place) = match refusal {
-        QueryRefusal::NotSpelled(ParseRefusal::BadByte(place)) => (21, place),
-        QueryRefusal::NotSpelled(ParseRefusal::OpenString(place)) => (22, place),
-        QueryRefusal::NotSpelled(ParseRefusal::IntOutOfRange(place)) => (23, place),
-        QueryRefusal::NotSpelled(ParseRefusal::TooLong(place)) => (24, place),
-        QueryRefusal::NotSpelled(ParseRefusal::Expected(place)) => (71, place),
+        QueryRefusal::NotSpelled(ParseRefusal::Text(TextRefusal::BadByte(place))) => (21, place),
+        QueryRefusal::NotSpelled(ParseRefusal::Text(TextRefusal::OpenString(place))) => (22, place),
+        QueryRefusal::NotSpelled(ParseRefusal::Text(TextRefusal::IntOutOfRange(place))) => (
+            23, place,
+        ),
+        QueryRefusal::NotSpelled(ParseRefusal::Text(TextRefusal::TooLong(place))) => (24, place),
+        QueryRefusal::NotSpelled(ParseRefusal::Text(TextRefusal::Expected(place))) => (71, place),
         QueryRefusal::NotSpelled(ParseRefusal::TooDeep(place)) => (72, place),
         QueryRefusal::NotSpelled(ParseRefusal::BadVersion(place)) => (73, place),
-        QueryRefusal::NotSpelled(ParseRefusal::NoMemory) => return None,
+        QueryRefusal::NotSpelled(ParseRefusal::Text(TextRefusal::NoMemory)) => return None,
         QueryRefusal::NotChecked(CheckRefusal::TooManyPositions(place)) => (51, place),
         QueryRefusal::NotChecked(CheckRefusal::Unbound(place)) => (61, place),
         QueryRefusal::NotChecked(CheckRefusal::NeverCreated(place)) => (62, place),

@@ -6,6 +6,7 @@ use std::alloc::Global;
 use std::test::Fail;
 use struql_ast::Query;
 use struql_parse::{ParseRefusal, parse};
+use token_reader::TextRefusal;
 
 // A text, how many times `().` stands behind it, the most bytes that it may have, and why it is refused.
 struct Row {
@@ -20,7 +21,7 @@ const ROW: Row = Row {
     text: "",
     dots: 0,
     limit: 65_536,
-    refusal: ParseRefusal::NoMemory,
+    refusal: ParseRefusal::Text(TextRefusal::NoMemory),
 };
 
 // A query of 58 bytes.
@@ -41,12 +42,12 @@ const ROWS: &[Row] = &[
     // One brace fewer: the text only ends too early.
     Row {
         text: "INPUT D {{{{{{{{{{{{{{{{",
-        refusal: ParseRefusal::Expected(24),
+        refusal: ParseRefusal::Text(TextRefusal::Expected(24)),
         ..ROW
     },
     Row {
         text: "INPUT D CREATE F() {{{{{{{{{{{{{{{",
-        refusal: ParseRefusal::Expected(34),
+        refusal: ParseRefusal::Text(TextRefusal::Expected(34)),
         ..ROW
     },
     // 65 stars one within another, and 65 open parentheses.
@@ -67,96 +68,96 @@ const ROWS: &[Row] = &[
     },
     Row {
         text: "STRUQL x",
-        refusal: ParseRefusal::Expected(7),
+        refusal: ParseRefusal::Text(TextRefusal::Expected(7)),
         ..ROW
     },
     // A word of the grammar is no name, and a word in mixed case is one.
     Row {
         text: "INPUT TRUE",
-        refusal: ParseRefusal::Expected(6),
+        refusal: ParseRefusal::Text(TextRefusal::Expected(6)),
         ..ROW
     },
     Row {
         text: "INPUT D Where C(x)",
-        refusal: ParseRefusal::Expected(8),
+        refusal: ParseRefusal::Text(TextRefusal::Expected(8)),
         ..ROW
     },
     // No constant is collected, no negation negated, and a step is between two arrows.
     Row {
         text: "INPUT D COLLECT C(1)",
-        refusal: ParseRefusal::Expected(18),
+        refusal: ParseRefusal::Text(TextRefusal::Expected(18)),
         ..ROW
     },
     Row {
         text: "INPUT D WHERE not(not(",
-        refusal: ParseRefusal::Expected(18),
+        refusal: ParseRefusal::Text(TextRefusal::Expected(18)),
         ..ROW
     },
     Row {
         text: "INPUT D WHERE x -> \"a\" y",
-        refusal: ParseRefusal::Expected(23),
+        refusal: ParseRefusal::Text(TextRefusal::Expected(23)),
         ..ROW
     },
     // A quoted text names a collection alone, with one variable; a number names nothing.
     Row {
         text: "INPUT \"D\"",
-        refusal: ParseRefusal::Expected(6),
+        refusal: ParseRefusal::Text(TextRefusal::Expected(6)),
         ..ROW
     },
     Row {
         text: "INPUT D WHERE \"C\"(\"x\")",
-        refusal: ParseRefusal::Expected(18),
+        refusal: ParseRefusal::Text(TextRefusal::Expected(18)),
         ..ROW
     },
     Row {
         text: "INPUT D WHERE \"C\"()",
-        refusal: ParseRefusal::Expected(18),
+        refusal: ParseRefusal::Text(TextRefusal::Expected(18)),
         ..ROW
     },
     Row {
         text: "INPUT D WHERE \"C\"(x) -> \"a\" -> y",
-        refusal: ParseRefusal::Expected(21),
+        refusal: ParseRefusal::Text(TextRefusal::Expected(21)),
         ..ROW
     },
     Row {
         text: "INPUT D WHERE x -> \"a\" -> \"C\"(x)",
-        refusal: ParseRefusal::Expected(29),
+        refusal: ParseRefusal::Text(TextRefusal::Expected(29)),
         ..ROW
     },
     Row {
         text: "INPUT D WHERE 1(x)",
-        refusal: ParseRefusal::Expected(15),
+        refusal: ParseRefusal::Text(TextRefusal::Expected(15)),
         ..ROW
     },
     Row {
         text: "INPUT D CREATE \"F\"()",
-        refusal: ParseRefusal::Expected(15),
+        refusal: ParseRefusal::Text(TextRefusal::Expected(15)),
         ..ROW
     },
     Row {
         text: "INPUT D LINK \"F\"() -> \"a\" -> x",
-        refusal: ParseRefusal::Expected(13),
+        refusal: ParseRefusal::Text(TextRefusal::Expected(13)),
         ..ROW
     },
     Row {
         text: "INPUT D COLLECT 1(x)",
-        refusal: ParseRefusal::Expected(16),
+        refusal: ParseRefusal::Text(TextRefusal::Expected(16)),
         ..ROW
     },
     Row {
         text: "INPUT D COLLECT \"C\" x",
-        refusal: ParseRefusal::Expected(20),
+        refusal: ParseRefusal::Text(TextRefusal::Expected(20)),
         ..ROW
     },
     Row {
         text: "INPUT D COLLECT \"C\"(\"F\"(x))",
-        refusal: ParseRefusal::Expected(20),
+        refusal: ParseRefusal::Text(TextRefusal::Expected(20)),
         ..ROW
     },
     // Faults of tokens come first.
     Row {
         text: "OUTPUT ?",
-        refusal: ParseRefusal::BadByte(7),
+        refusal: ParseRefusal::Text(TextRefusal::BadByte(7)),
         ..ROW
     },
     // The dot past the limit.
@@ -169,7 +170,7 @@ const ROWS: &[Row] = &[
     Row {
         text: PLACES,
         limit: 57,
-        refusal: ParseRefusal::TooLong(57),
+        refusal: ParseRefusal::Text(TextRefusal::TooLong(57)),
         ..ROW
     },
 ];

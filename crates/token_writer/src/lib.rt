@@ -2,13 +2,13 @@
 #![tactic(auto)]
 
 ghost use Rattle.std.specs.Prelude.{◌≡◌, ◌++◌, IfOk};
-ghost use Rattle.std.specs.Fmt.{signed_decimal};
+ghost use Rattle.std.specs.Fmt.{decimal, signed_decimal};
 ghost use Rattle.std.specs.List.{flat_map};
 ghost use Rattle.token_writer.specs.Writing.{quoted_text, escaped_byte};
 
 mod laws;
 
-use itoa::Buffer;
+use itoa::{Buffer, Integer};
 pub use laws::{number_is_its_token, quoted_text_is_its_token};
 use sd_value::NoMemory;
 
@@ -20,13 +20,25 @@ pub fn put(bytes: &[u8], out: &mut Vec<u8>) -> Result<(), NoMemory>
     Ok(())
 }
 
-/// Appends a number in decimal digits, behind a minus where it is negative.
+fn put_formatted<I: Integer>(n: I, out: &mut Vec<u8>) -> Result<(), NoMemory>
+    ensures { IfOk result (λ _. out.new.items ≡ out.old.items ++ I.text n) }
+{
+    let mut buffer = Buffer::new();
+    put(buffer.format(n).as_bytes(), out)
+}
+
+/// Appends a number in decimal digits.
+pub fn put_number(n: u128, out: &mut Vec<u8>) -> Result<(), NoMemory>
+    ensures { IfOk result (λ _. out.new.items ≡ out.old.items ++ decimal n) }
+{
+    put_formatted(n, out)
+}
+
+/// Appends a number in decimal digits, after a minus if it is negative.
 pub fn put_int(n: i64, out: &mut Vec<u8>) -> Result<(), NoMemory>
     ensures { IfOk result (λ _. out.new.items ≡ out.old.items ++ signed_decimal n) }
 {
-    let mut buffer = Buffer::new();
-    out.extend_from_slice(buffer.format(n).as_bytes())?;
-    Ok(())
+    put_formatted(n, out)
 }
 
 /// Appends a text in quotes. A quote, a backslash, a line feed, a carriage return and a tab are

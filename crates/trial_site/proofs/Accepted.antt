@@ -10,6 +10,7 @@ use Rattle.token_reader.specs.Gives.{IsReal}
 use Rattle.token_reader.proofs.Tokens.{one_token_list}
 use Rattle.token_reader.proofs.TextFaults.{text_spelled_no_fault, text_spelled_no_past}
 use Rattle.struql_ast.specs.Written as written
+use Rattle.token_reader.specs.declared.refusal.TextRefusal.TheVariants as text
 use Rattle.struql_parse.specs.declared.refusal.ParseRefusal.TheVariants as parse
 use Rattle.struql_parse.specs.Blocks.{query_within, query_spelled}
 use Rattle.struql_parse.specs.Reading.{read_query}
@@ -70,12 +71,12 @@ module _ (limit : ℕ) (bytes : List ℕ) (tokens : List Token) (query : written
   not_reported other spells check.NoMemory h = tt
 
   pub never_refused : (refusal : QueryRefusal) → IsRefused limit bytes refusal → IsOutOfMemory refusal
-  never_refused (NotSpelled (parse.TooLong at)) h = no_fault (lexer.TooLong at) h
-  never_refused (NotSpelled (parse.BadByte at)) h = no_fault (lexer.BadByte at) h
-  never_refused (NotSpelled (parse.OpenString at)) h = no_fault (lexer.OpenString at) h
-  never_refused (NotSpelled (parse.IntOutOfRange at)) h = no_fault (lexer.IntOutOfRange at) h
-  never_refused (NotSpelled (parse.Expected at)) (others, l, rest, f, is) = not_stuck others rest l f
+  never_refused (NotSpelled (parse.Text (text.TooLong at))) h = no_fault (lexer.TooLong at) h
+  never_refused (NotSpelled (parse.Text (text.BadByte at))) h = no_fault (lexer.BadByte at) h
+  never_refused (NotSpelled (parse.Text (text.OpenString at))) h = no_fault (lexer.OpenString at) h
+  never_refused (NotSpelled (parse.Text (text.IntOutOfRange at))) h = no_fault (lexer.IntOutOfRange at) h
+  never_refused (NotSpelled (parse.Text (text.Expected at))) (others, l, rest, f, is) = not_stuck others rest l f
   never_refused (NotSpelled (parse.TooDeep at)) (others, l, rest, f, version, is) = not_past others rest l f
   never_refused (NotSpelled (parse.BadVersion at)) (others, l, rest, f, version, is) = not_past others rest l f
-  never_refused (NotSpelled parse.NoMemory) h = tt
+  never_refused (NotSpelled (parse.Text text.NoMemory)) h = tt
   never_refused (NotChecked e) (other, spells, told) = not_reported other spells e told

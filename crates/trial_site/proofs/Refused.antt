@@ -2,6 +2,7 @@
 use Rattle.std.proofs.Common.{◌≡◌, refl, ap, ◌∙◌, subst, Result, Err}
 use Rattle.query_spec.specs.Query as plain
 use Rattle.struql_parse.specs.declared.refusal.ParseRefusal.{ParseRefusal}
+use Rattle.token_reader.specs.declared.refusal.TextRefusal.TheVariants as text
 use Rattle.struql_parse.specs.declared.refusal.ParseRefusal.TheVariants as parse
 use Rattle.struql_check.specs.declared.refusal.CheckRefusal.{CheckRefusal}
 use Rattle.struql_check.specs.declared.refusal.CheckRefusal.TheVariants as check
@@ -19,8 +20,8 @@ use Rattle.trial_site.specs.Accepted.{IsOutOfMemory}
 use Rattle.trial_site.proofs.Query.{query_accepted}
 use Rattle.trial_site.proofs.Templates.{templates_accepted}
 
-spelled_is : (e : ParseRefusal) → IsOutOfMemory (NotSpelled e) → e ≡ parse.NoMemory
-spelled_is parse.NoMemory h = refl
+spelled_is : (e : ParseRefusal) → IsOutOfMemory (NotSpelled e) → e ≡ parse.Text text.NoMemory
+spelled_is (parse.Text text.NoMemory) h = refl
 spelled_is e h = absurd h
 
 checked_is : (e : CheckRefusal) → IsOutOfMemory (NotChecked e) → e ≡ check.NoMemory
@@ -29,7 +30,7 @@ checked_is e h = absurd h
 
 module _ (r : Result plain.Query QueryRefusal) (refusal : QueryRefusal) (is : r ≡ Err refusal)
     (reads : Reads text_limit query_text r) where
-  pub never_not_spelled : (e : ParseRefusal) → refusal ≡ NotSpelled e → (e ≡ parse.NoMemory → ⊥) → ⊥
+  pub never_not_spelled : (e : ParseRefusal) → refusal ≡ NotSpelled e → (e ≡ parse.Text text.NoMemory → ⊥) → ⊥
   never_not_spelled e this other =
       other (spelled_is e
       (query_accepted.never_refused (NotSpelled e) (subst (Reads text_limit query_text) (is ∙ ap Err this) reads)))

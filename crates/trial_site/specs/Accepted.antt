@@ -1,6 +1,7 @@
 -- What it means that a text is accepted as a query, and a file of templates.
 use Rattle.std.specs.Prelude.{ℕ, List, Ok, Err, ⊤}
 use Rattle.struql_ast.specs.Written as written
+use Rattle.token_reader.specs.declared.refusal.TextRefusal.TheVariants as text
 use Rattle.struql_parse.specs.declared.refusal.ParseRefusal.TheVariants as parse
 use Rattle.struql_check.specs.declared.refusal.CheckRefusal.TheVariants as check
 use Rattle.struql_check.specs.Faults.{IsFaultless}
@@ -13,7 +14,7 @@ use Rattle.template_reader.specs.Faults.{IsAnswer}
 
 -- the reader of queries was out of memory
 abbrev pub IsOutOfMemory : QueryRefusal → Type 0
-IsOutOfMemory (NotSpelled parse.NoMemory) = ⊤
+IsOutOfMemory (NotSpelled (parse.Text text.NoMemory)) = ⊤
 IsOutOfMemory (NotChecked check.NoMemory) = ⊤
 IsOutOfMemory refusal = ⊥
 

@@ -8,10 +8,10 @@ ghost use Rattle.trial_spec.specs.Data as specs;
 ghost use Rattle.trial_site.specs.Data.{as_value, AreWords};
 ghost use Rattle.trial_site.specs.Room.{HasRoom};
 
-use itoa::Buffer;
 use sd_graph::{Graph, GraphBuilder, GraphRefusal, PROGRAM_LIMITS};
 use sd_value::{Datum, NoMemory, Str, Value};
 use std::alloc::Global;
+use token_writer::put_number;
 use trial_spec::Entry;
 
 // What the generator's state is multiplied by, what is then added, and what is then divided by for the rest.
@@ -68,9 +68,8 @@ impl Generator {
 pub fn numbered(alloc: Global, word: &[u8], number: u64) -> Result<Str, NoMemory>
     ensures { IfOk result (λ text. text ≡ specs.numbered word.now number) }
 {
-    let mut buffer = Buffer::new();
     let mut text = Vec::from_slice(alloc, word)?;
-    text.extend_from_slice(buffer.format(number).as_bytes())?;
+    put_number(number as u128, &mut text)?;
     Str::of(alloc, text)
 }
 

@@ -7,16 +7,13 @@ ghost use Rattle.template_reader.specs.Faults.{IsAnswer};
 ghost use Rattle.command_spec.specs.Limits.{text_limit};
 ghost use Rattle.trial_spec.specs.Texts.{query_text, templates_text};
 
+use command_spec::TEXT_LIMIT;
 use query_reader::{QueryRefusal, read_query};
 use sd_value::NoMemory;
 use std::alloc::Global;
 use struql_check::{CheckRefusal, Checked};
-use struql_parse::ParseRefusal;
 use template_reader::{TmplRefusal, read_templates};
 use tmpl::Templates;
-
-// The most bytes of a query, and of a file of templates.
-const TEXT_LIMIT: u64 = 1_048_576;
 
 const QUERY: &[u8] = b"INPUT Bib\n\
     { CREATE RootPage() }\n\
@@ -40,10 +37,12 @@ pub fn made_query(alloc: Global) -> Result<Checked, NoMemory>
 {
     match read_query(alloc, QUERY, TEXT_LIMIT) {
         Ok(query) => Ok(query),
-        Err(QueryRefusal::NotSpelled(refusal)) => match refusal {
-            ParseRefusal::NoMemory => Err(NoMemory),
-            _ => unreachable!(),
-        },
+        Err(QueryRefusal::NotSpelled(refusal)) => {
+            if refusal.is_out_of_memory() {
+                return Err(NoMemory);
+            }
+            unreachable!()
+        }
         Err(QueryRefusal::NotChecked(refusal)) => match refusal {
             CheckRefusal::NoMemory => Err(NoMemory),
             _ => unreachable!(),

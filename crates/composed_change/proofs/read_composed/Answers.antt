@@ -12,4 +12,4 @@ pub returns-else-is_out_of_memory : goal.returns-else-is_out_of_memory
 returns-else-is_out_of_memory c = λ G h.
     none_from c.args.text.now c.bytes.result.now c.new-gathered.result c.read_ddl.new.graph c.in-Err.refusal
     c.bytes.ensures c.new-gathered.ensures.limits c.new-gathered.ensures.empty
-    c.in-Err.ensures (c.is_out_of_memory.ensures c.if-is_out_of_memory.false) h.0 h.1
+    c.in-Err.ensures (c.is_out_of_memory.ensures.no c.if-is_out_of_memory.false) h.0 h.1
