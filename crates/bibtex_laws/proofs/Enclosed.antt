@@ -5,9 +5,9 @@ use Rattle.std.proofs.lemmas.List.{append_cancel_right}
 use Rattle.grammar.specs.Fault.{Every}
 use Rattle.grammar.specs.Reading.{Outcome, Read, Stuck, Past, and_then, starts, with_front}
 use Rattle.grammar.proofs.Laws.{Always, IsPast, every_append}
-use Rattle.word_grammar.specs.Past.{IsPastAt}
-use Rattle.word_grammar.proofs.Laws.{End, Value, Unexpected, answer, Core, Reads, no_front}
-use Rattle.word_grammar.proofs.Parts.{Part}
+use Rattle.bibtex_laws.specs.Past.{IsPastAt}
+use Rattle.bibtex_laws.proofs.Laws.{End, Value, Unexpected, answer, Core, Reads, no_front}
+use Rattle.bibtex_laws.proofs.Parts.{Part}
 use Rattle.bibtex_spec.specs.declared.Nesting.{Nesting}
 use Rattle.bibtex_spec.specs.declared.Nesting.TheVariants.{Closes, Unpaired, TooDeep, Goes}
 use Rattle.bibtex_spec.specs.Reading.{with_byte, nesting, nested, enclosed as read_up_to}

@@ -10,9 +10,9 @@ use Rattle.grammar.specs.Grammar.{nothing, one, ◌>>=◌, ◌>>◌}
 use Rattle.grammar.specs.Reading.{Outcome, Read, Stuck, Past, and_then, starts, choose, take_one}
 use Rattle.grammar.proofs.Laws.{Always, Stops}
 use Rattle.grammar.proofs.Parts.{Opens, opens_one, opens_then}
-use Rattle.word_grammar.specs.Past.{IsPastAt}
-use Rattle.word_grammar.proofs.Laws.{End, Value, Unexpected, answer, Reads, no_front}
-use Rattle.word_grammar.proofs.Parts.{Part, part_within, give_part, weaken_part, then_part, then_opens}
+use Rattle.bibtex_laws.specs.Past.{IsPastAt}
+use Rattle.bibtex_laws.proofs.Laws.{End, Value, Unexpected, answer, Reads, no_front}
+use Rattle.bibtex_laws.proofs.Parts.{Part, part_within, give_part, weaken_part, then_part, then_opens}
 use Rattle.bibtex_spec.specs.Bytes.{is_blank, is_letter, is_name_byte, is_key_byte, is_junk, lower, run, behind}
 use Rattle.bibtex_spec.specs.Macros.{MacroTexts}
 use Rattle.bibtex_spec.specs.Reading.{stuck, same_byte, closing, read_mark, read_open, read_name, read_key, read_value, read_fields}

@@ -6,8 +6,8 @@ use Rattle.grammar.specs.Fault.{Every}
 use Rattle.grammar.specs.Grammar.{nothing, ◌>>=◌, ◌>>◌, either, many}
 use Rattle.grammar.specs.Reading.{Outcome, Read, Stuck, Past, and_then, starts, choose}
 use Rattle.grammar.proofs.Parts.{Opens, opens_then, first_is}
-use Rattle.word_grammar.proofs.Laws.{Reads, weaken, restate, give_reads, then_reads, choose_reads}
-use Rattle.word_grammar.proofs.Parts.{Part, part_within}
+use Rattle.bibtex_laws.proofs.Laws.{Reads, weaken, restate, give_reads, then_reads, choose_reads}
+use Rattle.bibtex_laws.proofs.Parts.{Part, part_within}
 use Rattle.bibtex_spec.specs.declared.Field.{Field}
 use Rattle.bibtex_spec.specs.Bytes.{is_blank, is_letter, is_name_byte}
 use Rattle.bibtex_spec.specs.Macros.{MacroTexts}

@@ -7,8 +7,8 @@ use Rattle.grammar.specs.Grammar.{nothing, ◌>>=◌, either}
 use Rattle.grammar.specs.Reading.{Outcome, Read, Stuck, Past, and_then, starts, choose}
 use Rattle.grammar.proofs.Laws.{AtEnd, Stops}
 use Rattle.grammar.proofs.Parts.{Opens, opens_then}
-use Rattle.word_grammar.proofs.Laws.{Reads, weaken, restate, give_reads, then_reads, choose_reads}
-use Rattle.word_grammar.proofs.Parts.{Part, part_within, then_part}
+use Rattle.bibtex_laws.proofs.Laws.{Reads, weaken, restate, give_reads, then_reads, choose_reads}
+use Rattle.bibtex_laws.proofs.Parts.{Part, part_within, then_part}
 use Rattle.bibtex_spec.specs.Bytes.{is_letter, is_junk, behind}
 use Rattle.bibtex_spec.specs.Macros.{MacroTexts, months}
 use Rattle.bibtex_laws.specs.Grammar.{Rules, strict, free, Phrase, Passing, each, mark, lower_word, sized, behind_word, item, macros_behind, items, text}

@@ -5,9 +5,9 @@ use Rattle.grammar.specs.Fault.{Every}
 use Rattle.grammar.specs.Grammar as grammar
 use Rattle.grammar.specs.Reading.{Outcome, Read, Stuck, Past, and_then}
 use Rattle.grammar.proofs.Laws.{IsPast, every_append}
-use Rattle.word_grammar.specs.Past.{IsPastAt}
-use Rattle.word_grammar.proofs.Laws.{End, Value, Unexpected, answer, Core, Reads, IsViable, IsPassed, then_reads}
-use Rattle.word_grammar.proofs.Parts.{Part, part_within}
+use Rattle.bibtex_laws.specs.Past.{IsPastAt}
+use Rattle.bibtex_laws.proofs.Laws.{End, Value, Unexpected, answer, Core, Reads, IsViable, IsPassed, then_reads}
+use Rattle.bibtex_laws.proofs.Parts.{Part, part_within}
 use Rattle.bibtex_laws.specs.Grammar.{sized}
 
 module _ {T A B : Type 0} {Real : T → Type 0} {Why : List T → (T → Bool) → Type 0} {P U : List T → A → Type 0} {Q V : A → List T → B → Type 0} {G F : List T → Type 0} {p : List T → Outcome T A} {q : A → List T → Outcome T B} where

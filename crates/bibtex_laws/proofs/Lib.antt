@@ -11,3 +11,6 @@ pub mod Entries
 pub mod Items
 pub mod Same
 pub mod Whole
+pub mod Laws
+pub mod Repeat
+pub mod Parts

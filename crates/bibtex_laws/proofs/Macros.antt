@@ -8,9 +8,9 @@ use Rattle.grammar.specs.Grammar.{either}
 use Rattle.grammar.specs.Reading.{Outcome, Read, Stuck, Past, and_then, starts, choose}
 use Rattle.grammar.proofs.Laws.{IsPast}
 use Rattle.grammar.proofs.Parts.{Opens, first_is}
-use Rattle.word_grammar.specs.Past.{IsPastAt}
-use Rattle.word_grammar.proofs.Laws.{End, Value, Unexpected, answer, Core, Reads, IsViable, IsPassed, weaken_core, choose_core, choose_viable, choose_past, more_viable, more_past, restate}
-use Rattle.word_grammar.proofs.Parts.{Part, part_within}
+use Rattle.bibtex_laws.specs.Past.{IsPastAt}
+use Rattle.bibtex_laws.proofs.Laws.{End, Value, Unexpected, answer, Core, Reads, IsViable, IsPassed, weaken_core, choose_core, choose_viable, choose_past, more_viable, more_past, restate}
+use Rattle.bibtex_laws.proofs.Parts.{Part, part_within}
 use Rattle.bibtex_spec.specs.Bytes.{is_blank, is_letter, is_digit, is_name_byte, lower, run, behind}
 use Rattle.bibtex_spec.specs.Macros.{MacroTexts, text_of}
 use Rattle.bibtex_spec.specs.Reading.{read_name, read_macro, read_piece, read_digits, read_enclosed, macro_read}

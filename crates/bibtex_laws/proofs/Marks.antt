@@ -6,7 +6,7 @@ use Rattle.grammar.specs.Grammar.{one, ◌>>◌}
 use Rattle.grammar.specs.Reading.{Outcome, and_then, starts, take_one}
 use Rattle.grammar.proofs.Laws.{Always, Stops}
 use Rattle.grammar.proofs.Parts.{Opens, opens_one, opens_then}
-use Rattle.word_grammar.proofs.Parts.{Part, ◌>>=◌, one_part, weaken_part}
+use Rattle.bibtex_laws.proofs.Parts.{Part, ◌>>=◌, one_part, weaken_part}
 use Rattle.bibtex_spec.specs.Bytes.{is_blank, is_letter, is_digit, is_name_byte, is_key_byte, lower, behind}
 use Rattle.bibtex_spec.specs.Macros.{MacroTexts}
 use Rattle.bibtex_spec.specs.Reading.{spaced as read_spaced, same_byte, closing, read_mark, read_open, read_name, read_key, enclosed as read_up_to}

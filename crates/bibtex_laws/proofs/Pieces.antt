@@ -8,8 +8,8 @@ use Rattle.grammar.specs.Grammar.{one, either}
 use Rattle.grammar.specs.Reading.{Outcome, starts, choose}
 use Rattle.grammar.proofs.Laws.{Stops}
 use Rattle.grammar.proofs.Parts.{Opens, opens_then, opens_one, opens_either, first_is}
-use Rattle.word_grammar.proofs.Laws.{Core, Reads, IsViable, IsPassed, weaken_core, restate_core, restate_past, choose_core, choose_viable, choose_past, more_viable, more_past, restate}
-use Rattle.word_grammar.proofs.Parts.{Part, part_within}
+use Rattle.bibtex_laws.proofs.Laws.{Core, Reads, IsViable, IsPassed, weaken_core, restate_core, restate_past, choose_core, choose_viable, choose_past, more_viable, more_past, restate}
+use Rattle.bibtex_laws.proofs.Parts.{Part, part_within}
 use Rattle.bibtex_spec.specs.Bytes.{is_blank, is_letter, is_digit, is_name_byte}
 use Rattle.bibtex_spec.specs.Macros.{MacroTexts}
 use Rattle.bibtex_spec.specs.Reading.{same_byte, read_macro, read_piece, read_digits, read_enclosed}

@@ -5,7 +5,7 @@ use Rattle.std.specs.Str.{bytes_eq}
 use Rattle.std.proofs.lemmas.Bool.Decides.{nat_tests}
 use Rattle.grammar.specs.Reading.{Outcome, Read, Stuck, Past, and_then, starts, take_one}
 use Rattle.grammar.proofs.Laws.{Stops}
-use Rattle.word_grammar.proofs.Parts.{Part}
+use Rattle.bibtex_laws.proofs.Parts.{Part}
 use Rattle.bibtex_spec.specs.declared.Field.{Field}
 use Rattle.bibtex_spec.specs.declared.Item.{Item}
 use Rattle.bibtex_spec.specs.declared.Item.TheVariants.{Passes, Defines, Enters}

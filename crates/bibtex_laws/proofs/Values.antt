@@ -6,7 +6,7 @@ use Rattle.std.proofs.lemmas.Bool.{eqb-true}
 use Rattle.grammar.specs.Grammar.{nothing, many}
 use Rattle.grammar.specs.Reading.{starts, repeat}
 use Rattle.grammar.proofs.Parts.{Opens, opens_then}
-use Rattle.word_grammar.proofs.Parts.{Part, give_part, weaken_part, then_part, then_opens, many_part}
+use Rattle.bibtex_laws.proofs.Parts.{Part, give_part, weaken_part, then_part, then_opens, many_part}
 use Rattle.bibtex_spec.specs.declared.Field.{Field}
 use Rattle.bibtex_spec.specs.Bytes.{is_blank, is_letter, is_digit, is_name_byte}
 use Rattle.bibtex_spec.specs.Values.{tidy, joined}

@@ -6,7 +6,7 @@ use Rattle.std.proofs.lemmas.List.{append-nil}
 use Rattle.grammar.specs.Fault.{IsSpelled, IsFront, FirstFault}
 use Rattle.grammar.specs.Reading.{Outcome, Read, Stuck, Past, starts}
 use Rattle.grammar.proofs.Laws.{IsPast}
-use Rattle.word_grammar.proofs.Laws.{Unexpected}
+use Rattle.bibtex_laws.proofs.Laws.{Unexpected}
 use Rattle.bibtex_laws.specs.Grammar.{Phrase, strict, free, text}
 use Rattle.bibtex_laws.specs.Limits.{IsByte, IsLimit}
 use Rattle.bibtex_laws.specs.Faults.{IsFirstFault, IsPassedBy}

@@ -7,9 +7,9 @@ use Rattle.grammar.specs.Grammar.{nothing, one}
 use Rattle.grammar.specs.Grammar as grammar
 use Rattle.grammar.specs.Reading.{Outcome, Read, Stuck, Past, and_then, starts, choose, take_one, taken}
 use Rattle.grammar.proofs.Laws.{Always, Stops, IsPast}
-use Rattle.word_grammar.specs.Past.{IsPastAt}
-use Rattle.word_grammar.proofs.Laws.{End, Value, Unexpected, answer, Core, Reads, IsViable, IsPassed, no_front}
-use Rattle.word_grammar.proofs.Parts.{Part, ◌>>=◌, give_part, one_part, then_part, weaken_part, restate_part}
+use Rattle.bibtex_laws.specs.Past.{IsPastAt}
+use Rattle.bibtex_laws.proofs.Laws.{End, Value, Unexpected, answer, Core, Reads, IsViable, IsPassed, no_front}
+use Rattle.bibtex_laws.proofs.Parts.{Part, ◌>>=◌, give_part, one_part, then_part, weaken_part, restate_part}
 use Rattle.bibtex_spec.specs.Bytes.{is_blank, lower, run, behind}
 use Rattle.bibtex_spec.specs.Reading.{stuck}
 use Rattle.bibtex_laws.specs.Grammar.{each, word, lower_word, sized, blanks, spaced}

@@ -15,7 +15,7 @@ use crate::row::row_of;
 use crate::witness::witness;
 use candidate_values::{Offer, Reaches, Search, any, in_domain, offer_values, offer_walk, walk_of};
 use condition_tests::{Goal, Literal, free_slot, known, test_atom, value_of};
-use goal_choice::fewest;
+use planned_goals::fewest;
 use query_spec::Row;
 use sd_value::{NoMemory, Value, sort_and_dedup};
 use std::alloc::Global;

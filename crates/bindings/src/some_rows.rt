@@ -15,7 +15,7 @@ use crate::search::{Choice, are_in_domains, choose, choose_goal, clear, passed, 
 use crate::witness::witness;
 use candidate_values::{Reaches, Search};
 use condition_tests::{Goal, value_of};
-use goal_choice::Wanted;
+use planned_goals::Wanted;
 use query_spec::Row;
 use sd_value::{NoMemory, Value, copy, sort_and_dedup};
 use std::alloc::Global;

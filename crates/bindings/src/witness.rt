@@ -12,7 +12,7 @@ use crate::row::row_of;
 use crate::search::{Choice, choose, finds, passed, put};
 use candidate_values::{Ends, Offer, Reaches, Search, settle};
 use condition_tests::{Atom, Place, Property, Relation, free_at, known};
-use goal_choice::{fewest, literal_at};
+use planned_goals::{fewest, literal_at};
 use query_spec::{Row, copied_bound};
 use sd_value::{NoMemory, Value};
 use std::alloc::Global;

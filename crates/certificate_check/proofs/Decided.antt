@@ -7,8 +7,8 @@ use Rattle.constraint_spec.specs.declared.Constraint.{Constraint}
 use Rattle.constraint_spec.specs.Certificate.{Certificate, IsCertificate}
 use Rattle.constraint_recheck.specs.Recheck.{recheck}
 use Rattle.constraint_recheck.proofs.Recheck.{recheck_decides}
-use Rattle.inclusion_table.specs.declared.table.Inclusions.{Inclusions}
-use Rattle.inclusion_table.specs.Answers.{tests_of, IsTableOf}
+use Rattle.inclusion.specs.declared.table.Inclusions.{Inclusions}
+use Rattle.inclusion.specs.Answers.{tests_of, IsTableOf}
 
 pub decided : (t : Inclusions) (s q : Scope) (k : Constraint) (x : Certificate) (b : Bool) → IsTableOf s t → s ≡ q → b ≡ recheck (tests_of t) s k x → Decides b (IsCertificate q k x)
 decided t s q k x b table same is =

@@ -5,7 +5,7 @@ use Rattle.query_spec.specs.Query.{Condition, SkolemTerm, Target, plain, made}
 use Rattle.site_spec.specs.Site.{Scope}
 use Rattle.constraint_spec.specs.Placed.{PlacedLink, links_of}
 use Rattle.constraint_spec.specs.Use.{LinkUse, source_of, target_of}
-use Rattle.query_copies.specs.Same.{same_target}
+use Rattle.query_parts.specs.Same.{same_target}
 use Rattle.constraint_recheck.specs.Entails.{Tests}
 use Rattle.constraint_recheck.specs.Recheck.{link_at, is_use}
 

@@ -10,7 +10,7 @@ use Rattle.struql_ast.specs.Reading.{term_of, link_of}
 use Rattle.site_spec.specs.Site.{Scope}
 use Rattle.constraint_spec.specs.Placed.{PlacedLink, Mention, links_of}
 use Rattle.constraint_spec.specs.Use.{rename_target, naming}
-use Rattle.query_copies.specs.Same.{same_target}
+use Rattle.query_parts.specs.Same.{same_target}
 use Rattle.constraint_recheck.specs.Entails.{Tests}
 use Rattle.constraint_recheck.specs.Recheck.{same_sort, is_of, is_quoted, is_use}
 use Rattle.certificate_check.specs.declared.links.QueryLink.{QueryLink}

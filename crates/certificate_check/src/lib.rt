@@ -11,9 +11,8 @@ mod names;
 mod testing;
 mod uses;
 
-use certificates::Certificate;
-use constraint_spec::Constraint;
-use inclusion_table::Inclusions;
+use constraint_spec::{Certificate, Constraint};
+use inclusion::Inclusions;
 use query_scoping::scopes;
 use sd_value::NoMemory;
 use std::alloc::Global;

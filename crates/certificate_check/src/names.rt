@@ -5,15 +5,15 @@ ghost use Rattle.std.specs.List.{list_all};
 ghost use Rattle.query_spec.specs.Query.{made as a_term};
 ghost use Rattle.struql_ast.specs.Reading.{condition_of, term_of, target_of};
 ghost use Rattle.constraint_spec.specs.Use.{rename, rename_target, name_for};
-ghost use Rattle.query_copies.specs.Same.{same_target};
+ghost use Rattle.query_parts.specs.Same.{same_target};
 ghost use Rattle.constraint_recheck.specs.Entails.{entails};
 ghost use Rattle.constraint_recheck.specs.Recheck.{zip_all, same_sort, is_use as makes_use};
 ghost use Rattle.certificate_check.specs.Links.{placed_link, HasOwnVariables, is_sorted};
 
 use crate::links::QueryLink;
 use entailment::{Judge, is_entailed};
-use link_uses::{renamed, renamed_term};
-use query_copies::same_terms;
+use certificate_search::{renamed, renamed_term};
+use query_parts::same_terms;
 use query_spec::Variable;
 use sd_value::{NoMemory, Str};
 use std::alloc::Global;

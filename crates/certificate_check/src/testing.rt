@@ -12,8 +12,7 @@ ghost use Rattle.certificate_check.specs.Links.{AreLinks, ends_at};
 
 use crate::links::links_of;
 use crate::uses::{TestedQuery, shows, shows_reached};
-use certificates::{Certificate, MentionProof};
-use constraint_spec::Constraint;
+use constraint_spec::{Certificate, Constraint, MentionProof};
 use entailment::Judge;
 use query_blocks::QueryBlocks;
 use query_links::{AskedLabel, Mention, each_may, is_single, mentions};

@@ -8,15 +8,15 @@ use Rattle.query_spec.specs.Query.{Operand, Condition, SkolemTerm, Target, plain
 use Rattle.query_spec.specs.Mentions.{variables_of}
 use Rattle.site_spec.specs.Site.{Scope}
 use Rattle.constraint_spec.specs.Placed.{links_of}
-use Rattle.query_copies.specs.Same.{same_term}
+use Rattle.query_parts.specs.Same.{same_term}
 use Rattle.constraint_recheck.specs.Entails.{Tests}
 use Rattle.constraint_recheck.specs.Recheck.{is_of, zip_all}
 use Rattle.query_spec.specs.declared.Variable.{Variable}
-use Rattle.constraint_search.specs.Options.{fold_over}
-use Rattle.constraint_search.specs.Search.{Numbered, numbered_from, source_choices, Reached, add_found, add_source, add_sources, add_links, levels, find_names, may_go_on, due_condition, due_same, due_arg, ends_fit, extend}
+use Rattle.constraint_recheck.specs.Options.{fold_over}
+use Rattle.constraint_recheck.specs.Search.{Numbered, numbered_from, source_choices, Reached, add_found, add_source, add_sources, add_links, levels, find_names, may_go_on, due_condition, due_same, due_arg, ends_fit, extend}
 use Rattle.certificate_search.specs.declared.sources.ReachedTerm.{ReachedTerm}
 use Rattle.certificate_search.specs.Reaching.{reached_of, with_args}
-use Rattle.link_uses.proofs.Steps.{dropped, and_false}
+use Rattle.certificate_search.proofs.RenamedSteps.{dropped, and_false}
 use Rattle.certificate_search.proofs.Steps.{fold_joined}
 
 -- ---- growing

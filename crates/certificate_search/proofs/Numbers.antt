@@ -5,7 +5,7 @@ use Rattle.std.specs.Prelude.{map}
 use Rattle.std.specs.List.{flat_map}
 use Rattle.query_spec.specs.Query.{Condition, Link}
 use Rattle.constraint_spec.specs.Placed.{PlacedLink}
-use Rattle.constraint_search.specs.Search.{Numbered, numbered_from}
+use Rattle.constraint_recheck.specs.Search.{Numbered, numbered_from}
 
 -- the link under these conditions
 abbrev pub placed : List Condition → Link → PlacedLink

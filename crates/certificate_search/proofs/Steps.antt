@@ -5,8 +5,8 @@ use Rattle.std.specs.List.{list_any}
 use Rattle.std.proofs.lemmas.List.{drop_all}
 use Rattle.std.proofs.lemmas.List.Elements.{All-get_or}
 use Rattle.std.specs.Cmp.Lexicographic.{pointwise}
-use Rattle.constraint_search.specs.Options.{or_else, first_of, fold_over}
-use Rattle.link_uses.proofs.Steps.{dropped, and_false}
+use Rattle.constraint_recheck.specs.Options.{or_else, first_of, fold_over}
+use Rattle.certificate_search.proofs.RenamedSteps.{dropped, and_false}
 
 -- ---- one list
 

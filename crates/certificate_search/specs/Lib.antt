@@ -1,3 +1,5 @@
 pub mod Links
 pub mod Reaching
 pub mod Uses
+pub mod Extending
+pub mod LinkDepths

@@ -5,8 +5,8 @@ use Rattle.struql_ast.specs.Reading.{condition_of, link_of}
 use Rattle.query_blocks.specs.declared.QueryBlocks.{QueryBlocks}
 use Rattle.query_blocks.specs.Blocks.{scope_of}
 use Rattle.constraint_spec.specs.Placed.{links_of}
-use Rattle.constraint_search.specs.Search.{Numbered, numbered_from}
-use Rattle.link_uses.specs.LinkDepths.{depths_of}
+use Rattle.constraint_recheck.specs.Search.{Numbered, numbered_from}
+use Rattle.certificate_search.specs.LinkDepths.{depths_of}
 use Rattle.certificate_search.specs.declared.links.NumberedLink.{NumberedLink}
 
 -- the link without places, with its number

@@ -2,7 +2,7 @@
 use Rattle.std.specs.Prelude.{List, ◌++◌, map}
 use Rattle.query_spec.specs.Query.{Operand, SkolemTerm}
 use Rattle.struql_ast.specs.Reading.{term_of}
-use Rattle.constraint_search.specs.Search.{Reached}
+use Rattle.constraint_recheck.specs.Search.{Reached}
 use Rattle.certificate_search.specs.declared.sources.ReachedTerm.{ReachedTerm}
 
 -- a reached term without its place, and the uses that lead back to it

@@ -7,7 +7,7 @@ use Rattle.constraint_spec.specs.Placed.{PlacedLink}
 use Rattle.constraint_spec.specs.Use.{LinkUse}
 use Rattle.constraint_recheck.specs.Entails.{Tests}
 use Rattle.constraint_recheck.specs.Recheck.{is_of, is_quoted}
-use Rattle.constraint_search.specs.Search.{Numbered, find_names}
+use Rattle.constraint_recheck.specs.Search.{Numbered, find_names}
 
 -- the link's target is a term of the function, if one is asked for
 abbrev pub ends_at : Option Name → PlacedLink → Bool

@@ -2,7 +2,12 @@
 #![tactic(auto)]
 
 mod back;
+mod depths;
+mod due;
+mod extend;
 mod links;
+mod renaming;
+mod search;
 mod shown;
 mod sources;
 mod uses;
@@ -11,3 +16,4 @@ pub use back::find_back;
 pub use links::{NumberedLink, numbered_links};
 pub use shown::{show_link, show_reached};
 pub use uses::{SearchedQuery, find_use};
+pub use renaming::{renamed, renamed_term};

@@ -5,10 +5,10 @@ ghost use Rattle.query_spec.specs.Mentions.{variables_of};
 ghost use Rattle.struql_ast.specs.Reading.{link_of};
 ghost use Rattle.query_blocks.specs.Blocks.{body_of, AreCheckedBlocks};
 ghost use Rattle.constraint_spec.specs.Placed.{body_links};
-ghost use Rattle.constraint_search.specs.Search.{numbered_from};
+ghost use Rattle.constraint_recheck.specs.Search.{numbered_from};
 ghost use Rattle.certificate_search.specs.Links.{numbered_of, IsPrepared, AreLinks};
 
-use link_uses::Depths;
+use crate::depths::Depths;
 use query_blocks::{QueryBlock, QueryBlocks};
 use query_spec::Variable;
 use sd_value::NoMemory;

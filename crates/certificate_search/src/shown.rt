@@ -4,13 +4,13 @@ ghost use Rattle.std.specs.Prelude.{◌≡◌, IfOk, option_copied};
 ghost use Rattle.query_spec.specs.Mentions.{chain_of};
 ghost use Rattle.struql_ast.specs.Reading.{term_of};
 ghost use Rattle.query_blocks.specs.Blocks.{scope_of};
-ghost use Rattle.constraint_search.specs.Search.{find_shown, find_reached};
+ghost use Rattle.constraint_recheck.specs.Search.{find_shown, find_reached};
 ghost use Rattle.certificate_search.specs.Links.{AreLinks};
 ghost use Rattle.certificate_search.specs.Uses.{ends_at};
 
 use crate::back::find_back;
 use crate::uses::{SearchedQuery, find_use};
-use certificates::MentionProof;
+use constraint_spec::MentionProof;
 use entailment::{Judge, is_root};
 use sd_value::{NoMemory, Str};
 use std::alloc::Global;

@@ -5,14 +5,15 @@ ghost use Rattle.query_spec.specs.Mentions.{chain_of};
 ghost use Rattle.struql_ast.specs.Reading.{label_of, term_of};
 ghost use Rattle.query_blocks.specs.Blocks.{scope_of};
 ghost use Rattle.constraint_recheck.specs.Recheck.{is_quoted as has_label};
-ghost use Rattle.constraint_search.specs.Search.{find_names as names_found, find_use as found};
+ghost use Rattle.constraint_recheck.specs.Search.{find_names as names_found, find_use as found};
 ghost use Rattle.certificate_search.specs.Links.{numbered_of, IsPrepared, AreLinks};
 ghost use Rattle.certificate_search.specs.Uses.{ends_at, use_by};
 
 use crate::links::NumberedLink;
-use certificates::LinkUse;
+use constraint_spec::LinkUse;
 use entailment::{Judge, is_of};
-use link_uses::{Search, find_names};
+use crate::extend::find_names;
+use crate::search::Search;
 use query_blocks::QueryBlocks;
 use sd_value::{NoMemory, Str};
 use std::alloc::Global;

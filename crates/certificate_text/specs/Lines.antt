@@ -8,7 +8,7 @@ use Rattle.query_spec.specs.declared.Variable.{Variable}
 use Rattle.query_spec.specs.Query.{SkolemTerm, Body, Query, blocks_in_scope}
 use Rattle.query_spec.specs.Mentions.{same_name, variables_of}
 use Rattle.site_spec.specs.Site.{terms_of, scope_of}
-use Rattle.schema_spec.specs.Paths.{paths_from}
+use Rattle.site_spec.specs.Paths.{paths_from}
 use Rattle.struql_print.specs.Texts.{joined, term_text}
 use Rattle.constraint_spec.specs.declared.Constraint.{Constraint}
 use Rattle.constraint_spec.specs.declared.Constraint.TheVariants.{Reachable, Each, Only, Never}

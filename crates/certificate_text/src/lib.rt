@@ -6,7 +6,7 @@ ghost use Rattle.std.specs.Prelude.{◌≡◌, [], map};
 ghost use Rattle.sd_value.specs.Names.{Name};
 ghost use Rattle.query_spec.specs.Query.{Query, blocks_in_scope};
 ghost use Rattle.site_spec.specs.Site.{scope_of};
-ghost use Rattle.schema_spec.specs.Paths.{paths_from};
+ghost use Rattle.site_spec.specs.Paths.{paths_from};
 ghost use Rattle.constraint_spec.specs.Placed.{mentions_of};
 ghost use Rattle.certificate_text.specs.Lines.{placed_terms};
 

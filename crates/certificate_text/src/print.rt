@@ -12,8 +12,7 @@ ghost use Rattle.certificate_text.specs.Written.{placed_of, yes_text_by};
 
 use crate::terms::{WrittenTerm, terms_of};
 use crate::variables::{variables_at, variables_by_link};
-use certificates::{Certificate, LinkUse, MentionProof};
-use constraint_spec::Constraint;
+use constraint_spec::{Certificate, Constraint, LinkUse, MentionProof};
 use query_blocks::QueryBlocks;
 use query_spec::Variable;
 use sd_value::{NoMemory, Str};

@@ -19,7 +19,7 @@ ghost use Rattle.click_time.specs.Told.{AreTerms, AreEnds, AreGathered, AreNumbe
 use crate::known::Known;
 use asker::Asker;
 use query_blocks::QueryBlocks;
-use query_copies::copied_values;
+use query_parts::copied_values;
 use sd_value::{NoMemory, Str, Term, Value, copy};
 use site_lookups::{collected, edges_out, in_site, template};
 use std::alloc::Global;

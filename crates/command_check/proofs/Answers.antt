@@ -7,8 +7,8 @@ use Rattle.edge_io.specs.Sink.{Gains}
 use Rattle.query_spec.specs.Query as plain
 use Rattle.constraint_spec.specs.declared.Constraint.{Constraint}
 use Rattle.constraint_report.specs.declared.report.Report.{Report}
-use Rattle.constraint_verdicts.specs.Told.{HasCertificate, AreTold}
-use Rattle.constraint_verdicts.proofs.Whole.{yes_is_shown, yes_is_met}
+use Rattle.command_check.specs.Told.{HasCertificate, AreTold}
+use Rattle.command_check.proofs.Whole.{yes_is_shown, yes_is_met}
 use Rattle.run_report.specs.declared.status.Status.{Status}
 use Rattle.run_report.specs.declared.status.Status.TheVariants as status
 use Rattle.site_inputs.specs.declared.fault.Fault.{Fault}

@@ -5,7 +5,7 @@ use Rattle.edge_io.specs.Files.{FileMap}
 use Rattle.query_spec.specs.Query as plain
 use Rattle.constraint_spec.specs.declared.Constraint.{Constraint}
 use Rattle.constraint_report.specs.declared.report.Report.{Report}
-use Rattle.constraint_verdicts.specs.Told.{AreTold}
+use Rattle.command_check.specs.Told.{AreTold}
 use Rattle.site_inputs.specs.declared.fault.Fault.{Fault}
 use Rattle.site_inputs.specs.declared.fault.Fault.TheVariants.{NoMemory}
 use Rattle.site_inputs.specs.Runs.{Then}

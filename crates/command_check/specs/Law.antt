@@ -6,7 +6,7 @@ use Rattle.edge_io.specs.Sink.{Gains}
 use Rattle.query_spec.specs.Query as plain
 use Rattle.site_spec.specs.Site.{scope_of}
 use Rattle.constraint_spec.specs.declared.Constraint.{Constraint}
-use Rattle.constraint_verdicts.specs.Told.{Finding, finding_lines, HoldsOfSites, HasCertificate, IsMetOverAll}
+use Rattle.command_check.specs.Told.{Finding, finding_lines, HoldsOfSites, HasCertificate, IsMetOverAll}
 use Rattle.run_report.specs.declared.status.Status.{Status}
 use Rattle.run_report.specs.declared.status.Status.TheVariants as status
 use Rattle.site_inputs.specs.declared.fault.Fault.{Fault}

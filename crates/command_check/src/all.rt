@@ -8,11 +8,11 @@ ghost use Rattle.command_check.specs.CheckEnds.{VerdictsTaken, CheckEnds};
 use crate::constraint_file::load_constraints;
 use constraint_report::Report;
 use constraint_spec::Constraint;
-use constraint_verdicts::verdicts_of;
+use crate::verdicts::verdicts_of;
 use edge_io::Files;
 use sd_value::Str;
 use site_inputs::{Fault, load_query};
-use site_trial::SiteTrial;
+use crate::site_trial::SiteTrial;
 use std::alloc::Global;
 use struql_check::Checked;
 

@@ -4,10 +4,17 @@
 
 mod all;
 mod constraint_file;
+mod finding;
 mod here;
 mod laws;
+mod lines;
+mod site_trial;
+mod verdict_laws;
+mod verdicts;
 
 pub use all::check_all;
 pub use constraint_file::load_constraints;
 pub use here::check_here;
 pub use laws::{answers_are_decided, reports_are_decided};
+pub use verdicts::{Verdicts, verdicts_of};
+pub use site_trial::SiteTrial;

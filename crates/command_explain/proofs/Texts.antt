@@ -11,8 +11,8 @@ use Rattle.query_spec.specs.Mentions.{IsWellMade, chain_of}
 use Rattle.query_blocks.specs.Blocks.{body_of}
 use Rattle.query_scoping.specs.Blocks.{IsSafe, HaveChains}
 use Rattle.query_blocks.specs.declared.QueryBlock.{QueryBlock}
-use Rattle.schema_spec.specs.Paths.{paths_from}
-use Rattle.block_paths.proofs.PathLists.{paths_length}
+use Rattle.site_spec.specs.Paths.{paths_from}
+use Rattle.schema.proofs.PathLists.{paths_length}
 use Rattle.struql_ast.specs.declared.Block.{Block}
 use Rattle.struql_ast.specs.declared.Query as declared
 use Rattle.struql_ast.specs.Reading.{blocks_of, query_of}

@@ -6,7 +6,7 @@ use Rattle.query_spec.specs.Mentions.{chain_of}
 use Rattle.plan_spec.specs.declared.Counts.{Counts}
 use Rattle.plan_spec.specs.declared.PlanStep.{PlanStep}
 use Rattle.plan_spec.specs.Shape.{CountsOf, IsPlanOf}
-use Rattle.schema_spec.specs.Paths.{paths_from}
+use Rattle.site_spec.specs.Paths.{paths_from}
 use Rattle.command_explain.specs.Lines.{block_text}
 
 -- the chain's plan by the graph's counts, with nothing bound at first

@@ -3,7 +3,7 @@ ghost use Rattle.std.specs.Prelude.{◌≡◌, IfOk};
 ghost use Rattle.command_explain.specs.Explained.{IsExplained};
 
 use crate::block::explain_block;
-use block_paths::paths_of;
+use schema::paths_of;
 use query_scoping::scoped_blocks;
 use sd_value::NoMemory;
 use std::alloc::Global;

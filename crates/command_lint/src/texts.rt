@@ -14,7 +14,7 @@ use bindings::StoreAsker;
 use command_spec::TEXT_LIMIT;
 use constraint_report::Report;
 use index_store::IndexStore;
-use link_answers::QueryLinks;
+use crate::link_answers::QueryLinks;
 use lint_spec::Finding;
 use query_scoping::scopes;
 use sd_graph::Graph;
@@ -24,7 +24,7 @@ use std::alloc::Global;
 use struql_ast::Query;
 use struql_check::Checked;
 use struql_parse::parse;
-use template_claims::further_labels;
+use text_claims::further_labels;
 use template_items::{Item, items};
 use tmpl::Templates;
 
@@ -121,9 +121,9 @@ pub(crate) fn report_of(
         names: &names,
         without_rows: &without_rows,
     };
-    let asked = query_claims::claims_of(alloc, &written)?;
+    let asked = text_claims::claims_of_query(alloc, &written)?;
     let in_query = findings_of(alloc, &site, &asked)?;
-    let asked = template_claims::claims_of(alloc, &items)?;
+    let asked = text_claims::claims_of_templates(alloc, &items)?;
     let in_templates = findings_of(alloc, &site, &asked)?;
     report(
         alloc,

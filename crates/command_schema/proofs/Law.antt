@@ -7,7 +7,7 @@ use Rattle.sd_value.specs.AscendingLaws.{one_list}
 use Rattle.edge_io.specs.Files.{FileMap}
 use Rattle.query_spec.specs.Query as plain
 use Rattle.query_spec.specs.Query.{blocks_in_scope}
-use Rattle.schema_spec.specs.Schema.{schema_edges}
+use Rattle.site_spec.specs.Schema.{schema_edges}
 use Rattle.schema.specs.declared.SchemaFunction.{SchemaFunction}
 use Rattle.schema.specs.Orders.{function_cmp, function_cmp-total}
 use Rattle.schema.specs.Rows.{IsFunctionIn}

@@ -15,7 +15,7 @@ use Rattle.query_blocks.specs.declared.QueryBlock.{QueryBlock}
 use Rattle.query_blocks.specs.declared.QueryBlocks.{QueryBlocks}
 use Rattle.query_blocks.specs.Blocks.{body_of, scope_of}
 use Rattle.site_lookups.proofs.Some.{map_to, map_from, some_from}
-use Rattle.compose_laws.specs.Named.{IsCollectName}
+use Rattle.composed_data.specs.Named.{IsCollectName}
 
 abbrev pub names_of : QueryBlock → List Name
 names_of b = map (λ c. c.collection) b.collects.items

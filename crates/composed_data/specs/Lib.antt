@@ -1,1 +1,2 @@
 pub mod SiteData
+pub mod Named

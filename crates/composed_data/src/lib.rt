@@ -2,6 +2,7 @@
 #![tactic(auto)]
 
 mod graph;
+mod listed;
 mod made;
 mod names;
 

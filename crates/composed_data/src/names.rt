@@ -4,7 +4,7 @@ ghost use Rattle.std.specs.List.{flat_map};
 ghost use Rattle.sd_value.specs.Order.{bytes_cmp};
 ghost use Rattle.sd_value.specs.Ascending.{ListsExactly};
 ghost use Rattle.query_blocks.specs.Blocks.{scope_of};
-ghost use Rattle.compose_laws.specs.Named.{IsCollectName};
+ghost use Rattle.composed_data.specs.Named.{IsCollectName};
 
 use query_blocks::{QueryBlock, QueryBlocks};
 use sd_value::{NoMemory, Str, sort_and_dedup};

@@ -1,7 +1,7 @@
 -- The schema of the papers' site.
 use Rattle.std.specs.Prelude.{List, [], ◌∷◌, codes}
 use Rattle.query_spec.specs.Query.{plain, made, quoted, label_variable, variable}
-use Rattle.schema_spec.specs.Schema.{SchemaEdge}
+use Rattle.site_spec.specs.Schema.{SchemaEdge}
 use Rattle.definition_examples.specs.BibliographySite as site
 use Rattle.constraint_examples.specs.Papers as papers
 

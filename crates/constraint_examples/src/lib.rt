@@ -9,7 +9,7 @@ ghost use Rattle.definition_examples.specs.BibliographySite as site;
 ghost use Rattle.constraint_examples.specs.Papers as papers;
 ghost use Rattle.constraint_examples.specs.Labels as labels;
 ghost use Rattle.constraint_examples.specs.Schema as schema;
-ghost use Rattle.schema_spec.specs.Schema.{schema_edges};
+ghost use Rattle.site_spec.specs.Schema.{schema_edges};
 
 /// The papers' site: a year's page links by `Paper` to papers' pages alone, and by `Year` exactly
 /// once; each paper's page is reached from the home page, by link 2. A paper's page may have any

@@ -6,8 +6,8 @@ use Rattle.std.proofs.lemmas.Option.{slice_get_within, get_or_from_slice_get}
 use Rattle.sd_value.specs.Members.{Contains-nil, Contains-cons_cases}
 use Rattle.query_spec.specs.Query.{Link, Body, Query, blocks_in_scope}
 use Rattle.site_spec.specs.Site.{scope_of}
-use Rattle.schema_spec.specs.Paths.{paths_from}
-use Rattle.schema_spec.specs.Schema.{SchemaEdge, edges_in, edges_from, schema_edges}
+use Rattle.site_spec.specs.Paths.{paths_from}
+use Rattle.site_spec.specs.Schema.{SchemaEdge, edges_in, edges_from, schema_edges}
 use Rattle.constraint_spec.specs.Placed.{PlacedLink, body_links, links_of, IsNumbered}
 
 abbrev pub placed : SchemaEdge → PlacedLink

@@ -16,7 +16,7 @@ ghost use Rattle.site_spec.specs.Site.{Scope, scope_of, InSite, Linked};
 ghost use Rattle.constraint_spec.specs.declared.Constraint.{Constraint};
 ghost use Rattle.constraint_spec.specs.Meets.{Meets};
 ghost use Rattle.constraint_spec.specs.Placed.{PlacedLink, IsNumbered, links_of};
-ghost use Rattle.schema_spec.specs.Schema.{SchemaEdge, schema_edges};
+ghost use Rattle.site_spec.specs.Schema.{SchemaEdge, schema_edges};
 ghost use Rattle.constraint_spec.specs.Entailed.{IsEntailed};
 ghost use Rattle.constraint_spec.specs.Use.{IsUse};
 ghost use Rattle.constraint_spec.specs.Certificate.{Certificate, IsCertificate};

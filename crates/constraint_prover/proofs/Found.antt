@@ -9,8 +9,8 @@ use Rattle.constraint_spec.specs.Placed.{links_of, mentions_of}
 use Rattle.constraint_spec.specs.Certificate.{Certificate}
 use Rattle.constraint_recheck.specs.Entails.{Tests}
 use Rattle.constraint_recheck.specs.Recheck.{may_carry, single, determined, each_may}
-use Rattle.constraint_search.specs.Options.{for_each}
-use Rattle.constraint_search.specs.Search.{find_shown, find_certificate}
+use Rattle.constraint_recheck.specs.Options.{for_each}
+use Rattle.constraint_recheck.specs.Search.{find_shown, find_certificate}
 use Rattle.query_links.specs.Links.{ends_at}
 
 module _ (tests : Tests) (q : Scope) (constraint : Constraint) (found : Option Certificate) (f l label : Name) (b : Bool) where

@@ -7,7 +7,7 @@ use Rattle.sd_value.specs.Members.{Contains-nil, Contains-cons_cases, among_at}
 use Rattle.query_spec.specs.Mentions.{chain_of}
 use Rattle.query_links.specs.declared.written.Mention.{Mention}
 use Rattle.query_links.specs.Mentions.{HaveChains}
-use Rattle.constraint_search.specs.Options.{for_each}
+use Rattle.constraint_recheck.specs.Options.{for_each}
 
 module _ {Y : Type 0} where
   -- a first answer, and those of the rest

@@ -13,13 +13,13 @@ use Rattle.site_spec.specs.Site.{Scope, scope_of}
 use Rattle.constraint_spec.specs.declared.Constraint.{Constraint}
 use Rattle.constraint_spec.specs.Certificate.{Certificate, IsCertificate}
 use Rattle.constraint_spec.specs.Meets.{Meets}
-use Rattle.constraint_search.specs.Options.{Finds}
-use Rattle.constraint_search.specs.Search.{find_certificate}
-use Rattle.constraint_search.proofs.Search.{certificate_finds}
-use Rattle.certificates.specs.declared.Verdict.{Verdict}
-use Rattle.certificates.specs.declared.Verdict.TheVariants.{Yes, Unknown}
-use Rattle.inclusion_table.specs.declared.table.Inclusions.{Inclusions}
-use Rattle.inclusion_table.specs.Answers.{tests_of, IsTableOf}
+use Rattle.constraint_recheck.specs.Options.{Finds}
+use Rattle.constraint_recheck.specs.Search.{find_certificate}
+use Rattle.constraint_recheck.proofs.Search.{certificate_finds}
+use Rattle.constraint_spec.specs.declared.certificates.Verdict.{Verdict}
+use Rattle.constraint_spec.specs.declared.certificates.Verdict.TheVariants.{Yes, Unknown}
+use Rattle.inclusion.specs.declared.table.Inclusions.{Inclusions}
+use Rattle.inclusion.specs.Answers.{tests_of, IsTableOf}
 use Rattle.query_blocks.specs.declared.QueryBlocks.{QueryBlocks}
 use Rattle.query_blocks.specs.Blocks as blocks
 use Rattle.constraint_prover.specs.Verdicts.{certificate_in, IsVerdict, AreFound, HoldsOverAll}

@@ -6,13 +6,13 @@ use Rattle.site_spec.specs.Site.{Scope}
 use Rattle.constraint_spec.specs.declared.Constraint.{Constraint}
 use Rattle.constraint_spec.specs.Certificate.{Certificate, IsCertificate}
 use Rattle.constraint_spec.specs.Meets.{Meets}
-use Rattle.constraint_search.specs.Search.{find_certificate}
+use Rattle.constraint_recheck.specs.Search.{find_certificate}
 use Rattle.query_blocks.specs.declared.QueryBlocks.{QueryBlocks}
 use Rattle.query_blocks.specs.Blocks as blocks
-use Rattle.inclusion_table.specs.declared.table.Inclusions.{Inclusions}
-use Rattle.inclusion_table.specs.Answers.{tests_of}
-use Rattle.certificates.specs.declared.Verdict.{Verdict}
-use Rattle.certificates.specs.declared.Verdict.TheVariants.{Yes, Unknown}
+use Rattle.inclusion.specs.declared.table.Inclusions.{Inclusions}
+use Rattle.inclusion.specs.Answers.{tests_of}
+use Rattle.constraint_spec.specs.declared.certificates.Verdict.{Verdict}
+use Rattle.constraint_spec.specs.declared.certificates.Verdict.TheVariants.{Yes, Unknown}
 
 -- the certificate, if it has one
 abbrev pub certificate_in : Verdict → Option Certificate

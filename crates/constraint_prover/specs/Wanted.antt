@@ -4,7 +4,7 @@ use Rattle.site_spec.specs.Site.{Scope}
 use Rattle.constraint_spec.specs.Placed.{Mention}
 use Rattle.constraint_spec.specs.Use.{LinkUse}
 use Rattle.constraint_recheck.specs.Entails.{Tests}
-use Rattle.constraint_search.specs.Search.{find_shown, find_reached}
+use Rattle.constraint_recheck.specs.Search.{find_shown, find_reached}
 use Rattle.certificate_search.specs.Uses.{ends_at}
 use Rattle.constraint_prover.specs.declared.wanted.Wanted.{Wanted}
 use Rattle.constraint_prover.specs.declared.wanted.Wanted.TheVariants.{Link, Root}

@@ -1,9 +1,6 @@
 //! Whether a query's site meets a constraint over every data graph: a certificate is searched for.
 #![tactic(auto)]
 
-mod search;
-mod wanted;
-
 ghost use Rattle.std.specs.Prelude.{IfOk};
 ghost use Rattle.std.specs.List.{AllZip};
 ghost use Rattle.site_spec.specs.Site.{scope_of};
@@ -11,11 +8,14 @@ ghost use Rattle.query_blocks.specs.Blocks.{AreCheckedBlocks};
 ghost use Rattle.certificate_search.specs.Links.{AreLinks};
 ghost use Rattle.constraint_prover.specs.Verdicts.{IsVerdict, AreFound, HoldsOverAll};
 
+mod checked;
+mod search;
+mod wanted;
+
 use certificate_search::{SearchedQuery, numbered_links};
-use certificates::Verdict;
-use constraint_checked::certificates_of_checked_queries_hold;
-use constraint_spec::Constraint;
-use inclusion_table::Inclusions;
+use constraint_spec::{Constraint, Verdict};
+use checked::certificates_of_checked_queries_hold;
+use inclusion::Inclusions;
 use query_scoping::scopes;
 use sd_value::NoMemory;
 use search::find_certificate;

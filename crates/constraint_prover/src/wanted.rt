@@ -8,7 +8,7 @@ ghost use Rattle.certificate_search.specs.Links.{AreLinks};
 ghost use Rattle.constraint_prover.specs.Wanted.{shown_by};
 
 use certificate_search::{SearchedQuery, show_link, show_reached};
-use certificates::MentionProof;
+use constraint_spec::MentionProof;
 use entailment::Judge;
 use query_links::Mention;
 use sd_value::{NoMemory, Str};

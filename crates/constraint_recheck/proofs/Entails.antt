@@ -19,10 +19,10 @@ use Rattle.query_spec.specs.Mentions.{same_name, arc_names}
 use Rattle.query_spec.specs.Holds.{AreTwins, IsTwinOf, IsEqual, HasKind}
 use Rattle.constraint_spec.specs.Entailed.{IsIncluded, HasNarrowerPath, HasNarrowerStep, turned, HasBelow, HasStricter, HasConstant, IsAmong, HasFewer, HasOneOf, HasNoTwin, HasKnownKind, IsTextOfArc, Follows, IsPlainlyEntailed, FollowsTurned, IsEntailed}
 use Rattle.constraint_spec.specs.Use.{rename}
-use Rattle.query_copies.specs.Same.{same_value, same_op, same_test, same_operand, same_condition}
+use Rattle.query_parts.specs.Same.{same_value, same_op, same_test, same_operand, same_condition}
 use Rattle.constraint_recheck.specs.Entails.{Tests, IsKnown, AreTests, twins, equal, among, without_twin, has_kind, on_constant, fixes, contains, below, stricter, narrower, fewer, follows, plainly, negates, follows_turned, entails}
-use Rattle.query_copies.proofs.Bools.{never, always, as_well, both, either, denied, some, some_in, every}
-use Rattle.query_copies.proofs.Same.{name_decides, value_decides, op_decides, test_decides, operand_decides, condition_decides}
+use Rattle.query_parts.proofs.Bools.{never, always, as_well, both, either, denied, some, some_in, every}
+use Rattle.query_parts.proofs.Same.{name_decides, value_decides, op_decides, test_decides, operand_decides, condition_decides}
 
 pub number_decides : (m n : ℕ) → Decides (m == n) (m ≡ n)
 number_decides m n = (λ t. grind (arith, nat_tests), λ e. grind (arith, nat_tests))

@@ -19,11 +19,11 @@ use Rattle.constraint_spec.specs.Entailed.{IsAmong, IsEntailed}
 use Rattle.constraint_spec.specs.Use.{naming, rename, IsUse}
 use Rattle.constraint_spec.specs.Certificate.{IsOtherLabel, IsNotLabel, IsOtherList, Forbids, MayBe, IsOf, target_names}
 use Rattle.constraint_laws.proofs.Names.{by_test}
-use Rattle.query_copies.specs.Same.{same_operand, same_condition}
+use Rattle.query_parts.specs.Same.{same_operand, same_condition}
 use Rattle.constraint_recheck.specs.Entails.{Tests, IsKnown, AreTests, among, fixes, entails}
 use Rattle.constraint_recheck.specs.Recheck.{zip_all, same_sort, is_empty, on_link, link_at, on_made, is_of, is_other_text, is_not_label, is_quoted, is_other_list, forbids, may_be, may_carry, is_variable, is_use, determined}
-use Rattle.query_copies.proofs.Bools.{never, always, as_well, both, either, denied, some, every, every_in}
-use Rattle.query_copies.proofs.Same.{name_decides, operand_decides, condition_decides}
+use Rattle.query_parts.proofs.Bools.{never, always, as_well, both, either, denied, some, every, every_in}
+use Rattle.query_parts.proofs.Same.{name_decides, operand_decides, condition_decides}
 use Rattle.constraint_recheck.proofs.Entails.{Fixes, fixes_decides, among_decides, entails_decides, known_renamed}
 
 -- ---- lists

@@ -16,11 +16,11 @@ use Rattle.constraint_spec.specs.Placed.{PlacedLink, Mention, body_links, links_
 use Rattle.constraint_spec.specs.Use.{LinkUse, IsUse, source_of, target_of}
 use Rattle.constraint_spec.specs.Certificate.{Certificate, MayBe, IsOf, MayCarry, IsUseFrom, ShowsLinkTo, ShowsLink, LeadBack, ShowsReached, target_names, IsSingle, IsCertificate}
 use Rattle.constraint_laws.proofs.Links.{numbered_within, number_of}
-use Rattle.query_copies.specs.Same.{same_target}
+use Rattle.query_parts.specs.Same.{same_target}
 use Rattle.constraint_recheck.specs.Entails.{Tests, IsKnown, AreKnown, AreTests}
 use Rattle.constraint_recheck.specs.Recheck.{zip_all, is_empty, on_made, is_of, is_quoted, may_carry, is_use, single, determined, use_from, shows, lead_back, shows_reached, each_may, recheck}
-use Rattle.query_copies.proofs.Bools.{never, always, as_well, both}
-use Rattle.query_copies.proofs.Same.{name_decides, term_decides, target_decides}
+use Rattle.query_parts.proofs.Bools.{never, always, as_well, both}
+use Rattle.query_parts.proofs.Same.{name_decides, term_decides, target_decides}
 use Rattle.constraint_recheck.proofs.Links.{zip_in, filter_from, empty_decides, each_decides, implies, link_decides, made_decides, of_decides, quoted_decides, may_decides, use_decides, determined_decides}
 use Rattle.constraint_recheck.proofs.Single.{single_decides, to_number, from_number}
 

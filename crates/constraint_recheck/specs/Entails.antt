@@ -18,7 +18,7 @@ use Rattle.query_spec.specs.Mentions.{same_name, arc_names}
 use Rattle.query_spec.specs.Holds.{AreTwins, IsTwinOf}
 use Rattle.rpe.specs.Language.{InLanguage}
 use Rattle.constraint_spec.specs.Entailed.{IsIncluded, turned}
-use Rattle.query_copies.specs.Same.{same_value, same_op, same_test, same_operand, same_condition}
+use Rattle.query_parts.specs.Same.{same_value, same_op, same_test, same_operand, same_condition}
 
 -- tests of expressions and of twins that are built elsewhere
 pub record Tests : Type 0 where

@@ -17,7 +17,7 @@ use Rattle.constraint_spec.specs.declared.Constraint.TheVariants.{Reachable, Eac
 use Rattle.constraint_spec.specs.Placed.{PlacedLink, Mention, links_of, mentions_of}
 use Rattle.constraint_spec.specs.Use.{LinkUse, naming, rename, source_of, target_of}
 use Rattle.constraint_spec.specs.Certificate.{Certificate, target_names}
-use Rattle.query_copies.specs.Same.{same_operand, same_condition, same_term, same_target}
+use Rattle.query_parts.specs.Same.{same_operand, same_condition, same_term, same_target}
 use Rattle.constraint_recheck.specs.Entails.{Tests, among, fixes, entails}
 
 -- both lists have one length, and what is side by side passes

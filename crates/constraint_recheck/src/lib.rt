@@ -14,6 +14,9 @@ ghost use Rattle.constraint_spec.specs.Certificate.{Certificate, IsCertificate};
 ghost use Rattle.constraint_recheck.specs.Entails.{Tests, AreTests, IsKnown, AreKnown, entails};
 ghost use Rattle.constraint_recheck.specs.Recheck.{recheck};
 
+mod search;
+
+
 /// Where inclusion is decided between the expressions of the conditions, `entails` is true exactly
 /// where the conditions entail the condition.
 pub fn entailment_is_decided()

@@ -23,7 +23,7 @@ use Rattle.site_lookups.proofs.Targets.{source_to}
 use Rattle.site_lookups.proofs.Stays.{edge_stays}
 use Rattle.site_build.specs.declared.contents.Contents.{Contents}
 use Rattle.site_build.specs.Materialised.{IsWhole}
-use Rattle.site_check.specs.Here.{IsListed}
+use Rattle.constraint_report.specs.Here.{IsListed}
 
 module _ (graph : DataGraph) (scopes : QueryBlocks) (contents : Contents) (whole : IsWhole graph scopes contents) where
   -- a page from which a link leads is named at the link's start

@@ -1,7 +1,11 @@
 //! Which of some integrity constraints a query's site meets, and the lines that say so.
 #![tactic(auto)]
 
+mod here;
+mod laws;
 mod lines;
+mod pages;
+mod reach;
 mod report;
 
 pub use report::{Report, report_of};

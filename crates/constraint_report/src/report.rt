@@ -2,7 +2,7 @@
 ghost use Rattle.std.specs.Prelude.{◌≡◌, IfOk};
 ghost use Rattle.query_blocks.specs.Blocks.{AreCheckedBlocks, scope_of};
 ghost use Rattle.constraint_spec.specs.Meets.{Meets};
-ghost use Rattle.site_check.specs.Here.{HoldsIn, IsListed};
+ghost use Rattle.constraint_report.specs.Here.{HoldsIn, IsListed};
 ghost use Rattle.constraint_report.specs.Report.{IsReport};
 
 use crate::lines::{both, line};
@@ -11,7 +11,7 @@ use constraint_spec::Constraint;
 use query_blocks::QueryBlocks;
 use sd_value::{NoMemory, Str, Term};
 use site_build::Whole;
-use site_check::holds_here;
+use crate::here::holds_here;
 use site_view::SiteView;
 use std::alloc::Global;
 use tmpl::Templates;

@@ -3,7 +3,7 @@ use Rattle.std.proofs.Common.{◌≡◌, List, subst}
 use Rattle.std.specs.List.{flat_map}
 use Rattle.sd_value.specs.Ascending.{ListsExactly}
 use Rattle.query_spec.specs.Query.{Body, Query, blocks_in_scope}
-use Rattle.schema_spec.specs.Schema.{IsFunction}
+use Rattle.site_spec.specs.Schema.{IsFunction}
 use Rattle.schema.specs.declared.SchemaFunction.{SchemaFunction}
 use Rattle.schema.specs.Orders.{function_cmp}
 use Rattle.schema.specs.Rows.{IsFunctionIn}

@@ -12,7 +12,7 @@ use Rattle.token_reader.specs.declared.refusal.TextRefusal.TheVariants.{TooLong,
 use Rattle.token_reader.proofs.Tokens.{one_token_list}
 use Rattle.token_reader.proofs.TextFaults.{text_fault, text_spelled_no_fault}
 use Rattle.query_spec.specs.Query.{Query}
-use Rattle.schema_spec.specs.Schema.{IsFunction}
+use Rattle.site_spec.specs.Schema.{IsFunction}
 use Rattle.constraint_spec.specs.declared.Constraint.{Constraint}
 use Rattle.constraints.specs.declared.reading.Phrase.{Phrase}
 use Rattle.constraints.specs.declared.refusal.NameFault.{NameFault}

@@ -3,7 +3,7 @@ use Rattle.std.specs.Prelude.{◌≡◌, ◌⊎◌, ℕ, suc, List, [], ◌∷�
 use Rattle.std.specs.List.{flat_map}
 use Rattle.token_reader.specs.declared.reading.Word.{Word}
 use Rattle.query_spec.specs.Query.{Query}
-use Rattle.schema_spec.specs.Schema.{IsFunction}
+use Rattle.site_spec.specs.Schema.{IsFunction}
 use Rattle.constraints.specs.declared.reading.Phrase.{Phrase}
 use Rattle.constraints.specs.declared.reading.Phrase.TheVariants.{Reachable, Each, Only, Never}
 use Rattle.constraints.specs.declared.reading.Phrase.TheVariants.{One}

@@ -6,7 +6,7 @@ use Rattle.sd_ddl.specs.declared.refusal.DdlRefusal.{DdlRefusal}
 use Rattle.sd_ddl.specs.declared.refusal.DdlRefusal.TheVariants as ddl
 use Rattle.csv_source.specs.Once as csv_law
 use Rattle.json_source.specs.Once as json_law
-use Rattle.wrap_bibtex.specs.Once as bib_law
+use Rattle.bibtex_source.specs.Once as bib_law
 use Rattle.lenient_csv.specs.Once as lenient_csv_law
 use Rattle.lenient_json.specs.Once as lenient_json_law
 use Rattle.ddl_laws.specs.OneAnswer.{IsSettled}

@@ -8,8 +8,8 @@ use Rattle.csv_source.specs.declared.refusal.CsvRefusal.TheVariants as csv
 use Rattle.csv_source.specs.Text.{text_steps, records_of}
 use Rattle.json_source.specs.declared.refusal.JsonRefusal.TheVariants as json
 use Rattle.json_source.specs.Text as json_text
-use Rattle.wrap_bibtex.specs.declared.refusal.BibRefusal.TheVariants as bib
-use Rattle.wrap_bibtex.specs.Text as bib_text
+use Rattle.bibtex_source.specs.declared.refusal.BibRefusal.TheVariants as bib
+use Rattle.bibtex_source.specs.Text as bib_text
 use Rattle.lenient_csv.specs.Text as lenient_csv_text
 use Rattle.lenient_json.specs.Text as lenient_json_text
 use Rattle.data_source.specs.declared.format.Format.{Format}

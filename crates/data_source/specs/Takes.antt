@@ -4,7 +4,7 @@ use Rattle.sd_graph.specs.Statement.{Building}
 use Rattle.sd_ddl.specs.Reads as ddl
 use Rattle.csv_source.specs.Reads as csv
 use Rattle.json_source.specs.Reads as json
-use Rattle.wrap_bibtex.specs.Reads as bib
+use Rattle.bibtex_source.specs.Reads as bib
 use Rattle.lenient_csv.specs.Reads as lenient_csv
 use Rattle.lenient_json.specs.Reads as lenient_json
 use Rattle.data_source.specs.declared.format.Format.{Format}

@@ -7,8 +7,8 @@ use Rattle.csv_source.specs.declared.refusal.CsvRefusal.{CsvRefusal}
 use Rattle.csv_source.specs.declared.refusal.CsvRefusal.TheVariants as csv
 use Rattle.json_source.specs.declared.refusal.JsonRefusal.{JsonRefusal}
 use Rattle.json_source.specs.declared.refusal.JsonRefusal.TheVariants as json
-use Rattle.wrap_bibtex.specs.declared.refusal.BibRefusal.{BibRefusal}
-use Rattle.wrap_bibtex.specs.declared.refusal.BibRefusal.TheVariants as bib
+use Rattle.bibtex_source.specs.declared.refusal.BibRefusal.{BibRefusal}
+use Rattle.bibtex_source.specs.declared.refusal.BibRefusal.TheVariants as bib
 use Rattle.data_source.specs.declared.refusal.SourceRefusal.{SourceRefusal}
 use Rattle.data_source.specs.declared.refusal.SourceRefusal.TheVariants.{Refused, NoMemory}
 

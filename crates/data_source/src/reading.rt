@@ -4,7 +4,7 @@ ghost use Rattle.data_source.specs.Told.{ddl_told, csv_told, json_told, bib_told
 ghost use Rattle.sd_ddl.specs.Reads.{Reads as ReadsDdl};
 ghost use Rattle.csv_source.specs.Reads.{Reads as ReadsCsv};
 ghost use Rattle.json_source.specs.Reads.{Reads as ReadsJson};
-ghost use Rattle.wrap_bibtex.specs.Reads.{Reads as ReadsBib};
+ghost use Rattle.bibtex_source.specs.Reads.{Reads as ReadsBib};
 ghost use Rattle.lenient_csv.specs.Reads.{Reads as ReadsLenientCsv};
 ghost use Rattle.lenient_json.specs.Reads.{Reads as ReadsLenientJson};
 
@@ -18,7 +18,7 @@ use sd_ddl::read_ddl;
 use sd_graph::GraphBuilder;
 use sd_value::Str;
 use std::alloc::Global;
-use wrap_bibtex::read_bibtex;
+use bibtex_source::read_bibtex;
 
 fn take_ddl(
     alloc: Global,

@@ -8,7 +8,7 @@ use json_source::JsonRefusal;
 use run_report::Place;
 use sd_ddl::DdlRefusal;
 use sd_value::NoMemory;
-use wrap_bibtex::BibRefusal;
+use bibtex_source::BibRefusal;
 
 /// Why a data file is refused: the number of the refusal and its place.
 #[derive(Debug, Drop)]

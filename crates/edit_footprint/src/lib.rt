@@ -9,8 +9,10 @@ ghost use Rattle.edit_footprint.specs.Numbers.{number_of, numbers_from, AreReads
 ghost use Rattle.tmpl.specs.Body.{TemplateFile};
 
 mod blocks;
+mod pages;
 mod reads;
 
+pub use pages::touches_pages;
 use blocks::rests_on;
 use edit_touches::FootprintParts;
 use query_blocks::QueryBlocks;

@@ -8,13 +8,13 @@ ghost use Rattle.query_spec.specs.Query.{compare, variable};
 ghost use Rattle.rpe.specs.Reading.{regex_of};
 ghost use Rattle.struql_ast.specs.Reading.{operand_of, condition_of};
 ghost use Rattle.constraint_spec.specs.Entailed.{turned};
-ghost use Rattle.query_copies.specs.Same.{same_condition, same_operand};
+ghost use Rattle.query_parts.specs.Same.{same_condition, same_operand};
 ghost use Rattle.query_spec.specs.declared.Test.TheVariants.{IsText};
 ghost use Rattle.constraint_recheck.specs.Entails.{Tests, twins, equal, among, without_twin, has_kind as kind_of};
 ghost use Rattle.constraint_recheck.specs.Entails.{contains, below, stricter, narrower, on_constant, fixes, fewer};
 ghost use Rattle.constraint_recheck.specs.Entails.{follows, plainly, negates, follows_turned, entails};
 
-use query_copies::{same_conditions, same_operands, same_ops, same_tests};
+use query_parts::{same_conditions, same_operands, same_ops, same_tests};
 use query_spec::{Op, Test};
 use rpe::Rpe;
 use sd_value::{Datum, Str, Value};

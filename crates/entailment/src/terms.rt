@@ -2,7 +2,7 @@
 
 ghost use Rattle.std.specs.Prelude.{◌≡◌, [], map};
 ghost use Rattle.struql_ast.specs.Reading.{operand_of, term_of, target_of};
-ghost use Rattle.query_copies.specs.Same.{same_list, same_operand, same_term};
+ghost use Rattle.query_parts.specs.Same.{same_list, same_operand, same_term};
 ghost use Rattle.constraint_recheck.specs.Recheck.{is_of as ends_in};
 
 use sd_value::Str;

@@ -3,8 +3,8 @@ use Rattle.std.proofs.Common.{◌≡◌, ℕ, ◌<◌, ◌≤◌, ◌⊎◌, ◌
 use Rattle.rpe.specs.Regex.{Regex}
 use Rattle.rpe.specs.Language.{positions}
 use Rattle.constraint_spec.specs.Entailed.{IsIncluded}
-use Rattle.query_copies.specs.Same.{same_regex}
-use Rattle.query_copies.proofs.Same.{regex_decides}
+use Rattle.query_parts.specs.Same.{same_regex}
+use Rattle.query_parts.proofs.Same.{regex_decides}
 
 pub beyond : (n : ℕ) (few : Bool) → IsTrue few ↔ (n ≤ 16) → few ≡ false → 16 < n
 beyond n few is not_few = let more : n ≤ 16 → ⊥ = λ l. (let told : few ≡ true = is.1 l in cc) in omega (arith, more)

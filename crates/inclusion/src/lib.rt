@@ -5,20 +5,24 @@
 //! positions alone, and makes no label.
 #![tactic(auto)]
 
-mod expressions;
-mod masks;
-mod search;
-mod spelled;
-
 ghost use Rattle.std.specs.Prelude.{◌≤◌, ◌↔◌, IsTrue, IfOk, MatchOption};
 ghost use Rattle.rpe.specs.Language.{InLanguage, positions};
 ghost use Rattle.rpe.specs.Reading.{regex_of};
 ghost use Rattle.constraint_spec.specs.Entailed.{IsIncluded};
 ghost use Rattle.inclusion.specs.Inclusion.{HasEachWord};
 
-use expressions::automaton_of;
+mod expressions;
+mod known_expressions;
+mod masks;
+mod search;
+mod spelled;
+mod table;
+mod twins;
+
 pub use expressions::{MAX_SEARCHED, is_searched};
-use query_copies::same_rpe;
+pub use table::Inclusions;
+use expressions::automaton_of;
+use query_parts::same_rpe;
 use rpe::Rpe;
 use sd_value::{NoMemory, Str};
 use std::alloc::Global;

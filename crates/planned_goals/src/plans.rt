@@ -8,7 +8,7 @@ ghost use Rattle.condition_tests.specs.Places.{GoalsInRange};
 use crate::follow::goals_along;
 use condition_tests::Goal;
 use planner::{counts_of, plan};
-use query_copies::{push_conditions, same_conditions};
+use query_parts::{push_conditions, same_conditions};
 use query_spec::{Bound, Variable};
 use sd_value::{NoMemory, Value};
 use std::alloc::Global;

@@ -6,7 +6,7 @@ ghost use Rattle.graph_spec.specs.DataGraph.{text};
 ghost use Rattle.query_spec.specs.declared.Op.TheVariants.{Eq as EqOp, Ne as NeOp};
 ghost use Rattle.query_spec.specs.Query.{variable, constant};
 ghost use Rattle.struql_ast.specs.Reading.{operand_of, condition_of, label_of};
-ghost use Rattle.query_copies.specs.Same.{same_op, same_operand};
+ghost use Rattle.query_parts.specs.Same.{same_op, same_operand};
 ghost use Rattle.constraint_recheck.specs.Entails.{equal, among, on_constant, fixes};
 ghost use Rattle.constraint_recheck.specs.Recheck.{is_other_text as other_text};
 ghost use Rattle.constraint_recheck.specs.Recheck.{is_not_label, is_other_list as other_list};

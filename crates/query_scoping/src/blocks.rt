@@ -9,7 +9,7 @@ ghost use Rattle.query_scoping.specs.Blocks.{own_body, HaveChains};
 
 use crate::variables::variables_of;
 use query_blocks::QueryBlock;
-use query_copies::{copied_collects, copied_links, copied_terms, push_conditions};
+use query_parts::{copied_collects, copied_links, copied_terms, push_conditions};
 use sd_value::NoMemory;
 use std::alloc::Global;
 use struql_ast::{Block, Chain, Condition};

@@ -12,8 +12,8 @@ use Rattle.query_blocks.specs.Blocks.{body_of, scope_of}
 use Rattle.constraint_spec.specs.Placed.{PlacedLink, body_links, links_of}
 use Rattle.constraint_recheck.specs.Recheck.{may_carry}
 use Rattle.constraint_recheck.proofs.Links.{may_decides}
-use Rattle.inclusion_table.specs.declared.table.Inclusions.{Inclusions}
-use Rattle.inclusion_table.specs.Answers.{tests_of, IsTableOf}
+use Rattle.inclusion.specs.declared.table.Inclusions.{Inclusions}
+use Rattle.inclusion.specs.Answers.{tests_of, IsTableOf}
 use Rattle.counterexample_spec.specs.Candidates.{AreCarriers, HasCarriers, mention_graphs}
 use Rattle.counterexample_spec.specs.Frozen.{empty_graph}
 use Rattle.query_links.specs.Links.{placed}

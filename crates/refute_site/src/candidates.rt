@@ -19,7 +19,7 @@ use crate::candidate::Candidate;
 use crate::freezing::LabelSet;
 use constraint_spec::Constraint;
 use entailment::Judge;
-use inclusion_table::Inclusions;
+use inclusion::Inclusions;
 use query_blocks::{QueryBlock, QueryBlocks};
 use query_links::{AskedLabel, Mention, may_carry, mentions};
 use sd_value::{NoMemory, Str};

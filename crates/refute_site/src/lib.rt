@@ -13,16 +13,17 @@ mod candidates;
 mod conditions;
 mod freezing;
 mod given;
+mod graph_trial;
 mod names;
 mod statements;
 mod trial;
 mod values;
 mod words;
 
+pub use graph_trial::Trial;
 use candidate::UNBOUNDED;
 use candidates::candidates_of;
 use constraint_spec::Constraint;
-use graph_trial::Trial;
 use query_scoping::scopes;
 use sd_graph::{Graph, GraphBuilder};
 use sd_value::NoMemory;

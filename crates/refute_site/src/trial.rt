@@ -8,7 +8,7 @@ ghost use Rattle.refute_site.specs.Candidates.{candidate_graph, HaveTheirVariabl
 
 use crate::candidate::Candidate;
 use constraint_spec::Constraint;
-use graph_trial::Trial;
+use crate::graph_trial::Trial;
 use sd_graph::{Graph, GraphBuilder};
 use sd_value::NoMemory;
 use std::alloc::Global;

@@ -6,7 +6,7 @@ use Rattle.sd_value.specs.Members.{Contains-map, Contains-mapped, Contains-flat_
 use Rattle.sd_value.specs.Ascending.{ListsExactly}
 use Rattle.sd_value.specs.AscendingLaws.{listed_as}
 use Rattle.query_spec.specs.Query.{SkolemTerm, Body}
-use Rattle.schema_spec.specs.Schema.{IsOf}
+use Rattle.site_spec.specs.Schema.{IsOf}
 use Rattle.schema.specs.declared.SchemaFunction.{SchemaFunction}
 use Rattle.schema.specs.Orders.{function_cmp}
 use Rattle.schema.specs.Rows.{term_function, body_functions, IsFunctionIn}

@@ -3,3 +3,4 @@ pub mod RowLists
 pub mod Sorted
 pub mod Texts
 pub mod Whole
+pub mod PathLists

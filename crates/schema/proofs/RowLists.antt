@@ -12,8 +12,8 @@ use Rattle.struql_ast.specs.declared.Link.{Link as WrittenLink}
 use Rattle.struql_ast.specs.Reading.{link_of}
 use Rattle.query_blocks.specs.declared.QueryBlock.{QueryBlock}
 use Rattle.query_blocks.specs.Blocks.{body_of, IsMade}
-use Rattle.schema_spec.specs.Schema as spec
-use Rattle.schema_spec.specs.Schema.{edges_in, edges_from, starts_at}
+use Rattle.site_spec.specs.Schema as spec
+use Rattle.site_spec.specs.Schema.{edges_in, edges_from, starts_at}
 use Rattle.schema.specs.declared.SchemaEdge.{SchemaEdge}
 use Rattle.schema.specs.Rows.{conditions_text, row_of, row, rows_in, body_rows, rows_from}
 

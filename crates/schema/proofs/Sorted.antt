@@ -15,8 +15,8 @@ use Rattle.sd_value.specs.OrderLaws.{bytes_cmp-total}
 use Rattle.query_spec.specs.Query as plain
 use Rattle.query_spec.specs.Query.{Target, made}
 use Rattle.query_blocks.specs.Blocks.{IsMade}
-use Rattle.schema_spec.specs.Schema as spec
-use Rattle.schema_spec.specs.Schema.{starts_at, is_made_by}
+use Rattle.site_spec.specs.Schema as spec
+use Rattle.site_spec.specs.Schema.{starts_at, is_made_by}
 use Rattle.schema.specs.declared.SchemaEdge.{SchemaEdge}
 use Rattle.schema.specs.Orders.{edge_cmp}
 use Rattle.schema.specs.Rows.{row, source_function, rows_from}

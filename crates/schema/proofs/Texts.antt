@@ -5,8 +5,8 @@ use Rattle.std.specs.List.{flat_map}
 use Rattle.query_spec.specs.Query as plain
 use Rattle.query_spec.specs.Query.{Target, made, Query}
 use Rattle.sd_value.specs.Names.{Name}
-use Rattle.schema_spec.specs.Schema as spec
-use Rattle.schema_spec.specs.Schema.{schema_edges, starts_at}
+use Rattle.site_spec.specs.Schema as spec
+use Rattle.site_spec.specs.Schema.{schema_edges, starts_at}
 use Rattle.schema.specs.declared.SchemaFunction.{SchemaFunction}
 use Rattle.schema.specs.declared.SchemaEdge.{SchemaEdge}
 use Rattle.schema.specs.declared.SiteSchema.{SiteSchema}

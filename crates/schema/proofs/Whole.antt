@@ -12,10 +12,10 @@ use Rattle.struql_ast.specs.declared.Query as declared
 use Rattle.struql_ast.specs.Reading.{blocks_of, query_of}
 use Rattle.query_blocks.specs.declared.QueryBlock.{QueryBlock}
 use Rattle.query_blocks.specs.Blocks.{body_of, IsMade, AreCheckedBlocks}
-use Rattle.block_paths.proofs.PathLists.{paths_length}
-use Rattle.schema_spec.specs.Paths.{paths_from}
-use Rattle.schema_spec.specs.Schema as spec
-use Rattle.schema_spec.specs.Schema.{edges_in, edges_from, schema_edges}
+use Rattle.schema.proofs.PathLists.{paths_length}
+use Rattle.site_spec.specs.Paths.{paths_from}
+use Rattle.site_spec.specs.Schema as spec
+use Rattle.site_spec.specs.Schema.{edges_in, edges_from, schema_edges}
 use Rattle.schema.specs.declared.SchemaFunction.{SchemaFunction}
 use Rattle.schema.specs.declared.SchemaEdge.{SchemaEdge}
 use Rattle.schema.specs.declared.SiteSchema.{SiteSchema}

@@ -8,7 +8,7 @@ use Rattle.token_writer.specs.Writing.{quoted_text}
 use Rattle.query_spec.specs.Query as plain
 use Rattle.query_spec.specs.Query.{Target, made, Query, blocks_in_scope}
 use Rattle.struql_print.specs.Texts.{label_text}
-use Rattle.schema_spec.specs.Schema.{SchemaEdge, schema_edges, starts_at}
+use Rattle.site_spec.specs.Schema.{SchemaEdge, schema_edges, starts_at}
 use Rattle.schema.specs.declared.SchemaFunction.{SchemaFunction}
 use Rattle.schema.specs.Orders.{function_cmp}
 use Rattle.schema.specs.Rows.{IsFunctionIn, term_function, conditions_text}

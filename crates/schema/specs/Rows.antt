@@ -11,8 +11,8 @@ use Rattle.query_spec.specs.Query.{Condition, SkolemTerm, Target, made, Link, Bo
 use Rattle.query_spec.specs.Query.{blocks_in_scope}
 use Rattle.site_spec.specs.Site.{SomeOf}
 use Rattle.struql_print.specs.Texts.{condition_text, label_text, link_text}
-use Rattle.schema_spec.specs.Schema as spec
-use Rattle.schema_spec.specs.Schema.{schema_edges, starts_at, IsOf}
+use Rattle.site_spec.specs.Schema as spec
+use Rattle.site_spec.specs.Schema.{schema_edges, starts_at, IsOf}
 use Rattle.schema.specs.declared.SchemaFunction.{SchemaFunction}
 use Rattle.schema.specs.declared.SchemaEdge.{SchemaEdge}
 use Rattle.schema.specs.declared.SiteSchema.{SiteSchema}

@@ -4,7 +4,7 @@ ghost use Rattle.std.specs.Prelude.{◌≡◌, ◌++◌, ◌+◌, IfOk, length, 
 ghost use Rattle.struql_ast.specs.Reading.{condition_of, target_of, label_of, link_of};
 ghost use Rattle.struql_print.specs.Texts.{label_text, link_text};
 ghost use Rattle.query_blocks.specs.Blocks.{body_of};
-ghost use Rattle.schema_spec.specs.Schema.{edges_from};
+ghost use Rattle.site_spec.specs.Schema.{edges_from};
 ghost use Rattle.schema.specs.Rows.{conditions_text, source_function, target_function, row_of, row, rows_in, body_rows};
 
 use crate::functions::function_of;

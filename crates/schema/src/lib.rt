@@ -7,15 +7,16 @@ ghost use Rattle.schema.specs.Rows.{IsSchema};
 mod edges;
 mod functions;
 mod orders;
+mod paths;
 mod picture;
 mod print;
 mod starting;
 
-use block_paths::paths_of;
-use edges::edges_of;
 pub use functions::functions_of;
 pub use picture::print_dot;
 pub use print::print_schema;
+pub use paths::paths_of;
+use edges::edges_of;
 use query_scoping::scopes;
 use sd_value::{NoMemory, Str};
 use std::alloc::Global;

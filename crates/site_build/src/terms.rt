@@ -9,7 +9,7 @@ ghost use Rattle.site_build.specs.Materialised.{HasCreated};
 use crate::made::{Clause, add_clause, insert_one};
 use crate::repeats::term_width;
 use indexmap::IndexSet;
-use query_copies::same_terms;
+use query_parts::same_terms;
 use query_spec::{Row, Variable};
 use sd_value::{NoMemory, Term, Value};
 use skolem::instance;

@@ -15,9 +15,9 @@ use Rattle.edit_spec.specs.Edited.{IsOfData}
 use Rattle.edit_graphs.specs.After.{graph_after}
 use Rattle.edit_graphs.proofs.After.{after}
 use Rattle.edit_laws.specs.Laws.{Becomes, HasMadeSources}
-use Rattle.edit_change.specs.Edits.{IsSpelled, edit_under, is_taken, edited}
-use Rattle.edit_change.proofs.TheEdits.{the_edits}
-use Rattle.edit_change.proofs.TheTouching.{the_touching, untouched_stay}
+use Rattle.data_texts.specs.Edits.{IsSpelled, edit_under, is_taken, edited}
+use Rattle.data_texts.proofs.TheEdits.{the_edits}
+use Rattle.data_texts.proofs.TheTouching.{the_touching, untouched_stay}
 use Rattle.site_pages.specs.Rules.{the_rules}
 use Rattle.site_pages.specs.declared.made.MadePages.{MadePages}
 use Rattle.site_pages.specs.declared.made.MadePages.TheVariants.{Demanded, FromWhole}

@@ -10,12 +10,12 @@ use Rattle.click_time.specs.Page.{PageFixed}
 use Rattle.versions.specs.declared.Changed.{Changed}
 use Rattle.versions.specs.declared.Changed.TheVariants.{Refused}
 use Rattle.versions.specs.Changes.{TellsEach}
-use Rattle.data_change.proofs.TheReader.{accepts_made, accepts_none}
-use Rattle.composed_change.specs.Texts.{MakesData}
-use Rattle.composed_change.proofs.Reading.{one_data}
+use Rattle.data_texts.proofs.TheReader.{accepts_made, accepts_none}
+use Rattle.data_texts.specs.ComposedTexts.{MakesData}
+use Rattle.data_texts.proofs.Reading.{one_data}
 use Rattle.edit_spec.specs.declared.Edit.{Edit}
-use Rattle.edit_change.specs.Edits.{edit_under, is_taken, edited}
-use Rattle.edit_change.proofs.TheTouching.{the_touching}
+use Rattle.data_texts.specs.Edits.{edit_under, is_taken, edited}
+use Rattle.data_texts.proofs.TheTouching.{the_touching}
 use Rattle.site_pages.specs.declared.made.MadePages.{MadePages}
 use Rattle.site_pages.specs.declared.made.MadePages.TheVariants.{Demanded, FromWhole}
 use Rattle.site_pages.specs.Made.{fixed_of, store_in}

@@ -7,11 +7,11 @@ use Rattle.sd_graph.specs.declared.Limits.{Limits}
 use Rattle.sd_graph.specs.declared.GraphRefusal.TheVariants.{TooManyNodes, TooManyEdges}
 use Rattle.sd_graph.specs.Statement.{Building}
 use Rattle.command_spec.specs.Limits.{node_limit, edge_limit}
-use Rattle.data_change.specs.Texts.{no_data}
+use Rattle.data_texts.specs.Texts.{no_data}
 use Rattle.edit_spec.specs.declared.Edit.{Edit}
 use Rattle.edit_graphs.specs.After.{graph_after}
 use Rattle.live_store.specs.Live.{Applies}
-use Rattle.edit_change.specs.Edits.{is_small, is_taken, edited}
+use Rattle.data_texts.specs.Edits.{is_small, is_taken, edited}
 
 both_true : (a b : Bool) → a ≡ true → b ≡ true → (a && b) ≡ true
 both_true true true h k = refl

@@ -1,10 +1,10 @@
 -- How the texts of a run are read: as data, and as edits.
-use Rattle.composed_change.specs.Texts.{Readers}
-use Rattle.composed_change.proofs.Readers.{the_readers}
-use Rattle.edit_change.specs.Edits.{EditReader}
-use Rattle.edit_change.specs.Touching.{Touching}
-use Rattle.edit_change.proofs.TheEdits.{the_edits}
-use Rattle.edit_change.proofs.TheTouching.{the_touching}
+use Rattle.data_texts.specs.ComposedTexts.{Readers}
+use Rattle.data_texts.proofs.Readers.{the_readers}
+use Rattle.data_texts.specs.Edits.{EditReader}
+use Rattle.data_texts.specs.Touching.{Touching}
+use Rattle.data_texts.proofs.TheEdits.{the_edits}
+use Rattle.data_texts.proofs.TheTouching.{the_touching}
 
 -- Readers of data for each first query, a reader of edits, and a test of what they touch. Each says exactly what its
 -- texts mean, so there is no choice in them.

@@ -7,8 +7,8 @@ use Rattle.tmpl.specs.Body.{TemplateFile}
 use Rattle.page_spec.specs.Site.{Site}
 use Rattle.click_time.specs.Page.{PageFixed, page_site}
 use Rattle.edit_spec.specs.declared.Edit.{Edit}
-use Rattle.edit_change.specs.Edits.{edit_under, is_taken, edited}
-use Rattle.edit_change.specs.Touching.{spares}
+use Rattle.data_texts.specs.Edits.{edit_under, is_taken, edited}
+use Rattle.data_texts.specs.Touching.{spares}
 use Rattle.site_pages.specs.Rules.{TextRules}
 use Rattle.serving_spec.specs.Changes.{Changes}
 

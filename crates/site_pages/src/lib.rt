@@ -10,8 +10,7 @@ ghost use Rattle.site_pages.specs.Texts.{Current, current_site, current_template
 mod live;
 mod made;
 
-use composed_change::read_text;
-use edit_change::{read_text_edit, spared};
+use data_texts::{read_text, read_text_edit, spared};
 use edit_spec::Edit;
 pub use made::PageSource;
 use made::{MadePages, pages_after, pages_over};
@@ -104,8 +103,8 @@ fn no_pages<'q>(
 impl<'q> SitePages<'q> {
     ghost use Rattle.std.specs.Prelude.{◌≡◌, ◌↔◌, false, IfOk, Some};
     ghost use Rattle.edit_spec.specs.Edited.{IsOfData};
-    ghost use Rattle.edit_change.specs.Edits.{edit_under, edited, is_taken};
-    ghost use Rattle.edit_change.proofs.TheEdits.{the_edits};
+    ghost use Rattle.data_texts.specs.Edits.{edit_under, edited, is_taken};
+    ghost use Rattle.data_texts.proofs.TheEdits.{the_edits};
     ghost use Rattle.site_pages.specs.Rules.{the_rules};
     ghost use Rattle.versions.specs.Changes.{TellsEach};
     ghost use Rattle.site_pages.specs.Texts.{edit_stays, over_data};

@@ -2,8 +2,8 @@
 ghost use Rattle.std.specs.Prelude.{◌≡◌, ◌↔◌, IfOk, IsTrue, Some};
 ghost use Rattle.sd_graph.specs.Statement.{IsWithin};
 ghost use Rattle.edit_spec.specs.Edited.{IsOfData};
-ghost use Rattle.data_change.specs.Texts.{no_data};
-ghost use Rattle.edit_change.specs.Edits.{is_taken, edited};
+ghost use Rattle.data_texts.specs.Texts.{no_data};
+ghost use Rattle.data_texts.specs.Edits.{is_taken, edited};
 
 use edit_spec::Edit;
 use live_store::LiveStore;

@@ -2,7 +2,7 @@
 ghost use Rattle.std.specs.Prelude.{◌≡◌, IfOk, Some};
 ghost use Rattle.bindings.specs.Asked.{store_of};
 ghost use Rattle.edit_spec.specs.Edited.{IsOfData};
-ghost use Rattle.edit_change.specs.Edits.{is_taken, edited};
+ghost use Rattle.data_texts.specs.Edits.{is_taken, edited};
 ghost use Rattle.tmpl.specs.Reading.{file_of};
 ghost use Rattle.query_blocks.specs.Blocks.{AreCheckedBlocks, scope_of};
 ghost use Rattle.click_time.specs.Page.{PageFixed, page_site};

@@ -4,7 +4,7 @@ use crate::graphs::{check_graph, graph_for};
 use sd_value::{NoMemory, Str};
 use std::alloc::Global;
 use std::test::Fail;
-use wrap_bibtex::{BibRefusal, read_bibtex};
+use bibtex_source::{BibRefusal, read_bibtex};
 
 // A text, the most nodes and edges that are added, and why it is refused, or none.
 struct RefusalRow {

@@ -3,7 +3,7 @@ use crate::graphs::{check_graph, graph_for};
 use sd_value::Str;
 use std::alloc::Global;
 use std::test::Fail;
-use wrap_bibtex::read_bibtex;
+use bibtex_source::read_bibtex;
 
 fn check_stated(alloc: Global, text: &[u8], wanted: &[u8]) -> Result<(), Fail> {
     let stem = Str::new(alloc, b"b")?;

@@ -3,12 +3,11 @@ use crate::checks::{check, check_text};
 use crate::lines::told;
 use crate::verdicts::{VERDICTS, VerdictRow};
 use constraints::parse_constraints;
-use graph_trial::Trial;
+use refute_site::{Trial, first_broken};
 use query_reader::read_query;
-use refute_site::first_broken;
 use sd_ddl::{read_ddl, write_ddl};
 use sd_graph::{Graph, GraphBuilder, PROGRAM_LIMITS};
-use site_trial::SiteTrial;
+use command_check::SiteTrial;
 use std::alloc::Global;
 use std::test::Fail;
 

@@ -1,16 +1,14 @@
 // The lines of certificates, beside the texts that were worked by hand.
 use crate::checks::{check, check_text};
-use block_paths::paths_of;
+use schema::paths_of;
 use certificate_check::recheck;
 use certificate_text::{print_unknown, print_yes};
-use certificates::{Certificate, LinkUse, MentionProof};
-use constraint_spec::Constraint;
-use constraint_verdicts::{Verdicts, verdicts_of};
+use constraint_spec::{Certificate, Constraint, LinkUse, MentionProof};
+use command_check::{SiteTrial, Verdicts, verdicts_of};
 use constraints::parse_constraints;
 use query_reader::read_query;
 use query_scoping::scopes;
 use sd_value::{NoMemory, Str};
-use site_trial::SiteTrial;
 use std::alloc::Global;
 use std::test::Fail;
 use struql_check::Checked;

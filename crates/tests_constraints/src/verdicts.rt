@@ -1,5 +1,5 @@
 // Constraints of small queries, each with the verdict that was worked out by hand.
-use certificates::Verdict;
+use constraint_spec::Verdict;
 use constraint_prover::prove;
 use constraints::parse_constraints;
 use query_reader::read_query;

@@ -1,5 +1,5 @@
 // Whether an edit can touch the pages of a function, worked out by hand from the definition.
-use edit_pages::touches_pages;
+use edit_footprint::touches_pages;
 use edit_reader::read_edit;
 use query_reader::read_query;
 use query_scoping::scopes;

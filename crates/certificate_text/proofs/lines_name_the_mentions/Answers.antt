@@ -1,7 +1,7 @@
 use Rattle.std.proofs.Common.{[]}
 use Rattle.query_spec.specs.Query.{blocks_in_scope}
-use Rattle.schema_spec.specs.Paths.{paths_from}
-use Rattle.block_paths.proofs.PathLists.{paths_length}
+use Rattle.site_spec.specs.Paths.{paths_from}
+use Rattle.schema.proofs.PathLists.{paths_length}
 use Rattle.certificate_text.proofs.NamedMentions.{all_named}
 use Rattle.certificate_text.proofs.lines_name_the_mentions.Goals as goal
 

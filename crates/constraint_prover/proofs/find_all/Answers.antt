@@ -1,9 +1,9 @@
 use Rattle.std.proofs.Common.{◌≡◌, arith}
 use Rattle.constraint_spec.specs.declared.Constraint.{Constraint}
-use Rattle.certificates.specs.declared.Verdict.{Verdict}
-use Rattle.constraint_search.specs.Search.{find_certificate}
+use Rattle.constraint_spec.specs.declared.certificates.Verdict.{Verdict}
+use Rattle.constraint_recheck.specs.Search.{find_certificate}
 use Rattle.query_blocks.specs.Blocks.{scope_of}
-use Rattle.inclusion_table.specs.Answers.{tests_of}
+use Rattle.inclusion.specs.Answers.{tests_of}
 use Rattle.constraint_prover.specs.Verdicts.{certificate_in}
 use Rattle.constraint_prover.proofs.Zipped.{zip_more}
 use Rattle.constraint_prover.proofs.find_all.Goals as goal

@@ -2,7 +2,7 @@ use Rattle.std.specs.Prelude.{option_map}
 use Rattle.query_spec.specs.Query.{made}
 use Rattle.struql_ast.specs.Reading.{term_of}
 use Rattle.constraint_spec.specs.Use.{source_of, target_of}
-use Rattle.query_copies.specs.Same.{same_target}
+use Rattle.query_parts.specs.Same.{same_target}
 use Rattle.constraint_recheck.specs.Recheck.{is_use}
 use Rattle.certificate_check.specs.Links.{placed_link}
 use Rattle.certificate_check.specs.Back.{made_term}

@@ -1,8 +1,8 @@
 use Rattle.std.proofs.Common.{◌≡◌, drop}
 use Rattle.std.specs.Prelude.{map}
 use Rattle.query_blocks.specs.Blocks.{scope_of}
-use Rattle.constraint_search.specs.Options.{fold_over}
-use Rattle.constraint_search.specs.Search.{add_links}
+use Rattle.constraint_recheck.specs.Options.{fold_over}
+use Rattle.constraint_recheck.specs.Search.{add_links}
 use Rattle.certificate_search.specs.Reaching.{reached_of}
 use Rattle.certificate_search.proofs.Growing.{Grows}
 use Rattle.certificate_search.proofs.back.add_level.Given as goal

@@ -2,8 +2,8 @@ use Rattle.std.proofs.Common.{◌≡◌, ◌+◌, ◌-◌, drop, length, ap, sym
 use Rattle.std.specs.Prelude.{map}
 use Rattle.std.proofs.lemmas.List.{length-map}
 use Rattle.query_blocks.specs.Blocks.{scope_of}
-use Rattle.constraint_search.specs.Options.{fold_over}
-use Rattle.constraint_search.specs.Search.{add_links, levels}
+use Rattle.constraint_recheck.specs.Options.{fold_over}
+use Rattle.constraint_recheck.specs.Search.{add_links, levels}
 use Rattle.certificate_search.specs.Reaching.{reached_of}
 use Rattle.certificate_search.proofs.Growing.{Grows, level_grows, levels_more, grown_length}
 use Rattle.certificate_search.proofs.back.add_levels.Goals as goal

@@ -1,7 +1,7 @@
 use Rattle.std.proofs.Common.{◌≡◌, ◌-◌, ◌≤◌, length}
 use Rattle.std.specs.Prelude.{map}
 use Rattle.query_blocks.specs.Blocks.{scope_of}
-use Rattle.constraint_search.specs.Search.{levels}
+use Rattle.constraint_recheck.specs.Search.{levels}
 use Rattle.certificate_search.specs.Reaching.{reached_of}
 use Rattle.certificate_search.proofs.back.add_levels.Given as goal
 

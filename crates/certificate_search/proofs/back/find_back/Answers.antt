@@ -3,9 +3,9 @@ use Rattle.std.specs.Prelude.{map, Some, None, IfOk, option_map, if◌then◌els
 use Rattle.std.proofs.lemmas.List.{length-map}
 use Rattle.query_blocks.specs.Blocks.{scope_of}
 use Rattle.constraint_spec.specs.Placed.{links_of}
-use Rattle.query_copies.specs.Same.{same_term}
-use Rattle.constraint_search.specs.Options.{first_of}
-use Rattle.constraint_search.specs.Search.{Reached, levels, root_term}
+use Rattle.query_parts.specs.Same.{same_term}
+use Rattle.constraint_recheck.specs.Options.{first_of}
+use Rattle.constraint_recheck.specs.Search.{Reached, levels, root_term}
 use Rattle.certificate_search.specs.Links.{numbered_of}
 use Rattle.certificate_search.specs.Reaching.{reached_of}
 use Rattle.certificate_search.proofs.Numbers.{numbered_length}

@@ -1,7 +1,7 @@
 use Rattle.std.proofs.Common.{ap, sym, ◌∙◌}
 use Rattle.std.specs.Prelude.{Some, None, if◌then◌else◌}
-use Rattle.query_copies.specs.Same.{same_term}
-use Rattle.constraint_search.specs.Search.{Reached, root_term}
+use Rattle.query_parts.specs.Same.{same_term}
+use Rattle.constraint_recheck.specs.Search.{Reached, root_term}
 use Rattle.certificate_search.specs.Reaching.{reached_of}
 use Rattle.certificate_search.proofs.Steps.{first_some, first_none}
 use Rattle.certificate_search.proofs.back.root_among.Goals as goal

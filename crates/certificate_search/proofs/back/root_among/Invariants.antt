@@ -1,8 +1,8 @@
 use Rattle.std.proofs.Common.{◌≡◌, drop}
 use Rattle.std.specs.Prelude.{map, Some, None, if◌then◌else◌}
-use Rattle.query_copies.specs.Same.{same_term}
-use Rattle.constraint_search.specs.Options.{first_of}
-use Rattle.constraint_search.specs.Search.{root_term}
+use Rattle.query_parts.specs.Same.{same_term}
+use Rattle.constraint_recheck.specs.Options.{first_of}
+use Rattle.constraint_recheck.specs.Search.{root_term}
 use Rattle.certificate_search.specs.Reaching.{reached_of}
 use Rattle.certificate_search.proofs.back.root_among.Given as goal
 

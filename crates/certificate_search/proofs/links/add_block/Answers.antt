@@ -3,7 +3,7 @@ use Rattle.std.specs.Prelude.{map, All}
 use Rattle.std.proofs.lemmas.List.{append-nil, map_push, length_push, take_all}
 use Rattle.std.proofs.lemmas.List.Elements.{All-push}
 use Rattle.struql_ast.specs.Reading.{link_of}
-use Rattle.constraint_search.specs.Search.{numbered_from}
+use Rattle.constraint_recheck.specs.Search.{numbered_from}
 use Rattle.certificate_search.specs.Links.{numbered_of, IsPrepared}
 use Rattle.certificate_search.proofs.Numbers.{placed, mapped_more, mapped_length, link_more}
 use Rattle.certificate_search.proofs.links.add_block.Goals as goal

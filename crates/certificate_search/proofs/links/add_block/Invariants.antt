@@ -1,7 +1,7 @@
 use Rattle.std.proofs.Common.{◌≡◌, ◌+◌, ◌++◌, length, take}
 use Rattle.std.specs.Prelude.{map, All}
 use Rattle.struql_ast.specs.Reading.{link_of}
-use Rattle.constraint_search.specs.Search.{numbered_from}
+use Rattle.constraint_recheck.specs.Search.{numbered_from}
 use Rattle.certificate_search.specs.Links.{numbered_of, IsPrepared}
 use Rattle.certificate_search.proofs.Numbers.{placed}
 use Rattle.certificate_search.proofs.links.add_block.Given as goal

@@ -6,7 +6,7 @@ use Rattle.std.proofs.lemmas.List.Elements.{All-nil, Contains-get_or}
 use Rattle.query_spec.specs.Query.{Chain}
 use Rattle.query_blocks.specs.Blocks.{body_of}
 use Rattle.constraint_spec.specs.Placed.{body_links}
-use Rattle.constraint_search.specs.Search.{numbered_from}
+use Rattle.constraint_recheck.specs.Search.{numbered_from}
 use Rattle.certificate_search.specs.Links.{numbered_of, IsPrepared}
 use Rattle.certificate_search.proofs.Numbers.{flat_more, block_more}
 use Rattle.certificate_search.proofs.links.numbered_links.Goals as goal

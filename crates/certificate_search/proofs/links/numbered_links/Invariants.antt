@@ -3,7 +3,7 @@ use Rattle.std.specs.Prelude.{map, All}
 use Rattle.std.specs.List.{flat_map}
 use Rattle.query_blocks.specs.Blocks.{body_of}
 use Rattle.constraint_spec.specs.Placed.{body_links}
-use Rattle.constraint_search.specs.Search.{numbered_from}
+use Rattle.constraint_recheck.specs.Search.{numbered_from}
 use Rattle.certificate_search.specs.Links.{numbered_of, IsPrepared}
 use Rattle.certificate_search.proofs.links.numbered_links.Given as goal
 

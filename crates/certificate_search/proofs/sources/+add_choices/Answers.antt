@@ -3,8 +3,8 @@ use Rattle.std.specs.Prelude.{map}
 use Rattle.std.specs.List.{flat_map}
 use Rattle.struql_ast.specs.Reading.{operand_of, term_of}
 use Rattle.query_blocks.specs.Blocks.{scope_of}
-use Rattle.constraint_search.specs.Options.{fold_over}
-use Rattle.constraint_search.specs.Search.{choices, add_source}
+use Rattle.constraint_recheck.specs.Options.{fold_over}
+use Rattle.constraint_recheck.specs.Search.{choices, add_source}
 use Rattle.certificate_search.specs.Links.{numbered_of}
 use Rattle.certificate_search.specs.Reaching.{reached_of, with_args}
 use Rattle.certificate_search.proofs.Growing.{choice_more, choice_end, left_first}

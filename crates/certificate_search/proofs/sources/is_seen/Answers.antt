@@ -1,7 +1,7 @@
 use Rattle.std.proofs.Common.{sym, ◌∙◌}
 use Rattle.struql_ast.specs.Reading.{term_of}
-use Rattle.query_copies.specs.Same.{same_term}
-use Rattle.constraint_search.specs.Search.{Reached}
+use Rattle.query_parts.specs.Same.{same_term}
+use Rattle.constraint_recheck.specs.Search.{Reached}
 use Rattle.certificate_search.specs.Reaching.{reached_of}
 use Rattle.certificate_search.proofs.Steps.{any_true, any_false}
 use Rattle.certificate_search.proofs.sources.is_seen.Goals as goal

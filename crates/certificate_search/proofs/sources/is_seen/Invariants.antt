@@ -2,7 +2,7 @@ use Rattle.std.proofs.Common.{◌≡◌, drop}
 use Rattle.std.specs.Prelude.{map}
 use Rattle.std.specs.List.{list_any}
 use Rattle.struql_ast.specs.Reading.{term_of}
-use Rattle.query_copies.specs.Same.{same_term}
+use Rattle.query_parts.specs.Same.{same_term}
 use Rattle.certificate_search.specs.Reaching.{reached_of}
 use Rattle.certificate_search.proofs.sources.is_seen.Given as goal
 

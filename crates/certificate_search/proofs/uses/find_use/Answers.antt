@@ -1,7 +1,7 @@
 use Rattle.std.proofs.Common.{ap, sym, ◌∙◌}
 use Rattle.std.specs.Prelude.{option_copied}
 use Rattle.struql_ast.specs.Reading.{term_of}
-use Rattle.constraint_search.specs.Options.{first_of}
+use Rattle.constraint_recheck.specs.Options.{first_of}
 use Rattle.certificate_search.specs.Links.{numbered_of, IsPrepared}
 use Rattle.certificate_search.specs.Uses.{ends_at, use_by}
 use Rattle.certificate_search.proofs.Steps.{all_at, first_some, first_none, first_end}

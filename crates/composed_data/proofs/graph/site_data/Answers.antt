@@ -10,7 +10,7 @@ use Rattle.query_blocks.specs.declared.QueryBlocks.{QueryBlocks}
 use Rattle.query_blocks.specs.Blocks.{scope_of}
 use Rattle.weight_spec.specs.Site.{site_of}
 use Rattle.compose.specs.Listed.{IsListed}
-use Rattle.compose_laws.specs.Named.{IsCollectName}
+use Rattle.composed_data.specs.Named.{IsCollectName}
 use Rattle.composed_data.proofs.Ends.{listed_at, ends_at}
 use Rattle.composed_data.proofs.graph.site_data.Goals as goal
 

@@ -3,8 +3,8 @@ use Rattle.std.specs.Prelude.{true}
 use Rattle.std.proofs.lemmas.Result.{IfOk-weaker}
 use Rattle.query_blocks.specs.Blocks.{scope_of}
 use Rattle.constraint_spec.specs.Placed.{mentions_of}
-use Rattle.constraint_search.specs.Options.{for_each}
-use Rattle.constraint_search.specs.Search.{find_shown, find_certificate}
+use Rattle.constraint_recheck.specs.Options.{for_each}
+use Rattle.constraint_recheck.specs.Search.{find_shown, find_certificate}
 use Rattle.constraint_prover.specs.Verdicts.{certificate_in}
 use Rattle.constraint_prover.proofs.Found.{only_found, never_found, one_found}
 use Rattle.constraint_prover.proofs.search.find_certificate.Goals as goal

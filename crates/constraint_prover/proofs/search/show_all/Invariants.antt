@@ -2,7 +2,7 @@ use Rattle.std.proofs.Common.{◌≡◌, take}
 use Rattle.std.specs.Prelude.{Some, map}
 use Rattle.query_blocks.specs.Blocks.{scope_of}
 use Rattle.query_links.specs.Mentions.{mention_of}
-use Rattle.constraint_search.specs.Options.{for_each}
+use Rattle.constraint_recheck.specs.Options.{for_each}
 use Rattle.constraint_prover.specs.Wanted.{shown_by}
 use Rattle.constraint_prover.proofs.search.show_all.Given as goal
 

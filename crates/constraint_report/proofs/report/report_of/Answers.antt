@@ -7,8 +7,8 @@ use Rattle.site_spec.specs.Site.{Scope}
 use Rattle.query_blocks.specs.Blocks.{scope_of}
 use Rattle.weight_spec.specs.Site.{site_of}
 use Rattle.constraint_spec.specs.Meets.{Meets}
-use Rattle.site_check.specs.Here.{HoldsIn, IsListed}
-use Rattle.site_check.proofs.Alike.{holds_alike}
+use Rattle.constraint_report.specs.Here.{HoldsIn, IsListed}
+use Rattle.constraint_report.proofs.Alike.{holds_alike}
 use Rattle.constraint_report.specs.Report.{IsReport}
 use Rattle.constraint_report.proofs.Listed.{listed_whole}
 use Rattle.constraint_report.proofs.Reports.{report_as}

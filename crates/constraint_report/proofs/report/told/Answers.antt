@@ -1,6 +1,6 @@
 use Rattle.std.proofs.Common.{◌≡◌, ◌↔◌, ◌∙◌, ◌++◌, List, [], ℕ, true, refl, sym, ap, subst}
 use Rattle.std.specs.Prelude.{IsTrue}
-use Rattle.site_check.specs.Here.{HoldsIn, IsListed}
+use Rattle.constraint_report.specs.Here.{HoldsIn, IsListed}
 use Rattle.constraint_report.specs.Report.{IsReport}
 use Rattle.constraint_report.proofs.Reports.{no_lines, one_line_more, all_lines}
 use Rattle.constraint_report.proofs.report.told.Goals as goal

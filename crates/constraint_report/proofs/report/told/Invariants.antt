@@ -1,5 +1,5 @@
 use Rattle.std.proofs.Common.{◌≡◌, take}
-use Rattle.site_check.specs.Here.{HoldsIn}
+use Rattle.constraint_report.specs.Here.{HoldsIn}
 use Rattle.constraint_report.specs.Report.{IsReport}
 use Rattle.constraint_report.proofs.report.told.Given as goal
 

@@ -1,7 +1,7 @@
 use Rattle.std.proofs.Common.{◌∙◌, sym}
 use Rattle.query_spec.specs.Query.{compare}
 use Rattle.struql_ast.specs.Reading.{operand_of, condition_of}
-use Rattle.query_copies.specs.Same.{same_condition}
+use Rattle.query_parts.specs.Same.{same_condition}
 use Rattle.entailment.proofs.Lists.{any_mapped}
 use Rattle.entailment.proofs.entails.has_compare.Goals as goal
 

@@ -1,6 +1,6 @@
 use Rattle.std.proofs.Common.{◌∙◌, sym}
 use Rattle.struql_ast.specs.Reading.{condition_of}
-use Rattle.query_copies.specs.Same.{same_condition}
+use Rattle.query_parts.specs.Same.{same_condition}
 use Rattle.entailment.proofs.Lists.{any_mapped}
 use Rattle.entailment.proofs.entails.has_condition.Goals as goal
 

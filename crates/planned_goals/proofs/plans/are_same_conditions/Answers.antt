@@ -1,7 +1,7 @@
 use Rattle.std.proofs.Common.{◌≡◌, ◌<◌, ◌∙◌, Some, length, arith, ap, sym}
 use Rattle.std.proofs.lemmas.Option.{slice_get-get_or}
 use Rattle.struql_ast.specs.Reading.{condition_of}
-use Rattle.query_copies.proofs.Same.{condition_decides}
+use Rattle.query_parts.proofs.Same.{condition_decides}
 use Rattle.planned_goals.proofs.Same.{same_images, same_more}
 use Rattle.planned_goals.proofs.plans.are_same_conditions.Goals as goal
 

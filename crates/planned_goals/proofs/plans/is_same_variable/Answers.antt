@@ -1,4 +1,4 @@
-use Rattle.query_copies.proofs.Same.{name_decides}
+use Rattle.query_parts.proofs.Same.{name_decides}
 use Rattle.planned_goals.proofs.Same.{same_variable}
 use Rattle.planned_goals.proofs.plans.is_same_variable.Goals as goal
 

@@ -4,7 +4,7 @@ use Rattle.graph_spec.specs.DataGraph.{DataGraph}
 use Rattle.query_blocks.specs.Blocks.{scope_of}
 use Rattle.constraint_spec.specs.Placed.{links_of}
 use Rattle.constraint_recheck.specs.Recheck.{may_carry}
-use Rattle.inclusion_table.specs.Answers.{tests_of}
+use Rattle.inclusion.specs.Answers.{tests_of}
 use Rattle.refute_site.specs.Links.{frozen_links}
 use Rattle.refute_site.proofs.Frozen.{carriers_of}
 use Rattle.refute_site.proofs.candidates.all_candidates.Goals as goal

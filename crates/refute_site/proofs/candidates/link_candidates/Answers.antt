@@ -3,7 +3,7 @@ use Rattle.std.specs.Prelude.{false, map, filter}
 use Rattle.query_blocks.specs.Blocks.{scope_of}
 use Rattle.constraint_spec.specs.Placed.{links_of}
 use Rattle.constraint_recheck.specs.Recheck.{may_carry}
-use Rattle.inclusion_table.specs.Answers.{tests_of}
+use Rattle.inclusion.specs.Answers.{tests_of}
 use Rattle.refute_site.specs.declared.candidate.Candidate.{Candidate}
 use Rattle.refute_site.specs.Candidates.{candidate_graph, HasItsVariables, HaveTheirVariables}
 use Rattle.refute_site.specs.Links.{frozen_links}

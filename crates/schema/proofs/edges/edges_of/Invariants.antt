@@ -1,6 +1,6 @@
 use Rattle.std.proofs.Common.{◌≡◌, take, map}
 use Rattle.query_blocks.specs.Blocks.{body_of}
-use Rattle.schema_spec.specs.Schema.{edges_from}
+use Rattle.site_spec.specs.Schema.{edges_from}
 use Rattle.schema.specs.Rows.{row}
 use Rattle.schema.proofs.edges.edges_of.Given as goal
 

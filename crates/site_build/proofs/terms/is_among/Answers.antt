@@ -1,7 +1,7 @@
 use Rattle.std.proofs.Common.{◌≡◌, sym, ◌∙◌}
 use Rattle.struql_ast.specs.declared.SkolemTerm.{SkolemTerm}
 use Rattle.struql_ast.specs.Reading.{term_of}
-use Rattle.query_copies.proofs.Same.{term_decides}
+use Rattle.query_parts.proofs.Same.{term_decides}
 use Rattle.site_lookups.proofs.Some.{some_from, item_in}
 use Rattle.site_build.proofs.terms.is_among.Goals as goal
 

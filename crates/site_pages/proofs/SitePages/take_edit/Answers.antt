@@ -2,8 +2,8 @@ use Rattle.std.proofs.Common.{◌≡◌, ◌∙◌, refl, sym, true≢false}
 use Rattle.std.specs.Prelude.{Some}
 use Rattle.tmpl.specs.Reading.{file_of}
 use Rattle.query_blocks.specs.Blocks.{scope_of}
-use Rattle.edit_change.specs.Edits.{is_taken}
-use Rattle.edit_change.proofs.TheTouching.{the_touching}
+use Rattle.data_texts.specs.Edits.{is_taken}
+use Rattle.data_texts.proofs.TheTouching.{the_touching}
 use Rattle.site_pages.specs.Made.{fixed_of}
 use Rattle.site_pages.specs.Texts.{Current}
 use Rattle.site_pages.proofs.PagesLemmas.{edit_state, edit_room, edit_told}

@@ -1,5 +1,5 @@
 use Rattle.std.proofs.Common.{◌∙◌, sym}
-use Rattle.edit_change.proofs.TheEdits.{the_edits}
+use Rattle.data_texts.proofs.TheEdits.{the_edits}
 use Rattle.site_pages.proofs.EditLemmas.{of_data_under}
 use Rattle.site_pages.proofs.SitePages.take_text_edit.Goals as goal
 

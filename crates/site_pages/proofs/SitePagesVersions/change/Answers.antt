@@ -3,12 +3,12 @@ use Rattle.std.specs.Prelude.{Option}
 use Rattle.std.proofs.lemmas.Result.{IfOk-weaker}
 use Rattle.graph_spec.specs.DataGraph.{DataGraph}
 use Rattle.page_spec.specs.Page.{IsOutcome}
-use Rattle.data_change.specs.Texts.{IsRead}
-use Rattle.composed_change.specs.Texts.{MakesData}
+use Rattle.data_texts.specs.Texts.{IsRead}
+use Rattle.data_texts.specs.ComposedTexts.{MakesData}
 use Rattle.edit_laws.specs.Laws.{HasMadeSources}
-use Rattle.edit_pages.proofs.Stays.{made_sources}
-use Rattle.edit_change.specs.Edits.{edit_under}
-use Rattle.edit_change.proofs.TheEdits.{the_edits}
+use Rattle.edit_footprint.proofs.Stays.{made_sources}
+use Rattle.data_texts.specs.Edits.{edit_under}
+use Rattle.data_texts.proofs.TheEdits.{the_edits}
 use Rattle.site_pages.specs.Made.{fixed_of}
 use Rattle.site_pages.specs.Texts.{Current, current_site, current_templates}
 use Rattle.site_pages.proofs.PagesLemmas.{data_changed, data_stays, edit_stays_is}

@@ -1,0 +1,148 @@
+-- Loops that read phrases one after the other.
+use Rattle.std.proofs.Common.{◌≡◌, ◌<◌, ◌≤◌, ℕ, zero, suc, Bool, true, false, List, [], ◌∷◌, ◌++◌, length, refl, sym, ap, ◌∙◌, append_assoc, arith}
+use Rattle.std.specs.Prelude.{nat_eq}
+use Rattle.std.proofs.lemmas.List.{append-nil}
+use Rattle.grammar.specs.Reading.{Outcome, Read, Stuck, Past, and_then, starts, repeat, repeat_within, with_front}
+use Rattle.bibtex_source.specs.declared.halt.Halt.{Halt}
+use Rattle.bibtex_source.specs.declared.halt.Halt.TheVariants.{Expected, Limit, NoMemory}
+use Rattle.bibtex_spec.specs.declared.Field.{Field}
+use Rattle.bibtex_spec.specs.Bytes.{is_letter}
+use Rattle.bibtex_spec.specs.Macros.{MacroTexts}
+use Rattle.bibtex_source.specs.Gives.{Fails}
+use Rattle.bibtex_spec.specs.Reading.{read_mark, read_field, listed, read_fields}
+
+with_more : {A : Type 0} (front : List A) (v : A) (o : Outcome ℕ (List A)) → with_front front (and_then o (λ values last. Read (v ∷ values) last)) ≡ with_front (front ++ v ∷ []) o
+with_more front v (Read values rest) = ap (λ vs. Read vs rest) (sym (append_assoc front (v ∷ []) values))
+with_more front v (Stuck rest) = refl
+with_more front v (Past rest) = refl
+
+starts_none : (first : ℕ → Bool) (rest : List ℕ) → length rest ≤ 0 → starts first rest ≡ true → ⊥
+starts_none first [] few is = cc
+starts_none first (b ∷ rest) few is = omega (arith, few)
+
+module _ {A : Type 0} (first : ℕ → Bool) (read : List ℕ → Outcome ℕ A) where
+  -- `front` was read of the phrases, and `rest` is still to be read
+  pub record IsRepeated (front : List A) (rest : List ℕ) (total : Outcome ℕ (List A)) : Type 0 where
+    pub turns : ℕ
+    pub enough : length rest ≤ turns
+    pub so_far : with_front front (repeat_within first read turns rest) ≡ total
+
+  pub starts_so : (front : List A) (bytes : List ℕ) → IsRepeated front bytes (with_front front (repeat first read bytes))
+  unfolding repeat
+  starts_so front bytes = record { turns = length bytes; enough = omega arith; so_far = refl }
+
+  pub goes_on : (front : List A) (rest after : List ℕ) (v : A) (total : Outcome ℕ (List A)) → starts first rest ≡ true → read rest ≡ Read v after → length after < length rest
+      → IsRepeated front rest total → IsRepeated (front ++ v ∷ []) after total
+  goes_on front rest after v total is was shorter so_far = by so_far.turns so_far.enough so_far.so_far
+    where
+      by : (n : ℕ) → length rest ≤ n → with_front front (repeat_within first read n rest) ≡ total → IsRepeated (front ++ v ∷ []) after total
+      by zero few e = absurd (starts_none first rest few is)
+      by (suc n) enough e =
+          let here : repeat_within first read (suc n) rest ≡ and_then (repeat_within first read n after) (λ values last. Read (v ∷ values) last) = rw (is, was) refl in
+          record {
+            turns = n;
+            enough = omega (arith, enough, shorter);
+            so_far = sym (with_more front v (repeat_within first read n after)) ∙ ap (with_front front) (sym here) ∙ e;
+          }
+
+  pub ends_in : (front : List A) (rest : List ℕ) (total : Outcome ℕ (List A)) (e : Halt) → starts first rest ≡ true → Fails e (read rest) → IsRepeated front rest total → Fails e total
+  ends_in front rest total e is was so_far = by so_far.turns so_far.enough so_far.so_far e was
+    where
+      by : (n : ℕ) → length rest ≤ n → with_front front (repeat_within first read n rest) ≡ total → (e : Halt) → Fails e (read rest) → Fails e total
+      by n enough h NoMemory was = tt
+      by zero few h (Expected left) was = absurd (starts_none first rest few is)
+      by zero few h (Limit left) was = absurd (starts_none first rest few is)
+      by (suc n) enough h (Expected left) was =
+          let here : repeat_within first read (suc n) rest ≡ Stuck left.now = rw (is, was) refl in
+          sym h ∙ ap (with_front front) here
+      by (suc n) enough h (Limit left) was =
+          let here : repeat_within first read (suc n) rest ≡ Past left.now = rw (is, was) refl in
+          sym h ∙ ap (with_front front) here
+
+  pub done : (front : List A) (rest : List ℕ) (total : Outcome ℕ (List A)) → starts first rest ≡ false → IsRepeated front rest total → total ≡ Read front rest
+  done front rest total is so_far = by so_far.turns so_far.so_far
+    where
+      by : (n : ℕ) → with_front front (repeat_within first read n rest) ≡ total → total ≡ Read front rest
+      by zero e = sym e ∙ ap (λ vs. Read vs rest) (append-nil front)
+      by (suc n) e =
+          let here : repeat_within first read (suc n) rest ≡ Read [] rest = rw is refl in
+          sym e ∙ ap (with_front front) here ∙ ap (λ vs. Read vs rest) (append-nil front)
+
+-- the fields of an entry
+
+module _ (macros : MacroTexts) where
+  pub record IsListed (front : List Field) (rest : List ℕ) (total : Outcome ℕ (List Field)) : Type 0 where
+    pub turns : ℕ
+    pub enough : length rest ≤ turns
+    pub so_far : with_front front (listed macros turns rest) ≡ total
+
+  pub nothing_listed : (bytes : List ℕ) → IsListed [] bytes (read_fields macros bytes)
+  unfolding read_fields
+  nothing_listed bytes = record { turns = length bytes; enough = omega arith; so_far = nothing_yet (listed macros (length bytes) bytes) }
+    where
+      nothing_yet : (o : Outcome ℕ (List Field)) → with_front [] o ≡ o
+      nothing_yet (Read values rest) = refl
+      nothing_yet (Stuck rest) = refl
+      nothing_yet (Past rest) = refl
+
+  pub field_listed : (front : List Field) (rest inner after : List ℕ) (mark : ℕ) (field : Field) (total : Outcome ℕ (List Field)) → starts (nat_eq 44) rest ≡ true → read_mark 44 rest ≡ Read mark inner
+      → starts is_letter inner ≡ true → read_field macros inner ≡ Read field after → length after < length rest → IsListed front rest total → IsListed (front ++ field ∷ []) after total
+  field_listed front rest inner after mark field total is marked letter was shorter so_far = by so_far.turns so_far.enough so_far.so_far
+    where
+      by : (n : ℕ) → length rest ≤ n → with_front front (listed macros n rest) ≡ total → IsListed (front ++ field ∷ []) after total
+      by zero few e = absurd (starts_none (nat_eq 44) rest few is)
+      by (suc n) enough e =
+          let here : listed macros (suc n) rest ≡ and_then (listed macros n after) (λ fields last. Read (field ∷ fields) last) = rw (is, marked, letter, was) refl in
+          record {
+            turns = n;
+            enough = omega (arith, enough, shorter);
+            so_far = sym (with_more front field (listed macros n after)) ∙ ap (with_front front) (sym here) ∙ e;
+          }
+
+  pub comma_ends : (front : List Field) (rest inner : List ℕ) (mark : ℕ) (total : Outcome ℕ (List Field)) → starts (nat_eq 44) rest ≡ true → read_mark 44 rest ≡ Read mark inner
+      → starts is_letter inner ≡ false → IsListed front rest total → total ≡ Read front inner
+  comma_ends front rest inner mark total is marked other so_far = by so_far.turns so_far.enough so_far.so_far
+    where
+      by : (n : ℕ) → length rest ≤ n → with_front front (listed macros n rest) ≡ total → total ≡ Read front inner
+      by zero few e = absurd (starts_none (nat_eq 44) rest few is)
+      by (suc n) enough e =
+          let here : listed macros (suc n) rest ≡ Read [] inner = rw (is, marked, other) refl in
+          sym e ∙ ap (with_front front) here ∙ ap (λ vs. Read vs inner) (append-nil front)
+
+  pub fields_end : (front : List Field) (rest : List ℕ) (total : Outcome ℕ (List Field)) → starts (nat_eq 44) rest ≡ false → IsListed front rest total → total ≡ Read front rest
+  fields_end front rest total is so_far = by so_far.turns so_far.so_far
+    where
+      by : (n : ℕ) → with_front front (listed macros n rest) ≡ total → total ≡ Read front rest
+      by zero e = sym e ∙ ap (λ vs. Read vs rest) (append-nil front)
+      by (suc n) e =
+          let here : listed macros (suc n) rest ≡ Read [] rest = rw is refl in
+          sym e ∙ ap (with_front front) here ∙ ap (λ vs. Read vs rest) (append-nil front)
+
+  pub mark_fails : (front : List Field) (rest : List ℕ) (total : Outcome ℕ (List Field)) (e : Halt) → starts (nat_eq 44) rest ≡ true → Fails e (read_mark 44 rest) → IsListed front rest total → Fails e total
+  mark_fails front rest total e is was so_far = by so_far.turns so_far.enough so_far.so_far e was
+    where
+      by : (n : ℕ) → length rest ≤ n → with_front front (listed macros n rest) ≡ total → (e : Halt) → Fails e (read_mark 44 rest) → Fails e total
+      by n enough h NoMemory was = tt
+      by zero few h (Expected left) was = absurd (starts_none (nat_eq 44) rest few is)
+      by zero few h (Limit left) was = absurd (starts_none (nat_eq 44) rest few is)
+      by (suc n) enough h (Expected left) was =
+          let here : listed macros (suc n) rest ≡ Stuck left.now = rw (is, was) refl in
+          sym h ∙ ap (with_front front) here
+      by (suc n) enough h (Limit left) was =
+          let here : listed macros (suc n) rest ≡ Past left.now = rw (is, was) refl in
+          sym h ∙ ap (with_front front) here
+
+  pub field_fails : (front : List Field) (rest inner : List ℕ) (mark : ℕ) (total : Outcome ℕ (List Field)) (e : Halt) → starts (nat_eq 44) rest ≡ true → read_mark 44 rest ≡ Read mark inner
+      → starts is_letter inner ≡ true → Fails e (read_field macros inner) → IsListed front rest total → Fails e total
+  field_fails front rest inner mark total e is marked letter was so_far = by so_far.turns so_far.enough so_far.so_far e was
+    where
+      by : (n : ℕ) → length rest ≤ n → with_front front (listed macros n rest) ≡ total → (e : Halt) → Fails e (read_field macros inner) → Fails e total
+      by n enough h NoMemory was = tt
+      by zero few h (Expected left) was = absurd (starts_none (nat_eq 44) rest few is)
+      by zero few h (Limit left) was = absurd (starts_none (nat_eq 44) rest few is)
+      by (suc n) enough h (Expected left) was =
+          let here : listed macros (suc n) rest ≡ Stuck left.now = rw (is, marked, letter, was) refl in
+          sym h ∙ ap (with_front front) here
+      by (suc n) enough h (Limit left) was =
+          let here : listed macros (suc n) rest ≡ Past left.now = rw (is, marked, letter, was) refl in
+          sym h ∙ ap (with_front front) here

@@ -1,0 +1,95 @@
+-- The steps of a whole text are those that its grammar gives.
+use Rattle.std.proofs.Common.{◌≡◌, ◌+◌, ◌-◌, ℕ, Bool, true, false, List, [], ◌∷◌, ◌++◌, length, length-append, refl, sym, ap, subst, ◌∙◌, append_assoc, inl, inr, arith}
+use Rattle.std.specs.Prelude.{nat_eq, Result, ⊤}
+use Rattle.std.proofs.lemmas.Bool.{eqb-true}
+use Rattle.grammar.specs.Reading.{Past, starts}
+use Rattle.graph_spec.specs.DataGraph.{Name}
+use Rattle.sd_graph.specs.Statement.{Building}
+use Rattle.source_steps.specs.Names.{without_mark}
+use Rattle.bibtex_spec.specs.Bytes.{is_letter, is_name_byte, is_junk, run, behind}
+use Rattle.bibtex_spec.specs.Macros.{months}
+use Rattle.bibtex_laws.specs.Grammar.{Phrase, strict, items, text}
+use Rattle.bibtex_laws.specs.Limits.{IsLimit, none}
+use Rattle.bibtex_laws.specs.Faults.{IsPassedBy}
+use Rattle.bibtex_laws.proofs.Words.{run_parts, run_every, behind_stops}
+use Rattle.bibtex_laws.proofs.Items.{items_reader, text_reader}
+use Rattle.bibtex_laws.proofs.Whole.{is_first_fault, is_passed}
+use Rattle.bibtex_source.specs.declared.refusal.BibRefusal.{BibRefusal}
+use Rattle.bibtex_source.specs.declared.refusal.BibRefusal.TheVariants.{UnknownMacro, TooDeep}
+use Rattle.bibtex_source.specs.Text.{BibStep, limit_fault, items_steps, text_steps}
+use Rattle.bibtex_source.specs.Reads.{Reads}
+use Rattle.bibtex_source.specs.Spelled.{IsFault, IsSteps, AnswersAsSpelled}
+use Rattle.bibtex_source.proofs.Spelled.{IsEnd, IsWalked, junk_past, walk}
+
+-- which limit it is, by what stands there
+
+brace_first : (later : List ℕ) (rest : List ℕ) (whole : ℕ) → rest ≡ 123 ∷ later → limit_fault whole rest ≡ TooDeep (whole - length rest)
+brace_first later rest whole e = rw e refl
+
+not_brace : (b : ℕ) → is_letter b ≡ true → nat_eq 123 b ≡ false
+not_brace b is = by (nat_eq 123 b) refl
+  where
+    by : (p : Bool) → nat_eq 123 b ≡ p → nat_eq 123 b ≡ false
+    by false e = e
+    by true e = absurd (let same : is_letter 123 ≡ is_letter b = ap is_letter (eqb-true 123 b e) in cc)
+
+name_first : (word later rest : List ℕ) (whole : ℕ) → starts is_letter word ≡ true → rest ≡ word ++ later → limit_fault whole rest ≡ UnknownMacro (whole - length rest)
+name_first [] later rest whole is e = absurd cc
+name_first (b ∷ word) later rest whole is e = rw (e, not_brace b is) refl
+
+module _ (stem : Name) (bytes : List ℕ) where
+  abbrev before : List ℕ
+  before = run is_junk bytes
+
+  abbrev marked : List ℕ
+  marked = behind is_junk bytes
+
+  parts : length before + length marked ≡ length bytes
+  parts = omega (arith, ap length (run_parts is_junk bytes), length-append before marked)
+
+  spelled : (front : List ℕ) (phrases : List Phrase) → items strict months (length before) front phrases → text strict (before ++ front) phrases
+  spelled front phrases h = (before, front, (before, length before), refl, ((run_every is_junk bytes, refl), refl), h)
+
+  text_is : text_reader bytes ≡ items_reader months (length before) marked
+  text_is =
+      let size : length bytes - length marked ≡ length before = omega (arith, parts) in
+      ap (λ n. items_reader months n marked) size
+
+  limit_by : (rest word : List ℕ) (stops : ℕ → Bool) → IsLimit word stops → IsPassedBy word stops bytes rest → IsFault bytes rest (limit_fault (length bytes) rest)
+  limit_by rest word stops (inl brace) passed =
+      let now : IsPassedBy (123 ∷ []) none bytes rest = subst (λ w. IsPassedBy w none bytes rest) brace.0 (subst (λ s. IsPassedBy word s bytes rest) brace.1 passed) in
+      subst (IsFault bytes rest) (sym (brace_first now.later rest (length bytes) now.is)) (refl, now)
+  limit_by rest word stops (inr name) passed =
+      let now : IsPassedBy word is_name_byte bytes rest = subst (λ s. IsPassedBy word s bytes rest) name.2 passed in
+      subst (IsFault bytes rest) (sym (name_first word now.later rest (length bytes) name.0 now.is)) (refl, (word, name.0, name.1, now))
+
+  limit_is : (rest : List ℕ) → text_reader bytes ≡ Past rest → IsFault bytes rest (limit_fault (length bytes) rest)
+  limit_is rest h = let a = is_passed bytes rest h in limit_by rest a.0 a.1 a.2 a.3
+
+  because : (rest : List ℕ) (e : BibRefusal) → IsEnd stem (length bytes) (items_reader months (length before) marked) rest e → IsFault bytes rest e
+  because rest e (inl h) = subst (IsFault bytes rest) (sym h.1) (refl, is_first_fault bytes rest (text_is ∙ h.0))
+  because rest e (inr h) = subst (IsFault bytes rest) (sym h.1) (limit_is rest (text_is ∙ h.0))
+
+  walked_text : (steps : List BibStep) → IsWalked stem (length bytes) months (length before) marked steps → IsSteps stem bytes steps
+  walked_text steps (inl h) = inl (h.0, subst (λ x. text strict x h.0) (sym (run_parts is_junk bytes)) (spelled marked h.0 h.1), h.2)
+  walked_text steps (inr h) = inr (record {
+    front = before ++ h.front;
+    back = h.back;
+    phrases = h.phrases;
+    rest = h.rest;
+    fault = h.fault;
+    parts = run_parts is_junk bytes ∙ ap (λ x. before ++ x) h.parts ∙ sym (append_assoc before h.front h.back);
+    spelled = spelled h.front h.phrases h.spelled;
+    no_more = h.no_more;
+    steps_are = h.steps_are;
+    because = because h.rest h.fault h.ends;
+  })
+
+  pub is_steps : IsSteps stem bytes (items_steps stem bytes)
+  is_steps =
+      walked_text (items_steps stem bytes)
+      (subst (IsWalked stem (length bytes) months (length before) marked) (junk_past stem (length bytes) (length bytes) months bytes)
+      (walk stem (length bytes) (length bytes) months (length before) marked (omega (arith, parts)) parts (behind_stops is_junk bytes)))
+
+pub tells : (stem : Name) (bytes : List ℕ) (b c : Building) (result : Result ⊤ BibRefusal) → Reads stem bytes b c result → AnswersAsSpelled stem bytes b c result
+tells stem bytes b c result reads = (text_steps stem bytes, is_steps stem (without_mark bytes), reads)

@@ -1,0 +1,73 @@
+-- What a text states by its grammar, or why it is refused.
+use Rattle.std.specs.Prelude.{◌≡◌, ◌-◌, ◌⊎◌, ℕ, true, false, List, [], ◌∷◌, ◌++◌, length, Result, ⊤}
+use Rattle.std.specs.List.{flat_map}
+use Rattle.grammar.specs.Fault.{Every}
+use Rattle.grammar.specs.Reading.{starts}
+use Rattle.graph_spec.specs.DataGraph.{Name}
+use Rattle.sd_graph.specs.Statement.{Building}
+use Rattle.sd_graph.specs.Stating.{fails, Ends}
+use Rattle.source_steps.specs.Names.{without_mark}
+use Rattle.bibtex_spec.specs.Bytes.{is_letter, is_name_byte, is_junk}
+use Rattle.bibtex_spec.specs.Macros.{MacroTexts, months}
+use Rattle.bibtex_laws.specs.Grammar.{Phrase, Passing, Defining, Entering, strict, item, macros_behind, text}
+use Rattle.bibtex_laws.specs.Limits.{none}
+use Rattle.bibtex_laws.specs.Faults.{IsFirstFault, IsPassedBy}
+use Rattle.bibtex_source.specs.declared.refusal.BibRefusal.{BibRefusal}
+use Rattle.bibtex_source.specs.declared.refusal.BibRefusal.TheVariants.{Expected, UnknownMacro, TooDeep, TooManyEdges, TooManyNodes, NoMemory}
+use Rattle.bibtex_source.specs.Text.{BibStep, entry_steps, bib_ending}
+
+-- an entry's statements; nothing else states any
+abbrev pub phrase_steps : Name → Phrase → List BibStep
+phrase_steps stem Passing = []
+phrase_steps stem (Defining word found) = []
+phrase_steps stem (Entering at class key fields) =
+    entry_steps stem at (record { class = class; key = key; left = 0; fields = fields })
+
+abbrev pub phrases_steps : Name → List Phrase → List BibStep
+phrases_steps stem = flat_map (phrase_steps stem)
+
+-- The text is refused where `rest` begins: at the first byte that doesn't fit, at a name that was defined by nothing
+-- before, or at the brace that is open within 64.
+abbrev pub IsFault : List ℕ → List ℕ → BibRefusal → Type 0
+IsFault bytes rest (Expected at) = (at ≡ length bytes - length rest) × IsFirstFault bytes rest
+IsFault bytes rest (UnknownMacro at) =
+    (at ≡ length bytes - length rest)
+    × ((name : List ℕ) × (starts is_letter name ≡ true)
+    × Every (λ b. is_name_byte b ≡ true) name × IsPassedBy name is_name_byte bytes rest)
+IsFault bytes rest (TooDeep at) =
+    (at ≡ length bytes - length rest) × IsPassedBy (123 ∷ []) none bytes rest
+IsFault bytes rest (TooManyEdges at) = ⊥
+IsFault bytes rest (TooManyNodes at) = ⊥
+IsFault bytes rest NoMemory = ⊥
+
+-- the macros that phrases leave
+abbrev pub macros_after : MacroTexts → List Phrase → MacroTexts
+macros_after macros [] = macros
+macros_after macros (phrase ∷ phrases) = macros_after (macros_behind macros phrase) phrases
+
+-- A text that is refused: its front spells these phrases, and they are stated before the fault. No further item stands
+-- behind them, up to an `@` or the end of the text.
+pub record IsCutShort (stem : Name) (bytes : List ℕ) (steps : List BibStep) : Type 0 where
+  pub front : List ℕ
+  pub back : List ℕ
+  pub phrases : List Phrase
+  pub rest : List ℕ
+  pub fault : BibRefusal
+  pub parts : bytes ≡ front ++ back
+  pub spelled : text strict front phrases
+  pub no_more : (at : ℕ) (whole later : List ℕ) (phrase : Phrase) → back ≡ whole ++ later
+      → starts is_junk later ≡ false
+      → item (strict (macros_after months phrases)) at whole phrase → ⊥
+  pub steps_are : steps ≡ phrases_steps stem phrases ++ fails fault ∷ []
+  pub because : IsFault bytes rest fault
+
+-- The steps of a text: those of the phrases that it spells, or of those before its first fault.
+abbrev pub IsSteps : Name → List ℕ → List BibStep → Type 0
+IsSteps stem bytes steps =
+    ((phrases : List Phrase) × text strict bytes phrases × (steps ≡ phrases_steps stem phrases))
+    ⊎ IsCutShort stem bytes steps
+
+-- The steps that the grammar gives of the text are taken from b, lead to c, and end with this answer.
+abbrev pub AnswersAsSpelled : Name → List ℕ → Building → Building → Result ⊤ BibRefusal → Type 0
+AnswersAsSpelled stem bytes b c result =
+    (steps : List BibStep) × IsSteps stem (without_mark bytes) steps × Ends b steps c (bib_ending result)

@@ -1,0 +1,107 @@
+-- What a BibTeX text states of a data graph, step by step.
+use Rattle.std.specs.Prelude.{◌≡◌, ◌⊎◌, ◌-◌, ◌==◌, ℕ, zero, suc, List, [], ◌∷◌, ◌++◌, length, nat_eq, if◌then◌else◌, Result, Ok, Err, ⊤}
+use Rattle.grammar.specs.Reading.{Outcome, Read, Stuck, Past, starts}
+use Rattle.graph_spec.specs.DataGraph.{Name}
+use Rattle.sd_graph.specs.Statement.{a_node, a_member, an_edge}
+use Rattle.sd_graph.specs.Stating.{Step, says, fails, Ending, done, fault, too_many_nodes, too_many_edges, no_memory}
+use Rattle.source_steps.specs.Names.{without_mark}
+use Rattle.csv_source.specs.Fields.{value_of}
+use Rattle.bibtex_spec.specs.declared.Field.{Field}
+use Rattle.bibtex_spec.specs.declared.Entry.{Entry}
+use Rattle.bibtex_spec.specs.declared.Item.{Item}
+use Rattle.bibtex_spec.specs.declared.Item.TheVariants.{Passes, Defines, Enters}
+use Rattle.bibtex_source.specs.declared.refusal.BibRefusal.{BibRefusal}
+use Rattle.bibtex_source.specs.declared.refusal.BibRefusal.TheVariants.{Expected, UnknownMacro, TooDeep, TooManyEdges, TooManyNodes, NoMemory}
+use Rattle.bibtex_spec.specs.Bytes.{is_junk, behind}
+use Rattle.bibtex_spec.specs.Values.{texts_of}
+use Rattle.bibtex_spec.specs.Macros.{MacroTexts, with_macro, months}
+use Rattle.bibtex_spec.specs.Reading.{read_item}
+
+abbrev pub BibStep : Type 0
+BibStep = Step ℕ BibRefusal
+
+-- a text that is not empty, under a label
+abbrev pub text_step : ℕ → Name → Name → List ℕ → List BibStep
+text_step at key label text =
+    if length text == 0 then [] else says at (an_edge key label (value_of text)) ∷ []
+
+abbrev pub texts_steps : ℕ → Name → Name → List (List ℕ) → List BibStep
+texts_steps at key label [] = []
+texts_steps at key label (text ∷ texts) =
+    text_step at key label text ++ texts_steps at key label texts
+
+abbrev pub field_steps : ℕ → Name → Field → List BibStep
+field_steps at key field = texts_steps at key field.name (texts_of field.name field.text)
+
+abbrev pub fields_steps : ℕ → Name → List Field → List BibStep
+fields_steps at key [] = []
+fields_steps at key (field ∷ fields) = field_steps at key field ++ fields_steps at key fields
+
+-- an entry: its node, a member of the file's collection and of its type's, and its fields in this order
+abbrev pub entry_steps : Name → ℕ → Entry → List BibStep
+entry_steps stem at entry =
+    says at (a_node entry.key) ∷ says at (a_member stem entry.key)
+    ∷ says at (a_member entry.class entry.key) ∷ fields_steps at entry.key entry.fields
+
+-- what an item of a text of `whole` bytes states
+abbrev pub item_steps : Name → ℕ → Item → List BibStep
+item_steps stem whole Passes = []
+item_steps stem whole (Defines name text) = []
+item_steps stem whole (Enters entry) = entry_steps stem (whole - entry.left) entry
+
+abbrev pub macros_behind : MacroTexts → Item → MacroTexts
+macros_behind macros Passes = macros
+macros_behind macros (Defines name text) = with_macro macros name text
+macros_behind macros (Enters entry) = macros
+
+-- which limit is passed where these bytes are left: a brace is one too deep, and a name is no macro
+abbrev pub limit_fault : ℕ → List ℕ → BibRefusal
+limit_fault whole rest =
+    if starts (nat_eq 123) rest then TooDeep (whole - length rest)
+    else UnknownMacro (whole - length rest)
+
+-- the fault of a reader that is left without an item
+abbrev pub IsFaultOf : ℕ → Outcome ℕ Item → BibRefusal → Type 0
+IsFaultOf whole (Read item rest) e = ⊥
+IsFaultOf whole (Stuck rest) e = e ≡ Expected (whole - length rest)
+IsFaultOf whole (Past rest) e = e ≡ limit_fault whole rest
+
+-- why no item was read: its fault, or out of memory, at any time
+abbrev pub IsItemFault : ℕ → Outcome ℕ Item → BibRefusal → Type 0
+IsItemFault whole read e = (e ≡ NoMemory) ⊎ IsFaultOf whole read e
+
+-- an item, and what is behind it; or its fault
+abbrev pub read_steps : Name → ℕ → MacroTexts → (MacroTexts → List ℕ → List BibStep)
+    → Outcome ℕ Item → List BibStep
+read_steps stem whole macros later (Read item rest) =
+    item_steps stem whole item ++ later (macros_behind macros item) rest
+read_steps stem whole macros later (Stuck rest) = fails (Expected (whole - length rest)) ∷ []
+read_steps stem whole macros later (Past rest) = fails (limit_fault whole rest) ∷ []
+
+-- from an `@` on
+abbrev pub marked_steps : Name → ℕ → MacroTexts → (MacroTexts → List ℕ → List BibStep) → List ℕ
+    → List BibStep
+marked_steps stem whole macros later [] = []
+marked_steps stem whole macros later (b ∷ bytes) =
+    read_steps stem whole macros later (read_item macros (b ∷ bytes))
+
+-- at most `turns` items, each behind bytes other than `@`
+abbrev pub steps_within : ℕ → Name → ℕ → MacroTexts → List ℕ → List BibStep
+steps_within zero stem whole macros bytes = []
+steps_within (suc turns) stem whole macros bytes =
+    marked_steps stem whole macros (steps_within turns stem whole) (behind is_junk bytes)
+
+-- all items: there are at most as many as bytes
+abbrev pub items_steps : Name → List ℕ → List BibStep
+items_steps stem bytes = steps_within (length bytes) stem (length bytes) months bytes
+
+-- one byte order mark is dropped first, and places count from behind it
+abbrev pub text_steps : Name → List ℕ → List BibStep
+text_steps stem bytes = items_steps stem (without_mark bytes)
+
+abbrev pub bib_ending : Result ⊤ BibRefusal → Ending ℕ BibRefusal
+bib_ending (Ok u) = done
+bib_ending (Err (TooManyNodes at)) = too_many_nodes at
+bib_ending (Err (TooManyEdges at)) = too_many_edges at
+bib_ending (Err NoMemory) = no_memory
+bib_ending (Err e) = fault e

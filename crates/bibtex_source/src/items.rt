@@ -1,0 +1,97 @@
+// The items of a text, one behind the other.
+ghost use Rattle.std.specs.Prelude.{◌≡◌, ◌-◌, ◌<◌, IfOk, IfErr, OnOk, length};
+ghost use Rattle.grammar.specs.Reading.{Read};
+ghost use Rattle.sd_graph.specs.Stating.{Ends};
+ghost use Rattle.bibtex_source.specs.Text.{bib_ending, item_steps, items_steps, macros_behind, limit_fault, IsItemFault};
+ghost use Rattle.bibtex_spec.specs.Reading.{read_item};
+
+use crate::bytes::behind_junk;
+use crate::halt::Halt;
+use crate::macros::{Macros, months};
+use crate::reading::item_at;
+use crate::refusal::BibRefusal;
+use crate::statements::add_entry;
+use bibtex_spec::Item;
+use sd_graph::GraphBuilder;
+use sd_value::Str;
+use std::alloc::Global;
+
+// The place in a text of `whole` bytes of which these are left.
+fn place_of(whole: u64, rest: &[u8]) -> u64
+    ensures { result ≡ whole - length rest.now }
+{
+    whole.saturating_sub(rest.len() as u64)
+}
+
+fn limit_fault(whole: u64, rest: &[u8]) -> BibRefusal
+    ensures { result ≡ limit_fault whole rest.now }
+{
+    match rest {
+        [b'{', ..] => BibRefusal::TooDeep(place_of(whole, rest)),
+        _ => BibRefusal::UnknownMacro(place_of(whole, rest)),
+    }
+}
+
+// The item that begins with the `@` here, in a text of `whole` bytes.
+fn next_item<'a>(
+    alloc: Global,
+    whole: u64,
+    macros: &Macros,
+    bytes: &'a [u8],
+) -> Result<(Item, &'a [u8]), BibRefusal>
+    ensures item { IfOk result (λ x. read_item macros.now bytes.now ≡ Read x.0 x.1.now) }
+    ensures shorter { IfOk result (λ x. length x.1.now < length bytes.now) }
+    ensures fault { IfErr result (λ e. IsItemFault whole (read_item macros.now bytes.now) e) }
+{
+    match item_at(alloc, macros, bytes) {
+        Ok(read) => Ok(read),
+        Err(Halt::Expected(rest)) => Err(BibRefusal::Expected(place_of(whole, rest))),
+        Err(Halt::Limit(rest)) => Err(limit_fault(whole, rest)),
+        Err(Halt::NoMemory) => Err(BibRefusal::NoMemory),
+    }
+}
+
+// What an item of a text of `whole` bytes states or defines.
+fn add_item(
+    alloc: Global,
+    graph: &mut GraphBuilder,
+    stem: &Str,
+    whole: u64,
+    macros: &mut Macros,
+    item: Item,
+) -> Result<(), BibRefusal>
+    ensures states { Ends graph.old (item_steps stem.now whole item) graph.new (bib_ending result) }
+    ensures defines { OnOk result (macros.new ≡ macros_behind macros.old item) }
+{
+    match item {
+        Item::Passes => Ok(()),
+        Item::Defines(name, text) => Ok(macros.define(name, text)?),
+        Item::Enters(entry) => {
+            let at = whole.saturating_sub(entry.left);
+            add_entry(alloc, graph, stem, at, &entry)
+        }
+    }
+}
+
+/// The items of a text.
+pub(crate) fn add_items(
+    alloc: Global,
+    graph: &mut GraphBuilder,
+    stem: &Str,
+    bytes: &[u8],
+) -> Result<(), BibRefusal>
+    ensures { Ends graph.old (items_steps stem.now bytes.now) graph.new (bib_ending result) }
+{
+    let whole = bytes.len() as u64;
+    let mut macros = months(alloc)?;
+    let mut rest = bytes;
+    'items: loop {
+        let marked = behind_junk(rest);
+        if marked.is_empty() {
+            return Ok(());
+        }
+        let (item, after) = next_item(alloc, whole, &macros, marked)?;
+        add_item(alloc, graph, stem, whole, &mut macros, item)?;
+        rest = after;
+    }
+}

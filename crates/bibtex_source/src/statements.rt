@@ -1,0 +1,147 @@
+// What entries state of a graph.
+ghost use Rattle.std.specs.Prelude.{◌≡◌, ◌∷◌, []};
+ghost use Rattle.sd_graph.specs.Statement.{a_node, a_member, an_edge, IsData};
+ghost use Rattle.sd_graph.specs.Stating.{says, Ends};
+ghost use Rattle.sd_graph.specs.StatingLaws.{ending_at};
+ghost use Rattle.bibtex_source.specs.Text.{bib_ending, text_step, texts_steps, field_steps, fields_steps, entry_steps};
+
+use crate::refusal::BibRefusal;
+use crate::values::texts_of;
+use bibtex_spec::{Entry, Field};
+use csv_source::value_of;
+use sd_graph::{GraphBuilder, GraphRefusal};
+use sd_value::{Str, Value};
+use std::alloc::Global;
+
+// The answer to an addition for the entry whose key is at this byte.
+fn at_key(answer: Result<(), GraphRefusal>, at: u64) -> Result<(), BibRefusal>
+    ensures { bib_ending result ≡ ending_at at answer }
+{
+    match answer {
+        Ok(()) => Ok(()),
+        Err(GraphRefusal::TooManyNodes) => Err(BibRefusal::TooManyNodes(at)),
+        Err(GraphRefusal::TooManyEdges) => Err(BibRefusal::TooManyEdges(at)),
+        Err(GraphRefusal::NoMemory) => Err(BibRefusal::NoMemory),
+    }
+}
+
+#[tactic(auto, using(crate::proofs::Steps::stated))]
+fn state_node(alloc: Global, graph: &mut GraphBuilder, at: u64, key: &Str) -> Result<(), BibRefusal>
+    ensures { Ends graph.old (says at (a_node key.now) ∷ []) graph.new (bib_ending result) }
+{
+    at_key(graph.add_node(alloc, key), at)
+}
+
+#[tactic(auto, using(crate::proofs::Steps::stated))]
+fn state_member(
+    alloc: Global,
+    graph: &mut GraphBuilder,
+    at: u64,
+    collection: &Str,
+    key: &Str,
+) -> Result<(), BibRefusal>
+    ensures { Ends graph.old (says at (a_member collection.now key.now) ∷ []) graph.new
+        (bib_ending result) }
+{
+    at_key(graph.add_member(alloc, collection, key), at)
+}
+
+#[tactic(auto, using(crate::proofs::Steps::stated))]
+fn state_edge(
+    alloc: Global,
+    graph: &mut GraphBuilder,
+    at: u64,
+    key: &Str,
+    label: &Str,
+    value: &Value,
+) -> Result<(), BibRefusal>
+    requires { IsData value.now }
+    ensures { Ends graph.old (says at (an_edge key.now label.now value.now) ∷ []) graph.new
+        (bib_ending result) }
+{
+    at_key(graph.add_edge(alloc, key, label, value), at)
+}
+
+// A text under a label: an edge, where it isn't empty.
+fn add_text(
+    alloc: Global,
+    graph: &mut GraphBuilder,
+    at: u64,
+    key: &Str,
+    label: &Str,
+    text: &Str,
+) -> Result<(), BibRefusal>
+    ensures { Ends graph.old (text_step at key.now label.now text.now) graph.new
+        (bib_ending result) }
+{
+    if text.bytes().is_empty() {
+        return Ok(());
+    }
+    let value = value_of(alloc, text.bytes())?;
+    state_edge(alloc, graph, at, key, label, &value)
+}
+
+fn add_texts(
+    alloc: Global,
+    graph: &mut GraphBuilder,
+    at: u64,
+    key: &Str,
+    label: &Str,
+    texts: &[Str],
+) -> Result<(), BibRefusal>
+    ensures { Ends graph.old (texts_steps at key.now label.now texts.now) graph.new
+        (bib_ending result) }
+{
+    let mut left = texts;
+    'texts: while let Some((text, more)) = left.split_first() {
+        add_text(alloc, graph, at, key, label, text)?;
+        left = more;
+    }
+    Ok(())
+}
+
+fn add_field(
+    alloc: Global,
+    graph: &mut GraphBuilder,
+    at: u64,
+    key: &Str,
+    field: &Field,
+) -> Result<(), BibRefusal>
+    ensures { Ends graph.old (field_steps at key.now field.now) graph.new (bib_ending result) }
+{
+    let texts = texts_of(alloc, field)?;
+    add_texts(alloc, graph, at, key, &field.name, texts.as_slice())
+}
+
+fn add_fields(
+    alloc: Global,
+    graph: &mut GraphBuilder,
+    at: u64,
+    key: &Str,
+    fields: &[Field],
+) -> Result<(), BibRefusal>
+    ensures { Ends graph.old (fields_steps at key.now fields.now) graph.new (bib_ending result) }
+{
+    let mut left = fields;
+    'fields: while let Some((field, more)) = left.split_first() {
+        add_field(alloc, graph, at, key, field)?;
+        left = more;
+    }
+    Ok(())
+}
+
+/// An entry whose key is at this byte.
+pub(crate) fn add_entry(
+    alloc: Global,
+    graph: &mut GraphBuilder,
+    stem: &Str,
+    at: u64,
+    entry: &Entry,
+) -> Result<(), BibRefusal>
+    ensures { Ends graph.old (entry_steps stem.now at entry.now) graph.new (bib_ending result) }
+{
+    state_node(alloc, graph, at, &entry.key)?;
+    state_member(alloc, graph, at, stem, &entry.key)?;
+    state_member(alloc, graph, at, &entry.class, &entry.key)?;
+    add_fields(alloc, graph, at, &entry.key, entry.fields.items())
+}

@@ -1,0 +1,76 @@
+// Names for the variables of a link, one after another.
+
+ghost use Rattle.std.specs.Prelude.{◌≡◌, IfOk, map, option_copied, option_map};
+ghost use Rattle.struql_ast.specs.Reading.{condition_of, term_of, link_of};
+ghost use Rattle.query_spec.specs.Mentions.{variables_of};
+ghost use Rattle.constraint_recheck.specs.Recheck.{same_sort};
+ghost use Rattle.constraint_recheck.specs.Search.{may_go_on, find_names as found};
+ghost use Rattle.certificate_search.specs.LinkDepths.{depths_of};
+ghost use Rattle.certificate_search.specs.Extending.{IsExtended};
+
+use crate::due::goes_on;
+use crate::search::Search;
+use entailment::Judge;
+use query_spec::Variable;
+use sd_value::{NoMemory, Str};
+use std::alloc::Global;
+
+fn has_sort(variable: &Variable, arc: bool) -> bool
+    ensures { result ≡ same_sort variable.now.arc arc }
+{
+    if variable.arc { arc } else { !arc }
+}
+
+// Goes on from the names, with one for each variable that is left.
+fn extend<J: Judge>(
+    alloc: Global,
+    search: &Search<J>,
+    left: &[Variable],
+    names: &mut Vec<Str>,
+) -> Result<bool, NoMemory>
+    requires { search.now.depths.now ≡ depths_of search.now.variables.now
+        (map condition_of search.now.conditions.now) (link_of search.now.link.now) }
+    ensures { IfOk result (IsExtended (may_go_on search.now.variables.now
+        (J.tests search.now.judge.now) search.now.version (map condition_of search.now.given.now)
+        (map condition_of search.now.conditions.now) (link_of search.now.link.now)
+        (term_of search.now.source.now) (option_map term_of (option_copied search.now.target)))
+        search.now.targets.now left.now names.old.items names.new.items) }
+{
+    let [variable, rest @ ..] = left else {
+        return Ok(true);
+    };
+    for target in search.targets {
+        if has_sort(target, variable.arc) {
+            names.push(target.name.copy(alloc)?)?;
+            if goes_on(alloc, search, names)? && extend(alloc, search, rest, names)? {
+                return Ok(true);
+            }
+            names.pop();
+        }
+    }
+    Ok(false)
+}
+
+/// The names of a use of the link with these ends, one for each of its variables, if there is one.
+pub fn find_names<J: Judge>(alloc: Global, search: &Search<J>) -> Result<Option<Vec<Str>>, NoMemory>
+    requires variables { search.now.variables.now ≡ variables_of (map condition_of
+        search.now.conditions.now) }
+    requires targets { search.now.targets.now ≡ variables_of (map condition_of
+        search.now.given.now) }
+    requires depths { search.now.depths.now ≡ depths_of search.now.variables.now
+        (map condition_of search.now.conditions.now) (link_of search.now.link.now) }
+    ensures { IfOk result (λ r. option_map (λ names. names.items) r
+        ≡ found (J.tests search.now.judge.now) search.now.version
+        (map condition_of search.now.given.now) (record {
+          conditions = map condition_of search.now.conditions.now;
+          link = link_of search.now.link.now;
+        }) (term_of search.now.source.now)
+        (option_map term_of (option_copied search.now.target))) }
+{
+    let mut names = Vec::new(alloc);
+    if goes_on(alloc, search, &names)? && extend(alloc, search, search.variables, &mut names)? {
+        Ok(Some(names))
+    } else {
+        Ok(None)
+    }
+}

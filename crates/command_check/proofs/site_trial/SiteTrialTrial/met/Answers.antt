@@ -1,0 +1,13 @@
+use Rattle.std.proofs.Common.{◌∙◌, subst}
+use Rattle.graph_spec.specs.DataGraph.{DataGraph}
+use Rattle.query_blocks.specs.Blocks.{scope_of}
+use Rattle.constraint_spec.specs.Meets.{Meets}
+use Rattle.constraint_report.specs.Report.{IsReport}
+use Rattle.command_check.proofs.Alone.{alone}
+use Rattle.command_check.proofs.site_trial.SiteTrialTrial.met.Goals as goal
+
+pub returns-clause-met : goal.returns-clause-met
+returns-clause-met c =
+    let r = c.in_ok-report.report in
+    alone (Meets c.args.graph (scope_of c.args.self.now.blocks)) c.args.constraint.now c.from_ref.result.now r.text r.all_met c.from_ref.ensures.value
+    (subst (λ (x : DataGraph). IsReport (Meets x (scope_of c.args.self.now.blocks)) c.from_ref.result.now r.text r.all_met) (c.of-asker.ensures.store ∙ c.in_ok-store.ensures) c.in_ok-report.ensures)

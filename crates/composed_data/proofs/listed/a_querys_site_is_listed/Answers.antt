@@ -1,0 +1,5 @@
+use Rattle.composed_data.proofs.Listed.{listed_query}
+use Rattle.composed_data.proofs.listed.a_querys_site_is_listed.Goals as goal
+
+pub returns : goal.returns
+returns c = listed_query

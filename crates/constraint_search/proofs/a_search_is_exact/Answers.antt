@@ -1,6 +1,0 @@
-use Rattle.std.specs.Prelude.{Contains}
-use Rattle.constraint_search.proofs.Search.{certificate_finds}
-use Rattle.constraint_search.proofs.a_search_is_exact.Goals as goal
-
-pub returns : goal.returns
-returns c = λ E tests are q ks k. certificate_finds (Contains E) tests are q ks k

@@ -1,3 +1,0 @@
-pub mod Lexed
-mod Decided
-pub mod TheReader

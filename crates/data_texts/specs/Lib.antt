@@ -1,0 +1,4 @@
+pub mod Texts
+pub mod ComposedTexts
+pub mod Edits
+pub mod Touching

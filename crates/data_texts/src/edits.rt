@@ -1,0 +1,88 @@
+//! Texts of a run that are edits of its data, and which pages they touch.
+
+ghost use Rattle.std.specs.Prelude.{◌≡◌, IfOk, map, not};
+ghost use Rattle.sd_value.specs.declared.Term.{Term as AnyTerm};
+ghost use Rattle.tmpl.specs.Reading.{file_of};
+ghost use Rattle.query_blocks.specs.Blocks.{AreCheckedBlocks, scope_of};
+ghost use Rattle.data_texts.specs.Edits.{EditReader, IsSpelled, edit_under};
+ghost use Rattle.data_texts.specs.Touching.{Touching};
+
+use command_spec::DATA_LIMIT;
+use edit_footprint::touches_pages;
+use edit_reader::read_edit;
+use edit_spec::Edit;
+use query_blocks::QueryBlocks;
+use sd_value::{NoMemory, Str, Term};
+use std::alloc::Global;
+use struql_check::Checked;
+use tmpl::Templates;
+
+/// The edit that a text spells; none where it spells none.
+/// # Errors
+/// Out of memory.
+pub fn edit_in(alloc: Global, text: &Str) -> Result<Option<Edit>, NoMemory>
+    ensures { IfOk result (IsSpelled text.now) }
+{
+    match read_edit(alloc, text.bytes(), DATA_LIMIT) {
+        Ok(edit) => Ok(Some(edit)),
+        Err(refusal) => {
+            if refusal.is_out_of_memory() {
+                return Err(NoMemory);
+            }
+            Ok(None)
+        }
+    }
+}
+
+/// The edit that a text spells, where there is no first query; none where it spells none, and with a first query.
+/// # Errors
+/// Out of memory.
+pub fn read_text_edit(
+    alloc: Global,
+    text: &Str,
+    first: &Option<Checked>,
+) -> Result<Option<Edit>, NoMemory>
+    ensures { IfOk result (λ edit. (reader : EditReader)
+        → edit ≡ edit_under reader first.now text.now) }
+{
+    match first {
+        None => {
+            let edit = edit_in(alloc, text)?;
+            Ok(edit)
+        }
+        Some(_) => Ok(None),
+    }
+}
+
+/// For each of the terms whether the edit touches nothing on which its page rests.
+/// # Errors
+/// Out of memory.
+pub fn spared(
+    alloc: Global,
+    scopes: &QueryBlocks,
+    templates: &Templates,
+    edit: &Edit,
+    terms: &[Term],
+) -> Result<Vec<bool>, NoMemory>
+    requires { AreCheckedBlocks scopes.now.version scopes.now.blocks.items }
+    ensures { IfOk result (λ flags. (touching : Touching) → flags.items
+        ≡ map (λ (t : AnyTerm). not (touching.touches edit.now (scope_of scopes.now)
+        (file_of templates.now) t.function)) terms.now) }
+{
+    let mut flags = Vec::with_capacity(alloc, terms.len())?;
+    for term in terms {
+        let touched = touches_pages(alloc, scopes, templates, &term.function, edit)?;
+        flags.push(!touched)?;
+    }
+    Ok(flags)
+}
+
+/// There is a reader of edits, as a function: which texts spell an edit, and which.
+pub fn edits_have_a_reader()
+    ensures { EditReader }
+{}
+
+/// Whether an edit touches what the pages of a function rest on is decided, by a function.
+pub fn touching_has_a_test()
+    ensures { Touching }
+{}

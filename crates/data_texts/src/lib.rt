@@ -1,0 +1,35 @@
+//! Texts that change the data of a run.
+#![tactic(auto)]
+
+ghost use Rattle.std.specs.Prelude.{IfOk};
+ghost use Rattle.data_texts.specs.Texts.{States, IsRead};
+
+mod composed;
+mod edits;
+
+pub use composed::read_text;
+pub use edits::{read_text_edit, spared};
+use command_spec::DATA_LIMIT;
+use sd_ddl::read_ddl;
+use sd_graph::{Graph, GraphBuilder, PROGRAM_LIMITS};
+use sd_value::{NoMemory, Str};
+use std::alloc::Global;
+
+/// The data that a text states, where it is an accepted data text; none where it isn't.
+pub fn read_change(alloc: Global, text: &Str) -> Result<Option<Graph>, NoMemory>
+    ensures { IfOk result (IsRead States text.now) }
+{
+    let mut graph = GraphBuilder::new(alloc, PROGRAM_LIMITS);
+    match read_ddl(alloc, text.bytes(), DATA_LIMIT, &mut graph) {
+        Ok(()) => {
+            let graph = graph.finish(alloc)?;
+            Ok(Some(graph))
+        }
+        Err(refusal) => {
+            if refusal.is_out_of_memory() {
+                return Err(NoMemory);
+            }
+            Ok(None)
+        }
+    }
+}

@@ -1,3 +1,0 @@
-pub mod TheEdits
-pub mod TheTouching
-pub mod Flags

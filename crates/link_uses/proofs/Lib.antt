@@ -1,3 +1,0 @@
-pub mod Deeper
-pub mod Extending
-pub mod Steps

@@ -1,5 +1,0 @@
-pub mod Alike
-pub mod Adding
-pub mod EachPage
-pub mod Reaching
-pub mod Whole

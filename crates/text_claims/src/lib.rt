@@ -1,0 +1,14 @@
+//! What a query asks for, at each place of its text.
+#![tactic(auto)]
+
+mod blocks;
+mod claims;
+mod clauses;
+mod conditions;
+mod further;
+mod tags;
+mod words;
+
+pub use blocks::claims_of_query;
+pub use claims::claims_of_templates;
+pub use further::further_labels;
