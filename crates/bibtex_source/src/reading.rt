@@ -2,7 +2,7 @@
 ghost use Rattle.std.specs.Prelude.{◌≡◌, ◌<◌, ◌≤◌, ◌∷◌, [], IfOk, length, nat_eq};
 ghost use Rattle.grammar.specs.Reading.{repeat, with_front, starts};
 ghost use Rattle.bibtex_spec.specs.Bytes as specs;
-ghost use Rattle.bibtex_source.specs.Gives.{Gives};
+ghost use Rattle.bibtex_source.specs.Gives.{GivesPhrase};
 ghost use Rattle.bibtex_spec.specs.Reading.{read_mark, read_open, read_class, read_name, read_key, read_digits};
 ghost use Rattle.bibtex_spec.specs.Reading.{nesting as nesting_by, opened, read_enclosed, read_macro, read_piece};
 ghost use Rattle.bibtex_spec.specs.Reading.{read_further, read_value, read_field, read_fields, read_entry};
@@ -58,7 +58,7 @@ fn has_key(bytes: &[u8]) -> bool
 /// This byte, and the blanks behind it.
 #[tactic(auto, unfolding(bibtex_spec::specs::Reading::read_mark))]
 fn mark_at(bytes: &[u8], mark: u8) -> Result<&[u8], Halt>
-    ensures is { Gives (λ _. mark) (λ x. x.now) result (read_mark mark bytes.now) }
+    ensures is { GivesPhrase (λ _. mark) (λ x. x.now) result (read_mark mark bytes.now) }
     ensures shorter { IfOk result (λ x. length x.now < length bytes.now) }
 {
     match bytes {
@@ -70,7 +70,7 @@ fn mark_at(bytes: &[u8], mark: u8) -> Result<&[u8], Halt>
 /// An opening byte, and the one that closes.
 #[tactic(auto, unfolding(bibtex_spec::specs::Reading::read_open))]
 fn open_at(bytes: &[u8]) -> Result<(u8, &[u8]), Halt>
-    ensures is { Gives (λ x. x.0) (λ x. x.1.now) result (read_open bytes.now) }
+    ensures is { GivesPhrase (λ x. x.0) (λ x. x.1.now) result (read_open bytes.now) }
     ensures shorter { IfOk result (λ x. length x.1.now < length bytes.now) }
 {
     match bytes {
@@ -83,7 +83,7 @@ fn open_at(bytes: &[u8]) -> Result<(u8, &[u8]), Halt>
 /// A word behind `@`, in lower case.
 #[tactic(auto, unfolding(bibtex_spec::specs::Reading::read_class))]
 fn class_at(alloc: Global, bytes: &[u8]) -> Result<(Str, &[u8]), Halt>
-    ensures is { Gives (λ x. x.0) (λ x. x.1.now) result (read_class bytes.now) }
+    ensures is { GivesPhrase (λ x. x.0) (λ x. x.1.now) result (read_class bytes.now) }
     ensures shorter { IfOk result (λ x. length x.1.now ≤ length bytes.now) }
 {
     if !has_letter(bytes) {
@@ -97,7 +97,7 @@ fn class_at(alloc: Global, bytes: &[u8]) -> Result<(Str, &[u8]), Halt>
 /// A name, in lower case.
 #[tactic(auto, unfolding(bibtex_spec::specs::Reading::read_name))]
 fn name_at(alloc: Global, bytes: &[u8]) -> Result<(Str, &[u8]), Halt>
-    ensures is { Gives (λ x. x.0) (λ x. x.1.now) result (read_name bytes.now) }
+    ensures is { GivesPhrase (λ x. x.0) (λ x. x.1.now) result (read_name bytes.now) }
     ensures shorter { IfOk result (λ x. length x.1.now ≤ length bytes.now) }
 {
     if !has_letter(bytes) {
@@ -111,7 +111,7 @@ fn name_at(alloc: Global, bytes: &[u8]) -> Result<(Str, &[u8]), Halt>
 /// A key.
 #[tactic(auto, unfolding(bibtex_spec::specs::Reading::read_key))]
 fn key_at(alloc: Global, bytes: &[u8]) -> Result<(Str, &[u8]), Halt>
-    ensures is { Gives (λ x. x.0) (λ x. x.1.now) result (read_key bytes.now) }
+    ensures is { GivesPhrase (λ x. x.0) (λ x. x.1.now) result (read_key bytes.now) }
     ensures shorter { IfOk result (λ x. length x.1.now ≤ length bytes.now) }
 {
     if !has_key(bytes) {
@@ -124,7 +124,7 @@ fn key_at(alloc: Global, bytes: &[u8]) -> Result<(Str, &[u8]), Halt>
 
 #[tactic(auto, unfolding(bibtex_spec::specs::Reading::read_digits))]
 fn digits_at(alloc: Global, bytes: &[u8]) -> Result<(Str, &[u8]), Halt>
-    ensures is { Gives (λ x. x.0) (λ x. x.1.now) result (read_digits bytes.now) }
+    ensures is { GivesPhrase (λ x. x.0) (λ x. x.1.now) result (read_digits bytes.now) }
     ensures shorter { IfOk result (λ x. length x.1.now ≤ length bytes.now) }
 {
     let (word, rest) = digits(alloc, bytes)?;
@@ -156,7 +156,7 @@ fn nesting(close: u8, depth: u64, b: u8) -> Nesting
 
 /// What is behind an opening byte up to this one, with braces in pairs.
 fn opened_at(alloc: Global, bytes: &[u8], close: u8) -> Result<(Vec<u8>, &[u8]), Halt>
-    ensures is { Gives (λ x. x.0.items) (λ x. x.1.now) result (opened close bytes.now) }
+    ensures is { GivesPhrase (λ x. x.0.items) (λ x. x.1.now) result (opened close bytes.now) }
     ensures shorter { IfOk result (λ x. length x.1.now ≤ length bytes.now) }
 {
     let [_, inner @ ..] = bytes else {
@@ -182,7 +182,7 @@ fn opened_at(alloc: Global, bytes: &[u8], close: u8) -> Result<(Vec<u8>, &[u8]),
 
 #[tactic(auto, unfolding(bibtex_spec::specs::Reading::read_enclosed))]
 fn enclosed_at(alloc: Global, bytes: &[u8], close: u8) -> Result<(Str, &[u8]), Halt>
-    ensures is { Gives (λ x. x.0) (λ x. x.1.now) result (read_enclosed close bytes.now) }
+    ensures is { GivesPhrase (λ x. x.0) (λ x. x.1.now) result (read_enclosed close bytes.now) }
     ensures shorter { IfOk result (λ x. length x.1.now ≤ length bytes.now) }
 {
     let (word, rest) = opened_at(alloc, bytes, close)?;
@@ -197,7 +197,7 @@ fn macro_at<'a>(
     macros: &Macros,
     bytes: &'a [u8],
 ) -> Result<(Str, &'a [u8]), Halt<'a>>
-    ensures is { Gives (λ x. x.0) (λ x. x.1.now) result (read_macro macros.now bytes.now) }
+    ensures is { GivesPhrase (λ x. x.0) (λ x. x.1.now) result (read_macro macros.now bytes.now) }
     ensures shorter { IfOk result (λ x. length x.1.now ≤ length bytes.now) }
 {
     let (name, rest) = name_at(alloc, bytes)?;
@@ -213,7 +213,7 @@ fn piece_at<'a>(
     macros: &Macros,
     bytes: &'a [u8],
 ) -> Result<(Str, &'a [u8]), Halt<'a>>
-    ensures is { Gives (λ x. x.0) (λ x. x.1.now) result (read_piece macros.now bytes.now) }
+    ensures is { GivesPhrase (λ x. x.0) (λ x. x.1.now) result (read_piece macros.now bytes.now) }
     ensures shorter { IfOk result (λ x. length x.1.now ≤ length bytes.now) }
 {
     if has_digit(bytes) {
@@ -233,7 +233,7 @@ fn further_piece_at<'a>(
     macros: &Macros,
     bytes: &'a [u8],
 ) -> Result<(Str, &'a [u8]), Halt<'a>>
-    ensures is { Gives (λ x. x.0) (λ x. x.1.now) result (read_further macros.now bytes.now) }
+    ensures is { GivesPhrase (λ x. x.0) (λ x. x.1.now) result (read_further macros.now bytes.now) }
     ensures shorter { IfOk result (λ x. length x.1.now < length bytes.now) }
 {
     let rest = mark_at(bytes, b'#')?;
@@ -247,7 +247,7 @@ fn further_pieces_at<'a>(
     first: Str,
     bytes: &'a [u8],
 ) -> Result<(Vec<Str>, &'a [u8]), Halt<'a>>
-    ensures is { Gives (λ x. x.0.items) (λ x. x.1.now) result
+    ensures is { GivesPhrase (λ x. x.0.items) (λ x. x.1.now) result
         (with_front (first ∷ []) (repeat (nat_eq 35) (read_further macros.now) bytes.now)) }
     ensures shorter { IfOk result (λ x. length x.1.now ≤ length bytes.now) }
 {
@@ -269,7 +269,7 @@ fn value_at<'a>(
     macros: &Macros,
     bytes: &'a [u8],
 ) -> Result<(Str, &'a [u8]), Halt<'a>>
-    ensures is { Gives (λ x. x.0) (λ x. x.1.now) result (read_value macros.now bytes.now) }
+    ensures is { GivesPhrase (λ x. x.0) (λ x. x.1.now) result (read_value macros.now bytes.now) }
     ensures shorter { IfOk result (λ x. length x.1.now ≤ length bytes.now) }
 {
     let (first, rest) = piece_at(alloc, macros, bytes)?;
@@ -285,7 +285,7 @@ fn field_at<'a>(
     macros: &Macros,
     bytes: &'a [u8],
 ) -> Result<(Field, &'a [u8]), Halt<'a>>
-    ensures is { Gives (λ x. x.0) (λ x. x.1.now) result (read_field macros.now bytes.now) }
+    ensures is { GivesPhrase (λ x. x.0) (λ x. x.1.now) result (read_field macros.now bytes.now) }
     ensures shorter { IfOk result (λ x. length x.1.now ≤ length bytes.now) }
 {
     let (name, rest) = name_at(alloc, bytes)?;
@@ -302,7 +302,7 @@ fn fields_at<'a>(
     macros: &Macros,
     bytes: &'a [u8],
 ) -> Result<(Vec<Field>, &'a [u8]), Halt<'a>>
-    ensures is { Gives (λ x. x.0.items) (λ x. x.1.now) result (read_fields macros.now bytes.now) }
+    ensures is { GivesPhrase (λ x. x.0.items) (λ x. x.1.now) result (read_fields macros.now bytes.now) }
     ensures shorter { IfOk result (λ x. length x.1.now ≤ length bytes.now) }
 {
     let mut fields = Vec::new(alloc);
@@ -326,7 +326,7 @@ fn entry_at<'a>(
     class: Str,
     bytes: &'a [u8],
 ) -> Result<(Item, &'a [u8]), Halt<'a>>
-    ensures is { Gives (λ x. x.0) (λ x. x.1.now) result (read_entry macros.now class bytes.now) }
+    ensures is { GivesPhrase (λ x. x.0) (λ x. x.1.now) result (read_entry macros.now class bytes.now) }
     ensures shorter { IfOk result (λ x. length x.1.now ≤ length bytes.now) }
 {
     let (close, rest) = open_at(bytes)?;
@@ -350,7 +350,7 @@ fn definition_at<'a>(
     macros: &Macros,
     bytes: &'a [u8],
 ) -> Result<(Item, &'a [u8]), Halt<'a>>
-    ensures is { Gives (λ x. x.0) (λ x. x.1.now) result (read_definition macros.now bytes.now) }
+    ensures is { GivesPhrase (λ x. x.0) (λ x. x.1.now) result (read_definition macros.now bytes.now) }
     ensures shorter { IfOk result (λ x. length x.1.now ≤ length bytes.now) }
 {
     let (close, rest) = open_at(bytes)?;
@@ -367,7 +367,7 @@ fn preamble_at<'a>(
     macros: &Macros,
     bytes: &'a [u8],
 ) -> Result<(Item, &'a [u8]), Halt<'a>>
-    ensures is { Gives (λ x. x.0) (λ x. x.1.now) result (read_preamble macros.now bytes.now) }
+    ensures is { GivesPhrase (λ x. x.0) (λ x. x.1.now) result (read_preamble macros.now bytes.now) }
     ensures shorter { IfOk result (λ x. length x.1.now ≤ length bytes.now) }
 {
     let (close, rest) = open_at(bytes)?;
@@ -383,7 +383,7 @@ fn rest_at<'a>(
     class: Str,
     bytes: &'a [u8],
 ) -> Result<(Item, &'a [u8]), Halt<'a>>
-    ensures is { Gives (λ x. x.0) (λ x. x.1.now) result (read_rest macros.now class bytes.now) }
+    ensures is { GivesPhrase (λ x. x.0) (λ x. x.1.now) result (read_rest macros.now class bytes.now) }
     ensures shorter { IfOk result (λ x. length x.1.now ≤ length bytes.now) }
 {
     if class.bytes() == b"comment".as_slice() {
@@ -404,7 +404,7 @@ pub(crate) fn item_at<'a>(
     macros: &Macros,
     bytes: &'a [u8],
 ) -> Result<(Item, &'a [u8]), Halt<'a>>
-    ensures is { Gives (λ x. x.0) (λ x. x.1.now) result (read_item macros.now bytes.now) }
+    ensures is { GivesPhrase (λ x. x.0) (λ x. x.1.now) result (read_item macros.now bytes.now) }
     ensures shorter { IfOk result (λ x. length x.1.now < length bytes.now) }
 {
     let rest = mark_at(bytes, b'@')?;

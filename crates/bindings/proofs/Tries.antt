@@ -5,8 +5,8 @@ use Rattle.std.specs.Prelude.{Option, None, Some, Bool, slice_get, slice_set, Co
 use Rattle.sd_value.specs.declared.Value.{Value}
 use Rattle.graph_spec.specs.DataGraph.{DataGraph, HasEdge}
 use Rattle.graph_spec.specs.Steps.{IsMemberValue}
-use Rattle.condition_tests.specs.declared.literal.Place.{Place}
-use Rattle.condition_tests.specs.declared.literal.Place.TheVariants.{Variable}
+use Rattle.condition_tests.specs.declared.literal.Slot.{Slot}
+use Rattle.condition_tests.specs.declared.literal.Slot.TheVariants.{Variable}
 use Rattle.condition_tests.specs.declared.literal.Property.TheVariants.{Member}
 use Rattle.condition_tests.specs.declared.literal.Relation.TheVariants.{Edge}
 use Rattle.condition_tests.specs.declared.literal.Atom.TheVariants.{One, Two}
@@ -32,21 +32,21 @@ module _ (G : DataGraph) (version : ℕ) (arcs : List Bool) (goals : List Goal) 
     exact = λ set t v c e a. sound t v (h.part.of_all v c) (subst (λ k. slice_get t k ≡ Some v) h.same_slot e) a;
   }
 
-  pub tried_after : (s : List (Option Value)) (p : Place) (label : List ℕ) (q : Place) (u : Value) (slot : ℕ) (all : List Value) (exact : Bool) (slot2 : ℕ) (values : List Value) (settled : Bool)
+  pub tried_after : (s : List (Option Value)) (p : Slot) (label : List ℕ) (q : Slot) (u : Value) (slot : ℕ) (all : List Value) (exact : Bool) (slot2 : ℕ) (values : List Value) (settled : Bool)
       → IsKnown p s u → q ≡ Variable slot → slice_get s slot ≡ Some None → ((v : Value) → Contains all v → HasEdge G u label v) → IsSettled G arcs slot all exact slot2 values settled
       → AreTried G arcs (AtomHolds G version (Two p (Edge label) q)) s slot2 values settled
   tried_after s p label q u slot all exact slot2 values settled hp hq free edges h =
       tried (AtomHolds G version (Two p (Edge label) q)) s slot all exact slot2 values settled free h
       (λ t v c e a. (u, v, known_stands p t s u a hp, subst (λ r. Stands r t v) (sym hq) e, edges v c))
 
-  pub tried_before : (s : List (Option Value)) (p : Place) (label : List ℕ) (q : Place) (v : Value) (slot : ℕ) (all : List Value) (exact : Bool) (slot2 : ℕ) (values : List Value) (settled : Bool)
+  pub tried_before : (s : List (Option Value)) (p : Slot) (label : List ℕ) (q : Slot) (v : Value) (slot : ℕ) (all : List Value) (exact : Bool) (slot2 : ℕ) (values : List Value) (settled : Bool)
       → IsKnown q s v → p ≡ Variable slot → slice_get s slot ≡ Some None → ((u : Value) → Contains all u → HasEdge G u label v) → IsSettled G arcs slot all exact slot2 values settled
       → AreTried G arcs (AtomHolds G version (Two p (Edge label) q)) s slot2 values settled
   tried_before s p label q v slot all exact slot2 values settled hq hp free edges h =
       tried (AtomHolds G version (Two p (Edge label) q)) s slot all exact slot2 values settled free h
       (λ t u c e a. (u, v, subst (λ r. Stands r t u) (sym hp) e, known_stands q t s v a hq, edges u c))
 
-  pub tried_member : (s : List (Option Value)) (p : Place) (collection : List ℕ) (slot : ℕ) (all : List Value) (exact : Bool) (slot2 : ℕ) (values : List Value) (settled : Bool)
+  pub tried_member : (s : List (Option Value)) (p : Slot) (collection : List ℕ) (slot : ℕ) (all : List Value) (exact : Bool) (slot2 : ℕ) (values : List Value) (settled : Bool)
       → p ≡ Variable slot → slice_get s slot ≡ Some None → ((v : Value) → Contains all v → IsMemberValue G collection v) → IsSettled G arcs slot all exact slot2 values settled
       → AreTried G arcs (AtomHolds G version (One p (Member collection))) s slot2 values settled
   tried_member s p collection slot all exact slot2 values settled hp free members h =

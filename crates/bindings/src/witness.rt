@@ -11,7 +11,7 @@ ghost use Rattle.bindings.specs.Tries.{AreTried, GoalAt, IsTry};
 use crate::row::row_of;
 use crate::search::{Choice, choose, finds, passed, put};
 use candidate_values::{Ends, Offer, Reaches, Search, settle};
-use condition_tests::{Atom, Place, Property, Relation, free_at, known};
+use condition_tests::{Atom, Slot, Property, Relation, free_at, known};
 use planned_goals::{fewest, literal_at};
 use query_spec::{Row, copied_bound};
 use sd_value::{NoMemory, Value};
@@ -22,9 +22,9 @@ use store::Store;
 fn first_after<S: Store>(
     alloc: Global,
     search: &Search<S>,
-    from: &Place,
+    from: &Slot,
     relation: &Relation,
-    to: &Place,
+    to: &Slot,
     current: &[Option<Value>],
 ) -> Result<Option<Offer>, NoMemory>
     requires as_long { length search.now.arcs.now ≡ length current.now }
@@ -65,9 +65,9 @@ fn first_after<S: Store>(
 fn first_before<S: Store>(
     alloc: Global,
     search: &Search<S>,
-    from: &Place,
+    from: &Slot,
     relation: &Relation,
-    to: &Place,
+    to: &Slot,
     current: &[Option<Value>],
 ) -> Result<Option<Offer>, NoMemory>
     requires as_long { length search.now.arcs.now ≡ length current.now }
@@ -108,7 +108,7 @@ fn first_before<S: Store>(
 fn first_member<S: Store>(
     alloc: Global,
     search: &Search<S>,
-    place: &Place,
+    place: &Slot,
     property: &Property,
     current: &[Option<Value>],
 ) -> Result<Option<Offer>, NoMemory>

@@ -22,7 +22,7 @@ use Rattle.walks.specs.declared.direction.Direction.{Direction}
 use Rattle.walks.specs.declared.direction.Direction.TheVariants.{Onward, Backward}
 use Rattle.walks.specs.Directions.{JoinsBy, origin}
 use Rattle.walks.specs.Joins.{Joins}
-use Rattle.condition_tests.specs.declared.literal.Place.{Place}
+use Rattle.condition_tests.specs.declared.literal.Slot.{Slot}
 use Rattle.condition_tests.specs.declared.literal.Literal.{Literal}
 use Rattle.condition_tests.specs.declared.literal.Relation.TheVariants.{Edge, Walk, Compare}
 use Rattle.condition_tests.specs.declared.literal.Atom.{Atom}
@@ -90,7 +90,7 @@ table_of (Some (Domain k)) = None
 table_of None = None
 
 -- an atom of a goal that is a walk
-pub walk_there : (goals : List Goal) (k : ℕ) (l : Literal) (p : Place) (t : Table) (q : Place) → slice_get goals k ≡ Some (Holds l) → l.atom ≡ Two p (Walk t) q → IsWalkOf goals k t
+pub walk_there : (goals : List Goal) (k : ℕ) (l : Literal) (p : Slot) (t : Table) (q : Slot) → slice_get goals k ≡ Some (Holds l) → l.atom ≡ Two p (Walk t) q → IsWalkOf goals k t
 walk_there goals k l p t q there is = (l.negated, p, q, there ∙ ap (λ a. Some (Holds (record { negated = l.negated; atom = a }))) is)
 
 pub same_walk : (goals : List Goal) (k : ℕ) (t t2 : Table) → IsWalkOf goals k t → IsWalkOf goals k t2 → t ≡ t2

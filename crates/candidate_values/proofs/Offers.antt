@@ -7,8 +7,8 @@ use Rattle.sd_value.specs.declared.Value.TheVariants.{Data}
 use Rattle.sd_value.specs.Ascending.{ListsExactly}
 use Rattle.sd_value.specs.Order.{bytes_cmp, value_cmp}
 use Rattle.graph_spec.specs.DataGraph.{DataGraph, node, text, HasEdge, IsLabelOf}
-use Rattle.condition_tests.specs.declared.literal.Place.{Place}
-use Rattle.condition_tests.specs.declared.literal.Place.TheVariants.{Variable}
+use Rattle.condition_tests.specs.declared.literal.Slot.{Slot}
+use Rattle.condition_tests.specs.declared.literal.Slot.TheVariants.{Variable}
 use Rattle.condition_tests.specs.declared.literal.Property.{Property}
 use Rattle.condition_tests.specs.declared.literal.Relation.{Relation}
 use Rattle.condition_tests.specs.declared.literal.Atom.{Atom}
@@ -80,7 +80,7 @@ module _ (G : DataGraph) (version : ℕ) where
       exact = λ yes t v c e a. sound (let same = h.same_exact in cc) t v (h.part.of_all v c) (subst (λ k. slice_get t k ≡ Some v) h.same_slot e) a;
     }
 
-    pub offer_after : (p : Place) (relation : Relation) (q : Place) (u : Value) (slot : ℕ) (all : List Value) (exact : Bool) (slot2 : ℕ) (values : List Value) (settled : Bool)
+    pub offer_after : (p : Slot) (relation : Relation) (q : Slot) (u : Value) (slot : ℕ) (all : List Value) (exact : Bool) (slot2 : ℕ) (values : List Value) (settled : Bool)
         → IsKnown p s u → q ≡ Variable slot → slice_get s slot ≡ Some None → Lists (Relates G version relation u) all exact → IsSettled G arcs slot all exact slot2 values settled
         → IsOffer G version arcs (Two p relation q) s slot2 values settled
     offer_after p relation q u slot all exact slot2 values settled hp hq free lists h =
@@ -92,7 +92,7 @@ module _ (G : DataGraph) (version : ℕ) where
         lists.complete v (subst (λ x. Relates G version relation x v) eu (subst (λ y. Relates G version relation holds.0 y) ev holds.4)))
         (λ yes t v c e a. (u, v, known_stands p t s u a hp, subst (λ r. Stands r t v) (sym hq) e, lists.sound yes v c))
 
-    pub offer_before : (p : Place) (relation : Relation) (q : Place) (v : Value) (slot : ℕ) (all : List Value) (exact : Bool) (slot2 : ℕ) (values : List Value) (settled : Bool)
+    pub offer_before : (p : Slot) (relation : Relation) (q : Slot) (v : Value) (slot : ℕ) (all : List Value) (exact : Bool) (slot2 : ℕ) (values : List Value) (settled : Bool)
         → IsKnown q s v → p ≡ Variable slot → slice_get s slot ≡ Some None → Lists (λ u. Relates G version relation u v) all exact → IsSettled G arcs slot all exact slot2 values settled
         → IsOffer G version arcs (Two p relation q) s slot2 values settled
     offer_before p relation q v slot all exact slot2 values settled hq hp free lists h =
@@ -104,7 +104,7 @@ module _ (G : DataGraph) (version : ℕ) where
         lists.complete u (subst (λ x. Relates G version relation x v) eu (subst (λ y. Relates G version relation holds.0 y) ev holds.4)))
         (λ yes t u c e a. (u, v, subst (λ r. Stands r t u) (sym hp) e, known_stands q t s v a hq, lists.sound yes u c))
 
-    pub offer_one : (p : Place) (property : Property) (slot : ℕ) (all : List Value) (exact : Bool) (slot2 : ℕ) (values : List Value) (settled : Bool)
+    pub offer_one : (p : Slot) (property : Property) (slot : ℕ) (all : List Value) (exact : Bool) (slot2 : ℕ) (values : List Value) (settled : Bool)
         → p ≡ Variable slot → slice_get s slot ≡ Some None → Lists (Has G version property) all exact → IsSettled G arcs slot all exact slot2 values settled
         → IsOffer G version arcs (One p property) s slot2 values settled
     offer_one p property slot all exact slot2 values settled hp free lists h =
@@ -116,7 +116,7 @@ module _ (G : DataGraph) (version : ℕ) where
         (λ yes t v c e a. (v, subst (λ r. Stands r t v) (sym hp) e, lists.sound yes v c))
 
     -- a label of an edge from u
-    pub offer_label_from : (p : Place) (k : ℕ) (q : Place) (u : Value) (steps : List Step) (labels : List Value) (slot2 : ℕ) (values : List Value) (settled : Bool)
+    pub offer_label_from : (p : Slot) (k : ℕ) (q : Slot) (u : Value) (steps : List Step) (labels : List Value) (slot2 : ℕ) (values : List Value) (settled : Bool)
         → IsKnown p s u → slice_get s k ≡ Some None → ListsExactly step_cmp (IsStepFrom G u) steps → ListsExactly value_cmp (Contains (map (λ x. text x.label) steps)) labels
         → IsSettled G arcs k labels false slot2 values settled → IsOffer G version arcs (Arc p k q) s slot2 values settled
     offer_label_from p k q u steps labels slot2 values settled hp free hs hl h =
@@ -127,7 +127,7 @@ module _ (G : DataGraph) (version : ℕ) where
         label_listed u l holds.2 steps labels hs hl (subst (λ x. HasArc G x l holds.2) eu (subst (λ y. HasArc G holds.0 y holds.2) el holds.6)))
         (λ yes. cc)
 
-    pub offer_label_to : (p : Place) (k : ℕ) (q : Place) (v : Value) (steps : List Step) (labels : List Value) (slot2 : ℕ) (values : List Value) (settled : Bool)
+    pub offer_label_to : (p : Slot) (k : ℕ) (q : Slot) (v : Value) (steps : List Step) (labels : List Value) (slot2 : ℕ) (values : List Value) (settled : Bool)
         → IsKnown q s v → slice_get s k ≡ Some None → ListsExactly step_cmp (IsStepTo G v) steps → ListsExactly value_cmp (Contains (map (λ x. text x.label) steps)) labels
         → IsSettled G arcs k labels false slot2 values settled → IsOffer G version arcs (Arc p k q) s slot2 values settled
     offer_label_to p k q v steps labels slot2 values settled hq free hs hl h =
@@ -138,7 +138,7 @@ module _ (G : DataGraph) (version : ℕ) where
         label_to_listed holds.0 l v steps labels hs hl (subst (λ z. HasArc G holds.0 l z) ev (subst (λ y. HasArc G holds.0 y holds.2) el holds.6)))
         (λ yes. cc)
 
-    pub offer_end : (p : Place) (k : ℕ) (q : Place) (u l : Value) (slot : ℕ) (all : List Value) (exact : Bool) (slot2 : ℕ) (values : List Value) (settled : Bool)
+    pub offer_end : (p : Slot) (k : ℕ) (q : Slot) (u l : Value) (slot : ℕ) (all : List Value) (exact : Bool) (slot2 : ℕ) (values : List Value) (settled : Bool)
         → IsKnown p s u → slice_get s k ≡ Some (Some l) → q ≡ Variable slot → slice_get s slot ≡ Some None → Lists (HasArc G u l) all exact
         → IsSettled G arcs slot all exact slot2 values settled → IsOffer G version arcs (Arc p k q) s slot2 values settled
     offer_end p k q u l slot all exact slot2 values settled hp hk hq free lists h =
@@ -151,7 +151,7 @@ module _ (G : DataGraph) (version : ℕ) where
         lists.complete v (subst (λ x. HasArc G x l v) eu (subst (λ y. HasArc G holds.0 y v) el (subst (λ z. HasArc G holds.0 holds.1 z) ev holds.6))))
         (λ yes t v c e a. (u, l, v, known_stands p t s u a hp, a.same k l hk, subst (λ r. Stands r t v) (sym hq) e, lists.sound yes v c))
 
-    pub offer_start : (p : Place) (k : ℕ) (q : Place) (l v : Value) (slot : ℕ) (all : List Value) (exact : Bool) (slot2 : ℕ) (values : List Value) (settled : Bool)
+    pub offer_start : (p : Slot) (k : ℕ) (q : Slot) (l v : Value) (slot : ℕ) (all : List Value) (exact : Bool) (slot2 : ℕ) (values : List Value) (settled : Bool)
         → IsKnown q s v → slice_get s k ≡ Some (Some l) → p ≡ Variable slot → slice_get s slot ≡ Some None → Lists (λ u. HasArc G u l v) all exact
         → IsSettled G arcs slot all exact slot2 values settled → IsOffer G version arcs (Arc p k q) s slot2 values settled
     offer_start p k q l v slot all exact slot2 values settled hq hk hp free lists h =
@@ -164,7 +164,7 @@ module _ (G : DataGraph) (version : ℕ) where
         lists.complete u (subst (λ x. HasArc G x l v) eu (subst (λ y. HasArc G holds.0 y v) el (subst (λ z. HasArc G holds.0 holds.1 z) ev holds.6))))
         (λ yes t u c e a. (u, l, v, subst (λ r. Stands r t u) (sym hp) e, a.same k l hk, known_stands q t s v a hq, lists.sound yes u c))
 
-    pub offer_starts : (p : Place) (name : List ℕ) (q : Place) (slot : ℕ) (edges : List GraphEdge) (starts : List Value) (slot2 : ℕ) (values : List Value) (settled : Bool)
+    pub offer_starts : (p : Slot) (name : List ℕ) (q : Slot) (slot : ℕ) (edges : List GraphEdge) (starts : List Value) (slot2 : ℕ) (values : List Value) (settled : Bool)
         → p ≡ Variable slot → slice_get s slot ≡ Some None → ListsExactly edge_cmp (IsLabelled G name) edges → ListsExactly value_cmp (Contains (map (λ e. node e.from) edges)) starts
         → IsSettled G arcs slot starts false slot2 values settled → IsOffer G version arcs (Two p (Edge name) q) s slot2 values settled
     offer_starts p name q slot edges starts slot2 values settled hp free hs he h =

@@ -12,7 +12,7 @@ use Rattle.automaton.specs.Table.{Table}
 use Rattle.walks.specs.declared.direction.Direction.{Direction}
 use Rattle.walks.specs.declared.direction.Direction.TheVariants.{Onward, Backward}
 use Rattle.walks.specs.Directions.{JoinsBy}
-use Rattle.condition_tests.specs.declared.literal.Place.{Place}
+use Rattle.condition_tests.specs.declared.literal.Slot.{Slot}
 use Rattle.condition_tests.specs.declared.literal.Relation.TheVariants.{Walk}
 use Rattle.condition_tests.specs.declared.literal.Atom.TheVariants.{Two}
 use Rattle.condition_tests.specs.declared.literal.Goal.{Goal}
@@ -22,7 +22,7 @@ use Rattle.candidate_values.specs.declared.reaches.Reaches.{Reaches}
 -- the goal of that number asks for a walk by the automaton, or for none
 abbrev pub IsWalkOf : List Goal → ℕ → Table → Type 0
 IsWalkOf goals k t =
-    (negated : Bool) × (p : Place) × (q : Place)
+    (negated : Bool) × (p : Slot) × (q : Slot)
     × (slice_get goals k ≡ Some (Holds (record { negated = negated; atom = Two p (Walk t) q })))
 
 -- keys are a goal's number and a value

@@ -13,7 +13,7 @@ ghost use Rattle.candidate_values.specs.Offers.{AreInGraph, IsListOf, IsPartOf, 
 use crate::domain::{candidates, domain};
 use crate::search::Search;
 use condition_tests::{
-    Atom, Place, Property, Relation, equals_of, equals_of_any, free_at, known, value_of,
+    Atom, Slot, Property, Relation, equals_of, equals_of_any, free_at, known, value_of,
 };
 use graph_spec::{Edge, Step};
 use query_spec::Op;
@@ -218,9 +218,9 @@ pub fn any<S: Store>(alloc: Global, search: &Search<S>, slot: usize) -> Result<O
 fn offer_after<S: Store>(
     alloc: Global,
     search: &Search<S>,
-    from: &Place,
+    from: &Slot,
     relation: &Relation,
-    to: &Place,
+    to: &Slot,
     current: &[Option<Value>],
 ) -> Result<Option<Offer>, NoMemory>
     requires as_long { length search.now.arcs.now ≡ length current.now }
@@ -248,9 +248,9 @@ fn offer_after<S: Store>(
 fn offer_before<S: Store>(
     alloc: Global,
     search: &Search<S>,
-    from: &Place,
+    from: &Slot,
     relation: &Relation,
-    to: &Place,
+    to: &Slot,
     current: &[Option<Value>],
 ) -> Result<Option<Offer>, NoMemory>
     requires as_long { length search.now.arcs.now ≡ length current.now }
@@ -313,7 +313,7 @@ fn property_values<S: Store>(
 fn offer_one<S: Store>(
     alloc: Global,
     search: &Search<S>,
-    place: &Place,
+    place: &Slot,
     property: &Property,
     slot: usize,
     current: &[Option<Value>],
@@ -341,9 +341,9 @@ fn offer_one<S: Store>(
 fn offer_starts<S: Store>(
     alloc: Global,
     search: &Search<S>,
-    from: &Place,
+    from: &Slot,
     relation: &Relation,
-    to: &Place,
+    to: &Slot,
     current: &[Option<Value>],
 ) -> Result<Option<Offer>, NoMemory>
     requires as_long { length search.now.arcs.now ≡ length current.now }
@@ -377,9 +377,9 @@ fn offer_starts<S: Store>(
 fn offer_two<S: Store>(
     alloc: Global,
     search: &Search<S>,
-    from: &Place,
+    from: &Slot,
     relation: &Relation,
-    to: &Place,
+    to: &Slot,
     slot: usize,
     current: &[Option<Value>],
 ) -> Result<Offer, NoMemory>
@@ -435,9 +435,9 @@ fn arc_ends<S: Store>(alloc: Global, store: &S, u: &Value, label: &Value) -> Res
 fn offer_arc_from<S: Store>(
     alloc: Global,
     search: &Search<S>,
-    from: &Place,
+    from: &Slot,
     arc: usize,
-    to: &Place,
+    to: &Slot,
     current: &[Option<Value>],
 ) -> Result<Option<Offer>, NoMemory>
     requires as_long { length search.now.arcs.now ≡ length current.now }
@@ -511,9 +511,9 @@ fn arc_starts<S: Store>(
 fn offer_arc_to<S: Store>(
     alloc: Global,
     search: &Search<S>,
-    from: &Place,
+    from: &Slot,
     arc: usize,
-    to: &Place,
+    to: &Slot,
     current: &[Option<Value>],
 ) -> Result<Option<Offer>, NoMemory>
     requires as_long { length search.now.arcs.now ≡ length current.now }
@@ -553,9 +553,9 @@ fn offer_arc_to<S: Store>(
 fn offer_arc<S: Store>(
     alloc: Global,
     search: &Search<S>,
-    from: &Place,
+    from: &Slot,
     arc: usize,
-    to: &Place,
+    to: &Slot,
     slot: usize,
     current: &[Option<Value>],
 ) -> Result<Offer, NoMemory>

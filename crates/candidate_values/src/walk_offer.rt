@@ -8,7 +8,7 @@ use crate::offer::{Ends, Offer, any, settle};
 use crate::reaches::Reaches;
 use crate::search::Search;
 use automaton::Automaton;
-use condition_tests::{Atom, Place, Relation, free_at, known};
+use condition_tests::{Atom, Slot, Relation, free_at, known};
 use sd_value::{NoMemory, Value};
 use std::alloc::Global;
 use store::Store;
@@ -17,9 +17,9 @@ use walks::Direction;
 /// A walk that a condition asks for between two places.
 #[derive(Drop)]
 pub struct WalkAtom<'a> {
-    pub from: &'a Place,
+    pub from: &'a Slot,
     pub automaton: &'a Automaton,
-    pub to: &'a Place,
+    pub to: &'a Slot,
 }
 
 /// The ends and the automaton of an atom that asks for a walk.
@@ -46,9 +46,9 @@ fn offer_ends<S: Store>(
     search: &Search<S>,
     kept: &mut Reaches,
     goal: usize,
-    from: &Place,
+    from: &Slot,
     automaton: &Automaton,
-    to: &Place,
+    to: &Slot,
     current: &[Option<Value>],
 ) -> Result<Option<Offer>, NoMemory>
     requires as_long { length search.now.arcs.now ≡ length current.now }
@@ -90,9 +90,9 @@ fn offer_starts<S: Store>(
     search: &Search<S>,
     kept: &mut Reaches,
     goal: usize,
-    from: &Place,
+    from: &Slot,
     automaton: &Automaton,
-    to: &Place,
+    to: &Slot,
     current: &[Option<Value>],
 ) -> Result<Option<Offer>, NoMemory>
     requires as_long { length search.now.arcs.now ≡ length current.now }
@@ -134,9 +134,9 @@ pub fn offer_walk<S: Store>(
     search: &Search<S>,
     kept: &mut Reaches,
     goal: usize,
-    from: &Place,
+    from: &Slot,
     automaton: &Automaton,
-    to: &Place,
+    to: &Slot,
     slot: usize,
     current: &[Option<Value>],
 ) -> Result<Offer, NoMemory>

@@ -10,9 +10,9 @@ use Rattle.constraint_spec.specs.declared.Constraint.{Constraint}
 use Rattle.constraint_spec.specs.Meets.{Meets}
 use Rattle.counterexample_spec.specs.First.{IsFirstBroken}
 use Rattle.constraint_prover.proofs.Zipped.{zip_more}
-use Rattle.command_check.specs.Told.{Finding}
+use Rattle.command_check.specs.Told.{CheckAnswer}
 use Rattle.command_check.specs.Written.{found_in}
-use Rattle.command_check.specs.declared.finding.Finding.{Finding as Kept}
+use Rattle.command_check.specs.declared.finding.CheckAnswer.{CheckAnswer as Kept}
 
 -- a candidate that is found is a counterexample
 pub no_holds : (q : Scope) (c : Constraint) (G : DataGraph) → IsFirstBroken q c (Some G) → ¬ Meets G q c
@@ -26,11 +26,11 @@ zip_at R (a ∷ xs) (b ∷ ys) zero x y h l e f = subst (λ z. R z y) (sym e) (s
 zip_at R (a ∷ xs) (b ∷ ys) (suc i) x y h l e f = zip_at R xs ys i x y h.1 (omega (arith, l)) e f
 
 -- one more that is found
-pub found_more : (R : Constraint → Finding → Type 0) (cs : List Constraint) (i : ℕ) (c : Constraint) (old new : List Kept) (f : Kept) → i < length cs → c ≡ get_or cs i c → new ≡ old ++ f ∷ [] → AllZip R (take i cs) (map found_in old) → R c (found_in f)
+pub found_more : (R : Constraint → CheckAnswer → Type 0) (cs : List Constraint) (i : ℕ) (c : Constraint) (old new : List Kept) (f : Kept) → i < length cs → c ≡ get_or cs i c → new ≡ old ++ f ∷ [] → AllZip R (take i cs) (map found_in old) → R c (found_in f)
     → AllZip R (take (i + 1) cs) (map found_in new)
 found_more R cs i c old new f l at longer h r =
     zip_more R cs i c (map found_in old) (map found_in new) (found_in f) l at (ap (map found_in) longer ∙ map-append found_in old (f ∷ [])) h r
 
 -- all are found
-pub found_all : (R : Constraint → Finding → Type 0) (cs : List Constraint) (i : ℕ) (fs : List Finding) → length cs ≤ i → AllZip R (take i cs) fs → AllZip R cs fs
+pub found_all : (R : Constraint → CheckAnswer → Type 0) (cs : List Constraint) (i : ℕ) (fs : List CheckAnswer) → length cs ≤ i → AllZip R (take i cs) fs → AllZip R cs fs
 found_all R cs i fs l h = subst (λ (z : List Constraint). AllZip R z fs) (take_all i cs l) h

@@ -13,9 +13,9 @@ use Rattle.query_blocks.specs.Blocks.{body_of, scope_of}
 use Rattle.schema.proofs.PathLists.{paths_length}
 use Rattle.constraint_spec.specs.declared.Constraint.{Constraint}
 use Rattle.certificate_text.specs.Written.{yes_text_by}
-use Rattle.command_check.specs.Told.{Finding, yes, no, unknown, lines_of, finding_lines}
+use Rattle.command_check.specs.Told.{CheckAnswer, yes, no, unknown, lines_of, finding_lines}
 use Rattle.command_check.specs.Written.{found_in, text_by}
-use Rattle.command_check.specs.declared.finding.Finding.{Finding as Kept}
+use Rattle.command_check.specs.declared.finding.CheckAnswer.{CheckAnswer as Kept}
 
 -- the paths are the query's
 pub paths_are : (paths : List (List ℕ)) (q : Query) (w : declared.Query) (bs : List Block) → paths ≡ paths_from [] 1 (blocks_of bs) → bs ≡ w.blocks.items → query_of w ≡ q → paths ≡ paths_from [] 1 q.blocks
@@ -28,13 +28,13 @@ one_path_each q paths s e f =
     ap length e ∙ (paths_length [] 1 [] q.blocks ∙ (sym (ap length bodies) ∙ length-map s.blocks.items body_of))
 
 -- the lines by what the engine keeps of the query
-same_lines : (q : Query) (s : QueryBlocks) (paths : List (List ℕ)) (number : ℕ) (c : Constraint) (f : Finding) → paths ≡ paths_from [] 1 q.blocks → scope_of s ≡ scope_of_query q → text_by s.version paths (scope_of s).bodies number c f ≡ lines_of q number c f
+same_lines : (q : Query) (s : QueryBlocks) (paths : List (List ℕ)) (number : ℕ) (c : Constraint) (f : CheckAnswer) → paths ≡ paths_from [] 1 q.blocks → scope_of s ≡ scope_of_query q → text_by s.version paths (scope_of s).bodies number c f ≡ lines_of q number c f
 same_lines q s paths number c (yes x) e same =
     ap (λ (z : Scope). yes_text_by z.version paths z.bodies number c x) same ∙ ap (λ (ps : List (List ℕ)). yes_text_by q.version ps (blocks_in_scope q) number c x) e
 same_lines q s paths number c (no G) e same = refl
 same_lines q s paths number c unknown e same = refl
 
-lines_push : (q : Query) (k : ℕ) (cs : List Constraint) (fs : List Finding) (c : Constraint) (f : Finding) → length fs ≡ length cs
+lines_push : (q : Query) (k : ℕ) (cs : List Constraint) (fs : List CheckAnswer) (c : Constraint) (f : CheckAnswer) → length fs ≡ length cs
     → finding_lines q k (cs ++ c ∷ []) (fs ++ f ∷ []) ≡ finding_lines q k cs fs ++ lines_of q (k + length cs) c f
 lines_push q k [] [] c f e =
     let here : k ≡ k + 0 = omega arith in
@@ -69,7 +69,7 @@ lines_more q s paths e f cs vs i number c v old new same l n at at2 before longe
     ∙ ap (λ (z : List ℕ). finding_lines q 1 (take i cs) (map found_in (take i vs)) ++ z) (same_lines q s paths number c (found_in v) e f ∙ ap (λ (m : ℕ). lines_of q m c (found_in v)) here)
     ∙ sym (lines_push q 1 (take i cs) (map found_in (take i vs)) c (found_in v) (long2 ∙ sym long))
     ∙ ap (λ (z : List Constraint). finding_lines q 1 z (map found_in (take i vs) ++ found_in v ∷ [])) (sym front)
-    ∙ ap (λ (z : List Finding). finding_lines q 1 (take (i + 1) cs) z) (sym front2)
+    ∙ ap (λ (z : List CheckAnswer). finding_lines q 1 (take (i + 1) cs) z) (sym front2)
 
 -- its end
 pub lines_all : (q : Query) (cs : List Constraint) (vs : List Kept) (i : ℕ) (text : List ℕ) → length vs ≡ length cs → length cs ≤ i → text ≡ finding_lines q 1 (take i cs) (map found_in (take i vs)) → text ≡ finding_lines q 1 cs (map found_in vs)

@@ -15,7 +15,7 @@ use Rattle.run_report.specs.declared.status.Place.TheVariants.{At}
 use Rattle.site_inputs.specs.declared.fault.Fault.{Fault}
 use Rattle.site_inputs.specs.declared.fault.Fault.TheVariants.{Refused, Unread, Faulty, NotFound, NoMemory}
 use Rattle.site_inputs.specs.declared.fault.Refusal.{Refusal}
-use Rattle.site_inputs.specs.declared.told.Told.{Told}
+use Rattle.site_inputs.specs.declared.told.NumberedFault.{NumberedFault}
 use Rattle.site_inputs.specs.Runs.{FileEnds, IsDecided, Decides}
 use Rattle.site_inputs.proofs.Decided.{then_decides}
 use Rattle.site_inputs.proofs.DecidedInputs.{file_decides}
@@ -59,10 +59,10 @@ err_is A E e f same = cc
 no_err : (A E : Type 0) (a : A) (e : E) → ◌≡◌ {A = Result A E} (Ok a) (Err e) → ⊥
 no_err A E a e same = cc
 
-some_is : (a b : Told) → ◌≡◌ {A = Option Told} (Some a) (Some b) → a ≡ b
+some_is : (a b : NumberedFault) → ◌≡◌ {A = Option NumberedFault} (Some a) (Some b) → a ≡ b
 some_is a b same = cc
 
-settled : (e : ConstraintRefusal) (told : Told) → constraints_told e ≡ Some told → IsSettled (Err e)
+settled : (e : ConstraintRefusal) (told : NumberedFault) → constraints_told e ≡ Some told → IsSettled (Err e)
 settled (constraints.Text (text.TooLong at)) told h = tt
 settled (constraints.Text (text.BadByte at)) told h = tt
 settled (constraints.Text (text.OpenString at)) told h = tt
@@ -73,7 +73,7 @@ settled (constraints.RootHasArguments at) told h = tt
 settled (constraints.Text text.NoMemory) told h = absurd cc
 
 module _ (query : Query) (path bytes : List ℕ) where
-  abbrev refusal_of : Told → Refusal
+  abbrev refusal_of : NumberedFault → Refusal
   refusal_of told = record { file = path; number = told.number; place = At told.at }
 
   constraints_once : (one other : Result (List Constraint) Fault) → ConstraintsTaken query path bytes one → ConstraintsTaken query path bytes other → IsDecided one → IsDecided other → one ≡ other

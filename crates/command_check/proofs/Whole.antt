@@ -6,7 +6,7 @@ use Rattle.std.proofs.lemmas.List.Elements.{All-nil, All-cons, All-head, All-tai
 use Rattle.query_spec.specs.Query.{Query}
 use Rattle.site_spec.specs.Site.{scope_of}
 use Rattle.constraint_spec.specs.declared.Constraint.{Constraint}
-use Rattle.command_check.specs.Told.{Finding, yes, no, unknown, is_yes, IsFinding, HoldsOfSites}
+use Rattle.command_check.specs.Told.{CheckAnswer, yes, no, unknown, is_yes, IsCheckAnswer, HoldsOfSites}
 use Rattle.command_check.specs.Told.{HasCertificate, IsMetOverAll, AreTold}
 
 -- lists that belong together are of one length
@@ -17,7 +17,7 @@ zip_length R (a ∷ xs) [] h = absurd h
 zip_length R (a ∷ xs) (b ∷ ys) h = ap suc (zip_length R xs ys h.1)
 
 module _ (q : Query) where
-  all_shown : (cs : List Constraint) (fs : List Finding) → AllZip (IsFinding (scope_of q)) cs fs → IsTrue (list_all is_yes fs) → All (HasCertificate q) cs
+  all_shown : (cs : List Constraint) (fs : List CheckAnswer) → AllZip (IsCheckAnswer (scope_of q)) cs fs → IsTrue (list_all is_yes fs) → All (HasCertificate q) cs
   all_shown [] [] h t = All-nil (HasCertificate q)
   all_shown [] (f ∷ fs) h t = absurd h
   all_shown (c ∷ cs) [] h t = absurd h
@@ -25,7 +25,7 @@ module _ (q : Query) where
   all_shown (c ∷ cs) (no G ∷ fs) h t = (let f : false ≡ true = t in let none : ⊥ = cc in absurd none)
   all_shown (c ∷ cs) (unknown ∷ fs) h t = (let f : false ≡ true = t in let none : ⊥ = cc in absurd none)
 
-  all_answered : (cs : List Constraint) (fs : List Finding) → AllZip (IsFinding (scope_of q)) cs fs → All (HasCertificate q) cs → IsTrue (list_all is_yes fs)
+  all_answered : (cs : List Constraint) (fs : List CheckAnswer) → AllZip (IsCheckAnswer (scope_of q)) cs fs → All (HasCertificate q) cs → IsTrue (list_all is_yes fs)
   all_answered [] [] h t = refl
   all_answered [] (f ∷ fs) h t = absurd h
   all_answered (c ∷ cs) [] h t = absurd h
@@ -37,7 +37,7 @@ module _ (q : Query) where
       let shown = All-head (HasCertificate q) c cs t in
       absurd (h.0.0 shown.0 shown.1)
 
-  all_met : (cs : List Constraint) (fs : List Finding) → AllZip (HoldsOfSites (scope_of q)) cs fs → IsTrue (list_all is_yes fs) → All (IsMetOverAll q) cs
+  all_met : (cs : List Constraint) (fs : List CheckAnswer) → AllZip (HoldsOfSites (scope_of q)) cs fs → IsTrue (list_all is_yes fs) → All (IsMetOverAll q) cs
   all_met [] [] h t = All-nil (IsMetOverAll q)
   all_met [] (f ∷ fs) h t = absurd h
   all_met (c ∷ cs) [] h t = absurd h

@@ -11,12 +11,12 @@ use Rattle.constraints.specs.Constraints.{Reads}
 use Rattle.run_report.specs.declared.status.Place.TheVariants.{At}
 use Rattle.site_inputs.specs.declared.fault.Fault.{Fault}
 use Rattle.site_inputs.specs.declared.fault.Fault.TheVariants.{Refused, NoMemory}
-use Rattle.site_inputs.specs.declared.told.Told.{Told}
+use Rattle.site_inputs.specs.declared.told.NumberedFault.{NumberedFault}
 use Rattle.site_inputs.specs.Runs.{Then, FileEnds}
 use Rattle.site_inputs.specs.Sites.{text_told}
 
 -- the number and the place of a refused text of constraints; none where it was out of memory
-abbrev pub constraints_told : ConstraintRefusal → Option Told
+abbrev pub constraints_told : ConstraintRefusal → Option NumberedFault
 constraints_told (constraints.Text refusal) = text_told 101 refusal
 constraints_told (constraints.UnknownFunction at) = Some (record { number = 102; at = at })
 constraints_told (constraints.RootHasArguments at) = Some (record { number = 103; at = at })
@@ -25,7 +25,7 @@ constraints_told (constraints.RootHasArguments at) = Some (record { number = 103
 abbrev pub ConstraintsTaken : Query → List ℕ → List ℕ → Result (List Constraint) Fault → Type 0
 ConstraintsTaken query path bytes (Ok found) = Reads query text_limit bytes (Ok found)
 ConstraintsTaken query path bytes (Err (Refused refusal)) =
-    (told : Told) × (refusal ≡ record { file = path; number = told.number; place = At told.at })
+    (told : NumberedFault) × (refusal ≡ record { file = path; number = told.number; place = At told.at })
     × (e : ConstraintRefusal) × Reads query text_limit bytes (Err e)
     × (constraints_told e ≡ Some told)
 ConstraintsTaken query path bytes (Err NoMemory) = ⊤

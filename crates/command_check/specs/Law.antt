@@ -6,7 +6,7 @@ use Rattle.edge_io.specs.Sink.{Gains}
 use Rattle.query_spec.specs.Query as plain
 use Rattle.site_spec.specs.Site.{scope_of}
 use Rattle.constraint_spec.specs.declared.Constraint.{Constraint}
-use Rattle.command_check.specs.Told.{Finding, finding_lines, HoldsOfSites, HasCertificate, IsMetOverAll}
+use Rattle.command_check.specs.Told.{CheckAnswer, finding_lines, HoldsOfSites, HasCertificate, IsMetOverAll}
 use Rattle.run_report.specs.declared.status.Status.{Status}
 use Rattle.run_report.specs.declared.status.Status.TheVariants as status
 use Rattle.site_inputs.specs.declared.fault.Fault.{Fault}
@@ -42,7 +42,7 @@ module _ (map : FileMap) (query_path constraints_path : List ℕ) where
     pub query : plain.Query
     pub constraints : List Constraint
     pub inputs : AreInputs query constraints
-    pub findings : List Finding
+    pub findings : List CheckAnswer
     pub gained : Gains old new (finding_lines query 1 constraints findings)
     pub holds : AllZip (HoldsOfSites (scope_of query)) constraints findings
     pub all_hold : reached ≡ status.Ok → All (IsMetOverAll query) constraints

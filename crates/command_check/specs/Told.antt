@@ -18,10 +18,10 @@ use Rattle.certificate_text.specs.Lines.{yes_text, unknown_text}
 -- ---- what is found of a constraint
 
 -- a certificate, a data graph whose site breaks it, or neither
-pub data Finding : Type 0 where
-  yes : Certificate → Finding
-  no : DataGraph → Finding
-  unknown : Finding
+pub data CheckAnswer : Type 0 where
+  yes : Certificate → CheckAnswer
+  no : DataGraph → CheckAnswer
+  unknown : CheckAnswer
 
 -- no certificate shows the constraint
 abbrev pub HasNoCertificate : Scope → Constraint → Type 0
@@ -29,20 +29,20 @@ HasNoCertificate q c = (x : Certificate) → IsCertificate q c x → ⊥
 
 -- A certificate of the constraint. Where it has none, the first candidate whose site breaks it, and
 -- unknown where there is no such candidate.
-abbrev pub IsFinding : Scope → Constraint → Finding → Type 0
-IsFinding q c (yes x) = IsCertificate q c x
-IsFinding q c (no G) = HasNoCertificate q c × IsFirstBroken q c (Some G)
-IsFinding q c unknown = HasNoCertificate q c × IsFirstBroken q c None
+abbrev pub IsCheckAnswer : Scope → Constraint → CheckAnswer → Type 0
+IsCheckAnswer q c (yes x) = IsCertificate q c x
+IsCheckAnswer q c (no G) = HasNoCertificate q c × IsFirstBroken q c (Some G)
+IsCheckAnswer q c unknown = HasNoCertificate q c × IsFirstBroken q c None
 
 -- At a yes, the query's site over every data graph meets the constraint. At a no, its site over the
 -- graph that is found doesn't.
-abbrev pub HoldsOfSites : Scope → Constraint → Finding → Type 0
+abbrev pub HoldsOfSites : Scope → Constraint → CheckAnswer → Type 0
 HoldsOfSites q c (yes x) = (G : DataGraph) → Meets G q c
 HoldsOfSites q c (no G) = ¬ Meets G q c
 HoldsOfSites q c unknown = ⊤
 
 -- whether it is a certificate
-abbrev pub is_yes : Finding → Bool
+abbrev pub is_yes : CheckAnswer → Bool
 is_yes (yes x) = true
 is_yes (no G) = false
 is_yes unknown = false
@@ -61,13 +61,13 @@ abbrev pub no_text : ℕ → DataGraph → List ℕ
 no_text number G = decimal number ++ codes " no\n" ++ indented true (graph_text G)
 
 -- the lines of the constraint of this number
-abbrev pub lines_of : Query → ℕ → Constraint → Finding → List ℕ
+abbrev pub lines_of : Query → ℕ → Constraint → CheckAnswer → List ℕ
 lines_of q number c (yes x) = yes_text q number c x
 lines_of q number c (no G) = no_text number G
 lines_of q number c unknown = unknown_text number
 
 -- the lines of these constraints, the first of which has this number
-abbrev pub finding_lines : Query → ℕ → List Constraint → List Finding → List ℕ
+abbrev pub finding_lines : Query → ℕ → List Constraint → List CheckAnswer → List ℕ
 finding_lines q number (c ∷ cs) (f ∷ fs) =
     lines_of q number c f ++ finding_lines q (suc number) cs fs
 finding_lines q number cs fs = []
@@ -78,8 +78,8 @@ finding_lines q number cs fs = []
 -- each has a certificate. What is found holds of the query's sites.
 pub record AreTold (q : Query) (constraints : List Constraint) (text : List ℕ) (all_yes : Bool)
     : Type 0 where
-  pub findings : List Finding
-  pub exact : AllZip (IsFinding (scope_of q)) constraints findings
+  pub findings : List CheckAnswer
+  pub exact : AllZip (IsCheckAnswer (scope_of q)) constraints findings
   pub holds : AllZip (HoldsOfSites (scope_of q)) constraints findings
   pub told : text ≡ finding_lines q 1 constraints findings
   pub all : all_yes ≡ list_all is_yes findings

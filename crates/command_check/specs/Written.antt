@@ -6,18 +6,18 @@ use Rattle.certificate_text.specs.Lines.{unknown_text}
 use Rattle.certificate_text.specs.Written.{yes_text_by}
 use Rattle.command_check.specs.Told as plain
 use Rattle.command_check.specs.Told.{no_text}
-use Rattle.command_check.specs.declared.finding.Finding.{Finding}
-use Rattle.command_check.specs.declared.finding.Finding.TheVariants.{Yes, No, Unknown}
+use Rattle.command_check.specs.declared.finding.CheckAnswer.{CheckAnswer}
+use Rattle.command_check.specs.declared.finding.CheckAnswer.TheVariants.{Yes, No, Unknown}
 
 -- what is found
-abbrev pub found_in : Finding → plain.Finding
+abbrev pub found_in : CheckAnswer → plain.CheckAnswer
 found_in (Yes x) = plain.yes x.now
 found_in (No G) = plain.no G
 found_in Unknown = plain.unknown
 
 -- its lines on a query's blocks with these paths
 abbrev pub text_by
-    : ℕ → List (List ℕ) → List Body → ℕ → Constraint → plain.Finding → List ℕ
+    : ℕ → List (List ℕ) → List Body → ℕ → Constraint → plain.CheckAnswer → List ℕ
 text_by version paths bodies number c (plain.yes x) =
     yes_text_by version paths bodies number c x
 text_by version paths bodies number c (plain.no G) = no_text number G

@@ -12,14 +12,14 @@ use crate::verdicts::verdicts_of;
 use edge_io::Files;
 use sd_value::Str;
 use site_inputs::{Fault, load_query};
-use crate::site_trial::SiteTrial;
+use crate::site_oracle::SiteOracle;
 use std::alloc::Global;
 use struql_check::Checked;
 
 fn verdicts_on(alloc: Global, query: &Checked, constraints: &[Constraint]) -> Result<Report, Fault>
     ensures { VerdictsTaken query.now constraints.now result }
 {
-    let mut trial = SiteTrial::of(alloc, query)?;
+    let mut trial = SiteOracle::of(alloc, query)?;
     let verdicts = verdicts_of(alloc, query, constraints, &mut trial)?;
     Ok(Report {
         text: verdicts.text,

@@ -11,21 +11,21 @@ use constraints::{ConstraintRefusal, parse_constraints};
 use edge_io::Files;
 use run_report::Place;
 use sd_value::Str;
-use site_inputs::{Fault, Told, read_file, refused, told_of_text};
+use site_inputs::{Fault, NumberedFault, read_file, refused, told_of_text};
 use std::alloc::Global;
 use struql_check::Checked;
 
 // What a refused text of constraints reports; none where it was out of memory.
-fn told_of_constraints(refusal: &ConstraintRefusal) -> Option<Told>
+fn told_of_constraints(refusal: &ConstraintRefusal) -> Option<NumberedFault>
     ensures { result ≡ constraints_told refusal.now }
 {
     match refusal {
         ConstraintRefusal::Text(refusal) => told_of_text(refusal, 101),
-        ConstraintRefusal::UnknownFunction(at) => Some(Told {
+        ConstraintRefusal::UnknownFunction(at) => Some(NumberedFault {
             number: 102,
             at: *at,
         }),
-        ConstraintRefusal::RootHasArguments(at) => Some(Told {
+        ConstraintRefusal::RootHasArguments(at) => Some(NumberedFault {
             number: 103,
             at: *at,
         }),

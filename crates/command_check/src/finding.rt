@@ -3,11 +3,11 @@ ghost use Rattle.std.specs.Prelude.{◌≡◌, IfOk, length, map};
 ghost use Rattle.std.specs.List.{AllZip};
 ghost use Rattle.site_spec.specs.Site.{scope_of};
 ghost use Rattle.constraint_prover.specs.Verdicts.{IsVerdict, HoldsOverAll};
-ghost use Rattle.command_check.specs.Told.{IsFinding, HoldsOfSites};
+ghost use Rattle.command_check.specs.Told.{IsCheckAnswer, HoldsOfSites};
 ghost use Rattle.command_check.specs.Written.{found_in};
 
 use constraint_spec::{Certificate, Constraint, Verdict};
-use refute_site::{Trial, first_broken};
+use refute_site::{Oracle, first_broken};
 use sd_graph::Graph;
 use sd_value::NoMemory;
 use std::alloc::Global;
@@ -15,7 +15,7 @@ use struql_check::Checked;
 
 /// What is found of a constraint.
 #[derive(Drop)]
-pub(crate) enum Finding<'a> {
+pub(crate) enum CheckAnswer<'a> {
     /// A certificate: the query's site over every data graph meets the constraint.
     Yes(&'a Certificate),
     /// A data graph over which the query's site breaks it.
@@ -25,28 +25,28 @@ pub(crate) enum Finding<'a> {
 }
 
 // What is found of the constraint, on which this is the prover's verdict.
-fn find<'a, T: Trial>(
+fn find<'a, T: Oracle>(
     alloc: Global,
     query: &Checked,
     constraint: &Constraint,
     verdict: &'a Verdict,
     trial: &mut T,
-) -> Result<Finding<'a>, NoMemory>
+) -> Result<CheckAnswer<'a>, NoMemory>
     requires own { T.Own trial.old }
     requires scope { T.scope trial.old ≡ scope_of query.now }
     requires exact { IsVerdict (scope_of query.now) constraint.now verdict.now }
     requires holds { HoldsOverAll (scope_of query.now) constraint.now verdict.now }
     ensures own { T.Own trial.new }
     ensures scope { T.scope trial.new ≡ T.scope trial.old }
-    ensures exact { IfOk result (λ f. IsFinding (scope_of query.now) constraint.now (found_in f)) }
+    ensures exact { IfOk result (λ f. IsCheckAnswer (scope_of query.now) constraint.now (found_in f)) }
     ensures holds { IfOk result
         (λ f. HoldsOfSites (scope_of query.now) constraint.now (found_in f)) }
 {
     match verdict {
-        Verdict::Yes(certificate) => Ok(Finding::Yes(certificate)),
+        Verdict::Yes(certificate) => Ok(CheckAnswer::Yes(certificate)),
         Verdict::Unknown => match first_broken(alloc, query, constraint, trial)? {
-            Some(graph) => Ok(Finding::No(graph)),
-            None => Ok(Finding::Unknown),
+            Some(graph) => Ok(CheckAnswer::No(graph)),
+            None => Ok(CheckAnswer::Unknown),
         },
     }
 }
@@ -54,13 +54,13 @@ fn find<'a, T: Trial>(
 /// What is found of each of the constraints, on which these are the prover's verdicts.
 /// # Errors
 /// Out of memory.
-pub(crate) fn find_all<'a, T: Trial>(
+pub(crate) fn find_all<'a, T: Oracle>(
     alloc: Global,
     query: &Checked,
     constraints: &[Constraint],
     verdicts: &'a [Verdict],
     trial: &mut T,
-) -> Result<Vec<Finding<'a>>, NoMemory>
+) -> Result<Vec<CheckAnswer<'a>>, NoMemory>
     requires own { T.Own trial.old }
     requires scope { T.scope trial.old ≡ scope_of query.now }
     requires exact { AllZip (IsVerdict (scope_of query.now)) constraints.now verdicts.now }
@@ -68,7 +68,7 @@ pub(crate) fn find_all<'a, T: Trial>(
     ensures own { T.Own trial.new }
     ensures scope { T.scope trial.new ≡ T.scope trial.old }
     ensures exact { IfOk result (λ found.
-        AllZip (IsFinding (scope_of query.now)) constraints.now (map found_in found.items)) }
+        AllZip (IsCheckAnswer (scope_of query.now)) constraints.now (map found_in found.items)) }
     ensures holds { IfOk result (λ found.
         AllZip (HoldsOfSites (scope_of query.now)) constraints.now (map found_in found.items)) }
 {

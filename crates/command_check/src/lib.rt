@@ -8,7 +8,7 @@ mod finding;
 mod here;
 mod laws;
 mod lines;
-mod site_trial;
+mod site_oracle;
 mod verdict_laws;
 mod verdicts;
 
@@ -17,4 +17,4 @@ pub use constraint_file::load_constraints;
 pub use here::check_here;
 pub use laws::{answers_are_decided, reports_are_decided};
 pub use verdicts::{Verdicts, verdicts_of};
-pub use site_trial::SiteTrial;
+pub use site_oracle::SiteOracle;

@@ -4,7 +4,7 @@ ghost use Rattle.query_blocks.specs.Blocks.{scope_of, AreCheckedBlocks};
 ghost use Rattle.command_check.specs.Told.{finding_lines, indented, no_text};
 ghost use Rattle.command_check.specs.Written.{found_in, text_by};
 
-use crate::finding::Finding;
+use crate::finding::CheckAnswer;
 use schema::paths_of;
 use certificate_text::{print_unknown, print_yes};
 use constraint_spec::Constraint;
@@ -51,7 +51,7 @@ fn print_finding(
     paths: &[Str],
     number: usize,
     constraint: &Constraint,
-    finding: &Finding,
+    finding: &CheckAnswer,
     out: &mut Vec<u8>,
 ) -> Result<(), NoMemory>
     requires paths { length paths.now ≡ length blocks.now.blocks.items }
@@ -61,11 +61,11 @@ fn print_finding(
         constraint.now (found_in finding.now)) }
 {
     match finding {
-        Finding::Yes(certificate) => {
+        CheckAnswer::Yes(certificate) => {
             print_yes(alloc, blocks, paths, number, constraint, certificate, out)
         }
-        Finding::No(graph) => print_no(alloc, number, graph, out),
-        Finding::Unknown => print_unknown(number, out),
+        CheckAnswer::No(graph) => print_no(alloc, number, graph, out),
+        CheckAnswer::Unknown => print_unknown(number, out),
     }
 }
 
@@ -76,7 +76,7 @@ pub(crate) fn lines_of(
     alloc: Global,
     query: &Checked,
     constraints: &[Constraint],
-    findings: &[Finding],
+    findings: &[CheckAnswer],
 ) -> Result<Vec<u8>, NoMemory>
     requires { length findings.now ≡ length constraints.now }
     ensures { IfOk result (λ text. text.items

@@ -5,11 +5,11 @@ ghost use Rattle.site_spec.specs.Site.{scope_of};
 ghost use Rattle.command_check.specs.Told.{is_yes as yes_of, AreTold};
 ghost use Rattle.command_check.specs.Written.{found_in};
 
-use crate::finding::{Finding, find_all};
+use crate::finding::{CheckAnswer, find_all};
 use crate::lines::lines_of;
 use constraint_prover::prove_all;
 use constraint_spec::Constraint;
-use refute_site::Trial;
+use refute_site::Oracle;
 use sd_value::{NoMemory, Str};
 use std::alloc::Global;
 use struql_check::Checked;
@@ -21,17 +21,17 @@ pub struct Verdicts {
     pub all_yes: bool,
 }
 
-fn is_yes(finding: &Finding) -> bool
+fn is_yes(finding: &CheckAnswer) -> bool
     ensures { result ≡ yes_of (found_in finding.now) }
 {
     match finding {
-        Finding::Yes(_) => true,
-        Finding::No(_) => false,
-        Finding::Unknown => false,
+        CheckAnswer::Yes(_) => true,
+        CheckAnswer::No(_) => false,
+        CheckAnswer::Unknown => false,
     }
 }
 
-fn are_all_yes(findings: &[Finding]) -> bool
+fn are_all_yes(findings: &[CheckAnswer]) -> bool
     ensures { result ≡ list_all (λ finding. yes_of (found_in finding)) findings.now }
 {
     findings.iter().all(|finding| is_yes(finding))
@@ -43,7 +43,7 @@ fn are_all_yes(findings: &[Finding]) -> bool
 /// And whether all of them have a certificate. The trial is one of the query.
 /// # Errors
 /// Out of memory.
-pub fn verdicts_of<T: Trial>(
+pub fn verdicts_of<T: Oracle>(
     alloc: Global,
     query: &Checked,
     constraints: &[Constraint],

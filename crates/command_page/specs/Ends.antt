@@ -22,7 +22,7 @@ answer_of t (outcome.Cyclic value) = Err (Faulty t (Cyclic value))
 answer_of t outcome.TooLong = Err (Faulty t TooLong)
 
 -- the term that the address names has this answer
-pub record IsAnswer (s : Inputs) (address : List ℕ) (answer : Result (List ℕ) Fault) : Type 0 where
+pub record IsPageAnswer (s : Inputs) (address : List ℕ) (answer : Result (List ℕ) Fault) : Type 0 where
   pub term : Term
   pub named : TermOf (root_function s.query) address term
   pub its : Outcome
@@ -38,7 +38,7 @@ pub record IsNoTerm (s : Inputs) (address : List ℕ) (answer : Result (List ℕ
 -- out.
 abbrev pub PageTaken : Inputs → List ℕ → Result (List ℕ) Fault → Type 0
 PageTaken s address answer =
-    IsAnswer s address answer ⊎ (IsNoTerm s address answer ⊎ (answer ≡ Err NoMemory))
+    IsPageAnswer s address answer ⊎ (IsNoTerm s address answer ⊎ (answer ≡ Err NoMemory))
 
 -- How the command ends: the inputs are read, and then the page is taken from their site.
 abbrev pub PageEnds : FileMap → PageCommand → Result (List ℕ) Fault → Type 0

@@ -16,8 +16,8 @@ use Rattle.script_reader.proofs.Once.{one_answer}
 use Rattle.site_inputs.specs.declared.fault.Fault.{Fault}
 use Rattle.site_inputs.specs.declared.fault.Fault.TheVariants.{Refused, Unread, Faulty, NotFound, NoMemory}
 use Rattle.site_inputs.specs.declared.fault.Refusal.{Refusal}
-use Rattle.site_inputs.specs.declared.told.Told.{Told}
-use Rattle.site_inputs.specs.Runs.{Then, Gives, FileEnds, IsDecided, IsDecidedFault, Decides}
+use Rattle.site_inputs.specs.declared.told.NumberedFault.{NumberedFault}
+use Rattle.site_inputs.specs.Runs.{Then, EndsWith, FileEnds, IsDecided, IsDecidedFault, Decides}
 use Rattle.site_inputs.specs.Sites.{Inputs, InputsEnd}
 use Rattle.site_inputs.specs.Statuses.{ReadRose, status_of}
 use Rattle.site_inputs.proofs.Decided.{then_decides, gives_decides}
@@ -33,7 +33,7 @@ use Rattle.site_serving.proofs.TurnsLeft.{turns_left}
 
 -- ---- a script's bytes decide how it ends
 
-told_settled : (e : TextRefusal) (told : Told) → script_told e ≡ Some told → IsSettled (Err e)
+told_settled : (e : TextRefusal) (told : NumberedFault) → script_told e ≡ Some told → IsSettled (Err e)
 told_settled (script.TooLong at) told h = tt
 told_settled (script.BadByte at) told h = tt
 told_settled (script.OpenString at) told h = tt
@@ -41,7 +41,7 @@ told_settled (script.IntOutOfRange at) told h = tt
 told_settled (script.Expected at) told h = tt
 told_settled script.NoMemory told h = (let same = h in cc)
 
-same_told : (e f : TextRefusal) (told other : Told) → e ≡ f → script_told e ≡ Some told → script_told f ≡ Some other → told ≡ other
+same_told : (e f : TextRefusal) (told other : NumberedFault) → e ≡ f → script_told e ≡ Some told → script_told f ≡ Some other → told ≡ other
 same_told e f told other same h k = (let there : Some told ≡ Some other = sym h ∙ ap script_told same ∙ k in cc)
 
 err_events : (e : TextRefusal) (events : List WireEvent) → ◌≡◌ {A = Result (List WireEvent) TextRefusal} (Err e) (Ok events) → ⊥
@@ -53,7 +53,7 @@ err_script e f same = cc
 ok_events : (a b : List WireEvent) → ◌≡◌ {A = Result (List WireEvent) TextRefusal} (Ok a) (Ok b) → a ≡ b
 ok_events a b same = cc
 
-abbrev refused_so : (path : List ℕ) (told : Told) → Refusal
+abbrev refused_so : (path : List ℕ) (told : NumberedFault) → Refusal
 refused_so path told = record { file = path; number = told.number; place = At told.at }
 
 script_once : (path bytes : List ℕ) (one other : Result (List WireEvent) Fault) → ScriptTaken path bytes one → ScriptTaken path bytes other → IsDecided one → IsDecided other → one ≡ other
@@ -79,9 +79,9 @@ script_decides map path = then_decides (FileEnds script_limit map path) (ScriptT
 
 scripted_decides : (map : FileMap) (command : ReplayCommand) → Decides (ScriptedEnd map command)
 scripted_decides map command =
-    then_decides (InputsEnd map command.sources command.over command.query command.templates) (λ site. Then (ScriptEnds map command.script) (λ events. Gives (record { site = site; events = events })))
+    then_decides (InputsEnd map command.sources command.over command.query command.templates) (λ site. Then (ScriptEnds map command.script) (λ events. EndsWith (record { site = site; events = events })))
     (inputs_decide map command.sources command.over command.query command.templates)
-    (λ site. then_decides (ScriptEnds map command.script) (λ events. Gives (record { site = site; events = events })) (script_decides map command.script) (λ events. gives_decides (record { site = site; events = events })))
+    (λ site. then_decides (ScriptEnds map command.script) (λ events. EndsWith (record { site = site; events = events })) (script_decides map command.script) (λ events. gives_decides (record { site = site; events = events })))
 
 -- ---- how the run ends
 

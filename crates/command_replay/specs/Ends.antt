@@ -4,7 +4,7 @@ use Rattle.std.specs.Prelude.{Option, Some, Ok, Err}
 use Rattle.std.specs.List.{list_any}
 use Rattle.edge_io.specs.Sink.{Gains, GainsPart}
 use Rattle.wire.specs.Accounts.{Account}
-use Rattle.wire.specs.Told.{Told}
+use Rattle.wire.specs.Told.{WireReport}
 use Rattle.wire.specs.declared.WireEvent.{WireEvent}
 use Rattle.wire.specs.declared.WireEvent.TheVariants.{Opened, Bytes, Ended, Lost, Change, Done}
 use Rattle.serving_spec.specs.declared.HubEnd.{HubEnd}
@@ -37,7 +37,7 @@ ReportsOpened account (Change text) = ⊤
 ReportsOpened account Done = ⊤
 
 -- a wire in memory that is to give these events and then no more, before the first of them
-pub record IsFresh (events : List WireEvent) (wire : Told) : Type 0 where
+pub record IsFresh (events : List WireEvent) (wire : WireReport) : Type 0 where
   pub given : wire.given ≡ Some []
   pub left : wire.left ≡ Some events
   pub told_each : All (ReportsOpened wire.account) events
@@ -62,8 +62,8 @@ is_change Done = false
 -- opened has taken, ascending, and then the counts, those of texts only where the script has one. No send to them failed.
 pub record IsReplayed (s : Scripted) (limits : RunLimits) (ended : HubEnd)
     (text : List ℕ) : Type 0 where
-  pub before : Told
-  pub after : Told
+  pub before : WireReport
+  pub after : WireReport
   pub served : Served
   pub its_end : ended ≡ run_end served.end
   pub fresh : IsFresh s.events before

@@ -10,21 +10,21 @@ use Rattle.script_reader.specs.Script.{Reads}
 use Rattle.command_spec.specs.declared.ReplayCommand.{ReplayCommand}
 use Rattle.site_inputs.specs.declared.fault.Fault.{Fault}
 use Rattle.site_inputs.specs.declared.fault.Fault.TheVariants.{Refused, NoMemory}
-use Rattle.site_inputs.specs.declared.told.Told.{Told}
-use Rattle.site_inputs.specs.Runs.{Then, Gives, FileEnds}
+use Rattle.site_inputs.specs.declared.told.NumberedFault.{NumberedFault}
+use Rattle.site_inputs.specs.Runs.{Then, EndsWith, FileEnds}
 use Rattle.site_inputs.specs.Sites.{Inputs, InputsEnd, text_told}
 use Rattle.site_inputs.specs.Values.{inputs_of}
 use Rattle.command_replay.specs.declared.replaying.Script.{Script}
 
 -- the number and the place of a refused script; none if the reader was out of memory
-abbrev pub script_told : TextRefusal → Option Told
+abbrev pub script_told : TextRefusal → Option NumberedFault
 script_told = text_told 111
 
 -- How a script's text ends: with its events, or refused.
 abbrev pub ScriptTaken : List ℕ → List ℕ → Result (List WireEvent) Fault → Type 0
 ScriptTaken path bytes (Ok events) = Reads script_limit bytes (Ok events)
 ScriptTaken path bytes (Err (Refused refusal)) =
-    (told : Told) × (refusal ≡ record { file = path; number = told.number; place = At told.at })
+    (told : NumberedFault) × (refusal ≡ record { file = path; number = told.number; place = At told.at })
     × (e : TextRefusal) × Reads script_limit bytes (Err e) × (script_told e ≡ Some told)
 ScriptTaken path bytes (Err NoMemory) = ⊤
 ScriptTaken path bytes (Err fault) = ⊥
@@ -43,7 +43,7 @@ abbrev pub ScriptedEnd : FileMap → ReplayCommand → Result Scripted Fault →
 ScriptedEnd map command =
     Then (InputsEnd map command.sources command.over command.query command.templates)
     (λ site. Then (ScriptEnds map command.script)
-    (λ events. Gives (record { site = site; events = events })))
+    (λ events. EndsWith (record { site = site; events = events })))
 
 -- the program's list of events as a plain one
 abbrev pub script_result : Result (Vec WireEvent) Fault → Result (List WireEvent) Fault

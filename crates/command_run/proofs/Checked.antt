@@ -13,7 +13,7 @@ use Rattle.site_inputs.specs.Outside.{Host, Outside, PutsRose, AllRead, HasStatu
 use Rattle.site_inputs.specs.Runs.{IsDecidedFault, Decides}
 use Rattle.site_inputs.specs.Statuses.{ReadRose, status_of}
 use Rattle.site_inputs.proofs.Endings.{ok_same, not_both, by_reason}
-use Rattle.wire.specs.Told.{Told}
+use Rattle.wire.specs.Told.{WireReport}
 use Rattle.command_spec.specs.declared.Command.{Command}
 use Rattle.command_spec.specs.declared.Command.TheVariants.{CheckAll}
 use Rattle.command_spec.specs.Inputs.{check_paths}
@@ -106,7 +106,7 @@ answers_hold : (command : Command) (before after : Outside) (status : Status) �
 answers_hold (CheckAll command) before after status ends = holds before.host.files command.query command.constraints before.host.output after.host.output status ends
 answers_hold command before after status ends = tt
 
-module _ (reads reads_now writes writes_now : List ℕ → ℕ) (output output_now : Option (List ℕ)) (puts puts_now : ℕ) (wire wire_now : Told) where
+module _ (reads reads_now writes writes_now : List ℕ → ℕ) (output output_now : Option (List ℕ)) (puts puts_now : ℕ) (wire wire_now : WireReport) where
   abbrev pub Before : FileMap → Outside
   Before map = outside map reads writes output puts wire
 

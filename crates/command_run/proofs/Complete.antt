@@ -9,7 +9,7 @@ use Rattle.command_spec.specs.declared.Command.{Command}
 use Rattle.command_spec.specs.declared.Command.TheVariants.{Page, Build, Data, Explain, Schema, Check, CheckAll, Lint, Serve, Replay, Trial, Help, Version}
 use Rattle.site_inputs.specs.Statuses.{ReadRose}
 use Rattle.edge_io.specs.Counts.{Rose}
-use Rattle.wire.specs.Told.{Told}
+use Rattle.wire.specs.Told.{WireReport}
 use Rattle.site_inputs.specs.Outside.{Outside, PutsRose, EventsRose, outside}
 use Rattle.command_build.proofs.Law.{build_ends_well}
 use Rattle.command_serve.proofs.Law.{serving_ends_well}
@@ -70,7 +70,7 @@ module _ (contents : Option FileMap) (before after : Outside) where
   reported_complete command reached reported complete (inl same) = rw same complete
   reported_complete command reached reported complete (inr memory) = λ all. short_run command reported memory
 
-module _ (reads reads_now writes writes_now : List ℕ → ℕ) (output output_now : Option (List ℕ)) (puts puts_now : ℕ) (wire wire_now : Told) where
+module _ (reads reads_now writes writes_now : List ℕ → ℕ) (output output_now : Option (List ℕ)) (puts puts_now : ℕ) (wire wire_now : WireReport) where
   abbrev pub Before : FileMap → Outside
   Before map = outside map reads writes output puts wire
 

@@ -32,9 +32,9 @@ use Rattle.command_replay.specs.Scripts.{ScriptedEnd}
 use Rattle.command_replay.specs.Ends.{ReplayEnds}
 use Rattle.command_serve.specs.Ends.{ServeEnds}
 use Rattle.site_inputs.specs.Outside.{Host, Outside, host, outside}
-use Rattle.wire.specs.Told.{Told}
+use Rattle.wire.specs.Told.{WireReport}
 use Rattle.run_report.specs.Report.{IsFixed}
-use Rattle.site_inputs.specs.Runs.{Gives, ReadsHaveCause, UnreadRose}
+use Rattle.site_inputs.specs.Runs.{EndsWith, ReadsHaveCause, UnreadRose}
 use Rattle.command_spec.specs.Inputs.{data_paths, input_paths}
 use Rattle.site_inputs.specs.Statuses.{ReadRose, IsSilent, status_of}
 use Rattle.command_page.specs.Ends.{PageEnds}
@@ -151,16 +151,16 @@ trial_read_rose command c answer old new before now status is h ends =
     by NotFound h = tt
 
 -- a fixed text has no fault of reading
-fixed_reads_none : (text : List ℕ) (path : List ℕ) → Gives text (prelude.Err (fault.Unread path)) → ⊥
+fixed_reads_none : (text : List ℕ) (path : List ℕ) → EndsWith text (prelude.Err (fault.Unread path)) → ⊥
 fixed_reads_none text path (inl e) = cc
 fixed_reads_none text path (inr e) = cc
 
 fixed_read_rose : (text : List ℕ) (answer : Result (List ℕ) Fault) (old new : Option (List ℕ)) (paths : List (List ℕ)) (before now : List ℕ → ℕ) (status : Status)
-    → TextEnds (λ a. a ≡ answer) old new status → Gives text answer → ReadRose paths before now status
+    → TextEnds (λ a. a ≡ answer) old new status → EndsWith text answer → ReadRose paths before now status
 fixed_read_rose text answer old new paths before now status h ends =
-    by status (text_as (λ a. a ≡ answer) (Gives text) old new status (λ a e. subst (Gives text) (sym e) ends) h)
+    by status (text_as (λ a. a ≡ answer) (EndsWith text) old new status (λ a e. subst (EndsWith text) (sym e) ends) h)
   where
-    by : (status : Status) → TextEnds (Gives text) old new status → ReadRose paths before now status
+    by : (status : Status) → TextEnds (EndsWith text) old new status → ReadRose paths before now status
     by (ReadFault path) h = absurd (fixed_reads_none text path h)
     by status h = tt
 
@@ -330,7 +330,7 @@ reported_silent status reported silent (inr memory) quiet = absurd (rw memory at
 
 -- ---- what the files report before and after, with the counts, the output and the wire
 
-module _ (reads reads_now writes writes_now : List ℕ → ℕ) (output output_now : Option (List ℕ)) (puts puts_now : ℕ) (wire wire_now : Told) where
+module _ (reads reads_now writes writes_now : List ℕ → ℕ) (output output_now : Option (List ℕ)) (puts puts_now : ℕ) (wire wire_now : WireReport) where
   abbrev pub Before : FileMap → Outside
   Before map = outside map reads writes output puts wire
 

@@ -16,7 +16,7 @@ use Rattle.site_inputs.specs.Runs.{IsDecided, Decides}
 use Rattle.site_inputs.specs.Statuses.{ReadRose}
 use Rattle.command_page.specs.Ends.{PageEnds}
 use Rattle.site_inputs.specs.Outside.{Host, Outside, PutsRose, AllRead, host, outside}
-use Rattle.wire.specs.Told.{Told}
+use Rattle.wire.specs.Told.{WireReport}
 use Rattle.command_trial.specs.Ends.{TrialEnds}
 use Rattle.command_help.specs.Ends.{HelpEnds, VersionEnds}
 use Rattle.command_data.specs.Ends.{DataEnds}
@@ -101,7 +101,7 @@ module _ (contents : Option FileMap) (before after : Outside) where
   reported_exact command status reported exact (inl same) = rw same exact
   reported_exact command status reported exact (inr memory) = memory_exact command reported memory
 
-module _ (reads reads_now writes writes_now : List ℕ → ℕ) (output output_now : Option (List ℕ)) (puts puts_now : ℕ) (wire wire_now : Told) where
+module _ (reads reads_now writes writes_now : List ℕ → ℕ) (output output_now : Option (List ℕ)) (puts puts_now : ℕ) (wire wire_now : WireReport) where
   abbrev pub Before : FileMap → Outside
   Before map = outside map reads writes output puts wire
 

@@ -6,7 +6,7 @@ use Rattle.edge_io.specs.Files.{FileMap}
 use Rattle.run_report.specs.declared.status.Status.{Status}
 use Rattle.run_report.specs.declared.status.Status.TheVariants.{Ok, NotAllYes}
 use Rattle.site_inputs.specs.Outside.{Outside, outside}
-use Rattle.wire.specs.Told.{Told}
+use Rattle.wire.specs.Told.{WireReport}
 use Rattle.command_spec.specs.declared.LintCommand.{LintCommand}
 use Rattle.command_spec.specs.declared.Command.{Command}
 use Rattle.command_spec.specs.declared.Command.TheVariants.{Lint}
@@ -26,7 +26,7 @@ findings_told : (command : Command) (before after : Outside) (status : Status) �
 findings_told (Lint command) before after status ends = findings before.host.files command before.host.output after.host.output status ends
 findings_told command before after status ends = tt
 
-module _ (reads reads_now writes writes_now : List ℕ → ℕ) (output output_now : Option (List ℕ)) (puts puts_now : ℕ) (wire wire_now : Told) where
+module _ (reads reads_now writes writes_now : List ℕ → ℕ) (output output_now : Option (List ℕ)) (puts puts_now : ℕ) (wire wire_now : WireReport) where
   abbrev pub Before : FileMap → Outside
   Before map = outside map reads writes output puts wire
 

@@ -20,13 +20,13 @@ use Rattle.site_inputs.specs.Runs.{IsDecided, Decides}
 use Rattle.site_inputs.specs.Sites.{QueryEnds}
 use Rattle.site_inputs.proofs.Decided.{then_decides}
 use Rattle.site_inputs.proofs.DecidedInputs.{query_decides}
-use Rattle.command_schema.specs.Ends.{IsAnswer, SchemaTaken, SchemaEnds}
+use Rattle.command_schema.specs.Ends.{IsSchemaAnswer, SchemaTaken, SchemaEnds}
 
 same_functions : (query : plain.Query) (fs gs : List SchemaFunction)
     → ListsExactly function_cmp (IsFunctionIn (blocks_in_scope query)) fs → ListsExactly function_cmp (IsFunctionIn (blocks_in_scope query)) gs → fs ≡ gs
 same_functions query fs gs h k = one_list function_cmp-total (IsFunctionIn (blocks_in_scope query)) fs gs h k
 
-one_text : (dot : Bool) (query : plain.Query) (text other : List ℕ) → IsAnswer dot query text → IsAnswer dot query other → text ≡ other
+one_text : (dot : Bool) (query : plain.Query) (text other : List ℕ) → IsSchemaAnswer dot query text → IsSchemaAnswer dot query other → text ≡ other
 one_text false query text other (fs, h, is) (gs, k, is2) =
     is ∙ ap (λ (xs : List SchemaFunction). codes "other\n" ++ flat_map (function_lines (schema_edges query)) xs) (same_functions query fs gs h k) ∙ sym is2
 one_text true query text other (fs, h, is) (gs, k, is2) =

@@ -11,13 +11,13 @@ use Rattle.site_inputs.specs.Runs.{Then}
 use Rattle.site_inputs.specs.Sites.{QueryEnds}
 
 -- the text of the schema, or with `--dot` its picture
-abbrev pub IsAnswer : Bool → plain.Query → List ℕ → Type 0
-IsAnswer false query text = IsSchemaText query text
-IsAnswer true query text = IsPicture query text
+abbrev pub IsSchemaAnswer : Bool → plain.Query → List ℕ → Type 0
+IsSchemaAnswer false query text = IsSchemaText query text
+IsSchemaAnswer true query text = IsPicture query text
 
 -- How the schema of a query ends: with its text or its picture.
 abbrev pub SchemaTaken : Bool → plain.Query → Result (List ℕ) Fault → Type 0
-SchemaTaken dot query (Ok text) = IsAnswer dot query text
+SchemaTaken dot query (Ok text) = IsSchemaAnswer dot query text
 SchemaTaken dot query (Err NoMemory) = ⊤
 SchemaTaken dot query (Err fault) = ⊥
 

@@ -6,7 +6,7 @@ use Rattle.edge_io.specs.Sink.{Gains}
 use Rattle.edge_io.specs.Counts.{Rose}
 use Rattle.edge_io.specs.Files.{FileMap}
 use Rattle.wire.specs.Events.{IsWatched as WatchedBy}
-use Rattle.wire.specs.Told.{Told}
+use Rattle.wire.specs.Told.{WireReport}
 use Rattle.wire.specs.declared.WireEnd.{WireEnd}
 use Rattle.wire.specs.declared.WireEnd.TheVariants as wire_end
 use Rattle.serving_spec.specs.declared.HubEnd.{HubEnd}
@@ -36,7 +36,7 @@ no_counts_watched =
     (decimal_digit 0 (omega arith))
 
 -- what a call of watch does
-pub watching_of : (watch : WatchOptions) (before after : Told) (result : Result ⊤ WireEnd) → WatchedBy watch.path watch.every before.watches after.watches result
+pub watching_of : (watch : WatchOptions) (before after : WireReport) (result : Result ⊤ WireEnd) → WatchedBy watch.path watch.every before.watches after.watches result
     → (IsErrOf result wire_end.NoMemory → after ≡ before)
     → (after.account ≡ before.account) × (after.faults ≡ before.faults) × (after.given ≡ before.given) × (after.left ≡ before.left) × (after.listens ≡ before.listens)
     → IsLetWatch (Some watch) before after result
@@ -45,8 +45,8 @@ watching_of watch before after (Err wire_end.Failed) watched short stays = recor
 watching_of watch before after (Err wire_end.NoMemory) watched short stays = short refl
 
 -- the events that are left stay
-pub watched_left : (watch : Option WatchOptions) (before after : Told) → WatchesIf watch before after → after.left ≡ before.left
-watched_left None before after same = ap (λ (t : Told). t.left) same
+pub watched_left : (watch : Option WatchOptions) (before after : WireReport) → WatchesIf watch before after → after.left ≡ before.left
+watched_left None before after same = ap (λ (t : WireReport). t.left) same
 watched_left (Some watch) before after watching = watching.left
 
 -- a run whose counts tell a fault of the wire ended by one
@@ -58,7 +58,7 @@ wire_failed ended watches tally old new P reached puts is = by (subst (CountsPut
     by (inr h) = absurd cc
 
 -- the counts behind the line
-module _ (s : Inputs) (watches : Bool) (options : ServeOptions) (before after : Told) (a b c : Option (List ℕ)) (P Q : Type 0) (to : P → Q) (line : Gains a b (serving_text options.port)) where
+module _ (s : Inputs) (watches : Bool) (options : ServeOptions) (before after : WireReport) (a b c : Option (List ℕ)) (P Q : Type 0) (to : P → Q) (line : Gains a b (serving_text options.port)) where
   ends_as : (one other : HubEnd) (tally : Tally) → one ≡ other → ServesTo s options.limits before after one tally → ServesTo s options.limits before after other tally
   ends_as one other tally is h = subst (λ (e : HubEnd). ServesTo s options.limits before after e tally) is h
 
@@ -90,7 +90,7 @@ module _ (s : Inputs) (watches : Bool) (options : ServeOptions) (before after : 
   told_listening reached h = by_status h.ended h.tally h.serves reached h.puts
 
 -- what was put over a wire that watches, whatever the files are
-module _ (s : Inputs) (watch : Option WatchOptions) (options : ServeOptions) (before between after : Told)
+module _ (s : Inputs) (watch : Option WatchOptions) (options : ServeOptions) (before between after : WireReport)
     (files now : FileMap) (reads reads_now writes writes_now : List ℕ → ℕ) (old new : Option (List ℕ)) (puts puts_now : ℕ)
     (watching : WatchesIf watch before between) where
   abbrev pub Before : Outside

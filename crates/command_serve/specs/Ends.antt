@@ -2,7 +2,7 @@
 use Rattle.std.specs.Prelude.{◌≡◌, ◌⊎◌, ℕ, Bool, List, ◌++◌, codes, is_some, Option, Some, None, Result, Ok, Err, ⊤}
 use Rattle.std.specs.Fmt.{decimal}
 use Rattle.edge_io.specs.Sink.{Gains, GainsPart}
-use Rattle.wire.specs.Told.{Told, ConnectionsStay}
+use Rattle.wire.specs.Told.{WireReport, ConnectionsStay}
 use Rattle.wire.specs.Events.{add_listen, add_watch}
 use Rattle.wire.specs.declared.WireEnd.{WireEnd}
 use Rattle.wire.specs.declared.WireEnd.TheVariants as wire_end
@@ -36,7 +36,7 @@ abbrev pub no_tally : Tally
 no_tally = record { connections = 0; replies = 0; hits = 0; changes = 0; refused = 0 }
 
 -- `watch` was called once, with this path and number, and nothing else
-pub record Watching (watch : WatchOptions) (before after : Told) : Type 0 where
+pub record Watching (watch : WatchOptions) (before after : WireReport) : Type 0 where
   pub watched : after.watches ≡ add_watch before.watches watch.path watch.every
   pub listens : after.listens ≡ before.listens
   pub connections : ConnectionsStay before after
@@ -44,12 +44,12 @@ pub record Watching (watch : WatchOptions) (before after : Told) : Type 0 where
   pub left : after.left ≡ before.left
 
 -- the same where a file is to be watched, and nothing where none is
-abbrev pub WatchesIf : Option WatchOptions → (before after : Told) → Type 0
+abbrev pub WatchesIf : Option WatchOptions → (before after : WireReport) → Type 0
 WatchesIf None before after = after ≡ before
 WatchesIf (Some watch) before after = Watching watch before after
 
 -- `listen` was called once, at this port and for this number of connections, and no event was taken
-pub record Listening (options : ServeOptions) (before after : Told) : Type 0 where
+pub record Listening (options : ServeOptions) (before after : WireReport) : Type 0 where
   pub listened : after.listens ≡ add_listen before.listens options.port options.connections
   pub connections : ConnectionsStay before after
   pub given : after.given ≡ before.given
@@ -57,27 +57,27 @@ pub record Listening (options : ServeOptions) (before after : Told) : Type 0 whe
   pub watches : after.watches ≡ before.watches
 
 -- the answer of the call, where a file is to be watched: out of memory it did nothing
-abbrev pub IsLetWatch : Option WatchOptions → (before after : Told) → Result ⊤ WireEnd → Type 0
+abbrev pub IsLetWatch : Option WatchOptions → (before after : WireReport) → Result ⊤ WireEnd → Type 0
 IsLetWatch watch before after (Ok unit) = WatchesIf watch before after
 IsLetWatch watch before after (Err wire_end.Failed) = WatchesIf watch before after
 IsLetWatch watch before after (Err wire_end.NoMemory) = after ≡ before
 
 -- the wire was let watch, where a file is to be watched, and then let listen
-pub record IsReady (watch : Option WatchOptions) (options : ServeOptions) (before after : Told)
+pub record IsReady (watch : Option WatchOptions) (options : ServeOptions) (before after : WireReport)
     : Type 0 where
-  pub between : Told
+  pub between : WireReport
   pub watching : WatchesIf watch before between
   pub listening : Listening options between after
 
 -- the site was served over the wire until this end, and these were the counts
-abbrev pub ServesTo : Inputs → RunLimits → (before after : Told) → HubEnd → Tally → Type 0
+abbrev pub ServesTo : Inputs → RunLimits → (before after : WireReport) → HubEnd → Tally → Type 0
 ServesTo s limits before after ended tally =
     ServesSite s limits before after (record { end = ended; tally = tally })
 
 -- the wire was let watch and listen, and then the site was served over it
 pub record Serving (s : Inputs) (watch : Option WatchOptions) (options : ServeOptions)
-    (before after : Told) (ended : HubEnd) (tally : Tally) : Type 0 where
-  pub between : Told
+    (before after : WireReport) (ended : HubEnd) (tally : Tally) : Type 0 where
+  pub between : WireReport
   pub ready : IsReady watch options before between
   pub serves : ServesTo s options.limits between after ended tally
   pub listens : after.listens ≡ between.listens
@@ -161,7 +161,7 @@ CountsPut ended watches tally old new PutsRose reached =
     ⊎ ((reached ≡ status.NoMemory) × (new ≡ old))
 
 -- the site was served over a wire that listens, and then the counts were put
-pub record ListeningEnds (s : Inputs) (watches : Bool) (limits : RunLimits) (before after : Told)
+pub record ListeningEnds (s : Inputs) (watches : Bool) (limits : RunLimits) (before after : WireReport)
     (old new : Option (List ℕ)) (PutsRose : Type 0) (reached : Status) : Type 0 where
   pub ended : HubEnd
   pub tally : Tally
@@ -169,7 +169,7 @@ pub record ListeningEnds (s : Inputs) (watches : Bool) (limits : RunLimits) (bef
   pub puts : CountsPut ended watches tally old new PutsRose reached
 
 -- what is put over a wire that listens, the line that reports the port first
-module _ (s : Inputs) (watches : Bool) (options : ServeOptions) (before after : Told)
+module _ (s : Inputs) (watches : Bool) (options : ServeOptions) (before after : WireReport)
     (old new : Option (List ℕ)) (PutsRose : Type 0) where
   -- the site was served until this end, and these were the counts
   abbrev pub ServesUntil : HubEnd → Tally → Type 0
@@ -201,11 +201,11 @@ module _ (s : Inputs) (watches : Bool) (options : ServeOptions) (before after : 
 
 -- the wire was let listen, and then what is put over it was put; where listen fails the counts of a run without
 -- connections
-module _ (s : Inputs) (watches : Bool) (options : ServeOptions) (before after : Told)
+module _ (s : Inputs) (watches : Bool) (options : ServeOptions) (before after : WireReport)
     (old new : Option (List ℕ)) (PutsRose : Type 0) where
   -- the wire listens, and what was put over it, and why the run has this status
   pub record ListensAndEnds (reached : Status) : Type 0 where
-    pub between : Told
+    pub between : WireReport
     pub listening : Listening options before between
     pub tells : TellingEnds s watches options between after old new PutsRose reached
     pub listens : after.listens ≡ between.listens

@@ -1,6 +1,6 @@
 -- A run over connections ends well, unless it is out of memory, where its inputs are accepted and nothing outside fails.
 use Rattle.std.specs.Prelude.{◌≡◌, ◌<◌, ℕ, List, length, Some, Ok, Err}
-use Rattle.wire.specs.Told.{Told}
+use Rattle.wire.specs.Told.{WireReport}
 use Rattle.wire.specs.declared.WireEvent.{WireEvent}
 use Rattle.run_report.specs.declared.status.Status.{Status}
 use Rattle.run_report.specs.declared.status.Status.TheVariants as status
@@ -14,7 +14,7 @@ use Rattle.site_inputs.specs.Outside.{Outside, PutsRose, EventsRose, AllRead, Ha
 use Rattle.command_serve.specs.Ends.{ServeEnds}
 
 -- the wire reports which events it will give, and there is a turn for each of them and one for the end
-abbrev pub HasTurns : Told → (turns : ℕ) → Type 0
+abbrev pub HasTurns : WireReport → (turns : ℕ) → Type 0
 HasTurns before turns =
     (events : List WireEvent) × (before.left ≡ Some events) × (length events < turns)
 

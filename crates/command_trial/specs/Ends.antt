@@ -1,7 +1,7 @@
 -- The command `trial`.
 use Rattle.std.specs.Prelude.{◌≡◌, ℕ, List, Result, Ok, Err, None, ⊤}
 use Rattle.query_reader.specs.Reads.{IsAccepted}
-use Rattle.template_reader.specs.Faults.{IsAnswer}
+use Rattle.template_reader.specs.Faults.{IsTemplatesAnswer}
 use Rattle.site_spec.specs.Root.{root_function}
 use Rattle.command_spec.specs.declared.TrialCommand.{TrialCommand}
 use Rattle.site_inputs.specs.declared.fault.Fault.{Fault}
@@ -17,7 +17,7 @@ pub record IsMadeSite (entries : ℕ) (site : Inputs) : Type 0 where
   pub graph : site.graph ≡ made_graph entries
   pub first : site.first ≡ None
   pub query : IsAccepted text_limit query_text site.query
-  pub templates : IsAnswer text_limit templates_text (Ok site.templates)
+  pub templates : IsTemplatesAnswer text_limit templates_text (Ok site.templates)
 
 -- The text of a trial of n entries: that of the trial's site.
 pub record IsTrial (entries : ℕ) (text : List ℕ) : Type 0 where

@@ -21,7 +21,7 @@ use Rattle.sd_graph.specs.declared.GraphRefusal.{GraphRefusal}
 use Rattle.sd_graph.specs.declared.GraphRefusal.TheVariants.{TooManyNodes, TooManyEdges, NoMemory}
 use Rattle.compose_spec.specs.Composed.{node_name, IsNodeOf, IsEdgeOf, IsMemberOf, IsSiteGraph}
 use Rattle.compose.specs.Adding.{Says, Reaches, Gains, IsOver, AddsAll}
-use Rattle.compose.specs.Listed.{IsListed, Answers}
+use Rattle.compose.specs.Listed.{IsListed, AnswersWithin}
 use Rattle.compose.specs.Stated.{IsNodeStated, IsStated}
 use Rattle.compose.proofs.Adding.{stated_cases, stated_kept}
 use Rattle.compose.proofs.Lengths.{length_le}
@@ -125,7 +125,7 @@ module _ (site : Site) (graph : DataGraph) (terms : List Term) (labels : List La
 
   -- a refusal among the nodes
   pub nodes_refused : (b : Building) (e : GraphRefusal) → AddsAll (IsNodeStated graph.nodes terms) start b (Err e)
-      → (H : DataGraph) → IsSiteGraph site graph.nodes H → Answers start.limits H (Err e)
+      → (H : DataGraph) → IsSiteGraph site graph.nodes H → AnswersWithin start.limits H (Err e)
   nodes_refused b TooManyNodes s H whole =
       let said = each_node s.next s.one in
       subst (λ (l : Limits). l.nodes < length H.nodes) s.way.limits
@@ -149,7 +149,7 @@ module _ (site : Site) (graph : DataGraph) (terms : List Term) (labels : List La
     -- a refusal among the edges and members
     pub rest_refused : (c : Building) (e : GraphRefusal) → AddsAll (IsStated site graph terms labels collections) b c
         (Err e)
-        → (H : DataGraph) → IsSiteGraph site graph.nodes H → Answers start.limits H (Err e)
+        → (H : DataGraph) → IsSiteGraph site graph.nodes H → AnswersWithin start.limits H (Err e)
     rest_refused c TooManyNodes s H whole =
         let said = each_rest s.next s.one in
         subst (λ (l : Limits). l.nodes < length H.nodes) (s.way.limits ∙ nodes.way.limits)
@@ -195,7 +195,7 @@ module _ (site : Site) (graph : DataGraph) (terms : List Term) (labels : List La
         };
       }
 
-      pub graph_answers : (H : DataGraph) → IsSiteGraph site graph.nodes H → Answers start.limits H (Ok c.graph)
+      pub graph_answers : (H : DataGraph) → IsSiteGraph site graph.nodes H → AnswersWithin start.limits H (Ok c.graph)
       graph_answers H whole =
           let same = one_graph site graph.nodes c.graph H graph_whole whole in (
             same,

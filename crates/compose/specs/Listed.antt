@@ -42,12 +42,12 @@ pub record IsListed (site : Site) (graph : DataGraph) (terms : List Term) (label
       → Contains graph.nodes n
 
 -- an answer where `whole` is the graph that is asked for
-abbrev pub Answers : Limits → DataGraph → Result DataGraph GraphRefusal → Type 0
-Answers limits whole (Ok graph) =
+abbrev pub AnswersWithin : Limits → DataGraph → Result DataGraph GraphRefusal → Type 0
+AnswersWithin limits whole (Ok graph) =
     (graph ≡ whole) × (length whole.nodes ≤ limits.nodes)
     × (length whole.edges + length whole.members ≤ limits.edges)
-Answers limits whole (Err TooManyNodes) = limits.nodes < length whole.nodes
-Answers limits whole (Err TooManyEdges) =
+AnswersWithin limits whole (Err TooManyNodes) = limits.nodes < length whole.nodes
+AnswersWithin limits whole (Err TooManyEdges) =
     (length whole.nodes ≤ limits.nodes)
     × (limits.edges < length whole.edges + length whole.members)
-Answers limits whole (Err NoMemory) = Unit {0}
+AnswersWithin limits whole (Err NoMemory) = Unit {0}

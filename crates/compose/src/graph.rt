@@ -3,7 +3,7 @@ ghost use Rattle.std.specs.Prelude.{◌≡◌, IfOk};
 ghost use Rattle.graph_spec.specs.DataGraph.{DataGraph};
 ghost use Rattle.compose_spec.specs.Composed.{IsSiteGraph};
 ghost use Rattle.compose.specs.Adding.{AddsAll};
-ghost use Rattle.compose.specs.Listed.{IsListed, Answers};
+ghost use Rattle.compose.specs.Listed.{IsListed, AnswersWithin};
 ghost use Rattle.compose.specs.Stated.{IsSiteStated, IsStated};
 
 use crate::collected::add_collections;
@@ -79,7 +79,7 @@ pub fn site_graph<V: SiteView>(
     ensures graph { IfOk result (IsSiteGraph (V.site (V.fixed view.old)) graph.now.nodes) }
     ensures limits { (whole : DataGraph)
         → IsSiteGraph (V.site (V.fixed view.old)) graph.now.nodes whole
-        → Answers limits whole result }
+        → AnswersWithin limits whole result }
 {
     let mut builder = GraphBuilder::new(alloc, limits);
     add_nodes(alloc, &mut builder, graph.nodes(), terms)?;

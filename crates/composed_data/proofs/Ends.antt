@@ -16,7 +16,7 @@ use Rattle.weight_spec.specs.Site.{site_of}
 use Rattle.site_build.specs.declared.contents.Contents.{Contents}
 use Rattle.site_build.specs.Materialised.{IsWhole}
 use Rattle.compose_spec.specs.Composed.{IsSiteGraph}
-use Rattle.compose.specs.Listed.{IsListed, Answers}
+use Rattle.compose.specs.Listed.{IsListed, AnswersWithin}
 use Rattle.composed_data.specs.Named.{IsCollectName}
 use Rattle.composed_data.proofs.Listed.{listed_query}
 use Rattle.site_graphs.proofs.Graphs.{site_graph_of}
@@ -37,7 +37,7 @@ listed_at G raw scopes contents whole same terms labels names all_terms all_labe
 pub ends_at : (G raw : DataGraph) (query asked : Scope) (limits : Limits) (end : Result DataGraph GraphRefusal)
     → G ≡ raw
     → query ≡ asked
-    → ((whole : DataGraph) → IsSiteGraph (site_of G query) raw.nodes whole → Answers limits whole end)
+    → ((whole : DataGraph) → IsSiteGraph (site_of G query) raw.nodes whole → AnswersWithin limits whole end)
     → SiteDataEnds limits raw asked end
 ends_at G raw query asked limits end same is answers =
     let there = site_graph_of raw asked in

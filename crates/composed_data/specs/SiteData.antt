@@ -7,20 +7,20 @@ use Rattle.sd_graph.specs.declared.Limits.{Limits}
 use Rattle.sd_graph.specs.declared.GraphRefusal.{GraphRefusal}
 use Rattle.sd_graph.specs.declared.GraphRefusal.TheVariants.{NoMemory}
 use Rattle.compose_spec.specs.Composed.{IsSiteGraph}
-use Rattle.compose.specs.Listed.{Answers}
+use Rattle.compose.specs.Listed.{AnswersWithin}
 
 -- the graph of the query's site over the data
 abbrev pub IsSiteData : DataGraph → Scope → DataGraph → Type 0
 IsSiteData raw query whole = IsSiteGraph (site_of raw query) raw.nodes whole
 
 -- there is that graph, and the answer says whether it is within the limits
-pub record IsDecided (limits : Limits) (raw : DataGraph) (query : Scope)
+pub record DecidesSiteData (limits : Limits) (raw : DataGraph) (query : Scope)
     (end : Result DataGraph GraphRefusal) : Type 0 where
   pub whole : DataGraph
   pub is_whole : IsSiteData raw query whole
-  pub answers : Answers limits whole end
+  pub answers : AnswersWithin limits whole end
 
 -- How making it ends: with that graph, where it is within the limits, or with the reason why it isn't, unless it is out
 -- of memory.
 abbrev pub SiteDataEnds : Limits → DataGraph → Scope → Result DataGraph GraphRefusal → Type 0
-SiteDataEnds limits raw query end = IsDecided limits raw query end ⊎ (end ≡ Err NoMemory)
+SiteDataEnds limits raw query end = DecidesSiteData limits raw query end ⊎ (end ≡ Err NoMemory)

@@ -12,8 +12,8 @@ use Rattle.query_spec.specs.declared.Test.{Test}
 use Rattle.query_spec.specs.declared.Variable.{Variable}
 use Rattle.query_spec.specs.Rows.{IsNumberOf}
 use Rattle.query_spec.specs.Query.{Operand, arc_variable, expression, Condition, member, path, compare, one_of, kind, negation}
-use Rattle.condition_tests.specs.declared.literal.Place.{Place}
-use Rattle.condition_tests.specs.declared.literal.Place.TheVariants.{Variable as Numbered}
+use Rattle.condition_tests.specs.declared.literal.Slot.{Slot}
+use Rattle.condition_tests.specs.declared.literal.Slot.TheVariants.{Variable as Numbered}
 use Rattle.condition_tests.specs.declared.literal.Property.TheVariants.{Member, OneOf, Kind}
 use Rattle.condition_tests.specs.declared.literal.Relation.TheVariants.{Edge, Walk, Compare}
 use Rattle.condition_tests.specs.declared.literal.Atom.{Atom}
@@ -49,19 +49,19 @@ module _ (version : ℕ) (variables : List Variable) where
       let same = i.same t l in
       ((λ h. (h.0, same ∙ h.1, h.2)), (λ h. (h.0, sym same ∙ h.1, h.2)))
 
-  pub one_of_atom : (operand : Operand) (values : List Value) (p : Place) → IsPlaceOf variables operand p → IsAtomOf version variables (one_of operand values) (One p (OneOf values))
+  pub one_of_atom : (operand : Operand) (values : List Value) (p : Slot) → IsPlaceOf variables operand p → IsAtomOf version variables (one_of operand values) (One p (OneOf values))
   one_of_atom operand values p i = λ G t l. (
     (λ h. (h.0, i.to t h.0 l h.1, h.2.0, h.2.1, h.2.2)),
     (λ h. (h.0, i.from t h.0 l h.1, (h.2, h.3, h.4))),
   )
 
-  pub compare_atom : (left right : Operand) (op : Op) (p q : Place) → IsPlaceOf variables left p → IsPlaceOf variables right q → IsAtomOf version variables (compare left op right) (Two p (Compare op) q)
+  pub compare_atom : (left right : Operand) (op : Op) (p q : Slot) → IsPlaceOf variables left p → IsPlaceOf variables right q → IsAtomOf version variables (compare left op right) (Two p (Compare op) q)
   compare_atom left right op p q i j = λ G t l. (
     (λ h. (h.0, h.1, i.to t h.0 l h.2, j.to t h.1 l h.3, h.4)),
     (λ h. (h.0, h.1, i.from t h.0 l h.2, j.from t h.1 l h.3, h.4)),
   )
 
-  pub walk_atom : (from to : Operand) (r : Regex) (table : Table) (p q : Place) → IsPlaceOf variables from p → IsPlaceOf variables to q → ((word : Word) → HasWord table word ↔ InLanguage r word)
+  pub walk_atom : (from to : Operand) (r : Regex) (table : Table) (p q : Slot) → IsPlaceOf variables from p → IsPlaceOf variables to q → ((word : Word) → HasWord table word ↔ InLanguage r word)
       → IsAtomOf version variables (path from (expression r) to) (Two p (Walk table) q)
   walk_atom from to r table p q i j words = λ G t l. (
     (λ h. (h.0, h.1, i.to t h.0 l h.2, j.to t h.1 l h.3, h.4.0, (words h.4.0).0 h.4.1, h.4.2)),
@@ -69,13 +69,13 @@ module _ (version : ℕ) (variables : List Variable) where
   )
 
   -- a label alone is walked by one edge
-  pub edge_atom : (from to : Operand) (name : List ℕ) (p q : Place) → IsPlaceOf variables from p → IsPlaceOf variables to q → IsAtomOf version variables (path from (expression (label name)) to) (Two p (Edge name) q)
+  pub edge_atom : (from to : Operand) (name : List ℕ) (p q : Slot) → IsPlaceOf variables from p → IsPlaceOf variables to q → IsAtomOf version variables (path from (expression (label name)) to) (Two p (Edge name) q)
   edge_atom from to name p q i j = λ G t l. (
     (λ h. (h.0, h.1, i.to t h.0 l h.2, j.to t h.1 l h.3, name ∷ [], refl, (h.1, h.4, refl))),
     (λ h. (h.0, h.1, i.from t h.0 l h.2, j.from t h.1 l h.3, edge_of G h.0 name h.1 h.4 h.5 h.6)),
   )
 
-  pub arc_atom : (from to : Operand) (x : List ℕ) (k : ℕ) (p q : Place) → IsPlaceOf variables from p → IsPlaceOf variables to q → IsNumberOf variables x k → IsAtomOf version variables (path from (arc_variable x) to) (Arc p k q)
+  pub arc_atom : (from to : Operand) (x : List ℕ) (k : ℕ) (p q : Slot) → IsPlaceOf variables from p → IsPlaceOf variables to q → IsNumberOf variables x k → IsAtomOf version variables (path from (arc_variable x) to) (Arc p k q)
   arc_atom from to x k p q i j n = λ G t l.
       let same = n.same t l in (
         (λ h. (let e = label_of G h.0 h.1 h.2 h.6 in (h.0, h.2, i.to t h.0 l h.3, j.to t h.2 l h.5, e.0, same ∙ (h.4 ∙ ap Some e.1), e.2))),
@@ -89,7 +89,7 @@ module _ (version : ℕ) (variables : List Variable) where
   pub negated_goal : (c : Condition) (a : Atom) → IsAtomOf version variables c a → IsGoalOf version variables (negation c) (HoldsGoal (record { negated = true; atom = a }))
   negated_goal c a i = λ G t l. ((λ never h. never ((i G t l).1 h)), (λ never h. never ((i G t l).0 h)))
 
-  pub path_atom : (from to : Operand) (r : Regex) (rel : Relation) (p q : Place) → IsPlaceOf variables from p → IsPlaceOf variables to q → IsRelationOf r rel → IsAtomOf version variables (path from (expression r) to) (Two p rel q)
+  pub path_atom : (from to : Operand) (r : Regex) (rel : Relation) (p q : Slot) → IsPlaceOf variables from p → IsPlaceOf variables to q → IsRelationOf r rel → IsAtomOf version variables (path from (expression r) to) (Two p rel q)
   path_atom from to r (Edge name) p q i j h = subst (λ e. IsAtomOf version variables (path from (expression e) to) (Two p (Edge name) q)) (sym h) (edge_atom from to name p q i j)
   path_atom from to r (Walk table) p q i j h = walk_atom from to r table p q i j h
   path_atom from to r (Compare op) p q i j h = absurd h

@@ -7,8 +7,8 @@ use Rattle.graph_spec.specs.DataGraph.{DataGraph, HasEdge}
 use Rattle.graph_spec.specs.Steps.{IsMemberValue}
 use Rattle.walks.specs.Joins.{Joins}
 use Rattle.query_spec.specs.Holds.{IsEqual, Compares, HasKind}
-use Rattle.condition_tests.specs.declared.literal.Place.{Place}
-use Rattle.condition_tests.specs.declared.literal.Place.TheVariants.{Variable, Fixed}
+use Rattle.condition_tests.specs.declared.literal.Slot.{Slot}
+use Rattle.condition_tests.specs.declared.literal.Slot.TheVariants.{Variable, Fixed}
 use Rattle.condition_tests.specs.declared.literal.Property.{Property}
 use Rattle.condition_tests.specs.declared.literal.Property.TheVariants.{Member, OneOf, Kind}
 use Rattle.condition_tests.specs.declared.literal.Relation.{Relation}
@@ -20,7 +20,7 @@ use Rattle.condition_tests.specs.declared.literal.Goal.{Goal}
 use Rattle.condition_tests.specs.declared.literal.Goal.TheVariants.{Holds, Domain}
 
 -- the value is at the place in the row
-abbrev pub Stands : Place → List Value → Value → Type 0
+abbrev pub Stands : Slot → List Value → Value → Type 0
 Stands (Variable k) t v = slice_get t k ≡ Some v
 Stands (Fixed w) t v = w ≡ v
 

@@ -1,8 +1,8 @@
 -- What is known of the ends of conditions.
 use Rattle.std.specs.Prelude.{◌≡◌, ◌<◌, ◌↔◌, ℕ, List, Option, None, Some, Bool, IsTrue, slice_get, ⊤}
 use Rattle.sd_value.specs.declared.Value.{Value}
-use Rattle.condition_tests.specs.declared.literal.Place.{Place}
-use Rattle.condition_tests.specs.declared.literal.Place.TheVariants.{Variable, Fixed}
+use Rattle.condition_tests.specs.declared.literal.Slot.{Slot}
+use Rattle.condition_tests.specs.declared.literal.Slot.TheVariants.{Variable, Fixed}
 use Rattle.condition_tests.specs.declared.literal.Atom.{Atom}
 use Rattle.condition_tests.specs.declared.literal.Atom.TheVariants.{One, Two, Arc}
 use Rattle.graph_spec.specs.DataGraph.{DataGraph}
@@ -12,21 +12,21 @@ use Rattle.condition_tests.specs.declared.literal.Goal.{Goal}
 use Rattle.condition_tests.specs.declared.literal.Goal.TheVariants.{Holds, Domain}
 
 -- the value at the place is known to be this one
-abbrev pub IsKnown : Place → List (Option Value) → Value → Type 0
+abbrev pub IsKnown : Slot → List (Option Value) → Value → Type 0
 IsKnown (Variable k) s v = slice_get s k ≡ Some (Some v)
 IsKnown (Fixed w) s v = w ≡ v
 
 -- a variable with no value yet
-abbrev pub IsFree : Place → List (Option Value) → Type 0
+abbrev pub IsFree : Slot → List (Option Value) → Type 0
 IsFree (Variable k) s = slice_get s k ≡ Some None
 IsFree (Fixed w) s = ⊥
 
 -- the value at the place is known
-abbrev pub IsWhole : Place → List (Option Value) → Type 0
+abbrev pub IsWhole : Slot → List (Option Value) → Type 0
 IsWhole p s = (v : Value) × IsKnown p s v
 
 -- a variable is among the first n
-abbrev pub PlaceInRange : ℕ → Place → Type 0
+abbrev pub PlaceInRange : ℕ → Slot → Type 0
 PlaceInRange n (Variable k) = k < n
 PlaceInRange n (Fixed w) = ⊤
 

@@ -15,12 +15,12 @@ use Rattle.condition_tests.specs.declared.literal.Relation.{Relation}
 use Rattle.condition_tests.specs.declared.literal.Relation.TheVariants.{Edge, Walk, Compare}
 use Rattle.condition_tests.specs.declared.literal.Goal.{Goal}
 use Rattle.condition_tests.specs.declared.literal.Atom.{Atom}
-use Rattle.condition_tests.specs.declared.literal.Place.{Place}
+use Rattle.condition_tests.specs.declared.literal.Slot.{Slot}
 use Rattle.condition_tests.specs.Meaning.{GoalHolds, AtomHolds, Stands}
 use Rattle.condition_tests.specs.Places.{GoalInRange}
 
 -- at the place is the operand's value, in each row
-pub record IsPlaceOf (variables : List Variable) (operand : Operand) (p : Place) : Type 0 where
+pub record IsPlaceOf (variables : List Variable) (operand : Operand) (p : Slot) : Type 0 where
   pub to : (t : List Value) (v : Value) → length t ≡ length variables → Stands p t v
       → operand_value (value_in variables t) operand ≡ Some v
   pub from : (t : List Value) (v : Value) → length t ≡ length variables

@@ -8,7 +8,7 @@ mod resolve;
 mod test;
 
 pub use compare::{equals_of, equals_of_any};
-pub use literal::{Atom, Goal, Literal, Place, Property, Relation};
+pub use literal::{Atom, Goal, Literal, Slot, Property, Relation};
 pub use place::{free_at, free_slot, known, value_of};
 pub use resolve::goal_of;
 pub use test::test as test_atom;

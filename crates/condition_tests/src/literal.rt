@@ -6,7 +6,7 @@ use struql_ast::Constants;
 
 /// An end of a condition: a variable by its number in the chain, or a value.
 #[derive(Drop)]
-pub enum Place {
+pub enum Slot {
     Variable(usize),
     Fixed(Value),
 }
@@ -30,10 +30,10 @@ pub enum Relation {
 /// A condition without `not`.
 #[derive(Drop)]
 pub enum Atom {
-    One(Place, Property),
-    Two(Place, Relation, Place),
+    One(Slot, Property),
+    Two(Slot, Relation, Slot),
     /// An edge whose label is the variable of this number.
-    Arc(Place, usize, Place),
+    Arc(Slot, usize, Slot),
 }
 
 /// An atom, or its negation.

@@ -2,7 +2,7 @@
 ghost use Rattle.std.specs.Prelude.{◌≡◌, ◌<◌, MatchOption, length, None, Some, slice_get};
 ghost use Rattle.condition_tests.specs.Places.{IsKnown, IsFree, PlaceInRange, AtomInRange, IsWhole, IsGround};
 
-use crate::literal::{Atom, Place};
+use crate::literal::{Atom, Slot};
 use sd_value::Value;
 
 /// The value of a variable, if it has one yet.
@@ -15,29 +15,29 @@ pub fn value_of(slot: usize, current: &[Option<Value>]) -> Option<&Value>
 }
 
 /// The value at a place, if it is known.
-pub fn known<'a>(place: &'a Place, current: &'a [Option<Value>]) -> Option<&'a Value>
+pub fn known<'a>(place: &'a Slot, current: &'a [Option<Value>]) -> Option<&'a Value>
     requires { PlaceInRange (length current.now) place.now }
     ensures { MatchOption result (IsFree place.now current.now)
         (λ v. IsKnown place.now current.now v.now) }
 {
     match place {
-        Place::Variable(slot) => value_of(*slot, current),
-        Place::Fixed(value) => Some(value),
+        Slot::Variable(slot) => value_of(*slot, current),
+        Slot::Fixed(value) => Some(value),
     }
 }
 
 /// The variable at a place, if it has no value yet.
-pub fn free_at(place: &Place, current: &[Option<Value>]) -> Option<usize>
+pub fn free_at(place: &Slot, current: &[Option<Value>]) -> Option<usize>
     requires { PlaceInRange (length current.now) place.now }
     ensures { MatchOption result (IsWhole place.now current.now)
-        (λ k. (place.now ≡ Place.Variable k) × (slice_get current.now k ≡ Some None)) }
+        (λ k. (place.now ≡ Slot.Variable k) × (slice_get current.now k ≡ Some None)) }
 {
     match place {
-        Place::Variable(slot) => match value_of(*slot, current) {
+        Slot::Variable(slot) => match value_of(*slot, current) {
             Some(_) => None,
             None => Some(*slot),
         },
-        Place::Fixed(_) => None,
+        Slot::Fixed(_) => None,
     }
 }
 

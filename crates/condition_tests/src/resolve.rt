@@ -8,7 +8,7 @@ ghost use Rattle.struql_ast.specs.Reading.{operand_of, step_of, condition_of};
 ghost use Rattle.condition_tests.specs.Resolved.{IsPlaceOf, IsAtomOf, IsRelationOf, IsReady, IsPlain, StandsFor, step_declared, declared};
 ghost use Rattle.condition_tests.specs.Places.{PlaceInRange, AtomInRange};
 
-use crate::literal::{Atom, Goal, Literal, Place, Property, Relation};
+use crate::literal::{Atom, Goal, Literal, Slot, Property, Relation};
 use automaton::{Automaton, RpeRefusal};
 use query_spec::{Variable, index_of};
 use rpe::Rpe;
@@ -17,7 +17,7 @@ use std::alloc::Global;
 use struql_ast::{Condition, Constants, Operand, PathStep};
 
 // Where the operand's value is in a row.
-fn place_of(alloc: Global, variables: &[Variable], operand: &Operand) -> Result<Place, NoMemory>
+fn place_of(alloc: Global, variables: &[Variable], operand: &Operand) -> Result<Slot, NoMemory>
     requires { IsDeclared variables.now (operand_of operand.now) }
     ensures place { IfOk result (λ p. IsPlaceOf variables.now (operand_of operand.now) p) }
     ensures in_range { IfOk result (λ p. PlaceInRange (length variables.now) p) }
@@ -25,11 +25,11 @@ fn place_of(alloc: Global, variables: &[Variable], operand: &Operand) -> Result<
     match operand {
         Operand::Variable(name, _) => {
             let slot = index_of(variables, name);
-            Ok(Place::Variable(slot))
+            Ok(Slot::Variable(slot))
         }
         Operand::Constant(value, _) => {
             let value = copy(alloc, value)?;
-            Ok(Place::Fixed(value))
+            Ok(Slot::Fixed(value))
         }
     }
 }
@@ -110,7 +110,7 @@ fn atom_of(alloc: Global, variables: &[Variable], condition: &Condition) -> Resu
         } => {
             let slot = index_of(variables, variable);
             let collection = collection.copy(alloc)?;
-            Ok(Atom::One(Place::Variable(slot), Property::Member(collection)))
+            Ok(Atom::One(Slot::Variable(slot), Property::Member(collection)))
         }
         Condition::Path { from, step, to, .. } => path_of(alloc, variables, from, step, to),
         Condition::Compare {
@@ -134,7 +134,7 @@ fn atom_of(alloc: Global, variables: &[Variable], condition: &Condition) -> Resu
         }
         Condition::Kind { test, variable, .. } => {
             let slot = index_of(variables, variable);
-            Ok(Atom::One(Place::Variable(slot), Property::Kind(*test)))
+            Ok(Atom::One(Slot::Variable(slot), Property::Kind(*test)))
         }
         Condition::Not(..) => unreachable!(),
     }

@@ -19,7 +19,7 @@ use Rattle.struql_ast.specs.declared.Query as declared_query
 use Rattle.struql_ast.specs.Reading.{operand_of, label_of, query_of}
 use Rattle.struql_ast.specs.Written as written
 use Rattle.struql_ast.specs.Written.{Name, Condition, made, Link, Blocks, no_blocks, block, query_written}
-use Rattle.struql_check.specs.declared.mentions.Mention.{Mention}
+use Rattle.struql_check.specs.declared.mentions.VariableUse.{VariableUse}
 use Rattle.struql_check.specs.declared.mentions.Role.TheVariants.{Label, Other}
 use Rattle.struql_check.specs.declared.faults.Check.TheVariants.{Unbound, NotLabel}
 use Rattle.struql_check.specs.Scope.{ScopedBlock, operand_mentions, mentions, term_mentions, target_mentions, label_mentions, link_mentions, collect_mentions, uses, sort_of}
@@ -41,8 +41,8 @@ is_datum (Data d) h = (d, refl)
 is_datum (Page p) h = absurd h
 
 module _ (S : List plain.Condition) where
-  abbrev Named : List Mention → Type 0
-  Named ms = (m : Mention) → Contains ms m → Contains (flat_map names S) m.name
+  abbrev Named : List VariableUse → Type 0
+  Named ms = (m : VariableUse) → Contains ms m → Contains (flat_map names S) m.name
 
   abbrev Writable : List Value → Type 0
   Writable vs = (v : Value) → Contains vs v → IsWritable v
@@ -66,7 +66,7 @@ module _ (S : List plain.Condition) where
 
 -- ---- a block
 
-used_named : (p : Placed) → NoFault p → (m : Mention) → Contains (uses p.clauses) m → Contains (flat_map names (map condition_plain (joined p.levels))) m.name
+used_named : (p : Placed) → NoFault p → (m : VariableUse) → Contains (uses p.clauses) m → Contains (flat_map names (map condition_plain (joined p.levels))) m.name
 used_named p n m h =
     let own = flat_map mentions p.clauses.conditions in
     let sorted = sorted_in (round_of p.levels) m.name (λ e. n Unbound m.at (inl (m, Contains-append_right own (uses p.clauses) m h, (e, refl)))) in
@@ -79,17 +79,17 @@ only_true None n f = absurd (n refl)
 only_true (Some true) n f = refl
 only_true (Some false) n f = absurd (f refl)
 
-bound_label : (p : Placed) → NoFault p → (l : LinkLabel) → ((m : Mention) → Contains (label_mentions l) m → Contains (uses p.clauses) m) → IsBoundLabel (map condition_plain (joined p.levels)) (label_of l)
+bound_label : (p : Placed) → NoFault p → (l : LinkLabel) → ((m : VariableUse) → Contains (label_mentions l) m → Contains (uses p.clauses) m) → IsBoundLabel (map condition_plain (joined p.levels)) (label_of l)
 bound_label p n (labels.Quoted l) h = tt
 bound_label p n (labels.Variable x span) h =
-    let m : Mention = record { name = x; role = Label; at = span.start } in
+    let m : VariableUse = record { name = x; role = Label; at = span.start } in
     let own = flat_map mentions p.clauses.conditions in
     let at = Contains-append_right own (uses p.clauses) m (h m (Contains-here m [])) in
     arc_named p.levels x
     (only_true (sort_of (round_of p.levels) x) (λ e. n Unbound m.at (inl (m, at, (e, refl)))) (λ e. n NotLabel m.at (inl (m, at, (tt, e, refl)))))
 
 -- what a link mentions, its block uses
-link_uses : (p : Placed) (k : Link) → Contains p.clauses.links k → (m : Mention) → Contains (link_mentions k) m → Contains (uses p.clauses) m
+link_uses : (p : Placed) (k : Link) → Contains p.clauses.links k → (m : VariableUse) → Contains (link_mentions k) m → Contains (uses p.clauses) m
 link_uses p k h m n =
     let a = flat_map term_mentions p.clauses.creates in
     let b = flat_map link_mentions p.clauses.links in

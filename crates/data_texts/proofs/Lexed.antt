@@ -7,7 +7,7 @@ use Rattle.sd_lex.specs.declared.refusal.LexRefusal.{LexRefusal}
 use Rattle.sd_lex.specs.declared.refusal.LexRefusal.TheVariants.{TooLong, BadByte, OpenString, IntOutOfRange, NoMemory}
 use Rattle.sd_lex.specs.declared.token.Token.{Token}
 use Rattle.sd_lex.specs.Reading.{gap, lexeme}
-use Rattle.sd_lex.specs.Lexing.{IsTokenAt, IsFaultAt, IsTokenOrFault, IsTokensOrFault, IsTextOrFault, behind_mark, mark_len, starts_gap, Answers, UnlessNoMemory}
+use Rattle.sd_lex.specs.Lexing.{IsTokenAt, IsFaultAt, IsTokenOrFault, IsTokensOrFault, IsTextOrFault, behind_mark, mark_len, starts_gap, GivesTokens, UnlessNoMemory}
 use Rattle.sd_lex.proofs.Gaps.{Behind, behind_itself, behind_gap, gap_says, spelled_some}
 use Rattle.sd_lex.proofs.Lexemes.{lexeme_found, lexeme_only}
 use Rattle.sd_lex.proofs.WholeText.{Reached, first_reached, next_reached, all_says, refusal_says, text_says}
@@ -29,7 +29,7 @@ plain P (Err (OpenString p)) h some = h
 plain P (Err (IntOutOfRange p)) h some = h
 plain P (Err NoMemory) h some = absurd (some refl)
 
-same_answer : {A : Type 0} (r s : Result A LexRefusal) → s ≡ r → Answers r s
+same_answer : {A : Type 0} (r s : Result A LexRefusal) → s ≡ r → GivesTokens r s
 same_answer r (Ok x) e = e
 same_answer r (Err (TooLong p)) e = e
 same_answer r (Err (BadByte p)) e = e
@@ -64,7 +64,7 @@ skipped whole = skip (length whole) whole whole (omega arith) (behind_itself who
 abbrev Found : ℕ → List ℕ → Type 0
 Found start bytes = (r : Result (List Token) LexRefusal) × IsTokensOrFault start bytes r
 
-unique : (at : ℕ) (rest : List ℕ) (r s : Result Token LexRefusal) → lexeme at rest ≡ r → IsTokenOrFault at rest s → Answers s r
+unique : (at : ℕ) (rest : List ℕ) (r s : Result Token LexRefusal) → lexeme at rest ≡ r → IsTokenOrFault at rest s → GivesTokens s r
 unique at rest r s is h = same_answer s r (sym is ∙ sym (lexeme_only at rest s h))
 
 stopped : (start : ℕ) (bytes : List ℕ) (at : ℕ) (rest : List ℕ) (tokens : List Token) (e : LexRefusal) → Reached start bytes at rest tokens → (rest ≡ [] → ⊥) → lexeme at rest ≡ Err e → Found start bytes

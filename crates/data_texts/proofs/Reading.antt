@@ -10,7 +10,7 @@ use Rattle.sd_graph.specs.declared.GraphRefusal.TheVariants.{TooManyNodes, TooMa
 use Rattle.sd_ddl.specs.Reads.{Reads}
 use Rattle.site_spec.specs.Site.{Scope, scope_of}
 use Rattle.weight_spec.specs.Site.{site_of}
-use Rattle.compose.specs.Listed.{Answers}
+use Rattle.compose.specs.Listed.{AnswersWithin}
 use Rattle.compose.proofs.Whole as one_site
 use Rattle.composed_data.specs.SiteData.{IsSiteData, SiteDataEnds}
 use Rattle.data_texts.specs.Texts.{no_data, States}
@@ -55,8 +55,8 @@ module _ (first : Scope) (text : List ℕ) (raw : DataGraph) (states : States te
   read_some G (inl d) = (raw, states, d)
   read_some G (inr e) = absurd (no_err G e)
 
-  none_within : (e : GraphRefusal) (whole : DataGraph) → Answers no_data.limits whole (Err e) → (e ≡ NoMemory → ⊥)
-      → Answers no_data.limits whole (Ok whole) → ⊥
+  none_within : (e : GraphRefusal) (whole : DataGraph) → AnswersWithin no_data.limits whole (Err e) → (e ≡ NoMemory → ⊥)
+      → AnswersWithin no_data.limits whole (Ok whole) → ⊥
   none_within TooManyNodes whole over other within = omega (arith, over, within.1)
   none_within TooManyEdges whole over other within = omega (arith, over.1, within.2)
   none_within NoMemory whole over other within = other refl
@@ -67,7 +67,7 @@ module _ (first : Scope) (text : List ℕ) (raw : DataGraph) (states : States te
       let same : G ≡ d.whole = only_whole first text raw states d.whole d.is_whole G h in
       let there : h.2.whole ≡ d.whole = sym h.2.answers.0 ∙ same in
       none_within e d.whole d.answers other
-      (subst (λ (x : DataGraph). Answers no_data.limits x (Ok x)) there (refl, h.2.answers.1, h.2.answers.2))
+      (subst (λ (x : DataGraph). AnswersWithin no_data.limits x (Ok x)) there (refl, h.2.answers.1, h.2.answers.2))
   read_none e (inr same) other G h = other (no_memory e same)
 
 -- a graph that is too large is no lack of memory

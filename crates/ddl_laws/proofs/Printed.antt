@@ -25,7 +25,7 @@ use Rattle.ddl_text.specs.declared.tree.Statement.TheVariants.{Object}
 use Rattle.ddl_text.specs.declared.tree.Content.TheVariants as content
 use Rattle.ddl_text.specs.Terminals.{kind_value, plain_value}
 use Rattle.ddl_text.specs.DataText as grammar
-use Rattle.sd_ddl.specs.declared.kinds.Told.TheVariants.{Nothing}
+use Rattle.sd_ddl.specs.declared.kinds.StatedKinds.TheVariants.{Nothing}
 use Rattle.sd_ddl.specs.Steps.{kinded, value_of}
 use Rattle.sd_ddl.specs.Written.{quoted, value_text, step_line, further_text, in_text, object_text}
 use Rattle.ddl_laws.proofs.Pieces.{Prints, splits_blank, splits_both, splits_token, splits_token_blank, prints_nothing, prints_then, prints_as, prints_behind, Matches, Holds, holds_any, prints_many, quoted_spelled}

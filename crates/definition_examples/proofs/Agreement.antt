@@ -47,7 +47,7 @@ not_less Less h = absurd (h refl)
 not_less Equal h = inr refl
 not_less Greater h = inl refl
 
-at_most : (v w : Value) → page.Compares Le v w ↔ query.Compares 1 op.Le v w
+at_most : (v w : Value) → page.HoldsBetween Le v w ↔ query.Compares 1 op.Le v w
 at_most v w = (
   λ h. elim (not_greater (value_cmp v w) h.1) [ inl less ↦ inl ((stand Less v w).1 (h.0, less)) | inr same ↦ inr ((stand Equal v w).1 (h.0, same)) ],
   elim [
@@ -56,7 +56,7 @@ at_most v w = (
   ],
 )
 
-at_least : (v w : Value) → page.Compares Ge v w ↔ query.Compares 1 op.Ge v w
+at_least : (v w : Value) → page.HoldsBetween Ge v w ↔ query.Compares 1 op.Ge v w
 at_least v w = (
   λ h. elim (not_less (value_cmp v w) h.1) [ inl greater ↦ inl ((stand Greater v w).1 (h.0, greater)) | inr same ↦ inr ((stand Equal v w).1 (h.0, same)) ],
   elim [
@@ -65,7 +65,7 @@ at_least v w = (
   ],
 )
 
-pub agree : (c : Cmp) (v w : Value) → page.Compares c v w ↔ query.Compares 1 (op_of c) v w
+pub agree : (c : Cmp) (v w : Value) → page.HoldsBetween c v w ↔ query.Compares 1 (op_of c) v w
 agree Eq v w = (λ h. inl h, elim [ inl h ↦ h | inr h ↦ absurd (no_twins v w h) ])
 agree Ne v w = (λ h. elim [ inl e ↦ h e | inr t ↦ no_twins v w t ], λ h e. h (inl e))
 agree Lt v w = ((stand Less v w).1, (stand Less v w).0)

@@ -14,7 +14,7 @@ use Rattle.query_spec.specs.Holds.{Holds, Assignment}
 use Rattle.query_spec.specs.Rows.{IsRow, value_in}
 use Rattle.site_spec.specs.Site as sites
 use Rattle.site_spec.specs.Site.{IsTermUnder, IsTargetUnder}
-use Rattle.weight_spec.specs.Charges.{Mention, created, linked_from, linked_to, put, Charge, mention, link_row, edge, membership, member, collect_row, IsTermAt, IsMention, IsRowFrom, IsCharge, Weighs, IsAtMostWeight}
+use Rattle.weight_spec.specs.Charges.{NamingPlace, created, linked_from, linked_to, put, Charge, mention, link_row, edge, membership, member, collect_row, IsTermAt, IsNamedAt, IsRowFrom, IsCharge, Weighs, IsAtMostWeight}
 use Rattle.weight_spec.specs.Distinct.{IsDistinct}
 use Rattle.definition_examples.specs.Tools as tools
 use Rattle.definition_examples.specs.Bibliography.{graph, pub1, pub2, author, title, year, int}
@@ -153,14 +153,14 @@ source_of k j t e h = ap (λ (z : Link). z.source) (same k j e) ∙ h
 target_of : (k j : Link) (t : SkolemTerm) → Some k ≡ Some j → j.target ≡ made t → k.target ≡ made t
 target_of k j t e h = ap (λ (z : Link). z.target) (same k j e) ∙ h
 
-home_names : (m : Mention) (t : SkolemTerm) → IsTermAt home m t → IsYears t → ⊥
+home_names : (m : NamingPlace) (t : SkolemTerm) → IsTermAt home m t → IsYears t → ⊥
 home_names (created zero) t e is = no_root t (same root_page t e) is
 home_names (created (suc n)) t e is = nothing t e
 home_names (linked_from n) t (k, e, h) is = nothing k e
 home_names (linked_to n) t (k, e, h) is = nothing k e
 home_names (put n) t (k, e, h) is = nothing k e
 
-papers_name : (m : Mention) (t : SkolemTerm) → IsTermAt papers m t → IsYears t → ⊥
+papers_name : (m : NamingPlace) (t : SkolemTerm) → IsTermAt papers m t → IsYears t → ⊥
 papers_name (created zero) t e is = no_paper t (same paper_page t e) is
 papers_name (created (suc n)) t e is = nothing t e
 papers_name (linked_from zero) t (k, e, h) is = no_paper t (made_same paper_page t (source_of any_link k t e h)) is
@@ -171,7 +171,7 @@ papers_name (linked_to (suc zero)) t (k, e, h) is = no_paper t (made_same paper_
 papers_name (linked_to (suc (suc n))) t (k, e, h) is = nothing k e
 papers_name (put n) t (k, e, h) is = nothing k e
 
-years_name : (m : Mention) (t : SkolemTerm) → IsTermAt scoped_years m t → IsYears t → IsOneOf charges (mention asked 2 m)
+years_name : (m : NamingPlace) (t : SkolemTerm) → IsTermAt scoped_years m t → IsYears t → IsOneOf charges (mention asked 2 m)
 years_name (created zero) t e is = inl refl
 years_name (created (suc n)) t e is = absurd (nothing t e)
 years_name (linked_from zero) t (k, e, h) is = inr (inl refl)
@@ -184,7 +184,7 @@ years_name (linked_to (suc (suc zero))) t (k, e, h) is = inr (inr (inr (inl refl
 years_name (linked_to (suc (suc (suc n)))) t (k, e, h) is = absurd (nothing k e)
 years_name (put n) t (k, e, h) is = absurd (nothing k e)
 
-named : (block : ℕ) (m : Mention) (b : Body) → slice_get scope.bodies block ≡ Some b → IsMention b asked m → IsOneOf charges (mention asked block m)
+named : (block : ℕ) (m : NamingPlace) (b : Body) → slice_get scope.bodies block ≡ Some b → IsNamedAt b asked m → IsOneOf charges (mention asked block m)
 named zero m b e (t, at, is) = absurd (home_names m t (subst (λ (z : Body). IsTermAt z m t) (sym (same home b e)) at) is)
 named (suc zero) m b e (t, at, is) = absurd (papers_name m t (subst (λ (z : Body). IsTermAt z m t) (sym (same papers b e)) at) is)
 named (suc (suc zero)) m b e (t, at, is) = years_name m t (subst (λ (z : Body). IsTermAt z m t) (sym (same scoped_years b e)) at) is

@@ -42,5 +42,5 @@ pub fn one_answer<S: AnySite>(site: &S)
 
 /// A template's comparison says what a query's says under version 1.
 pub fn comparisons_agree()
-    ensures { (c : Cmp) (v w : Value) → page.Compares c v w ↔ query.Compares 1 (op_of c) v w }
+    ensures { (c : Cmp) (v w : Value) → page.HoldsBetween c v w ↔ query.Compares 1 (op_of c) v w }
 {}

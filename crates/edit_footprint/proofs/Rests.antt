@@ -9,7 +9,7 @@ use Rattle.query_spec.specs.Query.{SkolemTerm, Target, plain, made, LinkLabel, q
 use Rattle.query_spec.specs.Mentions.{same_name}
 use Rattle.site_spec.specs.Site.{SomeOf, target_terms, ends_of, terms_of}
 use Rattle.tmpl.specs.Body.{Body}
-use Rattle.edit_spec.specs.Footprint.{own_labels, other_labels, named_collections, MayCarry, IsFrom, RestsOn, on_term, on_own_link, on_link, on_collect}
+use Rattle.edit_spec.specs.Footprint.{own_labels, other_labels, named_collections, MayBeLabelled, IsFrom, RestsOn, on_term, on_own_link, on_link, on_collect}
 use Rattle.edit_touches.proofs.Decides.{Says, same, always, both, either, some}
 use Rattle.edit_footprint.specs.Rests.{is_of, is_made_of, link_names, collect_names, names_term, may_carry, has_own_link, has_link, is_under, is_read, rests_on}
 
@@ -117,23 +117,23 @@ module _ (function : Name) where
         (let e : t ≡ s = cc in ap (λ (z : SkolemTerm). z.function) e ∙ f),
   )
 
-carry_says : (label : LinkLabel) (l : Name) → Says (may_carry label l) (MayCarry label l)
+carry_says : (label : LinkLabel) (l : Name) → Says (may_carry label l) (MayBeLabelled label l)
 carry_says (quoted m) l = same m l
 carry_says (label_variable x) l = always tt
 
 read_says : (function : Name) (t : Body) (b : Block)
     → Says (is_read function (own_labels t) (other_labels t) (named_collections t) b)
-    (SomeOf (λ k. IsFrom function k × SomeOf (MayCarry k.label) (own_labels t)) b.links
-    ⊎ (SomeOf (λ k. SomeOf (MayCarry k.label) (other_labels t)) b.links
+    (SomeOf (λ k. IsFrom function k × SomeOf (MayBeLabelled k.label) (own_labels t)) b.links
+    ⊎ (SomeOf (λ k. SomeOf (MayBeLabelled k.label) (other_labels t)) b.links
     ⊎ SomeOf (λ c. SomeOf (λ name. c.collection ≡ name) (named_collections t)) b.collects))
 read_says function t b =
-    let own = some (has_own_link function (own_labels t)) (λ k. IsFrom function k × SomeOf (MayCarry k.label)
+    let own = some (has_own_link function (own_labels t)) (λ k. IsFrom function k × SomeOf (MayBeLabelled k.label)
     (own_labels t))
     (λ k. both (is_made_of function k.source) (list_any (may_carry k.label) (own_labels t)) (IsFrom function k)
-    (SomeOf (MayCarry k.label) (own_labels t)) (made_says function k.source)
-    (some (may_carry k.label) (MayCarry k.label) (carry_says k.label) (own_labels t))) b.links in
-    let others = some (has_link (other_labels t)) (λ k. SomeOf (MayCarry k.label) (other_labels t))
-    (λ k. some (may_carry k.label) (MayCarry k.label) (carry_says k.label) (other_labels t)) b.links in
+    (SomeOf (MayBeLabelled k.label) (own_labels t)) (made_says function k.source)
+    (some (may_carry k.label) (MayBeLabelled k.label) (carry_says k.label) (own_labels t))) b.links in
+    let others = some (has_link (other_labels t)) (λ k. SomeOf (MayBeLabelled k.label) (other_labels t))
+    (λ k. some (may_carry k.label) (MayBeLabelled k.label) (carry_says k.label) (other_labels t)) b.links in
     let puts = some (is_under (named_collections t)) (λ c. SomeOf (λ name. c.collection ≡ name) (named_collections t))
     (λ c. some (same_name c.collection) (λ name. c.collection ≡ name) (λ name. same c.collection name)
     (named_collections t)) b.collects in

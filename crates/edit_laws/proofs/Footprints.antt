@@ -16,7 +16,7 @@ use Rattle.page_spec.specs.Page.{IsOutcome}
 use Rattle.demand_spec.specs.Reads.{Use, uses}
 use Rattle.edit_spec.specs.declared.Edit.{Edit}
 use Rattle.edit_spec.specs.Touches.{IsOfLabel, IsOfCollection, TouchesChain}
-use Rattle.edit_spec.specs.Footprint.{own_labels, other_labels, named_collections, IsTemplateOf, MayCarry, IsFrom, RestsOn, on_term, on_own_link, on_link, on_collect, Footprint, IsWithoutEmbed, IsFootprint, TouchesFootprint, by_embed, by_block, by_label, by_collection}
+use Rattle.edit_spec.specs.Footprint.{own_labels, other_labels, named_collections, IsTemplateOf, MayBeLabelled, IsFrom, RestsOn, on_term, on_own_link, on_link, on_collect, Footprint, IsWithoutEmbed, IsFootprint, TouchesFootprint, by_embed, by_block, by_label, by_collection}
 use Rattle.edit_laws.specs.Laws.{Becomes, Spares, NamesTermOf, HasLinkBy, CollectsUnder, HasMadeSources}
 use Rattle.edit_laws.proofs.Graphs.{has_edge_to, has_edge_from, has_member_to, has_member_from}
 use Rattle.edit_laws.proofs.Guards.{by_test}
@@ -75,7 +75,7 @@ module _ (G H : DataGraph) (e : Edit) (q : Scope) (change : Becomes G e H) where
 
   -- a page's own edges: the data have none, and links start at terms of its function
   page_edge_to : (p : Term) → HasMadeSources q → (l : Name)
-      → Spares e q (λ b. SomeOf (λ k. IsFrom p.function k × MayCarry k.label l) b.links) → (v : Value)
+      → Spares e q (λ b. SomeOf (λ k. IsFrom p.function k × MayBeLabelled k.label l) b.links) → (v : Value)
       → SiteEdge G q (Page p) l v → SiteEdge H q (Page p) l v
   page_edge_to p made l spares v =
       edge_to G H q (Page p) l v
@@ -85,7 +85,7 @@ module _ (G H : DataGraph) (e : Edit) (q : Scope) (change : Becomes G e H) where
       (λ none. absurd none)
 
   page_edge_from : (p : Term) → HasMadeSources q → (l : Name)
-      → Spares e q (λ b. SomeOf (λ k. IsFrom p.function k × MayCarry k.label l) b.links) → (v : Value)
+      → Spares e q (λ b. SomeOf (λ k. IsFrom p.function k × MayBeLabelled k.label l) b.links) → (v : Value)
       → SiteEdge H q (Page p) l v → SiteEdge G q (Page p) l v
   page_edge_from p made l spares v =
       edge_to H G q (Page p) l v
@@ -138,7 +138,7 @@ module _ (e : Edit) (q : Scope) (function : Name) (t : Body) (foot : Footprint)
 
   -- blocks by what is read of them
   own_spared : (l : Name) → Contains (own_labels t) l
-      → Spares e q (λ b. SomeOf (λ k. IsFrom function k × MayCarry k.label l) b.links)
+      → Spares e q (λ b. SomeOf (λ k. IsFrom function k × MayBeLabelled k.label l) b.links)
   own_spared l c b within k =
       blocks_spared b within
       (on_own_link (record {

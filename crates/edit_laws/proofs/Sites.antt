@@ -10,7 +10,7 @@ use Rattle.query_spec.specs.Holds.{Assignment}
 use Rattle.query_spec.specs.Rows.{IsRow}
 use Rattle.site_spec.specs.Site.{Scope, SomeOf, chain, terms_of, IsTargetUnder, IsLabelUnder, Joins, InSite, Linked, Collected, SiteEdge}
 use Rattle.query_blocks.specs.Blocks.{IsMade}
-use Rattle.edit_spec.specs.Footprint.{MayCarry, IsFrom}
+use Rattle.edit_spec.specs.Footprint.{MayBeLabelled, IsFrom}
 
 -- each row of the block's chain in G is one in H
 abbrev pub RowsTo : DataGraph → DataGraph → Scope → Block → Type 0
@@ -95,7 +95,7 @@ edge_to G H q u l v to of_data (inr x) = inr (of_data x)
 
 -- ---- what a link's joining says of the link
 
-pub carried : (s : Assignment) (k : LinkLabel) (l : Name) → IsLabelUnder s k l → MayCarry k l
+pub carried : (s : Assignment) (k : LinkLabel) (l : Name) → IsLabelUnder s k l → MayBeLabelled k l
 carried s (quoted m) l is = sym is
 carried s (label_variable x) l is = tt
 

@@ -7,7 +7,7 @@ use Rattle.query_blocks.specs.Blocks.{IsMade}
 use Rattle.edit_spec.specs.declared.Edit.{Edit}
 use Rattle.edit_spec.specs.Edited.{Edited, IsOfData}
 use Rattle.edit_spec.specs.Touches.{TouchesChain}
-use Rattle.edit_spec.specs.Footprint.{MayCarry}
+use Rattle.edit_spec.specs.Footprint.{MayBeLabelled}
 
 -- a data graph, an edit that puts no page into it, and the graph after the edit
 pub record Becomes (G : DataGraph) (e : Edit) (H : DataGraph) : Type 0 where
@@ -25,7 +25,7 @@ NamesTermOf function b = SomeOf (λ s. s.function ≡ function) (terms_of b)
 
 -- it has a link that may carry the label
 abbrev pub HasLinkBy : Name → Block → Type 0
-HasLinkBy l b = SomeOf (λ k. MayCarry k.label l) b.links
+HasLinkBy l b = SomeOf (λ k. MayBeLabelled k.label l) b.links
 
 -- it collects under the name
 abbrev pub CollectsUnder : Name → Block → Type 0

@@ -64,9 +64,9 @@ IsTemplateOf f function t =
     ⊎ (((k : ℕ) → First (λ name. name ≡ function) f.functions k → ⊥) × (t ≡ done))
 
 -- a link's label may be this one
-abbrev pub MayCarry : LinkLabel → Name → Type 0
-MayCarry (quoted m) l = m ≡ l
-MayCarry (label_variable x) l = ⊤
+abbrev pub MayBeLabelled : LinkLabel → Name → Type 0
+MayBeLabelled (quoted m) l = m ≡ l
+MayBeLabelled (label_variable x) l = ⊤
 
 -- the link starts at a term of the function
 abbrev pub IsFrom : Name → Link → Type 0
@@ -77,9 +77,9 @@ IsFrom function k = (s : SkolemTerm) × (k.source ≡ made s) × (s.function ≡
 -- that the template reads elsewhere; or it collects under a name that the template has
 pub data RestsOn (function : Name) (t : Body) (b : Block) : Type 0 where
   on_term : SomeOf (λ s. s.function ≡ function) (terms_of b) → RestsOn function t b
-  on_own_link : SomeOf (λ k. IsFrom function k × SomeOf (MayCarry k.label) (own_labels t)) b.links
+  on_own_link : SomeOf (λ k. IsFrom function k × SomeOf (MayBeLabelled k.label) (own_labels t)) b.links
       → RestsOn function t b
-  on_link : SomeOf (λ k. SomeOf (MayCarry k.label) (other_labels t)) b.links → RestsOn function t b
+  on_link : SomeOf (λ k. SomeOf (MayBeLabelled k.label) (other_labels t)) b.links → RestsOn function t b
   on_collect : SomeOf (λ c. SomeOf (λ name. c.collection ≡ name) (named_collections t)) b.collects
       → RestsOn function t b
 

@@ -10,7 +10,7 @@ use Rattle.http_spec.specs.declared.Standing.TheVariants.{Open, Closed}
 use Rattle.http_spec.specs.Asks.{ask_of}
 use Rattle.http_spec.specs.Heads.{max_head, HasNoHead, CannotBecomeHead, AreLineEnds}
 use Rattle.http_spec.specs.Replies.{response, status, content_type, allow_line, reply_body}
-use Rattle.http_spec.specs.Sessions.{OutcomeAt, HasOneOutcome, IsLookedUp, IsReply, closes_after, refusal, HasReplies, Session, Ends, Answers}
+use Rattle.http_spec.specs.Sessions.{OutcomeAt, HasOneOutcome, IsLookedUp, IsReply, closes_after, refusal, HasReplies, Session, Ends, AnswersStream}
 use Rattle.http_spec.specs.Streams.{Timed, Request, bytes_in, IsCutTo}
 use Rattle.http_spec.proofs.StreamLemmas.{cut_first, begins_once, begins_some, cut_once}
 
@@ -137,7 +137,7 @@ refused_how ended rest (inr (inl doomed)) = inr (λ ends. doomed.no_line_ends []
 refused_how ended rest (inr (inr within)) = inr within.1
 
 normal_of : {D : Type 0} (page : D → OutcomeAt) (limit : ℕ) (stream : List (Timed D)) (sent : List (List ℕ))
-    → Answers page limit stream true Closed sent → Normal page limit stream sent
+    → AnswersStream page limit stream true Closed sent → Normal page limit stream sent
 normal_of {D} page limit stream sent a = by_end a.closed a.session a.ends
   where
     by_end : (closed : Bool) → Session page limit stream a.requests a.rest a.answered closed → Ends true Closed (bytes_in a.rest) closed a.last → Normal page limit stream sent
@@ -169,7 +169,7 @@ normal_of {D} page limit stream sent a = by_end a.closed a.session a.ends
 
 -- at the end of its input a connection has one answer
 pub answers_once : {D : Type 0} (page : D → OutcomeAt) → Once page → (limit : ℕ) (stream : List (Timed D)) (a b : List (List ℕ))
-    → Answers page limit stream true Closed a → Answers page limit stream true Closed b → a ≡ b
+    → AnswersStream page limit stream true Closed a → AnswersStream page limit stream true Closed b → a ≡ b
 answers_once page once limit stream a b x y = by_cases (normal_of page limit stream a x) (normal_of page limit stream b y)
   where
     by_cases : Normal page limit stream a → Normal page limit stream b → a ≡ b
@@ -180,7 +180,7 @@ answers_once page once limit stream a b x y = by_cases (normal_of page limit str
 
 -- an open connection has one too
 pub open_answers_once : {D : Type 0} (page : D → OutcomeAt) → Once page → (limit : ℕ) (stream : List (Timed D)) (a b : List (List ℕ))
-    → Answers page limit stream false Open a → Answers page limit stream false Open b → a ≡ b
+    → AnswersStream page limit stream false Open a → AnswersStream page limit stream false Open b → a ≡ b
 open_answers_once page once limit stream a b x y =
     let same = cut_once stream y.requests x.requests y.rest x.rest y.session.cut x.session.cut y.ends.2.0 x.ends.2.0 in
     let Requests : List (Request _) → Type 0 = λ rs. HasReplies page limit rs y.answered false in

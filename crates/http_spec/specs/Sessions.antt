@@ -97,7 +97,7 @@ module _ {D : Type 0} (page : D → OutcomeAt) (limit : ℕ) where
 
   -- These are the replies to a connection's bytes, and the connection is so after them. ended
   -- says that no more bytes come.
-  pub record Answers (stream : List (Timed D)) (ended : Bool) (standing : Standing)
+  pub record AnswersStream (stream : List (Timed D)) (ended : Bool) (standing : Standing)
       (replies : List (List ℕ)) : Type 0 where
     pub requests : List (Request D)
     pub rest : List (Timed D)
@@ -111,5 +111,5 @@ module _ {D : Type 0} (page : D → OutcomeAt) (limit : ℕ) where
   -- the same, or memory was missing for the connection itself
   abbrev pub HasAnswer : List (Timed D) → Bool → Standing → List (List ℕ) → Type 0
   HasAnswer stream ended standing replies =
-      Answers stream ended standing replies
+      AnswersStream stream ended standing replies
       ⊎ ((standing ≡ Short) × (replies ≡ no_memory_bytes ∷ []))

@@ -3,7 +3,7 @@ ghost use Rattle.std.specs.Prelude.{◌≡◌, ℕ, List, [], ◌∷◌, ◌++�
 ghost use Rattle.httparse.specs.Grammar.{RequestHead, IsRequestHead, print_request, print_blank};
 ghost use Rattle.http_spec.specs.Heads.{Cuts, IsHead, HasNoHead, print_heads, is_line_end_byte};
 ghost use Rattle.http_spec.specs.Streams.{Timed, Request, bytes_in, heads_of, IsCutTo};
-ghost use Rattle.http_spec.specs.Sessions.{OutcomeAt, HasOneOutcome, Answers};
+ghost use Rattle.http_spec.specs.Sessions.{OutcomeAt, HasOneOutcome, AnswersStream};
 
 use crate::Standing;
 
@@ -52,22 +52,22 @@ pub fn one_cut_of_a_stream<P: SomePages>()
 pub fn one_answer<P: SomePages>()
     ensures open { ((current : P.Current) → HasOneOutcome (P.page current))
         → (limit : ℕ) (stream : List (Timed P.Current)) (a b : List (List ℕ))
-        → Answers P.page limit stream false Standing.Open a
-        → Answers P.page limit stream false Standing.Open b → a ≡ b }
+        → AnswersStream P.page limit stream false Standing.Open a
+        → AnswersStream P.page limit stream false Standing.Open b → a ≡ b }
     ensures ended { ((current : P.Current) → HasOneOutcome (P.page current))
         → (limit : ℕ) (stream : List (Timed P.Current)) (a b : List (List ℕ))
-        → Answers P.page limit stream true Standing.Closed a
-        → Answers P.page limit stream true Standing.Closed b → a ≡ b }
+        → AnswersStream P.page limit stream true Standing.Closed a
+        → AnswersStream P.page limit stream true Standing.Closed b → a ≡ b }
 {}
 
 /// What closed a connection, or cut it short, stays its answer, whatever bytes come later.
 pub fn closed_stays_closed<P: SomePages>()
     ensures closed { (limit : ℕ) (stream more : List (Timed P.Current)) (ended : Bool)
         (replies : List (List ℕ))
-        → Answers P.page limit stream false Standing.Closed replies
-        → Answers P.page limit (stream ++ more) ended Standing.Closed replies }
+        → AnswersStream P.page limit stream false Standing.Closed replies
+        → AnswersStream P.page limit (stream ++ more) ended Standing.Closed replies }
     ensures short { (limit : ℕ) (stream more : List (Timed P.Current)) (ended : Bool)
         (replies : List (List ℕ))
-        → Answers P.page limit stream false Standing.Short replies
-        → Answers P.page limit (stream ++ more) ended Standing.Short replies }
+        → AnswersStream P.page limit stream false Standing.Short replies
+        → AnswersStream P.page limit (stream ++ more) ended Standing.Short replies }
 {}

@@ -8,7 +8,7 @@ use Rattle.http_spec.specs.declared.Standing.{Standing}
 use Rattle.http_spec.specs.declared.Standing.TheVariants.{Open, Closed, Short, Lost}
 use Rattle.http_spec.specs.Heads.{max_head, HasNoHead}
 use Rattle.http_spec.specs.Replies.{no_memory_bytes}
-use Rattle.http_spec.specs.Sessions.{OutcomeAt, refusal, IsRefused, IsDue, Ends, Answers}
+use Rattle.http_spec.specs.Sessions.{OutcomeAt, refusal, IsRefused, IsDue, Ends, AnswersStream}
 use Rattle.http_spec.specs.Streams.{Timed, Request, timed, bytes_in}
 use Rattle.http_spec.proofs.StreamLemmas.{cut_later, bytes-append}
 use Rattle.http_spec.proofs.LaterLemmas.{due_later, closed_ends_later}
@@ -185,7 +185,7 @@ module _ {D : Type 0} (page : D → OutcomeAt) (Names : List ℕ → Term → Ty
   looks_more heads looked up = looks_append Names open_at.requests (requests_of d heads) counted.looked (look_ups d looked) open_at.looks (looks_dated Names d heads looked up)
 
   -- the counts of an answer to the bytes so far and these heads
-  counts_more : (heads : List RequestHead) (would : Standing) (replies : List (List ℕ)) (one : Made) (bytes : List (Timed D)) (ended : Bool) (a : Answers page limit bytes ended would (open_at.replies ++ replies))
+  counts_more : (heads : List RequestHead) (would : Standing) (replies : List (List ℕ)) (one : Made) (bytes : List (Timed D)) (ended : Bool) (a : AnswersStream page limit bytes ended would (open_at.replies ++ replies))
       → a.requests ≡ open_at.requests ++ requests_of d heads → Makes Names would heads replies one → (would ≡ Short → 0 < length replies)
       → CountedAnswer page Names limit (counts_with counted d one) bytes ended would (open_at.replies ++ replies)
   counts_more heads would replies one bytes ended a same makes some = record {
@@ -256,7 +256,7 @@ module _ {D : Type 0} (page : D → OutcomeAt) (Names : List ℕ → Term → Ty
       nil_on r = sym (append-nil r)
 
   replies_more : (piece : List ℕ) (heads : List RequestHead) (would : Standing) (held : Line) (replies : List (List ℕ)) → Steps (page d) line piece heads would held [] replies
-      → (would ≢ Lost) → (a : Answers page limit (stream ++ timed d piece) false would (open_at.replies ++ replies)) × (a.requests ≡ open_at.requests ++ requests_of d heads)
+      → (would ≢ Lost) → (a : AnswersStream page limit (stream ++ timed d piece) false would (open_at.replies ++ replies)) × (a.requests ≡ open_at.requests ++ requests_of d heads)
   replies_more piece heads Open held replies (step, same) fails =
       let more = session_more page d limit line.left stream open_at.rest open_at.requests open_at.replies step.replies piece held.rest step.heads false
       open_at.session open_at.left open_at.none step.stays.cut.each (rest_on piece _ step.stays.cut.whole) step.stays.answered in (
@@ -347,10 +347,10 @@ module _ {D : Type 0} (page : D → OutcomeAt) (Names : List ℕ → Term → Ty
 
   -- the end of its input
   replies_end : (would : Standing) (replies : List (List ℕ)) → (would ≢ Lost) → AtEnd (bytes_in open_at.rest) would replies
-      → (a : Answers page limit stream true would (open_at.replies ++ replies)) × (a.requests ≡ open_at.requests)
+      → (a : AnswersStream page limit stream true would (open_at.replies ++ replies)) × (a.requests ≡ open_at.requests)
   replies_end would replies = by_would would
     where
-      answer : (would : Standing) → Ends true would (bytes_in open_at.rest) false replies → (a : Answers page limit stream true would (open_at.replies ++ replies)) × (a.requests ≡ open_at.requests)
+      answer : (would : Standing) → Ends true would (bytes_in open_at.rest) false replies → (a : AnswersStream page limit stream true would (open_at.replies ++ replies)) × (a.requests ≡ open_at.requests)
       answer would ends = (
         record {
           requests = open_at.requests;
@@ -365,7 +365,7 @@ module _ {D : Type 0} (page : D → OutcomeAt) (Names : List ℕ → Term → Ty
         refl,
       )
 
-      by_would : (would : Standing) → (would ≢ Lost) → AtEnd (bytes_in open_at.rest) would replies → (a : Answers page limit stream true would (open_at.replies ++ replies)) × (a.requests ≡ open_at.requests)
+      by_would : (would : Standing) → (would ≢ Lost) → AtEnd (bytes_in open_at.rest) would replies → (a : AnswersStream page limit stream true would (open_at.replies ++ replies)) × (a.requests ≡ open_at.requests)
       by_would Open fails never = absurd never
       by_would Closed fails (inl (clean, is)) = answer Closed (inr (inr (refl, refl, (open_at.none, open_at.room), clean, is)))
       by_would Closed fails (inr (within, is)) = answer Closed (inr (inl (refl, (open_at.none, inr (inr (refl, within))), is)))

@@ -4,7 +4,7 @@ use Rattle.std.proofs.Common.{Result, Ok, Err, Option, Some, None, OnOk, OnErr, 
 use Rattle.std.proofs.lemmas.Bool.{cases_eq}
 use Rattle.edge_io.specs.Counts.{Rose}
 use Rattle.wire.specs.Accounts.{up}
-use Rattle.wire.specs.Told.{Told, OtherFaultsStay}
+use Rattle.wire.specs.Told.{WireReport, OtherFaultsStay}
 use Rattle.mem_wire.specs.Sent.{Sent}
 use Rattle.mem_wire.specs.WireInMemory.{WireInMemory, entry_of, faults_of, faults_in, told_of, is_named, fails_next, cut_for}
 use Rattle.mem_wire.specs.WireInMemory.{next_cut, IsNew, ListsStay}
@@ -40,7 +40,7 @@ same_count (Ok x) = refl
 same_count (Err e) = tt
 
 pub same_told : (before after : WireInMemory) → told_of after ≡ told_of before → steady_told after ≡ steady_told before
-same_told before after same = ap (λ (t : Told). record t { next_faults = 0 }) same
+same_told before after same = ap (λ (t : WireReport). record t { next_faults = 0 }) same
 
 -- ---- it stays so
 

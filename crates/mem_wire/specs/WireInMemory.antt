@@ -7,7 +7,7 @@ use Rattle.std.specs.Map.{lookup}
 use Rattle.std.specs.Ordering.{nat_cmp}
 use Rattle.wire.specs.Accounts.{Account, up}
 use Rattle.wire.specs.Events.{add_event}
-use Rattle.wire.specs.Told.{Told}
+use Rattle.wire.specs.Told.{WireReport}
 use Rattle.wire.specs.declared.WireEvent.{WireEvent}
 use Rattle.wire.specs.declared.WireEvent.TheVariants.{Opened, Bytes, Ended, Lost, Change, Done}
 use Rattle.mem_wire.specs.declared.FailingSend.{FailingSend}
@@ -91,7 +91,7 @@ abbrev pub faults_in : WireInMemory → ℕ → ℕ
 faults_in w number = faults_of (entry_of w number)
 
 -- what the wire reports, which is everything
-abbrev pub told_of : WireInMemory → Told
+abbrev pub told_of : WireInMemory → WireReport
 told_of w = record {
   account = accounts_of w;
   faults = faults_in w;

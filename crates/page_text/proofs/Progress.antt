@@ -7,7 +7,7 @@ use Rattle.page_spec.specs.declared.TheConstants.{PAGE_LIMIT}
 use Rattle.page_text.specs.declared.draft.Draft.{Draft}
 use Rattle.page_text.specs.declared.draft.Fragment.{Fragment}
 use Rattle.page_text.specs.declared.draft.Fragment.TheVariants.{Stretch, Whole}
-use Rattle.page_text.specs.declared.writing.Place.{Place}
+use Rattle.page_text.specs.declared.writing.Cursor.{Cursor}
 use Rattle.page_text.specs.Texts.{text_at, fragment_text, IsBefore, AreTexts}
 use Rattle.page_text.specs.Places.{fragments_at, after, after_all, steps, steps_of, steps_after, steps_after_all}
 use Rattle.page_text.proofs.Drafts.{draft_at, before_more}
@@ -58,11 +58,11 @@ next_before ds n at k fs o e = All-head (IsBefore n) (Whole k) fs (subst (All (I
 
 -- ---- the stack
 
-pub after_push : (ts : List (List ℕ)) (ds : List Draft) (ps : List Place) (p : Place) → after_all ts ds (ps ++ p ∷ []) ≡ after ts ds p ++ after_all ts ds ps
+pub after_push : (ts : List (List ℕ)) (ds : List Draft) (ps : List Cursor) (p : Cursor) → after_all ts ds (ps ++ p ∷ []) ≡ after ts ds p ++ after_all ts ds ps
 after_push ts ds [] p = sym (append-nil (after ts ds p))
 after_push ts ds (q ∷ ps) p = ap (λ z. z ++ after ts ds q) (after_push ts ds ps p) ∙ append_assoc (after ts ds p) (after_all ts ds ps) (after ts ds q)
 
-pub steps_push : (ds : List Draft) (ps : List Place) (p : Place) → steps_after_all ds (ps ++ p ∷ []) ≡ steps_after_all ds ps + steps_after ds p
+pub steps_push : (ds : List Draft) (ps : List Cursor) (p : Cursor) → steps_after_all ds (ps ++ p ∷ []) ≡ steps_after_all ds ps + steps_after ds p
 steps_push ds [] p = omega arith
 steps_push ds (q ∷ ps) p = omega (arith, steps_push ds ps p)
 
@@ -90,12 +90,12 @@ next_step fs i x lt is = drop-cons fs i x lt ∙ ap (λ z. z ∷ drop (suc i) fs
 part_short : (a b c d t : List ℕ) → a ++ ((b ++ c) ++ d) ≡ t → length t ≤ PAGE_LIMIT → length b ≤ PAGE_LIMIT
 part_short a b c d t e short = omega (arith, ap length e, length-append a ((b ++ c) ++ d), length-append (b ++ c) d, length-append b c, short)
 
-pub entered : (ts : List (List ℕ)) (ds : List Draft) (out : List ℕ) (n at k : ℕ) (ps : List Place) (t : List ℕ) → AreTexts ds ts → k < length ds
+pub entered : (ts : List (List ℕ)) (ds : List Draft) (out : List ℕ) (n at k : ℕ) (ps : List Cursor) (t : List ℕ) → AreTexts ds ts → k < length ds
     → drop at (fragments_at ds n) ≡ Whole k ∷ drop (at + 1) (fragments_at ds n)
     → out ++ (after ts ds record { number = n; at = at } ++ after_all ts ds ps) ≡ t → length t ≤ PAGE_LIMIT
     → out ++ (after ts ds record { number = k; at = 0 } ++ after_all ts ds (ps ++ record { number = n; at = at + 1 } ∷ [])) ≡ t
 entered ts ds out n at k ps t all there e rest short =
-    let p : Place = record { number = n; at = at + 1 } in
+    let p : Cursor = record { number = n; at = at + 1 } in
     let whole : List ℕ = text_at ts k in
     let now : after ts ds record { number = n; at = at } ≡ whole ++ after ts ds p = ap (flat_map (fragment_text ts)) e in
     let rest' : out ++ ((whole ++ after ts ds p) ++ after_all ts ds ps) ≡ t = ap (λ z. out ++ (z ++ after_all ts ds ps)) (sym now) ∙ rest in
@@ -105,7 +105,7 @@ entered ts ds out n at k ps t all there e rest short =
     ∙ ap (λ z. out ++ z) (sym (append_assoc whole (after ts ds p) (after_all ts ds ps)))
     ∙ rest'
 
-pub left_again : (ts : List (List ℕ)) (ds : List Draft) (out : List ℕ) (top p : Place) (qs ps : List Place) (t : List ℕ)
+pub left_again : (ts : List (List ℕ)) (ds : List Draft) (out : List ℕ) (top p : Cursor) (qs ps : List Cursor) (t : List ℕ)
     → drop top.at (fragments_at ds top.number) ≡ [] → qs ≡ ps ++ p ∷ []
     → out ++ (after ts ds top ++ after_all ts ds qs) ≡ t → out ++ (after ts ds p ++ after_all ts ds ps) ≡ t
 left_again ts ds out top p qs ps t e popped rest =

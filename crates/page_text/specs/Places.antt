@@ -3,7 +3,7 @@ use Rattle.std.specs.Prelude.{ℕ, zero, suc, ◌+◌, List, [], ◌∷◌, ◌+
 use Rattle.page_text.specs.declared.draft.Draft.{Draft}
 use Rattle.page_text.specs.declared.draft.Fragment.{Fragment}
 use Rattle.page_text.specs.declared.draft.Fragment.TheVariants.{Stretch, Whole}
-use Rattle.page_text.specs.declared.writing.Place.{Place}
+use Rattle.page_text.specs.declared.writing.Cursor.{Cursor}
 use Rattle.page_text.specs.Texts.{fragment_text, fragments_of}
 
 abbrev pub fragments_at : List Draft → ℕ → List Fragment
@@ -12,11 +12,11 @@ fragments_at (d ∷ ds) zero = fragments_of d
 fragments_at (d ∷ ds) (suc i) = fragments_at ds i
 
 -- the bytes that are after a place of a text
-abbrev pub after : List (List ℕ) → List Draft → Place → List ℕ
+abbrev pub after : List (List ℕ) → List Draft → Cursor → List ℕ
 after ts ds p = flat_map (fragment_text ts) (drop p.at (fragments_at ds p.number))
 
 -- those after the places of a stack, whose last one is next
-abbrev pub after_all : List (List ℕ) → List Draft → List Place → List ℕ
+abbrev pub after_all : List (List ℕ) → List Draft → List Cursor → List ℕ
 after_all ts ds [] = []
 after_all ts ds (p ∷ ps) = after_all ts ds ps ++ after ts ds p
 
@@ -31,9 +31,9 @@ abbrev pub steps_of : List Draft → ℕ → ℕ → ℕ
 steps_of ds zero k = 0
 steps_of ds (suc h) k = 1 + steps (steps_of ds h) (fragments_at ds k)
 
-abbrev pub steps_after : List Draft → Place → ℕ
+abbrev pub steps_after : List Draft → Cursor → ℕ
 steps_after ds p = 1 + steps (steps_of ds p.number) (drop p.at (fragments_at ds p.number))
 
-abbrev pub steps_after_all : List Draft → List Place → ℕ
+abbrev pub steps_after_all : List Draft → List Cursor → ℕ
 steps_after_all ds [] = 0
 steps_after_all ds (p ∷ ps) = steps_after ds p + steps_after_all ds ps

@@ -10,13 +10,13 @@ use std::alloc::Global;
 
 /// How many parts of a text are written.
 #[derive(Clone, Copy, Drop)]
-pub struct Place {
+pub struct Cursor {
     number: usize,
     at: usize,
 }
 
 // The part that is next.
-fn next(drafts: &[Draft], place: Place) -> Option<&Fragment>
+fn next(drafts: &[Draft], place: Cursor) -> Option<&Fragment>
     requires { place.number < length drafts.now }
     ensures small { IfSome result (λ _. place.at + 1 < 2 ^ 64) }
     ensures part { MatchOption result
@@ -43,22 +43,22 @@ pub fn written(alloc: Global, drafts: &[Draft], number: usize) -> Result<Vec<u8>
 {
     let mut out = Vec::new(alloc);
     let mut stack = Vec::new(alloc);
-    let mut top = Place { number, at: 0 };
+    let mut top = Cursor { number, at: 0 };
     loop {
         match next(drafts, top) {
             Some(Fragment::Stretch(text)) => {
                 out.extend_from_slice(text.bytes())?;
-                top = Place {
+                top = Cursor {
                     number: top.number,
                     at: top.at + 1,
                 };
             }
             Some(Fragment::Whole(inner)) => {
-                stack.push(Place {
+                stack.push(Cursor {
                     number: top.number,
                     at: top.at + 1,
                 })?;
-                top = Place {
+                top = Cursor {
                     number: *inner,
                     at: 0,
                 };

@@ -5,7 +5,7 @@ ghost use Rattle.candidate_values.specs.Kept.{IsFrom};
 
 use crate::counts::{FEW, Least, end_of_look, literal_at, offered_by, or_fewer};
 use candidate_values::Search;
-use condition_tests::{Atom, Goal, Literal, Place, Property, Relation, free_at, known, value_of};
+use condition_tests::{Atom, Goal, Literal, Slot, Property, Relation, free_at, known, value_of};
 use query_spec::Op;
 use sd_value::{NoMemory, Value};
 use std::alloc::Global;
@@ -29,7 +29,7 @@ fn is_set(flags: &[bool], slot: usize) -> bool {
 }
 
 // Whether the place is a variable that has no value, and its flag is set.
-fn is_open(place: &Place, flags: &[bool], current: &[Option<Value>]) -> bool
+fn is_open(place: &Slot, flags: &[bool], current: &[Option<Value>]) -> bool
     requires { PlaceInRange (length current.now) place.now }
 {
     match free_at(place, current) {
@@ -152,10 +152,10 @@ fn mark(slot: usize, flags: &mut [bool])
     }
 }
 
-fn mark_place(place: &Place, flags: &mut [bool])
+fn mark_place(place: &Slot, flags: &mut [bool])
     ensures { length flags.new ≡ length flags.old }
 {
-    if let Place::Variable(slot) = place {
+    if let Slot::Variable(slot) = place {
         mark(*slot, flags);
     }
 }

@@ -11,7 +11,7 @@ use Rattle.struql_ast.specs.declared.Operand.{Operand}
 use Rattle.struql_ast.specs.declared.Operand.TheVariants as operands
 use Rattle.struql_ast.specs.Reading.{operand_of}
 use Rattle.struql_ast.specs.Written.{Name, Condition, arc_variable, expression, member, path, compare, one_of, kind, negation}
-use Rattle.struql_check.specs.declared.mentions.Mention.{Mention}
+use Rattle.struql_check.specs.declared.mentions.VariableUse.{VariableUse}
 use Rattle.struql_check.specs.declared.mentions.Role.{Role}
 use Rattle.struql_check.specs.declared.mentions.Role.TheVariants.{Arc, End, Other}
 use Rattle.struql_check.specs.Scope.{operand_mentions, step_mentions, mentions, sort_of}
@@ -20,7 +20,7 @@ use Rattle.query_scoping.proofs.Plain.{condition_plain}
 use Rattle.query_scoping.proofs.Placed.{joined, round_of}
 use Rattle.query_scoping.proofs.Sorts.{IsSound}
 
-abbrev pub name_of : Mention → Name
+abbrev pub name_of : VariableUse → Name
 name_of m = m.name
 
 operand_same : (role : Role) (o : Operand) → operand_names (operand_of o) ≡ map name_of (operand_mentions role o)
@@ -44,13 +44,13 @@ all_names_same [] = refl
 all_names_same (c ∷ cs) = rw (names_same c, all_names_same cs, map-append name_of (mentions c) (flat_map mentions cs)) refl
 
 -- a mention of the role, with the name
-abbrev pub HasRole : Role → List Mention → Name → Type 0
-HasRole role ms x = (m : Mention) × Contains ms m × (m.role ≡ role) × (m.name ≡ x)
+abbrev pub HasRole : Role → List VariableUse → Name → Type 0
+HasRole role ms x = (m : VariableUse) × Contains ms m × (m.role ≡ role) × (m.name ≡ x)
 
-role_left : (role : Role) (ms ns : List Mention) (x : Name) → HasRole role ms x → HasRole role (ms ++ ns) x
+role_left : (role : Role) (ms ns : List VariableUse) (x : Name) → HasRole role ms x → HasRole role (ms ++ ns) x
 role_left role ms ns x h = (h.0, Contains-append_left ms ns h.0 h.1, h.2, h.3)
 
-role_right : (role : Role) (ms ns : List Mention) (x : Name) → HasRole role ns x → HasRole role (ms ++ ns) x
+role_right : (role : Role) (ms ns : List VariableUse) (x : Name) → HasRole role ns x → HasRole role (ms ++ ns) x
 role_right role ms ns x h = (h.0, Contains-append_right ms ns h.0 h.1, h.2, h.3)
 
 one_of_role : (role : Role) (x y : Name) (at : ℕ) → Contains (x ∷ []) y → HasRole role (record { name = x; role = role; at = at } ∷ []) y
@@ -108,8 +108,8 @@ never_both levels x s n a =
     let ms = joined (round_of levels) in
     let at_end = all_role node_names End nodes_role (joined levels) x n in
     let at_arc = all_role arc_names Arc arcs_role (joined levels) x a in
-    let e = s.ends at_end.0 (subst (λ (l : List Mention). Contains l at_end.0) (sym (round_joined levels)) at_end.1) at_end.2 in
-    let f = s.arcs at_arc.0 (subst (λ (l : List Mention). Contains l at_arc.0) (sym (round_joined levels)) at_arc.1) at_arc.2 in
+    let e = s.ends at_end.0 (subst (λ (l : List VariableUse). Contains l at_end.0) (sym (round_joined levels)) at_end.1) at_end.2 in
+    let f = s.arcs at_arc.0 (subst (λ (l : List VariableUse). Contains l at_arc.0) (sym (round_joined levels)) at_arc.1) at_arc.2 in
     let e' : sort_of (round_of levels) x ≡ Some false = subst (λ (y : Name). sort_of (round_of levels) y ≡ Some false) at_end.3 e in
     let f' : sort_of (round_of levels) x ≡ Some true = subst (λ (y : Name). sort_of (round_of levels) y ≡ Some true) at_arc.3 f in
     cc

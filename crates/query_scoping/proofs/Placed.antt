@@ -7,7 +7,7 @@ use Rattle.std.proofs.lemmas.List.Elements.{Contains-append_left, Contains-appen
 use Rattle.sd_value.specs.Members.{Contains-nil, Contains-cons_cases, Contains-here, Contains-there}
 use Rattle.query_spec.specs.Query.{with_outer, Body}
 use Rattle.struql_ast.specs.Written.{Condition, Clauses, Blocks, no_blocks, block}
-use Rattle.struql_check.specs.declared.mentions.Mention.{Mention}
+use Rattle.struql_check.specs.declared.mentions.VariableUse.{VariableUse}
 use Rattle.struql_check.specs.Scope.{mentions, ScopedBlock, within}
 use Rattle.query_scoping.proofs.Plain.{condition_plain, clauses_plain, blocks_plain}
 
@@ -24,7 +24,7 @@ placed_within levels (block c inner span after) =
     let here = levels ++ c.conditions ∷ [] in
     record { levels = here; clauses = c } ∷ (placed_within here inner ++ placed_within levels after)
 
-abbrev pub round_of : List (List Condition) → List (List Mention)
+abbrev pub round_of : List (List Condition) → List (List VariableUse)
 round_of levels = map (flat_map mentions) levels
 
 abbrev pub scoped_of : Placed → ScopedBlock

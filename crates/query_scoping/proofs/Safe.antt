@@ -18,7 +18,7 @@ use Rattle.struql_ast.specs.Written as written
 use Rattle.struql_ast.specs.Written.{Name, Condition, member, path, compare, one_of, kind, negation, arc_variable, expression, Term, made, Link, Collect, Clauses, Blocks, no_blocks, block}
 use Rattle.struql_check.specs.declared.faults.Check.{Check}
 use Rattle.struql_check.specs.declared.faults.Check.TheVariants.{TooManyPositions, Unbound, LinkFromData, TooManyVariables}
-use Rattle.struql_check.specs.declared.mentions.Mention.{Mention}
+use Rattle.struql_check.specs.declared.mentions.VariableUse.{VariableUse}
 use Rattle.struql_check.specs.declared.mentions.Role.TheVariants.{Other}
 use Rattle.struql_check.specs.Scope.{operand_mentions, mentions, term_mentions, target_mentions, label_mentions, link_mentions, collect_mentions, uses}
 use Rattle.struql_check.specs.Faults.{SomeIn, MentionFault, large_place}
@@ -67,7 +67,7 @@ kept_step levels c k n =
     let own = flat_map mentions c.conditions in
     let e : round_of here ≡ round_of levels ++ own ∷ [] = map-append (flat_map mentions) levels (c.conditions ∷ []) in
     let never : (check : Check) (at : ℕ) → SomeIn (MentionFault (round_of levels ++ own ∷ [])) own check at → ⊥ = λ check at h.
-    n.faultless check at (inl (h.0, Contains-append_left own (uses c) h.0 h.1, subst (λ (r : List (List Mention)). MentionFault r h.0 check at) (sym e) h.2)) in
+    n.faultless check at (inl (h.0, Contains-append_left own (uses c) h.0 h.1, subst (λ (r : List (List VariableUse)). MentionFault r h.0 check at) (sym e) h.2)) in
     record {
       sound = subst IsSound (sym e) (sound_step (round_of levels) own k.sound never);
       small = rw (chain_push levels c.conditions) (All-append (λ q. condition_positions q ≤ 256) (chain_conditions levels) (map condition_plain c.conditions) k.small
@@ -88,19 +88,19 @@ kept_none = record {
 abbrev pub IsNamed : List Variable → Name → Type 0
 IsNamed variables x = Contains (map (λ v. v.name) variables) x
 
-args_declared : (vs : List Variable) (args : List Operand) → ((m : Mention) → Contains (flat_map (operand_mentions Other) args) m → IsNamed vs m.name) → All (IsDeclared vs) (map operand_of args)
+args_declared : (vs : List Variable) (args : List Operand) → ((m : VariableUse) → Contains (flat_map (operand_mentions Other) args) m → IsNamed vs m.name) → All (IsDeclared vs) (map operand_of args)
 args_declared vs [] h = All-nil (IsDeclared vs)
 args_declared vs (operands.Variable x span ∷ os) h =
     All-cons (IsDeclared vs) (plain.variable x) (map operand_of os) (h (record { name = x; role = Other; at = span.start }) (Contains-here _ (flat_map (operand_mentions Other) os)))
     (args_declared vs os (λ m k. h m (Contains-there _ (flat_map (operand_mentions Other) os) m k)))
 args_declared vs (operands.Constant v span ∷ os) h = All-cons (IsDeclared vs) (plain.constant v) (map operand_of os) tt (args_declared vs os h)
 
-target_declared : (vs : List Variable) (g : written.Target) (t : plain.SkolemTerm) → Contains (site.target_terms (target_plain g)) t → ((m : Mention) → Contains (target_mentions g) m → IsNamed vs m.name) → All (IsDeclared vs) t.args
+target_declared : (vs : List Variable) (g : written.Target) (t : plain.SkolemTerm) → Contains (site.target_terms (target_plain g)) t → ((m : VariableUse) → Contains (target_mentions g) m → IsNamed vs m.name) → All (IsDeclared vs) t.args
 target_declared vs (written.plain o) t h u = absurd (Contains-nil t h)
 target_declared vs (made w) t h u =
     ⊎_elim (λ e. subst (λ (s : plain.SkolemTerm). All (IsDeclared vs) s.args) e (args_declared vs w.args u)) (λ k. absurd (Contains-nil t k)) (Contains-cons_cases (term_plain w) [] t h)
 
-link_declared : (vs : List Variable) (k : Link) (t : plain.SkolemTerm) → Contains (site.ends_of (link_plain k)) t → ((m : Mention) → Contains (link_mentions k) m → IsNamed vs m.name) → All (IsDeclared vs) t.args
+link_declared : (vs : List Variable) (k : Link) (t : plain.SkolemTerm) → Contains (site.ends_of (link_plain k)) t → ((m : VariableUse) → Contains (link_mentions k) m → IsNamed vs m.name) → All (IsDeclared vs) t.args
 link_declared vs k t h u =
     let s = target_mentions k.source in
     let l = label_mentions k.label in
@@ -110,7 +110,7 @@ link_declared vs k t h u =
     (λ i. target_declared vs k.target t i (λ m n. u m (Contains-append_right (s ++ l) g m n)))
     (Contains-append_cases (site.target_terms (target_plain k.source)) (site.target_terms (target_plain k.target)) t h)
 
-pub terms_declared : (vs : List Variable) (c : Clauses) (ks : List plain.Condition) (t : plain.SkolemTerm) → Contains (site.terms_of (record (clauses_plain c) { conditions = ks })) t → ((m : Mention) → Contains (uses c) m → IsNamed vs m.name) → All (IsDeclared vs) t.args
+pub terms_declared : (vs : List Variable) (c : Clauses) (ks : List plain.Condition) (t : plain.SkolemTerm) → Contains (site.terms_of (record (clauses_plain c) { conditions = ks })) t → ((m : VariableUse) → Contains (uses c) m → IsNamed vs m.name) → All (IsDeclared vs) t.args
 terms_declared vs c ks t h u =
     let a = flat_map term_mentions c.creates in
     let b = flat_map link_mentions c.links in
@@ -136,7 +136,7 @@ terms_declared vs c ks t h u =
 
 -- ---- a block whose chain is known
 
-used_named : (p : Placed) → NoFault p → (m : Mention) → Contains (uses p.clauses) m → Contains (flat_map names (chain_conditions p.levels)) m.name
+used_named : (p : Placed) → NoFault p → (m : VariableUse) → Contains (uses p.clauses) m → Contains (flat_map names (chain_conditions p.levels)) m.name
 used_named p n m h =
     let own = flat_map mentions p.clauses.conditions in
     let sorted = sorted_in (round_of p.levels) m.name (λ e. n Unbound m.at (inl (m, Contains-append_right own (uses p.clauses) m h, (e, refl)))) in

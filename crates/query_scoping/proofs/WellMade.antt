@@ -10,7 +10,7 @@ use Rattle.query_spec.specs.declared.Variable.{Variable}
 use Rattle.query_spec.specs.Query as plain
 use Rattle.query_spec.specs.Mentions.{same_name, names, arc_names, node_names, first_mentions, chain_of, IsFlat, condition_positions, IsWellMade}
 use Rattle.struql_ast.specs.Written.{Name, Condition}
-use Rattle.struql_check.specs.declared.mentions.Mention.{Mention}
+use Rattle.struql_check.specs.declared.mentions.VariableUse.{VariableUse}
 use Rattle.struql_check.specs.Faults.{IsPast}
 use Rattle.struql_check.specs.Known.{names_of}
 use Rattle.query_spec.proofs.MentionLaws.{by_test, same_itself}
@@ -43,12 +43,12 @@ distinct_mapped f named xs h = λ i j d l m e.
     h i j [] l n (sym at_i ∙ (e ∙ at_j))
 
 -- where no mention is past the limit, the variables are few
-pub few_unless : (before after : List Mention) → length (names_of before) ≤ 32 → ((at : ℕ) → IsPast (before ++ after) at → ⊥) → length (names_of (before ++ after)) ≤ 32
+pub few_unless : (before after : List VariableUse) → length (names_of before) ≤ 32 → ((at : ℕ) → IsPast (before ++ after) at → ⊥) → length (names_of (before ++ after)) ≤ 32
 few_unless before [] l n = rw (append-nil before) l
 few_unless before (m ∷ after) l n =
     let e : (before ++ m ∷ []) ++ after ≡ before ++ m ∷ after = append_assoc before (m ∷ []) after in
     let onward : length (names_of (before ++ m ∷ [])) ≤ 32 → length (names_of (before ++ m ∷ after)) ≤ 32 = λ k.
-    subst (λ (ms : List Mention). length (names_of ms) ≤ 32) e (few_unless (before ++ m ∷ []) after k (λ at p. n at (subst (λ (ms : List Mention). IsPast ms at) e p))) in
+    subst (λ (ms : List VariableUse). length (names_of ms) ≤ 32) e (few_unless (before ++ m ∷ []) after k (λ at p. n at (subst (λ (ms : List VariableUse). IsPast ms at) e p))) in
     by_test (list_any (same_name m.name) (names_of before)) (length (names_of (before ++ m ∷ after)) ≤ 32)
     (λ t. onward (rw (names_known before m t) l))
     (λ f. by_size (length (names_of before)) (length (names_of (before ++ m ∷ after)) ≤ 32) l

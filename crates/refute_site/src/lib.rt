@@ -13,14 +13,14 @@ mod candidates;
 mod conditions;
 mod freezing;
 mod given;
-mod graph_trial;
+mod oracle;
 mod names;
 mod statements;
-mod trial;
+mod refuting;
 mod values;
 mod words;
 
-pub use graph_trial::Trial;
+pub use oracle::Oracle;
 use candidate::UNBOUNDED;
 use candidates::candidates_of;
 use constraint_spec::Constraint;
@@ -29,13 +29,13 @@ use sd_graph::{Graph, GraphBuilder};
 use sd_value::NoMemory;
 use std::alloc::Global;
 use struql_check::Checked;
-use trial::{first_refuting, refuting};
+use refuting::{first_refuting, refuting};
 
 /// The first of the constraint's candidates over which the query's site doesn't meet the constraint,
 /// and none exactly where it meets it over each of them. The candidates are made one after another.
 /// # Errors
 /// Out of memory.
-pub fn first_broken<T: Trial>(
+pub fn first_broken<T: Oracle>(
     alloc: Global,
     query: &Checked,
     constraint: &Constraint,

@@ -4,7 +4,7 @@ ghost use Rattle.sd_value.specs.declared.Value.{Value};
 ghost use Rattle.sd_value.specs.Order.{value_cmp};
 ghost use Rattle.sd_value.specs.Ascending.{ListsExactly};
 ghost use Rattle.page_spec.specs.Site.{Reaches, InRange, HasKey, Starts, IsBound, keyed_cmp, Arranged};
-ghost use Rattle.page_spec.specs.Pieces.{Compares, Holds};
+ghost use Rattle.page_spec.specs.Pieces.{HoldsBetween, Holds};
 ghost use Rattle.page_spec.specs.Question.{out as asks_out};
 ghost use Rattle.demand_spec.specs.Reads.{KeepsOnly};
 ghost use Rattle.render.specs.Asks.{WordAsks, RootAsks, RangeAsks, KeyAsks, ArrangedAsks};
@@ -219,7 +219,7 @@ fn has_any(values: Vec<Value>) -> bool
 
 fn any_compares(values: &[Value], against: &Against) -> bool
     ensures { IsTrue result
-        ↔ ((v : Value) × Contains values.now v × Compares against.now.compare v
+        ↔ ((v : Value) × Contains values.now v × HoldsBetween against.now.compare v
         against.now.constant) }
 {
     for value in values {

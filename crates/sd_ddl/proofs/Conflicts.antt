@@ -12,8 +12,8 @@ use Rattle.ddl_text.specs.declared.tree.Content.TheVariants as contents
 use Rattle.sd_ddl.specs.declared.part.Part.{Part}
 use Rattle.sd_ddl.specs.declared.part.Giving.{Giving}
 use Rattle.sd_ddl.specs.declared.part.Part.TheVariants.{Gives, Node, Member, Edge}
-use Rattle.sd_ddl.specs.declared.kinds.Told.{Told}
-use Rattle.sd_ddl.specs.declared.kinds.Told.TheVariants.{Nothing, One, Several}
+use Rattle.sd_ddl.specs.declared.kinds.StatedKinds.{StatedKinds}
+use Rattle.sd_ddl.specs.declared.kinds.StatedKinds.TheVariants.{Nothing, One, Several}
 use Rattle.sd_ddl.specs.declared.kinds.Givings.{Givings}
 use Rattle.sd_ddl.specs.declared.kinds.Kinds.{Kinds}
 use Rattle.sd_ddl.specs.declared.conflict.Stop.{Stop}
@@ -29,7 +29,7 @@ use Rattle.sd_ddl.proofs.Told.{several-differs}
 pub same_kinds : (parts : List Part) (kinds : Kinds) → Knows parts kinds → told_of kinds ≡ kinds_told parts
 same_kinds parts kinds knows = λ i o a. knows o a i
 
-value_conflict : (t : Told) (place : ℕ) (o l : Name) (v : Content) → has_two_kinds t v ≡ true → edge_steps place o l (value_of t v) ≡ fails place ∷ []
+value_conflict : (t : StatedKinds) (place : ℕ) (o l : Name) (v : Content) → has_two_kinds t v ≡ true → edge_steps place o l (value_of t v) ≡ fails place ∷ []
 value_conflict t place o l (contents.Number n) h = cc
 value_conflict Nothing place o l (contents.Plain s) h = cc
 value_conflict (One k) place o l (contents.Plain s) h = cc
@@ -37,7 +37,7 @@ value_conflict Several place o l (contents.Plain s) h = refl
 value_conflict t place o l (contents.Kinded k s) h = cc
 value_conflict t place o l (contents.Node n) h = cc
 
-value_said : (t : Told) (place : ℕ) (o l : Name) (v : Content) → has_two_kinds t v ≡ false → NoFails (edge_steps place o l (value_of t v))
+value_said : (t : StatedKinds) (place : ℕ) (o l : Name) (v : Content) → has_two_kinds t v ≡ false → NoFails (edge_steps place o l (value_of t v))
 value_said t place o l (contents.Number n) h = tt
 value_said Nothing place o l (contents.Plain s) h = tt
 value_said (One k) place o l (contents.Plain s) h = tt
@@ -167,7 +167,7 @@ cuts (TooManyNodes at) = tt
 cuts (TooManyEdges at) = tt
 cuts NoMemory = tt
 
-module _ (k : Name → Name → Told) (parts : List Part) (b c d : Building) (i : ℕ) (p : Part) (lt : i < length parts) (is : p ≡ get_or parts i p)
+module _ (k : Name → Name → StatedKinds) (parts : List Part) (b c d : Building) (i : ℕ) (p : Part) (lt : i < length parts) (is : p ≡ get_or parts i p)
     (whole : Continues b (all_said k parts) c (all_said k (drop i parts))) where
   whole_here : Continues b (all_said k parts) c (said k p ++ all_said k (drop (i + 1) parts))
   whole_here = subst (Continues b (all_said k parts) c) (ap (all_said k) (next_part parts i p lt is).0) whole
@@ -178,7 +178,7 @@ module _ (k : Name → Name → Told) (parts : List Part) (b c d : Building) (i 
   pub part_stopped : (stop : Stop) → Ends c (said k p) d (stop_ending (Err stop)) → Ends b (all_said k parts) d (stop_ending (Err stop))
   part_stopped stop h = Continues-stop b c d (all_said k parts) (said k p) (all_said k (drop (i + 1) parts)) (stop_ending (Err stop)) whole_here (cuts stop) h
 
-pub parts_added : (k : Name → Name → Told) (parts : List Part) (b c : Building) (i : ℕ) → length parts ≤ i → Continues b (all_said k parts) c (all_said k (drop i parts))
+pub parts_added : (k : Name → Name → StatedKinds) (parts : List Part) (b c : Building) (i : ℕ) → length parts ≤ i → Continues b (all_said k parts) c (all_said k (drop i parts))
     → Leads b (all_said k parts) c
 parts_added k parts b c i over whole =
     Continues-end b c (all_said k parts) (subst (Continues b (all_said k parts) c) (at_drop_all (all_said k) parts i over) whole)

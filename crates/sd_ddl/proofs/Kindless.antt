@@ -4,7 +4,7 @@ use Rattle.std.specs.List.{flat_map}
 use Rattle.ddl_text.specs.declared.tree.Kind.{Kind}
 use Rattle.sd_ddl.specs.declared.part.Part.{Part}
 use Rattle.sd_ddl.specs.declared.part.Part.TheVariants.{Gives, Node, Member, Edge}
-use Rattle.sd_ddl.specs.declared.kinds.Told.{Told}
+use Rattle.sd_ddl.specs.declared.kinds.StatedKinds.{StatedKinds}
 use Rattle.sd_ddl.specs.Kinds.{Name, given, collections, told}
 use Rattle.sd_ddl.specs.Steps.{said, steps_from, steps, kinds_told}
 use Rattle.sd_ddl.specs.Plain.{no_kinds}
@@ -37,7 +37,7 @@ flat_none f none (c ∷ cs) = ap (λ ks. ks ++ flat_map f cs) (none c) ∙ flat_
 kinds_none : (ps : List Part) → NoGives ps → kinds_told ps ≡ no_kinds
 kinds_none ps h = λ i o a. told (flat_none (λ c. given ps c a) (λ c. given_none ps h c a) (collections ps o) i)
 
-steps_none : (kinds : Name → Name → Told) (front ps : List Part) → NoGives ps
+steps_none : (kinds : Name → Name → StatedKinds) (front ps : List Part) → NoGives ps
     → steps_from kinds front ps ≡ flat_map (said kinds) ps
 steps_none kinds front [] h = refl
 steps_none kinds front (Gives g ∷ ps) h = absurd h

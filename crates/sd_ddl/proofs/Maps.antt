@@ -19,8 +19,8 @@ use Rattle.ddl_text.specs.declared.tree.Kind.{Kind}
 use Rattle.sd_ddl.specs.declared.part.Part.{Part}
 use Rattle.sd_ddl.specs.declared.part.Giving.{Giving}
 use Rattle.sd_ddl.specs.declared.part.Part.TheVariants.{Gives, Member}
-use Rattle.sd_ddl.specs.declared.kinds.Told.{Told}
-use Rattle.sd_ddl.specs.declared.kinds.Told.TheVariants.{Nothing, One, Several}
+use Rattle.sd_ddl.specs.declared.kinds.StatedKinds.{StatedKinds}
+use Rattle.sd_ddl.specs.declared.kinds.StatedKinds.TheVariants.{Nothing, One, Several}
 use Rattle.sd_ddl.specs.declared.kinds.Givings.{Givings}
 use Rattle.sd_ddl.specs.declared.kinds.Kinds.{Kinds}
 use Rattle.sd_ddl.specs.declared.collections.Collections.{Collections}
@@ -42,7 +42,7 @@ pub same_name-is : (x y : Name) → is_eq (bytes_cmp x y) ≡ true → x ≡ y
 same_name-is x y h = bytes_cmp-exact x y (is_equal (bytes_cmp x y) h)
 
 -- what an attribute is told after one giving more
-pub told-added : (m n : BTreeMap (List ℕ × List ℕ) Told) (x y c a : Name) (t : Told) (k : Kind) → x ≡ c → y ≡ a
+pub told-added : (m n : BTreeMap (List ℕ × List ℕ) StatedKinds) (x y c a : Name) (t : StatedKinds) (k : Kind) → x ≡ c → y ≡ a
     → t ≡ both (or_nothing (get pair_cmp m (c, a))) (One k)
     → ((q : List ℕ × List ℕ) → get pair_cmp n q ≡ cond (is_at (pair_cmp (x, y)) q) (Some t) (get pair_cmp m q))
     → (d b : Name) → or_nothing (get pair_cmp n (d, b)) ≡ both (or_nothing (get pair_cmp m (d, b))) (told (if same_name c d && same_name a b then k ∷ [] else []))

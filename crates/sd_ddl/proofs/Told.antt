@@ -6,8 +6,8 @@ use Rattle.std.proofs.lemmas.List.Folds.{list_all-append}
 use Rattle.sd_value.specs.Members.{IsOneOf, Contains-nil, Contains-cons_cases, Contains-here, Contains-there}
 use Rattle.ddl_text.specs.declared.tree.Kind.{Kind}
 use Rattle.ddl_text.specs.declared.tree.Kind.TheVariants as kinds
-use Rattle.sd_ddl.specs.declared.kinds.Told.{Told}
-use Rattle.sd_ddl.specs.declared.kinds.Told.TheVariants.{Nothing, One, Several}
+use Rattle.sd_ddl.specs.declared.kinds.StatedKinds.{StatedKinds}
+use Rattle.sd_ddl.specs.declared.kinds.StatedKinds.TheVariants.{Nothing, One, Several}
 use Rattle.sd_ddl.specs.Kinds.{Name, same_kind, told, differs}
 use Rattle.sd_ddl.specs.Tables.{both, is_several, tell}
 
@@ -38,7 +38,7 @@ same_kind-turned kinds.File kinds.Text = refl
 same_kind-turned kinds.File kinds.Url = refl
 same_kind-turned kinds.File kinds.File = refl
 
-pub both-nothing : (t : Told) → both t Nothing ≡ t
+pub both-nothing : (t : StatedKinds) → both t Nothing ≡ t
 both-nothing Nothing = refl
 both-nothing (One k) = refl
 both-nothing Several = refl
@@ -86,18 +86,18 @@ several-differs (j ∷ ks) k = by (list_all (same_kind j) ks) (same_kind j k) re
     by false false a h = refl
 
 -- which kinds have the property: none, this one alone, or several
-abbrev pub Tells : (Kind → Type 0) → Told → Type 0
+abbrev pub Tells : (Kind → Type 0) → StatedKinds → Type 0
 Tells P Nothing = (k : Kind) → P k → ⊥
 Tells P (One k) = P k × ((j : Kind) → P j → j ≡ k)
 Tells P Several = (j : Kind) × (k : Kind) × P j × P k × (j ≢ k)
 
-pub Tells-as : (P Q : Kind → Type 0) (t : Told) → ((k : Kind) → P k → Q k) → ((k : Kind) → Q k → P k) → Tells P t → Tells Q t
+pub Tells-as : (P Q : Kind → Type 0) (t : StatedKinds) → ((k : Kind) → P k → Q k) → ((k : Kind) → Q k → P k) → Tells P t → Tells Q t
 Tells-as P Q Nothing to from h = λ k q. h k (from k q)
 Tells-as P Q (One k) to from h = (to k h.0, λ j q. h.1 j (from j q))
 Tells-as P Q Several to from h = (h.0, h.1, to h.0 h.2, to h.1 h.3, h.4)
 
 -- only one thing is told
-pub Tells-one : (P : Kind → Type 0) (s t : Told) → Tells P s → Tells P t → s ≡ t
+pub Tells-one : (P : Kind → Type 0) (s t : StatedKinds) → Tells P s → Tells P t → s ≡ t
 Tells-one P Nothing Nothing h g = refl
 Tells-one P Nothing (One k) h g = absurd (h k g.0)
 Tells-one P Nothing Several h g = absurd (h g.0 g.2)
@@ -108,7 +108,7 @@ Tells-one P Several Nothing h g = absurd (g h.0 h.2)
 Tells-one P Several (One k) h g = absurd (h.4 (g.1 h.0 h.2 ∙ sym (g.1 h.1 h.3)))
 Tells-one P Several Several h g = refl
 
-pub Tells-both : (P Q : Kind → Type 0) (s t : Told) → Tells P s → Tells Q t → Tells (λ k. P k ⊎ Q k) (both s t)
+pub Tells-both : (P Q : Kind → Type 0) (s t : StatedKinds) → Tells P s → Tells Q t → Tells (λ k. P k ⊎ Q k) (both s t)
 Tells-both P Q Nothing Nothing h g = λ k o. elim o [ inl p ↦ h k p | inr q ↦ g k q ]
 Tells-both P Q Nothing (One j) h g = (inr g.0, λ k o. elim o [ inl p ↦ absurd (h k p) | inr q ↦ g.1 k q ])
 Tells-both P Q Nothing Several h g = (g.0, g.1, inr g.2, inr g.3, g.4)
@@ -151,7 +151,7 @@ Tells-told (k ∷ ks) = by (list_all (same_kind k) ks) refl
         (k, found.0, Contains-here k ks, Contains-there k ks found.0 found.1, λ same. let self : same_kind k found.0 ≡ true = subst (λ x. same_kind k x ≡ true) same (same_kind-self k) in absurd cc)
 
 -- what is told of names, one after another
-pub Tells-tell : (Q : Name → Kind → Type 0) (f : Name → Told) → ((n : Name) → Tells (Q n) (f n)) → (P : Kind → Type 0) (t : Told) → Tells P t
+pub Tells-tell : (Q : Name → Kind → Type 0) (f : Name → StatedKinds) → ((n : Name) → Tells (Q n) (f n)) → (P : Kind → Type 0) (t : StatedKinds) → Tells P t
     → (ns : List Name) → Tells (λ k. P k ⊎ ((n : Name) × IsOneOf ns n × Q n k)) (tell f t ns)
 Tells-tell Q f each P t h [] = Tells-as P (λ k. P k ⊎ ((n : Name) × IsOneOf [] n × Q n k)) t (λ k p. inl p) (λ k o. elim o [ inl p ↦ p | inr q ↦ absurd q.1 ]) h
 Tells-tell Q f each P t h (m ∷ ns) =

@@ -8,8 +8,8 @@ use Rattle.ddl_text.specs.declared.tree.Kind.{Kind}
 use Rattle.ddl_text.specs.declared.tree.Kind.TheVariants as kinds
 use Rattle.sd_ddl.specs.declared.part.Part.{Part}
 use Rattle.sd_ddl.specs.declared.part.Part.TheVariants.{Gives, Node, Member, Edge}
-use Rattle.sd_ddl.specs.declared.kinds.Told.{Told}
-use Rattle.sd_ddl.specs.declared.kinds.Told.TheVariants.{Nothing, One, Several}
+use Rattle.sd_ddl.specs.declared.kinds.StatedKinds.{StatedKinds}
+use Rattle.sd_ddl.specs.declared.kinds.StatedKinds.TheVariants.{Nothing, One, Several}
 
 abbrev pub same_name : Name → Name → Bool
 same_name = eq_by_cmp bytes_cmp
@@ -49,7 +49,7 @@ abbrev pub kinds_of : List Part → Name → Name → List Kind
 kinds_of parts object attribute = flat_map (λ c. given parts c attribute) (collections parts object)
 
 -- no kind, one kind however often, or several
-abbrev pub told : List Kind → Told
+abbrev pub told : List Kind → StatedKinds
 told [] = Nothing
 told (k ∷ ks) = if list_all (same_kind k) ks then One k else Several
 

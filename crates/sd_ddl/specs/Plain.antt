@@ -10,15 +10,15 @@ use Rattle.ddl_text.specs.declared.tree.Statement.{Statement}
 use Rattle.ddl_text.specs.declared.tree.Statement.TheVariants.{Collection, Object}
 use Rattle.ddl_text.specs.DataText.{file}
 use Rattle.ddl_text.specs.Next.{IsNext}
-use Rattle.sd_ddl.specs.declared.kinds.Told.{Told}
-use Rattle.sd_ddl.specs.declared.kinds.Told.TheVariants.{Nothing}
+use Rattle.sd_ddl.specs.declared.kinds.StatedKinds.{StatedKinds}
+use Rattle.sd_ddl.specs.declared.kinds.StatedKinds.TheVariants.{Nothing}
 use Rattle.sd_ddl.specs.Kinds.{Name}
 use Rattle.sd_ddl.specs.Parts.{parts_of, parts}
 use Rattle.sd_ddl.specs.Stops.{all_said}
 use Rattle.sd_ddl.specs.Reads.{Spells}
 
 -- no kinds are reported of any attribute
-abbrev pub no_kinds : Name → Name → Told
+abbrev pub no_kinds : Name → Name → StatedKinds
 no_kinds object attribute = Nothing
 
 abbrev pub IsObject : Statement → Type 0

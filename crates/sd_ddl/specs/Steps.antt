@@ -11,8 +11,8 @@ use Rattle.ddl_text.specs.declared.tree.Content.{Content}
 use Rattle.ddl_text.specs.declared.tree.Content.TheVariants as contents
 use Rattle.sd_ddl.specs.declared.part.Part.{Part}
 use Rattle.sd_ddl.specs.declared.part.Part.TheVariants.{Gives, Node, Member, Edge}
-use Rattle.sd_ddl.specs.declared.kinds.Told.{Told}
-use Rattle.sd_ddl.specs.declared.kinds.Told.TheVariants.{Nothing, One, Several}
+use Rattle.sd_ddl.specs.declared.kinds.StatedKinds.{StatedKinds}
+use Rattle.sd_ddl.specs.declared.kinds.StatedKinds.TheVariants.{Nothing, One, Several}
 use Rattle.sd_ddl.specs.Kinds.{Name, given, kinds_of, told, differs}
 
 abbrev pub kinded : Kind → Name → Value
@@ -21,12 +21,12 @@ kinded kinds.Url s = Data (datum.Url s)
 kinded kinds.File s = Data (datum.File s)
 
 -- a text without a kind has the one that is reported, else it is a Text. With two kinds it is no value
-abbrev pub plain_value : Told → Name → Option Value
+abbrev pub plain_value : StatedKinds → Name → Option Value
 plain_value Nothing s = Some (Data (datum.Text s))
 plain_value (One k) s = Some (kinded k s)
 plain_value Several s = None
 
-abbrev pub value_of : Told → Content → Option Value
+abbrev pub value_of : StatedKinds → Content → Option Value
 value_of t (contents.Number n) = Some (Data (datum.Int n))
 value_of t (contents.Plain s) = plain_value t s
 value_of t (contents.Kinded k s) = Some (kinded k s)
@@ -38,14 +38,14 @@ edge_steps place object label (Some v) = says place (an_edge object label v) ∷
 edge_steps place object label None = fails place ∷ []
 
 -- what a part states. The kinds are those that the whole text reports
-abbrev pub said : (Name → Name → Told) → Part → List (Step ℕ ℕ)
+abbrev pub said : (Name → Name → StatedKinds) → Part → List (Step ℕ ℕ)
 said kinds (Gives g) = []
 said kinds (Node n) = says n.place (a_node n.text) ∷ []
 said kinds (Member c n) = says c.place (a_member c.text n) ∷ []
 said kinds (Edge o l v) = edge_steps v.place o l (value_of (kinds o l) v.content)
 
 -- a kind that differs from one that an earlier entry gave fails at its place; any other part states what it states
-abbrev pub steps_of : (Name → Name → Told) → List Part → Part → List (Step ℕ ℕ)
+abbrev pub steps_of : (Name → Name → StatedKinds) → List Part → Part → List (Step ℕ ℕ)
 steps_of kinds front (Gives g) =
     if differs (given front g.collection g.attribute) g.kind.kind then fails g.kind.place
     ∷ [] else []
@@ -54,12 +54,12 @@ steps_of kinds front (Member c n) = said kinds (Member c n)
 steps_of kinds front (Edge o l v) = said kinds (Edge o l v)
 
 -- the steps of the parts behind those of the front
-abbrev pub steps_from : (Name → Name → Told) → List Part → List Part → List (Step ℕ ℕ)
+abbrev pub steps_from : (Name → Name → StatedKinds) → List Part → List Part → List (Step ℕ ℕ)
 steps_from kinds front [] = []
 steps_from kinds front (p ∷ ps) = steps_of kinds front p ++ steps_from kinds (front ++ p ∷ []) ps
 
 -- the kinds that the whole text reports
-abbrev pub kinds_told : List Part → Name → Name → Told
+abbrev pub kinds_told : List Part → Name → Name → StatedKinds
 kinds_told parts object attribute = told (kinds_of parts object attribute)
 
 abbrev pub steps : List Part → List (Step ℕ ℕ)

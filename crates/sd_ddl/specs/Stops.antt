@@ -4,14 +4,14 @@ use Rattle.std.specs.List.{flat_map}
 use Rattle.sd_graph.specs.Statement.{Building}
 use Rattle.sd_graph.specs.Stating.{Step, says, fails, Ending, done, fault, too_many_nodes, too_many_edges, no_memory, Ends}
 use Rattle.sd_ddl.specs.declared.part.Part.{Part}
-use Rattle.sd_ddl.specs.declared.kinds.Told.{Told}
+use Rattle.sd_ddl.specs.declared.kinds.StatedKinds.{StatedKinds}
 use Rattle.sd_ddl.specs.declared.conflict.Stop.{Stop}
 use Rattle.sd_ddl.specs.declared.conflict.Stop.TheVariants.{KindConflict, TooManyNodes, TooManyEdges, NoMemory}
 use Rattle.sd_ddl.specs.declared.conflict.Conflict.{Conflict}
 use Rattle.sd_ddl.specs.Kinds.{Name}
 use Rattle.sd_ddl.specs.Steps.{said, steps, kinds_told}
 
-abbrev pub all_said : (Name → Name → Told) → List Part → List (Step ℕ ℕ)
+abbrev pub all_said : (Name → Name → StatedKinds) → List Part → List (Step ℕ ℕ)
 all_said kinds = flat_map (said kinds)
 
 abbrev pub NoFails : List (Step ℕ ℕ) → Type 0

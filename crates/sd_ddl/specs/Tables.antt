@@ -9,22 +9,22 @@ use Rattle.ddl_text.specs.declared.tree.Content.{Content}
 use Rattle.ddl_text.specs.declared.tree.Content.TheVariants as contents
 use Rattle.sd_ddl.specs.declared.part.Part.{Part}
 use Rattle.sd_ddl.specs.declared.part.Part.TheVariants.{Gives, Node, Member, Edge}
-use Rattle.sd_ddl.specs.declared.kinds.Told.{Told}
-use Rattle.sd_ddl.specs.declared.kinds.Told.TheVariants.{Nothing, One, Several}
+use Rattle.sd_ddl.specs.declared.kinds.StatedKinds.{StatedKinds}
+use Rattle.sd_ddl.specs.declared.kinds.StatedKinds.TheVariants.{Nothing, One, Several}
 use Rattle.sd_ddl.specs.declared.kinds.Givings.{Givings}
 use Rattle.sd_ddl.specs.declared.kinds.Kinds.{Kinds}
 use Rattle.sd_ddl.specs.declared.collections.Collections.{Collections}
 use Rattle.sd_ddl.specs.Kinds.{Name, same_kind, given, collections, kinds_of, told}
 
 -- what two report together
-abbrev pub both : Told → Told → Told
+abbrev pub both : StatedKinds → StatedKinds → StatedKinds
 both Nothing t = t
 both (One k) Nothing = One k
 both (One k) (One j) = if same_kind k j then One k else Several
 both (One k) Several = Several
 both Several t = Several
 
-abbrev pub is_several : Told → Bool
+abbrev pub is_several : StatedKinds → Bool
 is_several Nothing = false
 is_several (One k) = false
 is_several Several = true
@@ -32,11 +32,11 @@ is_several Several = true
 abbrev pub pair_cmp : (List ℕ × List ℕ) → (List ℕ × List ℕ) → Ordering
 pair_cmp x y = ordering_then (bytes_cmp x.0 y.0) (bytes_cmp x.1 y.1)
 
-abbrev pub or_nothing : Option Told → Told
+abbrev pub or_nothing : Option StatedKinds → StatedKinds
 or_nothing (Some t) = t
 or_nothing None = Nothing
 
-abbrev pub told_in : Givings → Name → Name → Told
+abbrev pub told_in : Givings → Name → Name → StatedKinds
 told_in givings collection attribute =
     or_nothing (get pair_cmp givings.told (collection, attribute))
 
@@ -61,11 +61,11 @@ abbrev pub HasCollections : List Part → Collections → Type 0
 HasCollections parts table = (o : Name) → names_of table o ≡ insert_all [] (collections parts o)
 
 -- what is reported of each of the names, one after another
-abbrev pub tell : (Name → Told) → Told → List Name → Told
+abbrev pub tell : (Name → StatedKinds) → StatedKinds → List Name → StatedKinds
 tell f t [] = t
 tell f t (n ∷ ns) = tell f (both t (f n)) ns
 
-abbrev pub told_of : Kinds → Name → Name → Told
+abbrev pub told_of : Kinds → Name → Name → StatedKinds
 told_of kinds object attribute =
     tell (λ c. told_in kinds.givings c attribute) Nothing (names_of kinds.collections object)
 
@@ -75,7 +75,7 @@ Knows parts kinds =
     (object attribute : Name)
     → told_of kinds object attribute ≡ told (kinds_of parts object attribute)
 
-abbrev pub has_two_kinds : Told → Content → Bool
+abbrev pub has_two_kinds : StatedKinds → Content → Bool
 has_two_kinds t (contents.Number n) = false
 has_two_kinds t (contents.Plain s) = is_several t
 has_two_kinds t (contents.Kinded k s) = false

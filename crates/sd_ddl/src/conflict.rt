@@ -7,7 +7,7 @@ ghost use Rattle.sd_graph.specs.Stating.{Ends};
 ghost use Rattle.sd_graph.specs.StatingLaws.{ending_at};
 ghost use Rattle.sd_graph.specs.Statement.{IsData};
 
-use crate::kinds::{Givings, Kinds, Told};
+use crate::kinds::{Givings, Kinds, StatedKinds};
 use crate::part::Part;
 use ddl_text::{Content, Kind};
 use sd_graph::{GraphBuilder, GraphRefusal};
@@ -88,7 +88,7 @@ fn kinded(kind: Kind, text: Str) -> Value
 /// The value of an attribute, unless it has two kinds.
 pub(crate) fn value_of(
     alloc: Global,
-    told: Told,
+    told: StatedKinds,
     content: &Content,
 ) -> Result<Option<Value>, NoMemory>
     ensures value { IfOk result (λ v. v ≡ value_of told content.now) }
@@ -99,9 +99,9 @@ pub(crate) fn value_of(
         Content::Node(name) => Ok(Some(Value::Data(Datum::Node(name.copy(alloc)?)))),
         Content::Kinded(kind, text) => Ok(Some(kinded(*kind, text.copy(alloc)?))),
         Content::Plain(text) => match told {
-            Told::Nothing => Ok(Some(Value::Data(Datum::Text(text.copy(alloc)?)))),
-            Told::One(kind) => Ok(Some(kinded(kind, text.copy(alloc)?))),
-            Told::Several => Ok(None),
+            StatedKinds::Nothing => Ok(Some(Value::Data(Datum::Text(text.copy(alloc)?)))),
+            StatedKinds::One(kind) => Ok(Some(kinded(kind, text.copy(alloc)?))),
+            StatedKinds::Several => Ok(None),
         },
     }
 }

@@ -2,7 +2,7 @@
 ghost use Rattle.std.specs.Prelude.{◌≡◌, ◌∷◌, ◌++◌, [], List, IfOk, OnOk, IsTrue, true};
 ghost use Rattle.sd_ddl.specs.declared.part.Part.{Part as AnyPart};
 ghost use Rattle.sd_ddl.specs.declared.part.Part.TheVariants.{Gives};
-ghost use Rattle.sd_ddl.specs.declared.kinds.Told.TheVariants.{Nothing as NothingTold, One as OneTold};
+ghost use Rattle.sd_ddl.specs.declared.kinds.StatedKinds.TheVariants.{Nothing as NothingTold, One as OneTold};
 ghost use Rattle.sd_ddl.specs.Kinds.{Name, given_by, told};
 ghost use Rattle.sd_ddl.specs.Tables.{told_in, told_of, both, is_several, tell, HasGivings, HasCollections, Knows, names_of, is_conflict};
 
@@ -15,29 +15,29 @@ use std::collections::BTreeMap;
 
 /// Which kinds are reported.
 #[derive(Clone, Copy)]
-pub enum Told {
+pub enum StatedKinds {
     Nothing,
     One(Kind),
     Several,
 }
 
-impl Told {
+impl StatedKinds {
     /// What both report together.
-    pub(crate) fn and(self, other: Told) -> Told
+    pub(crate) fn and(self, other: StatedKinds) -> StatedKinds
         ensures { result ≡ both self other }
     {
         match (self, other) {
-            (Told::Nothing, told) => told,
-            (told, Told::Nothing) => told,
-            (Told::One(kind), Told::One(same)) if kind == same => Told::One(kind),
-            (_, _) => Told::Several,
+            (StatedKinds::Nothing, told) => told,
+            (told, StatedKinds::Nothing) => told,
+            (StatedKinds::One(kind), StatedKinds::One(same)) if kind == same => StatedKinds::One(kind),
+            (_, _) => StatedKinds::Several,
         }
     }
 
     fn is_several(self) -> bool
         ensures { result ≡ is_several self }
     {
-        matches!(self, Told::Several)
+        matches!(self, StatedKinds::Several)
     }
 }
 
@@ -50,7 +50,7 @@ fn key_of(alloc: Global, collection: &Str, attribute: &Str) -> Result<(Str, Str)
 /// The kinds that were given so far, by collection and attribute.
 #[derive(Drop)]
 pub(crate) struct Givings {
-    told: BTreeMap<(Str, Str), Told>,
+    told: BTreeMap<(Str, Str), StatedKinds>,
 }
 
 impl Givings {
@@ -78,19 +78,19 @@ impl Givings {
         alloc: Global,
         collection: &Str,
         attribute: &Str,
-    ) -> Result<Told, NoMemory>
+    ) -> Result<StatedKinds, NoMemory>
         ensures { IfOk result (λ told. told ≡ told_in self.now collection.now attribute.now) }
     {
         let key = key_of(alloc, collection, attribute)?;
         Ok(self.told_at(&key))
     }
 
-    fn told_at(&self, key: &(Str, Str)) -> Told
+    fn told_at(&self, key: &(Str, Str)) -> StatedKinds
         ensures { result ≡ told_in self.now key.now.0 key.now.1 }
     {
         match self.told.get(key) {
             Some(told) => *told,
-            None => Told::Nothing,
+            None => StatedKinds::Nothing,
         }
     }
 
@@ -107,7 +107,7 @@ impl Givings {
             giving.collection.copy(alloc)?,
             giving.attribute.copy(alloc)?,
         );
-        self.told.insert(key, told.and(Told::One(kind)))?;
+        self.told.insert(key, told.and(StatedKinds::One(kind)))?;
         Ok(())
     }
 
@@ -158,10 +158,10 @@ impl Kinds {
         alloc: Global,
         object: &Str,
         attribute: &Str,
-    ) -> Result<Told, NoMemory>
+    ) -> Result<StatedKinds, NoMemory>
         ensures { IfOk result (λ t. t ≡ told_of self.now object.now attribute.now) }
     {
-        let mut told = Told::Nothing;
+        let mut told = StatedKinds::Nothing;
         let Some(names) = self.collections.names(object) else {
             return Ok(told);
         };
@@ -183,7 +183,7 @@ impl Kinds {
         match part {
             Part::Gives(giving) => {
                 let told = seen.told(alloc, &giving.collection, &giving.attribute)?;
-                Ok(told.and(Told::One(giving.kind.kind)).is_several())
+                Ok(told.and(StatedKinds::One(giving.kind.kind)).is_several())
             }
             Part::Edge(object, attribute, given) => match &given.content {
                 Content::Plain(_) => Ok(self.told(alloc, object, attribute)?.is_several()),

@@ -8,7 +8,7 @@ ghost use Rattle.sd_ddl.specs.Stops.{all_said};
 ghost use Rattle.sd_ddl.specs.Plain.{no_kinds, AddsNext, AddsAll, ReadsAll};
 
 use crate::conflict::{Stop, add_edge, stop_at, value_of};
-use crate::kinds::Told;
+use crate::kinds::StatedKinds;
 use ddl_text::{Field, Statement, next_statement};
 use sd_graph::{GraphBuilder, Limits};
 use sd_lex::{Rest, Token, text_rest};
@@ -43,7 +43,7 @@ fn add_field(
     ensures { OnOk result
         (Leads graph.old (said no_kinds (edge_part object.now field.now)) graph.new) }
 {
-    let value = value_of(alloc, Told::Nothing, &field.value.content)?;
+    let value = value_of(alloc, StatedKinds::Nothing, &field.value.content)?;
     add_edge(
         alloc,
         object,

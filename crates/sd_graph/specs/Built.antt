@@ -113,7 +113,7 @@ module _ (G : DataGraph) (well : IsWellFormed G) where
       more m h = with_end-there v _ m (inserted-there bytes_cmp n G.nodes m h)
 
 -- A builder's fields after adding: what is stated, or what was there.
-pub record Answers (s : Statement) (b c : Building) (r : Result ⊤ GraphRefusal) : Type 0 where
+pub record AnswersStatement (s : Statement) (b c : Building) (r : Result ⊤ GraphRefusal) : Type 0 where
   pub limits : c.limits ≡ b.limits
   pub nodes : c.graph.nodes ≡ (if is_ok r then (graph_with s b.graph).nodes else b.graph.nodes)
   pub edges : c.graph.edges ≡ (if is_ok r then (graph_with s b.graph).edges else b.graph.edges)
@@ -131,7 +131,7 @@ same_building b c limits nodes edges members =
     }
 
 pub Adds-from_answer : (s : Statement) (b c : Building) (r : Result ⊤ GraphRefusal)
-    → Answers s b c r → Adds s b c r
+    → AnswersStatement s b c r → Adds s b c r
 Adds-from_answer s b c (Ok u) a =
     (same_building (building_with s b) c a.limits a.nodes a.edges a.members, a.fits)
 Adds-from_answer s b c (Err TooManyNodes) a =

@@ -10,7 +10,7 @@ use Rattle.page_spec.specs.Site.{Site}
 use Rattle.page_spec.specs.Address.{TermOf}
 use Rattle.wire.specs.Accounts.{up, up_by}
 use Rattle.wire.specs.Events.{add_event, is_done, IsDrawn}
-use Rattle.wire.specs.Told.{Told}
+use Rattle.wire.specs.Told.{WireReport}
 use Rattle.wire.specs.declared.WireEvent.{WireEvent}
 use Rattle.wire.specs.declared.WireEvent.TheVariants.{Opened, Bytes, Ended, Lost, Change, Done}
 use Rattle.serving_spec.specs.Changes.{Changes, data_at, texts_in, refused_in, AllKept}
@@ -57,7 +57,7 @@ opened_count rules limit before (e ∷ events) after (between, passes, rest) =
 
 -- A run of a hub that is new.
 module _ {P D : Type 0} (old new : HubState P) (root : Option (List ℕ)) (site : D → Site) (templates : D → TemplateFile) (texts : Changes D) (start : D) (requests turns capacity : ℕ) (state : P → D) (cache : P → Kept)
-    (before after : Told) (end : HubEnd) (tally : Tally) (events : List WireEvent) (some : 0 < requests)
+    (before after : WireReport) (end : HubEnd) (tally : Tally) (events : List WireEvent) (some : 0 < requests)
     (given : after.given ≡ fold add_event before.given events) (left : IsDrawn before.left events after.left) (ends : EndsRun turns events end)
     (course : IsCourse (run_rules old.root site templates texts) old.limit end (scene state cache old before.account before.faults) events (scene state cache new after.account after.faults))
     (stands : (number : ℕ) → line_of old number ≡ None
@@ -147,7 +147,7 @@ abbrev no_tally : Tally
 no_tally = record { connections = 0; replies = 0; hits = 0; changes = 0; refused = 0 }
 
 -- memory was missing before the first event
-pub serves_nothing : {D : Type 0} (root : Option (List ℕ)) (site : D → Site) (templates : D → TemplateFile) (texts : Changes D) (start : D) (requests turns capacity : ℕ) (wire : Told)
+pub serves_nothing : {D : Type 0} (root : Option (List ℕ)) (site : D → Site) (templates : D → TemplateFile) (texts : Changes D) (start : D) (requests turns capacity : ℕ) (wire : WireReport)
     → Serves root site templates texts start requests turns capacity wire wire (record { end = NoMemory; tally = no_tally })
 serves_nothing {D} root site templates texts start requests turns capacity wire = record {
   events = [];
@@ -171,7 +171,7 @@ serves_nothing {D} root site templates texts start requests turns capacity wire 
   };
 }
 
-pub no_steps : {D : Type 0} (root : Option (List ℕ)) (site : D → Site) (templates : D → TemplateFile) (texts : Changes D) (start : D) (requests turns capacity : ℕ) (wire : Told)
+pub no_steps : {D : Type 0} (root : Option (List ℕ)) (site : D → Site) (templates : D → TemplateFile) (texts : Changes D) (start : D) (requests turns capacity : ℕ) (wire : WireReport)
     → ServesInSteps root site templates texts start requests turns capacity wire wire (record { end = NoMemory; tally = no_tally })
 no_steps {D} root site templates texts start requests turns capacity wire =
     let first : Scene D Kept = record { ats = at wire; current = start; greatest = None; opened = 0; replies = 0; changes = 0; refused = 0; cache = none_kept capacity } in

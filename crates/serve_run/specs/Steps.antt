@@ -3,7 +3,7 @@ use Rattle.std.specs.Prelude.{◌≡◌, ℕ, List, [], Option, None}
 use Rattle.tmpl.specs.Body.{TemplateFile}
 use Rattle.page_spec.specs.Site.{Site}
 use Rattle.wire.specs.Events.{IsDrawn}
-use Rattle.wire.specs.Told.{Told}
+use Rattle.wire.specs.Told.{WireReport}
 use Rattle.wire.specs.declared.WireEvent.{WireEvent}
 use Rattle.serving_spec.specs.Changes.{Changes, LooksAt, RenewsAt}
 use Rattle.serving_spec.specs.Looks.{Kept}
@@ -15,7 +15,7 @@ use Rattle.hub.specs.Course.{Scene, Rules, rules_under, IsCourse}
 use Rattle.hub.specs.Turns.{At}
 
 -- a connection that is not open, as the wire reports it
-abbrev pub at : Told → ℕ → At
+abbrev pub at : WireReport → ℕ → At
 at wire number = record { line = None; account = wire.account number; faults = wire.faults number }
 
 -- the rules of pages of which those that were looked up last are kept
@@ -28,7 +28,7 @@ run_rules root site templates texts =
 -- the counts of a run, from its steps
 pub record TalliedInSteps {D : Type 0} (root : Option (List ℕ)) (site : D → Site)
     (templates : D → TemplateFile) (texts : Changes D) (start : D) (requests capacity : ℕ)
-    (before after : Told) (ended : HubEnd) (events : List WireEvent) (tally : Tally) : Type 0 where
+    (before after : WireReport) (ended : HubEnd) (events : List WireEvent) (tally : Tally) : Type 0 where
   -- the run before the first event and after the last one
   pub first : Scene D Kept
   pub last : Scene D Kept
@@ -54,7 +54,7 @@ pub record TalliedInSteps {D : Type 0} (root : Option (List ℕ)) (site : D → 
 -- these events came, and the run took its steps for them
 pub record ServesInSteps {D : Type 0} (root : Option (List ℕ)) (site : D → Site)
     (templates : D → TemplateFile) (texts : Changes D) (start : D)
-    (requests turns capacity : ℕ) (before after : Told) (served : Served) : Type 0 where
+    (requests turns capacity : ℕ) (before after : WireReport) (served : Served) : Type 0 where
   pub events : List WireEvent
   pub left : IsDrawn before.left events after.left
   pub ends : EndsRun turns events served.end

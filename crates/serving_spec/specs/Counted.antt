@@ -6,7 +6,7 @@ use Rattle.http_spec.specs.declared.Standing.{Standing}
 use Rattle.http_spec.specs.declared.Standing.TheVariants.{Short}
 use Rattle.http_spec.specs.Asks.{ask_of}
 use Rattle.http_spec.specs.Replies.{no_memory_bytes}
-use Rattle.http_spec.specs.Sessions.{OutcomeAt, Answers}
+use Rattle.http_spec.specs.Sessions.{OutcomeAt, AnswersStream}
 use Rattle.http_spec.specs.Streams.{Timed, Request}
 use Rattle.wire.specs.declared.WireEvent.{WireEvent}
 use Rattle.wire.specs.declared.WireEvent.TheVariants.{Opened, Bytes, Ended, Lost, Change, Done}
@@ -59,7 +59,7 @@ module _ {D : Type 0} (page : D → OutcomeAt) (Names : List ℕ → Term → Ty
   -- it was out of memory for its reply.
   pub record CountedAnswer (counts : Counts D) (stream : List (Timed D)) (ended : Bool)
       (standing : Standing) (replies : List (List ℕ)) : Type 0 where
-    pub answer : Answers page limit stream ended standing replies
+    pub answer : AnswersStream page limit stream ended standing replies
     pub looked : List (LookUp D)
     pub extra : List (LookUp D)
     pub count : counts.replies ≡ replies_in standing replies

@@ -4,7 +4,7 @@ use Rattle.http_spec.specs.declared.Standing.{Standing}
 use Rattle.http_spec.specs.Sessions.{OutcomeAt, HasAnswer}
 use Rattle.http_spec.specs.Streams.{Timed}
 use Rattle.wire.specs.Accounts.{Account}
-use Rattle.wire.specs.Told.{Told}
+use Rattle.wire.specs.Told.{WireReport}
 use Rattle.serving_spec.specs.Delivered.{IsDelivered, closing}
 use Rattle.serving_spec.specs.Inputs.{Input, Unopened, Coming, Over}
 
@@ -14,7 +14,7 @@ pub record Seen : Type 0 where
   pub faults : ℕ
 
 -- the connection of a number
-abbrev pub seen : Told → ℕ → Seen
+abbrev pub seen : WireReport → ℕ → Seen
 seen wire number = record { account = wire.account number; faults = wire.faults number }
 
 -- Over what it is to answer a stream that has ended or not.

@@ -6,7 +6,7 @@ use Rattle.page_spec.specs.Address.{TermOf}
 use Rattle.page_spec.specs.Site.{Site}
 use Rattle.wire.specs.Accounts.{up_by}
 use Rattle.wire.specs.Events.{add_event, IsDrawn}
-use Rattle.wire.specs.Told.{Told}
+use Rattle.wire.specs.Told.{WireReport}
 use Rattle.wire.specs.declared.WireEvent.{WireEvent}
 use Rattle.serving_spec.specs.Changes.{Changes, data_at, texts_in, refused_in, AllKept, AreTaken}
 use Rattle.serving_spec.specs.Counted.{no_counts, IsCounted, MakeFor, counts_from, placed_from}
@@ -34,7 +34,7 @@ placed_input number events =
 -- were current then.
 pub record Tallied {D : Type 0} (root : Option (List ℕ)) (site : D → Site)
     (templates : D → TemplateFile) (texts : Changes D) (start : D) (requests capacity : ℕ)
-    (before after : Told) (events : List WireEvent) (tally : Tally) : Type 0 where
+    (before after : WireReport) (events : List WireEvent) (tally : Tally) : Type 0 where
   pub makes : List Made
   pub one_each : MakeFor events makes
   pub each : (number : ℕ)
@@ -59,7 +59,7 @@ pub record Tallied {D : Type 0} (root : Option (List ℕ)) (site : D → Site)
 -- the run.
 pub record Serves {D : Type 0} (root : Option (List ℕ)) (site : D → Site)
     (templates : D → TemplateFile) (texts : Changes D) (start : D)
-    (requests turns capacity : ℕ) (before after : Told) (served : Served) : Type 0 where
+    (requests turns capacity : ℕ) (before after : WireReport) (served : Served) : Type 0 where
   pub events : List WireEvent
   pub given : after.given ≡ fold add_event before.given events
   pub left : IsDrawn before.left events after.left

@@ -1,7 +1,7 @@
 -- The inputs decide one end of each part of a run.
 use Rattle.std.proofs.Common.{◌≡◌, inl, inr, sym, ap, ◌∙◌}
 use Rattle.std.specs.Prelude.{Result, Ok, Err}
-use Rattle.site_inputs.specs.Runs.{Both, Then, Gives, IsDecided, IsDecidedFault, Decides}
+use Rattle.site_inputs.specs.Runs.{Both, Then, EndsWith, IsDecided, IsDecidedFault, Decides}
 use Rattle.site_inputs.specs.declared.fault.Fault.{Fault}
 use Rattle.site_inputs.specs.declared.fault.Fault.TheVariants.{NoMemory}
 
@@ -46,10 +46,10 @@ then_decides First Next first next = record { once = then_once First Next first 
 pub no_memory : {A : Type 0} (result : Result A Fault) → result ≡ Err NoMemory → IsDecided result → ⊥
 no_memory result is decided = rw is at decided
 
-pub gives_decides : {A : Type 0} (a : A) → Decides (Gives a)
+pub gives_decides : {A : Type 0} (a : A) → Decides (EndsWith a)
 gives_decides {A} a = record { once = by }
   where
-    by : (one other : Result A Fault) → Gives a one → Gives a other → IsDecided one → IsDecided other → one ≡ other
+    by : (one other : Result A Fault) → EndsWith a one → EndsWith a other → IsDecided one → IsDecided other → one ≡ other
     by one other (inl s) (inl t) d e = s ∙ sym t
     by one other (inl s) (inr t) d e = absurd (no_memory other t e)
     by one other (inr s) t d e = absurd (no_memory one s d)

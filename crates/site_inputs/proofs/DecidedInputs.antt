@@ -23,7 +23,7 @@ use Rattle.run_report.specs.declared.status.Place.TheVariants.{At}
 use Rattle.site_inputs.specs.declared.fault.Fault.{Fault}
 use Rattle.site_inputs.specs.declared.fault.Fault.TheVariants.{Refused, Unread, Faulty, NotFound, NoMemory}
 use Rattle.site_inputs.specs.declared.fault.Refusal.{Refusal}
-use Rattle.site_inputs.specs.declared.told.Told.{Told}
+use Rattle.site_inputs.specs.declared.told.NumberedFault.{NumberedFault}
 use Rattle.site_inputs.specs.Runs.{FileEnds, IsDecided, Decides}
 use Rattle.command_spec.specs.Limits.{data_limit}
 use Rattle.command_spec.specs.declared.DataFiles.{DataFiles}
@@ -69,13 +69,13 @@ pub file_decides : (limit : ℕ) (map : FileMap) (path : List ℕ) → Decides (
 file_decides limit map path = record { once = file_once limit map path }
 
 -- a refusal by what it tells
-refused_same : {A : Type 0} (path : List ℕ) (f g : Refusal) (told other : Told) → f ≡ record { file = path; number = told.number; place = At told.at }
+refused_same : {A : Type 0} (path : List ℕ) (f g : Refusal) (told other : NumberedFault) → f ≡ record { file = path; number = told.number; place = At told.at }
     → g ≡ record { file = path; number = other.number; place = At other.at } → told ≡ other → ◌≡◌ {A = Result A Fault} (Err (Refused f)) (Err (Refused g))
 refused_same path f g told other is_f is_g same =
-    ap (λ r. Err (Refused r)) (is_f ∙ ap (λ (x : Told). record { file = path; number = x.number; place = At x.at }) same ∙ sym is_g)
+    ap (λ r. Err (Refused r)) (is_f ∙ ap (λ (x : NumberedFault). record { file = path; number = x.number; place = At x.at }) same ∙ sym is_g)
 
 -- two refusals are equal that tell the same
-told_same : (o p : Option Told) (told other : Told) → o ≡ Some told → p ≡ Some other → o ≡ p → told ≡ other
+told_same : (o p : Option NumberedFault) (told other : NumberedFault) → o ≡ Some told → p ≡ Some other → o ≡ p → told ≡ other
 told_same o p told other is is2 same = cc
 
 -- ---- data files
@@ -137,7 +137,7 @@ graph_decides map b sources = files_decide sources.lenient map b sources.paths
 
 -- ---- queries
 
-query_settled : (e : QueryRefusal) (told : Told) → query_told e ≡ Some told → query_text.IsSettled (Err e)
+query_settled : (e : QueryRefusal) (told : NumberedFault) → query_told e ≡ Some told → query_text.IsSettled (Err e)
 query_settled (NotSpelled (parse.Text (text.TooLong at))) told h = tt
 query_settled (NotSpelled (parse.Text (text.BadByte at))) told h = tt
 query_settled (NotSpelled (parse.Text (text.OpenString at))) told h = tt

@@ -7,7 +7,7 @@ use Rattle.query_spec.specs.Query as plain
 use Rattle.sd_graph.specs.Statement.{Building}
 use Rattle.site_inputs.specs.declared.fault.Fault.{Fault}
 use Rattle.site_inputs.specs.declared.fault.Fault.TheVariants.{Refused, Unread, Faulty, NotFound, NoMemory}
-use Rattle.site_inputs.specs.Runs.{Then, Gives, FileEnds}
+use Rattle.site_inputs.specs.Runs.{Then, EndsWith, FileEnds}
 use Rattle.command_spec.specs.Limits.{data_limit}
 use Rattle.command_spec.specs.declared.DataFiles.{DataFiles}
 use Rattle.site_inputs.specs.Sources.{TextTaken, SourceEnds, FilesEnd, GraphEnds, empty_building}
@@ -30,10 +30,10 @@ then_none First Next n m = record { none = by }
     by fault p (inl e) = n.none fault p e
     by fault p (inr b) = (m b.value).none fault p b.next
 
-gives_none : {A : Type 0} (value : A) → NoPageFault (Gives value)
+gives_none : {A : Type 0} (value : A) → NoPageFault (EndsWith value)
 gives_none {A} value = record { none = by }
   where
-    by : (fault : Fault) → IsOfPage fault → Gives value (Err fault) → ⊥
+    by : (fault : Fault) → IsOfPage fault → EndsWith value (Err fault) → ⊥
     by fault p (inl e) = cc
     by (Faulty term kind) p (inr e) = cc
     by NotFound p (inr e) = cc
@@ -106,7 +106,7 @@ site_none path raw first = record { none = by }
 
 data_none : (map : FileMap) (sources : DataFiles) (over : Option (List ℕ)) → NoPageFault (DataInputsEnd map sources over)
 data_none map sources None =
-    then_none (GraphEnds map empty_building sources) (λ raw. Gives (record { graph = raw; first = None }))
+    then_none (GraphEnds map empty_building sources) (λ raw. EndsWith (record { graph = raw; first = None }))
     (graph_none map empty_building sources) (λ raw. gives_none (record { graph = raw; first = None }))
 data_none map sources (Some path) =
     then_none (GraphEnds map empty_building sources) (λ raw. Then (QueryEnds map path) (λ first. SiteTaken path raw first))
@@ -116,11 +116,11 @@ data_none map sources (Some path) =
 pub inputs_none : (map : FileMap) (sources : DataFiles) (over : Option (List ℕ)) (query_path templates_path : List ℕ) → NoPageFault (InputsEnd map sources over query_path templates_path)
 inputs_none map sources over query_path templates_path =
     then_none (DataInputsEnd map sources over)
-    (λ found. Then (QueryEnds map query_path) (λ query. Then (TemplatesEnd map templates_path) (λ templates. Gives (inputs_with found query templates))))
+    (λ found. Then (QueryEnds map query_path) (λ query. Then (TemplatesEnd map templates_path) (λ templates. EndsWith (inputs_with found query templates))))
     (data_none map sources over)
     (λ found. then_none (QueryEnds map query_path)
-    (λ query. Then (TemplatesEnd map templates_path) (λ templates. Gives (inputs_with found query templates)))
+    (λ query. Then (TemplatesEnd map templates_path) (λ templates. EndsWith (inputs_with found query templates)))
     (query_file_none map query_path)
-    (λ query. then_none (TemplatesEnd map templates_path) (λ templates. Gives (inputs_with found query templates))
+    (λ query. then_none (TemplatesEnd map templates_path) (λ templates. EndsWith (inputs_with found query templates))
     (then_none (FileEnds text_limit map templates_path) (TemplatesTaken templates_path) (file_none text_limit map templates_path) (λ bytes. templates_none templates_path bytes))
     (λ templates. gives_none (inputs_with found query templates))))

@@ -7,9 +7,9 @@ use Rattle.site_spec.specs.Site.{scope_of}
 use Rattle.weight_spec.specs.Site.{site_of}
 use Rattle.sd_graph.specs.declared.GraphRefusal.{GraphRefusal}
 use Rattle.sd_graph.specs.declared.GraphRefusal.TheVariants as graph
-use Rattle.compose.specs.Listed.{Answers}
+use Rattle.compose.specs.Listed.{AnswersWithin}
 use Rattle.compose.proofs.Whole as one_site
-use Rattle.composed_data.specs.SiteData.{IsDecided, SiteDataEnds}
+use Rattle.composed_data.specs.SiteData.{DecidesSiteData, SiteDataEnds}
 use Rattle.run_report.specs.declared.status.Place.TheVariants.{At}
 use Rattle.site_inputs.specs.declared.data.DataInputs.{DataInputs}
 use Rattle.site_inputs.specs.declared.fault.Fault.{Fault}
@@ -54,21 +54,21 @@ site_refused path raw first reason number told ends fault (inr is) =
 -- ---- the bytes decide one end
 
 module _ (path : List ℕ) (raw : DataGraph) (first : plain.Query) where
-  one_whole : (one other : Result DataGraph GraphRefusal) (d : IsDecided empty_building.limits raw (scope_of first) one)
-      → (e : IsDecided empty_building.limits raw (scope_of first) other) → e.whole ≡ d.whole
+  one_whole : (one other : Result DataGraph GraphRefusal) (d : DecidesSiteData empty_building.limits raw (scope_of first) one)
+      → (e : DecidesSiteData empty_building.limits raw (scope_of first) other) → e.whole ≡ d.whole
   one_whole one other d e = one_site.one_graph (site_of raw (scope_of first)) raw.nodes e.whole d.whole e.is_whole
       d.is_whole
 
   -- what is within the limits is not over them
   not_over : (whole G : DataGraph) (reason : GraphRefusal) (number : ℕ) → graph_number reason ≡ Some number
-      → Answers empty_building.limits whole (Ok G) → Answers empty_building.limits whole (Err reason) → ⊥
+      → AnswersWithin empty_building.limits whole (Ok G) → AnswersWithin empty_building.limits whole (Err reason) → ⊥
   not_over whole G graph.TooManyNodes number told within over = omega (arith, within.1, over)
   not_over whole G graph.TooManyEdges number told within over = omega (arith, within.2, over.1)
   not_over whole G graph.NoMemory number told within over = absurd cc
 
   -- a graph is over one limit
   one_reason : (whole : DataGraph) (e f : GraphRefusal) (m n : ℕ) → graph_number e ≡ Some m → graph_number f ≡ Some n
-      → Answers empty_building.limits whole (Err e) → Answers empty_building.limits whole (Err f) → m ≡ n
+      → AnswersWithin empty_building.limits whole (Err e) → AnswersWithin empty_building.limits whole (Err f) → m ≡ n
   one_reason whole graph.TooManyNodes graph.TooManyNodes m n a b s t = cc
   one_reason whole graph.TooManyEdges graph.TooManyEdges m n a b s t = cc
   one_reason whole graph.TooManyNodes graph.TooManyEdges m n a b s t = absurd (omega (arith, s, t.0))
@@ -79,7 +79,7 @@ module _ (path : List ℕ) (raw : DataGraph) (first : plain.Query) where
   mixed : (G : DataGraph) (refusal : Refusal) → SiteIsDecided raw first (Ok G) → IsTooLarge path raw first refusal → ⊥
   mixed G refusal d large =
       not_over d.whole G large.reason refusal.number large.told d.answers
-      (subst (λ (x : DataGraph). Answers empty_building.limits x (Err large.reason))
+      (subst (λ (x : DataGraph). AnswersWithin empty_building.limits x (Err large.reason))
       (one_whole (Ok G) (Err large.reason) d large.decided) large.decided.answers)
 
   one_data : (found other : DataInputs) → SiteTaken path raw first (Ok found) → SiteTaken path raw first (Ok other) → found ≡ other
@@ -95,7 +95,7 @@ module _ (path : List ℕ) (raw : DataGraph) (first : plain.Query) where
       let files = r.its ∙ sym q.its in
       let numbers : f.number ≡ g.number =
       one_reason r.decided.whole r.reason q.reason f.number g.number r.told q.told r.decided.answers
-      (subst (λ (x : DataGraph). Answers empty_building.limits x (Err q.reason))
+      (subst (λ (x : DataGraph). AnswersWithin empty_building.limits x (Err q.reason))
       (one_whole (Err r.reason) (Err q.reason) r.decided q.decided) q.decided.answers) in
       let places = r.place ∙ sym q.place in
       λ i. record { file = files i; number = numbers i; place = places i }

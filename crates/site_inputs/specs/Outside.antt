@@ -2,7 +2,7 @@
 use Rattle.std.specs.Prelude.{◌≡◌, ◌⊎◌, ℕ, List, Contains, Option}
 use Rattle.edge_io.specs.Counts.{Rose}
 use Rattle.edge_io.specs.Files.{FileMap}
-use Rattle.wire.specs.Told.{Told}
+use Rattle.wire.specs.Told.{WireReport}
 use Rattle.run_report.specs.declared.status.Status.{Status}
 use Rattle.run_report.specs.declared.status.Status.TheVariants as status
 
@@ -21,7 +21,7 @@ pub record Host : Type 0 where
 -- the files, the output and the wire
 pub record Outside : Type 0 where
   pub host : Host
-  pub wire : Told
+  pub wire : WireReport
 
 -- the files and the output of these parts
 abbrev pub host : FileMap → (failed_reads failed_writes : List ℕ → ℕ) → Option (List ℕ) → ℕ → Host
@@ -35,7 +35,7 @@ host files failed_reads failed_writes output failed_puts = record {
 
 -- the outside of these parts
 abbrev pub outside
-    : FileMap → (failed_reads failed_writes : List ℕ → ℕ) → Option (List ℕ) → ℕ → Told → Outside
+    : FileMap → (failed_reads failed_writes : List ℕ → ℕ) → Option (List ℕ) → ℕ → WireReport → Outside
 outside files failed_reads failed_writes output failed_puts wire = record {
   host = host files failed_reads failed_writes output failed_puts;
   wire = wire;
@@ -46,7 +46,7 @@ abbrev pub PutsRose : (before after : Host) → Type 0
 PutsRose before after = Rose before.failed_puts after.failed_puts
 
 -- the count of failed events and calls of listen rose
-abbrev pub EventsRose : (before after : Told) → Type 0
+abbrev pub EventsRose : (before after : WireReport) → Type 0
 EventsRose before after = Rose before.next_faults after.next_faults
 
 -- no read of these paths failed

@@ -22,8 +22,8 @@ Then First Next (Ok b) = Both First Next (Ok b)
 Then First Next (Err fault) = First (Err fault) ⊎ Both First Next (Err fault)
 
 -- a part that ends with this value, unless it is out of memory
-abbrev pub Gives : {A : Type 0} → A → Result A Fault → Type 0
-Gives value result = (result ≡ Ok value) ⊎ (result ≡ Err NoMemory)
+abbrev pub EndsWith : {A : Type 0} → A → Result A Fault → Type 0
+EndsWith value result = (result ≡ Ok value) ⊎ (result ≡ Err NoMemory)
 
 -- an unread path is one of those that were asked for, and its count of failed reads rose
 abbrev pub UnreadRose : List (List ℕ) → (List ℕ → ℕ) → (List ℕ → ℕ) → Fault → Type 0

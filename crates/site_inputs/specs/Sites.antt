@@ -9,7 +9,7 @@ use Rattle.query_spec.specs.Query as plain
 use Rattle.tmpl.specs.Body.{TemplateFile}
 use Rattle.site_spec.specs.Site.{scope_of}
 use Rattle.weight_spec.specs.Site.{site_of}
-use Rattle.composed_data.specs.SiteData.{IsDecided}
+use Rattle.composed_data.specs.SiteData.{DecidesSiteData}
 use Rattle.page_spec.specs.Site.{Site}
 use Rattle.sd_graph.specs.declared.GraphRefusal.{GraphRefusal}
 use Rattle.sd_graph.specs.declared.GraphRefusal.TheVariants as over
@@ -24,21 +24,21 @@ use Rattle.query_reader.specs.declared.QueryRefusal.TheVariants.{NotSpelled, Not
 use Rattle.query_reader.specs.Reads.{IsAccepted, IsRefused}
 use Rattle.template_reader.specs.declared.refusal.TmplRefusal.{TmplRefusal}
 use Rattle.template_reader.specs.declared.refusal.TmplRefusal.TheVariants as templates
-use Rattle.template_reader.specs.Faults.{IsAnswer}
+use Rattle.template_reader.specs.Faults.{IsTemplatesAnswer}
 use Rattle.run_report.specs.declared.status.Place.TheVariants.{At}
 use Rattle.site_inputs.specs.declared.data.DataInputs.{DataInputs}
 use Rattle.site_inputs.specs.declared.fault.Fault.{Fault}
 use Rattle.site_inputs.specs.declared.fault.Fault.TheVariants.{Refused, NoMemory}
 use Rattle.site_inputs.specs.declared.fault.Refusal.{Refusal}
-use Rattle.site_inputs.specs.declared.told.Told.{Told}
-use Rattle.site_inputs.specs.Runs.{Then, Gives, FileEnds}
+use Rattle.site_inputs.specs.declared.told.NumberedFault.{NumberedFault}
+use Rattle.site_inputs.specs.Runs.{Then, EndsWith, FileEnds}
 use Rattle.site_inputs.specs.Sources.{GraphEnds, empty_building}
 
 -- ---- the query
 
 -- the number and the place of a refused text, if `expected` is the number of its grammar; none if the reader was out of
 -- memory
-abbrev pub text_told : ℕ → TextRefusal → Option Told
+abbrev pub text_told : ℕ → TextRefusal → Option NumberedFault
 text_told expected (text.BadByte at) = Some (record { number = 21; at = at })
 text_told expected (text.OpenString at) = Some (record { number = 22; at = at })
 text_told expected (text.IntOutOfRange at) = Some (record { number = 23; at = at })
@@ -47,13 +47,13 @@ text_told expected (text.Expected at) = Some (record { number = expected; at = a
 text_told expected text.NoMemory = None
 
 -- those of a refused spelling
-abbrev pub parse_told : ParseRefusal → Option Told
+abbrev pub parse_told : ParseRefusal → Option NumberedFault
 parse_told (parse.Text refusal) = text_told 71 refusal
 parse_told (parse.TooDeep at) = Some (record { number = 72; at = at })
 parse_told (parse.BadVersion at) = Some (record { number = 73; at = at })
 
 -- those of a query that is spelled well and not accepted
-abbrev pub check_told : CheckRefusal → Option Told
+abbrev pub check_told : CheckRefusal → Option NumberedFault
 check_told (check.TooManyPositions at) = Some (record { number = 51; at = at })
 check_told (check.Unbound at) = Some (record { number = 61; at = at })
 check_told (check.NeverCreated at) = Some (record { number = 62; at = at })
@@ -66,7 +66,7 @@ check_told (check.TooManyVariables at) = Some (record { number = 68; at = at })
 check_told check.NoMemory = None
 
 -- those of a refused query
-abbrev pub query_told : QueryRefusal → Option Told
+abbrev pub query_told : QueryRefusal → Option NumberedFault
 query_told (NotSpelled refusal) = parse_told refusal
 query_told (NotChecked refusal) = check_told refusal
 
@@ -74,7 +74,7 @@ query_told (NotChecked refusal) = check_told refusal
 abbrev pub QueryTaken : List ℕ → List ℕ → Result plain.Query Fault → Type 0
 QueryTaken path bytes (Ok query) = IsAccepted text_limit bytes query
 QueryTaken path bytes (Err (Refused refusal)) =
-    (told : Told) × (refusal ≡ record { file = path; number = told.number; place = At told.at })
+    (told : NumberedFault) × (refusal ≡ record { file = path; number = told.number; place = At told.at })
     × (e : QueryRefusal) × IsRefused text_limit bytes e × (query_told e ≡ Some told)
 QueryTaken path bytes (Err NoMemory) = ⊤
 QueryTaken path bytes (Err fault) = ⊥
@@ -88,7 +88,7 @@ QueryEnds map path = Then (FileEnds text_limit map path) (QueryTaken path)
 -- The graph of the first query's site over what the files state: there is one such graph, and the end says whether it is
 -- within the program's limits.
 abbrev pub SiteIsDecided : DataGraph → plain.Query → Result DataGraph GraphRefusal → Type 0
-SiteIsDecided raw first end = IsDecided empty_building.limits raw (scope_of first) end
+SiteIsDecided raw first end = DecidesSiteData empty_building.limits raw (scope_of first) end
 
 -- the number of a graph that is over the limits; none where it was out of memory
 abbrev pub graph_number : GraphRefusal → Option ℕ
@@ -122,7 +122,7 @@ abbrev pub DataInputsEnd
     : FileMap → DataFiles → (first : Option (List ℕ)) → Result DataInputs Fault → Type 0
 DataInputsEnd map sources None =
     Then (GraphEnds map empty_building sources)
-    (λ raw. Gives (record { graph = raw; first = None }))
+    (λ raw. EndsWith (record { graph = raw; first = None }))
 DataInputsEnd map sources (Some path) =
     Then (GraphEnds map empty_building sources)
     (λ raw. Then (QueryEnds map path) (λ first. SiteTaken path raw first))
@@ -130,7 +130,7 @@ DataInputsEnd map sources (Some path) =
 -- ---- the templates
 
 -- those of a refused text of templates
-abbrev pub templates_told : TmplRefusal → Option Told
+abbrev pub templates_told : TmplRefusal → Option NumberedFault
 templates_told (templates.TooLong at) = Some (record { number = 24; at = at })
 templates_told (templates.Expected at) = Some (record { number = 81; at = at })
 templates_told (templates.Unclosed at) = Some (record { number = 82; at = at })
@@ -141,10 +141,10 @@ templates_told templates.NoMemory = None
 
 -- How a text of templates ends: with the file of templates, or refused.
 abbrev pub TemplatesTaken : List ℕ → List ℕ → Result TemplateFile Fault → Type 0
-TemplatesTaken path bytes (Ok file) = IsAnswer text_limit bytes (Ok file)
+TemplatesTaken path bytes (Ok file) = IsTemplatesAnswer text_limit bytes (Ok file)
 TemplatesTaken path bytes (Err (Refused refusal)) =
-    (told : Told) × (refusal ≡ record { file = path; number = told.number; place = At told.at })
-    × (e : TmplRefusal) × IsAnswer text_limit bytes (Err e) × (templates_told e ≡ Some told)
+    (told : NumberedFault) × (refusal ≡ record { file = path; number = told.number; place = At told.at })
+    × (e : TmplRefusal) × IsTemplatesAnswer text_limit bytes (Err e) × (templates_told e ≡ Some told)
 TemplatesTaken path bytes (Err NoMemory) = ⊤
 TemplatesTaken path bytes (Err fault) = ⊥
 
@@ -178,7 +178,7 @@ InputsEnd map sources first query_path templates_path =
     Then (DataInputsEnd map sources first)
     (λ found. Then (QueryEnds map query_path)
     (λ query. Then (TemplatesEnd map templates_path)
-    (λ templates. Gives (inputs_with found query templates))))
+    (λ templates. EndsWith (inputs_with found query templates))))
 
 -- the whole site of the query over the data
 abbrev pub site_at : Inputs → Site

@@ -11,7 +11,7 @@ use Rattle.data_source.specs.declared.refusal.SourceRefusal.TheVariants as sourc
 use Rattle.site_inputs.specs.declared.fault.Fault.{Fault}
 use Rattle.site_inputs.specs.declared.fault.Fault.TheVariants.{Refused, NoMemory}
 use Rattle.site_inputs.specs.declared.fault.Refusal.{Refusal}
-use Rattle.site_inputs.specs.Runs.{Then, Gives, FileEnds}
+use Rattle.site_inputs.specs.Runs.{Then, EndsWith, FileEnds}
 
 -- a graph in which nothing is stated, with the program's limits
 abbrev pub empty_building : Building
@@ -48,7 +48,7 @@ module _ (lenient : Bool) where
 
   -- each file behind those before it, and then the graph
   abbrev pub FilesEnd : FileMap → Building → List (List ℕ) → Result DataGraph Fault → Type 0
-  FilesEnd map b [] = Gives b.graph
+  FilesEnd map b [] = EndsWith b.graph
   FilesEnd map b (path ∷ paths) = Then (SourceEnds map path b) (λ c. FilesEnd map c paths)
 
 -- How the data files of a command end: each is read as the command says.

@@ -12,4 +12,4 @@ pub use data::{DataInputs, load_data};
 pub use fault::{Fault, Refusal, refused, unread};
 pub use inputs::{load_graph, read_file};
 pub use site::{SiteInputs, load_inputs, load_query, take_query, take_templates};
-pub use told::{Told, told_of_text};
+pub use told::{NumberedFault, told_of_text};

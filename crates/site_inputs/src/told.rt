@@ -10,33 +10,33 @@ use token_reader::TextRefusal;
 
 /// The number of a refusal, and the byte at which it is.
 #[derive(Clone, Copy, Debug)]
-pub struct Told {
+pub struct NumberedFault {
     pub number: u32,
     pub at: u64,
 }
 
 /// What a refused text reports, if `expected` is the number of its grammar; none if the reader was out of memory.
-pub fn told_of_text(refusal: &TextRefusal, expected: u32) -> Option<Told>
+pub fn told_of_text(refusal: &TextRefusal, expected: u32) -> Option<NumberedFault>
     ensures { result ≡ text_told expected refusal.now }
 {
     match refusal {
-        TextRefusal::BadByte(at) => Some(Told {
+        TextRefusal::BadByte(at) => Some(NumberedFault {
             number: 21,
             at: *at,
         }),
-        TextRefusal::OpenString(at) => Some(Told {
+        TextRefusal::OpenString(at) => Some(NumberedFault {
             number: 22,
             at: *at,
         }),
-        TextRefusal::IntOutOfRange(at) => Some(Told {
+        TextRefusal::IntOutOfRange(at) => Some(NumberedFault {
             number: 23,
             at: *at,
         }),
-        TextRefusal::TooLong(at) => Some(Told {
+        TextRefusal::TooLong(at) => Some(NumberedFault {
             number: 24,
             at: *at,
         }),
-        TextRefusal::Expected(at) => Some(Told {
+        TextRefusal::Expected(at) => Some(NumberedFault {
             number: expected,
             at: *at,
         }),
@@ -45,16 +45,16 @@ pub fn told_of_text(refusal: &TextRefusal, expected: u32) -> Option<Told>
 }
 
 // What a text that is no query reports.
-fn told_of_parse(refusal: &ParseRefusal) -> Option<Told>
+fn told_of_parse(refusal: &ParseRefusal) -> Option<NumberedFault>
     ensures { result ≡ parse_told refusal.now }
 {
     match refusal {
         ParseRefusal::Text(refusal) => told_of_text(refusal, 71),
-        ParseRefusal::TooDeep(at) => Some(Told {
+        ParseRefusal::TooDeep(at) => Some(NumberedFault {
             number: 72,
             at: *at,
         }),
-        ParseRefusal::BadVersion(at) => Some(Told {
+        ParseRefusal::BadVersion(at) => Some(NumberedFault {
             number: 73,
             at: *at,
         }),
@@ -62,43 +62,43 @@ fn told_of_parse(refusal: &ParseRefusal) -> Option<Told>
 }
 
 // What a query with a fault reports.
-fn told_of_check(refusal: &CheckRefusal) -> Option<Told>
+fn told_of_check(refusal: &CheckRefusal) -> Option<NumberedFault>
     ensures { result ≡ check_told refusal.now }
 {
     match refusal {
-        CheckRefusal::TooManyPositions(at) => Some(Told {
+        CheckRefusal::TooManyPositions(at) => Some(NumberedFault {
             number: 51,
             at: *at,
         }),
-        CheckRefusal::Unbound(at) => Some(Told {
+        CheckRefusal::Unbound(at) => Some(NumberedFault {
             number: 61,
             at: *at,
         }),
-        CheckRefusal::NeverCreated(at) => Some(Told {
+        CheckRefusal::NeverCreated(at) => Some(NumberedFault {
             number: 62,
             at: *at,
         }),
-        CheckRefusal::Arity(at) => Some(Told {
+        CheckRefusal::Arity(at) => Some(NumberedFault {
             number: 63,
             at: *at,
         }),
-        CheckRefusal::LinkFromData(at) => Some(Told {
+        CheckRefusal::LinkFromData(at) => Some(NumberedFault {
             number: 64,
             at: *at,
         }),
-        CheckRefusal::ArcAsNode(at) => Some(Told {
+        CheckRefusal::ArcAsNode(at) => Some(NumberedFault {
             number: 65,
             at: *at,
         }),
-        CheckRefusal::NotLabel(at) => Some(Told {
+        CheckRefusal::NotLabel(at) => Some(NumberedFault {
             number: 66,
             at: *at,
         }),
-        CheckRefusal::Reserved(at) => Some(Told {
+        CheckRefusal::Reserved(at) => Some(NumberedFault {
             number: 67,
             at: *at,
         }),
-        CheckRefusal::TooManyVariables(at) => Some(Told {
+        CheckRefusal::TooManyVariables(at) => Some(NumberedFault {
             number: 68,
             at: *at,
         }),
@@ -107,7 +107,7 @@ fn told_of_check(refusal: &CheckRefusal) -> Option<Told>
 }
 
 /// What a refused query reports; none where it was out of memory.
-pub fn told_of_query(refusal: &QueryRefusal) -> Option<Told>
+pub fn told_of_query(refusal: &QueryRefusal) -> Option<NumberedFault>
     ensures { result ≡ query_told refusal.now }
 {
     match refusal {
@@ -117,31 +117,31 @@ pub fn told_of_query(refusal: &QueryRefusal) -> Option<Told>
 }
 
 /// What a refused file of templates reports; none where it was out of memory.
-pub fn told_of_templates(refusal: &TmplRefusal) -> Option<Told>
+pub fn told_of_templates(refusal: &TmplRefusal) -> Option<NumberedFault>
     ensures { result ≡ templates_told refusal.now }
 {
     match refusal {
-        TmplRefusal::TooLong(at) => Some(Told {
+        TmplRefusal::TooLong(at) => Some(NumberedFault {
             number: 24,
             at: *at,
         }),
-        TmplRefusal::Expected(at) => Some(Told {
+        TmplRefusal::Expected(at) => Some(NumberedFault {
             number: 81,
             at: *at,
         }),
-        TmplRefusal::Unclosed(at) => Some(Told {
+        TmplRefusal::Unclosed(at) => Some(NumberedFault {
             number: 82,
             at: *at,
         }),
-        TmplRefusal::Twice(at) => Some(Told {
+        TmplRefusal::Twice(at) => Some(NumberedFault {
             number: 83,
             at: *at,
         }),
-        TmplRefusal::TooDeep(at) => Some(Told {
+        TmplRefusal::TooDeep(at) => Some(NumberedFault {
             number: 84,
             at: *at,
         }),
-        TmplRefusal::UnknownVariable(at) => Some(Told {
+        TmplRefusal::UnknownVariable(at) => Some(NumberedFault {
             number: 85,
             at: *at,
         }),

@@ -24,7 +24,7 @@ use Rattle.query_blocks.specs.declared.QueryBlock.{QueryBlock}
 use Rattle.query_blocks.specs.Blocks.{body_of, IsCheckedBlock}
 use Rattle.asker.specs.Counted.{IsCounted}
 use Rattle.weight_spec.specs.CountsAtMost.{CountsAtMost, IsAt}
-use Rattle.weight_spec.specs.Charges.{Mention, created, linked_from, linked_to, put, IsMention, mention, link_row, edge, membership, member, collect_row, IsCause}
+use Rattle.weight_spec.specs.Charges.{NamingPlace, created, linked_from, linked_to, put, IsNamedAt, mention, link_row, edge, membership, member, collect_row, IsCause}
 use Rattle.weight_spec.proofs.Handing.{hands_as, hands_map, hands_join, hands_two, distinct_ascending, slice_map, slice_in}
 use Rattle.site_lookups.specs.Counts.{HasFunction, IsTermOf, LinkEnd, source_end, target_end, IsEndOf, IsLinkRow, IsCollectRow}
 use Rattle.site_lookups.specs.MemberChain.{member_chain}
@@ -70,7 +70,7 @@ solved_function variables t p bound s = let r = agreeing bound in sym (s.to r.0 
 same_unit : (x y : Unit {0}) → x ≡ y
 same_unit x y = refl
 
-abbrev pub link_mention : ℕ × LinkEnd → Mention
+abbrev pub link_mention : ℕ × LinkEnd → NamingPlace
 link_mention (n, source_end) = linked_from n
 link_mention (n, target_end) = linked_to n
 
@@ -98,25 +98,25 @@ create_one x y e = let p = created_same x.0 y.0 e in λ i. (p i, tt)
 put_one : (x y : ℕ × Unit {0}) → put x.0 ≡ put y.0 → x ≡ y
 put_one x y e = let p = put_same x.0 y.0 e in λ i. (p i, tt)
 
-pub create_mention : (b : QueryBlock) (p : Term) (x : ℕ × Unit {0}) → IsAt b.creates.items (HasFunction p) x → IsMention (body_of b) p (created x.0)
+pub create_mention : (b : QueryBlock) (p : Term) (x : ℕ × Unit {0}) → IsAt b.creates.items (HasFunction p) x → IsNamedAt (body_of b) p (created x.0)
 create_mention b p x (w, at, e) = (term_of w, slice_map term_of b.creates.items x.0 w at, e)
 
-pub link_mentions : (b : QueryBlock) (p : Term) (x : ℕ × LinkEnd) → IsAt b.links.items (λ k. IsEndOf p (link_of k)) x → IsMention (body_of b) p (link_mention x)
+pub link_mentions : (b : QueryBlock) (p : Term) (x : ℕ × LinkEnd) → IsAt b.links.items (λ k. IsEndOf p (link_of k)) x → IsNamedAt (body_of b) p (link_mention x)
 link_mentions b p (n, source_end) (k, at, (t, e, f)) = (t, (link_of k, slice_map link_of b.links.items n k at, e), f)
 link_mentions b p (n, target_end) (k, at, (t, e, f)) = (t, (link_of k, slice_map link_of b.links.items n k at, e), f)
 
-pub put_mention : (b : QueryBlock) (p : Term) (x : ℕ × Unit {0}) → IsAt b.collects.items (λ k. IsTermOf p (collect_of k).target) x → IsMention (body_of b) p (put x.0)
+pub put_mention : (b : QueryBlock) (p : Term) (x : ℕ × Unit {0}) → IsAt b.collects.items (λ k. IsTermOf p (collect_of k).target) x → IsNamedAt (body_of b) p (put x.0)
 put_mention b p x (k, at, (t, e, f)) = (t, (collect_of k, slice_map collect_of b.collects.items x.0 k at, e), f)
 
 module _ (b : QueryBlock) (p : Term) (start mid later end : ℕ) where
-  pub block_creates : CountsAtMost (IsAt b.creates.items (HasFunction p)) start mid → CountsAtMost (IsMention (body_of b) p) start mid
-  block_creates h = hands_map (λ (x : ℕ × Unit {0}). created x.0) (IsAt b.creates.items (HasFunction p)) (IsMention (body_of b) p) start mid (create_mention b p) (λ x y i j e. create_one x y e) h
+  pub block_creates : CountsAtMost (IsAt b.creates.items (HasFunction p)) start mid → CountsAtMost (IsNamedAt (body_of b) p) start mid
+  block_creates h = hands_map (λ (x : ℕ × Unit {0}). created x.0) (IsAt b.creates.items (HasFunction p)) (IsNamedAt (body_of b) p) start mid (create_mention b p) (λ x y i j e. create_one x y e) h
 
-  abbrev NamesPut : Mention → Type 0
-  NamesPut m = (n : ℕ) × (m ≡ put n) × IsMention (body_of b) p m
+  abbrev NamesPut : NamingPlace → Type 0
+  NamesPut m = (n : ℕ) × (m ≡ put n) × IsNamedAt (body_of b) p m
 
-  abbrev NamesNoPut : Mention → Type 0
-  NamesNoPut m = ((n : ℕ) → m ≡ put n → ⊥) × IsMention (body_of b) p m
+  abbrev NamesNoPut : NamingPlace → Type 0
+  NamesNoPut m = ((n : ℕ) → m ≡ put n → ⊥) × IsNamedAt (body_of b) p m
 
   created_no_put : (m n : ℕ) → created m ≡ put n → ⊥
   created_no_put m n e = cc
@@ -134,12 +134,12 @@ module _ (b : QueryBlock) (p : Term) (start mid later end : ℕ) where
       hands_two (λ (x : ℕ × Unit {0}). created x.0) link_mention (IsAt b.creates.items (HasFunction p)) (IsAt b.links.items (λ k. IsEndOf p (link_of k))) NamesNoPut start mid later
       (λ x i. (λ n e. created_no_put x.0 n e, create_mention b p x i)) (λ x i. (λ n e. link_no_put x n e, link_mentions b p x i)) create_one link_one create_no_link h k
 
-  pub block_links : CountsAtMost (IsAt b.creates.items (HasFunction p)) start mid → CountsAtMost (IsAt b.links.items (λ k. IsEndOf p (link_of k))) mid later → CountsAtMost (IsMention (body_of b) p) start later
-  block_links h k = hands_as NamesNoPut (IsMention (body_of b) p) start later (λ m i. i.1) (first_two h k)
+  pub block_links : CountsAtMost (IsAt b.creates.items (HasFunction p)) start mid → CountsAtMost (IsAt b.links.items (λ k. IsEndOf p (link_of k))) mid later → CountsAtMost (IsNamedAt (body_of b) p) start later
+  block_links h k = hands_as NamesNoPut (IsNamedAt (body_of b) p) start later (λ m i. i.1) (first_two h k)
 
-  pub block_all : CountsAtMost (IsAt b.creates.items (HasFunction p)) start mid → CountsAtMost (IsAt b.links.items (λ k. IsEndOf p (link_of k))) mid later → CountsAtMost (IsAt b.collects.items (λ k. IsTermOf p (collect_of k).target)) later end → CountsAtMost (IsMention (body_of b) p) start end
+  pub block_all : CountsAtMost (IsAt b.creates.items (HasFunction p)) start mid → CountsAtMost (IsAt b.links.items (λ k. IsEndOf p (link_of k))) mid later → CountsAtMost (IsAt b.collects.items (λ k. IsTermOf p (collect_of k).target)) later end → CountsAtMost (IsNamedAt (body_of b) p) start end
   block_all h k l =
-      hands_join NamesNoPut NamesPut (IsMention (body_of b) p) start later end (λ m i j. i.0 j.0 j.1) (λ m i. i.1) (λ m j. j.2) (first_two h k)
+      hands_join NamesNoPut NamesPut (IsNamedAt (body_of b) p) start later end (λ m i j. i.0 j.0 j.1) (λ m i. i.1) (λ m j. j.2) (first_two h k)
       (hands_map (λ (x : ℕ × Unit {0}). put x.0) (IsAt b.collects.items (λ k. IsTermOf p (collect_of k).target)) NamesPut later end (λ x i. (x.0, refl, put_mention b p x i)) (λ x y i j e. put_one x y e) l)
 
 pub link_both : (p : Term) (k : Link) (a b c : ℕ) → CountsAtMost (IsTermOf p k.source) a b → CountsAtMost (IsTermOf p k.target) b c → CountsAtMost (IsEndOf p k) a c
@@ -162,12 +162,12 @@ module _ (G : DataGraph) (q : Scope) (blocks : List QueryBlock) (f : TemplateFil
       hands_map (edge u label) (HasEdge G u label) (IsCause G q f (out u label)) a b (λ v h. (refl, refl, h)) (λ v w i j e. edge_same u label v w e)
       (hands_listed value_cmp value_cmp-total (HasEdge G u label) (HasEdge G u label) ends a b exact (λ v h. h) counted)
 
-  mention_same : (p : Term) (x y : ℕ × Mention) → mention p x.0 x.1 ≡ mention p y.0 y.1 → x ≡ y
+  mention_same : (p : Term) (x y : ℕ × NamingPlace) → mention p x.0 x.1 ≡ mention p y.0 y.1 → x ≡ y
   mention_same p x y e = let a : x.0 ≡ y.0 = cc in let b : x.1 ≡ y.1 = cc in λ i. (a i, b i)
 
-  pub site_causes : (p : Term) (a b : ℕ) → CountsAtMost (IsAt blocks (λ s. IsMention (body_of s) p)) a b → CountsAtMost (IsCause G q f (in_site p)) a b
+  pub site_causes : (p : Term) (a b : ℕ) → CountsAtMost (IsAt blocks (λ s. IsNamedAt (body_of s) p)) a b → CountsAtMost (IsCause G q f (in_site p)) a b
   site_causes p a b h =
-      hands_map (λ (x : ℕ × Mention). mention p x.0 x.1) (IsAt blocks (λ s. IsMention (body_of s) p)) (IsCause G q f (in_site p)) a b
+      hands_map (λ (x : ℕ × NamingPlace). mention p x.0 x.1) (IsAt blocks (λ s. IsNamedAt (body_of s) p)) (IsCause G q f (in_site p)) a b
       (λ (n, m) (s, at, i). (refl, (body_of s, body_at n s at, i))) (λ x y i j e. mention_same p x y e) h
 
   row_same : (p : Term) (x y : ℕ × (ℕ × List Value)) → link_row p x.0 x.1.0 x.1.1 ≡ link_row p y.0 y.1.0 y.1.1 → x ≡ y

@@ -13,7 +13,7 @@ ghost use Rattle.query_blocks.specs.Blocks.{AllDeclared, IsCheckedBlock, AreChec
 ghost use Rattle.query_blocks.specs.Blocks.{scope_of};
 ghost use Rattle.tmpl.specs.Body.{TemplateFile};
 ghost use Rattle.page_spec.specs.Question.{in_site as asks_term};
-ghost use Rattle.weight_spec.specs.Charges.{IsMention, IsCause};
+ghost use Rattle.weight_spec.specs.Charges.{IsNamedAt, IsCause};
 ghost use Rattle.weight_spec.specs.CountsAtMost.{CountsAtMost, IsAt};
 ghost use Rattle.site_lookups.specs.Counts.{HasFunction, IsTermOf, IsEndOf};
 
@@ -188,7 +188,7 @@ fn block_named<A: Asker>(
 ) -> Result<bool, NoMemory>
     requires scoped { (version : ℕ) × IsCheckedBlock version block.now }
     ensures graph { A.graph asker.new ≡ A.graph asker.old }
-    ensures counted { CountsAtMost (IsMention (body_of block.now) term.now) (A.count asker.old)
+    ensures counted { CountsAtMost (IsNamedAt (body_of block.now) term.now) (A.count asker.old)
         (A.count asker.new) }
     ensures answer { IfOk result
         (λ b. IsTrue b

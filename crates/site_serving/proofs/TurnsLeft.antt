@@ -1,7 +1,7 @@
 -- Fewer events than turns never spend the turns.
 use Rattle.std.proofs.Common.{◌≡◌, ◌⊎◌, ◌<◌, List, length, inl, inr}
 use Rattle.std.specs.Prelude.{Some}
-use Rattle.wire.specs.Told.{Told}
+use Rattle.wire.specs.Told.{WireReport}
 use Rattle.wire.specs.declared.WireEvent.{WireEvent}
 use Rattle.serving_spec.specs.declared.HubEnd.{HubEnd}
 use Rattle.serving_spec.specs.declared.HubEnd.TheVariants as end
@@ -18,7 +18,7 @@ not_spent ended spent (inr short) = cc
 not_failed : (ended : HubEnd) → ended ≡ end.TurnsSpent → ended ≡ end.WireFailed → ⊥
 not_failed ended spent failed = cc
 
-pub turns_left : (s : Inputs) (limits : RunLimits) (before after : Told) (served : Served) (events : List WireEvent)
+pub turns_left : (s : Inputs) (limits : RunLimits) (before after : WireReport) (served : Served) (events : List WireEvent)
     → before.left ≡ Some events → length events < limits.turns → ServesSite s limits before after served
     → served.end ≡ end.TurnsSpent → ⊥
 turns_left s limits before after served events told room serves spent =

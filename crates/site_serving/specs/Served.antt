@@ -3,7 +3,7 @@ use Rattle.command_spec.specs.declared.RunLimits.{RunLimits}
 use Rattle.site_spec.specs.Site.{scope_of}
 use Rattle.site_spec.specs.Root.{root_function}
 use Rattle.site_inputs.specs.Sites.{Inputs}
-use Rattle.wire.specs.Told.{Told}
+use Rattle.wire.specs.Told.{WireReport}
 use Rattle.serving_spec.specs.declared.Served.{Served}
 use Rattle.serving_spec.specs.Serving.{Serves}
 use Rattle.serve_run.specs.Steps.{ServesInSteps}
@@ -19,22 +19,22 @@ first_data s = record {
 
 -- The pages of the whole site of the query over the data were served over a wire, within these limits, where these rules
 -- say which texts change the data.
-abbrev pub ServesSiteBy : TextRules → Inputs → RunLimits → Told → Told → Served → Type 0
+abbrev pub ServesSiteBy : TextRules → Inputs → RunLimits → WireReport → WireReport → Served → Type 0
 ServesSiteBy rules s limits =
     Serves (root_function s.query) current_site current_templates (data_texts rules)
     (first_data s) limits.requests limits.turns limits.cache
 
 -- the same where the texts are read as data texts and as edits, for which there are no other rules
-abbrev pub ServesSite : Inputs → RunLimits → Told → Told → Served → Type 0
+abbrev pub ServesSite : Inputs → RunLimits → WireReport → WireReport → Served → Type 0
 ServesSite s limits before after served =
     (rules : TextRules) × ServesSiteBy rules s limits before after served
 
 -- the same as both, as the hub takes it step by step
-abbrev pub StepsBy : TextRules → Inputs → RunLimits → Told → Told → Served → Type 0
+abbrev pub StepsBy : TextRules → Inputs → RunLimits → WireReport → WireReport → Served → Type 0
 StepsBy rules s limits =
     ServesInSteps (root_function s.query) current_site current_templates (data_texts rules)
     (first_data s) limits.requests limits.turns limits.cache
 
-abbrev pub ServesSiteInSteps : Inputs → RunLimits → Told → Told → Served → Type 0
+abbrev pub ServesSiteInSteps : Inputs → RunLimits → WireReport → WireReport → Served → Type 0
 ServesSiteInSteps s limits before after served =
     (rules : TextRules) × StepsBy rules s limits before after served

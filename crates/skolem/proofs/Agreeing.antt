@@ -16,7 +16,7 @@ use Rattle.sd_value.specs.declared.Value.TheVariants.{Data}
 use Rattle.graph_spec.specs.DataGraph.{Name}
 use Rattle.query_spec.specs.declared.Variable.{Variable}
 use Rattle.query_spec.specs.Query.{variable, constant}
-use Rattle.skolem.specs.Solved.{HasAt, Adds, Refutes, Gives, AllFree}
+use Rattle.skolem.specs.Solved.{HasAt, Adds, Refutes, SolvesOperand, AllFree}
 
 tie : (o : Ordering) → is_eq o ≡ true → o ≡ Equal
 tie Less e = cc
@@ -88,13 +88,13 @@ adds_or_refutes bound i w v true e at = adds_same bound i v (at ∙ ap (λ z. So
 adds_or_refutes bound i w v false e at = refutes_other bound i w v at (values_differ w v false e refl)
 
 -- by a test whether a constant is the value
-pub constant_adds : (variables : List Variable) (bound : List (Option Value)) (w : Value) (d : Datum) (b : Bool) → b ≡ eq_by_cmp value_cmp w (Data d) → MatchBool b (Adds (Gives variables (constant w) d) bound bound) (Refutes (Gives variables (constant w) d) bound)
+pub constant_adds : (variables : List Variable) (bound : List (Option Value)) (w : Value) (d : Datum) (b : Bool) → b ≡ eq_by_cmp value_cmp w (Data d) → MatchBool b (Adds (SolvesOperand variables (constant w) d) bound bound) (Refutes (SolvesOperand variables (constant w) d) bound)
 constant_adds variables bound w d true e = record { one_each = refl; to = λ row l a. (a, ap Some (values_equal w (Data d) true e refl)); from = λ row l a h. a }
 constant_adds variables bound w d false e = record { never = λ row l a h. values_differ w (Data d) false e refl (some_same w (Data d) h) }
 
 -- what the variable of a number has, the variable's name has
 pub named : (variables : List Variable) (name : Name) (i : ℕ) (d : Datum) (b : Bool) (old new : List (Option Value)) → IsNumberOf variables name i → length old ≡ length variables
-    → MatchBool b (Adds (HasAt i (Data d)) old new) (Refutes (HasAt i (Data d)) old) → MatchBool b (Adds (Gives variables (variable name) d) old new) (Refutes (Gives variables (variable name) d) old)
+    → MatchBool b (Adds (HasAt i (Data d)) old new) (Refutes (HasAt i (Data d)) old) → MatchBool b (Adds (SolvesOperand variables (variable name) d) old new) (Refutes (SolvesOperand variables (variable name) d) old)
 named variables name i d true old new n long a = record {
   one_each = a.one_each;
   to = λ row l h. let both = a.to row l h in (both.0, n.same row (l ∙ long) ∙ both.1);

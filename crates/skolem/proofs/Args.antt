@@ -21,7 +21,7 @@ use Rattle.site_spec.specs.Site.{IsTermUnder}
 use Rattle.std.proofs.Common.{◌++◌, take, get_or}
 use Rattle.std.proofs.lemmas.List.{take_more}
 use Rattle.query_spec.specs.Query.{Operand}
-use Rattle.skolem.specs.Solved.{Adds, Refutes, Gives, Solves, HasNone}
+use Rattle.skolem.specs.Solved.{Adds, Refutes, SolvesOperand, Solves, HasNone}
 
 pub zip_at : {A B C : Type 0} (R : B → C → Type 0) (f : A → B) (xs : List A) (ys : List C) (i : ℕ) (x : A) (y : C)
     → AllZip R (map f xs) ys → slice_get xs i ≡ Some x → slice_get ys i ≡ Some y → R (f x) y
@@ -46,8 +46,8 @@ zip_long R f (a ∷ xs) (b ∷ ys) h = ap suc (zip_long R f xs ys h.1)
 -- the rows that agree are those that give the first i arguments
 pub record Solved (variables : List Variable) (operands : List Written) (given : List Datum) (i : ℕ) (bound : List (Option Value)) : Type 0 where
   pub one_each : length bound ≡ length variables
-  pub to : (row : List Value) → length row ≡ length variables → Agrees row bound → (j : ℕ) (o : Written) (d : Datum) → j < i → slice_get operands j ≡ Some o → slice_get given j ≡ Some d → Gives variables (operand_of o) d row
-  pub from : (row : List Value) → length row ≡ length variables → ((j : ℕ) (o : Written) (d : Datum) → j < i → slice_get operands j ≡ Some o → slice_get given j ≡ Some d → Gives variables (operand_of o) d row) → Agrees row bound
+  pub to : (row : List Value) → length row ≡ length variables → Agrees row bound → (j : ℕ) (o : Written) (d : Datum) → j < i → slice_get operands j ≡ Some o → slice_get given j ≡ Some d → SolvesOperand variables (operand_of o) d row
+  pub from : (row : List Value) → length row ≡ length variables → ((j : ℕ) (o : Written) (d : Datum) → j < i → slice_get operands j ≡ Some o → slice_get given j ≡ Some d → SolvesOperand variables (operand_of o) d row) → Agrees row bound
 
 pub solved-none : (variables : List Variable) (operands : List Written) (given : List Datum) (bound : List (Option Value)) → length bound ≡ length variables
     → ((row : List Value) → length row ≡ length variables → Agrees row bound) → Solved variables operands given 0 bound
@@ -63,7 +63,7 @@ some_datum : (x y : Datum) → Some x ≡ Some y → x ≡ y
 some_datum x y e = cc
 
 at_same : (variables : List Variable) (operands : List Written) (given : List Datum) (i j : ℕ) (o p : Written) (d e : Datum) (row : List Value)
-    → slice_get operands i ≡ Some o → slice_get given i ≡ Some d → j ≡ i → slice_get operands j ≡ Some p → slice_get given j ≡ Some e → Gives variables (operand_of o) d row → Gives variables (operand_of p) e row
+    → slice_get operands i ≡ Some o → slice_get given i ≡ Some d → j ≡ i → slice_get operands j ≡ Some p → slice_get given j ≡ Some e → SolvesOperand variables (operand_of o) d row → SolvesOperand variables (operand_of p) e row
 at_same variables operands given i j o p d e row oi di same pj ej g =
     let op : o ≡ p = some_operand o p (sym oi ∙ ap (slice_get operands) (sym same) ∙ pj) in
     let de : d ≡ e = some_datum d e (sym di ∙ ap (slice_get given) (sym same) ∙ ej) in
@@ -71,7 +71,7 @@ at_same variables operands given i j o p d e row oi di same pj ej g =
 
 pub solved-more : (variables : List Variable) (operands : List Written) (given : List Datum) (i : ℕ) (o : Written) (d : Datum) (old new : List (Option Value))
     → Solved variables operands given i old → slice_get operands i ≡ Some o → slice_get given i ≡ Some d
-    → Adds (Gives variables (operand_of o) d) old new → Solved variables operands given (i + 1) new
+    → Adds (SolvesOperand variables (operand_of o) d) old new → Solved variables operands given (i + 1) new
 solved-more variables operands given i o d old new s oi di a = record {
   one_each = a.one_each ∙ s.one_each;
   to = λ row l h j p e below pj ej. let both = a.to row (l ∙ sym s.one_each) h in elim (split_below j i below) [
@@ -94,10 +94,10 @@ solved-all variables t p n bound s f long past = record {
 }
 
 pub solved-never : (variables : List Variable) (t : SkolemTerm) (p : Term) (i : ℕ) (o : Written) (d : Datum) (bound : List (Option Value)) → Solved variables t.args.items p.args i bound
-    → slice_get t.args.items i ≡ Some o → slice_get p.args i ≡ Some d → Refutes (Gives variables (operand_of o) d) bound → HasNone variables (λ s. IsTermUnder s (term_of t) p)
+    → slice_get t.args.items i ≡ Some o → slice_get p.args i ≡ Some d → Refutes (SolvesOperand variables (operand_of o) d) bound → HasNone variables (λ s. IsTermUnder s (term_of t) p)
 solved-never variables t p i o d bound s oi di r = record {
   never = λ row l h.
-      let at : (j : ℕ) (o : Written) (d : Datum) → slice_get t.args.items j ≡ Some o → slice_get p.args j ≡ Some d → Gives variables (operand_of o) d row =
+      let at : (j : ℕ) (o : Written) (d : Datum) → slice_get t.args.items j ≡ Some o → slice_get p.args j ≡ Some d → SolvesOperand variables (operand_of o) d row =
       (λ (j : ℕ) (o : Written) (d : Datum) oj dj. zip_at (λ operand d. operand_value (value_in variables row) operand ≡ Some (Data d)) operand_of t.args.items p.args j o d h.args oj dj) in
       r.never row (l ∙ sym s.one_each) (s.from row l (λ j o d below oj dj. at j o d oj dj)) (at i o d oi di);
 }
@@ -137,6 +137,6 @@ zip_some R (a ∷ xs) [] i x h l is = absurd h
 zip_some R (a ∷ xs) (b ∷ ys) zero x h l is = (b, rw is h.0)
 zip_some R (a ∷ xs) (b ∷ ys) (suc i) x h l is = zip_some R xs ys i x h.1 (omega (arith, l)) is
 
-pub no_instance : (variables : List Variable) (row : List Value) (t : SkolemTerm) (i : ℕ) (o : Written) → i < length t.args.items → o ≡ get_or t.args.items i o → ((d : Datum) → Gives variables (operand_of o) d row → ⊥) → (p : Term) → IsTermUnder (value_in variables row) (term_of t) p → ⊥
+pub no_instance : (variables : List Variable) (row : List Value) (t : SkolemTerm) (i : ℕ) (o : Written) → i < length t.args.items → o ≡ get_or t.args.items i o → ((d : Datum) → SolvesOperand variables (operand_of o) d row → ⊥) → (p : Term) → IsTermUnder (value_in variables row) (term_of t) p → ⊥
 no_instance variables row t i o l is n p h =
     let r = zip_some (λ operand d. operand_value (value_in variables row) operand ≡ Some (Data d)) t.args.items p.args i o h.args l is in n r.0 r.1

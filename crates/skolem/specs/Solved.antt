@@ -40,8 +40,8 @@ pub record HasNone (variables : List Variable) (P : Assignment → Type 0) : Typ
   pub never : (row : List Value) → length row ≡ length variables → P (value_in variables row) → ⊥
 
 -- the operand is the datum under the row
-abbrev pub Gives : List Variable → Operand → Datum → List Value → Type 0
-Gives variables operand d row = operand_value (value_in variables row) operand ≡ Some (Data d)
+abbrev pub SolvesOperand : List Variable → Operand → Datum → List Value → Type 0
+SolvesOperand variables operand d row = operand_value (value_in variables row) operand ≡ Some (Data d)
 
 -- this many places, none of them bound
 pub record AllFree (n : ℕ) (bound : List (Option Value)) : Type 0 where

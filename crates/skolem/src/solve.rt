@@ -5,7 +5,7 @@ ghost use Rattle.query_spec.specs.Mentions.{IsDeclared};
 ghost use Rattle.query_spec.specs.Rows.{Agrees};
 ghost use Rattle.struql_ast.specs.Reading.{operand_of, term_of};
 ghost use Rattle.site_spec.specs.Site.{IsTermUnder};
-ghost use Rattle.skolem.specs.Solved.{Adds, Refutes, Solves, HasNone, HasAt, Gives};
+ghost use Rattle.skolem.specs.Solved.{Adds, Refutes, Solves, HasNone, HasAt, SolvesOperand};
 
 use query_spec::{Bound, Variable, index_of};
 use sd_value::{Datum, NoMemory, Term, Value, copy};
@@ -37,9 +37,9 @@ fn bind(
     requires one_each { length values.old.items ≡ length variables.now }
     ensures { IfOk result
         (λ b. MatchBool b
-        (Adds (Gives variables.now (operand_of operand.now) datum.now)
+        (Adds (SolvesOperand variables.now (operand_of operand.now) datum.now)
         values.old.items values.new.items)
-        (Refutes (Gives variables.now (operand_of operand.now) datum.now) values.old.items)) }
+        (Refutes (SolvesOperand variables.now (operand_of operand.now) datum.now) values.old.items)) }
 {
     let value = Value::Data(datum.copy(alloc)?);
     match operand {

@@ -7,7 +7,7 @@ ghost use Rattle.query_spec.specs.Holds.{operand_value};
 ghost use Rattle.query_spec.specs.Rows.{value_in};
 ghost use Rattle.struql_ast.specs.Reading.{operand_of, term_of};
 ghost use Rattle.site_spec.specs.Site.{IsTermUnder};
-ghost use Rattle.skolem.specs.Solved.{Gives};
+ghost use Rattle.skolem.specs.Solved.{SolvesOperand};
 
 use query_spec::Variable;
 use sd_value::{Args, Datum, NoMemory, Str, Term, Value};
@@ -49,8 +49,8 @@ pub fn operand_value<'a>(
 // The datum that a row gives an operand.
 fn datum_of<'a>(variables: &[Variable], row: &'a [Value], operand: &'a Operand) -> Option<&'a Datum>
     ensures { MatchOption result
-        ((d : AnyDatum) → Gives variables.now (operand_of operand.now) d row.now → ⊥)
-        (λ d. Gives variables.now (operand_of operand.now) d.now row.now) }
+        ((d : AnyDatum) → SolvesOperand variables.now (operand_of operand.now) d row.now → ⊥)
+        (λ d. SolvesOperand variables.now (operand_of operand.now) d.now row.now) }
 {
     let Some(value) = operand_value(variables, row, operand) else {
         return None;

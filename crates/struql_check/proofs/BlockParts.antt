@@ -7,7 +7,7 @@ use Rattle.struql_ast.specs.declared.Block.TheViews.{out-Block, roll-out-Block}
 use Rattle.struql_ast.specs.Written.{Blocks, block, condition_written, term_written, link_written, collect_written, block_written, blocks_written, block_clauses, block_inner, block_span, inner_made, clauses_made}
 use Rattle.struql_check.specs.Scope.{terms_within, clause_terms, within, ScopedBlock}
 use Rattle.struql_check.specs.Known.{here}
-use Rattle.struql_check.specs.declared.mentions.Mention.{Mention}
+use Rattle.struql_check.specs.declared.mentions.VariableUse.{VariableUse}
 
 pub clauses_of : (b : Block) → block_clauses b ≡ record {
   conditions = map condition_written (out-Block b).conditions.items;
@@ -29,7 +29,7 @@ terms_push (x ∷ xs) b =
     rw (written_of x (blocks_written (xs ++ b ∷ [])), written_of x (blocks_written xs), terms_push xs b)
     (sym (append_assoc _ (terms_within (blocks_written xs)) _))
 
-pub within_push : (round : List (List Mention)) (xs : List Block) (b : Block)
+pub within_push : (round : List (List VariableUse)) (xs : List Block) (b : Block)
     → within round (blocks_written (xs ++ b ∷ [])) ≡ within round (blocks_written xs) ++ (record { round = here round b; clauses = block_clauses b } ∷ within (here round b) (block_inner b))
 within_push round [] b = rw (written_of b (blocks_written [])) (ap (λ (bs : List ScopedBlock). record { round = here round b; clauses = block_clauses b } ∷ bs) (append-nil _))
 within_push round (x ∷ xs) b =

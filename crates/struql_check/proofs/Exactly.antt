@@ -4,7 +4,7 @@ use Rattle.std.specs.Prelude.{Bool, true, false, Option, Some, None}
 use Rattle.struql_check.specs.declared.faults.Check.{Check}
 use Rattle.struql_check.specs.declared.faults.Check.TheVariants.{Unbound, ArcAsNode, NotLabel, TooManyVariables}
 use Rattle.struql_check.specs.declared.faults.Fault.{Fault}
-use Rattle.struql_check.specs.declared.mentions.Mention.{Mention}
+use Rattle.struql_check.specs.declared.mentions.VariableUse.{VariableUse}
 use Rattle.struql_check.specs.declared.mentions.Role.{Role}
 use Rattle.struql_check.specs.declared.mentions.Role.TheVariants.{Arc, End, Label, Other}
 use Rattle.struql_check.specs.Faults.{RoleFault, IsPast, ChainFault}
@@ -39,16 +39,16 @@ role_is (Some false) Other here f e = absurd cc
 pub role_first : (s : Option Bool) (r : Role) (here : ℕ) → IsFirst (RoleFault s r here) (fault_at (broken_role s r) here)
 role_first s r here = first_exactly (RoleFault s r here) (fault_at (broken_role s r) here) (role_told s r here) (role_is s r here)
 
-chain_told : (ms : List Mention) (here : ℕ) → IsPast ms here → (check : Check) (at : ℕ) → ChainFault ms check at → ◌≡◌ {A = Option Fault} (Some (record { check = TooManyVariables; at = here })) (Some (record { check = check; at = at }))
+chain_told : (ms : List VariableUse) (here : ℕ) → IsPast ms here → (check : Check) (at : ℕ) → ChainFault ms check at → ◌≡◌ {A = Option Fault} (Some (record { check = TooManyVariables; at = here })) (Some (record { check = check; at = at }))
 chain_told ms here is TooManyVariables at p = rw (past_once ms here at is p) refl
 chain_told ms here is check at p = absurd p
 
-pub chain_past : (ms : List Mention) (here : ℕ) → IsPast ms here → IsFirst (ChainFault ms) (Some (record { check = TooManyVariables; at = here }))
+pub chain_past : (ms : List VariableUse) (here : ℕ) → IsPast ms here → IsFirst (ChainFault ms) (Some (record { check = TooManyVariables; at = here }))
 chain_past ms here is = first_exactly (ChainFault ms) (Some (record { check = TooManyVariables; at = here })) (chain_told ms here is) (λ f e. at_fault (ChainFault ms) f (record { check = TooManyVariables; at = here }) e is)
 
-few_never : (ms : List Mention) → length (names_of ms) ≤ 32 → (check : Check) (at : ℕ) → ChainFault ms check at → ⊥
+few_never : (ms : List VariableUse) → length (names_of ms) ≤ 32 → (check : Check) (at : ℕ) → ChainFault ms check at → ⊥
 few_never ms few TooManyVariables at p = never_past ms at few p
 few_never ms few check at p = p
 
-pub chain_few : (ms : List Mention) → length (names_of ms) ≤ 32 → IsFirst (ChainFault ms) None
+pub chain_few : (ms : List VariableUse) → length (names_of ms) ≤ 32 → IsFirst (ChainFault ms) None
 chain_few ms few = few_never ms few

@@ -4,7 +4,7 @@ use Rattle.std.specs.Prelude.{Bool, true, false, ◌||◌, ◌&&◌, if◌then�
 use Rattle.std.proofs.lemmas.List.Folds.{list_any-append}
 use Rattle.query_spec.specs.Mentions.{same_name}
 use Rattle.struql_ast.specs.Written.{Name}
-use Rattle.struql_check.specs.declared.mentions.Mention.{Mention}
+use Rattle.struql_check.specs.declared.mentions.VariableUse.{VariableUse}
 use Rattle.struql_check.specs.Scope.{is_in, is_between_arrows, is_arc_role, sort_of}
 use Rattle.query_spec.proofs.MentionLaws.{same_is, same_turned}
 
@@ -13,14 +13,14 @@ or_nil true b = refl
 or_nil false true = refl
 or_nil false false = refl
 
-in_push : (ms : List Mention) (m : Mention) (x : Name) → is_in (ms ++ m ∷ []) x ≡ (is_in ms x || same_name x m.name)
-in_push ms m x = list_any-append (λ (n : Mention). same_name x n.name) ms (m ∷ []) ∙ or_nil (is_in ms x) (same_name x m.name)
+in_push : (ms : List VariableUse) (m : VariableUse) (x : Name) → is_in (ms ++ m ∷ []) x ≡ (is_in ms x || same_name x m.name)
+in_push ms m x = list_any-append (λ (n : VariableUse). same_name x n.name) ms (m ∷ []) ∙ or_nil (is_in ms x) (same_name x m.name)
 
-between_push : (ms : List Mention) (m : Mention) (x : Name) → is_between_arrows (ms ++ m ∷ []) x ≡ (is_between_arrows ms x || (same_name x m.name && is_arc_role m.role))
-between_push ms m x = list_any-append (λ (n : Mention). same_name x n.name && is_arc_role n.role) ms (m ∷ []) ∙ or_nil (is_between_arrows ms x) (same_name x m.name && is_arc_role m.role)
+between_push : (ms : List VariableUse) (m : VariableUse) (x : Name) → is_between_arrows (ms ++ m ∷ []) x ≡ (is_between_arrows ms x || (same_name x m.name && is_arc_role m.role))
+between_push ms m x = list_any-append (λ (n : VariableUse). same_name x n.name && is_arc_role n.role) ms (m ∷ []) ∙ or_nil (is_between_arrows ms x) (same_name x m.name && is_arc_role m.role)
 
 -- what isn't mentioned isn't between arrows
-between_in : (ms : List Mention) (x : Name) → is_in ms x ≡ false → is_between_arrows ms x ≡ false
+between_in : (ms : List VariableUse) (x : Name) → is_in ms x ≡ false → is_between_arrows ms x ≡ false
 between_in [] x e = refl
 between_in (m ∷ ms) x e = between_step (same_name x m.name) (is_arc_role m.role) (is_in ms x) (is_between_arrows ms x) e (between_in ms x) where
   between_step : (s r i b : Bool) → (s || i) ≡ false → (i ≡ false → b ≡ false) → ((s && r) || b) ≡ false
@@ -39,7 +39,7 @@ chosen : (i b r : Bool) → (i ≡ false → b ≡ false) → (unwrap_or (if i t
 chosen true b r f = refl
 chosen false b r f = rw (f refl) refl
 
-more_at : (t : Bool) (ms : List Mention) (m : Mention) (x : Name) (before : Bool) → t ≡ same_name m.name x → before ≡ unwrap_or (sort_of (ms ∷ []) m.name) false
+more_at : (t : Bool) (ms : List VariableUse) (m : VariableUse) (x : Name) (before : Bool) → t ≡ same_name m.name x → before ≡ unwrap_or (sort_of (ms ∷ []) m.name) false
     → (if t then Some (before || is_arc_role m.role) else sort_of (ms ∷ []) x) ≡ sort_of ((ms ++ m ∷ []) ∷ []) x
 more_at true ms m x before t e =
     let s : m.name ≡ x = same_is m.name x (sym t) in
@@ -50,6 +50,6 @@ more_at false ms m x before t e =
     let off : same_name x m.name ≡ false = same_turned x m.name ∙ sym t in
     rw (in_push ms m x, between_push ms m x, off, or_right_false (is_in ms x), or_right_false (is_between_arrows ms x)) refl
 
-pub sort_more : (ms : List Mention) (m : Mention) (x : Name) (before : Bool) → before ≡ unwrap_or (sort_of (ms ∷ []) m.name) false
+pub sort_more : (ms : List VariableUse) (m : VariableUse) (x : Name) (before : Bool) → before ≡ unwrap_or (sort_of (ms ∷ []) m.name) false
     → (if same_name m.name x then Some (before || is_arc_role m.role) else sort_of (ms ∷ []) x) ≡ sort_of ((ms ++ m ∷ []) ∷ []) x
 sort_more ms m x before e = more_at (same_name m.name x) ms m x before refl e

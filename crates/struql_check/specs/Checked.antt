@@ -32,6 +32,6 @@ ReportsFirst q refusal =
     (check : Check) × (at : ℕ) × IsLeastFault (Faulty q) check at × (refusal ≡ told check at)
 
 -- Ok exactly where the query has no fault, with that query; else its first fault, unless it was out of memory
-abbrev pub Answers : Query → Result plain.Query CheckRefusal → Type 0
-Answers query (Ok checked) = IsFaultless (query_written query) × (checked ≡ query_of query)
-Answers query (Err refusal) = ReportsFirst (query_written query) refusal
+abbrev pub GivesChecked : Query → Result plain.Query CheckRefusal → Type 0
+GivesChecked query (Ok checked) = IsFaultless (query_written query) × (checked ≡ query_of query)
+GivesChecked query (Err refusal) = ReportsFirst (query_written query) refusal

@@ -10,7 +10,7 @@ use Rattle.struql_check.specs.declared.faults.Check.{Check}
 use Rattle.struql_check.specs.declared.faults.Check.TheVariants.{TooManyPositions, Unbound, NeverCreated, Arity}
 use Rattle.struql_check.specs.declared.faults.Check.TheVariants.{LinkFromData, ArcAsNode, NotLabel, Reserved}
 use Rattle.struql_check.specs.declared.faults.Check.TheVariants.{TooManyVariables}
-use Rattle.struql_check.specs.declared.mentions.Mention.{Mention}
+use Rattle.struql_check.specs.declared.mentions.VariableUse.{VariableUse}
 use Rattle.struql_check.specs.declared.mentions.Role.{Role}
 use Rattle.struql_check.specs.declared.mentions.Role.TheVariants.{Arc, End, Label, Other}
 use Rattle.struql_check.specs.declared.terms.SeenTerm.{SeenTerm}
@@ -38,18 +38,18 @@ RoleFault is_arc role here NotLabel at = IsLabelRole role × (is_arc ≡ Some fa
 RoleFault is_arc role here check at = ⊥
 
 -- the fault of one mention, given the blocks round it
-abbrev pub MentionFault : List (List Mention) → Mention → Check → ℕ → Type 0
+abbrev pub MentionFault : List (List VariableUse) → VariableUse → Check → ℕ → Type 0
 MentionFault round x check at = RoleFault (sort_of round x.name) x.role x.at check at
 
 -- the place where a list of mentions first has a variable more than 32
-abbrev pub IsPast : List Mention → ℕ → Type 0
+abbrev pub IsPast : List VariableUse → ℕ → Type 0
 IsPast ms at =
-    (before : List Mention) × (x : Mention) × (after : List Mention) × (ms ≡ before ++ x ∷ after)
+    (before : List VariableUse) × (x : VariableUse) × (after : List VariableUse) × (ms ≡ before ++ x ∷ after)
     × (is_in before x.name ≡ false) × (length (first_mentions (map (λ m. m.name) before)) ≡ 32)
     × (at ≡ x.at)
 
 -- TooManyVariables: the first mention of the 33rd variable of a chain
-abbrev pub ChainFault : List Mention → Check → ℕ → Type 0
+abbrev pub ChainFault : List VariableUse → Check → ℕ → Type 0
 ChainFault ms TooManyVariables at = IsPast ms at
 ChainFault ms check at = ⊥
 

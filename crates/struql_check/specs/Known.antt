@@ -4,7 +4,7 @@ use Rattle.query_spec.specs.Mentions.{first_mentions}
 use Rattle.std.specs.List.{flat_map}
 use Rattle.struql_ast.specs.declared.Block.{Block}
 use Rattle.struql_ast.specs.Written.{Name, block_clauses}
-use Rattle.struql_check.specs.declared.mentions.Mention.{Mention}
+use Rattle.struql_check.specs.declared.mentions.VariableUse.{VariableUse}
 use Rattle.struql_check.specs.declared.names.Names.{Names}
 use Rattle.struql_check.specs.declared.names.Names.TheVariants.{Few, Many}
 use Rattle.struql_check.specs.Scope.{mentions}
@@ -14,16 +14,16 @@ use Rattle.struql_check.specs.declared.terms.SeenTerm.{SeenTerm}
 use Rattle.struql_check.specs.Faults.{IsPast, is_created, first_arity}
 
 -- the names of mentions, each once
-abbrev pub names_of : List Mention → List Name
+abbrev pub names_of : List VariableUse → List Name
 names_of ms = first_mentions (map (λ m. m.name) ms)
 
 -- the variables by first mention, as long as these are no more than 32, and then where the 33rd is
-abbrev pub AreNames : List Mention → Names → Type 0
+abbrev pub AreNames : List VariableUse → Names → Type 0
 AreNames ms (Few known) = (known.items ≡ names_of ms) × (length known.items ≤ 32)
 AreNames ms (Many at) = IsPast ms at
 
 -- the mentions of the conditions round a block and of its own, block by block
-abbrev pub here : List (List Mention) → Block → List (List Mention)
+abbrev pub here : List (List VariableUse) → Block → List (List VariableUse)
 here round b = round ++ flat_map mentions (block_clauses b).conditions ∷ []
 
 -- the functions that are in a CREATE

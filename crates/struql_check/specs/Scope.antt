@@ -9,7 +9,7 @@ use Rattle.struql_ast.specs.declared.LinkLabel.TheVariants as label
 use Rattle.struql_ast.specs.Written.{Name, Step, arc_variable, expression, Condition, member, path, compare, one_of}
 use Rattle.struql_ast.specs.Written.{kind, negation, Term, Target, plain, made, Link, Collect, Clauses, Blocks}
 use Rattle.struql_ast.specs.Written.{no_blocks, block, Query}
-use Rattle.struql_check.specs.declared.mentions.Mention.{Mention}
+use Rattle.struql_check.specs.declared.mentions.VariableUse.{VariableUse}
 use Rattle.struql_check.specs.declared.mentions.Role.{Role}
 use Rattle.struql_check.specs.declared.terms.SeenTerm.{SeenTerm}
 use Rattle.struql_check.specs.declared.mentions.Role.TheVariants.{Arc, End, Label, Other}
@@ -17,17 +17,17 @@ use Rattle.struql_check.specs.declared.mentions.Role.TheVariants.{Arc, End, Labe
 -- ---- mentions
 
 -- an operand mentions the variable that it is
-abbrev pub operand_mentions : Role → Operand → List Mention
+abbrev pub operand_mentions : Role → Operand → List VariableUse
 operand_mentions role (Variable x span) = record { name = x; role = role; at = span.start } ∷ []
 operand_mentions role (Constant v span) = []
 
 -- an arc variable between arrows
-abbrev pub step_mentions : Step → List Mention
+abbrev pub step_mentions : Step → List VariableUse
 step_mentions (arc_variable x span) = record { name = x; role = Arc; at = span.start } ∷ []
 step_mentions (expression r span) = []
 
 -- every variable of a condition, in the text's order
-abbrev pub mentions : Condition → List Mention
+abbrev pub mentions : Condition → List VariableUse
 mentions (member c x x_span span) = record { name = x; role = End; at = x_span.start } ∷ []
 mentions (path t s u span) = operand_mentions End t ++ step_mentions s ++ operand_mentions End u
 mentions (compare t o u span) = operand_mentions Other t ++ operand_mentions Other u
@@ -36,29 +36,29 @@ mentions (kind k x x_span span) = record { name = x; role = Other; at = x_span.s
 mentions (negation c span) = mentions c
 
 -- the variables among a term's arguments
-abbrev pub term_mentions : Term → List Mention
+abbrev pub term_mentions : Term → List VariableUse
 term_mentions t = flat_map (operand_mentions Other) t.args
 
 -- the variables of a target
-abbrev pub target_mentions : Target → List Mention
+abbrev pub target_mentions : Target → List VariableUse
 target_mentions (plain o) = operand_mentions Other o
 target_mentions (made t) = term_mentions t
 
 -- an arc variable as a link's label
-abbrev pub label_mentions : LinkLabel → List Mention
+abbrev pub label_mentions : LinkLabel → List VariableUse
 label_mentions (label.Quoted l) = []
 label_mentions (label.Variable x span) = record { name = x; role = Label; at = span.start } ∷ []
 
 -- the variables of a link, from left to right
-abbrev pub link_mentions : Link → List Mention
+abbrev pub link_mentions : Link → List VariableUse
 link_mentions k = target_mentions k.source ++ label_mentions k.label ++ target_mentions k.target
 
 -- the variables of a COLLECT's item
-abbrev pub collect_mentions : Collect → List Mention
+abbrev pub collect_mentions : Collect → List VariableUse
 collect_mentions o = target_mentions o.target
 
 -- the variables that CREATE, LINK and COLLECT use
-abbrev pub uses : Clauses → List Mention
+abbrev pub uses : Clauses → List VariableUse
 uses c =
     flat_map term_mentions c.creates ++ flat_map link_mentions c.links
     ++ flat_map collect_mentions c.collects
@@ -73,16 +73,16 @@ is_arc_role Label = false
 is_arc_role Other = false
 
 -- one of the mentions has the name
-abbrev pub is_in : List Mention → Name → Bool
+abbrev pub is_in : List VariableUse → Name → Bool
 is_in ms x = list_any (λ m. same_name x m.name) ms
 
 -- one of them has it between arrows
-abbrev pub is_between_arrows : List Mention → Name → Bool
+abbrev pub is_between_arrows : List VariableUse → Name → Bool
 is_between_arrows ms x = list_any (λ m. same_name x m.name && is_arc_role m.role) ms
 
 -- Whether a variable is an arc variable, given the mentions of the conditions block by block, outermost first: the
 -- outermost block that mentions it decides, by whether it has it between arrows. None where no block mentions it.
-abbrev pub sort_of : List (List Mention) → Name → Option Bool
+abbrev pub sort_of : List (List VariableUse) → Name → Option Bool
 sort_of [] x = None
 sort_of (here ∷ deeper) x =
     if is_in here x then Some (is_between_arrows here x) else sort_of deeper x
@@ -91,11 +91,11 @@ sort_of (here ∷ deeper) x =
 
 -- a block: its clauses, and the mentions of the conditions of the blocks round it and of its own, block by block, outermost first
 pub record ScopedBlock : Type 0 where
-  pub round : List (List Mention)
+  pub round : List (List VariableUse)
   pub clauses : Clauses
 
 -- blocks and those in them, with the mentions round them
-abbrev pub within : List (List Mention) → Blocks → List ScopedBlock
+abbrev pub within : List (List VariableUse) → Blocks → List ScopedBlock
 within round no_blocks = []
 within round (block clauses inner span after) =
     let here = round ++ flat_map mentions clauses.conditions ∷ [] in
@@ -106,11 +106,11 @@ abbrev pub scoped : Query → List ScopedBlock
 scoped q = within [] q.blocks
 
 -- the mentions of the whole chain of conditions
-abbrev pub chain_mentions : ScopedBlock → List Mention
+abbrev pub chain_mentions : ScopedBlock → List VariableUse
 chain_mentions b = flat_map (λ ms. ms) b.round
 
 -- the mentions of a block itself: those of its own conditions, and those of its other clauses
-abbrev pub block_mentions : Clauses → List Mention
+abbrev pub block_mentions : Clauses → List VariableUse
 block_mentions c = flat_map mentions c.conditions ++ uses c
 
 -- ---- terms

@@ -7,7 +7,7 @@ ghost use Rattle.struql_ast.specs.Written.{query_written};
 ghost use Rattle.struql_check.specs.Faults.{Faulty, IsFaultless};
 ghost use Rattle.struql_check.specs.First.{IsFirst};
 ghost use Rattle.struql_check.specs.Parsed.{IsParsed};
-ghost use Rattle.struql_check.specs.Checked.{Answers};
+ghost use Rattle.struql_check.specs.Checked.{GivesChecked};
 
 use sd_value::NoMemory;
 use std::alloc::Global;
@@ -27,7 +27,7 @@ mod walk;
 use faults::earlier;
 pub use faults::{Check, Fault};
 use functions::first_of_terms;
-pub use mentions::{Mention, Role};
+pub use mentions::{VariableUse, Role};
 pub use names::Names;
 use names::no_names;
 pub use refusal::CheckRefusal;
@@ -97,7 +97,7 @@ fn first_fault(alloc: Global, query: &Query) -> Result<Option<Fault>, NoMemory>
 /// number.
 pub fn check(alloc: Global, query: Query) -> Result<Checked, CheckRefusal>
     requires { IsParsed (query_of query) }
-    ensures { Answers query result }
+    ensures { GivesChecked query result }
 {
     match first_fault(alloc, &query)? {
         None => Ok(Checked { query }),

@@ -26,7 +26,7 @@ pub enum Role {
 
 /// A variable where it is.
 #[derive(Drop)]
-pub struct Mention {
+pub struct VariableUse {
     pub name: Str,
     pub role: Role,
     /// The place of its first byte.
@@ -35,7 +35,7 @@ pub struct Mention {
 
 fn push_mention(
     alloc: Global,
-    found: &mut Vec<Mention>,
+    found: &mut Vec<VariableUse>,
     name: &Str,
     role: Role,
     at: u64,
@@ -44,13 +44,13 @@ fn push_mention(
         ≡ found.old.items ++ record { name = name.now; role = role; at = at } ∷ []) }
 {
     let name = name.copy(alloc)?;
-    found.push(Mention { name, role, at })?;
+    found.push(VariableUse { name, role, at })?;
     Ok(())
 }
 
 fn push_operand(
     alloc: Global,
-    found: &mut Vec<Mention>,
+    found: &mut Vec<VariableUse>,
     operand: &Operand,
     role: Role,
 ) -> Result<(), NoMemory>
@@ -63,7 +63,7 @@ fn push_operand(
     }
 }
 
-fn push_step(alloc: Global, found: &mut Vec<Mention>, step: &PathStep) -> Result<(), NoMemory>
+fn push_step(alloc: Global, found: &mut Vec<VariableUse>, step: &PathStep) -> Result<(), NoMemory>
     ensures { IfOk result (λ _. found.new.items
         ≡ found.old.items ++ step_mentions (step_written step.now)) }
 {
@@ -77,7 +77,7 @@ fn push_step(alloc: Global, found: &mut Vec<Mention>, step: &PathStep) -> Result
 
 fn push_condition(
     alloc: Global,
-    found: &mut Vec<Mention>,
+    found: &mut Vec<VariableUse>,
     condition: &Condition,
 ) -> Result<(), NoMemory>
     ensures { IfOk result (λ _. found.new.items
@@ -109,7 +109,7 @@ fn push_condition(
 }
 
 /// The variables of conditions, in the text's order.
-pub(crate) fn mentions_of(alloc: Global, conditions: &[Condition]) -> Result<Vec<Mention>, NoMemory>
+pub(crate) fn mentions_of(alloc: Global, conditions: &[Condition]) -> Result<Vec<VariableUse>, NoMemory>
     ensures { IfOk result (λ ms. ms.items ≡ flat_map mentions
         (map condition_written conditions.now)) }
 {
@@ -120,7 +120,7 @@ pub(crate) fn mentions_of(alloc: Global, conditions: &[Condition]) -> Result<Vec
     Ok(found)
 }
 
-fn push_term(alloc: Global, found: &mut Vec<Mention>, term: &SkolemTerm) -> Result<(), NoMemory>
+fn push_term(alloc: Global, found: &mut Vec<VariableUse>, term: &SkolemTerm) -> Result<(), NoMemory>
     ensures { IfOk result (λ _. found.new.items
         ≡ found.old.items ++ term_mentions (term_written term.now)) }
 {
@@ -130,7 +130,7 @@ fn push_term(alloc: Global, found: &mut Vec<Mention>, term: &SkolemTerm) -> Resu
     Ok(())
 }
 
-fn push_target(alloc: Global, found: &mut Vec<Mention>, target: &Target) -> Result<(), NoMemory>
+fn push_target(alloc: Global, found: &mut Vec<VariableUse>, target: &Target) -> Result<(), NoMemory>
     ensures { IfOk result (λ _. found.new.items
         ≡ found.old.items ++ target_mentions (target_written target.now)) }
 {
@@ -140,7 +140,7 @@ fn push_target(alloc: Global, found: &mut Vec<Mention>, target: &Target) -> Resu
     }
 }
 
-fn push_label(alloc: Global, found: &mut Vec<Mention>, label: &LinkLabel) -> Result<(), NoMemory>
+fn push_label(alloc: Global, found: &mut Vec<VariableUse>, label: &LinkLabel) -> Result<(), NoMemory>
     ensures { IfOk result (λ _. found.new.items ≡ found.old.items ++ label_mentions label.now) }
 {
     match label {
@@ -151,7 +151,7 @@ fn push_label(alloc: Global, found: &mut Vec<Mention>, label: &LinkLabel) -> Res
     }
 }
 
-fn push_link(alloc: Global, found: &mut Vec<Mention>, link: &Link) -> Result<(), NoMemory>
+fn push_link(alloc: Global, found: &mut Vec<VariableUse>, link: &Link) -> Result<(), NoMemory>
     ensures { IfOk result (λ _. found.new.items
         ≡ found.old.items ++ link_mentions (link_written link.now)) }
 {
@@ -162,7 +162,7 @@ fn push_link(alloc: Global, found: &mut Vec<Mention>, link: &Link) -> Result<(),
 
 fn push_creates(
     alloc: Global,
-    found: &mut Vec<Mention>,
+    found: &mut Vec<VariableUse>,
     terms: &[SkolemTerm],
 ) -> Result<(), NoMemory>
     ensures { IfOk result (λ _. found.new.items
@@ -174,7 +174,7 @@ fn push_creates(
     Ok(())
 }
 
-fn push_links(alloc: Global, found: &mut Vec<Mention>, links: &[Link]) -> Result<(), NoMemory>
+fn push_links(alloc: Global, found: &mut Vec<VariableUse>, links: &[Link]) -> Result<(), NoMemory>
     ensures { IfOk result (λ _. found.new.items
         ≡ found.old.items ++ flat_map link_mentions (map link_written links.now)) }
 {
@@ -186,7 +186,7 @@ fn push_links(alloc: Global, found: &mut Vec<Mention>, links: &[Link]) -> Result
 
 fn push_collects(
     alloc: Global,
-    found: &mut Vec<Mention>,
+    found: &mut Vec<VariableUse>,
     collects: &[Collect],
 ) -> Result<(), NoMemory>
     ensures { IfOk result (λ _. found.new.items
@@ -204,7 +204,7 @@ pub(crate) fn uses_of(
     creates: &[SkolemTerm],
     links: &[Link],
     collects: &[Collect],
-) -> Result<Vec<Mention>, NoMemory>
+) -> Result<Vec<VariableUse>, NoMemory>
     ensures { IfOk result (λ ms. ms.items ≡ flat_map term_mentions (map term_written creates.now)
         ++ flat_map link_mentions (map link_written links.now)
         ++ flat_map collect_mentions (map collect_written collects.now)) }

@@ -4,9 +4,9 @@ ghost use Rattle.std.specs.Prelude.{◌≡◌, ◌++◌, ◌∷◌, [], List, If
 ghost use Rattle.std.specs.List.{list_any};
 ghost use Rattle.query_spec.specs.Mentions.{same_name};
 ghost use Rattle.struql_check.specs.Known.{AreNames};
-ghost use Rattle.struql_check.specs.declared.mentions.Mention.{Mention};
+ghost use Rattle.struql_check.specs.declared.mentions.VariableUse.{VariableUse};
 
-use crate::mentions::Mention;
+use crate::mentions::VariableUse;
 use sd_value::{NoMemory, Str};
 use std::alloc::Global;
 
@@ -38,8 +38,8 @@ fn copied(alloc: Global, names: &[Str]) -> Result<Vec<Str>, NoMemory>
     Ok(copy)
 }
 
-fn one_more(alloc: Global, names: Names, mention: &Mention) -> Result<Names, NoMemory>
-    ensures { IfOk result (λ more. (ms : List Mention) → AreNames ms names
+fn one_more(alloc: Global, names: Names, mention: &VariableUse) -> Result<Names, NoMemory>
+    ensures { IfOk result (λ more. (ms : List VariableUse) → AreNames ms names
         → AreNames (ms ++ mention.now ∷ []) more) }
 {
     match names {
@@ -68,9 +68,9 @@ pub(crate) fn no_names(alloc: Global) -> Names
 pub(crate) fn with_mentions(
     alloc: Global,
     before: &Names,
-    mentions: &[Mention],
+    mentions: &[VariableUse],
 ) -> Result<Names, NoMemory>
-    ensures { IfOk result (λ more. (ms : List Mention) → AreNames ms before.now
+    ensures { IfOk result (λ more. (ms : List VariableUse) → AreNames ms before.now
         → AreNames (ms ++ mentions.now) more) }
 {
     let mut names = match before {

@@ -10,10 +10,10 @@ ghost use Rattle.struql_check.specs.Faults.{SomeIn, MentionFault, ChainFault, Co
 ghost use Rattle.struql_check.specs.Faults.{CollectFault, large_place, is_plain, is_test, is_index};
 ghost use Rattle.struql_check.specs.First.{IsFirst, fault_at, broken_role};
 ghost use Rattle.struql_check.specs.Known.{AreNames};
-ghost use Rattle.struql_check.specs.declared.mentions.Mention.{Mention as Seen};
+ghost use Rattle.struql_check.specs.declared.mentions.VariableUse.{VariableUse as Seen};
 
 use crate::faults::{Check, Fault, earlier};
-use crate::mentions::{Mention, Role};
+use crate::mentions::{VariableUse, Role};
 use crate::names::Names;
 use crate::scope::{Level, sort_of};
 use rpe::Rpe;
@@ -59,7 +59,7 @@ fn broken_role(is_arc: Option<bool>, role: Role) -> Option<Check>
     }
 }
 
-fn mention_fault(levels: &[Level], mention: &Mention) -> Option<Fault>
+fn mention_fault(levels: &[Level], mention: &VariableUse) -> Option<Fault>
     ensures { IsFirst (MentionFault levels.now mention.now) result }
 {
     let is_arc = sort_of(levels, &mention.name);
@@ -68,7 +68,7 @@ fn mention_fault(levels: &[Level], mention: &Mention) -> Option<Fault>
 }
 
 /// The first fault of these mentions, under the conditions of all levels.
-pub(crate) fn first_of_mentions(levels: &[Level], mentions: &[Mention]) -> Option<Fault>
+pub(crate) fn first_of_mentions(levels: &[Level], mentions: &[VariableUse]) -> Option<Fault>
     ensures { IsFirst (SomeIn (MentionFault levels.now) mentions.now) result }
 {
     let mut first = None;

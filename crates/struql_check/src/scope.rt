@@ -5,7 +5,7 @@ ghost use Rattle.std.specs.BTreeMap as tree;
 ghost use Rattle.sd_value.specs.Order.{bytes_cmp};
 ghost use Rattle.struql_check.specs.Scope.{sort_of, is_arc_role};
 
-use crate::mentions::{Mention, Role};
+use crate::mentions::{VariableUse, Role};
 use sd_value::{NoMemory, Str};
 use std::alloc::Global;
 use std::collections::BTreeMap;
@@ -14,14 +14,14 @@ use std::marker::Model;
 /// The variables of one block's own conditions.
 #[derive(Drop)]
 pub(crate) struct Level {
-    mentions: Vec<Mention>,
+    mentions: Vec<VariableUse>,
     /// Each of them, and whether it is between arrows.
     variables: BTreeMap<Str, bool>,
 }
 
 impl Model for Level {
     ghost use Rattle.std.specs.Prelude.{List};
-    ghost use Rattle.struql_check.specs.declared.mentions.Mention.{Mention as Seen};
+    ghost use Rattle.struql_check.specs.declared.mentions.VariableUse.{VariableUse as Seen};
 
     ghost Value = { List Seen };
 
@@ -50,7 +50,7 @@ fn or_arc(before: bool, role: Role) -> bool
 }
 
 /// Each variable, and whether it is between arrows.
-fn sorts_of(alloc: Global, mentions: &[Mention]) -> Result<BTreeMap<Str, bool>, NoMemory>
+fn sorts_of(alloc: Global, mentions: &[VariableUse]) -> Result<BTreeMap<Str, bool>, NoMemory>
     ensures { IfOk result (λ sorts. (x : List ℕ)
         → tree.get bytes_cmp sorts x ≡ sort_of (mentions.now ∷ []) x) }
 {
@@ -65,7 +65,7 @@ fn sorts_of(alloc: Global, mentions: &[Mention]) -> Result<BTreeMap<Str, bool>, 
 
 impl Level {
     /// The level of a block with these mentions in its conditions.
-    pub(crate) fn new(alloc: Global, mentions: Vec<Mention>) -> Result<Level, NoMemory>
+    pub(crate) fn new(alloc: Global, mentions: Vec<VariableUse>) -> Result<Level, NoMemory>
         ensures { IfOk result (λ level. level ≡ mentions.items) }
     {
         let variables = sorts_of(alloc, &mentions)?;
@@ -76,7 +76,7 @@ impl Level {
     }
 
     /// The mentions in the block's conditions.
-    pub(crate) fn mentions(&self) -> &[Mention]
+    pub(crate) fn mentions(&self) -> &[VariableUse]
         ensures { result.now ≡ self.now }
     {
         self.mentions.as_slice()

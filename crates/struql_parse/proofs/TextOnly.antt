@@ -3,7 +3,7 @@ use Rattle.std.proofs.Common.{ℕ, List, length, Ok, Err}
 use Rattle.sd_lex.specs.declared.token.Token.{Token}
 use Rattle.sd_lex.specs.declared.refusal.LexRefusal.{LexRefusal}
 use Rattle.sd_lex.specs.declared.refusal.LexRefusal.TheVariants as lexer
-use Rattle.sd_lex.specs.Lexing.{Answers, IsTextOrFault}
+use Rattle.sd_lex.specs.Lexing.{GivesTokens, IsTextOrFault}
 use Rattle.struql_ast.specs.Written.{Query}
 use Rattle.struql_parse.specs.declared.refusal.TokenRefusal.{TokenRefusal}
 use Rattle.struql_parse.specs.declared.refusal.TokenRefusal.TheVariants as grammar
@@ -13,7 +13,7 @@ use Rattle.struql_parse.specs.Stated.{States, IsOnly}
 use Rattle.struql_parse.specs.Text.{TextStates, TextGives}
 use Rattle.struql_parse.proofs.Whole.{is_within}
 
-pub no_tokens : (e : LexRefusal) (tokens : List Token) (query : Query) → Answers {A = List Token} (Ok tokens) (Err e) → TextGives query (Err (of_lexer e))
+pub no_tokens : (e : LexRefusal) (tokens : List Token) (query : Query) → GivesTokens {A = List Token} (Ok tokens) (Err e) → TextGives query (Err (of_lexer e))
 no_tokens (lexer.TooLong at) tokens query h = absurd cc
 no_tokens (lexer.BadByte at) tokens query h = absurd cc
 no_tokens (lexer.OpenString at) tokens query h = absurd cc

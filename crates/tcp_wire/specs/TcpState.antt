@@ -4,7 +4,7 @@ use Rattle.std.specs.Prelude.{None, IsSome, option_map, if◌then◌else◌}
 use Rattle.std.specs.declared.net.socket_addr.SocketAddr.{SocketAddr}
 use Rattle.std.specs.declared.net.socket_addr.SocketAddr.TheVariants.{V4}
 use Rattle.wire.specs.Accounts.{up}
-use Rattle.wire.specs.Told.{Told}
+use Rattle.wire.specs.Told.{WireReport}
 use Rattle.wire.specs.declared.WireEvent.{WireEvent}
 use Rattle.wire.specs.declared.WireEvent.TheVariants.{Opened, Bytes, Ended, Lost, Change, Done}
 use Rattle.wire.specs.declared.WireEnd.{WireEnd}
@@ -63,7 +63,7 @@ abbrev pub IsFree : TcpState → Type 0
 IsFree w = (hand : Hand) → w.hand ≡ Some hand → hand.progress.ended ≡ true
 
 -- what the wire reports: only its failed calls, and of the sends that any may have failed
-abbrev pub told_of : TcpState → Told
+abbrev pub told_of : TcpState → WireReport
 told_of w = record {
   account = λ number. None;
   faults = λ number. 2 ^ 64 - 1;

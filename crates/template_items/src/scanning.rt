@@ -3,7 +3,7 @@
 ghost use Rattle.std.specs.Prelude.{◌≡◌, ◌+◌, ◌^◌, ◌<◌, ◌≤◌, ◌-◌, ◌++◌, List, length, take, drop, codes, IfOk, IfSome, Some, None};
 ghost use Rattle.std.specs.Option.{is_some};
 ghost use Rattle.sd_lex.specs.Bytes.{is_blank, is_letter};
-ghost use Rattle.sd_lex.specs.Lexing.{Answers};
+ghost use Rattle.sd_lex.specs.Lexing.{GivesTokens};
 ghost use Rattle.sd_lex.specs.Reading.{lexeme};
 ghost use Rattle.template_items.specs.declared.item.Item.{Item as AnyItem};
 ghost use Rattle.template_items.specs.Scanning.{begins, starts_blank, opens, tag_at, text_run, made, fault_at, moved};
@@ -246,7 +246,7 @@ fn fault_place(refusal: LexRefusal) -> u64
 /// The token that begins at this byte.
 fn lexeme_at(alloc: Global, bytes: &[u8], at: u64) -> Result<Token, LexRefusal>
     requires { at < length bytes.now }
-    ensures is { Answers (lexeme at (drop at bytes.now)) result }
+    ensures is { GivesTokens (lexeme at (drop at bytes.now)) result }
     ensures within { IfOk result (λ t. (at < t.span.«end») × (t.span.«end» ≤ length bytes.now)) }
 {
     token_at(alloc, bytes, at)

@@ -107,8 +107,8 @@ abbrev pub twice : List Item → Option ℕ
 twice items = first_twice nothing_seen (titles items)
 
 -- the sets of the program have the names
-abbrev pub Holds : Names → Seen → Type 0
-Holds n s =
+abbrev pub HoldNames : Names → Seen → Type 0
+HoldNames n s =
     ((q : List ℕ) → contains bytes_cmp n.functions q ≡ is_in s.functions q)
     × ((q : List ℕ) → contains bytes_cmp n.collections q ≡ is_in s.collections q)
 
@@ -200,8 +200,8 @@ IsItemsAnswer items r =
     (ending : Ending) × IsEnding items ending × (r ≡ answer (twice items) items ending)
 
 -- Bytes beyond the limit are too long. Others are answered by their items and how these end.
-abbrev pub IsAnswer : ℕ → List ℕ → Result TemplateFile TmplRefusal → Type 0
-IsAnswer limit bytes r =
+abbrev pub IsTemplatesAnswer : ℕ → List ℕ → Result TemplateFile TmplRefusal → Type 0
+IsTemplatesAnswer limit bytes r =
     ((limit < length bytes) × (r ≡ Err (TooLong limit)))
     ⊎ ((length bytes ≤ limit) × (items : List Item) × AreItems bytes items × IsItemsAnswer items r)
 
@@ -213,10 +213,10 @@ UnlessNoMemory P (Err NoMemory) = Unit {0}
 UnlessNoMemory P (Err e) = P (Err e)
 
 -- This is the answer, unless it was out of memory.
-abbrev pub Answers : Result TemplateFile TmplRefusal → Result Templates TmplRefusal → Type 0
-Answers r (Ok t) = r ≡ Ok (file_of t)
-Answers r (Err NoMemory) = Unit {0}
-Answers r (Err e) = r ≡ Err e
+abbrev pub GivesTemplates : Result TemplateFile TmplRefusal → Result Templates TmplRefusal → Type 0
+GivesTemplates r (Ok t) = r ≡ Ok (file_of t)
+GivesTemplates r (Err NoMemory) = Unit {0}
+GivesTemplates r (Err e) = r ≡ Err e
 
 -- it is this refusal, or it was out of memory
 abbrev pub OrNoMemory : TmplRefusal → TmplRefusal → Type 0

@@ -8,8 +8,8 @@ ghost use Rattle.template_reader.specs.Template.{Entry as PlainEntry, within};
 ghost use Rattle.template_reader.specs.Reading.{is_block};
 ghost use Rattle.template_reader.specs.Entries.{entry_of, file_from};
 ghost use Rattle.template_reader.specs.Faults.{twice, unless_before, unless_twice, past_at, whole_answer};
-ghost use Rattle.template_reader.specs.Faults.{unfit_answer, beyond_answer, IsItemsAnswer, IsAnswer, UnlessNoMemory};
-ghost use Rattle.template_reader.specs.Faults.{Answers, OrNoMemory};
+ghost use Rattle.template_reader.specs.Faults.{unfit_answer, beyond_answer, IsItemsAnswer, IsTemplatesAnswer, UnlessNoMemory};
+ghost use Rattle.template_reader.specs.Faults.{GivesTemplates, OrNoMemory};
 ghost use Rattle.template_reader.specs.Filed.{Filed};
 
 use crate::file::{Entry, file_at};
@@ -118,7 +118,7 @@ fn past_at(item: &Item) -> TmplRefusal
 
 /// The answer to a whole file.
 fn whole(alloc: Global, doubled: Option<u64>, entries: Vec<Entry>) -> Result<Templates, TmplRefusal>
-    ensures { Answers (whole_answer doubled (map entry_of entries.items)) result }
+    ensures { GivesTemplates (whole_answer doubled (map entry_of entries.items)) result }
 {
     if let Some(at) = doubled {
         return Err(TmplRefusal::Twice(at));
@@ -157,7 +157,7 @@ fn answer(alloc: Global, items: &[Item], doubled: Option<u64>) -> Result<Templat
     requires { doubled ≡ twice items.now }
     ensures exact { UnlessNoMemory (IsItemsAnswer items.now) result }
     ensures only { (entries : List PlainEntry) → within items.now entries
-        → Answers (whole_answer (twice items.now) entries) result }
+        → GivesTemplates (whole_answer (twice items.now) entries) result }
 {
     match file_at(alloc, items) {
         Ok(entries) => whole(alloc, doubled, entries),
@@ -171,10 +171,10 @@ fn answer(alloc: Global, items: &[Item], doubled: Option<u64>) -> Result<Templat
 /// of the text. The fault with the least place is reported; that a body is not closed only where there is no other.
 pub fn read_templates(alloc: Global, bytes: &[u8], limit: u64) -> Result<Templates, TmplRefusal>
     requires { limit < 2 ^ 32 }
-    ensures exact { UnlessNoMemory (IsAnswer limit bytes.now) result }
+    ensures exact { UnlessNoMemory (IsTemplatesAnswer limit bytes.now) result }
     ensures only { (items : List AnyItem) (entries : List PlainEntry) → length bytes.now ≤ limit
         → AreItems bytes.now items → within items entries
-        → Answers (whole_answer (twice items) entries) result }
+        → GivesTemplates (whole_answer (twice items) entries) result }
 {
     if bytes.len() as u64 > limit {
         return Err(TmplRefusal::TooLong(limit));

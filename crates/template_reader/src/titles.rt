@@ -3,7 +3,7 @@
 ghost use Rattle.std.specs.Prelude.{◌≡◌, not, IfOk, None, []};
 ghost use Rattle.template_tags.specs.Terminals.{is_mark};
 ghost use Rattle.template_reader.specs.Faults.{second_name, title_of, titles, Seen, is_seen, see, first_twice};
-ghost use Rattle.template_reader.specs.Faults.{nothing_seen, Holds, twice, opens_body, closes_body, open_tags};
+ghost use Rattle.template_reader.specs.Faults.{nothing_seen, HoldNames, twice, opens_body, closes_body, open_tags};
 ghost use Rattle.template_reader.specs.Faults.{last_of, innermost};
 
 use crate::file::{collection_name, is_sort};
@@ -89,10 +89,10 @@ struct Names {
 impl Names {
     /// One more name; whether it is new.
     fn add(&mut self, alloc: Global, title: &Title) -> Result<bool, NoMemory>
-        ensures fresh { IfOk result (λ fresh. (s : Seen) → Holds self.old s
+        ensures fresh { IfOk result (λ fresh. (s : Seen) → HoldNames self.old s
             → fresh ≡ not (is_seen s title.now)) }
-        ensures holds { IfOk result (λ fresh. (s : Seen) → Holds self.old s
-            → Holds self.new (see s title.now)) }
+        ensures holds { IfOk result (λ fresh. (s : Seen) → HoldNames self.old s
+            → HoldNames self.new (see s title.now)) }
     {
         let name = title.name.copy(alloc)?;
         if title.of_collection {

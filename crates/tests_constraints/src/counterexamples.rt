@@ -3,11 +3,11 @@ use crate::checks::{check, check_text};
 use crate::lines::told;
 use crate::verdicts::{VERDICTS, VerdictRow};
 use constraints::parse_constraints;
-use refute_site::{Trial, first_broken};
+use refute_site::{Oracle, first_broken};
 use query_reader::read_query;
 use sd_ddl::{read_ddl, write_ddl};
 use sd_graph::{Graph, GraphBuilder, PROGRAM_LIMITS};
-use command_check::SiteTrial;
+use command_check::SiteOracle;
 use std::alloc::Global;
 use std::test::Fail;
 
@@ -85,7 +85,7 @@ fn refuted(alloc: Global, row: &Counterexample) -> Result<Option<Graph>, Fail> {
     let [constraint] = constraints.as_slice() else {
         return Err(Fail::new(row.constraint));
     };
-    let mut trial = SiteTrial::of(alloc, &query)?;
+    let mut trial = SiteOracle::of(alloc, &query)?;
     Ok(first_broken(alloc, &query, constraint, &mut trial)?)
 }
 
@@ -119,7 +119,7 @@ fn is_broken(alloc: Global, row: &VerdictRow, data: &[u8]) -> Result<bool, Fail>
     let mut builder = GraphBuilder::new(alloc, PROGRAM_LIMITS);
     read_ddl(alloc, data, 65_536, &mut builder)?;
     let graph = builder.finish(alloc)?;
-    let mut trial = SiteTrial::of(alloc, &query)?;
+    let mut trial = SiteOracle::of(alloc, &query)?;
     let met = trial.met(alloc, graph, constraint)?;
     Ok(!met)
 }

@@ -4,7 +4,7 @@ use schema::paths_of;
 use certificate_check::recheck;
 use certificate_text::{print_unknown, print_yes};
 use constraint_spec::{Certificate, Constraint, LinkUse, MentionProof};
-use command_check::{SiteTrial, Verdicts, verdicts_of};
+use command_check::{SiteOracle, Verdicts, verdicts_of};
 use constraints::parse_constraints;
 use query_reader::read_query;
 use query_scoping::scopes;
@@ -111,7 +111,7 @@ fn certificates_have_their_lines(rt: HostRuntime) -> Result<(), Fail> {
 pub fn told(alloc: Global, query: &[u8], constraints: &[u8]) -> Result<Verdicts, Fail> {
     let query = read_query(alloc, query, 65_536)?;
     let constraints = parse_constraints(alloc, constraints, 65_536, &query)?;
-    let mut trial = SiteTrial::of(alloc, &query)?;
+    let mut trial = SiteOracle::of(alloc, &query)?;
     Ok(verdicts_of(alloc, &query, &constraints, &mut trial)?)
 }
 

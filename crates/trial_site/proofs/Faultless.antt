@@ -7,7 +7,7 @@ use Rattle.std.proofs.lemmas.Bool.Decides.{nat_tests}
 use Rattle.struql_ast.specs.Written.{Condition, Link, Collect, Query}
 use Rattle.struql_check.specs.declared.faults.Check.{Check}
 use Rattle.struql_check.specs.declared.faults.Check.TheVariants.{TooManyPositions, LinkFromData, Reserved}
-use Rattle.struql_check.specs.declared.mentions.Mention.{Mention}
+use Rattle.struql_check.specs.declared.mentions.VariableUse.{VariableUse}
 use Rattle.struql_check.specs.declared.terms.SeenTerm.{SeenTerm}
 use Rattle.struql_check.specs.Scope.{sort_of, ScopedBlock, scoped, chain_mentions, block_mentions, terms}
 use Rattle.struql_check.specs.Faults.{SomeIn, MentionFault, ChainFault, large_place, ConditionFault}
@@ -55,18 +55,18 @@ never_by P (Some check) at first e = absurd cc
 
 -- ---- the variables of a block
 
-unfoldable pub plays : List (List Mention) → Mention → Bool
+unfoldable pub plays : List (List VariableUse) → VariableUse → Bool
 plays round m = is_none (broken_role (sort_of round m.name) m.role)
 
-plays_never : (round : List (List Mention)) (m : Mention) → plays round m ≡ true → Never (MentionFault round m)
+plays_never : (round : List (List VariableUse)) (m : VariableUse) → plays round m ≡ true → Never (MentionFault round m)
 unfolding plays
 plays_never round m e =
     never_by (MentionFault round m) (broken_role (sort_of round m.name) m.role) m.at (role_first (sort_of round m.name) m.role m.at) e
 
-unfoldable pub few : List Mention → Bool
+unfoldable pub few : List VariableUse → Bool
 few ms = nat_le (length (names_of ms)) 32
 
-few_never : (ms : List Mention) → few ms ≡ true → Never (ChainFault ms)
+few_never : (ms : List VariableUse) → few ms ≡ true → Never (ChainFault ms)
 unfolding few
 few_never ms e = let h : length (names_of ms) ≤ 32 = grind (arith, nat_tests) in chain_few ms h
 

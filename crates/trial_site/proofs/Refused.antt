@@ -13,7 +13,7 @@ use Rattle.tmpl.specs.declared.Templates.{Templates}
 use Rattle.template_reader.specs.declared.refusal.TmplRefusal.{TmplRefusal}
 use Rattle.template_reader.specs.declared.refusal.TmplRefusal.TheVariants.{TooLong, Expected, Unclosed, Twice}
 use Rattle.template_reader.specs.declared.refusal.TmplRefusal.TheVariants.{TooDeep, UnknownVariable, NoMemory}
-use Rattle.template_reader.specs.Faults.{IsAnswer, UnlessNoMemory}
+use Rattle.template_reader.specs.Faults.{IsTemplatesAnswer, UnlessNoMemory}
 use Rattle.command_spec.specs.Limits.{text_limit}
 use Rattle.trial_spec.specs.Texts.{query_text, templates_text}
 use Rattle.trial_site.specs.Accepted.{IsOutOfMemory}
@@ -40,7 +40,7 @@ module _ (r : Result plain.Query QueryRefusal) (refusal : QueryRefusal) (is : r 
       other (checked_is e
       (query_accepted.never_refused (NotChecked e) (subst (Reads text_limit query_text) (is ∙ ap Err this) reads)))
 
-by_refusal : (e : TmplRefusal) → (e ≡ NoMemory → ⊥) → UnlessNoMemory (IsAnswer text_limit templates_text) (Err e) → ⊥
+by_refusal : (e : TmplRefusal) → (e ≡ NoMemory → ⊥) → UnlessNoMemory (IsTemplatesAnswer text_limit templates_text) (Err e) → ⊥
 by_refusal (TooLong at) other h = templates_accepted.never_refused (TooLong at) h
 by_refusal (Expected at) other h = templates_accepted.never_refused (Expected at) h
 by_refusal (Unclosed at) other h = templates_accepted.never_refused (Unclosed at) h
@@ -50,6 +50,6 @@ by_refusal (UnknownVariable at) other h = templates_accepted.never_refused (Unkn
 by_refusal NoMemory other h = other refl
 
 pub never_other : (r : Result Templates TmplRefusal) (e : TmplRefusal) → r ≡ Err e → (e ≡ NoMemory → ⊥)
-    → UnlessNoMemory (IsAnswer text_limit templates_text) r → ⊥
+    → UnlessNoMemory (IsTemplatesAnswer text_limit templates_text) r → ⊥
 never_other r e is other h =
-    by_refusal e other (subst (UnlessNoMemory (IsAnswer text_limit templates_text)) is h)
+    by_refusal e other (subst (UnlessNoMemory (IsTemplatesAnswer text_limit templates_text)) is h)

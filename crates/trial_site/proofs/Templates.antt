@@ -20,7 +20,7 @@ use Rattle.template_tags.specs.Reading.{read_expr, read_key, read_order, read_de
 use Rattle.template_tags.specs.Reading.{read_close, read_next, read_settings}
 use Rattle.template_tags.specs.Terminals.{setting_word, compare_word, keyword_of}
 use Rattle.template_reader.specs.Entries.{file_from}
-use Rattle.template_reader.specs.Faults.{Whole, twice, answer, IsAnswer}
+use Rattle.template_reader.specs.Faults.{Whole, twice, answer, IsTemplatesAnswer}
 use Rattle.template_reader.proofs.FileParts.{is_spelled}
 use Rattle.template_reader.proofs.TemplateFiles.{one_answer}
 use Rattle.command_spec.specs.Limits.{text_limit}
@@ -66,7 +66,7 @@ once : twice items ≡ None
 unfolding items
 once = refl
 
-accepted : IsAnswer text_limit templates_text (Ok (file_from entries))
+accepted : IsTemplatesAnswer text_limit templates_text (Ok (file_from entries))
 accepted =
     let size : length templates_text ≡ 248 = refl in
     let whole : Ok (file_from entries) ≡ answer (twice items) items (Whole entries) = rw once refl in
@@ -77,7 +77,7 @@ accepted =
       (Whole entries, is_spelled items entries are_read, whole),
     )
 
-no_refusal : (refusal : TmplRefusal) → IsAnswer text_limit templates_text (Err refusal) → ⊥
+no_refusal : (refusal : TmplRefusal) → IsTemplatesAnswer text_limit templates_text (Err refusal) → ⊥
 no_refusal refusal h =
     let both : ◌≡◌ {A = Result TemplateFile TmplRefusal} (Ok (file_from entries)) (Err refusal) =
     one_answer text_limit templates_text (Ok (file_from entries)) (Err refusal) accepted h in

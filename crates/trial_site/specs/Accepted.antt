@@ -10,7 +10,7 @@ use Rattle.query_reader.specs.declared.QueryRefusal.TheVariants.{NotSpelled, Not
 use Rattle.query_reader.specs.Reads.{Spells, IsRefused}
 use Rattle.tmpl.specs.Body.{TemplateFile}
 use Rattle.template_reader.specs.declared.refusal.TmplRefusal.{TmplRefusal}
-use Rattle.template_reader.specs.Faults.{IsAnswer}
+use Rattle.template_reader.specs.Faults.{IsTemplatesAnswer}
 
 -- the reader of queries was out of memory
 abbrev pub IsOutOfMemory : QueryRefusal → Type 0
@@ -28,5 +28,5 @@ pub record IsQueryText (limit : ℕ) (bytes : List ℕ) : Type 0 where
 -- The text is answered by a file of templates, and by no refusal.
 pub record AreTemplatesText (limit : ℕ) (bytes : List ℕ) : Type 0 where
   pub file : TemplateFile
-  pub accepted : IsAnswer limit bytes (Ok file)
-  pub never_refused : (refusal : TmplRefusal) → IsAnswer limit bytes (Err refusal) → ⊥
+  pub accepted : IsTemplatesAnswer limit bytes (Ok file)
+  pub never_refused : (refusal : TmplRefusal) → IsTemplatesAnswer limit bytes (Err refusal) → ⊥

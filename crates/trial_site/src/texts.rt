@@ -3,7 +3,7 @@
 ghost use Rattle.std.specs.Prelude.{◌≡◌, IfOk, Ok};
 ghost use Rattle.query_reader.specs.Reads.{IsAccepted};
 ghost use Rattle.tmpl.specs.Reading.{file_of};
-ghost use Rattle.template_reader.specs.Faults.{IsAnswer};
+ghost use Rattle.template_reader.specs.Faults.{IsTemplatesAnswer};
 ghost use Rattle.command_spec.specs.Limits.{text_limit};
 ghost use Rattle.trial_spec.specs.Texts.{query_text, templates_text};
 
@@ -53,7 +53,7 @@ pub fn made_query(alloc: Global) -> Result<Checked, NoMemory>
 /// The templates of a trial. Their text is the program's own and is accepted, so out of memory is the only error.
 pub fn made_templates(alloc: Global) -> Result<Templates, NoMemory>
     ensures { IfOk result (λ templates.
-        IsAnswer text_limit templates_text (Ok (file_of templates))) }
+        IsTemplatesAnswer text_limit templates_text (Ok (file_of templates))) }
 {
     match read_templates(alloc, TEMPLATES, TEXT_LIMIT) {
         Ok(templates) => Ok(templates),

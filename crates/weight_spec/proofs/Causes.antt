@@ -13,13 +13,13 @@ use Rattle.page_spec.specs.Question.{Question, in_site, out, collected, template
 use Rattle.site_spec.specs.Site.{Scope, chain, IsLabelUnder}
 use Rattle.weight_spec.specs.Site.{site_of}
 use Rattle.demand_spec.specs.Reads.{MayAsk, IsRead, MayEmbed, IsNamedCollection}
-use Rattle.weight_spec.specs.Charges.{Mention, Charge, mention, link_row, edge, membership, member, collect_row, IsMention, IsCharge, IsCause}
+use Rattle.weight_spec.specs.Charges.{NamingPlace, Charge, mention, link_row, edge, membership, member, collect_row, IsNamedAt, IsCharge, IsCause}
 
 one_label : (s : Assignment) (k : LinkLabel) (a b : Name) → IsLabelUnder s k a → IsLabelUnder s k b → a ≡ b
 one_label s (quoted l) a b h g = h ∙ sym g
 one_label s (label_variable x) a b h g = let e : Some (text a) ≡ Some (text b) = sym h ∙ g in cc
 
-of_mention : (G : DataGraph) (q : Scope) (f : TemplateFile) (a : Question) (t : Term) (block : ℕ) (m : Mention) → IsCause G q f a (mention t block m) → a ≡ in_site t
+of_mention : (G : DataGraph) (q : Scope) (f : TemplateFile) (a : Question) (t : Term) (block : ℕ) (m : NamingPlace) → IsCause G q f a (mention t block m) → a ≡ in_site t
 of_mention G q f (in_site p) t block m h = ap in_site (sym h.0)
 of_mention G q f (out u l) t block m h = absurd h
 of_mention G q f (collected c) t block m h = absurd h
@@ -114,7 +114,7 @@ collected_asked G q f p c (inr h) = h
 
 pub charged : (G : DataGraph) (q : Scope) (f : TemplateFile) (p : Term) (a : Question) (x : Charge) → MayAsk (site_of G q) f p a → IsCause G q f a x → IsCharge G q f p x
 charged G q f p (in_site t) (mention u block m) may (e, (b, at, h)) =
-    let same = term_asked G q f p t may in (e ∙ same, (b, at, subst (λ z. IsMention b z m) same h))
+    let same = term_asked G q f p t may in (e ∙ same, (b, at, subst (λ z. IsNamedAt b z m) same h))
 charged G q f p (in_site t) (link_row u block link row) may h = absurd h
 charged G q f p (in_site t) (edge u l v) may h = absurd h
 charged G q f p (in_site t) (membership u n) may h = absurd h

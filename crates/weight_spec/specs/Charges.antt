@@ -17,27 +17,27 @@ use Rattle.weight_spec.specs.Distinct.{IsDistinct}
 
 -- where a block names a term: in a CREATE, at either end of a LINK, or in a COLLECT, by their
 -- numbers in the block
-pub data Mention : Type 0 where
-  created : ℕ → Mention
-  linked_from : ℕ → Mention
-  linked_to : ℕ → Mention
-  put : ℕ → Mention
+pub data NamingPlace : Type 0 where
+  created : ℕ → NamingPlace
+  linked_from : ℕ → NamingPlace
+  linked_to : ℕ → NamingPlace
+  put : ℕ → NamingPlace
 
 -- the term that is there in the block
-abbrev pub IsTermAt : Body → Mention → SkolemTerm → Type 0
+abbrev pub IsTermAt : Body → NamingPlace → SkolemTerm → Type 0
 IsTermAt b (created n) t = slice_get b.creates n ≡ Some t
 IsTermAt b (linked_from n) t = (k : Link) × (slice_get b.links n ≡ Some k) × (k.source ≡ made t)
 IsTermAt b (linked_to n) t = (k : Link) × (slice_get b.links n ≡ Some k) × (k.target ≡ made t)
 IsTermAt b (put n) t = (k : Collect) × (slice_get b.collects n ≡ Some k) × (k.target ≡ made t)
 
 -- the block names a term of p's function there
-abbrev pub IsMention : Body → Term → Mention → Type 0
-IsMention b p m = (t : SkolemTerm) × IsTermAt b m t × (t.function ≡ p.function)
+abbrev pub IsNamedAt : Body → Term → NamingPlace → Type 0
+IsNamedAt b p m = (t : SkolemTerm) × IsTermAt b m t × (t.function ≡ p.function)
 
 -- one thing that the data hand out; blocks, links, COLLECTs and collection templates go by their
 -- numbers
 pub data Charge : Type 0 where
-  mention : Term → (block : ℕ) → Mention → Charge
+  mention : Term → (block : ℕ) → NamingPlace → Charge
   link_row : Term → (block link : ℕ) → List Value → Charge
   edge : Value → Label → Value → Charge
   membership : Value → (number : ℕ) → Charge
@@ -61,7 +61,7 @@ module _ (graph : DataGraph) (query : Scope) (templates : TemplateFile) (page : 
   --     each member of a collection that they name, and each row of a COLLECT under its name
   abbrev pub IsCharge : Charge → Type 0
   IsCharge (mention t block m) =
-      (t ≡ page) × ((b : Body) × (slice_get query.bodies block ≡ Some b) × IsMention b page m)
+      (t ≡ page) × ((b : Body) × (slice_get query.bodies block ≡ Some b) × IsNamedAt b page m)
   IsCharge (link_row t block link row) =
       ((label : Label) × IsRead (site_of graph query) templates page (Page t) label)
       × ((b : Body) × (slice_get query.bodies block ≡ Some b)
@@ -97,7 +97,7 @@ module _ (graph : DataGraph) (query : Scope) (templates : TemplateFile) where
   -- the charges that one question of a page may cause
   abbrev pub IsCause : Question → Charge → Type 0
   IsCause (in_site p) (mention t block m) =
-      (t ≡ p) × ((b : Body) × (slice_get query.bodies block ≡ Some b) × IsMention b p m)
+      (t ≡ p) × ((b : Body) × (slice_get query.bodies block ≡ Some b) × IsNamedAt b p m)
   IsCause (out u label) (link_row t block link row) =
       (u ≡ Page t)
       × ((b : Body) × (slice_get query.bodies block ≡ Some b)

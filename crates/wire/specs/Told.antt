@@ -6,7 +6,7 @@ use Rattle.wire.specs.declared.WireEvent.{WireEvent}
 
 -- What a wire reports at one moment. An account, the events and the calls of listen are reported or not, each for
 -- itself; the counts of failed calls always are.
-pub record Told : Type 0 where
+pub record WireReport : Type 0 where
   -- what each connection was sent and took, and whether it was closed
   pub account : ℕ → Option Account
   -- how often the sends to each connection failed
@@ -23,21 +23,21 @@ pub record Told : Type 0 where
   pub next_faults : ℕ
 
 -- No event was given, listen and watch were not called and none failed: what changed is of connections alone.
-abbrev pub EventsStay : Told → Told → Type 0
+abbrev pub EventsStay : WireReport → WireReport → Type 0
 EventsStay before after =
     (after.given ≡ before.given) × (after.left ≡ before.left) × (after.listens ≡ before.listens)
     × (after.next_faults ≡ before.next_faults) × (after.watches ≡ before.watches)
 
 -- nothing was sent to a connection, and none was closed
-abbrev pub ConnectionsStay : Told → Told → Type 0
+abbrev pub ConnectionsStay : WireReport → WireReport → Type 0
 ConnectionsStay before after = (after.account ≡ before.account) × (after.faults ≡ before.faults)
 
 -- every account is as before, but that of this connection
-abbrev pub OtherAccountsStay : ℕ → Told → Told → Type 0
+abbrev pub OtherAccountsStay : ℕ → WireReport → WireReport → Type 0
 OtherAccountsStay connection before after =
     (other : ℕ) → other ≢ connection → after.account other ≡ before.account other
 
 -- every count of failed sends is as before, but that of this connection
-abbrev pub OtherFaultsStay : ℕ → Told → Told → Type 0
+abbrev pub OtherFaultsStay : ℕ → WireReport → WireReport → Type 0
 OtherFaultsStay connection before after =
     (other : ℕ) → other ≢ connection → after.faults other ≡ before.faults other

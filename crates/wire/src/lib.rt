@@ -5,7 +5,7 @@ ghost use Rattle.std.specs.Prelude.{◌≡◌, ◌+◌, ℕ, List, [], ◌∷◌
 ghost use Rattle.edge_io.specs.Counts.{Rose};
 ghost use Rattle.wire.specs.Accounts.{Account, send_to, gain, close_to, up, up_by};
 ghost use Rattle.wire.specs.Events.{add_event, IsNextOf, add_listen, IsWatched};
-ghost use Rattle.wire.specs.Told.{Told, EventsStay, OtherAccountsStay, OtherFaultsStay};
+ghost use Rattle.wire.specs.Told.{WireReport, EventsStay, OtherAccountsStay, OtherFaultsStay};
 ghost use Rattle.wire.specs.declared.WireEvent.{WireEvent};
 
 use edge_io::Failed;
@@ -35,10 +35,10 @@ pub enum WireEnd {
     NoMemory,
 }
 
-/// Where events come from and replies go to. What it reports is optional but for the counts of failed calls: `Told` says
+/// Where events come from and replies go to. What it reports is optional but for the counts of failed calls: `WireReport` says
 /// which part. A failing answer comes only where its count rose.
 pub trait Wire {
-    ghost told: { Self → Told };
+    ghost told: { Self → WireReport };
 
     /// Listens at the port for at most this many connections.
     fn listen(&mut self, port: u16, connections: u64) -> Result<(), Failed>

@@ -1,7 +1,7 @@
 use Rattle.std.proofs.Common.{arith, ◌∙◌}
 use Rattle.site_spec.specs.Site.{scope_of}
 use Rattle.constraint_prover.specs.Verdicts.{IsVerdict, HoldsOverAll}
-use Rattle.command_check.specs.Told.{IsFinding, HoldsOfSites}
+use Rattle.command_check.specs.Told.{IsCheckAnswer, HoldsOfSites}
 use Rattle.command_check.specs.Written.{found_in}
 use Rattle.std.specs.Prelude.{map}
 use Rattle.command_check.proofs.Found.{zip_at, found_more, found_all}
@@ -27,14 +27,14 @@ pub loop-i-preserved : goal.loop-i-preserved
 loop-i-preserved g c = record {
   own = c.in_ok-find.ensures.own;
   scope = c.in_ok-find.ensures.scope ∙ c.loop-i.invariant.scope;
-  exact = found_more (IsFinding (scope_of c.args.query.now)) c.args.constraints.now c.loop-i.i c.index-constraints-i.result c.loop-i.found.items c.push.new.self.items c.in_ok-find.field-0
+  exact = found_more (IsCheckAnswer (scope_of c.args.query.now)) c.args.constraints.now c.loop-i.i c.index-constraints-i.result c.loop-i.found.items c.push.new.self.items c.in_ok-find.field-0
       c.loop-i-test.true c.index-constraints-i.is c.in_ok-push.ensures.items c.loop-i.invariant.exact c.in_ok-find.ensures.exact;
   holds = found_more (HoldsOfSites (scope_of c.args.query.now)) c.args.constraints.now c.loop-i.i c.index-constraints-i.result c.loop-i.found.items c.push.new.self.items c.in_ok-find.field-0
       c.loop-i-test.true c.index-constraints-i.is c.in_ok-push.ensures.items c.loop-i.invariant.holds c.in_ok-find.ensures.holds;
 }
 
 pub returns-clause-exact : goal.returns-clause-exact
-returns-clause-exact g c = found_all (IsFinding (scope_of c.args.query.now)) c.args.constraints.now c.loop-i.i (map found_in c.loop-i.found.items) c.loop-i-test.false c.loop-i.invariant.exact
+returns-clause-exact g c = found_all (IsCheckAnswer (scope_of c.args.query.now)) c.args.constraints.now c.loop-i.i (map found_in c.loop-i.found.items) c.loop-i-test.false c.loop-i.invariant.exact
 
 pub returns-clause-holds : goal.returns-clause-holds
 returns-clause-holds g c = found_all (HoldsOfSites (scope_of c.args.query.now)) c.args.constraints.now c.loop-i.i (map found_in c.loop-i.found.items) c.loop-i-test.false c.loop-i.invariant.holds

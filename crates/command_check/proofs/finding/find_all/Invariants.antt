@@ -2,7 +2,7 @@ use Rattle.std.proofs.Common.{◌≡◌, take}
 use Rattle.std.specs.Prelude.{map}
 use Rattle.std.specs.List.{AllZip}
 use Rattle.site_spec.specs.Site.{scope_of}
-use Rattle.command_check.specs.Told.{IsFinding, HoldsOfSites}
+use Rattle.command_check.specs.Told.{IsCheckAnswer, HoldsOfSites}
 use Rattle.command_check.specs.Written.{found_in}
 use Rattle.command_check.proofs.finding.find_all.Given as goal
 
@@ -10,6 +10,6 @@ abbrev pub invariant-loop-i : goal.invariant-loop-i
 invariant-loop-i g l = record {
   own : g.T.Trial.Own l.trial;
   scope : g.T.Trial.scope l.trial ≡ g.T.Trial.scope l.initial.trial;
-  exact : AllZip (IsFinding (scope_of l.query)) (take l.i l.constraints) (map found_in l.found.items);
+  exact : AllZip (IsCheckAnswer (scope_of l.query)) (take l.i l.constraints) (map found_in l.found.items);
   holds : AllZip (HoldsOfSites (scope_of l.query)) (take l.i l.constraints) (map found_in l.found.items);
 }

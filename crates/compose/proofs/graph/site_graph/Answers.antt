@@ -5,7 +5,7 @@ use Rattle.graph_spec.specs.DataGraph.{DataGraph}
 use Rattle.sd_graph.specs.declared.Limits.{Limits}
 use Rattle.compose_spec.specs.Composed.{IsSiteGraph}
 use Rattle.compose.specs.Adding.{Gains, AddsAll}
-use Rattle.compose.specs.Listed.{Answers}
+use Rattle.compose.specs.Listed.{AnswersWithin}
 use Rattle.compose.specs.Stated.{IsNodeStated}
 use Rattle.compose.proofs.Whole.{nodes_refused, rest_refused, graph_whole, graph_answers}
 use Rattle.compose.proofs.graph.site_graph.Goals as goal
@@ -15,7 +15,7 @@ returns-in_err-add_nodes-clause-limits g c = λ whole is.
     let p = err_from_is_err_and c.from_residual.result c.from_residual.ensures.1 in
     let e = c.in_err-add_nodes.field-0.0 in
     rw (p.1, p.2)
-    (subst (λ (l : Limits). Answers l whole (Err e)) c.new-builder.ensures.limits
+    (subst (λ (l : Limits). AnswersWithin l whole (Err e)) c.new-builder.ensures.limits
     (nodes_refused (g.V.SiteView.site (g.V.SiteView.fixed c.args.view.now)) c.args.graph.now c.args.terms.now
     c.args.labels.now c.args.collections.now c.nodes.ensures.well_formed c.requires.listed c.new-builder.result
     c.new-builder.ensures.empty
@@ -28,7 +28,7 @@ returns-in_err-add_edges-clause-limits g c = λ whole is.
     let p = err_from_is_err_and c.from_residual-in_err-add_edges.result c.from_residual-in_err-add_edges.ensures.1 in
     let e = c.in_err-add_edges.field-0.0 in
     rw (p.1, p.2)
-    (subst (λ (l : Limits). Answers l whole (Err e)) c.new-builder.ensures.limits
+    (subst (λ (l : Limits). AnswersWithin l whole (Err e)) c.new-builder.ensures.limits
     (rest_refused (g.V.SiteView.site (g.V.SiteView.fixed c.args.view.now)) c.args.graph.now c.args.terms.now
     c.args.labels.now c.args.collections.now c.nodes.ensures.well_formed c.requires.listed c.new-builder.result
     c.new-builder.ensures.empty
@@ -55,8 +55,8 @@ returns-clause-graph g c =
 
 pub returns-clause-limits : goal.returns-clause-limits
 returns-clause-limits g c = λ whole is.
-    subst (λ (G : DataGraph). Answers c.args.limits whole (Ok G)) (sym c.in_ok-whole.ensures)
-    (subst (λ (l : Limits). Answers l whole (Ok c.add_edges.new.builder.graph)) c.new-builder.ensures.limits
+    subst (λ (G : DataGraph). AnswersWithin c.args.limits whole (Ok G)) (sym c.in_ok-whole.ensures)
+    (subst (λ (l : Limits). AnswersWithin l whole (Ok c.add_edges.new.builder.graph)) c.new-builder.ensures.limits
     (graph_answers (g.V.SiteView.site (g.V.SiteView.fixed c.args.view.now)) c.args.graph.now c.args.terms.now
     c.args.labels.now c.args.collections.now c.nodes.ensures.well_formed c.requires.listed c.new-builder.result
     c.new-builder.ensures.empty

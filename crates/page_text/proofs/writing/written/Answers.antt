@@ -1,7 +1,7 @@
 use Rattle.std.proofs.Common.{◌≡◌, ◌<◌, ◌+◌, ◌∷◌, length, drop, ap, ◌∙◌, arith, append-nil}
 use Rattle.std.proofs.lemmas.List.Elements.{All-nil, All-push, All-pop}
 use Rattle.page_text.specs.declared.draft.Fragment.TheVariants.{Whole}
-use Rattle.page_text.specs.declared.writing.Place.{Place}
+use Rattle.page_text.specs.declared.writing.Cursor.{Cursor}
 use Rattle.page_text.specs.Places.{fragments_at, after, steps, steps_of, steps_after, steps_after_all}
 use Rattle.page_text.proofs.Progress.{ordered, whole_after, next_before, steps_push, entering_steps, entered, left_again}
 use Rattle.page_text.proofs.writing.written.Goals as goal
@@ -9,7 +9,7 @@ use Rattle.page_text.proofs.writing.written.Goals as goal
 pub loop-text-init : goal.loop-text-init
 loop-text-init c = record {
   top_there = c.requires.in_range;
-  stack_there = rw c.new-stack.ensures.items (All-nil (λ (p : Place). p.number < length c.args.drafts.now));
+  stack_there = rw c.new-stack.ensures.items (All-nil (λ (p : Cursor). p.number < length c.args.drafts.now));
   rest = λ ts all short. rw (c.new-out.ensures.items, c.new-stack.ensures.items) (append-nil (after ts c.args.drafts.now record { number = c.args.number; at = 0 }) ∙ whole_after c.args.drafts.now ts c.args.number all c.requires.in_range short);
 }
 
@@ -45,7 +45,7 @@ loop-text-preserved-in-Some-Whole c =
     let there : k < length ds = omega (arith, small, c.loop-text.invariant.top_there) in
     record {
       top_there = there;
-      stack_there = rw c.in_ok-push-in-Some-Whole.ensures.items (All-push (λ (p : Place). p.number < length ds) c.loop-text.stack.items record { number = n; at = at + 1 } c.loop-text.invariant.stack_there c.loop-text.invariant.top_there);
+      stack_there = rw c.in_ok-push-in-Some-Whole.ensures.items (All-push (λ (p : Cursor). p.number < length ds) c.loop-text.stack.items record { number = n; at = at + 1 } c.loop-text.invariant.stack_there c.loop-text.invariant.top_there);
       rest = λ ts all short. rw c.in_ok-push-in-Some-Whole.ensures.items (entered ts ds c.loop-text.out.items n at k c.loop-text.stack.items _ all there part (c.loop-text.invariant.rest ts all short) short);
     }
 
@@ -59,7 +59,7 @@ loop-text-smaller c =
 pub loop-text-preserved : goal.loop-text-preserved
 loop-text-preserved c =
     let ds = c.args.drafts.now in
-    let popped = All-pop (λ (p : Place). p.number < length ds) c.loop-text.stack.items c.pop.new.self.items c.pop.result c.pop.ensures.items c.loop-text.invariant.stack_there in
+    let popped = All-pop (λ (p : Cursor). p.number < length ds) c.loop-text.stack.items c.pop.new.self.items c.pop.result c.pop.ensures.items c.loop-text.invariant.stack_there in
     record {
       top_there = rw c.in-Some.is at popped.1;
       stack_there = popped.0;

@@ -4,7 +4,7 @@ use Rattle.std.proofs.lemmas.List.{take_more}
 use Rattle.std.specs.BTreeMap as tree
 use Rattle.sd_value.specs.Order.{bytes_cmp}
 use Rattle.query_spec.specs.Mentions.{same_name}
-use Rattle.struql_check.specs.declared.mentions.Mention.{Mention}
+use Rattle.struql_check.specs.declared.mentions.VariableUse.{VariableUse}
 use Rattle.struql_ast.specs.Written.{Name}
 use Rattle.struql_check.specs.Scope.{is_arc_role, sort_of}
 use Rattle.struql_check.proofs.Sorts.{sort_more}
@@ -15,7 +15,7 @@ loop-mention-preserved c = λ x.
     let ms = c.args.mentions.now in
     let i = c.loop-mention.mention-index in
     let m = c.mention-item.result in
-    let e : take (i + 1) ms ≡ take i ms ++ m ∷ [] = take_more ms i m (omega arith) ∙ ap (λ (y : Mention). take i ms ++ y ∷ []) (sym c.mention-item.is) in
+    let e : take (i + 1) ms ≡ take i ms ++ m ∷ [] = take_more ms i m (omega arith) ∙ ap (λ (y : VariableUse). take i ms ++ y ∷ []) (sym c.mention-item.is) in
     let before : c.unwrap_or-before.result ≡ unwrap_or (sort_of (take i ms ∷ []) m.name) false = rw (← c.loop-mention.invariant m.name) (c.unwrap_or-before.ensures ∙ ap (λ (o : Option Bool). unwrap_or o false) (c.copied.ensures ∙ c.get.ensures.value)) in
     let step = sort_more (take i ms) m x c.unwrap_or-before.result before in
     let name : c.in_ok-name.name ≡ m.name = c.in_ok-name.ensures in

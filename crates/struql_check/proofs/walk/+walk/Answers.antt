@@ -3,7 +3,7 @@ use Rattle.std.proofs.lemmas.List.{take_more, take_all}
 use Rattle.struql_ast.specs.declared.Block.{Block}
 use Rattle.struql_ast.specs.declared.Block.TheViews.{out-Block}
 use Rattle.struql_ast.specs.Written.{blocks_written, block_clauses, block_inner}
-use Rattle.struql_check.specs.declared.mentions.Mention.{Mention}
+use Rattle.struql_check.specs.declared.mentions.VariableUse.{VariableUse}
 use Rattle.struql_check.specs.Scope.{within}
 use Rattle.struql_check.specs.Faults.{SomeIn, BlockFault}
 use Rattle.struql_check.specs.First.{IsFirst}
@@ -20,9 +20,9 @@ first_of_block-returns-clause-first t c =
     let own : c.deref.result.now ≡ here c.args.levels.now.items b = c.deref.ensures.value ∙ round in
     let inner : c.deref-2.result.now ≡ (out-Block b).blocks.items = c.deref-2.ensures.value in
     let by_clause : IsFirst (BlockFault (record { round = here c.args.levels.now.items b; clauses = block_clauses b })) c.in_ok-by_clause.by_clause =
-    subst (λ (r : List (List Mention)). IsFirst (BlockFault (record { round = r; clauses = block_clauses b })) c.in_ok-by_clause.by_clause) own c.in_ok-by_clause.ensures in
+    subst (λ (r : List (List VariableUse)). IsFirst (BlockFault (record { round = r; clauses = block_clauses b })) c.in_ok-by_clause.by_clause) own c.in_ok-by_clause.ensures in
     let by_block : IsFirst (SomeIn BlockFault (within (here c.args.levels.now.items b) (block_inner b))) c.in_ok-by_block.by_block =
-    rw (inner_of b, ← inner) (subst (λ (r : List (List Mention)). IsFirst (SomeIn BlockFault (within r (blocks_written c.deref-2.result.now))) c.in_ok-by_block.by_block) round c.in_ok-by_block.ensures.first) in
+    rw (inner_of b, ← inner) (subst (λ (r : List (List VariableUse)). IsFirst (SomeIn BlockFault (within r (blocks_written c.deref-2.result.now))) c.in_ok-by_block.by_block) round c.in_ok-by_block.ensures.first) in
     rw c.earlier.ensures (first_cons BlockFault _ _ c.in_ok-by_clause.by_clause c.in_ok-by_block.by_block by_clause by_block)
 
 pub first_of_blocks-loop-block-preserved : goal.first_of_blocks-loop-block-preserved

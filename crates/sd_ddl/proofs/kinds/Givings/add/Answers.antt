@@ -1,5 +1,5 @@
 use Rattle.std.proofs.Common.{◌∙◌, ap}
-use Rattle.sd_ddl.specs.declared.kinds.Told.TheVariants.{One}
+use Rattle.sd_ddl.specs.declared.kinds.StatedKinds.TheVariants.{One}
 use Rattle.sd_ddl.specs.Tables.{both}
 use Rattle.sd_ddl.proofs.Maps.{told-added}
 use Rattle.sd_ddl.proofs.kinds.Givings.add.Goals as goal

@@ -11,7 +11,7 @@ use std::alloc::Global;
 
 /// What tries a data graph. Its meaning is a checked query, which never changes. `Own` is what an
 /// implementation keeps true of itself from call to call.
-pub trait Trial {
+pub trait Oracle {
     ghost scope: { Self → Scope };
 
     ghost Own: { Self → Type 0 };

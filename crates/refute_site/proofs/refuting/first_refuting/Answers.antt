@@ -5,7 +5,7 @@ use Rattle.site_spec.specs.Site.{Scope}
 use Rattle.constraint_spec.specs.Meets.{Meets}
 use Rattle.refute_site.specs.Candidates.{candidate_graph}
 use Rattle.refute_site.proofs.Tried.{variables_at, none_met, some_met, one_more, first_here, none_left}
-use Rattle.refute_site.proofs.trial.first_refuting.Goals as goal
+use Rattle.refute_site.proofs.refuting.first_refuting.Goals as goal
 
 pub graph-requires : goal.graph-requires
 graph-requires g c = variables_at c.args.candidates.now c.loop-candidate.candidate-index c.candidate-item.result (omega arith) c.candidate-item.is c.requires.variables

@@ -8,7 +8,7 @@ ghost use Rattle.refute_site.specs.Candidates.{candidate_graph, HaveTheirVariabl
 
 use crate::candidate::Candidate;
 use constraint_spec::Constraint;
-use crate::graph_trial::Trial;
+use crate::oracle::Oracle;
 use sd_graph::{Graph, GraphBuilder};
 use sd_value::NoMemory;
 use std::alloc::Global;
@@ -16,7 +16,7 @@ use std::alloc::Global;
 /// The graph that is built, if the query's site over it doesn't meet the constraint.
 /// # Errors
 /// Out of memory.
-pub(crate) fn refuting<T: Trial>(
+pub(crate) fn refuting<T: Oracle>(
     alloc: Global,
     builder: GraphBuilder,
     constraint: &Constraint,
@@ -43,7 +43,7 @@ pub(crate) fn refuting<T: Trial>(
 /// No graph is made after it.
 /// # Errors
 /// Out of memory.
-pub(crate) fn first_refuting<T: Trial>(
+pub(crate) fn first_refuting<T: Oracle>(
     alloc: Global,
     candidates: &[Candidate],
     constraint: &Constraint,

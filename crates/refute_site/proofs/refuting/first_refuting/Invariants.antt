@@ -2,7 +2,7 @@ use Rattle.std.proofs.Common.{◌≡◌, take}
 use Rattle.std.specs.Prelude.{All, map}
 use Rattle.constraint_spec.specs.Meets.{Meets}
 use Rattle.refute_site.specs.Candidates.{candidate_graph}
-use Rattle.refute_site.proofs.trial.first_refuting.Given as goal
+use Rattle.refute_site.proofs.refuting.first_refuting.Given as goal
 
 abbrev pub invariant-loop-candidate : goal.invariant-loop-candidate
 invariant-loop-candidate g l = record {

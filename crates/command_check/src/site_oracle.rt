@@ -8,7 +8,7 @@ ghost use Rattle.constraint_spec.specs.Meets.{Meets};
 use bindings::StoreAsker;
 use constraint_report::report_of;
 use constraint_spec::Constraint;
-use refute_site::Trial;
+use refute_site::Oracle;
 use index_store::IndexStore;
 use query_blocks::QueryBlocks;
 use query_scoping::scopes;
@@ -19,32 +19,32 @@ use std::slice::from_ref;
 use struql_check::Checked;
 
 /// Tries data graphs for one checked query.
-pub struct SiteTrial {
+pub struct SiteOracle {
     blocks: QueryBlocks,
 }
 
 // Written out, so that it is proved here once, and not again in each crate that drops one.
-impl Drop for SiteTrial {
+impl Drop for SiteOracle {
     fn drop(self) {
-        let SiteTrial { blocks: _blocks } = self;
+        let SiteOracle { blocks: _blocks } = self;
     }
 }
 
-impl SiteTrial {
+impl SiteOracle {
     /// The trial of the query.
     /// # Errors
     /// Out of memory.
-    pub fn of(alloc: Global, query: &Checked) -> Result<SiteTrial, NoMemory>
+    pub fn of(alloc: Global, query: &Checked) -> Result<SiteOracle, NoMemory>
         ensures own { IfOk result
             (λ t. AreCheckedBlocks t.blocks.version t.blocks.blocks.items) }
         ensures scope { IfOk result (λ t. scope_of t.blocks ≡ scope_of_query query.now) }
     {
         let blocks = scopes(alloc, query)?;
-        Ok(SiteTrial { blocks })
+        Ok(SiteOracle { blocks })
     }
 }
 
-impl Trial for SiteTrial {
+impl Oracle for SiteOracle {
     ghost scope = { λ t. scope_of t.blocks };
 
     ghost Own = { λ t. AreCheckedBlocks t.blocks.version t.blocks.blocks.items };

@@ -4,7 +4,7 @@ use Rattle.query_blocks.specs.Blocks.{scope_of}
 use Rattle.constraint_spec.specs.Meets.{Meets}
 use Rattle.constraint_report.specs.Report.{IsReport}
 use Rattle.command_check.proofs.Alone.{alone}
-use Rattle.command_check.proofs.site_trial.SiteTrialTrial.met.Goals as goal
+use Rattle.command_check.proofs.site_oracle.SiteOracleOracle.met.Goals as goal
 
 pub returns-clause-met : goal.returns-clause-met
 returns-clause-met c =
