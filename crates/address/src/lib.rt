@@ -1,4 +1,4 @@
-//! Addresses of pages: how they are written, which term a request's target names, and the file that a page goes to.
+//! Addresses of pages, written and read.
 #![tactic(auto)]
 
 mod argument;

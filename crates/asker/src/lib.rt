@@ -1,4 +1,4 @@
-//! What a site asks of its data.
+//! What a site asks of its data, with a count of what is handed out: the trait `Asker`.
 #![tactic(auto)]
 
 ghost use Rattle.std.specs.Prelude.{◌≡◌, ◌↔◌, ℕ, List, length, IfOk, IsTrue, MatchResult};

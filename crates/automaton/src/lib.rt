@@ -1,4 +1,5 @@
-//! Automata of path expressions: one state for each position at which a label or a wildcard is.
+//! Automata of path expressions, with one state for each position: each place at which a label or
+//! wildcard is.
 //!
 //! An automaton's meaning is its table: what is at each position, where a word may begin and end, and which position
 //! may be right after which. `Automaton::of` alone speaks of the expression; what searches, speaks of the table.

@@ -1,4 +1,5 @@
-//! The grammar of BibTeX has at most one list of items for a text; the lemmas by which its reader is proved.
+//! The grammar of BibTeX texts, that they are read by it, and lemmas for grammars whose limits may
+//! be passed by a word.
 #![tactic(auto)]
 
 ghost use Rattle.std.specs.Prelude.{◌≡◌, List, ℕ};

@@ -1,4 +1,4 @@
-//! Reading BibTeX texts into data graphs.
+//! BibTeX read into a data graph.
 #![tactic(auto)]
 
 ghost use Rattle.std.specs.Prelude.{List, ℕ};

@@ -1,5 +1,4 @@
-//! How BibTeX is read: its bytes, values and macros, and what an item spells. This crate holds definitions, and the types
-//! of items.
+//! How BibTeX is read: definitions, and the types of items.
 #![tactic(auto)]
 
 ghost use Rattle.std.specs.Prelude.{◌≡◌, List};

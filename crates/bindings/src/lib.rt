@@ -1,4 +1,4 @@
-//! The rows of a chain of conditions, over any store.
+//! The rows of a chain, over any store: `StoreAsker` is an `Asker`.
 #![tactic(auto)]
 
 mod row;

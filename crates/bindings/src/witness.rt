@@ -11,7 +11,7 @@ ghost use Rattle.bindings.specs.Tries.{AreTried, GoalAt, IsTry};
 use crate::row::row_of;
 use crate::search::{Choice, choose, finds, passed, put};
 use candidate_values::{Ends, Offer, Reaches, Search, settle};
-use condition_tests::{Atom, Slot, Property, Relation, free_at, known};
+use condition_tests::{Atom, Property, Relation, Slot, free_at, known};
 use planned_goals::{fewest, literal_at};
 use query_spec::{Row, copied_bound};
 use sd_value::{NoMemory, Value};

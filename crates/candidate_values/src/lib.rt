@@ -1,4 +1,4 @@
-//! The values that a search for rows may give a variable next.
+//! The values that a search for the rows of a chain may give a variable next, over any store.
 #![tactic(auto)]
 
 mod domain;

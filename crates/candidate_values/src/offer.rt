@@ -13,7 +13,7 @@ ghost use Rattle.candidate_values.specs.Offers.{AreInGraph, IsListOf, IsPartOf, 
 use crate::domain::{candidates, domain};
 use crate::search::Search;
 use condition_tests::{
-    Atom, Slot, Property, Relation, equals_of, equals_of_any, free_at, known, value_of,
+    Atom, Property, Relation, Slot, equals_of, equals_of_any, free_at, known, value_of,
 };
 use graph_spec::{Edge, Step};
 use query_spec::Op;

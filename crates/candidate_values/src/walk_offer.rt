@@ -8,7 +8,7 @@ use crate::offer::{Ends, Offer, any, settle};
 use crate::reaches::Reaches;
 use crate::search::Search;
 use automaton::Automaton;
-use condition_tests::{Atom, Slot, Relation, free_at, known};
+use condition_tests::{Atom, Relation, Slot, free_at, known};
 use sd_value::{NoMemory, Value};
 use std::alloc::Global;
 use store::Store;

@@ -1,4 +1,4 @@
-//! Whether a certificate is one.
+//! Whether a certificate shows that a query's site meets a constraint over every data graph.
 #![tactic(auto)]
 
 ghost use Rattle.std.specs.Prelude.{IfOk};

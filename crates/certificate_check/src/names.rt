@@ -11,8 +11,8 @@ ghost use Rattle.constraint_recheck.specs.Recheck.{zip_all, same_sort, is_use as
 ghost use Rattle.certificate_check.specs.Links.{placed_link, HasOwnVariables, is_sorted};
 
 use crate::links::QueryLink;
-use entailment::{Judge, is_entailed};
 use certificate_search::{renamed, renamed_term};
+use entailment::{Judge, is_entailed};
 use query_parts::same_terms;
 use query_spec::Variable;
 use sd_value::{NoMemory, Str};

@@ -14,9 +14,9 @@ ghost use Rattle.certificate_check.specs.Back.{made_term, back_on, back_from};
 
 use crate::links::{QueryLink, link_at};
 use crate::names::{is_renamed, is_use};
+use certificate_search::renamed_term;
 use constraint_spec::LinkUse;
 use entailment::{Judge, is_root};
-use certificate_search::renamed_term;
 use query_blocks::QueryBlocks;
 use query_parts::copied_term;
 use query_spec::Variable;

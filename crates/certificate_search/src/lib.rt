@@ -1,4 +1,4 @@
-//! The search for the uses that show a constraint of one mention, over a query's links by number.
+//! The search for the uses of a query's links that show a constraint of one mention.
 #![tactic(auto)]
 
 mod back;
@@ -14,6 +14,6 @@ mod uses;
 
 pub use back::find_back;
 pub use links::{NumberedLink, numbered_links};
+pub use renaming::{renamed, renamed_term};
 pub use shown::{show_link, show_reached};
 pub use uses::{SearchedQuery, find_use};
-pub use renaming::{renamed, renamed_term};

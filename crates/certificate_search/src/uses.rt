@@ -9,11 +9,11 @@ ghost use Rattle.constraint_recheck.specs.Search.{find_names as names_found, fin
 ghost use Rattle.certificate_search.specs.Links.{numbered_of, IsPrepared, AreLinks};
 ghost use Rattle.certificate_search.specs.Uses.{ends_at, use_by};
 
+use crate::extend::find_names;
 use crate::links::NumberedLink;
+use crate::search::Search;
 use constraint_spec::LinkUse;
 use entailment::{Judge, is_of};
-use crate::extend::find_names;
-use crate::search::Search;
 use query_blocks::QueryBlocks;
 use sd_value::{NoMemory, Str};
 use std::alloc::Global;

@@ -1,4 +1,4 @@
-//! One page at a time, from what the data answer.
+//! One page of a site, made from what it asks of the data: `Click`.
 #![tactic(auto)]
 
 mod asked;

@@ -1,4 +1,4 @@
-//! The command `build`: the whole site, written to files under a folder.
+//! The command `build`: the whole site as files.
 #![tactic(auto)]
 
 ghost use Rattle.std.specs.Prelude.{◌≡◌, ◌⊎◌, IfOk};

@@ -6,13 +6,13 @@ ghost use Rattle.site_inputs.specs.Runs.{ReadsHaveCause};
 ghost use Rattle.command_check.specs.CheckEnds.{VerdictsTaken, CheckEnds};
 
 use crate::constraint_file::load_constraints;
+use crate::site_oracle::SiteOracle;
+use crate::verdicts::verdicts_of;
 use constraint_report::Report;
 use constraint_spec::Constraint;
-use crate::verdicts::verdicts_of;
 use edge_io::Files;
 use sd_value::Str;
 use site_inputs::{Fault, load_query};
-use crate::site_oracle::SiteOracle;
 use std::alloc::Global;
 use struql_check::Checked;
 

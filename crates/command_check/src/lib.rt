@@ -1,5 +1,5 @@
-//! The command `check`: the constraints of a file over every data graph, or with `--here` in a query's
-//! site over data.
+//! The command `check`: the constraints of a file over every data graph, or with `--here` in a
+//! query's site over data.
 #![tactic(auto)]
 
 mod all;
@@ -16,5 +16,5 @@ pub use all::check_all;
 pub use constraint_file::load_constraints;
 pub use here::check_here;
 pub use laws::{answers_are_decided, reports_are_decided};
-pub use verdicts::{Verdicts, verdicts_of};
 pub use site_oracle::SiteOracle;
+pub use verdicts::{Verdicts, verdicts_of};

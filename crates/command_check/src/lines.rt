@@ -5,11 +5,11 @@ ghost use Rattle.command_check.specs.Told.{finding_lines, indented, no_text};
 ghost use Rattle.command_check.specs.Written.{found_in, text_by};
 
 use crate::finding::CheckAnswer;
-use schema::paths_of;
 use certificate_text::{print_unknown, print_yes};
 use constraint_spec::Constraint;
 use query_blocks::QueryBlocks;
 use query_scoping::scopes;
+use schema::paths_of;
 use sd_ddl::write_ddl;
 use sd_graph::Graph;
 use sd_value::{NoMemory, Str};

@@ -6,8 +6,6 @@ ghost use Rattle.query_spec.specs.Query.{Query};
 ghost use Rattle.constraint_spec.specs.declared.Constraint.{Constraint as TheConstraint};
 ghost use Rattle.command_check.specs.Told.{AreTold, HasCertificate, IsMetOverAll};
 
-
-
 /// All are answered yes exactly where each has a certificate.
 pub fn all_yes_means_certificates()
     ensures { (q : Query) (constraints : List TheConstraint) (text : List ℕ) (all_yes : Bool)

@@ -1,4 +1,4 @@
-//! The command `data`: the data, as text.
+//! The command `data`: the data as one data text.
 #![tactic(auto)]
 
 ghost use Rattle.std.specs.Prelude.{◌≡◌};

@@ -1,4 +1,4 @@
-//! The command `explain`: the plan of each block of the query over the data.
+//! The command `explain`: the plan of each block of a query over data.
 #![tactic(auto)]
 
 ghost use Rattle.std.specs.Prelude.{◌≡◌};

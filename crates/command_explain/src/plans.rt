@@ -3,8 +3,8 @@ ghost use Rattle.std.specs.Prelude.{◌≡◌, IfOk};
 ghost use Rattle.command_explain.specs.Explained.{IsExplained};
 
 use crate::block::explain_block;
-use schema::paths_of;
 use query_scoping::scoped_blocks;
+use schema::paths_of;
 use sd_value::NoMemory;
 use std::alloc::Global;
 use store::Store;

@@ -1,4 +1,4 @@
-//! The commands `help` and `version`: how the program is used, and its version.
+//! The commands `help` and `version`: fixed texts.
 #![tactic(auto)]
 
 ghost use Rattle.command_help.specs.Ends.{HelpEnds, VersionEnds};

@@ -1,4 +1,4 @@
-//! The command `lint`: what a site's texts ask for and isn't there.
+//! The command `lint`: what a query and its templates ask for and is not there, over the data.
 #![tactic(auto)]
 
 ghost use Rattle.std.specs.Prelude.{◌≡◌};
@@ -12,11 +12,11 @@ mod lines;
 mod link_answers;
 mod texts;
 
-pub use laws::reports_are_decided;
 use crate::texts::{InputText, report_of};
 use command_spec::{DataFiles, TEXT_LIMIT};
 use constraint_report::Report;
 use edge_io::Files;
+pub use laws::reports_are_decided;
 use sd_value::Str;
 use site_inputs::{Fault, load_graph, read_file, take_query, take_templates};
 use std::alloc::Global;

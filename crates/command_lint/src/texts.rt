@@ -10,11 +10,11 @@ ghost use Rattle.command_lint.specs.Lines.{finding_line};
 ghost use Rattle.command_lint.specs.Ends.{IsLintReport, texts_of};
 
 use crate::lines::push_lines;
+use crate::link_answers::QueryLinks;
 use bindings::StoreAsker;
 use command_spec::TEXT_LIMIT;
 use constraint_report::Report;
 use index_store::IndexStore;
-use crate::link_answers::QueryLinks;
 use lint_spec::Finding;
 use query_scoping::scopes;
 use sd_graph::Graph;
@@ -24,8 +24,8 @@ use std::alloc::Global;
 use struql_ast::Query;
 use struql_check::Checked;
 use struql_parse::parse;
-use text_claims::further_labels;
 use template_items::{Item, items};
+use text_claims::further_labels;
 use tmpl::Templates;
 
 /// A text, and the path of its file.

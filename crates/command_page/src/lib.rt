@@ -1,4 +1,4 @@
-//! The command `page`: one page of a site, which is not made whole for it.
+//! The command `page`: the page that an address names.
 #![tactic(auto)]
 
 ghost use Rattle.std.specs.Prelude.{◌≡◌, IfOk};

@@ -1,4 +1,4 @@
-//! The command `replay`: the pages of a site over the events of a script.
+//! The command `replay`: the site over the events of a script.
 #![tactic(auto)]
 
 mod laws;

@@ -1,4 +1,5 @@
-//! A whole run of the program: the command of the words, over any files, outputs and wire.
+//! The program's public calls: `strudel` runs the command of the words over files, outputs and a
+//! wire, and `wire_waits` says how long that wire waits.
 #![tactic(auto)]
 
 mod top;

@@ -1,4 +1,4 @@
-//! The command `schema`: the schema of a query's site, as text or as a picture.
+//! The command `schema`: the schema of a query's site.
 #![tactic(auto)]
 
 ghost use Rattle.std.specs.Prelude.{◌≡◌, ◌∷◌, []};

@@ -1,4 +1,4 @@
-//! The command `serve`: the pages of a site over the connections that a wire gives.
+//! The command `serve`: the site over HTTP.
 #![tactic(auto)]
 
 ghost use Rattle.std.specs.Prelude.{◌≡◌, ◌⊎◌, ℕ, List, IfOk, OnOk, IsErrOf, if◌then◌else◌};

@@ -1,4 +1,4 @@
-//! The commands of the program, and the words that give them: definitions for a reader who must believe them.
+//! Which words are which command, and the limits of a command's inputs. Definitions, no engine.
 #![tactic(auto)]
 
 ghost use Rattle.std.specs.Prelude.{◌≡◌, IfOk, map};

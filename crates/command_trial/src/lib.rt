@@ -1,4 +1,4 @@
-//! The command `trial`: requests for the pages of a site of made data are served, and counted.
+//! The command `trial`: made data, served and counted.
 #![tactic(auto)]
 
 mod counts;

@@ -1,4 +1,4 @@
-//! The command that the words of a command line give.
+//! Reads the words of a command.
 #![tactic(auto)]
 
 ghost use Rattle.std.specs.Prelude.{◌≡◌, Some, IfOk, IfSome};

@@ -1,2 +1,2 @@
-//! The site of a query as a data graph. This crate holds definitions alone.
+//! A site as a data graph, over which a second query may be asked.
 #![tactic(auto)]

@@ -1,4 +1,4 @@
-//! What a first query makes of data: its site, seen as a data graph, over which a second query may be asked.
+//! The graph of a first query's site over data, over which a second query may be asked.
 #![tactic(auto)]
 
 mod graph;

@@ -1,4 +1,4 @@
-//! Conditions with variables by number, and tests of them: what a search for rows works on.
+//! Conditions with variables by number, and tests of them.
 #![tactic(auto)]
 
 mod compare;
@@ -8,7 +8,7 @@ mod resolve;
 mod test;
 
 pub use compare::{equals_of, equals_of_any};
-pub use literal::{Atom, Goal, Literal, Slot, Property, Relation};
+pub use literal::{Atom, Goal, Literal, Property, Relation, Slot};
 pub use place::{free_at, free_slot, known, value_of};
 pub use resolve::goal_of;
 pub use test::test as test_atom;

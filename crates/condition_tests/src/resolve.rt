@@ -8,7 +8,7 @@ ghost use Rattle.struql_ast.specs.Reading.{operand_of, step_of, condition_of};
 ghost use Rattle.condition_tests.specs.Resolved.{IsPlaceOf, IsAtomOf, IsRelationOf, IsReady, IsPlain, StandsFor, step_declared, declared};
 ghost use Rattle.condition_tests.specs.Places.{PlaceInRange, AtomInRange};
 
-use crate::literal::{Atom, Goal, Literal, Slot, Property, Relation};
+use crate::literal::{Atom, Goal, Literal, Property, Relation, Slot};
 use automaton::{Automaton, RpeRefusal};
 use query_spec::{Variable, index_of};
 use rpe::Rpe;

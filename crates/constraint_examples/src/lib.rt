@@ -1,5 +1,5 @@
-//! Constraints over small queries, and what certificates they have, so that a wrong definition is
-//! noticed.
+//! Worked constraints over small queries: each is the contract of a function that does nothing, so
+//! a wrong definition is refused before any engine is built on it.
 #![tactic(auto)]
 
 ghost use Rattle.std.specs.Prelude.{◌≡◌, [], ◌∷◌, codes};

@@ -1,5 +1,4 @@
-//! Laws of integrity constraints, each the contract of a function that does nothing: what a
-//! certificate shows holds over every data graph.
+//! Laws of integrity constraints, each the contract of a function that does nothing.
 #![tactic(auto)]
 
 ghost use Rattle.std.specs.Prelude.{◌≡◌, ℕ, List, All, Contains};

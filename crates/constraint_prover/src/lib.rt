@@ -13,8 +13,8 @@ mod search;
 mod wanted;
 
 use certificate_search::{SearchedQuery, numbered_links};
-use constraint_spec::{Constraint, Verdict};
 use checked::certificates_of_checked_queries_hold;
+use constraint_spec::{Constraint, Verdict};
 use inclusion::Inclusions;
 use query_scoping::scopes;
 use sd_value::NoMemory;

@@ -1,6 +1,4 @@
-//! Tests over the plain tree of a query, that decide what the definitions say: given tests of
-//! inclusion and of twins, whether conditions entail a condition, and whether a certificate is one.
-//! The engine's functions are these tests.
+//! Tests of certificates over the plain tree of a query, and the search for one.
 #![tactic(auto)]
 
 ghost use Rattle.std.specs.Prelude.{ℕ, List, Contains, All};
@@ -15,7 +13,6 @@ ghost use Rattle.constraint_recheck.specs.Entails.{Tests, AreTests, IsKnown, Are
 ghost use Rattle.constraint_recheck.specs.Recheck.{recheck};
 
 mod search;
-
 
 /// Where inclusion is decided between the expressions of the conditions, `entails` is true exactly
 /// where the conditions entail the condition.

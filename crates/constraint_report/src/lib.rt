@@ -1,4 +1,4 @@
-//! Which of some integrity constraints a query's site meets, and the lines that say so.
+//! Whether a query's whole site meets integrity constraints, and the lines that say so.
 #![tactic(auto)]
 
 mod here;

@@ -5,13 +5,13 @@ ghost use Rattle.constraint_spec.specs.Meets.{Meets};
 ghost use Rattle.constraint_report.specs.Here.{HoldsIn, IsListed};
 ghost use Rattle.constraint_report.specs.Report.{IsReport};
 
+use crate::here::holds_here;
 use crate::lines::{both, line};
 use asker::Asker;
 use constraint_spec::Constraint;
 use query_blocks::QueryBlocks;
 use sd_value::{NoMemory, Str, Term};
 use site_build::Whole;
-use crate::here::holds_here;
 use site_view::SiteView;
 use std::alloc::Global;
 use tmpl::Templates;

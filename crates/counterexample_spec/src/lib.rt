@@ -1,3 +1,3 @@
-//! The data graphs among which a graph is looked for whose site breaks a constraint. This crate holds
-//! definitions.
+//! The data graphs among which one is looked for whose site breaks a constraint: the candidates, in
+//! their order.
 #![tactic(auto)]

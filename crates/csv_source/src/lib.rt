@@ -1,4 +1,4 @@
-//! Reading CSV texts into data graphs.
+//! CSV read into a data graph.
 #![tactic(auto)]
 
 ghost use Rattle.std.specs.Prelude.{◌≡◌, List, ℕ};

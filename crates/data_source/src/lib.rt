@@ -1,4 +1,4 @@
-//! Data files of every format, by the ends of their names.
+//! A data file of any format, by the end of its path.
 #![tactic(auto)]
 
 mod format;

@@ -10,6 +10,7 @@ ghost use Rattle.lenient_json.specs.Reads.{Reads as ReadsLenientJson};
 
 use crate::format::{Format, format_of, lenient_format_of};
 use crate::refusal::SourceRefusal;
+use bibtex_source::read_bibtex;
 use csv_source::read_csv;
 use json_source::read_json;
 use lenient_csv::read_lenient_csv;
@@ -18,7 +19,6 @@ use sd_ddl::read_ddl;
 use sd_graph::GraphBuilder;
 use sd_value::Str;
 use std::alloc::Global;
-use bibtex_source::read_bibtex;
 
 fn take_ddl(
     alloc: Global,

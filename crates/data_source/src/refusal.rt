@@ -3,12 +3,12 @@ ghost use Rattle.std.specs.Prelude.{◌≡◌};
 ghost use Rattle.data_source.specs.Told.{ddl_told, csv_told, json_told, bib_told};
 ghost use Rattle.data_source.specs.declared.refusal.SourceRefusal.TheVariants.{NoMemory as OutOfMemory};
 
+use bibtex_source::BibRefusal;
 use csv_source::CsvRefusal;
 use json_source::JsonRefusal;
 use run_report::Place;
 use sd_ddl::DdlRefusal;
 use sd_value::NoMemory;
-use bibtex_source::BibRefusal;
 
 /// Why a data file is refused: the number of the refusal and its place.
 #[derive(Debug, Drop)]

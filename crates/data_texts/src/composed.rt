@@ -5,9 +5,9 @@ ghost use Rattle.site_spec.specs.Site.{scope_of};
 ghost use Rattle.data_texts.specs.Texts.{States, IsRead};
 ghost use Rattle.data_texts.specs.ComposedTexts.{StatesOver, MakesData, Readers};
 
+use crate::read_change;
 use command_spec::DATA_LIMIT;
 use composed_data::composed_data;
-use crate::read_change;
 use sd_ddl::read_ddl;
 use sd_graph::{Graph, GraphBuilder, GraphRefusal, PROGRAM_LIMITS};
 use sd_value::{NoMemory, Str};

@@ -1,4 +1,5 @@
-//! Texts that change the data of a run.
+//! Texts that change the data of a run: new data, also under a first query, or an edit, with the
+//! pages that it leaves.
 #![tactic(auto)]
 
 ghost use Rattle.std.specs.Prelude.{IfOk};
@@ -7,9 +8,9 @@ ghost use Rattle.data_texts.specs.Texts.{States, IsRead};
 mod composed;
 mod edits;
 
+use command_spec::DATA_LIMIT;
 pub use composed::read_text;
 pub use edits::{read_text_edit, spared};
-use command_spec::DATA_LIMIT;
 use sd_ddl::read_ddl;
 use sd_graph::{Graph, GraphBuilder, PROGRAM_LIMITS};
 use sd_value::{NoMemory, Str};

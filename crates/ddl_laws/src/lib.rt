@@ -1,4 +1,4 @@
-//! Laws of the data text: what is written is read again, and a text has one answer.
+//! Laws of data texts: what is written is read again, and a text has one answer.
 #![tactic(auto)]
 
 ghost use Rattle.graph_spec.specs.DataGraph.{DataGraph, IsWellFormed};

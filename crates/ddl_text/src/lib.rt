@@ -1,4 +1,4 @@
-//! The data text.
+//! Data texts: from bytes to the statements that they spell.
 #![tactic(auto)]
 
 mod reading;

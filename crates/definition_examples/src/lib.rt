@@ -1,5 +1,5 @@
-//! Small graphs and queries, and what the definitions say of them, so that a wrong definition is
-//! noticed.
+//! Worked examples of the definitions: each is the contract of a function that does nothing, so a
+//! wrong definition is refused before any engine is built on it.
 #![tactic(auto)]
 
 ghost use Rattle.std.specs.Prelude.{◌≡◌, [], ◌∷◌, List, Some, codes};

@@ -1,2 +1,2 @@
-//! What a page may ask of its site: the demand of its templates, as definitions.
+//! Which questions the templates of a page may ask of its site. Definitions alone.
 #![tactic(auto)]

@@ -1,4 +1,4 @@
-//! What is asked of a graph, as queries over its edges and members.
+//! The queries on edges and members that both stores use, and lists of all values and labels.
 #![tactic(auto)]
 
 ghost use Rattle.std.specs.Prelude.{◌≡◌, IfOk};

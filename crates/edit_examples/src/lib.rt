@@ -1,4 +1,4 @@
-//! Small edits, and what the definitions say of them.
+//! Worked examples of footprints, proved.
 #![tactic(auto)]
 
 ghost use Rattle.std.specs.Prelude.{◌≡◌, [], ◌∷◌};

@@ -1,4 +1,4 @@
-//! What the pages of a function rest on.
+//! What the pages of a function rest on, and whether an edit of the data can touch them.
 #![tactic(auto)]
 
 ghost use Rattle.std.specs.Prelude.{◌≡◌, ◌<◌, ◌^◌, IfOk, length, map};
@@ -12,9 +12,9 @@ mod blocks;
 mod pages;
 mod reads;
 
-pub use pages::touches_pages;
 use blocks::rests_on;
 use edit_touches::FootprintParts;
+pub use pages::touches_pages;
 use query_blocks::QueryBlocks;
 use reads::{Reads, gather};
 use sd_value::{NoMemory, Str, sort_and_dedup};

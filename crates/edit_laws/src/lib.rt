@@ -1,4 +1,4 @@
-//! Laws of edits: what an edit of the data leaves as it is. Each is the contract of a function that does nothing.
+//! What an edit of the data leaves as it is.
 #![tactic(auto)]
 
 ghost use Rattle.std.specs.Prelude.{◌≡◌, ◌⊎◌, ◌↔◌, List, Contains};

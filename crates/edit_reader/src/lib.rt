@@ -1,4 +1,4 @@
-//! Edits of the data, written as a text.
+//! Edits of the data as texts.
 #![tactic(auto)]
 
 mod reading;

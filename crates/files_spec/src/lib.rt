@@ -1,4 +1,5 @@
-//! The files of a site: which texts are at which paths, and how writing them ends.
+//! Which files a site is written to, and what is in them after each end of a build. Definitions, no
+//! engine.
 #![tactic(auto)]
 
 mod stop;

@@ -1,4 +1,4 @@
-//! Reads the requests of one connection from its bytes, and makes the bytes of their replies.
+//! Reads requests from a connection's bytes, in any pieces, and makes the bytes of replies.
 #![tactic(auto)]
 
 mod ask;

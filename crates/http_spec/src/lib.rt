@@ -1,4 +1,5 @@
-//! What a server of HTTP/1.1 answers on one connection: heads of requests, replies, sessions.
+//! What a connection is answered: request heads, the bytes of replies, and sessions over data that
+//! may change. Definitions and laws, no engine.
 #![tactic(auto)]
 
 mod laws;

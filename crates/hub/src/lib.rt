@@ -1,4 +1,4 @@
-//! Many connections to one site, whose data may change.
+//! Many connections at once, over any wire and any pages whose data may change.
 #![tactic(auto)]
 
 mod connection;

@@ -1,4 +1,5 @@
-//! Inclusion of path expressions: whether each word of one is a word of another.
+//! Inclusion of path expressions: whether each word of one is a word of another; and the table of
+//! the inclusions between a query's expressions, made once.
 //!
 //! Words range over all labels. Where the first expression takes any label, it takes one that the
 //! second doesn't name, and there only a wildcard of the second fits. So the search is over
@@ -19,13 +20,13 @@ mod spelled;
 mod table;
 mod twins;
 
-pub use expressions::{MAX_SEARCHED, is_searched};
-pub use table::Inclusions;
 use expressions::automaton_of;
+pub use expressions::{MAX_SEARCHED, is_searched};
 use query_parts::same_rpe;
 use rpe::Rpe;
 use sd_value::{NoMemory, Str};
 use std::alloc::Global;
+pub use table::Inclusions;
 
 /// Whether each word of `a` is a word of `b`, where both have at most 16 positions; else whether
 /// they are the same expression.

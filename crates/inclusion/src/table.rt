@@ -7,10 +7,10 @@ ghost use Rattle.query_blocks.specs.Blocks.{scope_of};
 ghost use Rattle.inclusion.specs.Answers.{IsRow, AreRows, bits_of, number_of as placed, bit_at, table_bit};
 ghost use Rattle.inclusion.specs.Answers.{has_empty, tests_of, IsTableOf};
 
+use crate::included;
 use crate::known_expressions::expressions_of;
 use crate::twins::{has_twin, spells};
 use entailment::Judge;
-use crate::included;
 use query_blocks::QueryBlocks;
 use query_parts::same_rpe;
 use rpe::Rpe;

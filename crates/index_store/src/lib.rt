@@ -1,5 +1,6 @@
-//! The store of the program: a graph whose edges are in order by start, by end and by label, so that each question
-//! about a value is a look-up by hash.
+//! The indexed store of the program: the edges by start, their positions by end and by label, where
+//! the edges of each value and label and the members of each collection begin and end, and for each
+//! node a place that it may have among members.
 #![tactic(auto)]
 
 ghost use Rattle.std.specs.Prelude.{◌≡◌, ◌↔◌, ◌<◌, ◌+◌, IfOk, IsTrue, All, length, map};

@@ -1,4 +1,4 @@
-//! Reading JSON texts into data graphs.
+//! JSON read into a data graph.
 #![tactic(auto)]
 
 ghost use Rattle.std.specs.Prelude.{◌≡◌, ◌⊎◌, IfOk, IfErr, Some, None, List, ℕ};

@@ -1,4 +1,4 @@
-//! Reading CSV texts leniently into data graphs.
+//! CSV read leniently into a data graph.
 #![tactic(auto)]
 
 ghost use Rattle.std.specs.Prelude.{◌≡◌, List, ℕ};

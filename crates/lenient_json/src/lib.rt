@@ -1,4 +1,4 @@
-//! Reading JSON texts leniently into data graphs.
+//! JSON read leniently into a data graph.
 #![tactic(auto)]
 
 ghost use Rattle.std.specs.Prelude.{◌≡◌, List, ℕ};

@@ -1,4 +1,4 @@
-//! Texts that are addresses of the web, as the lenient readers see them.
+//! Texts that are addresses of the web, as the lenient readers of data files see them.
 #![tactic(auto)]
 
 ghost use Rattle.std.specs.Prelude.{◌≡◌, IfOk};

@@ -1,4 +1,4 @@
-//! Picking from lists: what a query gives of each item that lies in its place.
+//! Looks through lists: all items, or the part of an ordered list that a query picks.
 #![tactic(auto)]
 
 ghost use Rattle.std.specs.Prelude.{◌≡◌, ◌↔◌, IfOk, IsTrue, true, length, map, take};

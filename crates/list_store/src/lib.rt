@@ -1,4 +1,4 @@
-//! The plain store: a look through the graph's lists for each question.
+//! The plain store: it looks through all edges. Tests compare the indexed store with it.
 #![tactic(auto)]
 
 ghost use Rattle.std.specs.Prelude.{◌≡◌, IfOk};

@@ -1,4 +1,5 @@
-//! What came to a graph, or went from it: sets in order that take one change at a time.
+//! What came to a graph, or went from it, since some time: edges in four orders and members in two,
+//! which take one change at a time.
 #![tactic(auto)]
 
 mod edges;

@@ -1,4 +1,4 @@
-//! A wire in memory, for scripts and tests.
+//! Wires in memory, for `replay`, `trial` and tests.
 #![tactic(auto)]
 
 ghost use Rattle.std.specs.Prelude.{◌≡◌, ◌≢◌, ◌≤◌, ◌⊎◌, All, take, ℕ, Bool, true, false, Some, None, List, [], IfOk};

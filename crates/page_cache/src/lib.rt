@@ -1,4 +1,4 @@
-//! Keeps the pages that were shown last.
+//! Pages that were looked up last are kept.
 #![tactic(auto)]
 
 ghost use Rattle.std.specs.Prelude.{◌≡◌, ◌≤◌, ◌<◌, ◌++◌, ◌↔◌, ℕ, List, [], length, drop, map, IfOk, OnErr, OnOk, Ok};

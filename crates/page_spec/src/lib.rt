@@ -1,4 +1,5 @@
-//! The definitions of pages over a site that is a parameter, and their laws.
+//! What a page is: its values, order, text, cycles and outcome, and its address. Definitions and
+//! laws, no engine.
 #![tactic(auto)]
 
 use sd_value::{Str, Value};

@@ -1,4 +1,4 @@
-//! Texts that are put together from stretches of bytes and from texts that were put together before them.
+//! Texts put together from stretches of bytes and from texts before them.
 #![tactic(auto)]
 
 mod draft;

@@ -1,5 +1,5 @@
-//! What a plan for a chain of conditions is, and what it costs. This crate holds definitions, and the types of which they
-//! speak.
+//! What the plan of a chain is: the cost of each condition, and the order in which conditions are
+//! used. Definitions, no engine.
 #![tactic(auto)]
 
 use sd_value::Str;

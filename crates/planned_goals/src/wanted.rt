@@ -5,7 +5,7 @@ ghost use Rattle.candidate_values.specs.Kept.{IsFrom};
 
 use crate::counts::{FEW, Least, end_of_look, literal_at, offered_by, or_fewer};
 use candidate_values::Search;
-use condition_tests::{Atom, Goal, Literal, Slot, Property, Relation, free_at, known, value_of};
+use condition_tests::{Atom, Goal, Literal, Property, Relation, Slot, free_at, known, value_of};
 use query_spec::Op;
 use sd_value::{NoMemory, Value};
 use std::alloc::Global;

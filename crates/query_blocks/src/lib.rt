@@ -1,4 +1,4 @@
-//! A query's blocks as a site asks by them, and the root of its site.
+//! A query's blocks as engines use them (`QueryBlock`, `QueryBlocks`), and the root of its site.
 #![tactic(auto)]
 
 mod root;

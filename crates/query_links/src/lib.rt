@@ -1,5 +1,5 @@
-//! What constraints ask of a query's text: where terms of a function are written, and which links of
-//! a function may carry a label.
+//! What constraints ask of a query's text: where terms of a function are written, and which links
+//! of a function may carry a label.
 #![tactic(auto)]
 
 mod carriers;

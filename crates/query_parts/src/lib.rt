@@ -1,4 +1,4 @@
-//! Equal parts of queries: copies, and whether two parts are the same.
+//! Parts of queries: their copies, and whether two are equal.
 #![tactic(auto)]
 
 ghost use Rattle.std.specs.Prelude.{◌≡◌, ◌++◌, IfOk, map};

@@ -1,4 +1,4 @@
-//! Queries from their bytes: the grammar, and then the checks.
+//! A query from bytes: parsed and then checked.
 #![tactic(auto)]
 
 ghost use Rattle.std.specs.Prelude.{◌≡◌, ◌<◌, ◌^◌};

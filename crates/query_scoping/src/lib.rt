@@ -1,4 +1,4 @@
-//! The blocks of a checked query, each with its whole chain.
+//! The blocks of a checked query, each with its conditions and its variables.
 #![tactic(auto)]
 
 ghost use Rattle.std.specs.Prelude.{◌≡◌, Contains, IfOk, map};

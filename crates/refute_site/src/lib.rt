@@ -1,4 +1,5 @@
-//! Counterexamples: a data graph over which a query's site breaks a constraint.
+//! Counterexamples: the first candidate among data graphs over which a query's site breaks a
+//! constraint, by any trial of graphs.
 #![tactic(auto)]
 
 ghost use Rattle.std.specs.Prelude.{◌≡◌, IfOk, Some};
@@ -13,23 +14,23 @@ mod candidates;
 mod conditions;
 mod freezing;
 mod given;
-mod oracle;
 mod names;
-mod statements;
+mod oracle;
 mod refuting;
+mod statements;
 mod values;
 mod words;
 
-pub use oracle::Oracle;
 use candidate::UNBOUNDED;
 use candidates::candidates_of;
 use constraint_spec::Constraint;
+pub use oracle::Oracle;
 use query_scoping::scopes;
+use refuting::{first_refuting, refuting};
 use sd_graph::{Graph, GraphBuilder};
 use sd_value::NoMemory;
 use std::alloc::Global;
 use struql_check::Checked;
-use refuting::{first_refuting, refuting};
 
 /// The first of the constraint's candidates over which the query's site doesn't meet the constraint,
 /// and none exactly where it meets it over each of them. The candidates are made one after another.

@@ -7,8 +7,8 @@ ghost use Rattle.counterexample_spec.specs.First.{IsFirstWithout};
 ghost use Rattle.refute_site.specs.Candidates.{candidate_graph, HaveTheirVariables};
 
 use crate::candidate::Candidate;
-use constraint_spec::Constraint;
 use crate::oracle::Oracle;
+use constraint_spec::Constraint;
 use sd_graph::{Graph, GraphBuilder};
 use sd_value::NoMemory;
 use std::alloc::Global;

@@ -1,4 +1,4 @@
-//! How a run ends, and the line that reports it on the standard error.
+//! The line and the number of each status.
 #![tactic(auto)]
 
 mod lines;

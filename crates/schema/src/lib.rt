@@ -1,4 +1,4 @@
-//! The schema of a site: its functions, and its links by number.
+//! The schema of a query's site, its text and its picture, and the paths of the query's blocks.
 #![tactic(auto)]
 
 ghost use Rattle.std.specs.Prelude.{◌≡◌, IfOk};
@@ -12,11 +12,11 @@ mod picture;
 mod print;
 mod starting;
 
+use edges::edges_of;
 pub use functions::functions_of;
+pub use paths::paths_of;
 pub use picture::print_dot;
 pub use print::print_schema;
-pub use paths::paths_of;
-use edges::edges_of;
 use query_scoping::scopes;
 use sd_value::{NoMemory, Str};
 use std::alloc::Global;

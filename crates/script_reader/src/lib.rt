@@ -1,4 +1,4 @@
-//! Scripts: the events of a run, written as a text.
+//! The events of a run as a text.
 #![tactic(auto)]
 
 mod reading;

@@ -29,7 +29,9 @@ impl StatedKinds {
         match (self, other) {
             (StatedKinds::Nothing, told) => told,
             (told, StatedKinds::Nothing) => told,
-            (StatedKinds::One(kind), StatedKinds::One(same)) if kind == same => StatedKinds::One(kind),
+            (StatedKinds::One(kind), StatedKinds::One(same)) if kind == same => StatedKinds::One(
+                kind,
+            ),
             (_, _) => StatedKinds::Several,
         }
     }

@@ -1,4 +1,4 @@
-//! The data text: what it says of a data graph, and how a data graph is written.
+//! Data texts read into a graph, and a graph written as one data text.
 #![tactic(auto)]
 
 mod collections;

@@ -1,4 +1,4 @@
-//! Data graphs: building one within limits, and what is built.
+//! Builds a data graph within limits.
 #![tactic(auto)]
 
 ghost use Rattle.sd_graph.specs.Statement.{Refuses};

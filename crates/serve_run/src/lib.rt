@@ -1,4 +1,4 @@
-//! Pages of data that texts may change, served over a wire.
+//! Serves pages of data that texts may change over any wire, within limits.
 #![tactic(auto)]
 
 ghost use Rattle.std.specs.Prelude.{◌≡◌, ◌<◌, ◌⊎◌, ℕ, List, [], length, Some, None, false, IfOk};

@@ -1,5 +1,5 @@
-//! What a run over connections is: what came of each connection, what it was sent, when the run ends, which pages are
-//! kept, and what is counted. Definitions alone, and no engine.
+//! What came of each connection, what it was sent, and what a run over connections counts.
+//! Definitions, no engine.
 #![tactic(auto)]
 
 /// Why a run has ended.

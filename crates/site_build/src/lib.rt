@@ -1,4 +1,4 @@
-//! The whole site of a query over data, made from all rows of its blocks.
+//! The whole site of a query: all terms, links and collected values, kept in ascending lists.
 #![tactic(auto)]
 
 mod ascending;

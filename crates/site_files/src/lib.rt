@@ -1,4 +1,4 @@
-//! Writing the files of a site: every page in its own file, and the root page once more as `index.html`.
+//! Writes the pages of a site as files.
 #![tactic(auto)]
 
 mod index;

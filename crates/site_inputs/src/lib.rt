@@ -1,5 +1,5 @@
-//! The inputs of a site, each read and decoded before the next is read: data files, a first query over them, if there is one,
-//! a query and templates.
+//! Reads the inputs of a site: data files, a first query over them, if there is one, the query, the
+//! templates.
 #![tactic(auto)]
 
 mod data;

@@ -1,4 +1,5 @@
-//! Which of what a site's texts ask for is a mistake over which a build passes in silence.
+//! Which of what a site's texts ask for is a mistake. The claims of a text come from `text_claims`
+//! and `text_claims`.
 #![tactic(auto)]
 
 mod conditions;

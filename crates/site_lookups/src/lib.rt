@@ -1,4 +1,4 @@
-//! A query's site, asked of its data block by block.
+//! What a site is asked, answered from the data: one question at a time, over any asker.
 #![tactic(auto)]
 
 mod all_rows;

@@ -1,4 +1,5 @@
-//! The pages of a query's site over data that a text replaces or edits. They may be the site of a first query.
+//! The pages of a query's site over data that a text replaces or edits, which may be the site of a
+//! first query.
 #![tactic(auto)]
 
 ghost use Rattle.std.specs.Prelude.{◌≡◌, IfOk, false, map};

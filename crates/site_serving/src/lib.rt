@@ -1,4 +1,4 @@
-//! The pages of a site over data that texts may change, served over a wire.
+//! The pages of a site over data that texts may change, served over any wire.
 #![tactic(auto)]
 
 ghost use Rattle.std.specs.Prelude.{◌≡◌, ◌⊎◌, IfOk, OnErr};

@@ -1,4 +1,4 @@
-//! What pages ask of a site, and what asks for pages.
+//! What pages ask of a site (`SiteView`), and what asks for pages (`Pages`).
 #![tactic(auto)]
 
 ghost use Rattle.std.specs.Prelude.{◌≡◌, ◌↔◌, ℕ, List, [], Contains, IfOk, IsTrue, MatchOption};

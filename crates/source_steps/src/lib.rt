@@ -1,4 +1,5 @@
-//! What readers of data sources share: names with a number, and the mark at a text's start.
+//! What readers of data sources share: names with numbers, byte order marks, and that the steps of
+//! a text have one end.
 #![tactic(auto)]
 
 ghost use Rattle.std.specs.Prelude.{◌≡◌, IfOk};

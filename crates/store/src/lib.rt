@@ -1,4 +1,4 @@
-//! Stores: what a data graph answers, however it is kept.
+//! What a data graph answers, however it is kept: the trait `Store`.
 #![tactic(auto)]
 
 ghost use Rattle.std.specs.Prelude.{◌≡◌, ◌↔◌, IfOk, IsTrue, ℕ, length};

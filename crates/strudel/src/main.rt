@@ -1,4 +1,5 @@
-//! Web pages from data, a query and templates.
+//! The program: `main` hands its words and the system's files, outputs and sockets to
+//! `command_run::strudel`, and ends with the number of its status.
 #![tactic(auto)]
 
 use command_run::{strudel, wire_waits};

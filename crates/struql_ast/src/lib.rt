@@ -1,4 +1,4 @@
-//! Queries as they are written, with the places of their parts.
+//! Queries as they are parsed, with places in the text.
 #![tactic(auto)]
 
 ghost use Rattle.std.specs.Prelude.{◌≡◌, map};

@@ -1,4 +1,4 @@
-//! The checks of a query: its variables, functions and names.
+//! The checks of a parsed query.
 #![tactic(auto)]
 
 ghost use Rattle.std.specs.Prelude.{◌≡◌, IfOk};
@@ -27,7 +27,7 @@ mod walk;
 use faults::earlier;
 pub use faults::{Check, Fault};
 use functions::first_of_terms;
-pub use mentions::{VariableUse, Role};
+pub use mentions::{Role, VariableUse};
 pub use names::Names;
 use names::no_names;
 pub use refusal::CheckRefusal;

@@ -109,7 +109,10 @@ fn push_condition(
 }
 
 /// The variables of conditions, in the text's order.
-pub(crate) fn mentions_of(alloc: Global, conditions: &[Condition]) -> Result<Vec<VariableUse>, NoMemory>
+pub(crate) fn mentions_of(
+    alloc: Global,
+    conditions: &[Condition],
+) -> Result<Vec<VariableUse>, NoMemory>
     ensures { IfOk result (λ ms. ms.items ≡ flat_map mentions
         (map condition_written conditions.now)) }
 {
@@ -140,7 +143,11 @@ fn push_target(alloc: Global, found: &mut Vec<VariableUse>, target: &Target) -> 
     }
 }
 
-fn push_label(alloc: Global, found: &mut Vec<VariableUse>, label: &LinkLabel) -> Result<(), NoMemory>
+fn push_label(
+    alloc: Global,
+    found: &mut Vec<VariableUse>,
+    label: &LinkLabel,
+) -> Result<(), NoMemory>
     ensures { IfOk result (λ _. found.new.items ≡ found.old.items ++ label_mentions label.now) }
 {
     match label {

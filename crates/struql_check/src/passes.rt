@@ -13,7 +13,7 @@ ghost use Rattle.struql_check.specs.Known.{AreNames};
 ghost use Rattle.struql_check.specs.declared.mentions.VariableUse.{VariableUse as Seen};
 
 use crate::faults::{Check, Fault, earlier};
-use crate::mentions::{VariableUse, Role};
+use crate::mentions::{Role, VariableUse};
 use crate::names::Names;
 use crate::scope::{Level, sort_of};
 use rpe::Rpe;

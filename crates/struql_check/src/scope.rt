@@ -5,7 +5,7 @@ ghost use Rattle.std.specs.BTreeMap as tree;
 ghost use Rattle.sd_value.specs.Order.{bytes_cmp};
 ghost use Rattle.struql_check.specs.Scope.{sort_of, is_arc_role};
 
-use crate::mentions::{VariableUse, Role};
+use crate::mentions::{Role, VariableUse};
 use sd_value::{NoMemory, Str};
 use std::alloc::Global;
 use std::collections::BTreeMap;

@@ -1,4 +1,4 @@
-//! The text of queries.
+//! Queries, from bytes to trees with places.
 #![tactic(auto)]
 
 mod clauses;

@@ -1,4 +1,4 @@
-//! The canonical text of queries, conditions, terms and links.
+//! The canonical text of a query, a condition, a term or a link.
 #![tactic(auto)]
 
 mod collections;

@@ -1,4 +1,4 @@
-//! What is printed of expressions, conditions, terms and queries is read again, over tokens.
+//! What is printed of a query is read again.
 #![tactic(auto)]
 
 ghost use Rattle.std.specs.Prelude.{◌≡◌, List};

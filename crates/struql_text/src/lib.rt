@@ -1,4 +1,4 @@
-//! The readers of a query's terms, links, collections and conditions.
+//! Reads terms, links, collections, conditions and path expressions from tokens.
 #![tactic(auto)]
 
 mod conditions;

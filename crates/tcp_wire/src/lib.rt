@@ -1,4 +1,4 @@
-//! A wire over the system's sockets: one connection after another.
+//! A wire over the system's sockets at 127.0.0.1, one connection after another.
 #![tactic(auto)]
 
 ghost use Rattle.std.specs.Prelude.{◌≡◌, ◌≤◌, ℕ, take, Some, None, Err, IfOk, IfErr, OnOk, OnErr, IsErrOf, IfSome};

@@ -1,4 +1,4 @@
-//! The items that a file of templates is made of: text, tags and the tokens within opening tags.
+//! Files of templates split into items: text, tags and what is in a tag.
 #![tactic(auto)]
 
 mod item;

@@ -1,4 +1,4 @@
-//! Files of templates, read from bytes.
+//! Files of templates, from bytes.
 #![tactic(auto)]
 
 mod body;

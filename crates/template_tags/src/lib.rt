@@ -1,4 +1,5 @@
-//! What stands within the tags of templates, read from items: expressions, settings and single items.
+//! What stands within the tags of templates, read from items: expressions, settings and single
+//! items.
 #![tactic(auto)]
 
 mod expression;

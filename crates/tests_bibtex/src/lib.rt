@@ -1,4 +1,4 @@
-//! BibTeX texts as they are read or refused, each beside an answer worked by hand.
+//! Tests of BibTeX texts.
 #![tactic(auto)]
 
 #[cfg(test)]

@@ -1,10 +1,10 @@
 // BibTeX texts that are refused, with their places worked out by hand.
 use crate::checks::check;
 use crate::graphs::{check_graph, graph_for};
+use bibtex_source::{BibRefusal, read_bibtex};
 use sd_value::{NoMemory, Str};
 use std::alloc::Global;
 use std::test::Fail;
-use bibtex_source::{BibRefusal, read_bibtex};
 
 // A text, the most nodes and edges that are added, and why it is refused, or none.
 struct RefusalRow {

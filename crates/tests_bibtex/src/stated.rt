@@ -1,9 +1,9 @@
 // BibTeX texts, and the graphs that they state, worked out by hand.
 use crate::graphs::{check_graph, graph_for};
+use bibtex_source::read_bibtex;
 use sd_value::Str;
 use std::alloc::Global;
 use std::test::Fail;
-use bibtex_source::read_bibtex;
 
 fn check_stated(alloc: Global, text: &[u8], wanted: &[u8]) -> Result<(), Fail> {
     let stem = Str::new(alloc, b"b")?;

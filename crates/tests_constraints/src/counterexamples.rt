@@ -2,12 +2,12 @@
 use crate::checks::{check, check_text};
 use crate::lines::told;
 use crate::verdicts::{VERDICTS, VerdictRow};
+use command_check::SiteOracle;
 use constraints::parse_constraints;
-use refute_site::{Oracle, first_broken};
 use query_reader::read_query;
+use refute_site::{Oracle, first_broken};
 use sd_ddl::{read_ddl, write_ddl};
 use sd_graph::{Graph, GraphBuilder, PROGRAM_LIMITS};
-use command_check::SiteOracle;
 use std::alloc::Global;
 use std::test::Fail;
 

@@ -1,5 +1,4 @@
-//! Inclusions of path expressions, texts of constraints and verdicts, each beside an answer worked by
-//! hand.
+//! Tests of what constraints stand on.
 #![tactic(auto)]
 
 #[cfg(test)]

@@ -1,13 +1,13 @@
 // The lines of certificates, beside the texts that were worked by hand.
 use crate::checks::{check, check_text};
-use schema::paths_of;
 use certificate_check::recheck;
 use certificate_text::{print_unknown, print_yes};
-use constraint_spec::{Certificate, Constraint, LinkUse, MentionProof};
 use command_check::{SiteOracle, Verdicts, verdicts_of};
+use constraint_spec::{Certificate, Constraint, LinkUse, MentionProof};
 use constraints::parse_constraints;
 use query_reader::read_query;
 use query_scoping::scopes;
+use schema::paths_of;
 use sd_value::{NoMemory, Str};
 use std::alloc::Global;
 use std::test::Fail;

@@ -1,6 +1,6 @@
 // Constraints of small queries, each with the verdict that was worked out by hand.
-use constraint_spec::Verdict;
 use constraint_prover::prove;
+use constraint_spec::Verdict;
 use constraints::parse_constraints;
 use query_reader::read_query;
 use std::test::Fail;

@@ -1,5 +1,4 @@
-//! The system's own edge, as it really is: files in a fresh folder, connections over sockets that are silent, slow or
-//! refused, and a file that is watched.
+//! Tests of the system's own files and sockets.
 #![tactic(auto)]
 
 #[cfg(test)]

@@ -1,5 +1,4 @@
-//! Edits of the data: their texts, which pages each can touch, the store that takes them and the pages that are kept,
-//! beside answers worked by hand.
+//! Tests of edits of the data.
 #![tactic(auto)]
 
 #[cfg(test)]

@@ -1,5 +1,5 @@
-//! What the program reads from the outside and gives to it, by worked rows: files, outputs, lines of reports, addresses,
-//! heads and replies, scripts, connections over a wire, and files of templates that are refused.
+//! Tests of what is at the edge: files, reports, addresses, heads, replies, scripts, wires, and
+//! files of templates.
 #![tactic(auto)]
 
 #[cfg(test)]

@@ -1,8 +1,5 @@
-//! Whole runs by worked rows, over files, outputs and a wire in memory: runs of each command beside their status, the
-//! files that a build leaves, pages with the first fault of inputs that are refused, what connections are sent, files
-//! that are refused and files at their limits, runs of which a device fails, one page of a site that is never made, runs
-//! over a first query, and runs over data that are read leniently; `serve` over the system's sockets; and what `lint`
-//! finds in small sites.
+//! Whole runs of `strudel` by the words alone, over files and outputs in memory, and runs of
+//! `serve` over the system's sockets.
 #![tactic(auto)]
 
 #[cfg(test)]

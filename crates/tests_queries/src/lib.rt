@@ -1,6 +1,4 @@
-//! Queries over small data, each beside answers worked by hand: queries that are refused, and that are printed; the text of
-//! plans; rows of chains over both stores, also beside those that a look through all assignments finds; pages of small sites
-//! from their own demand and from the whole site; constraints in small sites; and sites as data of a second query.
+//! Tests of queries and of their sites.
 #![tactic(auto)]
 
 #[cfg(test)]

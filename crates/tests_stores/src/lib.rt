@@ -1,4 +1,4 @@
-//! Each call of both stores over the same graph, and the walks over them, each beside an answer worked by hand.
+//! Tests of both stores, and of the walks over them.
 #![tactic(auto)]
 
 #[cfg(test)]

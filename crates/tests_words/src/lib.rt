@@ -1,5 +1,5 @@
-//! Texts as they are read or refused: tokens, words of path expressions and of commands, data sources of every format,
-//! and queries, each beside an answer worked by hand; and the usages that `help` prints beside what each command takes.
+//! Tests of texts that are read: tokens, words of path expressions and of commands, data of every
+//! format, and queries; and of usages.
 #![tactic(auto)]
 
 #[cfg(test)]

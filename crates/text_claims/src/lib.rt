@@ -1,4 +1,4 @@
-//! What a query asks for, at each place of its text.
+//! What a query and a file of templates ask for, at each place of their texts.
 #![tactic(auto)]
 
 mod blocks;

@@ -1,4 +1,4 @@
-//! Templates: what a file of templates says, after it was read.
+//! Templates as data: the types of the code, and how they read as plain trees.
 #![tactic(auto)]
 
 ghost use Rattle.std.specs.Prelude.{All, ◌≡◌, ◌<◌, length};

@@ -1,4 +1,4 @@
-//! Writers of single tokens, as the text formats write them back.
+//! Tokens written as text.
 #![tactic(auto)]
 
 ghost use Rattle.std.specs.Prelude.{◌≡◌, ◌++◌, IfOk};

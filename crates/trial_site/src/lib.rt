@@ -1,4 +1,5 @@
-//! The site of a trial: made data, and the program's own query and templates.
+//! The site of a trial: its data, and its query and templates, whose texts the program has in
+//! itself.
 #![tactic(auto)]
 
 mod data;

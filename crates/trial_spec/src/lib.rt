@@ -1,4 +1,4 @@
-//! The trial: its data, its query and templates, what is asked for, and what is counted.
+//! What `trial N` makes, asks and prints. Definitions, no engine.
 #![tactic(auto)]
 
 /// How many replies have a page, how many have none, and how many bytes the pages have. One page's length may take all of

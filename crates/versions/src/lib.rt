@@ -1,4 +1,5 @@
-//! Pages of a site whose data a text may replace or edit.
+//! Pages of a site whose data a text may replace: the trait `Versions`, and `Still`, which makes
+//! one of any `Pages`.
 #![tactic(auto)]
 
 ghost use Rattle.std.specs.Prelude.{◌≡◌, ◌↔◌, ℕ, List, Bool, true, false, Contains, IfOk, OnErr, Ok};

@@ -1,5 +1,4 @@
-//! Which values the walks of a path expression join: all ends of one start, all starts of one end, or whether two values are
-//! joined, over any store.
+//! The values that walks of a data graph join, over any store.
 //!
 //! The empty word joins every value with itself, also one that is not in the graph.
 #![tactic(auto)]

@@ -1,2 +1,3 @@
-//! What the data hand out for one page, and how much that is: the page's weight, as definitions.
+//! How much the data may have to hand out for one page: charges and their number. Also the site of
+//! a query as pages see it.
 #![tactic(auto)]

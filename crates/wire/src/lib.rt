@@ -1,4 +1,4 @@
-//! The connections of a server as a trait with a written meaning.
+//! Where events come from and replies go to: the trait `Wire`.
 #![tactic(auto)]
 
 ghost use Rattle.std.specs.Prelude.{◌≡◌, ◌+◌, ℕ, List, [], ◌∷◌, ◌++◌, take, length, Option, Some, IfOk, OnOk, OnErr, IsErrOf, flat_map};
