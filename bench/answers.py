@@ -109,7 +109,7 @@ def answered(rows, folder, verbose=False):
 
 
 def bench_answers(folder):
-    """How long an answer takes, least of three runs of the whole program: of the worked constraints and of a hundred made ones. 10 ms are asked for a no of the worked ones."""
+    """How long an answer takes, least of three runs of the whole program: of the worked constraints and of a hundred made ones. Target: 10 ms for a no of the worked ones."""
     rows = []
     for what, given in (("worked", list(worked())), ("made", list(made()))):
         slowest = collections.defaultdict(float)

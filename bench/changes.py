@@ -24,7 +24,7 @@ def requests():
 
 
 def bench_changes(folder):
-    """A change of the data during a run, and requests behind it, by `replay`."""
+    """A change of the data during a run, and requests after it, by `replay`."""
     text = data()
     written(f"{folder}/d.ddl", [text])
     written(f"{folder}/q.struql", [QUERY])
@@ -39,7 +39,7 @@ def bench_changes(folder):
     before = NODES / (seconds["none", True] - seconds["none", False])
     behind = NODES / (seconds["one", True] - seconds["one", False])
     return [
-        (f"a change of {3 * NODES:,} edges, the mean of {CHANGES}", change, memory["more", False], "0.3 s are asked for"),
+        (f"a change of {3 * NODES:,} edges, the mean of {CHANGES}", change, memory["more", False], "target: 0.3 s"),
         (f"{NODES:,} requests without a change", seconds["none", True], memory["none", True], f"{before:,.0f} a second"),
-        (f"{NODES:,} requests behind a change", seconds["one", True], memory["one", True], f"{behind:,.0f} a second"),
+        (f"{NODES:,} requests after a change", seconds["one", True], memory["one", True], f"{behind:,.0f} a second"),
     ]

@@ -17,7 +17,7 @@ ONE Paper LINKS "t"
 
 
 def bench_here(folder):
-    """Constraints of all five kinds in the site of 20,000 papers, beside building the same site into files in memory."""
+    """Constraints of all five kinds in the site of 20,000 papers, next to building the same site into files in memory."""
     if not knows("check"):
         return [("this program has no command `check`", None, None, "not measured")]
     written(f"{folder}/q", [PAPERS])
@@ -29,7 +29,7 @@ def bench_here(folder):
         build, held = least(["build", "q", "t", "site", "d.ddl"], folder)
         seconds, memory = least(["check", "--here", "q", "five", "d.ddl"], folder)
         rows.append((f"build, {count:,} papers", build, held, ""))
-        rows.append(("`check --here` of five constraints over the same", seconds, memory, f"{seconds / build:.2f} of build's time; 1.5 of it is asked for"))
+        rows.append(("`check --here` of five constraints over the same", seconds, memory, f"{seconds / build:.2f} of build's time; target: 1.5 of it"))
         for line in FIVE.splitlines():
             written(f"{folder}/c", [line, "\n"])
             one, memory = least(["check", "--here", "q", "c", "d.ddl"], folder)
@@ -77,14 +77,14 @@ def bench_proofs(folder):
             count = sum(1 for line in file if line.split() and line.split()[0].isupper())
         whole, lines = whole + seconds, lines + count
         rows.append((f"examples/{os.path.basename(site)}, {count} constraints", seconds, memory, ""))
-    rows.append((f"{lines} constraints of the examples", whole, None, "0.1 s asked for sixty"))
+    rows.append((f"{lines} constraints of the examples", whole, None, "target: 0.1 s for sixty"))
     written(f"{folder}/q", chains(100, 32, random.Random(30)))
     texts = [f'EACH F{n} LINKS "l{n}" TO F{n}\nONE F{n} LINKS "l{n + 20}"\nREACHABLE F{n} FROM Home\n' for n in range(20)]
     written(f"{folder}/c", texts)
     seconds, memory = checked("q", "c", folder)
-    rows.append(("60 constraints of a query of 200 links, 32 variables a chain", seconds, memory, "1 s is asked for"))
+    rows.append(("60 constraints of a query of 200 links, 32 variables a chain", seconds, memory, "target: 1 s"))
     written(f"{folder}/q", [DEEP])
     written(f"{folder}/c", ['EACH F LINKS "l" TO G\n'])
     seconds, memory = checked("q", "c", folder)
-    rows.append(("inclusion of expressions of 16 positions each, the last of 15 steps deciding", seconds, memory, "1 s is asked for"))
+    rows.append(("inclusion of expressions of 16 positions each, the last of 15 steps deciding", seconds, memory, "target: 1 s"))
     return rows

@@ -88,7 +88,7 @@ def pages(count, papers):
 
 
 def bench_requests(folder):
-    """Memory and time over 100,000 requests, half of them over one connection and half over connections of their own; the pages were each asked for once before."""
+    """Memory and time over 100,000 requests, half of them over one connection and half over connections of their own; each page was requested once before."""
     papers = 2_000
     written(f"{folder}/q", [PAPERS])
     written(f"{folder}/t", [PAPERS_PAGES])
@@ -101,7 +101,7 @@ def bench_requests(folder):
         ask_over_one(port, pages(50_000, papers))
         ask_each(port, pages(50_000, papers))
         after, ended = resident(server.pid), spent(server.pid)
-        rows.append(("100,000 requests", ended - begun, after, f"{after - before:+.2f} MB since they began; less than 1 MB is asked for"))
+        rows.append(("100,000 requests", ended - begun, after, f"{after - before:+.2f} MB since they began; target: less than 1 MB"))
     return rows
 
 
@@ -153,7 +153,7 @@ def waited(port):
 
 
 def bench_silent(folder):
-    """How long a page takes beside fifty clients that hold their connections and send nothing, a part of a head, or nothing after a reply. Seconds are by the clock."""
+    """How long a page takes with fifty clients that hold their connections and send nothing, a part of a head, or nothing after a reply. Seconds are by the clock."""
     written(f"{folder}/q", [PAPERS])
     written(f"{folder}/t", [PAPERS_PAGES])
     written(f"{folder}/d.ddl", shapes.papers(200))
@@ -168,10 +168,10 @@ def bench_silent(folder):
                 seconds = waited(found[1])
                 for it in clients:
                     it.close()
-            rows.append((f"fifty clients, {kind}, `{' '.join(options)}`: a page after {after(seconds)}", None, None, f"at most {IDLE / 1000} s is asked for"))
+            rows.append((f"fifty clients, {kind}, `{' '.join(options)}`: a page after {after(seconds)}", None, None, f"target: at most {IDLE / 1000} s"))
     with serving(folder, "--idle", str(IDLE)) as (_, port), dripping(port):
         time.sleep(0.2)
-        rows.append((f"a client that sends a byte of a head each tenth of a second: a page after {after(waited(port))}", None, None, f"a few times {IDLE / 1000} s is asked for"))
+        rows.append((f"a client that sends a byte of a head each tenth of a second: a page after {after(waited(port))}", None, None, f"target: a few times {IDLE / 1000} s"))
     return rows
 
 
@@ -196,7 +196,7 @@ def each_page(folder, addresses, *options):
 
 
 def bench_whole(folder):
-    """Pages from the whole site (`serve --whole`), beside those from their own demand: processor seconds of the server for one page, none of which is kept, less those of a reply with a kept page. The megabytes are those of the server."""
+    """Pages from the whole site (`serve --whole`), next to those from their own demand: processor seconds of the server for one page, none of which is kept, less those of a reply with a kept page. The megabytes are those of the server."""
     rows = []
     for what, query, templates, data, address in SITES:
         written(f"{folder}/q", [query])
@@ -207,6 +207,6 @@ def bench_whole(folder):
         for how, options in (("from its own demand", ()), ("from the whole site", ("--whole",))):
             # (a click may take a hundred times as long)
             seconds, memory, start = each_page(folder, addresses if options else addresses[:200], *options)
-            note = f"0.1 ms is asked for; the start took {start:.2f} s" if options and "links" not in what else f"the start took {start:.2f} s"
+            note = f"target: 0.1 ms; the start took {start:.2f} s" if options and "links" not in what else f"the start took {start:.2f} s"
             rows.append((f"{what}, {how}", seconds, memory, note))
     return rows

@@ -241,7 +241,7 @@ def found():
 
 
 def bench_lenient(folder):
-    """CSV and JSON files of this machine read with `--lenient`: each answer is compared with that of a reader of this benchmark's own. Nine tenths of those that hold tables or records are asked for."""
+    """CSV and JSON files of this machine read with `--lenient`: each answer is compared with that of a reader of this benchmark's own. Target: nine tenths of those that hold tables or records."""
     written(f"{folder}/p.CSV", ["a;b\n1\n"])
     done = subprocess.run([STRUDEL, "data", "--lenient", "p.CSV"], cwd=folder, capture_output=True)
     if done.returncode != 0:

@@ -13,7 +13,7 @@ ROOT = "<TEMPLATE R><SFMT @x></TEMPLATE>"
 
 def told(seconds, asked=None):
     """The note beside a measurement: what is asked for, and whether the run was ended."""
-    return "; ".join([f"ended after {LIMIT} s"] * (seconds is None) + [f"{asked} is asked for"] * (asked is not None))
+    return "; ".join([f"ended after {LIMIT} s"] * (seconds is None) + [f"target: {asked}"] * (asked is not None))
 
 
 def shown(folder, query, data):
@@ -120,7 +120,7 @@ def bench_closures(folder):
     if all(it for it in seconds.values()):
         rows.append(("growth from 500 to 5,000 nodes", None, None, exponent(seconds, 500, 5_000)))
     few, memory = shown(folder, closure, shapes.forest(5_000, 40))
-    rows.append(("the same where one node of a hundred is listed", few, memory, told(few, "0.3 s")))
+    rows.append(("the same if one node of a hundred is listed", few, memory, told(few, "0.3 s")))
     return rows
 
 
