@@ -1,6 +1,6 @@
 -- How a run ends, from how its parts end.
 use Rattle.std.proofs.Common.{◌≡◌, ◌⊎◌, ℕ, List, [], ◌∷◌, inl, inr, refl, sym, subst, ◌∙◌}
-use Rattle.std.specs.Prelude.{Bool, Option, None, Some, Result, IfErr}
+use Rattle.std.specs.Prelude.{Option, None, Some, Result, IfErr}
 use Rattle.std.specs.Prelude as prelude
 use Rattle.std.specs.Option.{IsSomeAnd}
 use Rattle.edge_io.specs.Files.{FileMap}
@@ -25,8 +25,8 @@ use Rattle.command_spec.specs.declared.ReplayCommand.{ReplayCommand}
 use Rattle.command_spec.specs.declared.TrialCommand.{TrialCommand}
 use Rattle.command_spec.specs.declared.HelpCommand.{HelpCommand}
 use Rattle.site_inputs.specs.Sites.{DataInputsEnd, InputsEnd}
-use Rattle.site_inputs.specs.Sources.{FilesEnd, GraphEnds, empty_building}
-use Rattle.sd_graph.specs.Statement.{Building}
+use Rattle.site_inputs.specs.Sources.{empty_building}
+use Rattle.site_inputs.proofs.Graphs.{no_memory_first}
 use Rattle.command_spec.specs.Inputs.{replay_paths}
 use Rattle.command_replay.specs.Scripts.{ScriptedEnd}
 use Rattle.command_replay.specs.Ends.{ReplayEnds}
@@ -189,16 +189,9 @@ pub given_read_rose : (given : Option Command) (command : Command) (before now :
 given_read_rose given command before now status is h = subst (λ (g : Option Command). ReadRose (given_inputs g) before now status) (sym is) h
 
 -- out of memory before anything was done
-files_no_memory : (lenient : Bool) (map : FileMap) (b : Building) (paths : List (List ℕ)) → FilesEnd lenient map b paths (prelude.Err fault.NoMemory)
-files_no_memory lenient map b [] = inr refl
-files_no_memory lenient map b (path ∷ paths) = inl (inl tt)
-
-graph_no_memory : (map : FileMap) (b : Building) (sources : DataFiles) → GraphEnds map b sources (prelude.Err fault.NoMemory)
-graph_no_memory map b sources = files_no_memory sources.lenient map b sources.paths
-
 data_no_memory : (map : FileMap) (sources : DataFiles) (over : Option (List ℕ)) → DataInputsEnd map sources over (prelude.Err fault.NoMemory)
-data_no_memory map sources None = inl (graph_no_memory map empty_building sources)
-data_no_memory map sources (Some path) = inl (graph_no_memory map empty_building sources)
+data_no_memory map sources None = inl (no_memory_first map empty_building sources)
+data_no_memory map sources (Some path) = inl (no_memory_first map empty_building sources)
 
 inputs_no_memory : (map : FileMap) (sources : DataFiles) (over : Option (List ℕ)) (query templates : List ℕ) → InputsEnd map sources over query templates (prelude.Err fault.NoMemory)
 inputs_no_memory map sources over query templates = inl (data_no_memory map sources over)
