@@ -1,5 +1,5 @@
 pub mod ByHash
 pub mod Bare
-pub mod Copied
+pub mod CopiedLists
 pub mod Gathering
 pub mod Taken

@@ -1,4 +1,4 @@
-use Rattle.sd_graph.proofs.Copied.{copied_more}
+use Rattle.sd_graph.proofs.CopiedLists.{copied_more}
 use Rattle.sd_graph.proofs.gathered.copied.Goals as goal
 
 pub loop-key-preserved : goal.loop-key-preserved
