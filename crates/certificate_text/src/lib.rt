@@ -1,5 +1,5 @@
-//! The lines that tell of a constraint whether it is met over every data graph, with the
-//! certificate that shows it.
+//! The lines that say of a constraint whether it is met over every data graph, with the certificate
+//! that shows it.
 #![tactic(auto)]
 
 ghost use Rattle.std.specs.Prelude.{◌≡◌, [], map};

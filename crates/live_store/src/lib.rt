@@ -1,5 +1,5 @@
-//! A store that takes edits: the index of a graph as it was, beside layers of what came and of what
-//! went since.
+//! A store that takes edits: the index of a graph as it was, next to layers of what came and of
+//! what went since.
 #![tactic(auto)]
 
 mod answers;

@@ -1,5 +1,4 @@
-//! Which of what a site's texts ask for is a mistake. The claims of a text come from `text_claims`
-//! and `text_claims`.
+//! Which of what a site's texts ask for is a mistake. The claims of a text come from `text_claims`.
 #![tactic(auto)]
 
 mod conditions;

@@ -1,5 +1,4 @@
-//! What stands within the tags of templates, read from items: expressions, settings and single
-//! items.
+//! What is within the tags of templates, read from items: expressions, settings and single items.
 #![tactic(auto)]
 
 mod expression;
