@@ -18,7 +18,7 @@ use Rattle.site_build.specs.Materialised.{IsWhole}
 use Rattle.compose_spec.specs.Composed.{IsSiteGraph}
 use Rattle.compose.specs.Listed.{IsListed, AnswersWithin}
 use Rattle.composed_data.specs.Named.{IsCollectName}
-use Rattle.composed_data.proofs.Listed.{listed_query}
+use Rattle.composed_data.proofs.ListedSites.{listed_query}
 use Rattle.site_graphs.proofs.Graphs.{site_graph_of}
 use Rattle.composed_data.specs.SiteData.{SiteDataEnds}
 

@@ -1,3 +1,3 @@
 pub mod Named
 pub mod Ends
-pub mod Listed
+pub mod ListedSites

@@ -15,7 +15,7 @@ use Rattle.constraint_spec.specs.Certificate.{Certificate, IsCertificate}
 use Rattle.constraint_spec.specs.Meets.{Meets}
 use Rattle.constraint_recheck.specs.Options.{Finds}
 use Rattle.constraint_recheck.specs.Search.{find_certificate}
-use Rattle.constraint_recheck.proofs.Search.{certificate_finds}
+use Rattle.constraint_recheck.proofs.SearchLaws.{certificate_finds}
 use Rattle.constraint_spec.specs.declared.certificates.Verdict.{Verdict}
 use Rattle.constraint_spec.specs.declared.certificates.Verdict.TheVariants.{Yes, Unknown}
 use Rattle.inclusion.specs.declared.table.Inclusions.{Inclusions}

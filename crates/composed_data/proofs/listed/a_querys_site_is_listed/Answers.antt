@@ -1,4 +1,4 @@
-use Rattle.composed_data.proofs.Listed.{listed_query}
+use Rattle.composed_data.proofs.ListedSites.{listed_query}
 use Rattle.composed_data.proofs.listed.a_querys_site_is_listed.Goals as goal
 
 pub returns : goal.returns

@@ -1,5 +1,5 @@
 use Rattle.std.specs.Prelude.{Contains}
-use Rattle.constraint_recheck.proofs.Search.{certificate_finds}
+use Rattle.constraint_recheck.proofs.SearchLaws.{certificate_finds}
 use Rattle.constraint_recheck.proofs.search.a_search_is_exact.Goals as goal
 
 pub returns : goal.returns
