@@ -1,11 +1,11 @@
 -- What a BibTeX text states of a data graph, step by step.
-use Rattle.std.specs.Prelude.{◌≡◌, ◌⊎◌, ◌-◌, ◌==◌, ℕ, zero, suc, List, [], ◌∷◌, ◌++◌, length, nat_eq, if◌then◌else◌, Result, Ok, Err, ⊤}
+use Rattle.std.specs.Prelude.{◌≡◌, ◌⊎◌, ◌-◌, ◌==◌, ℕ, zero, suc, false, List, [], ◌∷◌, ◌++◌, length, nat_eq, if◌then◌else◌, Result, Ok, Err, ⊤}
 use Rattle.grammar.specs.Reading.{Outcome, Read, Stuck, Past, starts}
 use Rattle.graph_spec.specs.DataGraph.{Name}
 use Rattle.sd_graph.specs.Statement.{a_node, a_member, an_edge}
 use Rattle.sd_graph.specs.Stating.{Step, says, fails, Ending, done, fault, too_many_nodes, too_many_edges, no_memory}
 use Rattle.source_steps.specs.Names.{without_mark}
-use Rattle.csv_source.specs.Fields.{value_of}
+use Rattle.source_steps.specs.Fields.{value_of}
 use Rattle.bibtex_spec.specs.declared.Field.{Field}
 use Rattle.bibtex_spec.specs.declared.Entry.{Entry}
 use Rattle.bibtex_spec.specs.declared.Item.{Item}
@@ -23,7 +23,7 @@ BibStep = Step ℕ BibRefusal
 -- a text that is not empty, under a label
 abbrev pub text_step : ℕ → Name → Name → List ℕ → List BibStep
 text_step at key label text =
-    if length text == 0 then [] else says at (an_edge key label (value_of text)) ∷ []
+    if length text == 0 then [] else says at (an_edge key label (value_of false text)) ∷ []
 
 abbrev pub texts_steps : ℕ → Name → Name → List (List ℕ) → List BibStep
 texts_steps at key label [] = []

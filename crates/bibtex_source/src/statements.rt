@@ -8,9 +8,9 @@ ghost use Rattle.bibtex_source.specs.Text.{bib_ending, text_step, texts_steps, f
 use crate::refusal::BibRefusal;
 use crate::values::texts_of;
 use bibtex_spec::{Entry, Field};
-use csv_source::value_of;
 use sd_graph::{GraphBuilder, GraphRefusal};
 use sd_value::{Str, Value};
+use source_steps::value_of;
 use std::alloc::Global;
 
 // The answer to an addition for the entry whose key is at this byte.
@@ -77,7 +77,7 @@ fn add_text(
     if text.bytes().is_empty() {
         return Ok(());
     }
-    let value = value_of(alloc, text.bytes())?;
+    let value = value_of(alloc, false, text)?;
     state_edge(alloc, graph, at, key, label, &value)
 }
 

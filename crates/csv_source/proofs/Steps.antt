@@ -4,14 +4,16 @@ use Rattle.std.proofs.Common.{refl, sym, ◌∙◌, ap, subst, inl, inr, take, a
 use Rattle.csv.specs.Records.{field_at}
 use Rattle.std.specs.Str.{IsUtf8, is_utf8}
 use Rattle.std.proofs.lemmas.Str.{IsUtf8-from_is_utf8, is_utf8-from_IsUtf8}
-use Rattle.std.proofs.lemmas.Bool.{cases_Bool, eqb-true, eq-eqb}
-use Rattle.csv.specs.Reading.{strip_bom, is_bom}
+use Rattle.std.proofs.lemmas.Bool.{cases_Bool}
+use Rattle.csv.specs.Reading.{records, strip_bom, is_bom}
 use Rattle.sd_graph.specs.Statement.{Statement, Building, Adds}
 use Rattle.sd_graph.specs.Stating.{says, fails, fault, Ends}
 use Rattle.sd_graph.specs.StatingLaws.{ending_at, Ends-one, IsCut, Continues, Continues-stop}
 use Rattle.sd_graph.specs.declared.GraphRefusal.{GraphRefusal}
-use Rattle.csv_source.specs.Text.{csv_ending, CsvStep, CsvRecord, row_steps, row_statements, label_faults, header_steps}
-use Rattle.source_steps.specs.Names.{numbered}
+use Rattle.csv_source.specs.Separators.{CsvRecord, separated, separator_of, separator_by, records_of}
+use Rattle.csv_source.specs.declared.rules.CsvRules.{CsvRules}
+use Rattle.csv_source.specs.Text.{csv_ending, CsvStep, fits, row_steps, row_statements, label_faults, header_steps}
+use Rattle.source_steps.specs.Names.{numbered, without_mark}
 use Rattle.graph_spec.specs.DataGraph.{Name}
 use Rattle.std.specs.List.{list_all}
 use Rattle.csv_source.specs.declared.refusal.CsvRefusal.TheVariants.{NotUtf8, EmptyLabel, Ragged, TooManyEdges, TooManyNodes, NoMemory}
@@ -59,14 +61,14 @@ stop b c d steps front rest e h ends = Continues-stop b c d steps front rest (cs
 pub fault_first : (b : Building) (steps : List CsvStep) (e : CsvRefusal) → steps ≡ fails e ∷ [] → Ends b steps b (fault e)
 fault_first b steps e is = ([], [], is, refl)
 
-pub ragged : (stem : Name) (labels : List Name) (k : ℕ) (fields : CsvRecord) → (length fields == length labels) ≡ false → row_steps stem labels k fields ≡ fails (Ragged k) ∷ []
-ragged stem labels k fields h = rw h refl
+pub ragged : (rules : CsvRules) (stem : Name) (labels : List Name) (k : ℕ) (fields : CsvRecord) → fits rules (length labels) (length fields) ≡ false → row_steps rules stem labels k fields ≡ fails (Ragged k) ∷ []
+ragged rules stem labels k fields h = rw h refl
 
-pub no_texts : (stem : Name) (labels : List Name) (k : ℕ) (fields : CsvRecord) → (length fields == length labels) ≡ true → list_all is_utf8 fields ≡ false → row_steps stem labels k fields ≡ fails (NotUtf8 k) ∷ []
-no_texts stem labels k fields h g = rw (h, g) refl
+pub no_texts : (rules : CsvRules) (stem : Name) (labels : List Name) (k : ℕ) (fields : CsvRecord) → fits rules (length labels) (length fields) ≡ true → list_all is_utf8 fields ≡ false → row_steps rules stem labels k fields ≡ fails (NotUtf8 k) ∷ []
+no_texts rules stem labels k fields h g = rw (h, g) refl
 
-pub stated_row : (stem : Name) (labels : List Name) (k : ℕ) (fields : CsvRecord) → (length fields == length labels) ≡ true → list_all is_utf8 fields ≡ true → row_steps stem labels k fields ≡ row_statements stem (numbered stem k) labels k fields
-stated_row stem labels k fields h g = rw (h, g) refl
+pub stated_row : (rules : CsvRules) (stem : Name) (labels : List Name) (k : ℕ) (fields : CsvRecord) → fits rules (length labels) (length fields) ≡ true → list_all is_utf8 fields ≡ true → row_steps rules stem labels k fields ≡ row_statements rules stem (numbered stem k) labels k fields
+stated_row rules stem labels k fields h g = rw (h, g) refl
 
 pub label_there : (k : ℕ) (label : Name) (more : List Name) → (length label == 0) ≡ false → label_faults k (label ∷ more) ≡ label_faults (k + 1) more
 label_there k label more h = rw h refl
@@ -80,11 +82,13 @@ header_texts labels h = rw h refl
 pub header_no_texts : (labels : List Name) → list_all is_utf8 labels ≡ false → header_steps labels ≡ fails (NotUtf8 0) ∷ []
 header_no_texts labels h = rw h refl
 
-pub differ : (m n : ℕ) → (m ≡ n → ⊥) → (m == n) ≡ false
-differ m n h = elim (cases_Bool (m == n)) [ inl is ↦ absurd (h (eqb-true m n is)) | inr other ↦ other ]
-
-pub same : (m n : ℕ) → m ≡ n → (m == n) ≡ true
-same m n h = eq-eqb m n h
+-- the records that are read are those of the text
+pub records_are : (rules : CsvRules) (separator : ℕ) (text bytes : List ℕ) → text ≡ without_mark bytes
+    → separator ≡ (if rules.other_separators then separator_of (records (separated 44) (strip_bom text)) else 44)
+    → records_of rules bytes ≡ records (separated separator) (strip_bom text)
+records_are rules separator text bytes is found =
+    let by : separator ≡ separator_by rules bytes = rw is at found in
+    rw (by, is) refl
 
 pub strip_length : (xs : List ℕ) → length (strip_bom xs) ≤ length xs
 unfolding strip_bom

@@ -1,4 +1,5 @@
-pub mod Fields
+pub mod Rules
+pub mod Separators
 pub mod Text
 pub mod Reads
 pub mod Once

@@ -5,9 +5,10 @@ use Rattle.graph_spec.specs.DataGraph.{Name}
 use Rattle.sd_graph.specs.Statement.{Building}
 use Rattle.sd_graph.specs.Stating.{Ending, done, fault, too_many_nodes, too_many_edges, no_memory}
 use Rattle.source_steps.specs.Once.{IsTold, ends_once}
+use Rattle.csv_source.specs.declared.rules.CsvRules.{CsvRules}
 use Rattle.csv_source.specs.declared.refusal.CsvRefusal.{CsvRefusal}
 use Rattle.csv_source.specs.declared.refusal.CsvRefusal.TheVariants.{NotUtf8, EmptyLabel, Ragged, TooManyEdges, TooManyNodes, NoMemory}
-use Rattle.csv_source.specs.Text.{text_steps, records_of, csv_ending}
+use Rattle.csv_source.specs.Text.{text_steps, csv_ending}
 use Rattle.csv_source.specs.Reads.{HasOneAnswer}
 
 -- the answer that ends so
@@ -36,8 +37,9 @@ told (Err (TooManyEdges k)) h = tt
 told (Err (TooManyNodes k)) h = tt
 told (Err NoMemory) h = h refl
 
-pub has_one_answer : (stem : Name) (bytes : List ℕ) (b : Building) → HasOneAnswer stem bytes b
-has_one_answer stem bytes b c d r s h k left right =
-    let same = ends_once b c d (text_steps stem (records_of bytes)) (csv_ending r) (csv_ending s)
+pub has_one_answer : (rules : CsvRules) (stem : Name) (bytes : List ℕ) (b : Building)
+    → HasOneAnswer rules stem bytes b
+has_one_answer rules stem bytes b c d r s h k left right =
+    let same = ends_once b c d (text_steps rules stem bytes) (csv_ending r) (csv_ending s)
     (told r left) (told s right) h k in
     (same.0, sym (answer_back r) ∙ ap answer_of same.1 ∙ answer_back s)

@@ -1,7 +1,8 @@
 // Records of a text, one after another.
 ghost use Rattle.std.specs.Prelude.{◌≡◌, ◌<◌, ◌^◌, IfOk, length, option_map};
-ghost use Rattle.csv.specs.Reading.{strip_bom, default_config, records};
+ghost use Rattle.csv.specs.Reading.{strip_bom, records};
 ghost use Rattle.csv.specs.Records.{fields_of};
+ghost use Rattle.csv_source.specs.Separators.{separated};
 ghost use Rattle.csv_source.specs.Reader.{IsOpen, records_left, bytes_left, GivesFields};
 
 use csv::{ByteRecord, Reader, ReaderBuilder};
@@ -42,15 +43,16 @@ fn length_fits(text: &[u8])
     let _length = text.len();
 }
 
-/// A reader of every record of a text.
-pub(crate) fn reader_of(alloc: Global, text: &[u8]) -> Reader<&[u8]>
+/// A reader of every record of a text, with this byte between fields.
+pub(crate) fn reader_of(alloc: Global, text: &[u8], separator: u8) -> Reader<&[u8]>
     ensures open { IsOpen result }
-    ensures records { records_left result ≡ records default_config (strip_bom text.now) }
+    ensures records { records_left result ≡ records (separated separator) (strip_bom text.now) }
     ensures small { length (bytes_left result) < 2 ^ 64 }
 {
     length_fits(text);
     ReaderBuilder::new()
         .has_headers(false)
         .flexible(true)
+        .delimiter(separator)
         .from_reader(alloc, text)
 }

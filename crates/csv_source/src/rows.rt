@@ -5,16 +5,16 @@ ghost use Rattle.std.specs.Str.{is_utf8};
 ghost use Rattle.sd_graph.specs.Statement.{Building, a_node, a_member, an_edge, IsData};
 ghost use Rattle.sd_graph.specs.Stating.{says, Ends};
 ghost use Rattle.sd_graph.specs.StatingLaws.{ending_at};
-ghost use Rattle.csv_source.specs.Text.{csv_ending, rows_steps, row_steps, row_statements, field_step, field_steps, header_steps};
+ghost use Rattle.csv_source.specs.Text.{csv_ending, rows_steps, row_steps, row_statements, field_step, field_steps, header_steps, fits as fits_header};
 ghost use Rattle.csv_source.specs.Reader.{IsOpen, records_left, bytes_left};
 
 use crate::reader::next_fields;
 use crate::refusal::CsvRefusal;
-use crate::value::value_of_text;
+use crate::rules::CsvRules;
 use csv::Reader;
 use sd_graph::{GraphBuilder, GraphRefusal};
 use sd_value::{Str, Value};
-use source_steps::numbered_name;
+use source_steps::{numbered_name, value_of};
 use std::alloc::Global;
 use std::str;
 
@@ -91,32 +91,34 @@ fn are_texts(fields: &[Str]) -> bool
 // A field of a record: an edge, where it isn't empty.
 fn add_field(
     alloc: Global,
+    rules: CsvRules,
     graph: &mut GraphBuilder,
     row: u64,
     name: &Str,
     label: &Str,
     field: &Str,
 ) -> Result<(), CsvRefusal>
-    ensures { Ends graph.old (field_step row name.now label.now field.now) graph.new
+    ensures { Ends graph.old (field_step rules row name.now label.now field.now) graph.new
         (csv_ending result) }
 {
     if field.bytes().is_empty() {
         return Ok(());
     }
-    let value = value_of_text(alloc, field)?;
+    let value = value_of(alloc, rules.links, field)?;
     state_edge(alloc, graph, row, name, label, &value)
 }
 
 // The fields of a record, each under its column's label.
 fn add_fields(
     alloc: Global,
+    rules: CsvRules,
     graph: &mut GraphBuilder,
     row: u64,
     name: &Str,
     labels: &[Str],
     fields: &[Str],
 ) -> Result<(), CsvRefusal>
-    ensures { Ends graph.old (field_steps row name.now labels.now fields.now) graph.new
+    ensures { Ends graph.old (field_steps rules row name.now labels.now fields.now) graph.new
         (csv_ending result) }
 {
     let mut labels_left = labels;
@@ -125,16 +127,17 @@ fn add_fields(
         let Some((field, more_fields)) = fields_left.split_first() else {
             return Ok(());
         };
-        add_field(alloc, graph, row, name, label, field)?;
+        add_field(alloc, rules, graph, row, name, label, field)?;
         labels_left = more_labels;
         fields_left = more_fields;
     }
     Ok(())
 }
 
-// A record with a field for each label.
+// A record with at most a field for each label.
 fn state_row(
     alloc: Global,
+    rules: CsvRules,
     graph: &mut GraphBuilder,
     stem: &Str,
     name: &Str,
@@ -142,34 +145,43 @@ fn state_row(
     row: u64,
     fields: &[Str],
 ) -> Result<(), CsvRefusal>
-    ensures { Ends graph.old (row_statements stem.now name.now labels.now row fields.now) graph.new
+    ensures { Ends graph.old
+        (row_statements rules stem.now name.now labels.now row fields.now) graph.new
         (csv_ending result) }
 {
     state_node(alloc, graph, row, name)?;
     state_member(alloc, graph, row, stem, name)?;
-    add_fields(alloc, graph, row, name, labels, fields)
+    add_fields(alloc, rules, graph, row, name, labels, fields)
+}
+
+// Whether a record may stand under a header: it has as many fields, or by the rules fewer.
+fn fits(rules: CsvRules, labels: &[Str], fields: &[Str]) -> bool
+    ensures { result ≡ fits_header rules (length labels.now) (length fields.now) }
+{
+    fields.len() == labels.len() || (rules.short_records && fields.len() < labels.len())
 }
 
 // A record under a header.
 fn add_row(
     alloc: Global,
+    rules: CsvRules,
     graph: &mut GraphBuilder,
     stem: &Str,
     labels: &[Str],
     row: u64,
     fields: &[Str],
 ) -> Result<(), CsvRefusal>
-    ensures { Ends graph.old (row_steps stem.now labels.now row fields.now) graph.new
+    ensures { Ends graph.old (row_steps rules stem.now labels.now row fields.now) graph.new
         (csv_ending result) }
 {
-    if fields.len() != labels.len() {
+    if !fits(rules, labels, fields) {
         return Err(CsvRefusal::Ragged(row));
     }
     if !are_texts(fields) {
         return Err(CsvRefusal::NotUtf8(row));
     }
     let name = numbered_name(alloc, stem, row)?;
-    state_row(alloc, graph, stem, &name, labels, row, fields)
+    state_row(alloc, rules, graph, stem, &name, labels, row, fields)
 }
 
 /// The first label that is empty.
@@ -194,6 +206,7 @@ pub(crate) fn check_labels(labels: &[Str]) -> Result<(), CsvRefusal>
 /// The records after the header.
 pub(crate) fn add_rows(
     alloc: Global,
+    rules: CsvRules,
     graph: &mut GraphBuilder,
     stem: &Str,
     labels: &[Str],
@@ -201,12 +214,13 @@ pub(crate) fn add_rows(
 ) -> Result<(), CsvRefusal>
     requires open { IsOpen reader.old }
     requires small { length (bytes_left reader.old) < 2 ^ 64 - 1 }
-    ensures { Ends graph.old (rows_steps stem.now labels.now 1 (records_left reader.old)) graph.new
+    ensures { Ends graph.old
+        (rows_steps rules stem.now labels.now 1 (records_left reader.old)) graph.new
         (csv_ending result) }
 {
     let mut row = 1;
     'rows: while let Some(fields) = next_fields(alloc, reader)? {
-        add_row(alloc, graph, stem, labels, row, fields.as_slice())?;
+        add_row(alloc, rules, graph, stem, labels, row, fields.as_slice())?;
         row += 1;
     }
     Ok(())

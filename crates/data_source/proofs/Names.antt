@@ -5,31 +5,24 @@ use Rattle.std.specs.List.{list_any}
 use Rattle.sd_graph.specs.Statement.{Building}
 use Rattle.sd_ddl.specs.declared.refusal.DdlRefusal.TheVariants as ddl
 use Rattle.csv_source.specs.declared.refusal.CsvRefusal.TheVariants as csv
-use Rattle.csv_source.specs.Text.{text_steps, records_of}
+use Rattle.csv_source.specs.Text as csv_text
 use Rattle.json_source.specs.declared.refusal.JsonRefusal.TheVariants as json
 use Rattle.json_source.specs.Text as json_text
 use Rattle.bibtex_source.specs.declared.refusal.BibRefusal.TheVariants as bib
 use Rattle.bibtex_source.specs.Text as bib_text
-use Rattle.lenient_csv.specs.Text as lenient_csv_text
-use Rattle.lenient_json.specs.Text as lenient_json_text
+use Rattle.data_source.specs.declared.rules.SourceRules.{SourceRules}
 use Rattle.data_source.specs.declared.format.Format.{Format}
 use Rattle.data_source.specs.declared.format.Format.TheVariants.{DataText, Csv, Json, BibTex}
 use Rattle.data_source.specs.declared.refusal.SourceRefusal.TheVariants.{NoMemory}
 use Rattle.data_source.specs.Formats.{is_slash, behind_slashes}
-use Rattle.data_source.specs.Takes.{TakesAs, TakesLenientlyAs}
+use Rattle.data_source.specs.Takes.{TakesAs}
 
 -- out of memory before anything is read
-pub no_memory_first : (format : Format) (limit : ℕ) (bytes : List ℕ) (b : Building) → TakesAs format limit bytes b b (Err NoMemory)
-no_memory_first DataText limit bytes b = (Err ddl.NoMemory, inl refl, refl)
-no_memory_first (Csv stem) limit bytes b = (Err csv.NoMemory, ([], text_steps stem (records_of bytes), refl, refl), refl)
-no_memory_first (Json stem) limit bytes b = (Err json.NoMemory, ([], json_text.text_steps stem bytes, refl, refl), refl)
-no_memory_first (BibTex stem) limit bytes b = (Err bib.NoMemory, ([], bib_text.text_steps stem bytes, refl, refl), refl)
-
-pub no_memory_leniently : (format : Format) (limit : ℕ) (bytes : List ℕ) (b : Building) → TakesLenientlyAs format limit bytes b b (Err NoMemory)
-no_memory_leniently DataText limit bytes b = (Err ddl.NoMemory, inl refl, refl)
-no_memory_leniently (Csv stem) limit bytes b = (Err csv.NoMemory, ([], lenient_csv_text.lenient_steps stem bytes, refl, refl), refl)
-no_memory_leniently (Json stem) limit bytes b = (Err json.NoMemory, ([], lenient_json_text.lenient_steps stem bytes, refl, refl), refl)
-no_memory_leniently (BibTex stem) limit bytes b = (Err bib.NoMemory, ([], bib_text.text_steps stem bytes, refl, refl), refl)
+pub no_memory_first : (rules : SourceRules) (format : Format) (limit : ℕ) (bytes : List ℕ) (b : Building) → TakesAs rules format limit bytes b b (Err NoMemory)
+no_memory_first rules DataText limit bytes b = (Err ddl.NoMemory, inl refl, refl)
+no_memory_first rules (Csv stem) limit bytes b = (Err csv.NoMemory, ([], csv_text.text_steps rules.csv stem bytes, refl, refl), refl)
+no_memory_first rules (Json stem) limit bytes b = (Err json.NoMemory, ([], json_text.text_steps rules.json stem bytes, refl, refl), refl)
+no_memory_first rules (BibTex stem) limit bytes b = (Err bib.NoMemory, ([], bib_text.text_steps stem bytes, refl, refl), refl)
 
 -- the name, where the bytes of the rest are still to be seen
 abbrev pub name_so_far : List ℕ → List ℕ → List ℕ

@@ -1,7 +1,8 @@
 -- The format that a path reports.
-use Rattle.std.specs.Prelude.{◌-◌, ◌||◌, ℕ, Bool, nat_eq, List, [], ◌∷◌, length, drop, take, codes, if◌then◌else◌}
+use Rattle.std.specs.Prelude.{◌-◌, ◌&&◌, ◌||◌, ℕ, Bool, nat_eq, List, [], ◌∷◌, length, drop, take, codes, if◌then◌else◌}
 use Rattle.std.specs.List.{list_any}
 use Rattle.std.specs.Cmp.Lexicographic.{pointwise}
+use Rattle.data_source.specs.declared.rules.SourceRules.{SourceRules}
 use Rattle.data_source.specs.declared.format.Format.{Format}
 use Rattle.data_source.specs.declared.format.Format.TheVariants.{DataText, Csv, Json, BibTex}
 
@@ -21,23 +22,16 @@ ends_with path suffix = pointwise nat_eq (drop (length path - length suffix) pat
 abbrev pub stem_of : List ℕ → List ℕ → List ℕ
 stem_of path suffix = behind_slashes (take (length path - length suffix) path)
 
-abbrev pub format_of : List ℕ → Format
-format_of path =
-    if ends_with path (codes ".csv") then Csv (stem_of path (codes ".csv"))
-    else if ends_with path (codes ".json") then Json (stem_of path (codes ".json"))
-    else if ends_with path (codes ".bib") then BibTex (stem_of path (codes ".bib"))
-    else DataText
+-- whether the path ends so, or by the rules in capitals
+abbrev pub ends_in : SourceRules → List ℕ → (small capital : List ℕ) → Bool
+ends_in rules path small capital =
+    ends_with path small || (rules.capitals && ends_with path capital)
 
--- the ends of paths in capitals count as the small ones
-abbrev pub ends_with_either : List ℕ → List ℕ → List ℕ → Bool
-ends_with_either path small capital = ends_with path small || ends_with path capital
-
--- the format that a path reports where the file is read leniently
-abbrev pub lenient_format_of : List ℕ → Format
-lenient_format_of path =
-    if ends_with_either path (codes ".csv") (codes ".CSV") then Csv (stem_of path (codes ".csv"))
-    else if ends_with_either path (codes ".json") (codes ".JSON")
+abbrev pub format_of : SourceRules → List ℕ → Format
+format_of rules path =
+    if ends_in rules path (codes ".csv") (codes ".CSV") then Csv (stem_of path (codes ".csv"))
+    else if ends_in rules path (codes ".json") (codes ".JSON")
     then Json (stem_of path (codes ".json"))
-    else if ends_with_either path (codes ".bib") (codes ".BIB")
+    else if ends_in rules path (codes ".bib") (codes ".BIB")
     then BibTex (stem_of path (codes ".bib"))
     else DataText

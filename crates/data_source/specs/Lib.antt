@@ -1,3 +1,4 @@
+pub mod Rules
 pub mod Formats
 pub mod Told
 pub mod Takes

@@ -5,6 +5,7 @@ use Rattle.graph_spec.specs.DataGraph.{Name}
 use Rattle.sd_graph.specs.Statement.{Building}
 use Rattle.sd_graph.specs.Stating.{Ending, done, fault, too_many_nodes, too_many_edges, no_memory}
 use Rattle.source_steps.specs.Once.{IsTold, ends_once}
+use Rattle.json_source.specs.declared.rules.JsonRules.{JsonRules}
 use Rattle.json_source.specs.declared.refusal.JsonRefusal.{JsonRefusal}
 use Rattle.json_source.specs.declared.refusal.JsonRefusal.TheVariants.{NotJson, NotInteger, NotRecords, TooManyEdges}
 use Rattle.json_source.specs.declared.refusal.JsonRefusal.TheVariants.{TooManyNodes, NoMemory}
@@ -38,8 +39,9 @@ told (Err (TooManyEdges k)) h = tt
 told (Err (TooManyNodes k)) h = tt
 told (Err NoMemory) h = h refl
 
-pub has_one_answer : (stem : Name) (bytes : List ℕ) (b : Building) → HasOneAnswer stem bytes b
-has_one_answer stem bytes b c d r s h k left right =
-    let same = ends_once b c d (text_steps stem bytes) (json_ending r) (json_ending s)
+pub has_one_answer : (rules : JsonRules) (stem : Name) (bytes : List ℕ) (b : Building)
+    → HasOneAnswer rules stem bytes b
+has_one_answer rules stem bytes b c d r s h k left right =
+    let same = ends_once b c d (text_steps rules stem bytes) (json_ending r) (json_ending s)
     (told r left) (told s right) h k in
     (same.0, sym (answer_back r) ∙ ap answer_of same.1 ∙ answer_back s)

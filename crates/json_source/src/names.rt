@@ -9,7 +9,7 @@ use std::alloc::{AllocError, Global};
 use token_writer::put_number;
 
 /// An item's place.
-pub fn place_of_item(alloc: Global, at: &Str, index: u64) -> Result<Str, NoMemory>
+pub(crate) fn place_of_item(alloc: Global, at: &Str, index: u64) -> Result<Str, NoMemory>
     ensures { IfOk result (λ s. s ≡ item_place at.now index) }
 {
     let mut place = Vec::from_slice(alloc, at.bytes())?;
@@ -80,7 +80,7 @@ fn push_name_key(out: &mut Vec<u8>, key: &[u8]) -> Result<(), AllocError>
 }
 
 /// A member's place.
-pub fn place_of_member(alloc: Global, at: &Str, key: &Str) -> Result<Str, NoMemory>
+pub(crate) fn place_of_member(alloc: Global, at: &Str, key: &Str) -> Result<Str, NoMemory>
     ensures { IfOk result (λ s. s ≡ member_place at.now key.now) }
 {
     let mut place = Vec::from_slice(alloc, at.bytes())?;
@@ -90,7 +90,7 @@ pub fn place_of_member(alloc: Global, at: &Str, key: &Str) -> Result<Str, NoMemo
 }
 
 /// The name of an object that is a member.
-pub fn name_of_member(alloc: Global, name: &Str, key: &Str) -> Result<Str, NoMemory>
+pub(crate) fn name_of_member(alloc: Global, name: &Str, key: &Str) -> Result<Str, NoMemory>
     ensures { IfOk result (λ s. s ≡ member_name name.now key.now) }
 {
     let mut member = Vec::from_slice(alloc, name.bytes())?;

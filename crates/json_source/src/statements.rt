@@ -4,13 +4,15 @@ ghost use Rattle.sd_graph.specs.Statement.{a_node, a_member, an_edge, IsData};
 ghost use Rattle.sd_graph.specs.Stating.{says, Ends};
 ghost use Rattle.sd_graph.specs.StatingLaws.{ending_at};
 ghost use Rattle.sd_value.specs.declared.Value.TheVariants.{Data as a_datum};
-ghost use Rattle.sd_value.specs.declared.Datum.TheVariants.{Text as a_text, Node as a_node_value};
+ghost use Rattle.sd_value.specs.declared.Datum.TheVariants.{Node as a_node_value};
+ghost use Rattle.source_steps.specs.Links.{text_value as value_of_text};
 ghost use Rattle.json_source.specs.Text.{json_ending, number_steps};
 ghost use Rattle.json_source.specs.declared.refusal.JsonRefusal.TheVariants.{NoMemory as OutOfMemory};
 
 use crate::refusal::JsonRefusal;
 use sd_graph::{GraphBuilder, GraphRefusal};
 use sd_value::{Datum, Str, Value};
+use source_steps::text_value;
 use std::alloc::Global;
 
 // The answer to an addition at a place.
@@ -26,9 +28,9 @@ fn at_place(alloc: Global, answer: Result<(), GraphRefusal>, at: &Str) -> Result
     }
 }
 
-/// An edge.
+// An edge.
 #[tactic(auto, using(crate::proofs::Steps::stated))]
-pub fn state_edge(
+fn state_edge(
     alloc: Global,
     graph: &mut GraphBuilder,
     at: &Str,
@@ -43,9 +45,10 @@ pub fn state_edge(
     at_place(alloc, graph.add_edge(alloc, node, label, value), at)
 }
 
-/// An edge to a text.
-pub fn state_text(
+/// An edge to a text, or to a URL if links are URLs and it is one.
+pub(crate) fn state_text(
     alloc: Global,
+    links: bool,
     graph: &mut GraphBuilder,
     at: &Str,
     node: &Str,
@@ -53,15 +56,15 @@ pub fn state_text(
     text: &[u8],
 ) -> Result<(), JsonRefusal>
     ensures { Ends graph.old
-        (says at.now (an_edge node.now label.now (a_datum (a_text text.now))) ∷ []) graph.new
+        (says at.now (an_edge node.now label.now (value_of_text links text.now)) ∷ []) graph.new
         (json_ending result) }
 {
-    let value = Value::Data(Datum::Text(Str::new(alloc, text)?));
+    let value = text_value(links, Str::new(alloc, text)?);
     state_edge(alloc, graph, at, node, label, &value)
 }
 
 /// An edge to another node.
-pub fn state_child(
+pub(crate) fn state_child(
     alloc: Global,
     graph: &mut GraphBuilder,
     at: &Str,
@@ -79,7 +82,7 @@ pub fn state_child(
 
 /// A node.
 #[tactic(auto, using(crate::proofs::Steps::stated))]
-pub fn state_node(
+pub(crate) fn state_node(
     alloc: Global,
     graph: &mut GraphBuilder,
     at: &Str,
@@ -92,7 +95,7 @@ pub fn state_node(
 
 /// A member of a collection.
 #[tactic(auto, using(crate::proofs::Steps::stated))]
-pub fn state_member(
+pub(crate) fn state_member(
     alloc: Global,
     graph: &mut GraphBuilder,
     at: &Str,
@@ -106,7 +109,7 @@ pub fn state_member(
 }
 
 /// An edge to a number, where it is an integer of 64 bits.
-pub fn state_number(
+pub(crate) fn state_number(
     alloc: Global,
     graph: &mut GraphBuilder,
     at: &Str,

@@ -5,6 +5,7 @@ ghost use Rattle.json_source.specs.Text.{json_ending, value_steps, items_steps, 
 
 use crate::names::{name_of_member, place_of_item, place_of_member};
 use crate::refusal::JsonRefusal;
+use crate::rules::JsonRules;
 use crate::statements::{state_child, state_number, state_text};
 use sd_graph::GraphBuilder;
 use sd_value::Str;
@@ -17,6 +18,7 @@ use std::alloc::Global;
 fn add_value(
     value: &Json,
     alloc: Global,
+    rules: JsonRules,
     graph: &mut GraphBuilder,
     at: &Str,
     node: &Str,
@@ -24,19 +26,27 @@ fn add_value(
     child: &Str,
 ) -> Result<(), JsonRefusal>
     ensures { Ends graph.old
-        (value_steps at.now node.now label.now child.now (view value.now)) graph.new
+        (value_steps rules at.now node.now label.now child.now (view value.now)) graph.new
         (json_ending result) }
 {
     match value {
         Json::Null => Ok(()),
-        Json::Bool(true) => state_text(alloc, graph, at, node, label, b"true"),
-        Json::Bool(false) => state_text(alloc, graph, at, node, label, b"false"),
+        Json::Bool(true) => state_text(alloc, false, graph, at, node, label, b"true"),
+        Json::Bool(false) => state_text(alloc, false, graph, at, node, label, b"false"),
         Json::Number(number) => state_number(alloc, graph, at, node, label, number.as_i64()),
-        Json::String(text) => state_text(alloc, graph, at, node, label, text.as_bytes()),
-        Json::Array(items) => add_items(items, alloc, graph, at, node, label, child),
+        Json::String(text) => state_text(
+            alloc,
+            rules.links,
+            graph,
+            at,
+            node,
+            label,
+            text.as_bytes(),
+        ),
+        Json::Array(items) => add_items(items, alloc, rules, graph, at, node, label, child),
         Json::Object(members) => {
             state_child(alloc, graph, at, node, label, child)?;
-            add_members(members, alloc, graph, at, child)
+            add_members(members, alloc, rules, graph, at, child)
         }
     }
 }
@@ -46,6 +56,7 @@ fn add_value(
 fn add_items(
     items: &Vec<Json>,
     alloc: Global,
+    rules: JsonRules,
     graph: &mut GraphBuilder,
     at: &Str,
     node: &Str,
@@ -53,15 +64,15 @@ fn add_items(
     child: &Str,
 ) -> Result<(), JsonRefusal>
     ensures { Ends graph.old
-        (items_steps at.now node.now label.now child.now 0 (items_view items.now.items)) graph.new
-        (json_ending result) }
+        (items_steps rules at.now node.now label.now child.now 0 (items_view items.now.items))
+        graph.new (json_ending result) }
 {
     let mut index: u64 = 0;
     for item in items {
         let place = place_of_item(alloc, at, index)?;
         index += 1;
         let name = numbered_name(alloc, child, index)?;
-        add_value(item, alloc, graph, &place, node, label, &name)?;
+        add_value(item, alloc, rules, graph, &place, node, label, &name)?;
     }
     Ok(())
 }
@@ -71,19 +82,20 @@ fn add_items(
 pub(crate) fn add_members(
     members: &Map<String, Json>,
     alloc: Global,
+    rules: JsonRules,
     graph: &mut GraphBuilder,
     at: &Str,
     node: &Str,
 ) -> Result<(), JsonRefusal>
     ensures { Ends graph.old
-        (members_steps at.now node.now (members_view members.now.entries)) graph.new
+        (members_steps rules at.now node.now (members_view members.now.entries)) graph.new
         (json_ending result) }
 {
     for (key, member) in members.iter() {
         let label = Str::new(alloc, key.as_bytes())?;
         let place = place_of_member(alloc, at, &label)?;
         let name = name_of_member(alloc, node, &label)?;
-        add_value(member, alloc, graph, &place, node, &label, &name)?;
+        add_value(member, alloc, rules, graph, &place, node, &label, &name)?;
     }
     Ok(())
 }

@@ -1,11 +1,14 @@
 -- The bytes of the inputs decide one end of each of them.
 use Rattle.std.proofs.Common.{◌≡◌, ℕ, List, [], ◌∷◌, sym, ap, ◌∙◌, arith}
-use Rattle.std.specs.Prelude.{Bool, true, false, Result, Ok, Err, Option, Some, None, ⊤}
+use Rattle.std.specs.Prelude.{Result, Ok, Err, Option, Some, None, ⊤}
 use Rattle.std.specs.Option.{IsSomeAnd}
 use Rattle.edge_io.specs.Files.{FileMap}
 use Rattle.sd_graph.specs.Statement.{Building}
 use Rattle.data_source.specs.declared.refusal.SourceRefusal.{SourceRefusal}
 use Rattle.data_source.specs.declared.refusal.SourceRefusal.TheVariants as source
+use Rattle.data_source.specs.Rules.{rules_of}
+use Rattle.data_source.specs.Takes.{Takes}
+use Rattle.data_source.specs.declared.rules.SourceRules.{SourceRules}
 use Rattle.data_source.proofs.Files as source_law
 use Rattle.query_spec.specs.Query as plain
 use Rattle.token_reader.specs.declared.refusal.TextRefusal.TheVariants as text
@@ -27,7 +30,7 @@ use Rattle.site_inputs.specs.declared.told.NumberedFault.{NumberedFault}
 use Rattle.site_inputs.specs.Runs.{FileEnds, IsDecided, Decides}
 use Rattle.command_spec.specs.Limits.{data_limit}
 use Rattle.command_spec.specs.declared.DataFiles.{DataFiles}
-use Rattle.site_inputs.specs.Sources.{empty_building, IsRefusedFor, TakesIn, TextTaken, SourceEnds, FilesEnd, GraphEnds}
+use Rattle.site_inputs.specs.Sources.{empty_building, IsRefusedFor, TextTaken, SourceEnds, FilesEnd, GraphEnds}
 use Rattle.command_spec.specs.Limits.{text_limit}
 use Rattle.site_inputs.specs.Sites.{query_told, QueryTaken, QueryEnds, DataInputsEnd, TemplatesTaken, TemplatesEnd, InputsEnd, inputs_with, templates_told}
 use Rattle.site_inputs.proofs.Decided.{then_decides, gives_decides}
@@ -93,26 +96,25 @@ whole_refusal f g files same =
     let places : f.place ≡ g.place = cc in
     λ i. record { file = files i; number = numbers i; place = places i }
 
--- one answer of a data file, however it is read
-one_answer : (lenient : Bool) (path bytes : List ℕ) (b c d : Building) (r s : Result ⊤ SourceRefusal) → TakesIn lenient path bytes b c r → TakesIn lenient path bytes b d s
+-- one answer of a data file, by any rules
+one_answer : (rules : SourceRules) (path bytes : List ℕ) (b c d : Building) (r s : Result ⊤ SourceRefusal) → Takes rules path data_limit bytes b c r → Takes rules path data_limit bytes b d s
     → (r ≡ Err source.NoMemory → ⊥) → (s ≡ Err source.NoMemory → ⊥) → (c ≡ d) × (r ≡ s)
-one_answer false path bytes b c d r s = source_law.one_answer path data_limit bytes b c d r s
-one_answer true path bytes b c d r s = source_law.one_lenient_answer path data_limit bytes b c d r s
+one_answer rules path bytes b c d r s = source_law.one_answer rules path data_limit bytes b c d r s
 
-module _ (lenient : Bool) (path : List ℕ) (b : Building) (bytes : List ℕ) where
-  taken_or_refused : (c : Building) (g : Refusal) → TextTaken lenient path b bytes (Ok c) → IsRefusedFor lenient path b bytes g → ⊥
+module _ (rules : SourceRules) (path : List ℕ) (b : Building) (bytes : List ℕ) where
+  taken_or_refused : (c : Building) (g : Refusal) → TextTaken rules path b bytes (Ok c) → IsRefusedFor rules path b bytes g → ⊥
   taken_or_refused c g s r =
       no_err (Unit {0}) SourceRefusal tt (source.Refused g.number g.place)
-      (one_answer lenient path bytes b c r.left (Ok tt) (Err (source.Refused g.number g.place)) s r.takes taken_settled (refused_settled g.number g.place)).1
+      (one_answer rules path bytes b c r.left (Ok tt) (Err (source.Refused g.number g.place)) s r.takes taken_settled (refused_settled g.number g.place)).1
 
-  one_refusal : (f g : Refusal) → IsRefusedFor lenient path b bytes f → IsRefusedFor lenient path b bytes g → f ≡ g
+  one_refusal : (f g : Refusal) → IsRefusedFor rules path b bytes f → IsRefusedFor rules path b bytes g → f ≡ g
   one_refusal f g r q =
       whole_refusal f g (r.its ∙ sym q.its)
       (err_is (Unit {0}) SourceRefusal (source.Refused f.number f.place) (source.Refused g.number g.place)
-      (one_answer lenient path bytes b r.left q.left (Err (source.Refused f.number f.place)) (Err (source.Refused g.number g.place)) r.takes q.takes (refused_settled f.number f.place) (refused_settled g.number g.place)).1)
+      (one_answer rules path bytes b r.left q.left (Err (source.Refused f.number f.place)) (Err (source.Refused g.number g.place)) r.takes q.takes (refused_settled f.number f.place) (refused_settled g.number g.place)).1)
 
-  text_once : (one other : Result Building Fault) → TextTaken lenient path b bytes one → TextTaken lenient path b bytes other → IsDecided one → IsDecided other → one ≡ other
-  text_once (Ok c) (Ok d) s t _ _ = ap Ok (one_answer lenient path bytes b c d (Ok tt) (Ok tt) s t taken_settled taken_settled).0
+  text_once : (one other : Result Building Fault) → TextTaken rules path b bytes one → TextTaken rules path b bytes other → IsDecided one → IsDecided other → one ≡ other
+  text_once (Ok c) (Ok d) s t _ _ = ap Ok (one_answer rules path bytes b c d (Ok tt) (Ok tt) s t taken_settled taken_settled).0
   text_once (Ok c) (Err (Refused g)) s r _ _ = absurd (taken_or_refused c g s r)
   text_once (Err (Refused f)) (Ok d) r t _ _ = absurd (taken_or_refused d f t r)
   text_once (Err (Refused f)) (Err (Refused g)) r q _ _ = ap (λ x. Err (Refused x)) (one_refusal f g r q)
@@ -125,15 +127,15 @@ module _ (lenient : Bool) (path : List ℕ) (b : Building) (bytes : List ℕ) wh
   text_once one (Err NotFound) s t d e = absurd t
   text_once one (Err (Faulty term kind)) s t d e = absurd t
 
-files_decide : (lenient : Bool) (map : FileMap) (b : Building) (paths : List (List ℕ)) → Decides (FilesEnd lenient map b paths)
-files_decide lenient map b [] = gives_decides b.graph
-files_decide lenient map b (path ∷ paths) =
-    then_decides (SourceEnds lenient map path b) (λ c. FilesEnd lenient map c paths)
-    (then_decides (FileEnds data_limit map path) (TextTaken lenient path b) (file_decides data_limit map path) (λ bytes. record { once = text_once lenient path b bytes }))
-    (λ c. files_decide lenient map c paths)
+files_decide : (rules : SourceRules) (map : FileMap) (b : Building) (paths : List (List ℕ)) → Decides (FilesEnd rules map b paths)
+files_decide rules map b [] = gives_decides b.graph
+files_decide rules map b (path ∷ paths) =
+    then_decides (SourceEnds rules map path b) (λ c. FilesEnd rules map c paths)
+    (then_decides (FileEnds data_limit map path) (TextTaken rules path b) (file_decides data_limit map path) (λ bytes. record { once = text_once rules path b bytes }))
+    (λ c. files_decide rules map c paths)
 
 pub graph_decides : (map : FileMap) (b : Building) (sources : DataFiles) → Decides (GraphEnds map b sources)
-graph_decides map b sources = files_decide sources.lenient map b sources.paths
+graph_decides map b sources = files_decide (rules_of sources.lenient) map b sources.paths
 
 -- ---- queries
 

@@ -1,10 +1,12 @@
 -- Reading the inputs of a site ends with no fault of a page.
 use Rattle.std.proofs.Common.{ℕ, List, [], ◌∷◌, inl, inr}
-use Rattle.std.specs.Prelude.{Bool, Result, Err, Option, None, Some, ⊤}
+use Rattle.std.specs.Prelude.{Result, Err, Option, None, Some, ⊤}
 use Rattle.edge_io.specs.Files.{FileMap}
 use Rattle.graph_spec.specs.DataGraph.{DataGraph}
 use Rattle.query_spec.specs.Query as plain
 use Rattle.sd_graph.specs.Statement.{Building}
+use Rattle.data_source.specs.Rules.{rules_of}
+use Rattle.data_source.specs.declared.rules.SourceRules.{SourceRules}
 use Rattle.site_inputs.specs.declared.fault.Fault.{Fault}
 use Rattle.site_inputs.specs.declared.fault.Fault.TheVariants.{Refused, Unread, Faulty, NotFound, NoMemory}
 use Rattle.site_inputs.specs.Runs.{Then, EndsWith, FileEnds}
@@ -51,10 +53,10 @@ file_none limit map path = record { none = by }
     by (Unread path) p e = p
     by NoMemory p e = p
 
-text_none : (lenient : Bool) (path : List ℕ) (b : Building) (bytes : List ℕ) → NoPageFault (TextTaken lenient path b bytes)
-text_none lenient path b bytes = record { none = by }
+text_none : (rules : SourceRules) (path : List ℕ) (b : Building) (bytes : List ℕ) → NoPageFault (TextTaken rules path b bytes)
+text_none rules path b bytes = record { none = by }
   where
-    by : (fault : Fault) → IsOfPage fault → TextTaken lenient path b bytes (Err fault) → ⊥
+    by : (fault : Fault) → IsOfPage fault → TextTaken rules path b bytes (Err fault) → ⊥
     by (Faulty term kind) p e = e
     by NotFound p e = e
     by (Refused refusal) p e = p
@@ -81,15 +83,15 @@ templates_none path bytes = record { none = by }
     by (Unread path) p e = p
     by NoMemory p e = p
 
-source_none : (lenient : Bool) (map : FileMap) (path : List ℕ) (b : Building) → NoPageFault (SourceEnds lenient map path b)
-source_none lenient map path b = then_none (FileEnds data_limit map path) (TextTaken lenient path b) (file_none data_limit map path) (λ bytes. text_none lenient path b bytes)
+source_none : (rules : SourceRules) (map : FileMap) (path : List ℕ) (b : Building) → NoPageFault (SourceEnds rules map path b)
+source_none rules map path b = then_none (FileEnds data_limit map path) (TextTaken rules path b) (file_none data_limit map path) (λ bytes. text_none rules path b bytes)
 
-files_none : (lenient : Bool) (map : FileMap) (b : Building) (paths : List (List ℕ)) → NoPageFault (FilesEnd lenient map b paths)
-files_none lenient map b [] = gives_none b.graph
-files_none lenient map b (path ∷ paths) = then_none (SourceEnds lenient map path b) (λ c. FilesEnd lenient map c paths) (source_none lenient map path b) (λ c. files_none lenient map c paths)
+files_none : (rules : SourceRules) (map : FileMap) (b : Building) (paths : List (List ℕ)) → NoPageFault (FilesEnd rules map b paths)
+files_none rules map b [] = gives_none b.graph
+files_none rules map b (path ∷ paths) = then_none (SourceEnds rules map path b) (λ c. FilesEnd rules map c paths) (source_none rules map path b) (λ c. files_none rules map c paths)
 
 graph_none : (map : FileMap) (b : Building) (sources : DataFiles) → NoPageFault (GraphEnds map b sources)
-graph_none map b sources = files_none sources.lenient map b sources.paths
+graph_none map b sources = files_none (rules_of sources.lenient) map b sources.paths
 
 query_file_none : (map : FileMap) (path : List ℕ) → NoPageFault (QueryEnds map path)
 query_file_none map path = then_none (FileEnds text_limit map path) (QueryTaken path) (file_none text_limit map path) (λ bytes. query_none path bytes)

@@ -1,12 +1,13 @@
 -- The data files, taken one after another, and the union of what they state.
-use Rattle.std.specs.Prelude.{◌≡◌, ℕ, Bool, true, false, List, [], ◌∷◌, Result, Ok, Err, ⊤}
+use Rattle.std.specs.Prelude.{◌≡◌, ℕ, List, [], ◌∷◌, Result, Ok, Err, ⊤}
 use Rattle.edge_io.specs.Files.{FileMap}
 use Rattle.command_spec.specs.Limits.{data_limit, node_limit, edge_limit}
 use Rattle.command_spec.specs.declared.DataFiles.{DataFiles}
 use Rattle.graph_spec.specs.DataGraph.{DataGraph}
 use Rattle.sd_graph.specs.Statement.{Building}
-use Rattle.data_source.specs.Takes.{Takes, TakesLeniently}
-use Rattle.data_source.specs.declared.refusal.SourceRefusal.{SourceRefusal}
+use Rattle.data_source.specs.Rules.{rules_of}
+use Rattle.data_source.specs.Takes.{Takes}
+use Rattle.data_source.specs.declared.rules.SourceRules.{SourceRules}
 use Rattle.data_source.specs.declared.refusal.SourceRefusal.TheVariants as source
 use Rattle.site_inputs.specs.declared.fault.Fault.{Fault}
 use Rattle.site_inputs.specs.declared.fault.Fault.TheVariants.{Refused, NoMemory}
@@ -20,24 +21,18 @@ empty_building = record {
   graph = record { nodes = []; edges = []; members = [] };
 }
 
--- the bytes of the file of this path are read by the strict rules, or leniently
-abbrev pub TakesIn : (lenient : Bool) → List ℕ → List ℕ → Building → Building
-    → Result ⊤ SourceRefusal → Type 0
-TakesIn false path bytes b c result = Takes path data_limit bytes b c result
-TakesIn true path bytes b c result = TakesLeniently path data_limit bytes b c result
-
-module _ (lenient : Bool) where
+module _ (rules : SourceRules) where
   -- the file is refused for this, and leaves some graph
   pub record IsRefusedFor (path : List ℕ) (b : Building) (bytes : List ℕ)
       (refusal : Refusal) : Type 0 where
     pub left : Building
-    pub takes : TakesIn lenient path bytes b left (Err (source.Refused refusal.number refusal.place))
+    pub takes : Takes rules path data_limit bytes b left (Err (source.Refused refusal.number refusal.place))
     pub its : refusal.file ≡ path
 
   -- How the bytes of a data file end, behind what the files before it state: with the graph that has what they state
   -- too, or refused. They are read by the format that the end of the path reports.
   abbrev pub TextTaken : List ℕ → Building → List ℕ → Result Building Fault → Type 0
-  TextTaken path b bytes (Ok c) = TakesIn lenient path bytes b c (Ok tt)
+  TextTaken path b bytes (Ok c) = Takes rules path data_limit bytes b c (Ok tt)
   TextTaken path b bytes (Err (Refused refusal)) = IsRefusedFor path b bytes refusal
   TextTaken path b bytes (Err NoMemory) = ⊤
   TextTaken path b bytes (Err fault) = ⊥
@@ -53,7 +48,7 @@ module _ (lenient : Bool) where
 
 -- How the data files of a command end: each is read as the command says.
 abbrev pub GraphEnds : FileMap → Building → DataFiles → Result DataGraph Fault → Type 0
-GraphEnds map b files = FilesEnd files.lenient map b files.paths
+GraphEnds map b files = FilesEnd (rules_of files.lenient) map b files.paths
 
 -- the building that a file leaves, with how it ended
 abbrev pub with_building : Building → Result ⊤ Fault → Result Building Fault

@@ -2,12 +2,12 @@
 ghost use Rattle.std.specs.Prelude.{◌≡◌, ◌⊎◌, ◌<◌, ◌^◌, ◌∷◌, [], ℕ, length, Ok, Err, ⊤, Result};
 ghost use Rattle.std.specs.Option.{ForSome};
 ghost use Rattle.site_inputs.specs.Runs.{FileEnds, ReadsHaveCause};
-ghost use Rattle.site_inputs.specs.Sources.{TakesIn, TextTaken, SourceEnds, FilesEnd, GraphEnds, empty_building};
+ghost use Rattle.site_inputs.specs.Sources.{TextTaken, SourceEnds, FilesEnd, GraphEnds, empty_building};
 ghost use Rattle.site_inputs.specs.Sources.{graph_result, with_building};
 
 use crate::fault::{Fault, refused, unread};
 use command_spec::{DATA_LIMIT, DataFiles};
-use data_source::{SourceRefusal, read_source, read_source_leniently};
+use data_source::{SourceRefusal, SourceRules, read_source};
 use edge_io::{Files, ReadEnd};
 use run_report::Place;
 use sd_graph::{Graph, GraphBuilder, PROGRAM_LIMITS};
@@ -40,34 +40,17 @@ pub fn read_file<F: Files>(
     }
 }
 
-// Adds what the bytes of a data file state to the graph, read by the strict rules or leniently.
-fn read_in(
-    alloc: Global,
-    lenient: bool,
-    path: &Str,
-    bytes: &[u8],
-    graph: &mut GraphBuilder,
-) -> Result<(), SourceRefusal>
-    ensures { TakesIn lenient path.now bytes.now graph.old graph.new result }
-{
-    if lenient {
-        read_source_leniently(alloc, path, bytes, DATA_LIMIT, graph)
-    } else {
-        read_source(alloc, path, bytes, DATA_LIMIT, graph)
-    }
-}
-
 // Takes what the bytes of a data file state into the graph, read by the format that the path reports.
 fn take_text(
     alloc: Global,
-    lenient: bool,
+    rules: SourceRules,
     path: &Str,
     bytes: &[u8],
     graph: &mut GraphBuilder,
 ) -> Result<(), Fault>
-    ensures { TextTaken lenient path.now graph.old bytes.now (with_building graph.new result) }
+    ensures { TextTaken rules path.now graph.old bytes.now (with_building graph.new result) }
 {
-    match read_in(alloc, lenient, path, bytes, graph) {
+    match read_source(alloc, rules, path, bytes, DATA_LIMIT, graph) {
         Ok(()) => Ok(()),
         Err(SourceRefusal::Refused { number, place }) => Err(refused(alloc, path, number, place)),
         Err(SourceRefusal::NoMemory) => Err(Fault::NoMemory),
@@ -78,30 +61,30 @@ fn take_text(
 fn take_source<F: Files>(
     alloc: Global,
     files: &mut F,
-    lenient: bool,
+    rules: SourceRules,
     path: &Str,
     graph: &mut GraphBuilder,
 ) -> Result<(), Fault>
     ensures ends { ForSome (F.contents files.old) (λ map.
-        SourceEnds lenient map path.now graph.old (with_building graph.new result)) }
+        SourceEnds rules map path.now graph.old (with_building graph.new result)) }
     ensures same { F.contents files.new ≡ F.contents files.old }
     ensures cause { ReadsHaveCause (path.now ∷ [])
         (F.failed_reads files.old) (F.failed_reads files.new) result }
     ensures writes { F.failed_writes files.new ≡ F.failed_writes files.old }
 {
     let bytes = read_file(alloc, files, path, DATA_LIMIT)?;
-    take_text(alloc, lenient, path, bytes.bytes(), graph)
+    take_text(alloc, rules, path, bytes.bytes(), graph)
 }
 
 // What the files at these paths state together, gathered.
 fn gather_files<F: Files>(
     alloc: Global,
     files: &mut F,
-    lenient: bool,
+    rules: SourceRules,
     paths: &[Str],
 ) -> Result<GraphBuilder, Fault>
     ensures ends { ForSome (F.contents files.old) (λ map.
-        FilesEnd lenient map empty_building paths.now (graph_result result)) }
+        FilesEnd rules map empty_building paths.now (graph_result result)) }
     ensures same { F.contents files.new ≡ F.contents files.old }
     ensures cause { ReadsHaveCause paths.now
         (F.failed_reads files.old) (F.failed_reads files.new) result }
@@ -109,7 +92,7 @@ fn gather_files<F: Files>(
 {
     let mut graph = GraphBuilder::new(alloc, PROGRAM_LIMITS);
     for path in paths {
-        take_source(alloc, files, lenient, path, &mut graph)?;
+        take_source(alloc, files, rules, path, &mut graph)?;
     }
     Ok(graph)
 }
@@ -129,7 +112,8 @@ pub(crate) fn gather<F: Files>(
         (F.failed_reads files.old) (F.failed_reads files.new) result }
     ensures writes { F.failed_writes files.new ≡ F.failed_writes files.old }
 {
-    gather_files(alloc, files, sources.lenient, sources.paths.items())
+    let rules = SourceRules::of(sources.lenient);
+    gather_files(alloc, files, rules, sources.paths.items())
 }
 
 /// The union of what the data files state.

@@ -1,2 +1,4 @@
 pub mod Names
+pub mod Links
+pub mod Fields
 pub mod Once

@@ -5,4 +5,4 @@ use Rattle.json_source.proofs.read_json.Goals as goal
 pub returns-in_err-value : goal.returns-in_err-value
 returns-in_err-value c =
     let p = err_from_is_err_and c.from_residual.result c.from_residual.ensures.1 in
-    rw (p.1, p.2) (unread c.args.graph.now c.args.stem.now c.args.bytes.now c.in_err-value.field-0.0 c.in_err-value.ensures.fault)
+    rw (p.1, p.2) (unread c.args.rules c.args.graph.now c.args.stem.now c.args.bytes.now c.in_err-value.field-0.0 c.in_err-value.ensures.fault)

@@ -1,8 +1,7 @@
 // Whole texts in CSV, read strictly or leniently, with answers worked out by hand.
 use super::graphs::{check_graph, graph_for};
 use crate::checks::check;
-use csv_source::{CsvRefusal, read_csv};
-use lenient_csv::read_lenient_csv;
+use csv_source::{CsvRefusal, CsvRules, read_csv};
 use sd_value::Str;
 use std::alloc::Global;
 use std::test::Fail;
@@ -14,7 +13,7 @@ struct Row {
     stem: &'static str,
     nodes: u64,
     edges: u64,
-    lenient: bool,
+    rules: CsvRules,
     refusal: Option<CsvRefusal>,
     graph: Option<&'static str>,
 }
@@ -25,7 +24,7 @@ const ROW: Row = Row {
     stem: "p",
     nodes: 9,
     edges: 99,
-    lenient: false,
+    rules: CsvRules::STRICT,
     refusal: None,
     graph: None,
 };
@@ -120,7 +119,7 @@ const ROWS: &[Row] = &[
     },
     Row {
         text: b"a,b\n1\n",
-        lenient: true,
+        rules: CsvRules::LENIENT,
         graph: Some("object \"p_1\" in \"p\" {\n  \"a\" 1\n}\n"),
         ..ROW
     },
@@ -131,7 +130,7 @@ const ROWS: &[Row] = &[
     },
     Row {
         text: b"a,b\n1,2,3\n",
-        lenient: true,
+        rules: CsvRules::LENIENT,
         refusal: Some(CsvRefusal::Ragged(1)),
         graph: Some(""),
         ..ROW
@@ -142,7 +141,7 @@ const ROWS: &[Row] = &[
     },
     Row {
         text: b"a;b\n1;2\n",
-        lenient: true,
+        rules: CsvRules::LENIENT,
         graph: Some("object \"p_1\" in \"p\" {\n  \"a\" 1\n  \"b\" 2\n}\n"),
         ..ROW
     },
@@ -153,7 +152,7 @@ const ROWS: &[Row] = &[
     },
     Row {
         text: b"a\tb;c\n1\t2,5\n",
-        lenient: true,
+        rules: CsvRules::LENIENT,
         graph: Some("object \"p_1\" in \"p\" {\n  \"a\" 1\n  \"b;c\" \"2,5\"\n}\n"),
         ..ROW
     },
@@ -163,7 +162,7 @@ const ROWS: &[Row] = &[
     },
     Row {
         text: b"\"a,b;c\"\n1;2\n",
-        lenient: true,
+        rules: CsvRules::LENIENT,
         graph: Some("object \"p_1\" in \"p\" {\n  \"a,b;c\" \"1;2\"\n}\n"),
         ..ROW
     },
@@ -173,7 +172,7 @@ const ROWS: &[Row] = &[
     },
     Row {
         text: b"u,v\nhttp://x.org/,ftp://y\n",
-        lenient: true,
+        rules: CsvRules::LENIENT,
         graph: Some(
             "object \"p_1\" in \"p\" {\n  \"u\" url \"http://x.org/\"\n  \"v\" \"ftp://y\"\n}\n",
         ),
@@ -184,11 +183,7 @@ const ROWS: &[Row] = &[
 fn check_row(alloc: Global, row: &Row) -> Result<(), Fail> {
     let stem = Str::new(alloc, row.stem.as_bytes())?;
     let mut graph = graph_for(alloc, row.nodes, row.edges);
-    let end = if row.lenient {
-        read_lenient_csv(alloc, &stem, row.text, &mut graph)
-    } else {
-        read_csv(alloc, &stem, row.text, &mut graph)
-    };
+    let end = read_csv(alloc, row.rules, &stem, row.text, &mut graph);
     check(end.err() == row.refusal, row.text)?;
     check_graph(alloc, row.text, graph, row.graph)
 }

@@ -1,9 +1,7 @@
 // Files of each format, and the format that a path gives, with answers worked out by hand.
 use super::graphs::check_graph;
 use crate::checks::{check, check_text};
-use data_source::{
-    Format, SourceRefusal, format_of, lenient_format_of, read_source, read_source_leniently,
-};
+use data_source::{Format, SourceRefusal, SourceRules, format_of, read_source};
 use run_report::Place;
 use sd_graph::{GraphBuilder, PROGRAM_LIMITS};
 use sd_value::{NoMemory, Str};
@@ -15,7 +13,7 @@ use std::test::Fail;
 struct Row {
     path: &'static str,
     text: &'static str,
-    lenient: bool,
+    rules: SourceRules,
     number: u32,
     count: u64,
     graph: Option<&'static str>,
@@ -25,7 +23,7 @@ struct Row {
 const ROW: Row = Row {
     path: "",
     text: "",
-    lenient: false,
+    rules: SourceRules::STRICT,
     number: 0,
     count: 0,
     graph: None,
@@ -103,7 +101,7 @@ const FILES: &[Row] = &[
     Row {
         path: "p.CSV",
         text: "a;b\n1\n",
-        lenient: true,
+        rules: SourceRules::LENIENT,
         graph: Some("object \"p_1\" in \"p\" {\n  \"a\" 1\n}\n"),
         ..ROW
     },
@@ -129,11 +127,7 @@ fn check_file(alloc: Global, row: &Row) -> Result<(), Fail> {
     let text = row.text.as_bytes();
     let path = Str::new(alloc, row.path.as_bytes())?;
     let mut graph = GraphBuilder::new(alloc, PROGRAM_LIMITS);
-    let end = if row.lenient {
-        read_source_leniently(alloc, &path, text, 80, &mut graph)
-    } else {
-        read_source(alloc, &path, text, 80, &mut graph)
-    };
+    let end = read_source(alloc, row.rules, &path, text, 80, &mut graph);
     check(reported(&end) == (row.number, row.count), text)?;
     check_graph(alloc, text, graph, row.graph)
 }
@@ -212,12 +206,12 @@ fn name_of(alloc: Global, format: &Format) -> Result<Vec<u8>, NoMemory> {
 
 fn check_format(alloc: Global, row: &FormatRow) -> Result<(), Fail> {
     let path = Str::new(alloc, row.path.as_bytes())?;
-    let strict = name_of(alloc, &format_of(alloc, &path)?)?;
+    let strict = name_of(alloc, &format_of(alloc, SourceRules::STRICT, &path)?)?;
     check_text(path.bytes(), &strict, row.strict.as_bytes())?;
     let Some(wanted) = row.lenient else {
         return Ok(());
     };
-    let lenient = name_of(alloc, &lenient_format_of(alloc, &path)?)?;
+    let lenient = name_of(alloc, &format_of(alloc, SourceRules::LENIENT, &path)?)?;
     check_text(path.bytes(), &lenient, wanted.as_bytes())
 }
 

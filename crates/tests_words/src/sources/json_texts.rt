@@ -1,8 +1,7 @@
 // Whole texts in JSON, read strictly or leniently, with answers worked out by hand.
 use super::graphs::{check_graph, graph_for};
 use crate::checks::{check, check_text};
-use json_source::{JsonRefusal, read_json};
-use lenient_json::read_lenient_json;
+use json_source::{JsonRefusal, JsonRules, read_json};
 use sd_value::Str;
 use std::alloc::Global;
 use std::test::Fail;
@@ -13,7 +12,7 @@ struct Row {
     text: &'static [u8],
     nodes: u64,
     edges: u64,
-    lenient: bool,
+    rules: JsonRules,
     number: u32,
     place: Option<&'static str>,
     graph: Option<&'static str>,
@@ -24,7 +23,7 @@ const ROW: Row = Row {
     text: b"",
     nodes: 9,
     edges: 99,
-    lenient: false,
+    rules: JsonRules::STRICT,
     number: 0,
     place: Some(""),
     graph: None,
@@ -132,7 +131,7 @@ const ROWS: &[Row] = &[
     },
     Row {
         text: b"[{\"p\": 1.50, \"q\": -0, \"r\": 9223372036854775808, \"s\": -7}]",
-        lenient: true,
+        rules: JsonRules::LENIENT,
         graph: Some(
             "object \"p_1\" in \"p\" {\n  \"p\" \"1.50\"\n  \"q\" \"-0\"\n  \"r\" \
             \"9223372036854775808\"\n  \"s\" -7\n}\n",
@@ -147,7 +146,7 @@ const ROWS: &[Row] = &[
     },
     Row {
         text: b"{\"meta\": \"x\", \"rows\": [{\"a\": 1}], \"none\": []}",
-        lenient: true,
+        rules: JsonRules::LENIENT,
         graph: Some("object \"p_rows_1\" in \"rows\" {\n  \"a\" 1\n}\n"),
         ..ROW
     },
@@ -159,7 +158,7 @@ const ROWS: &[Row] = &[
     },
     Row {
         text: b"{\"name\": \"x\", \"tags\": [1, 2]}",
-        lenient: true,
+        rules: JsonRules::LENIENT,
         graph: Some("object \"p_1\" in \"p\" {\n  \"name\" \"x\"\n  \"tags\" 1\n  \"tags\" 2\n}\n"),
         ..ROW
     },
@@ -171,7 +170,7 @@ const ROWS: &[Row] = &[
     },
     Row {
         text: b"{\"rows\": [{\"a\": 1}, 2]}",
-        lenient: true,
+        rules: JsonRules::LENIENT,
         graph: Some(
             "object \"p_1\" in \"p\" {\n  \"rows\" 2\n  \"rows\" &\"p_1_rows_1\"\n}\nobject \
             \"p_1_rows_1\" {\n  \"a\" 1\n}\n",
@@ -181,7 +180,7 @@ const ROWS: &[Row] = &[
     Row { text: b"{}", ..ROW },
     Row {
         text: b"{}",
-        lenient: true,
+        rules: JsonRules::LENIENT,
         graph: Some("object \"p_1\" in \"p\" {\n}\n"),
         ..ROW
     },
@@ -193,7 +192,7 @@ const ROWS: &[Row] = &[
     },
     Row {
         text: b"[1]",
-        lenient: true,
+        rules: JsonRules::LENIENT,
         number: 46,
         place: None,
         graph: Some(""),
@@ -206,7 +205,7 @@ const ROWS: &[Row] = &[
     },
     Row {
         text: b"[{\"a\": 01}]",
-        lenient: true,
+        rules: JsonRules::LENIENT,
         number: 44,
         graph: Some(""),
         ..ROW
@@ -217,7 +216,7 @@ const ROWS: &[Row] = &[
     },
     Row {
         text: b"[{\"u\": \"https://x\", \"v\": \"see http://x\"}]",
-        lenient: true,
+        rules: JsonRules::LENIENT,
         graph: Some(
             "object \"p_1\" in \"p\" {\n  \"u\" url \"https://x\"\n  \"v\" \"see http://x\"\n}\n",
         ),
@@ -241,11 +240,7 @@ fn reported(end: &Result<(), JsonRefusal>) -> (u32, &[u8]) {
 fn check_row(alloc: Global, row: &Row) -> Result<(), Fail> {
     let stem = Str::new(alloc, b"p")?;
     let mut graph = graph_for(alloc, row.nodes, row.edges);
-    let end = if row.lenient {
-        read_lenient_json(alloc, &stem, row.text, &mut graph)
-    } else {
-        read_json(alloc, &stem, row.text, &mut graph)
-    };
+    let end = read_json(alloc, row.rules, &stem, row.text, &mut graph);
     let (number, place) = reported(&end);
     check(number == row.number, row.text)?;
     if let Some(wanted) = row.place {

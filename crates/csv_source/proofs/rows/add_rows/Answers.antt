@@ -12,9 +12,9 @@ returns-in_err-add_row c =
     let (open_, room, whole) = c.rows.invariant in
     let gives = rw c.in-Some.is at c.in_ok-fields.ensures in
     rw (p.1, p.2)
-    (stop c.args.graph.now c.rows.graph c.add_row.new.graph (rows_steps c.args.stem.now c.args.labels.now 1 (records_left c.args.reader.now))
-    (row_steps c.args.stem.now c.args.labels.now c.rows.row c.in-Some.fields.items)
-    (rows_steps c.args.stem.now c.args.labels.now (c.rows.row + 1) (records_left c.next_fields.new.reader))
+    (stop c.args.graph.now c.rows.graph c.add_row.new.graph (rows_steps c.args.rules c.args.stem.now c.args.labels.now 1 (records_left c.args.reader.now))
+    (row_steps c.args.rules c.args.stem.now c.args.labels.now c.rows.row c.in-Some.fields.items)
+    (rows_steps c.args.rules c.args.stem.now c.args.labels.now (c.rows.row + 1) (records_left c.next_fields.new.reader))
     c.in_err-add_row.field-0.0 (rw gives.0 at whole) (rw c.as_slice.ensures.value at c.in_err-add_row.ensures))
 
 pub rows-preserved : goal.rows-preserved
@@ -23,8 +23,8 @@ rows-preserved c =
     let gives = rw c.in-Some.is at c.in_ok-fields.ensures in (
       gives.1,
       omega (arith, room, gives.2),
-      Continues-step c.args.graph.now c.rows.graph c.add_row.new.graph (rows_steps c.args.stem.now c.args.labels.now 1 (records_left c.args.reader.now))
-          (row_steps c.args.stem.now c.args.labels.now c.rows.row c.in-Some.fields.items)
-          (rows_steps c.args.stem.now c.args.labels.now (c.rows.row + 1) (records_left c.next_fields.new.reader))
+      Continues-step c.args.graph.now c.rows.graph c.add_row.new.graph (rows_steps c.args.rules c.args.stem.now c.args.labels.now 1 (records_left c.args.reader.now))
+          (row_steps c.args.rules c.args.stem.now c.args.labels.now c.rows.row c.in-Some.fields.items)
+          (rows_steps c.args.rules c.args.stem.now c.args.labels.now (c.rows.row + 1) (records_left c.next_fields.new.reader))
           (rw gives.0 at whole) (rw c.as_slice.ensures.value at c.in_ok-add_row.ensures),
     )

@@ -10,7 +10,7 @@ pub returns-in_default : goal.returns-in_default
 returns-in_default c = (
   [],
   [],
-  no_list c.args.at.now c.args.collection.now c.args.name.now (view c.args.value.now) (rw c.in_default.is at c.as_array.ensures)
+  no_list c.args.rules c.args.at.now c.args.collection.now c.args.name.now (view c.args.value.now) (rw c.in_default.is at c.as_array.ensures)
       ∙ ap (λ p. fails (NotRecords p) ∷ []) (sym c.in_ok-copy.ensures),
   refl,
 )

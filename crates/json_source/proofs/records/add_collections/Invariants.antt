@@ -5,4 +5,4 @@ use Rattle.json_source.proofs.records.add_collections.Given as goal
 
 abbrev pub invariant-loop-key : goal.invariant-loop-key
 invariant-loop-key l =
-    Continues l.fn.graph (collections_steps l.stem (members_view l.members.entries)) l.graph (collections_steps l.stem (members_view l.key-iterator))
+    Continues l.fn.graph (collections_steps l.rules l.stem (members_view l.members.entries)) l.graph (collections_steps l.rules l.stem (members_view l.key-iterator))

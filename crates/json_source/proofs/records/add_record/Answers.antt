@@ -10,7 +10,7 @@ pub returns-in_default : goal.returns-in_default
 returns-in_default c = (
   [],
   [],
-  no_record c.args.at.now c.args.collection.now c.args.node.now (view c.args.value.now) (rw c.in_default.is at c.as_object.ensures)
+  no_record c.args.rules c.args.at.now c.args.collection.now c.args.node.now (view c.args.value.now) (rw c.in_default.is at c.as_object.ensures)
       ∙ ap (λ p. fails (NotRecords p) ∷ []) (sym c.in_ok-copy.ensures),
   refl,
 )

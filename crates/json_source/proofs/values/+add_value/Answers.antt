@@ -17,8 +17,8 @@ add_items-returns-in_err-add_value t c =
     let p = err_from_is_err_and c.from_residual-in_err-add_value.result c.from_residual-in_err-add_value.ensures.1 in
     let (count, whole) = c.loop-item.invariant in
     rw (p.1, p.2, sym c.deref-item-items.ensures.value)
-    (items_stop c.args.graph.now c.loop-item.graph c.add_value.new.graph
-    (items_steps c.args.at.now c.args.node.now c.args.label.now c.args.child.now 0 (items_view c.deref-item-items.result.now))
+    (items_stop c.args.rules c.args.graph.now c.loop-item.graph c.add_value.new.graph
+    (items_steps c.args.rules c.args.at.now c.args.node.now c.args.label.now c.args.child.now 0 (items_view c.deref-item-items.result.now))
     c.args.at.now c.args.node.now c.args.label.now c.args.child.now c.loop-item.item-index c.deref-item-items.result.now c.item-item.result
     c.in_ok-place.place c.in_ok-name.name c.in_err-add_value.field-0.0
     c.loop-item-test.true c.item-item.is (rw count at c.in_ok-place.ensures) (rw count at c.in_ok-name.ensures) whole c.in_err-add_value.ensures)
@@ -27,8 +27,8 @@ pub add_items-loop-item-preserved : goal.add_items-loop-item-preserved
 add_items-loop-item-preserved t c =
     let (count, whole) = c.loop-item.invariant in (
       ap (λ n. n + 1) count,
-      items_step c.args.graph.now c.loop-item.graph c.add_value.new.graph
-          (items_steps c.args.at.now c.args.node.now c.args.label.now c.args.child.now 0 (items_view c.deref-item-items.result.now))
+      items_step c.args.rules c.args.graph.now c.loop-item.graph c.add_value.new.graph
+          (items_steps c.args.rules c.args.at.now c.args.node.now c.args.label.now c.args.child.now 0 (items_view c.deref-item-items.result.now))
           c.args.at.now c.args.node.now c.args.label.now c.args.child.now c.loop-item.item-index c.deref-item-items.result.now c.item-item.result
           c.in_ok-place.place c.in_ok-name.name
           c.loop-item-test.true c.item-item.is (rw count at c.in_ok-place.ensures) (rw count at c.in_ok-name.ensures) whole c.in_ok-add_value.ensures,
@@ -38,16 +38,16 @@ pub add_members-returns-in_err-add_value : goal.add_members-returns-in_err-add_v
 add_members-returns-in_err-add_value t c =
     let p = err_from_is_err_and c.from_residual-in_err-add_value.result c.from_residual-in_err-add_value.ensures.1 in
     rw (p.1, p.2)
-    (members_stop c.args.graph.now c.loop-key.graph c.add_value.new.graph
-    (members_steps c.args.at.now c.args.node.now (members_view c.args.members.now.entries))
+    (members_stop c.args.rules c.args.graph.now c.loop-key.graph c.add_value.new.graph
+    (members_steps c.args.rules c.args.at.now c.args.node.now (members_view c.args.members.now.entries))
     c.args.at.now c.args.node.now c.loop-key.key-iterator c.next.new.self c.in-Some.key.now c.in-Some.member.now
     c.in_ok-label.label c.in_ok-place.place c.in_ok-name.name c.in_err-add_value.field-0.0
     c.in-Some.ensures.steps (c.in_ok-label.ensures ∙ c.as_bytes.ensures.value) c.in_ok-place.ensures c.in_ok-name.ensures c.loop-key.invariant c.in_err-add_value.ensures)
 
 pub add_members-loop-key-preserved : goal.add_members-loop-key-preserved
 add_members-loop-key-preserved t c =
-    members_step c.args.graph.now c.loop-key.graph c.add_value.new.graph
-    (members_steps c.args.at.now c.args.node.now (members_view c.args.members.now.entries))
+    members_step c.args.rules c.args.graph.now c.loop-key.graph c.add_value.new.graph
+    (members_steps c.args.rules c.args.at.now c.args.node.now (members_view c.args.members.now.entries))
     c.args.at.now c.args.node.now c.loop-key.key-iterator c.next.new.self c.in-Some.key.now c.in-Some.member.now
     c.in_ok-label.label c.in_ok-place.place c.in_ok-name.name
     c.in-Some.ensures.steps (c.in_ok-label.ensures ∙ c.as_bytes.ensures.value) c.in_ok-place.ensures c.in_ok-name.ensures c.loop-key.invariant c.in_ok-add_value.ensures
@@ -58,7 +58,7 @@ add_value-returns-in_err-state_child-in-Object t c =
     let is : view c.args.value.now ≡ object (members_view c.in-Object.members.entries) = ap view c.in-Object.is ∙ view-Object c.in-Object.members in
     rw (p.1, p.2, is)
     (Ends-before c.args.graph.now c.state_child.new.graph (says c.args.at.now (an_edge c.args.node.now c.args.label.now (a_datum (Node c.args.child.now))) ∷ [])
-    (members_steps c.args.at.now c.args.child.now (members_view c.in-Object.members.entries))
+    (members_steps c.args.rules c.args.at.now c.args.child.now (members_view c.in-Object.members.entries))
     (json_ending (Err c.in_err-state_child-in-Object.field-0.0)) (cuts c.in_err-state_child-in-Object.field-0.0) c.in_err-state_child-in-Object.ensures)
 
 pub add_value-returns-in-String : goal.add_value-returns-in-String
@@ -70,5 +70,5 @@ add_value-returns-in_ok-state_child-in-Object t c =
     let is : view c.args.value.now ≡ object (members_view c.in-Object.members.entries) = ap view c.in-Object.is ∙ view-Object c.in-Object.members in
     rw is
     (Ends-after c.args.graph.now c.state_child.new.graph c.add_members.new.graph (says c.args.at.now (an_edge c.args.node.now c.args.label.now (a_datum (Node c.args.child.now))) ∷ [])
-    (members_steps c.args.at.now c.args.child.now (members_view c.in-Object.members.entries))
+    (members_steps c.args.rules c.args.at.now c.args.child.now (members_view c.in-Object.members.entries))
     (json_ending c.add_members.result) c.in_ok-state_child-in-Object.ensures c.add_members.ensures)

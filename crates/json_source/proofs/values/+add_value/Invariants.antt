@@ -7,9 +7,9 @@ use Rattle.json_source.proofs.values.+add_value.Given as goal
 abbrev pub invariant-add_items-loop-item : goal.invariant-add_items-loop-item
 invariant-add_items-loop-item l =
     (l.index ≡ l.item-index)
-    × Continues l.fn.graph (items_steps l.at l.node l.label l.child 0 (items_view l.item-items)) l.graph
-    (items_steps l.at l.node l.label l.child l.item-index (items_view (drop l.item-index l.item-items)))
+    × Continues l.fn.graph (items_steps l.rules l.at l.node l.label l.child 0 (items_view l.item-items)) l.graph
+    (items_steps l.rules l.at l.node l.label l.child l.item-index (items_view (drop l.item-index l.item-items)))
 
 abbrev pub invariant-add_members-loop-key : goal.invariant-add_members-loop-key
 invariant-add_members-loop-key l =
-    Continues l.fn.graph (members_steps l.at l.node (members_view l.members.entries)) l.graph (members_steps l.at l.node (members_view l.key-iterator))
+    Continues l.fn.graph (members_steps l.rules l.at l.node (members_view l.members.entries)) l.graph (members_steps l.rules l.at l.node (members_view l.key-iterator))

@@ -12,7 +12,7 @@ loop-path-preserved g c = record {
   later = none_fell c.loop-path.invariant.later c.in_ok-take_source.ensures.cause.later;
   rest = λ map told result ends.
       c.loop-path.invariant.rest map told result
-      (graph_next c.args.lenient map c.loop-path.graph c.take_source.new.graph c.args.paths.now c.loop-path.path-index c.path-item.result result c.loop-path-test.true c.path-item.is (c.in_ok-take_source.ensures.ends map (c.loop-path.invariant.same ∙ told)) ends);
+      (graph_next c.args.rules map c.loop-path.graph c.take_source.new.graph c.args.paths.now c.loop-path.path-index c.path-item.result result c.loop-path-test.true c.path-item.is (c.in_ok-take_source.ensures.ends map (c.loop-path.invariant.same ∙ told)) ends);
 }
 
 pub returns-in_err-take_source-clause-ends : goal.returns-in_err-take_source-clause-ends
@@ -20,7 +20,7 @@ returns-in_err-take_source-clause-ends g c = λ map told.
     let p = err_from_is_err_and c.from_residual.result c.from_residual.ensures.1 in
     rw (p.1, p.2)
     (c.loop-path.invariant.rest map told (Err c.in_err-take_source.field-0.0)
-    (graph_fault c.args.lenient map c.loop-path.graph c.args.paths.now c.loop-path.path-index c.path-item.result c.in_err-take_source.field-0.0 c.loop-path-test.true c.path-item.is (c.in_err-take_source.ensures.ends map (c.loop-path.invariant.same ∙ told))))
+    (graph_fault c.args.rules map c.loop-path.graph c.args.paths.now c.loop-path.path-index c.path-item.result c.in_err-take_source.field-0.0 c.loop-path-test.true c.path-item.is (c.in_err-take_source.ensures.ends map (c.loop-path.invariant.same ∙ told))))
 
 pub returns-in_err-take_source-clause-cause : goal.returns-in_err-take_source-clause-cause
 returns-in_err-take_source-clause-cause g c =

@@ -14,5 +14,5 @@ invariant-loop-path g l = record {
   writes : g.F.Files.failed_writes l.files ≡ g.F.Files.failed_writes l.initial.files;
   later : NoneFell (g.F.Files.failed_reads l.initial.files) (g.F.Files.failed_reads l.files);
   rest : (map : FileMap) → g.F.Files.contents l.initial.files ≡ Some map → (result : Result DataGraph Fault)
-      → FilesEnd l.lenient map l.graph (drop l.path-index l.paths) result → FilesEnd l.lenient map empty_building l.paths result;
+      → FilesEnd l.rules map l.graph (drop l.path-index l.paths) result → FilesEnd l.rules map empty_building l.paths result;
 }

@@ -1,4 +1,5 @@
 use Rattle.std.proofs.lemmas.Result.{err_from_is_err_and}
+use Rattle.data_source.specs.Rules.{rules_of}
 use Rattle.site_inputs.specs.Sources.{empty_building}
 use Rattle.site_inputs.proofs.Graphs.{graph_no_memory}
 use Rattle.site_inputs.proofs.inputs.load_graph.Goals as goal
@@ -11,4 +12,4 @@ returns-in_err-gathered-clause-ends g c = λ map told.
 pub returns-in_err-graph-clause-ends : goal.returns-in_err-graph-clause-ends
 returns-in_err-graph-clause-ends g c = λ map told.
     let p = err_from_is_err_and c.from_residual-in_err-graph.result c.from_residual-in_err-graph.ensures.1 in
-    rw (p.1, p.2) (graph_no_memory c.args.sources.now.lenient map empty_building c.args.sources.now.paths c.in_ok-gathered.gathered.graph (c.in_ok-gathered.ensures.ends map told))
+    rw (p.1, p.2) (graph_no_memory (rules_of c.args.sources.now.lenient) map empty_building c.args.sources.now.paths c.in_ok-gathered.gathered.graph (c.in_ok-gathered.ensures.ends map told))

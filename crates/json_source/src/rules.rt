@@ -1,0 +1,30 @@
+// How JSON texts are read.
+
+/// How a JSON text is read.
+#[derive(Clone, Copy, Debug, PartialEq, Eq)]
+pub struct JsonRules {
+    /// A number that is no integer of 64 bits is a text, spelled as in the file.
+    pub spelled_numbers: bool,
+    /// Of an object at the top, the lists of objects alone are collections. One that has none is a
+    /// record itself.
+    pub tables: bool,
+    /// A text that begins with `http://` or `https://` is a URL.
+    pub links: bool,
+}
+
+impl JsonRules {
+    /// Each number is an integer of 64 bits, each member of an object at the top is a list of
+    /// records, and each text is a text.
+    pub const STRICT: JsonRules = JsonRules {
+        spelled_numbers: false,
+        tables: false,
+        links: false,
+    };
+
+    /// JSON as people have it.
+    pub const LENIENT: JsonRules = JsonRules {
+        spelled_numbers: true,
+        tables: true,
+        links: true,
+    };
+}

@@ -1,0 +1,62 @@
+// The lists of objects in an object.
+ghost use Rattle.std.specs.Prelude.{◌≡◌};
+ghost use Rattle.serde_json.specs.View.{view, items_view, members_view};
+ghost use Rattle.json_source.specs.Tables.{are_objects as all_are_objects, is_table as is_a_table, has_table as holds_table};
+ghost use Rattle.json_source.specs.Tables.{is_collection as is_a_collection, holds_collections as holds_some};
+
+use crate::rules::JsonRules;
+use serde_json::{Map, Value as Json};
+
+fn are_objects(items: &[Json]) -> bool
+    ensures { result ≡ all_are_objects (items_view items.now) }
+{
+    let mut rest = items;
+    'items: while let Some((first, more)) = rest.split_first() {
+        if !first.is_object() {
+            return false;
+        }
+        rest = more;
+    }
+    true
+}
+
+// Whether a value is a list of objects, with an item at least.
+fn is_table(value: &Json) -> bool
+    ensures { result ≡ is_a_table (view value.now) }
+{
+    let Some(list) = value.as_array() else {
+        return false;
+    };
+    let items = list.as_slice();
+    if items.is_empty() {
+        return false;
+    }
+    are_objects(items)
+}
+
+// Whether an object holds a list of objects.
+fn has_table(members: &Map<String, Json>) -> bool
+    ensures { result ≡ holds_table (members_view members.now.entries) }
+{
+    for (_key, value) in members.iter() {
+        if is_table(value) {
+            return true;
+        }
+    }
+    false
+}
+
+/// Whether a member of an object at the top is a collection: any, or by the rules a list of
+/// objects.
+pub(crate) fn is_collection(rules: JsonRules, value: &Json) -> bool
+    ensures { result ≡ is_a_collection rules (view value.now) }
+{
+    !rules.tables || is_table(value)
+}
+
+/// Whether an object at the top holds collections.
+pub(crate) fn holds_collections(rules: JsonRules, members: &Map<String, Json>) -> bool
+    ensures { result ≡ holds_some rules (members_view members.now.entries) }
+{
+    !rules.tables || has_table(members)
+}

@@ -1,5 +1,0 @@
-use Rattle.lenient_json.specs.Once.{has_one_answer}
-use Rattle.lenient_json.proofs.texts_have_one_answer.Goals as goal
-
-pub returns : goal.returns
-returns c = has_one_answer
