@@ -6,7 +6,7 @@ use Rattle.edge_io.specs.Counts.{NoneFell}
 use Rattle.edge_io.specs.Sink.{Gains}
 use Rattle.query_spec.specs.Query as plain
 use Rattle.constraint_spec.specs.declared.Constraint.{Constraint}
-use Rattle.constraint_report.specs.declared.report.Report.{Report}
+use Rattle.run_report.specs.declared.reports.Report.{Report}
 use Rattle.command_check.specs.Told.{HasCertificate, AreTold}
 use Rattle.command_check.proofs.Whole.{yes_is_shown, yes_is_met}
 use Rattle.run_report.specs.declared.status.Status.{Status}
@@ -32,7 +32,7 @@ AnswerTaken query constraints (Err NoMemory) = ⊤
 AnswerTaken query constraints (Err fault) = ⊥
 
 taken_answer : (query : plain.Query) (constraints : List Constraint) (result : Result Report Fault) → VerdictsTaken query constraints result → AnswerTaken query constraints (all_yes_of result)
-taken_answer query constraints (Ok r) t = yes_is_shown query constraints r.text r.all_met t
+taken_answer query constraints (Ok r) t = yes_is_shown query constraints r.text r.passed t
 taken_answer query constraints (Err (Refused r)) t = t
 taken_answer query constraints (Err (Unread p)) t = t
 taken_answer query constraints (Err (Faulty term kind)) t = t
@@ -87,9 +87,9 @@ module _ (map : FileMap) (query_path constraints_path : List ℕ) where
       record { value = query; first = inputs.is_query; next = record { value = constraints; first = inputs.are_constraints; next = is } }
 
   -- what is told holds
-  pub findings_hold : (old new : Option (List ℕ)) (reached : Status) (r : Report) → CheckEnds map query_path constraints_path (Ok r) → Gains old new r.text → (reached ≡ status.Ok → IsTrue r.all_met) → FindingsHold map query_path constraints_path old new reached
+  pub findings_hold : (old new : Option (List ℕ)) (reached : Status) (r : Report) → CheckEnds map query_path constraints_path (Ok r) → Gains old new r.text → (reached ≡ status.Ok → IsTrue r.passed) → FindingsHold map query_path constraints_path old new reached
   findings_hold old new reached r ends gained met =
-      let told : AreTold ends.value ends.next.value r.text r.all_met = ends.next.next in
+      let told : AreTold ends.value ends.next.value r.text r.passed = ends.next.next in
       record {
         query = ends.value;
         constraints = ends.next.value;
@@ -97,7 +97,7 @@ module _ (map : FileMap) (query_path constraints_path : List ℕ) where
         findings = told.findings;
         gained = subst (Gains old new) told.told gained;
         holds = told.holds;
-        all_hold = λ ok. yes_is_met ends.value ends.next.value r.text r.all_met told (met ok);
+        all_hold = λ ok. yes_is_met ends.value ends.next.value r.text r.passed told (met ok);
       }
 
 -- ---- the run

@@ -19,7 +19,7 @@ use Rattle.site_inputs.specs.declared.told.NumberedFault.{NumberedFault}
 use Rattle.site_inputs.specs.Runs.{FileEnds, IsDecided, Decides}
 use Rattle.site_inputs.proofs.Decided.{then_decides}
 use Rattle.site_inputs.proofs.DecidedInputs.{file_decides}
-use Rattle.constraint_report.specs.declared.report.Report.{Report}
+use Rattle.run_report.specs.declared.reports.Report.{Report}
 use Rattle.constraint_report.specs.Report.{verdict_lines, IsReport}
 use Rattle.command_check.specs.ConstraintFile.{constraints_told, ConstraintsTaken, ConstraintsEnd}
 
@@ -41,12 +41,12 @@ module _ (P : Constraint → Type 0) where
   same_verdicts (c ∷ cs) (v ∷ vs) (w ∷ ws) h k =
       ap (λ (x : Bool). x ∷ vs) (same_test v w (P c) h.0 k.0) ∙ ap (λ (xs : List Bool). w ∷ xs) (same_verdicts cs vs ws h.1 k.1)
 
-  pub one_report : (cs : List Constraint) (r s : Report) → IsReport P cs r.text r.all_met → IsReport P cs s.text s.all_met → r ≡ s
+  pub one_report : (cs : List Constraint) (r s : Report) → IsReport P cs r.text r.passed → IsReport P cs s.text s.passed → r ≡ s
   one_report cs r s h k =
       let same = same_verdicts cs h.verdicts k.verdicts h.decided k.decided in
       let text : r.text ≡ s.text = h.told ∙ ap (verdict_lines 1) same ∙ sym k.told in
-      let all : r.all_met ≡ s.all_met = h.all ∙ ap (λ (vs : List Bool). list_all (λ (met : Bool). met) vs) same ∙ sym k.all in
-      λ i. record { text = text i; all_met = all i }
+      let all : r.passed ≡ s.passed = h.all ∙ ap (λ (vs : List Bool). list_all (λ (met : Bool). met) vs) same ∙ sym k.all in
+      λ i. record { text = text i; passed = all i }
 
 -- ---- the file
 

@@ -4,7 +4,7 @@ use Rattle.std.specs.Prelude.{ℕ, Bool, List, Result, Ok, Err, ⊤}
 use Rattle.edge_io.specs.Files.{FileMap}
 use Rattle.query_spec.specs.Query as plain
 use Rattle.constraint_spec.specs.declared.Constraint.{Constraint}
-use Rattle.constraint_report.specs.declared.report.Report.{Report}
+use Rattle.run_report.specs.declared.reports.Report.{Report}
 use Rattle.command_check.specs.Told.{AreTold}
 use Rattle.site_inputs.specs.declared.fault.Fault.{Fault}
 use Rattle.site_inputs.specs.declared.fault.Fault.TheVariants.{NoMemory}
@@ -15,7 +15,7 @@ use Rattle.command_check.specs.ConstraintFile.{ConstraintsEnd}
 -- How the search for certificates of constraints on a query ends: with what is told of them, and whether
 -- all are answered yes.
 abbrev pub VerdictsTaken : plain.Query → List Constraint → Result Report Fault → Type 0
-VerdictsTaken query constraints (Ok r) = AreTold query constraints r.text r.all_met
+VerdictsTaken query constraints (Ok r) = AreTold query constraints r.text r.passed
 VerdictsTaken query constraints (Err NoMemory) = ⊤
 VerdictsTaken query constraints (Err fault) = ⊥
 
@@ -27,5 +27,5 @@ CheckEnds map query_path constraints_path =
 
 -- whether all are answered yes, or the fault
 abbrev pub all_yes_of : Result Report Fault → Result Bool Fault
-all_yes_of (Ok r) = Ok r.all_met
+all_yes_of (Ok r) = Ok r.passed
 all_yes_of (Err fault) = Err fault

@@ -7,7 +7,7 @@ use Rattle.query_spec.specs.Query as plain
 use Rattle.site_spec.specs.Site.{scope_of}
 use Rattle.constraint_spec.specs.declared.Constraint.{Constraint}
 use Rattle.constraint_spec.specs.Meets.{Meets}
-use Rattle.constraint_report.specs.declared.report.Report.{Report}
+use Rattle.run_report.specs.declared.reports.Report.{Report}
 use Rattle.constraint_report.specs.Report.{IsReport}
 use Rattle.site_inputs.specs.declared.fault.Fault.{Fault}
 use Rattle.site_inputs.specs.declared.fault.Fault.TheVariants.{NoMemory}
@@ -20,7 +20,7 @@ use Rattle.command_check.specs.ConstraintFile.{ConstraintsEnd}
 abbrev pub ReportTaken
     : DataGraph → plain.Query → List Constraint → Result Report Fault → Type 0
 ReportTaken graph query constraints (Ok r) =
-    IsReport (Meets graph (scope_of query)) constraints r.text r.all_met
+    IsReport (Meets graph (scope_of query)) constraints r.text r.passed
 ReportTaken graph query constraints (Err NoMemory) = ⊤
 ReportTaken graph query constraints (Err fault) = ⊥
 

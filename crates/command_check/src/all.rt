@@ -8,9 +8,9 @@ ghost use Rattle.command_check.specs.CheckEnds.{VerdictsTaken, CheckEnds};
 use crate::constraint_file::load_constraints;
 use crate::site_oracle::SiteOracle;
 use crate::verdicts::verdicts_of;
-use constraint_report::Report;
 use constraint_spec::Constraint;
 use edge_io::Files;
+use run_report::Report;
 use sd_value::Str;
 use site_inputs::{Fault, load_query};
 use std::alloc::Global;
@@ -23,7 +23,7 @@ fn verdicts_on(alloc: Global, query: &Checked, constraints: &[Constraint]) -> Re
     let verdicts = verdicts_of(alloc, query, constraints, &mut trial)?;
     Ok(Report {
         text: verdicts.text,
-        all_met: verdicts.all_yes,
+        passed: verdicts.all_yes,
     })
 }
 

@@ -4,7 +4,7 @@ ghost use Rattle.edge_io.specs.Files.{FileMap};
 ghost use Rattle.command_spec.specs.declared.DataFiles.{DataFiles};
 ghost use Rattle.site_inputs.specs.declared.fault.Fault.{Fault};
 ghost use Rattle.site_inputs.specs.Runs.{IsDecided, Decides};
-ghost use Rattle.constraint_report.specs.declared.report.Report.{Report};
+ghost use Rattle.run_report.specs.declared.reports.Report.{Report};
 ghost use Rattle.command_check.specs.CheckEnds.{CheckEnds, all_yes_of};
 ghost use Rattle.command_check.specs.Ends.{HereEnds};
 

@@ -58,6 +58,6 @@ impl Oracle for SiteOracle {
         let store = IndexStore::of(alloc, graph)?;
         let asker = StoreAsker::of(store);
         let report = report_of(alloc, asker, &self.blocks, from_ref(constraint))?;
-        Ok(report.all_met)
+        Ok(report.passed)
     }
 }

@@ -1,4 +1,5 @@
-//! The commands `help` and `version`: fixed texts.
+//! The commands `help` and `version`: fixed texts, of which the table of the commands has the
+//! usages.
 #![tactic(auto)]
 
 ghost use Rattle.command_help.specs.Ends.{HelpEnds, VersionEnds};
@@ -20,7 +21,7 @@ use texts::versions;
 pub fn help(alloc: Global, command: &HelpCommand) -> Result<Str, Fault>
     ensures { HelpEnds command.now result }
 {
-    Ok(Str::new(alloc, usage(command.name))?)
+    Ok(usage(alloc, command.name)?)
 }
 
 /// The version of the program and of the kit that proved it.

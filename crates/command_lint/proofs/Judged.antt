@@ -15,7 +15,7 @@ use Rattle.lint_spec.specs.Mistakes.{IsMistake}
 use Rattle.lint_spec.specs.QueryClaims.{query_claims}
 use Rattle.lint_spec.specs.TemplateClaims.{template_claims}
 use Rattle.lint_spec.specs.Findings.{AreFindings}
-use Rattle.constraint_report.specs.declared.report.Report.{Report}
+use Rattle.run_report.specs.declared.reports.Report.{Report}
 use Rattle.command_lint.specs.Lines.{finding_line}
 use Rattle.command_lint.specs.Ends.{SiteTexts, SiteTrees, AreTrees, HasFindings, IsLintReport}
 
@@ -32,7 +32,7 @@ findings_as G graph s scope templates l further cs claims found shown graphs sco
 pub whole_report : (graph : DataGraph) (query : plain.Query) (templates : TemplateFile) (texts : SiteTexts) (trees : SiteTrees) (in_query in_templates : List Finding) (result : Result Report NoMemory) → AreTrees texts trees
     → HasFindings graph query templates trees (query_claims trees.query) in_query → HasFindings graph query templates trees (template_claims trees.items) in_templates
     → IfOk result (λ r. r.text ≡ flat_map (finding_line texts.query_path) in_query ++ flat_map (finding_line texts.templates_path) in_templates)
-    → IfOk result (λ r. IsTrue r.all_met ↔ (in_query ++ in_templates ≡ [])) → IfOk result (λ r. IsLintReport graph query templates texts r.text r.all_met)
+    → IfOk result (λ r. IsTrue r.passed ↔ (in_query ++ in_templates ≡ [])) → IfOk result (λ r. IsLintReport graph query templates texts r.text r.passed)
 whole_report graph query templates texts trees in_query in_templates (Ok r) spelled of_query of_templates lines clean = record {
   trees = trees;
   spelled = spelled;

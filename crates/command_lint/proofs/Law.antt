@@ -8,7 +8,7 @@ use Rattle.command_spec.specs.declared.DataFiles.{DataFiles}
 use Rattle.graph_spec.specs.DataGraph.{DataGraph}
 use Rattle.query_spec.specs.Query as plain
 use Rattle.tmpl.specs.Body.{TemplateFile}
-use Rattle.constraint_report.specs.declared.report.Report.{Report}
+use Rattle.run_report.specs.declared.reports.Report.{Report}
 use Rattle.run_report.specs.declared.status.Status.{Status}
 use Rattle.run_report.specs.declared.status.Status.TheVariants as status
 use Rattle.site_inputs.specs.declared.fault.Fault.{Fault}
@@ -63,7 +63,7 @@ module _ (map : FileMap) (sources : DataFiles) (query_path templates_path : List
       record { once = report_once graph query templates (texts_of query_path query_bytes templates_path template_bytes) })))))
 
   -- what is told is exactly the findings
-  pub tells_findings : (old new : Option (List ℕ)) (reached : Status) (r : Report) → LintEnds map sources query_path templates_path (Ok r) → Gains old new r.text → (reached ≡ status.Ok) ↔ IsTrue r.all_met
+  pub tells_findings : (old new : Option (List ℕ)) (reached : Status) (r : Report) → LintEnds map sources query_path templates_path (Ok r) → Gains old new r.text → (reached ≡ status.Ok) ↔ IsTrue r.passed
       → TellsFindings map sources query_path templates_path old new reached
   tells_findings old new reached r ends gained is =
       let graph : DataGraph = ends.value in
@@ -72,7 +72,7 @@ module _ (map : FileMap) (sources : DataFiles) (query_path templates_path : List
       let template_bytes : List ℕ = ends.next.next.next.value in
       let templates : TemplateFile = ends.next.next.next.next.value in
       let texts : SiteTexts = texts_of query_path query_bytes templates_path template_bytes in
-      let report : IsLintReport graph query templates texts r.text r.all_met = ends.next.next.next.next.next in
+      let report : IsLintReport graph query templates texts r.text r.passed = ends.next.next.next.next.next in
       record {
         graph = graph;
         query = query;
@@ -88,7 +88,7 @@ module _ (map : FileMap) (sources : DataFiles) (query_path templates_path : List
           are_templates = ends.next.next.next.next.first;
         };
         text = r.text;
-        all_met = r.all_met;
+        all_met = r.passed;
         report = report;
         gained = gained;
         clean = (λ ok. report.clean.0 (is.0 ok), λ none. is.1 (report.clean.1 none));

@@ -23,7 +23,7 @@ use Rattle.lint_spec.specs.declared.Finding.{Finding}
 use Rattle.lint_spec.specs.QueryClaims.{query_claims}
 use Rattle.lint_spec.specs.TemplateClaims.{template_claims}
 use Rattle.lint_spec.specs.Findings.{marked, AreFindings}
-use Rattle.constraint_report.specs.declared.report.Report.{Report}
+use Rattle.run_report.specs.declared.reports.Report.{Report}
 use Rattle.command_lint.specs.Lines.{finding_line}
 use Rattle.command_lint.specs.Ends.{SiteTexts, SiteTrees, AreTrees, HasFindings, IsLintReport}
 
@@ -75,12 +75,12 @@ module _ (graph : DataGraph) (query : plain.Query) (templates : TemplateFile) (t
   abbrev Lines : List Finding → List Finding → List ℕ
   Lines fs gs = flat_map (finding_line texts.query_path) fs ++ flat_map (finding_line texts.templates_path) gs
 
-  pub one_report : (r s : Report) → IsLintReport graph query templates texts r.text r.all_met → IsLintReport graph query templates texts s.text s.all_met → r ≡ s
+  pub one_report : (r s : Report) → IsLintReport graph query templates texts r.text r.passed → IsLintReport graph query templates texts s.text s.passed → r ≡ s
   one_report r s h k =
       let trees : k.trees ≡ h.trees = same_trees texts k.trees h.trees k.spelled h.spelled in
       let in_query : h.in_query ≡ k.in_query = same_findings _ (query_claims h.trees.query) h.in_query k.in_query h.of_query (subst (λ (t : SiteTrees). InQuery t k.in_query) trees k.of_query) in
       let in_templates : h.in_templates ≡ k.in_templates = same_findings _ (template_claims h.trees.items) h.in_templates k.in_templates h.of_templates (subst (λ (t : SiteTrees). InTemplates t k.in_templates) trees k.of_templates) in
       let text : r.text ≡ s.text = h.lines ∙ (ap (λ (fs : List Finding). Lines fs h.in_templates) in_query ∙ (ap (Lines k.in_query) in_templates ∙ sym k.lines)) in
       let all_findings : k.in_query ++ k.in_templates ≡ h.in_query ++ h.in_templates = sym (ap (λ (fs : List Finding). fs ++ h.in_templates) in_query ∙ ap (λ (fs : List Finding). k.in_query ++ fs) in_templates) in
-      let all : r.all_met ≡ s.all_met = same_test r.all_met s.all_met (h.in_query ++ h.in_templates ≡ []) h.clean (subst (λ (fs : List Finding). IsTrue s.all_met ↔ (fs ≡ [])) all_findings k.clean) in
-      λ i. record { text = text i; all_met = all i }
+      let all : r.passed ≡ s.passed = same_test r.passed s.passed (h.in_query ++ h.in_templates ≡ []) h.clean (subst (λ (fs : List Finding). IsTrue s.passed ↔ (fs ≡ [])) all_findings k.clean) in
+      λ i. record { text = text i; passed = all i }

@@ -18,7 +18,7 @@ use Rattle.lint_spec.specs.QueryClaims.{query_claims}
 use Rattle.lint_spec.specs.TemplateClaims.{template_claims, further_labels}
 use Rattle.lint_spec.specs.Mistakes.{IsMistake}
 use Rattle.lint_spec.specs.Findings.{AreFindings}
-use Rattle.constraint_report.specs.declared.report.Report.{Report}
+use Rattle.run_report.specs.declared.reports.Report.{Report}
 use Rattle.site_inputs.specs.declared.fault.Fault.{Fault}
 use Rattle.site_inputs.specs.declared.fault.Fault.TheVariants.{NoMemory}
 use Rattle.site_inputs.specs.Runs.{Then, FileEnds}
@@ -65,7 +65,7 @@ module _ (graph : DataGraph) (query : plain.Query) (templates : TemplateFile) wh
 
   -- How judging the texts ends: with their report.
   abbrev pub LintTaken : SiteTexts → Result Report Fault → Type 0
-  LintTaken texts (Ok r) = IsLintReport texts r.text r.all_met
+  LintTaken texts (Ok r) = IsLintReport texts r.text r.passed
   LintTaken texts (Err NoMemory) = ⊤
   LintTaken texts (Err fault) = ⊥
 

@@ -14,9 +14,9 @@ mod texts;
 
 use crate::texts::{InputText, report_of};
 use command_spec::{DataFiles, TEXT_LIMIT};
-use constraint_report::Report;
 use edge_io::Files;
 pub use laws::reports_are_decided;
+use run_report::Report;
 use sd_value::Str;
 use site_inputs::{Fault, load_graph, read_file, take_query, take_templates};
 use std::alloc::Global;

@@ -13,10 +13,10 @@ use crate::lines::push_lines;
 use crate::link_answers::QueryLinks;
 use bindings::StoreAsker;
 use command_spec::TEXT_LIMIT;
-use constraint_report::Report;
 use index_store::IndexStore;
 use lint_spec::Finding;
 use query_scoping::scopes;
+use run_report::Report;
 use sd_graph::Graph;
 use sd_value::{NoMemory, Str};
 use site_lint::{LintedSite, blocks_without_rows, findings_of, names_of};
@@ -75,7 +75,7 @@ fn report(
     ensures text { IfOk result (λ r. r.text
         ≡ flat_map (finding_line query_path.now) in_query.now
         ++ flat_map (finding_line templates_path.now) in_templates.now) }
-    ensures clean { IfOk result (λ r. IsTrue r.all_met
+    ensures clean { IfOk result (λ r. IsTrue r.passed
         ↔ (in_query.now ++ in_templates.now ≡ [])) }
 {
     let mut text = Vec::new(alloc);
@@ -84,7 +84,7 @@ fn report(
     let text = Str::of(alloc, text)?;
     Ok(Report {
         text,
-        all_met: are_none(in_query, in_templates),
+        passed: are_none(in_query, in_templates),
     })
 }
 
@@ -101,7 +101,7 @@ pub(crate) fn report_of(
 ) -> Result<Report, NoMemory>
     ensures { IfOk result (λ r. IsLintReport graph query.now (file_of templates.now)
         (texts_of query_text.now.path.now query_text.now.bytes.now
-        template_text.now.path.now template_text.now.bytes.now) r.text r.all_met) }
+        template_text.now.path.now template_text.now.bytes.now) r.text r.passed) }
 {
     let written = written_query(alloc, query_text.bytes)?;
     let items = template_items(alloc, template_text.bytes)?;

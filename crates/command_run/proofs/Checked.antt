@@ -1,10 +1,10 @@
 -- How a run of `check` over every data graph ends where no count rose, and that its answers hold.
-use Rattle.std.proofs.Common.{◌≡◌, ◌⊎◌, ℕ, List, Bool, true, false, cond, inl, inr, refl, sym, ap, subst, ◌∙◌}
+use Rattle.std.proofs.Common.{◌≡◌, ℕ, List, Bool, true, false, cond, inl, inr, refl, sym, ap, subst, ◌∙◌}
 use Rattle.std.specs.Prelude.{Option, None, Some, IsTrue}
 use Rattle.std.specs.Prelude as prelude
 use Rattle.std.specs.Option.{IsSomeAnd}
 use Rattle.edge_io.specs.Files.{FileMap}
-use Rattle.constraint_report.specs.declared.report.Report.{Report}
+use Rattle.run_report.specs.declared.reports.Report.{Report}
 use Rattle.site_inputs.specs.declared.fault.Fault.{Fault}
 use Rattle.site_inputs.specs.declared.fault.Fault.TheVariants as fault
 use Rattle.run_report.specs.declared.status.Status.{Status}
@@ -15,26 +15,27 @@ use Rattle.site_inputs.specs.Statuses.{ReadRose, status_of}
 use Rattle.site_inputs.proofs.Endings.{ok_same, not_both, by_reason}
 use Rattle.wire.specs.Told.{WireReport}
 use Rattle.command_spec.specs.declared.Command.{Command}
-use Rattle.command_spec.specs.declared.Command.TheVariants.{CheckAll}
+use Rattle.command_spec.specs.declared.Command.TheVariants as command
+use Rattle.command_spec.specs.declared.ReportCommand.TheVariants.{CheckAll}
 use Rattle.command_spec.specs.Inputs.{check_paths}
 use Rattle.command_check.specs.CheckEnds.{CheckEnds}
 use Rattle.command_check.specs.Law.{CheckIsDecided, FindingsHold}
-use Rattle.command_check.proofs.Answers.{AnswerEnds, answer_ends, answers_decide, inputs_answer, findings_hold}
-use Rattle.command_run.specs.Top.{ReportEnds, Ends, RunEnds, HasTold, AnswersHold}
+use Rattle.command_check.proofs.Answers.{AnswerEnds as VerdictEnds, answer_ends, answers_decide, inputs_answer, findings_hold}
+use Rattle.command_run.specs.Top.{AnswerEnds, Ends, RunEnds, HasTold, AnswersHold}
 
 module _ (map : FileMap) (query_path constraints_path : List ℕ) where
   abbrev Answer : prelude.Result Report Fault → Type 0
   Answer = CheckEnds map query_path constraints_path
 
   abbrev Whether : prelude.Result Bool Fault → Type 0
-  Whether = AnswerEnds map query_path constraints_path
+  Whether = VerdictEnds map query_path constraints_path
 
   decides : Decides Whether
   decides = answers_decide map query_path constraints_path
 
   module _ (before after : Host) where
     abbrev Ended : Status → Type 0
-    Ended = ReportEnds Answer before.output after.output
+    Ended = AnswerEnds (λ (r : Report). r) Answer before.output after.output
 
     abbrev Read : Status → Type 0
     Read = ReadRose (check_paths query_path constraints_path) before.failed_reads after.failed_reads
@@ -43,17 +44,17 @@ module _ (map : FileMap) (query_path constraints_path : List ℕ) where
     All = AllRead (check_paths query_path constraints_path) before after
 
     -- the run's report says whether all are yes as the inputs decide it
-    same_answer : (r : Report) (wanted : Bool) → Answer (prelude.Ok r) → Whether (prelude.Ok wanted) → r.all_met ≡ wanted
+    same_answer : (r : Report) (wanted : Bool) → Answer (prelude.Ok r) → Whether (prelude.Ok wanted) → r.passed ≡ wanted
     same_answer r wanted ends its =
-        ok_same r.all_met wanted (decides.once (prelude.Ok r.all_met) (prelude.Ok wanted) (answer_ends map query_path constraints_path (prelude.Ok r) ends) its tt tt)
+        ok_same r.passed wanted (decides.once (prelude.Ok r.passed) (prelude.Ok wanted) (answer_ends map query_path constraints_path (prelude.Ok r) ends) its tt tt)
 
     -- inputs that are accepted are not refused
     no_fault : (reason : Fault) (wanted : Bool) → Answer (prelude.Err reason) → Whether (prelude.Ok wanted) → IsDecidedFault reason → ⊥
     no_fault reason wanted ends its d = not_both Whether decides wanted reason its (answer_ends map query_path constraints_path (prelude.Err reason) ends) d
 
     accepted : (wanted : Bool) → Whether (prelude.Ok wanted) → (status : Status) → Ended status → Read status → (status ≡ WriteFault → PutsRose before after) → All → ¬ PutsRose before after → HasStatus (cond wanted Ok NotAllYes) status
-    accepted wanted its Ok ends read write all no_put = inl (ap (λ (b : Bool). cond b Ok NotAllYes) (sym ends.verdict ∙ same_answer ends.report wanted ends.answer its))
-    accepted wanted its NotAllYes ends read write all no_put = inl (ap (λ (b : Bool). cond b Ok NotAllYes) (sym ends.verdict ∙ same_answer ends.report wanted ends.answer its))
+    accepted wanted its Ok ends read write all no_put = inl (ap (λ (b : Bool). cond b Ok NotAllYes) (sym ends.verdict ∙ same_answer ends.given wanted ends.answer its))
+    accepted wanted its NotAllYes ends read write all no_put = inl (ap (λ (b : Bool). cond b Ok NotAllYes) (sym ends.verdict ∙ same_answer ends.given wanted ends.answer its))
     accepted wanted its Usage ends read write all no_put = absurd ends
     accepted wanted its WireFault ends read write all no_put = absurd ends
     accepted wanted its TurnsSpent ends read write all no_put = absurd ends
@@ -71,11 +72,11 @@ module _ (map : FileMap) (query_path constraints_path : List ℕ) where
 
     -- a report was made, so no input was refused
     no_report : (r : Report) (reason : Fault) → Answer (prelude.Ok r) → Answer (prelude.Err reason) → IsDecidedFault reason → ⊥
-    no_report r reason ends its d = no_fault reason r.all_met its (answer_ends map query_path constraints_path (prelude.Ok r) ends) d
+    no_report r reason ends its d = no_fault reason r.passed its (answer_ends map query_path constraints_path (prelude.Ok r) ends) d
 
     refused : (reason : Fault) → Answer (prelude.Err reason) → IsDecidedFault reason → (status : Status) → Ended status → Read status → (status ≡ WriteFault → PutsRose before after) → All → ¬ PutsRose before after → HasStatus (status_of reason) status
-    refused reason its d Ok ends read write all no_put = absurd (no_report ends.report reason ends.answer its d)
-    refused reason its d NotAllYes ends read write all no_put = absurd (no_report ends.report reason ends.answer its d)
+    refused reason its d Ok ends read write all no_put = absurd (no_report ends.given reason ends.answer its d)
+    refused reason its d NotAllYes ends read write all no_put = absurd (no_report ends.given reason ends.answer its d)
     refused reason its d Usage ends read write all no_put = absurd ends
     refused reason its d WireFault ends read write all no_put = absurd ends
     refused reason its d TurnsSpent ends read write all no_put = absurd ends
@@ -97,14 +98,14 @@ module _ (map : FileMap) (query_path constraints_path : List ℕ) where
     }
 
   -- what was told holds
-  holds : (old new : Option (List ℕ)) (status : Status) → ReportEnds Answer old new status → HasTold status → FindingsHold map query_path constraints_path old new status
-  holds old new Ok ends told = findings_hold map query_path constraints_path old new Ok ends.report ends.answer ends.gained (λ ok. ends.verdict)
-  holds old new NotAllYes ends told = findings_hold map query_path constraints_path old new NotAllYes ends.report ends.answer ends.gained (λ ok. absurd cc)
+  holds : (old new : Option (List ℕ)) (status : Status) → AnswerEnds (λ (r : Report). r) Answer old new status → HasTold status → FindingsHold map query_path constraints_path old new status
+  holds old new Ok ends told = findings_hold map query_path constraints_path old new Ok ends.given ends.answer ends.gained (λ ok. ends.verdict)
+  holds old new NotAllYes ends told = findings_hold map query_path constraints_path old new NotAllYes ends.given ends.answer ends.gained (λ ok. absurd cc)
   holds old new status ends told = absurd told
 
-answers_hold : (command : Command) (before after : Outside) (status : Status) → Ends command before after status → AnswersHold command before.host.files before.host.output after.host.output status
-answers_hold (CheckAll command) before after status ends = holds before.host.files command.query command.constraints before.host.output after.host.output status ends
-answers_hold command before after status ends = tt
+answers_hold : (given : Command) (before after : Outside) (status : Status) → Ends given before after status → AnswersHold given before.host.files before.host.output after.host.output status
+answers_hold (command.Report (CheckAll c)) before after status ends = holds before.host.files c.query c.constraints before.host.output after.host.output status ends
+answers_hold given before after status ends = tt
 
 module _ (reads reads_now writes writes_now : List ℕ → ℕ) (output output_now : Option (List ℕ)) (puts puts_now : ℕ) (wire wire_now : WireReport) where
   abbrev pub Before : FileMap → Outside

@@ -6,7 +6,7 @@ use Rattle.edge_io.specs.Files.{FileMap}
 use Rattle.run_report.specs.declared.status.Status.{Status}
 use Rattle.run_report.specs.declared.status.Status.TheVariants as status
 use Rattle.command_spec.specs.declared.Command.{Command}
-use Rattle.command_spec.specs.declared.Command.TheVariants.{Page, Build, Data, Explain, Schema, Check, CheckAll, Lint, Serve, Replay, Trial, Help, Version}
+use Rattle.command_spec.specs.declared.Command.TheVariants as command
 use Rattle.site_inputs.specs.Statuses.{ReadRose}
 use Rattle.edge_io.specs.Counts.{Rose}
 use Rattle.wire.specs.Told.{WireReport}
@@ -25,22 +25,14 @@ module _ (contents : Option FileMap) (before after : Outside) where
   abbrev Read : List (List ℕ) → Status → Type 0
   Read paths = ReadRose paths before.host.failed_reads after.host.failed_reads
 
-  complete_end : (command : Command) (reached : Status)
-      → Ends command before after reached → Read (inputs_of_command command) reached → (reached ≡ status.WriteFault → Wrote (Some command)) → (reached ≡ status.WireFault → EventsRose before.wire after.wire)
-      → IsComplete command before after reached
-  complete_end (Build command) reached ends read write wire = λ all. build_ends_well command before.host after.host reached ends read all
-  complete_end (Serve command) reached ends read write wire = λ all. serving_ends_well command before after reached ends read write wire all
-  complete_end (Replay command) reached ends read write wire = λ all. replay_ends_well command before.host after.host reached ends read write all
-  complete_end (Page command) reached ends read write wire = λ all. tt
-  complete_end (Data command) reached ends read write wire = λ all. tt
-  complete_end (Explain command) reached ends read write wire = λ all. tt
-  complete_end (Schema command) reached ends read write wire = λ all. tt
-  complete_end (Check command) reached ends read write wire = λ all. tt
-  complete_end (CheckAll command) reached ends read write wire = λ all. tt
-  complete_end (Lint command) reached ends read write wire = λ all. tt
-  complete_end (Trial command) reached ends read write wire = λ all. tt
-  complete_end (Help command) reached ends read write wire = λ all. tt
-  complete_end Version reached ends read write wire = λ all. tt
+  complete_end : (given : Command) (reached : Status)
+      → Ends given before after reached → Read (inputs_of_command given) reached → (reached ≡ status.WriteFault → Wrote (Some given)) → (reached ≡ status.WireFault → EventsRose before.wire after.wire)
+      → IsComplete given before after reached
+  complete_end (command.Build c) reached ends read write wire = λ all. build_ends_well c before.host after.host reached ends read all
+  complete_end (command.Serve c) reached ends read write wire = λ all. serving_ends_well c before after reached ends read write wire all
+  complete_end (command.Replay c) reached ends read write wire = λ all. replay_ends_well c before.host after.host reached ends read write all
+  complete_end (command.Text c) reached ends read write wire = λ all. tt
+  complete_end (command.Report c) reached ends read write wire = λ all. tt
 
   complete_run : (given : Option Command) (command : Command) (reached : Status)
       → given ≡ Some command → RunEnds given before after reached → Read (given_inputs given) reached → (reached ≡ status.WriteFault → Wrote given) → (reached ≡ status.WireFault → EventsRose before.wire after.wire)
@@ -51,20 +43,12 @@ module _ (contents : Option FileMap) (before after : Outside) where
       (λ e. subst (λ (g : Option Command). Wrote g) is_given (write e)) wire
 
   -- out of memory for the report
-  short_run : (command : Command) (reached : Status) → reached ≡ status.NoMemory → IsDecidedRun command before after reached
-  short_run (Build command) reached memory = record { accepted = λ s taken can no_put no_write. inr memory; refused = λ reason ended decided. inr memory }
-  short_run (Serve command) reached memory = record { accepted = λ s taken turns no_put no_event. inr memory; refused = λ reason ended decided. inr memory }
-  short_run (Replay command) reached memory = record { accepted = λ s taken room no_put. inr memory; refused = λ reason ended decided. inr memory }
-  short_run (Page command) reached memory = tt
-  short_run (Data command) reached memory = tt
-  short_run (Explain command) reached memory = tt
-  short_run (Schema command) reached memory = tt
-  short_run (Check command) reached memory = tt
-  short_run (CheckAll command) reached memory = tt
-  short_run (Lint command) reached memory = tt
-  short_run (Trial command) reached memory = tt
-  short_run (Help command) reached memory = tt
-  short_run Version reached memory = tt
+  short_run : (given : Command) (reached : Status) → reached ≡ status.NoMemory → IsDecidedRun given before after reached
+  short_run (command.Build c) reached memory = record { accepted = λ s taken can no_put no_write. inr memory; refused = λ reason ended decided. inr memory }
+  short_run (command.Serve c) reached memory = record { accepted = λ s taken turns no_put no_event. inr memory; refused = λ reason ended decided. inr memory }
+  short_run (command.Replay c) reached memory = record { accepted = λ s taken room no_put. inr memory; refused = λ reason ended decided. inr memory }
+  short_run (command.Text c) reached memory = tt
+  short_run (command.Report c) reached memory = tt
 
   reported_complete : (command : Command) (reached reported : Status) → IsComplete command before after reached → (reported ≡ reached) ⊎ (reported ≡ status.NoMemory) → IsComplete command before after reported
   reported_complete command reached reported complete (inl same) = rw same complete

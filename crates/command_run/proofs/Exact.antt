@@ -1,83 +1,44 @@
 -- How a run ends where no count rose.
-use Rattle.std.proofs.Common.{◌≡◌, ◌⊎◌, ℕ, List, inl, inr, refl, ap, subst}
-use Rattle.std.specs.Prelude.{Option, None, Some, Result, IfOk}
-use Rattle.std.specs.Prelude as prelude
+use Rattle.std.proofs.Common.{◌≡◌, ◌⊎◌, ℕ, List, inl, inr, subst}
+use Rattle.std.specs.Prelude.{Option, None, Some}
+use Rattle.std.specs.Option.{IsSomeAnd}
 use Rattle.edge_io.specs.Files.{FileMap}
 use Rattle.edge_io.specs.Counts.{Rose}
-use Rattle.edge_io.specs.Sink.{Gains}
-use Rattle.site_inputs.specs.declared.fault.Fault.{Fault}
-use Rattle.site_inputs.specs.declared.fault.Fault.TheVariants as fault
+use Rattle.run_report.specs.declared.reports.Report.{Report}
 use Rattle.run_report.specs.declared.status.Status.{Status}
-use Rattle.run_report.specs.declared.status.Status.TheVariants.{Ok, NotAllYes, Usage, Refused, ReadFault, WriteFault, WireFault, PageFault, NoMemory, NotFound, TurnsSpent}
+use Rattle.run_report.specs.declared.status.Status.TheVariants.{WriteFault, NoMemory}
+use Rattle.command_spec.specs.declared.ReportCommand.{ReportCommand}
+use Rattle.command_spec.specs.declared.ReportCommand.TheVariants.{Check, CheckAll, Lint}
 use Rattle.command_spec.specs.declared.Command.{Command}
-use Rattle.command_spec.specs.declared.Command.TheVariants.{Page, Build, Data, Explain, Schema, Check, CheckAll, Lint, Serve, Replay, Trial, Help, Version}
-use Rattle.std.specs.Option.{IsSomeAnd}
-use Rattle.site_inputs.specs.Runs.{IsDecided, Decides}
+use Rattle.command_spec.specs.declared.Command.TheVariants as command
 use Rattle.site_inputs.specs.Statuses.{ReadRose}
-use Rattle.command_page.specs.Ends.{PageEnds}
-use Rattle.site_inputs.specs.Outside.{Host, Outside, PutsRose, AllRead, host, outside}
+use Rattle.site_inputs.specs.Outside.{Host, Outside, PutsRose, host, outside}
 use Rattle.wire.specs.Told.{WireReport}
-use Rattle.command_trial.specs.Ends.{TrialEnds}
-use Rattle.command_help.specs.Ends.{HelpEnds, VersionEnds}
-use Rattle.command_data.specs.Ends.{DataEnds}
-use Rattle.command_explain.specs.Ends.{ExplainEnds}
-use Rattle.command_schema.specs.Ends.{SchemaEnds}
-use Rattle.command_spec.specs.Inputs.{inputs_of_command, given_inputs}
-use Rattle.command_run.specs.Top.{TextEnds, CheckAnswers, LintAnswers, Ends, RunEnds, WriteRose, IsExact, answer_status}
-use Rattle.command_run.proofs.Decided.{answer_decides, report_decides, findings_decide}
-use Rattle.command_run.proofs.Reports.{exact_report}
+use Rattle.command_spec.specs.Inputs.{inputs_of_command, inputs_of_report, inputs_of_text, given_inputs}
+use Rattle.command_answers.specs.Texts.{TextAnswers}
+use Rattle.command_answers.specs.Reports.{HasOneReport, ReportAnswers}
+use Rattle.command_answers.proofs.Law.{text_answer_decides, report_answer_decides}
+use Rattle.command_run.specs.Top.{AnswerEnds, text_report, Ends, RunEnds, WriteRose, IsExact, IsExactEnd}
+use Rattle.command_run.proofs.Answered.{exact_answer}
 use Rattle.command_run.proofs.Checked.{exact_check}
-
-module _ (Answer : Result (List ℕ) Fault → Type 0) (decides : Decides Answer) (before after : Host) where
-  abbrev Old : Option (List ℕ)
-  Old = before.output
-
-  abbrev New : Option (List ℕ)
-  New = after.output
-
-  -- the run had one answer, and the inputs decide another: they are one
-  by_answer : (one answer : Result (List ℕ) Fault) → Answer one → IsDecided one → IfOk one (Gains Old New) → Answer answer → IsDecided answer
-      → (answer_status one ≡ answer_status answer) × IfOk answer (Gains Old New)
-  by_answer one answer ends d gained its e =
-      let same : one ≡ answer = decides.once one answer ends its d e in
-      (ap answer_status same, subst (λ a. IfOk a (Gains Old New)) same gained)
-
-  exact_text : (paths : List (List ℕ)) (status : Status)
-      → TextEnds Answer Old New status → ReadRose paths before.failed_reads after.failed_reads status → (status ≡ WriteFault → PutsRose before after)
-      → (answer : Result (List ℕ) Fault) → Answer answer → IsDecided answer → AllRead paths before after → ¬ PutsRose before after
-      → ((status ≡ answer_status answer) × IfOk answer (Gains Old New)) ⊎ (status ≡ NoMemory)
-  exact_text paths Ok ends read write = λ answer its d no_read no_write. inl (by_answer (prelude.Ok ends.text) answer ends.answer tt ends.gained its d)
-  exact_text paths Usage ends read write = absurd ends
-  exact_text paths NotAllYes ends read write = absurd ends
-  exact_text paths WireFault ends read write = absurd ends
-  exact_text paths TurnsSpent ends read write = absurd ends
-  exact_text paths (Refused file number place) ends read write = λ answer its d no_read no_write.
-      inl (by_answer (prelude.Err (fault.Refused (record { file = file; number = number; place = place }))) answer ends tt tt its d)
-  exact_text paths (ReadFault path) ends read write = λ answer its d no_read no_write. absurd (no_read path read.0 read.1)
-  exact_text paths WriteFault ends read write = λ answer its d no_read no_write. absurd (no_write (write refl))
-  exact_text paths (PageFault term kind) ends read write = λ answer its d no_read no_write. inl (by_answer (prelude.Err (fault.Faulty term kind)) answer ends tt tt its d)
-  exact_text paths NoMemory ends read write = λ answer its d no_read no_write. inr refl
-  exact_text paths NotFound ends read write = λ answer its d no_read no_write. inl (by_answer (prelude.Err fault.NotFound) answer ends tt tt its d)
 
 abbrev Wrote : Option FileMap → Option Command → Host → Host → Type 0
 Wrote contents given before after = WriteRose given contents before.failed_writes after.failed_writes (PutsRose before after)
 
 module _ (contents : Option FileMap) (before after : Outside) where
-  exact_end : (command : Command) (status : Status)
-      → Ends command before after status → ReadRose (inputs_of_command command) before.host.failed_reads after.host.failed_reads status → (status ≡ WriteFault → Wrote contents (Some command) before.host after.host) → IsExact command before.host after.host status
-  exact_end (Page command) status ends read write = exact_text (PageEnds before.host.files command) (answer_decides before.host.files (Page command)) before.host after.host (inputs_of_command (Page command)) status ends read write
-  exact_end (Data command) status ends read write = exact_text (DataEnds before.host.files command) (answer_decides before.host.files (Data command)) before.host after.host (inputs_of_command (Data command)) status ends read write
-  exact_end (Explain command) status ends read write = exact_text (ExplainEnds before.host.files command) (answer_decides before.host.files (Explain command)) before.host after.host (inputs_of_command (Explain command)) status ends read write
-  exact_end (Schema command) status ends read write = exact_text (SchemaEnds before.host.files command) (answer_decides before.host.files (Schema command)) before.host after.host (inputs_of_command (Schema command)) status ends read write
-  exact_end (Check command) status ends read write = exact_report (CheckAnswers before.host.files command) (report_decides before.host.files command) before.host after.host (inputs_of_command (Check command)) status ends read write
-  exact_end (CheckAll command) status ends read write = exact_check before.host.files command.query command.constraints before.host after.host status ends read write
-  exact_end (Lint command) status ends read write = exact_report (LintAnswers before.host.files command) (findings_decide before.host.files command) before.host after.host (inputs_of_command (Lint command)) status ends read write
-  exact_end (Trial command) status ends read write = exact_text (TrialEnds command) (answer_decides before.host.files (Trial command)) before.host after.host (inputs_of_command (Trial command)) status ends read write
-  exact_end (Help command) status ends read write = exact_text (HelpEnds command) (answer_decides before.host.files (Help command)) before.host after.host (inputs_of_command (Help command)) status ends read write
-  exact_end Version status ends read write = exact_text VersionEnds (answer_decides before.host.files Version) before.host after.host (inputs_of_command Version) status ends read write
-  exact_end (Build command) status ends read write = λ answer its d no_read no_write. absurd its
-  exact_end (Serve command) status ends read write = λ answer its d no_read no_write. absurd its
-  exact_end (Replay command) status ends read write = λ answer its d no_read no_write. absurd its
+  exact_report : (c : ReportCommand) → HasOneReport c → (status : Status) → AnswerEnds (λ report. report) (ReportAnswers before.host.files c) before.host.output after.host.output status
+      → ReadRose (inputs_of_report c) before.host.failed_reads after.host.failed_reads status → (status ≡ WriteFault → PutsRose before.host after.host) → IsExactEnd (λ report. report) (ReportAnswers before.host.files c) (inputs_of_report c) before.host after.host status
+  exact_report c one status ends read write = exact_answer (λ (r : Report). r) (ReportAnswers before.host.files c) (report_answer_decides before.host.files c one) before.host after.host (inputs_of_report c) status ends read write
+
+  exact_end : (given : Command) (status : Status)
+      → Ends given before after status → ReadRose (inputs_of_command given) before.host.failed_reads after.host.failed_reads status → (status ≡ WriteFault → Wrote contents (Some given) before.host after.host) → IsExact given before.host after.host status
+  exact_end (command.Text c) status ends read write = exact_answer text_report (TextAnswers before.host.files c) (text_answer_decides before.host.files c) before.host after.host (inputs_of_text c) status ends read write
+  exact_end (command.Report (CheckAll c)) status ends read write = exact_check before.host.files c.query c.constraints before.host after.host status ends read write
+  exact_end (command.Report (Check c)) status ends read write = exact_report (Check c) tt status ends read write
+  exact_end (command.Report (Lint c)) status ends read write = exact_report (Lint c) tt status ends read write
+  exact_end (command.Build c) status ends read write = tt
+  exact_end (command.Serve c) status ends read write = tt
+  exact_end (command.Replay c) status ends read write = tt
 
   exact_run : (given : Option Command) (command : Command) (status : Status)
       → given ≡ Some command → RunEnds given before after status → ReadRose (given_inputs given) before.host.failed_reads after.host.failed_reads status → (status ≡ WriteFault → Wrote contents given before.host after.host) → IsExact command before.host after.host status
@@ -86,15 +47,18 @@ module _ (contents : Option FileMap) (before after : Outside) where
       (subst (λ (g : Option Command). ReadRose (given_inputs g) before.host.failed_reads after.host.failed_reads status) is_given read)
       (λ e. subst (λ (g : Option Command). Wrote contents g before.host after.host) is_given (write e))
 
-  memory_exact : (command : Command) (reported : Status) → reported ≡ NoMemory → IsExact command before.host after.host reported
-  memory_exact (Check command) reported memory = λ answer its d no_read no_write. inr memory
-  memory_exact (Lint command) reported memory = λ answer its d no_read no_write. inr memory
-  memory_exact (CheckAll command) reported memory = λ no_read no_write. record {
+  memory_exact : (given : Command) (reported : Status) → reported ≡ NoMemory → IsExact given before.host after.host reported
+  memory_exact (command.Text c) reported memory = λ answer its d no_read no_write. inr memory
+  memory_exact (command.Report (CheckAll c)) reported memory = λ all no_put. record {
     all_shown = λ query constraints inputs shown. inr memory;
     not_all_shown = λ query constraints inputs shown. inr memory;
     refused = λ reason ended decided. inr memory;
   }
-  memory_exact command reported memory = λ answer its d no_read no_write. inr memory
+  memory_exact (command.Report (Check c)) reported memory = λ answer its d no_read no_write. inr memory
+  memory_exact (command.Report (Lint c)) reported memory = λ answer its d no_read no_write. inr memory
+  memory_exact (command.Build c) reported memory = tt
+  memory_exact (command.Serve c) reported memory = tt
+  memory_exact (command.Replay c) reported memory = tt
 
   reported_exact : (command : Command) (status reported : Status)
       → IsExact command before.host after.host status → (reported ≡ status) ⊎ (reported ≡ NoMemory) → IsExact command before.host after.host reported

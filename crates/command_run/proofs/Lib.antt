@@ -1,7 +1,7 @@
+pub mod Answered
+pub mod Memory
 pub mod Ends
-pub mod Decided
 pub mod Exact
 pub mod Complete
-pub mod Reports
 pub mod Checked
 pub mod Linted

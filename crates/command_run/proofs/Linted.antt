@@ -9,22 +9,24 @@ use Rattle.site_inputs.specs.Outside.{Outside, outside}
 use Rattle.wire.specs.Told.{WireReport}
 use Rattle.command_spec.specs.declared.LintCommand.{LintCommand}
 use Rattle.command_spec.specs.declared.Command.{Command}
-use Rattle.command_spec.specs.declared.Command.TheVariants.{Lint}
+use Rattle.command_spec.specs.declared.Command.TheVariants as command
+use Rattle.command_spec.specs.declared.ReportCommand.TheVariants.{Lint}
+use Rattle.command_answers.specs.Reports.{ReportAnswers}
 use Rattle.command_lint.specs.Law.{TellsFindings}
 use Rattle.command_lint.proofs.Law.{tells_findings}
-use Rattle.command_run.specs.Top.{LintAnswers, ReportEnds, Ends, RunEnds, HasTold, FindingsAreTold}
+use Rattle.command_run.specs.Top.{AnswerEnds, Ends, RunEnds, HasTold, FindingsAreTold}
 
 -- at a status at which it has told of all that its texts ask for
-findings : (map : FileMap) (c : LintCommand) (old new : Option (List ℕ)) (status : Status) → ReportEnds (LintAnswers map c) old new status → HasTold status → TellsFindings map c.sources c.query c.templates old new status
+findings : (map : FileMap) (c : LintCommand) (old new : Option (List ℕ)) (status : Status) → AnswerEnds (λ report. report) (ReportAnswers map (Lint c)) old new status → HasTold status → TellsFindings map c.sources c.query c.templates old new status
 findings map c old new Ok ends told =
-    tells_findings map c.sources c.query c.templates old new Ok ends.report ends.answer ends.gained (λ ok. ends.verdict, λ met. refl)
+    tells_findings map c.sources c.query c.templates old new Ok ends.given ends.answer ends.gained (λ ok. ends.verdict, λ met. refl)
 findings map c old new NotAllYes ends told =
-    tells_findings map c.sources c.query c.templates old new NotAllYes ends.report ends.answer ends.gained (λ ok. absurd cc, λ met. (let none = ends.verdict in absurd cc))
+    tells_findings map c.sources c.query c.templates old new NotAllYes ends.given ends.answer ends.gained (λ ok. absurd cc, λ met. (let none = ends.verdict in absurd cc))
 findings map c old new status ends told = absurd told
 
-findings_told : (command : Command) (before after : Outside) (status : Status) → Ends command before after status → FindingsAreTold command before.host.files before.host.output after.host.output status
-findings_told (Lint command) before after status ends = findings before.host.files command before.host.output after.host.output status ends
-findings_told command before after status ends = tt
+findings_told : (given : Command) (before after : Outside) (status : Status) → Ends given before after status → FindingsAreTold given before.host.files before.host.output after.host.output status
+findings_told (command.Report (Lint c)) before after status ends = findings before.host.files c before.host.output after.host.output status ends
+findings_told given before after status ends = tt
 
 module _ (reads reads_now writes writes_now : List ℕ → ℕ) (output output_now : Option (List ℕ)) (puts puts_now : ℕ) (wire wire_now : WireReport) where
   abbrev pub Before : FileMap → Outside

@@ -3,8 +3,7 @@ use Rattle.std.specs.Prelude.{⊤}
 use Rattle.run_report.specs.declared.status.Status.{Status}
 use Rattle.command_spec.specs.Inputs.{inputs_of_command}
 use Rattle.command_spec.specs.declared.Command.{Command}
-use Rattle.command_spec.specs.declared.Command.TheVariants.{Page, Build, Data, Explain, Schema, Check, CheckAll}
-use Rattle.command_spec.specs.declared.Command.TheVariants.{Lint, Serve, Replay, Trial, Help, Version}
+use Rattle.command_spec.specs.declared.Command.TheVariants.{Build, Serve, Replay}
 use Rattle.site_inputs.specs.Outside.{Outside, AllRead}
 use Rattle.command_build.specs.Law.{BuildIsDecided}
 use Rattle.command_serve.specs.Law.{ServingIsDecided}
@@ -18,16 +17,7 @@ IsDecidedRun (Serve command) before after reached =
     ServingIsDecided command before after reached
 IsDecidedRun (Replay command) before after reached =
     ReplayIsDecided command before.host after.host reached
-IsDecidedRun (Page command) before after reached = ⊤
-IsDecidedRun (Data command) before after reached = ⊤
-IsDecidedRun (Explain command) before after reached = ⊤
-IsDecidedRun (Schema command) before after reached = ⊤
-IsDecidedRun (Check command) before after reached = ⊤
-IsDecidedRun (CheckAll command) before after reached = ⊤
-IsDecidedRun (Lint command) before after reached = ⊤
-IsDecidedRun (Trial command) before after reached = ⊤
-IsDecidedRun (Help command) before after reached = ⊤
-IsDecidedRun Version before after reached = ⊤
+IsDecidedRun command before after reached = ⊤
 
 -- Where each of the command's files could be read, its inputs decide how the run ends that nothing outside fails.
 abbrev pub IsComplete : Command → (before after : Outside) → Status → Type 0

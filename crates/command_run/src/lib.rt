@@ -1,9 +1,10 @@
-//! The program's public calls: `strudel` runs the command of the words over files, outputs and a
-//! wire, and `wire_waits` says how long that wire waits.
+//! The program's public calls: `GivenWords::read` reads the command of the words, once; its `waits`
+//! says how long the wire is to wait, and `strudel` runs the command over files, outputs and that
+//! wire.
 #![tactic(auto)]
 
+mod given;
 mod top;
-mod waits;
 
+pub use given::GivenWords;
 pub use top::strudel;
-pub use waits::wire_waits;

@@ -10,33 +10,26 @@ ghost use Rattle.site_inputs.specs.Statuses.{ReadRose, IsSilent};
 ghost use Rattle.site_inputs.specs.Outside.{host, outside};
 ghost use Rattle.command_run.specs.Complete.{IsComplete};
 ghost use Rattle.command_spec.specs.Inputs.{inputs_of_command, given_inputs};
-ghost use Rattle.command_run.specs.Top.{Ends, TextEnds, ReportEnds, RunEnds, IsExact, AnswersHold};
+ghost use Rattle.command_run.specs.Top.{Ends, AnswerEnds, text_report, RunEnds, IsExact, AnswersHold};
 ghost use Rattle.command_run.specs.Top.{FindingsAreTold, WriteRose, WritesNoFile, UsesNoWire};
 
+use crate::given::GivenWords;
+use command_answers::{report_answer, text_answer};
 use command_build::build;
-use command_check::{check_all, check_here};
-use command_data::data;
-use command_explain::explain;
-use command_help::{help, version};
-use command_lint::lint;
-use command_page::page;
 use command_replay::replay;
-use command_schema::schema_text;
 use command_serve::serve;
 use command_spec::Command;
-use command_trial::trial;
-use command_words::read_command;
-use constraint_report::Report;
 use edge_io::{Files, Sink};
-use run_report::{Status, report};
-use sd_value::{NoMemory, Str};
+use run_report::{Report, Status, report};
+use sd_value::Str;
 use site_inputs::Fault;
 use std::alloc::Global;
 use wire::Wire;
 
 // Puts the text that a command is answered, or gives the status of the fault.
 fn put_answer<O: Sink>(answer: Result<Str, Fault>, out: &mut O) -> Status
-    ensures ends { TextEnds (λ a. a ≡ answer) (O.text out.old) (O.text out.new) result }
+    ensures ends { AnswerEnds text_report (λ a. a ≡ answer)
+        (O.text out.old) (O.text out.new) result }
     ensures words { result ≡ Status.Usage → ⊥ }
     ensures silent { IsSilent result → out.new ≡ out.old }
     ensures write_cause { result ≡ Status.WriteFault → Rose (O.failed out.old) (O.failed out.new) }
@@ -50,9 +43,10 @@ fn put_answer<O: Sink>(answer: Result<Str, Fault>, out: &mut O) -> Status
     }
 }
 
-// Puts the report of constraints that a command is answered, or gives the status of the fault.
+// Puts the text of the report that a command is answered, or gives the status of the fault.
 fn put_report<O: Sink>(answer: Result<Report, Fault>, out: &mut O) -> Status
-    ensures ends { ReportEnds (λ a. a ≡ answer) (O.text out.old) (O.text out.new) result }
+    ensures ends { AnswerEnds (λ report. report) (λ a. a ≡ answer)
+        (O.text out.old) (O.text out.new) result }
     ensures words { result ≡ Status.Usage → ⊥ }
     ensures silent { IsSilent result → out.new ≡ out.old }
     ensures write_cause { result ≡ Status.WriteFault → Rose (O.failed out.old) (O.failed out.new) }
@@ -60,7 +54,7 @@ fn put_report<O: Sink>(answer: Result<Report, Fault>, out: &mut O) -> Status
     match answer {
         Ok(report) => match out.put(report.text.bytes()) {
             Ok(()) => {
-                if report.all_met {
+                if report.passed {
                     Status::Ok
                 } else {
                     Status::NotAllYes
@@ -103,68 +97,24 @@ fn run_command<F: Files, O: Sink, W: Wire>(
         (Rose (O.failed out.old) (O.failed out.new)) }
 {
     match command {
-        Command::Page(command) => {
-            let answer = page(alloc, files, command);
+        Command::Text(command) => {
+            let answer = text_answer(alloc, files, command);
             put_answer(answer, out)
+        }
+        Command::Report(command) => {
+            let answer = report_answer(alloc, files, command);
+            put_report(answer, out)
         }
         Command::Build(command) => build(alloc, files, out, command),
-        Command::Data(command) => {
-            let answer = data(alloc, files, command);
-            put_answer(answer, out)
-        }
         Command::Serve(command) => serve(alloc, files, out, wire, command),
         Command::Replay(command) => replay(alloc, files, out, command),
-        Command::Explain(command) => {
-            let answer = explain(alloc, files, command);
-            put_answer(answer, out)
-        }
-        Command::Schema(command) => {
-            let answer = schema_text(alloc, files, command);
-            put_answer(answer, out)
-        }
-        Command::Check(command) => {
-            let answer = check_here(
-                alloc,
-                files,
-                &command.sources,
-                &command.query,
-                &command.constraints,
-            );
-            put_report(answer, out)
-        }
-        Command::CheckAll(command) => {
-            let answer = check_all(alloc, files, &command.query, &command.constraints);
-            put_report(answer, out)
-        }
-        Command::Lint(command) => {
-            let answer = lint(
-                alloc,
-                files,
-                &command.sources,
-                &command.query,
-                &command.templates,
-            );
-            put_report(answer, out)
-        }
-        Command::Trial(command) => {
-            let answer = trial(alloc, command);
-            put_answer(answer, out)
-        }
-        Command::Help(command) => {
-            let answer = help(alloc, command);
-            put_answer(answer, out)
-        }
-        Command::Version => {
-            let answer = version(alloc);
-            put_answer(answer, out)
-        }
     }
 }
 
 // Runs the command of the words.
 fn run<F: Files, O: Sink, W: Wire>(
     alloc: Global,
-    words: &[Str],
+    words: &GivenWords,
     files: &mut F,
     out: &mut O,
     wire: &mut W,
@@ -193,19 +143,17 @@ fn run<F: Files, O: Sink, W: Wire>(
         (F.failed_writes files.old) (F.failed_writes files.new)
         (Rose (O.failed out.old) (O.failed out.new)) }
 {
-    let command = match read_command(alloc, words) {
-        Ok(Some(command)) => command,
-        Ok(None) => return Status::Usage,
-        Err(NoMemory) => return Status::NoMemory,
-    };
-    run_command(alloc, files, out, wire, &command)
+    match words.command() {
+        Some(command) => run_command(alloc, files, out, wire, command),
+        None => Status::Usage,
+    }
 }
 
 /// Does all that the program does. `words` are those after the program's name. The answer is put on `out`, and a line
 /// on `err` reports any other end; the status has the exit code. `serve` takes its connections from `wire`.
 pub fn strudel<F: Files, O: Sink, E: Sink, W: Wire>(
     alloc: Global,
-    words: &[Str],
+    words: &GivenWords,
     files: &mut F,
     out: &mut O,
     err: &mut E,

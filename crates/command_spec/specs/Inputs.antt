@@ -4,8 +4,11 @@ use Rattle.command_spec.specs.declared.DataFiles.{DataFiles}
 use Rattle.command_spec.specs.declared.ExplainCommand.{ExplainCommand}
 use Rattle.command_spec.specs.declared.ReplayCommand.{ReplayCommand}
 use Rattle.command_spec.specs.declared.Command.{Command}
-use Rattle.command_spec.specs.declared.Command.TheVariants.{Page, Build, Data, Explain, Schema, Check, CheckAll}
-use Rattle.command_spec.specs.declared.Command.TheVariants.{Lint, Serve, Replay, Trial, Help, Version}
+use Rattle.command_spec.specs.declared.Command.TheVariants.{Text, Report, Build, Serve, Replay}
+use Rattle.command_spec.specs.declared.ReportCommand.{ReportCommand}
+use Rattle.command_spec.specs.declared.ReportCommand.TheVariants.{Check, CheckAll, Lint}
+use Rattle.command_spec.specs.declared.TextCommand.{TextCommand}
+use Rattle.command_spec.specs.declared.TextCommand.TheVariants.{Page, Data, Explain, Schema}
 
 -- the inputs of the data: the data files, and then the first query, if there is one
 abbrev pub data_paths : (sources : DataFiles) (over : Option (List ℕ)) → List (List ℕ)
@@ -34,25 +37,27 @@ replay_paths command =
     input_paths (data_paths command.sources command.over) command.query command.templates
     ++ (command.script ∷ [])
 
+-- those of a command that is answered by a text
+abbrev pub inputs_of_text : TextCommand → List (List ℕ)
+inputs_of_text (Page c) = input_paths (data_paths c.sources c.over) c.query c.templates
+inputs_of_text (Data c) = data_paths c.sources c.over
+inputs_of_text (Explain c) = explain_paths c
+inputs_of_text (Schema c) = c.query ∷ []
+inputs_of_text c = []
+
+-- those of a command that is answered by a report
+abbrev pub inputs_of_report : ReportCommand → List (List ℕ)
+inputs_of_report (Check c) = here_paths c.sources c.query c.constraints
+inputs_of_report (CheckAll c) = check_paths c.query c.constraints
+inputs_of_report (Lint c) = input_paths c.sources.paths c.query c.templates
+
 -- the paths of a command's own files
 abbrev pub inputs_of_command : Command → List (List ℕ)
-inputs_of_command (Page command) =
-    input_paths (data_paths command.sources command.over) command.query command.templates
-inputs_of_command (Build command) =
-    input_paths (data_paths command.sources command.over) command.query command.templates
-inputs_of_command (Data command) = data_paths command.sources command.over
-inputs_of_command (Explain command) = explain_paths command
-inputs_of_command (Schema command) = command.query ∷ []
-inputs_of_command (Check command) = here_paths command.sources command.query command.constraints
-inputs_of_command (CheckAll command) = check_paths command.query command.constraints
-inputs_of_command (Lint command) =
-    input_paths command.sources.paths command.query command.templates
-inputs_of_command (Serve command) =
-    input_paths (data_paths command.sources command.over) command.query command.templates
-inputs_of_command (Replay command) = replay_paths command
-inputs_of_command (Trial command) = []
-inputs_of_command (Help command) = []
-inputs_of_command Version = []
+inputs_of_command (Text c) = inputs_of_text c
+inputs_of_command (Report c) = inputs_of_report c
+inputs_of_command (Build c) = input_paths (data_paths c.sources c.over) c.query c.templates
+inputs_of_command (Serve c) = input_paths (data_paths c.sources c.over) c.query c.templates
+inputs_of_command (Replay c) = replay_paths c
 
 -- those of the command that the words give, if any
 abbrev pub given_inputs : Option Command → List (List ℕ)

@@ -1,15 +1,14 @@
 -- The numbers of options whose value is one.
-use Rattle.std.specs.Prelude.{ℕ, List, [], ◌∷◌, length, Bool, ◌&&◌, nat_le, Option, None, Some, if◌then◌else◌}
+use Rattle.std.specs.Prelude.{ℕ, List, length, Bool, ◌&&◌, nat_le, Option, None, Some, if◌then◌else◌}
 use Rattle.std.specs.List.{list_all}
 use Rattle.std.specs.Char.{is_ascii_digit}
 use Rattle.std.specs.Str.Parse.{digits_value}
 use Rattle.command_spec.specs.Limits.{count_limit, port_limit, cache_limit, wait_limit}
-use Rattle.command_spec.specs.Options.{Setting}
 use Rattle.command_spec.specs.declared.numbers.NumberOption.{NumberOption}
 use Rattle.command_spec.specs.declared.numbers.NumberOption.TheVariants.{Port, Connections, Requests, Turns, Cache}
 use Rattle.command_spec.specs.declared.numbers.NumberOption.TheVariants.{Idle, Stall, Every}
 use Rattle.command_spec.specs.declared.options.ValueOption.TheVariants.{Number}
-use Rattle.command_spec.specs.Values.{values_of}
+use Rattle.command_spec.specs.Values.{Given}
 
 -- the greatest number of the option, from 1 on
 abbrev pub greatest : NumberOption → ℕ
@@ -22,7 +21,7 @@ greatest Idle = wait_limit
 greatest Stall = wait_limit
 greatest Every = count_limit
 
--- what an option is where it isn't given
+-- what an option is if it isn't given
 abbrev pub default_of : NumberOption → ℕ
 default_of Port = 8080
 default_of Connections = count_limit
@@ -45,12 +44,11 @@ within most value = if nat_le 1 value && nat_le value most then Some value else 
 abbrev pub number : ℕ → List ℕ → Option ℕ
 number most text = if is_numeral text then within most (digits_value 10 text) else None
 
--- what an option with these values is
-abbrev pub one_number : NumberOption → List (List ℕ) → Option ℕ
-one_number option [] = Some (default_of option)
-one_number option (value ∷ []) = number (greatest option) value
-one_number option (value ∷ other ∷ more) = None
+-- the number of an option with this text, or its default where it isn't given
+abbrev pub number_or_default : NumberOption → Option (List ℕ) → Option ℕ
+number_or_default option None = Some (default_of option)
+number_or_default option (Some text) = number (greatest option) text
 
--- what the option is: its default where it isn't given, and nothing where it is given twice or its value is no number
-abbrev pub number_of : NumberOption → List Setting → Option ℕ
-number_of option settings = one_number option (values_of (Number option) settings)
+-- the number of the option: nothing where its text is no number in its range
+abbrev pub number_of : NumberOption → Given → Option ℕ
+number_of option given = number_or_default option (given (Number option))

@@ -1,13 +1,14 @@
 -- The ranges in which the numbers of a command lie.
-use Rattle.std.specs.Prelude.{ℕ, ◌≤◌, IfSome}
+use Rattle.std.specs.Prelude.{ℕ, ◌≤◌, IfSome, ⊤}
 use Rattle.command_spec.specs.Limits.{entry_limit, count_limit, port_limit, cache_limit, wait_limit}
 use Rattle.command_spec.specs.declared.RunLimits.{RunLimits}
 use Rattle.command_spec.specs.declared.ServeOptions.{ServeOptions}
 use Rattle.command_spec.specs.declared.ServeWaits.{ServeWaits}
 use Rattle.command_spec.specs.declared.WatchOptions.{WatchOptions}
 use Rattle.command_spec.specs.declared.Command.{Command}
-use Rattle.command_spec.specs.declared.Command.TheVariants.{Page, Build, Data, Explain, Schema, Check, CheckAll}
-use Rattle.command_spec.specs.declared.Command.TheVariants.{Lint, Serve, Replay, Trial, Help, Version}
+use Rattle.command_spec.specs.declared.Command.TheVariants.{Text, Serve, Replay}
+use Rattle.command_spec.specs.declared.TextCommand.{TextCommand}
+use Rattle.command_spec.specs.declared.TextCommand.TheVariants.{Trial}
 
 -- a number from 1 to `most`
 abbrev pub IsFrom1To : ℕ → ℕ → Type 0
@@ -35,18 +36,14 @@ pub record AreServeOptions (options : ServeOptions) : Type 0 where
 abbrev pub IsWatchInRange : WatchOptions → Type 0
 IsWatchInRange watch = IsFrom1To count_limit watch.every
 
+-- the numbers of a command that is answered by a text are in their ranges
+abbrev pub IsTextInRange : TextCommand → Type 0
+IsTextInRange (Trial c) = IsFrom1To entry_limit c.entries
+IsTextInRange c = ⊤
+
 -- the numbers of the command are in their ranges
 abbrev pub IsInRange : Command → Type 0
+IsInRange (Text c) = IsTextInRange c
 IsInRange (Serve c) = AreServeOptions c.options × IfSome c.watch IsWatchInRange
 IsInRange (Replay c) = AreLimits c.limits
-IsInRange (Page c) = Unit {0}
-IsInRange (Build c) = Unit {0}
-IsInRange (Data c) = Unit {0}
-IsInRange (Explain c) = Unit {0}
-IsInRange (Schema c) = Unit {0}
-IsInRange (Check c) = Unit {0}
-IsInRange (CheckAll c) = Unit {0}
-IsInRange (Lint c) = Unit {0}
-IsInRange (Trial c) = IsFrom1To entry_limit c.entries
-IsInRange (Help c) = Unit {0}
-IsInRange Version = Unit {0}
+IsInRange c = ⊤

@@ -1,5 +1,6 @@
 -- The options that have a value: their names, and the values that they are given.
-use Rattle.std.specs.Prelude.{ℕ, List, [], ◌∷◌, ◌++◌, map, filter, Bool, Option, None, Some, codes}
+use Rattle.std.specs.Prelude.{ℕ, List, [], ◌∷◌, ◌++◌, map, filter, Bool, true, false}
+use Rattle.std.specs.Prelude.{◌&&◌, Option, None, Some, codes}
 use Rattle.std.specs.List.{list_all, list_any}
 use Rattle.std.specs.Str.{bytes_eq}
 use Rattle.command_spec.specs.Options.{Setting}
@@ -41,16 +42,6 @@ abbrev pub values_of : ValueOption → List Setting → List (List ℕ)
 values_of option settings =
     map (λ s. s.value) (filter (λ s. bytes_eq s.name (option_word option)) settings)
 
--- the path of an option with these values, if it has one: nothing where it is given twice
-abbrev pub one_path : List (List ℕ) → Option (Option (List ℕ))
-one_path [] = Some None
-one_path (path ∷ []) = Some (Some path)
-one_path (path ∷ other ∷ more) = None
-
--- the path of the option, if it is given
-abbrev pub path_of : PathOption → List Setting → Option (Option (List ℕ))
-path_of option settings = one_path (values_of (Path option) settings)
-
 -- whether the name is that of one of these options
 abbrev pub is_among : List ValueOption → List ℕ → Bool
 is_among options name = list_any (λ option. bytes_eq name (option_word option)) options
@@ -58,3 +49,26 @@ is_among options name = list_any (λ option. bytes_eq name (option_word option))
 -- whether each option is one of these
 abbrev pub are_among : List ValueOption → List Setting → Bool
 are_among options settings = list_all (λ setting. is_among options setting.name) settings
+
+-- at most one value
+abbrev pub is_once : List (List ℕ) → Bool
+is_once (value ∷ other ∷ more) = false
+is_once values = true
+
+-- whether each option is one of these, and is given at most once
+abbrev pub are_options : List ValueOption → List Setting → Bool
+are_options options settings =
+    are_among options settings && list_all (λ option. is_once (values_of option settings)) options
+
+-- the text of each option that is given
+abbrev pub Given : Type 0
+Given = ValueOption → Option (List ℕ)
+
+-- the first value, if there is one
+abbrev pub first_value : List (List ℕ) → Option (List ℕ)
+first_value [] = None
+first_value (value ∷ values) = Some value
+
+-- the texts of the options among these
+abbrev pub given_in : List Setting → Given
+given_in settings option = first_value (values_of option settings)

@@ -1,5 +1,5 @@
 -- Which words give a command.
-use Rattle.std.specs.Prelude.{ℕ, suc, ◌+◌, List, [], ◌∷◌, ◌++◌, take, drop, Bool, true, false, ◌&&◌, not}
+use Rattle.std.specs.Prelude.{ℕ, suc, ◌+◌, List, [], ◌∷◌, ◌++◌, take, drop, Bool, true, false, ◌&&◌, ◌||◌, not}
 use Rattle.std.specs.Prelude.{Option, None, Some, option_map, option_and_then, if◌then◌else◌, codes}
 use Rattle.std.specs.List.{list_all}
 use Rattle.std.specs.Str.{bytes_eq, is_utf8}
@@ -7,20 +7,23 @@ use Rattle.command_spec.specs.Limits.{entry_limit}
 use Rattle.command_spec.specs.declared.numbers.NumberOption.TheVariants.{Port, Connections, Requests}
 use Rattle.command_spec.specs.declared.numbers.NumberOption.TheVariants.{Turns, Cache, Idle, Stall, Every}
 use Rattle.command_spec.specs.declared.options.PathOption.TheVariants.{Watch, Over}
-use Rattle.command_spec.specs.declared.options.ValueOption.{ValueOption}
 use Rattle.command_spec.specs.declared.options.ValueOption.TheVariants.{Number, Path}
+use Rattle.command_spec.specs.declared.rows.CommandName.{CommandName}
+use Rattle.command_spec.specs.declared.rows.CommandName.TheVariants as names
+use Rattle.command_spec.specs.declared.rows.Flags.{Flags}
 use Rattle.command_spec.specs.declared.RunLimits.{RunLimits}
 use Rattle.command_spec.specs.declared.ServeOptions.{ServeOptions}
 use Rattle.command_spec.specs.declared.ServeWaits.{ServeWaits}
 use Rattle.command_spec.specs.declared.WatchOptions.{WatchOptions}
 use Rattle.command_spec.specs.declared.Command.{Command}
-use Rattle.command_spec.specs.declared.Command.TheVariants.{Page, Build, Data, Explain, Schema, Check, CheckAll}
-use Rattle.command_spec.specs.declared.Command.TheVariants.{Lint, Serve, Replay, Trial, Help, Version}
-use Rattle.command_spec.specs.DataFiles.{data_files, read_leniently}
-use Rattle.command_spec.specs.Names.{name_of}
-use Rattle.command_spec.specs.Options.{Parts, Setting, is_empty, parts_of}
-use Rattle.command_spec.specs.Numbers.{number, number_of, one_number}
-use Rattle.command_spec.specs.Values.{are_among, path_of, values_of}
+use Rattle.command_spec.specs.declared.Command.TheVariants.{Text, Report, Build, Serve, Replay}
+use Rattle.command_spec.specs.declared.ReportCommand.TheVariants.{Check, CheckAll, Lint}
+use Rattle.command_spec.specs.declared.TextCommand.TheVariants.{Page, Data, Explain, Schema, Trial, Help, Version}
+use Rattle.command_spec.specs.DataFiles.{data_files}
+use Rattle.command_spec.specs.Rows.{row, name_of, lenient_flag}
+use Rattle.command_spec.specs.Options.{Parts, is_empty, parts_of}
+use Rattle.command_spec.specs.Numbers.{number, number_of, number_or_default}
+use Rattle.command_spec.specs.Values.{Given, are_options, given_in}
 
 -- the first answer, and then the second of it
 infixl 10 ◌>>=◌
@@ -31,256 +34,223 @@ found >>= next = option_and_then next found
 abbrev pub is_word : List ℕ → Bool
 is_word word = is_utf8 word && not (is_empty word)
 
--- the words after `page`, over this first query, if any
-abbrev pub page_command : Option (List ℕ) → List (List ℕ) → Option Command
-page_command over (query ∷ templates ∷ address ∷ source ∷ sources) =
-    Some (Page (record {
+-- ---- the words of a command that are no options, where its data are read leniently or not
+
+-- the words of `page`, over this first query, if any
+abbrev pub page_command : Bool → Option (List ℕ) → List (List ℕ) → Option Command
+page_command lenient over (query ∷ templates ∷ address ∷ source ∷ sources) =
+    Some (Text (Page (record {
       query = query;
       templates = templates;
       address = address;
-      sources = data_files (source ∷ sources);
+      sources = data_files lenient (source ∷ sources);
       over = over;
-    }))
-page_command over words = None
+    })))
+page_command lenient over words = None
 
--- the words after `build`
-abbrev pub build_command : Option (List ℕ) → List (List ℕ) → Option Command
-build_command over (query ∷ templates ∷ folder ∷ source ∷ sources) =
+-- the words of `build`
+abbrev pub build_command : Bool → Option (List ℕ) → List (List ℕ) → Option Command
+build_command lenient over (query ∷ templates ∷ folder ∷ source ∷ sources) =
     Some (Build (record {
       query = query;
       templates = templates;
       folder = folder;
-      sources = data_files (source ∷ sources);
+      sources = data_files lenient (source ∷ sources);
       over = over;
     }))
-build_command over words = None
+build_command lenient over words = None
 
--- the words after `data`
-abbrev pub data_command : Option (List ℕ) → List (List ℕ) → Option Command
-data_command over (source ∷ sources) =
-    Some (Data (record { sources = data_files (source ∷ sources); over = over }))
-data_command over [] = None
+-- the words of `data`
+abbrev pub data_command : Bool → Option (List ℕ) → List (List ℕ) → Option Command
+data_command lenient over (source ∷ sources) =
+    Some (Text (Data (record { sources = data_files lenient (source ∷ sources); over = over })))
+data_command lenient over [] = None
 
--- the words after `explain`
-abbrev pub explain_command : List (List ℕ) → Option Command
-explain_command (query ∷ source ∷ sources) =
-    Some (Explain (record { query = query; sources = data_files (source ∷ sources) }))
-explain_command words = None
+-- the words of `explain`
+abbrev pub explain_command : Bool → List (List ℕ) → Option Command
+explain_command lenient (query ∷ source ∷ sources) =
+    Some (Text (Explain (record { query = query; sources = data_files lenient (source ∷ sources) })))
+explain_command lenient words = None
 
--- the words after `schema`, its flag aside
-abbrev pub schema_command : List (List ℕ) → Option Command
-schema_command (query ∷ []) = Some (Schema (record { query = query; dot = false }))
-schema_command words = None
+-- the words of `schema`, which prints a picture with its flag
+abbrev pub schema_command : Bool → List (List ℕ) → Option Command
+schema_command dot (query ∷ []) = Some (Text (Schema (record { query = query; dot = dot })))
+schema_command dot words = None
 
--- the words after `check`, its flag aside: with data it is the command over these data, and without
--- the one over every data graph
-abbrev pub check_command : List (List ℕ) → Option Command
-check_command (query ∷ constraints ∷ []) =
-    Some (CheckAll (record { query = query; constraints = constraints }))
-check_command (query ∷ constraints ∷ source ∷ sources) =
-    Some (Check (record {
+-- `check` over every data graph has no flag
+abbrev pub check_all_command : Flags → List ℕ → List ℕ → Option Command
+check_all_command flags query constraints =
+    if flags.own || flags.lenient then None
+    else Some (Report (CheckAll (record { query = query; constraints = constraints })))
+
+-- `check` over data has its flag
+abbrev pub check_here_command : Flags → List ℕ → List ℕ → List (List ℕ) → Option Command
+check_here_command flags query constraints sources =
+    if flags.own then
+    Some (Report (Check (record {
       query = query;
       constraints = constraints;
-      sources = data_files (source ∷ sources);
-    }))
-check_command words = None
+      sources = data_files flags.lenient sources;
+    })))
+    else None
 
--- the words after `lint`
-abbrev pub lint_command : List (List ℕ) → Option Command
-lint_command (query ∷ templates ∷ source ∷ sources) =
-    Some (Lint (record {
+-- the words of `check`: with data it is the command over these data, and without the one over every
+-- data graph
+abbrev pub check_command : Flags → List (List ℕ) → Option Command
+check_command flags (query ∷ constraints ∷ []) = check_all_command flags query constraints
+check_command flags (query ∷ constraints ∷ source ∷ sources) =
+    check_here_command flags query constraints (source ∷ sources)
+check_command flags words = None
+
+-- the words of `lint`
+abbrev pub lint_command : Bool → List (List ℕ) → Option Command
+lint_command lenient (query ∷ templates ∷ source ∷ sources) =
+    Some (Report (Lint (record {
       query = query;
       templates = templates;
-      sources = data_files (source ∷ sources);
-    }))
-lint_command words = None
+      sources = data_files lenient (source ∷ sources);
+    })))
+lint_command lenient words = None
 
--- the words after `trial`
+-- the words of `trial`
 abbrev pub trial_command : List (List ℕ) → Option Command
 trial_command (entries ∷ []) = do
   n ← number entry_limit entries
-  Some (Trial (record { entries = n }))
+  Some (Text (Trial (record { entries = n })))
 trial_command words = None
 
--- the words after `help`
+-- the words of `help`
 abbrev pub help_command : List (List ℕ) → Option Command
-help_command [] = Some (Help (record { name = None }))
+help_command [] = Some (Text (Help (record { name = None })))
 help_command (word ∷ []) = do
   name ← name_of word
-  Some (Help (record { name = Some name }))
+  Some (Text (Help (record { name = Some name })))
 help_command words = None
 
--- the words after `version`
+-- the words of `version`
 abbrev pub version_command : List (List ℕ) → Option Command
-version_command [] = Some Version
+version_command [] = Some (Text Version)
 version_command words = None
 
+-- the words of `serve`, its options aside
+abbrev pub serve_command
+    : ServeOptions → Option WatchOptions → Bool → Option (List ℕ) → List (List ℕ) → Option Command
+serve_command options watch lenient over (query ∷ templates ∷ source ∷ sources) =
+    Some (Serve (record {
+      query = query;
+      templates = templates;
+      sources = data_files lenient (source ∷ sources);
+      over = over;
+      options = options;
+      watch = watch;
+    }))
+serve_command options watch lenient over words = None
+
+-- the words of `replay`, its options aside
+abbrev pub replay_command
+    : RunLimits → Bool → Option (List ℕ) → List (List ℕ) → Option Command
+replay_command limits lenient over (query ∷ templates ∷ script ∷ source ∷ sources) =
+    Some (Replay (record {
+      query = query;
+      templates = templates;
+      script = script;
+      sources = data_files lenient (source ∷ sources);
+      over = over;
+      limits = limits;
+    }))
+replay_command limits lenient over words = None
+
+-- ---- options
+
 -- the limits of a run
-abbrev pub run_limits : List Setting → Option RunLimits
-run_limits settings = do
-  requests ← number_of Requests settings
-  turns ← number_of Turns settings
-  cache ← number_of Cache settings
+abbrev pub run_limits : Given → Option RunLimits
+run_limits given = do
+  requests ← number_of Requests given
+  turns ← number_of Turns given
+  cache ← number_of Cache given
   Some (record { requests = requests; turns = turns; cache = cache })
 
 -- how long `serve` waits for a connection
-abbrev pub serve_waits : List Setting → Option ServeWaits
-serve_waits settings = do
-  idle ← number_of Idle settings
-  stall ← number_of Stall settings
+abbrev pub serve_waits : Given → Option ServeWaits
+serve_waits given = do
+  idle ← number_of Idle given
+  stall ← number_of Stall given
   Some (record { idle = idle; stall = stall })
 
--- the numbers of `serve`, its flag aside
-abbrev pub serve_numbers : List Setting → Option ServeOptions
-serve_numbers settings = do
-  port ← number_of Port settings
-  connections ← number_of Connections settings
-  limits ← run_limits settings
-  waits ← serve_waits settings
+-- the options of `serve`, with or without its flag
+abbrev pub serve_options : Bool → Given → Option ServeOptions
+serve_options whole given = do
+  port ← number_of Port given
+  connections ← number_of Connections given
+  limits ← run_limits given
+  waits ← serve_waits given
   Some (record {
     port = port;
     connections = connections;
     limits = limits;
     waits = waits;
-    whole = false;
+    whole = whole;
   })
 
--- whether there are no options
-abbrev pub are_none : List Setting → Bool
-are_none [] = true
-are_none (setting ∷ settings) = false
-
--- the options that `serve` has
-abbrev pub options_of_serve : List ValueOption
-options_of_serve =
-    Number Port ∷ Number Connections ∷ Number Requests ∷ Number Turns ∷ Number Cache
-    ∷ Number Idle ∷ Number Stall ∷ Path Watch ∷ Number Every ∷ Path Over ∷ []
-
--- the options that `replay` has
-abbrev pub options_of_replay : List ValueOption
-options_of_replay = Number Requests ∷ Number Turns ∷ Number Cache ∷ Path Over ∷ []
-
--- the options that `page`, `build` and `data` have
-abbrev pub options_of_page : List ValueOption
-options_of_page = Path Over ∷ []
-
--- the options of `serve`
-abbrev pub serve_options : List Setting → Option ServeOptions
-serve_options settings =
-    if are_among options_of_serve settings then serve_numbers settings else None
-
--- the file that is watched, if one is, by the path of `--watch` and the values of `--every`, which doesn't stand alone
-abbrev pub watch_by : Option (List ℕ) → List (List ℕ) → Option (Option WatchOptions)
-watch_by None [] = Some None
-watch_by None (value ∷ values) = None
-watch_by (Some path) values =
-    option_map (λ every. Some (record { path = path; every = every })) (one_number Every values)
+-- the file that is watched, if one is, by the texts of `--watch` and of `--every`, which doesn't stand alone
+abbrev pub watch_by : Option (List ℕ) → Option (List ℕ) → Option (Option WatchOptions)
+watch_by None None = Some None
+watch_by None (Some text) = None
+watch_by (Some path) text =
+    option_map (λ every. Some (record { path = path; every = every }))
+    (number_or_default Every text)
 
 -- the file that `serve` watches
-abbrev pub serve_watch : List Setting → Option (Option WatchOptions)
-serve_watch settings = do
-  path ← path_of Watch settings
-  watch_by path (values_of (Number Every) settings)
+abbrev pub serve_watch : Given → Option (Option WatchOptions)
+serve_watch given = watch_by (given (Path Watch)) (given (Number Every))
 
--- the options of `replay`
-abbrev pub replay_options : List Setting → Option RunLimits
-replay_options settings =
-    if are_among options_of_replay settings then run_limits settings else None
+-- the file of the first query, if there is one
+abbrev pub first_query : Given → Option (List ℕ)
+first_query given = given (Path Over)
 
--- the words after `serve`, its options aside
-abbrev pub serve_command
-    : ServeOptions → Option WatchOptions → Option (List ℕ) → List (List ℕ) → Option Command
-serve_command options watch over (query ∷ templates ∷ source ∷ sources) =
-    Some (Serve (record {
-      query = query;
-      templates = templates;
-      sources = data_files (source ∷ sources);
-      over = over;
-      options = options;
-      watch = watch;
-    }))
-serve_command options watch over words = None
+-- `serve` with these options and words
+abbrev pub serve_with_words : Flags → Given → List (List ℕ) → Option Command
+serve_with_words flags given words = do
+  options ← serve_options flags.own given
+  watch ← serve_watch given
+  serve_command options watch flags.lenient (first_query given) words
 
--- the words after `replay`, its options aside
-abbrev pub replay_command : RunLimits → Option (List ℕ) → List (List ℕ) → Option Command
-replay_command limits over (query ∷ templates ∷ script ∷ source ∷ sources) =
-    Some (Replay (record {
-      query = query;
-      templates = templates;
-      script = script;
-      sources = data_files (source ∷ sources);
-      over = over;
-      limits = limits;
-    }))
-replay_command limits over words = None
+-- `replay` with these options and words
+abbrev pub replay_with_words : Flags → Given → List (List ℕ) → Option Command
+replay_with_words flags given words = do
+  limits ← run_limits given
+  replay_command limits flags.lenient (first_query given) words
 
--- a command without options
-abbrev pub plain_command : List ℕ → List (List ℕ) → Option Command
-plain_command name words =
-    if bytes_eq name (codes "explain") then explain_command words
-    else if bytes_eq name (codes "schema") then schema_command words
-    else if bytes_eq name (codes "check") then check_command words
-    else if bytes_eq name (codes "lint") then lint_command words
-    else if bytes_eq name (codes "trial") then trial_command words
-    else if bytes_eq name (codes "help") then help_command words
-    else if bytes_eq name (codes "version") then version_command words
+-- the command of this name with these flags, options and words
+abbrev pub command_of : CommandName → Flags → Given → List (List ℕ) → Option Command
+command_of names.Page flags given words = page_command flags.lenient (first_query given) words
+command_of names.Build flags given words = build_command flags.lenient (first_query given) words
+command_of names.Data flags given words = data_command flags.lenient (first_query given) words
+command_of names.Explain flags given words = explain_command flags.lenient words
+command_of names.Schema flags given words = schema_command flags.own words
+command_of names.Check flags given words = check_command flags words
+command_of names.Lint flags given words = lint_command flags.lenient words
+command_of names.Serve flags given words = serve_with_words flags given words
+command_of names.Replay flags given words = replay_with_words flags given words
+command_of names.Trial flags given words = trial_command words
+command_of names.Help flags given words = help_command words
+command_of names.Version flags given words = version_command words
+
+-- The command of this name with these flags, by the parts of the words after them: each option is one of the command's, and
+-- is given at most once.
+abbrev pub named_command : CommandName → Flags → Option Parts → Option Command
+named_command name flags None = None
+named_command name flags (Some parts) =
+    if are_options (row name).options parts.settings
+    then command_of name flags (given_in parts.settings) parts.words
     else None
 
--- the parts behind `serve`
-abbrev pub serve_parts : Parts → Option Command
-serve_parts parts = do
-  options ← serve_options parts.settings
-  watch ← serve_watch parts.settings
-  over ← path_of Over parts.settings
-  serve_command options watch over parts.words
+-- ---- flags: options without a value
 
--- the parts behind `replay`
-abbrev pub replay_parts : Parts → Option Command
-replay_parts parts = do
-  limits ← replay_options parts.settings
-  over ← path_of Over parts.settings
-  replay_command limits over parts.words
-
--- the first query of `page`, `build` or `data`, if there is one
-abbrev pub page_over : List Setting → Option (Option (List ℕ))
-page_over settings = if are_among options_of_page settings then path_of Over settings else None
-
--- the parts behind `page`, `build` or `data`, by what is made of the words
-abbrev pub page_parts
-    : (Option (List ℕ) → List (List ℕ) → Option Command) → Parts → Option Command
-page_parts made parts =
-    option_and_then (λ over. made over parts.words) (page_over parts.settings)
-
--- the parts behind a command without options
-abbrev pub plain_parts : List ℕ → Parts → Option Command
-plain_parts name parts =
-    if are_none parts.settings then plain_command name parts.words else None
-
--- what the words after the name say
-abbrev pub named_command : List ℕ → Option Parts → Option Command
-named_command name None = None
-named_command name (Some parts) =
-    if bytes_eq name (codes "serve") then serve_parts parts
-    else if bytes_eq name (codes "replay") then replay_parts parts
-    else if bytes_eq name (codes "page") then page_parts page_command parts
-    else if bytes_eq name (codes "build") then page_parts build_command parts
-    else if bytes_eq name (codes "data") then page_parts data_command parts
-    else plain_parts name parts
-
--- what the words say, where no word is a flag
-abbrev pub word_command : List (List ℕ) → Option Command
-word_command [] = None
-word_command (name ∷ words) = named_command name (parts_of None words)
-
--- ---- flags of one command: options without a value
-
--- the flag of the command of this name, if it has one
-abbrev pub flag_of : List ℕ → Option (List ℕ)
-flag_of name =
-    if bytes_eq name (codes "schema") then Some (codes "--dot")
-    else if bytes_eq name (codes "check") then Some (codes "--here")
-    else if bytes_eq name (codes "serve") then Some (codes "--whole")
-    else None
+-- whether a flag was among words, and the other words
+pub record Taken : Type 0 where
+  pub set : Bool
+  pub rest : List (List ℕ)
 
 -- where the flag stands first before a `--`, if it stands there at all
 abbrev pub flag_place : List ℕ → List (List ℕ) → Option ℕ
@@ -290,57 +260,34 @@ flag_place flag (word ∷ words) =
     else if bytes_eq word flag then Some 0
     else option_map suc (flag_place flag words)
 
--- the command with its flag, or without it: `check` has its flag exactly where it has data
-abbrev pub with_flag : Bool → Command → Option Command
-with_flag set (Schema c) = Some (Schema (record c { dot = set }))
-with_flag set (Serve c) = Some (Serve (record c { options = record c.options { whole = set } }))
-with_flag true (Check c) = Some (Check c)
-with_flag false (Check c) = None
-with_flag true (CheckAll c) = None
-with_flag false (CheckAll c) = Some (CheckAll c)
-with_flag set command = Some command
+-- the words without the one at this place, if the flag stands at one
+abbrev pub taken_at : List (List ℕ) → Option ℕ → Taken
+taken_at words None = record { set = false; rest = words }
+taken_at words (Some at) = record { set = true; rest = take at words ++ drop (at + 1) words }
 
--- the command of this name, where the flag stands at this place among the words after the name
-abbrev pub placed_command : List ℕ → List (List ℕ) → Option ℕ → Option Command
-placed_command name words None =
-    option_and_then (with_flag false) (word_command (name ∷ words))
-placed_command name words (Some at) =
-    option_and_then (with_flag true) (word_command (name ∷ (take at words ++ drop (at + 1) words)))
+-- the words without the flag, if there is such a flag
+abbrev pub take_flag : Option (List ℕ) → List (List ℕ) → Taken
+take_flag None words = taken_at words None
+take_flag (Some flag) words = taken_at words (flag_place flag words)
 
--- the command of this name, where this is its flag
-abbrev pub marked_command : List ℕ → List (List ℕ) → Option (List ℕ) → Option Command
-marked_command name words None = word_command (name ∷ words)
-marked_command name words (Some flag) = placed_command name words (flag_place flag words)
+-- the command of this name, read leniently or not, once its own flag is taken out
+abbrev pub flagged_command : CommandName → (lenient : Bool) → (own : Taken) → Option Command
+flagged_command name lenient own =
+    named_command name (record { own = own.set; lenient = lenient }) (parts_of None own.rest)
 
--- what the words say, where none is `--lenient`
-abbrev pub flagged_command : List (List ℕ) → Option Command
-flagged_command [] = None
-flagged_command (name ∷ words) = marked_command name words (flag_of name)
+-- the command of this name, once `--lenient` is taken out
+abbrev pub lenient_command : CommandName → (lenient : Taken) → Option Command
+lenient_command name lenient =
+    flagged_command name lenient.set (take_flag (row name).flag lenient.rest)
 
--- ---- `--lenient`: the flag of every command that reads data
+-- the command of this name, by the words after the name
+abbrev pub command_by : CommandName → List (List ℕ) → Option Command
+command_by name words = lenient_command name (take_flag (lenient_flag (row name)) words)
 
--- the command with its data read leniently; none where it reads no data
-abbrev pub leniently : Command → Option Command
-leniently (Page c) = Some (Page (record c { sources = read_leniently c.sources }))
-leniently (Build c) = Some (Build (record c { sources = read_leniently c.sources }))
-leniently (Data c) = Some (Data (record c { sources = read_leniently c.sources }))
-leniently (Explain c) = Some (Explain (record c { sources = read_leniently c.sources }))
-leniently (Check c) = Some (Check (record c { sources = read_leniently c.sources }))
-leniently (Lint c) = Some (Lint (record c { sources = read_leniently c.sources }))
-leniently (Serve c) = Some (Serve (record c { sources = read_leniently c.sources }))
-leniently (Replay c) = Some (Replay (record c { sources = read_leniently c.sources }))
-leniently command = None
-
--- the command of this name, where `--lenient` stands at this place among the words after the name
-abbrev pub lenient_at : List ℕ → List (List ℕ) → Option ℕ → Option Command
-lenient_at name words None = flagged_command (name ∷ words)
-lenient_at name words (Some at) =
-    option_and_then leniently (flagged_command (name ∷ (take at words ++ drop (at + 1) words)))
-
--- what the words say, each of which is a text
+-- what the words say, each of which is a text: the first is the name of a command
 abbrev pub given_command : List (List ℕ) → Option Command
 given_command [] = None
-given_command (name ∷ words) = lenient_at name words (flag_place (codes "--lenient") words)
+given_command (word ∷ words) = option_and_then (λ name. command_by name words) (name_of word)
 
 -- the command that the words give
 abbrev pub command : List (List ℕ) → Option Command

@@ -1,18 +1,19 @@
-//! Which words are which command, and the limits of a command's inputs. Definitions, no engine.
+//! Which words are which command, the table of the commands, and the limits of a command's inputs.
+//! Definitions, no engine.
 #![tactic(auto)]
 
 ghost use Rattle.std.specs.Prelude.{◌≡◌, IfOk, map};
-ghost use Rattle.command_spec.specs.DataFiles.{data_files, read_leniently};
+ghost use Rattle.command_spec.specs.DataFiles.{data_files};
 
 mod limits;
-mod names;
 mod numbers;
 mod options;
+mod rows;
 
 pub use limits::{DATA_LIMIT, SCRIPT_LIMIT, TEXT_LIMIT};
-pub use names::CommandName;
 pub use numbers::NumberOption;
 pub use options::{PathOption, ValueOption};
+pub use rows::{CommandName, CommandRow, Flags};
 use sd_value::{NoMemory, Str};
 use std::alloc::Global;
 use std::marker::Model;
@@ -60,24 +61,15 @@ pub struct DataFiles {
 }
 
 impl DataFiles {
-    /// Data files at copies of these paths, read by the strict rules.
-    pub fn of(alloc: Global, paths: &[&str]) -> Result<DataFiles, NoMemory>
-        ensures { IfOk result (λ files. files ≡ data_files (map (λ path. path.now) paths.now)) }
+    /// Data files at copies of these paths, of which CSV and JSON are read leniently or not.
+    pub fn of(alloc: Global, lenient: bool, paths: &[&str]) -> Result<DataFiles, NoMemory>
+        ensures { IfOk result
+            (λ files. files ≡ data_files lenient (map (λ path. path.now) paths.now)) }
     {
         Ok(DataFiles {
             paths: Paths::of(alloc, paths)?,
-            lenient: false,
+            lenient,
         })
-    }
-
-    /// The same files, with CSV and JSON read leniently.
-    pub fn leniently(self) -> DataFiles
-        ensures { result ≡ read_leniently self }
-    {
-        DataFiles {
-            lenient: true,
-            ..self
-        }
     }
 }
 
@@ -230,21 +222,34 @@ pub struct HelpCommand {
     pub name: Option<CommandName>,
 }
 
-/// What the program is asked to do.
+/// A command that is answered by a text.
 #[derive(Debug, Drop)]
-pub enum Command {
+pub enum TextCommand {
     Page(PageCommand),
-    Build(BuildCommand),
     Data(DataCommand),
     Explain(ExplainCommand),
     Schema(SchemaCommand),
-    Check(HereCommand),
-    CheckAll(CheckAllCommand),
-    Lint(LintCommand),
-    Serve(ServeCommand),
-    Replay(ReplayCommand),
     Trial(TrialCommand),
     Help(HelpCommand),
     /// `version`: the version of the program and of the kit that proved it is printed.
     Version,
+}
+
+/// A command that is answered by a report: a text, and whether all is well.
+#[derive(Debug, Drop)]
+pub enum ReportCommand {
+    Check(HereCommand),
+    CheckAll(CheckAllCommand),
+    Lint(LintCommand),
+}
+
+/// What the program is asked to do: to answer by a text or by a report, to write files, or to serve connections, those of
+/// the wire or those of a script.
+#[derive(Debug, Drop)]
+pub enum Command {
+    Text(TextCommand),
+    Report(ReportCommand),
+    Build(BuildCommand),
+    Serve(ServeCommand),
+    Replay(ReplayCommand),
 }

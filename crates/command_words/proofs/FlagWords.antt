@@ -6,7 +6,7 @@ use Rattle.std.specs.List.{list_all}
 use Rattle.std.specs.Borrow.{Bor}
 use Rattle.std.proofs.lemmas.List.{length-map, get_or-map}
 use Rattle.clap.specs.Walk.{Text, texts}
-use Rattle.command_spec.specs.Words.{is_word, flag_place}
+use Rattle.command_spec.specs.Words.{is_word, flag_place, take_flag, taken_at}
 
 -- the first i words are neither the flag nor `--`
 abbrev pub IsPast : Text → List Text → ℕ → Type 0
@@ -101,3 +101,17 @@ words_but (w ∷ ws) zero all = (both (is_word w) (list_all is_word ws) all).1
 words_but (w ∷ ws) (suc at) all =
     let h = both (is_word w) (list_all is_word ws) all in
     joined (is_word w) (list_all is_word (take at ws ++ drop (suc at) ws)) h.0 (words_but ws at h.1)
+
+-- ---- the words without a flag
+
+next : (at : ℕ) → at + 1 ≡ suc at
+next at = omega arith
+
+taken_words : (words : List Text) (place : Option ℕ) → list_all is_word words ≡ true → list_all is_word (taken_at words place).rest ≡ true
+taken_words words None all = all
+taken_words words (Some at) all = ap (λ n. list_all is_word (take at words ++ drop n words)) (next at) ∙ words_but words at all
+
+-- they are texts too
+pub rest_words : (flag : Option Text) (words : List Text) → list_all is_word words ≡ true → list_all is_word (take_flag flag words).rest ≡ true
+rest_words None words all = all
+rest_words (Some flag) words all = taken_words words (flag_place flag words) all

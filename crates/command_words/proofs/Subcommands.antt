@@ -1,5 +1,6 @@
 -- How the command line is put together.
 use Rattle.std.proofs.Common.{◌≡◌, ◌∙◌, ℕ, ◌<◌, ◌≤◌, ◌+◌, zero, suc, arith, add-one, List, [], ◌∷◌, ◌++◌, map, take, length, get_or, refl, sym, ap, ap₂, Bool, false, true}
+use Rattle.std.proofs.lemmas.List.{take_all}
 use Rattle.clap.specs.Walk.{rule_of}
 use Rattle.clap.specs.Simple.{App, Shape, app_of, new_app, with_rule, with_subcommand}
 use Rattle.clap.specs.Built.{AddsArg, AddsSubcommand}
@@ -7,9 +8,11 @@ use Rattle.clap.specs.declared.builder.arg.Arg.{Arg}
 use Rattle.clap.specs.declared.builder.command.Command.{Command}
 use Rattle.clap.specs.declared.builder.command.Command.TheViews.{out-Command}
 use Rattle.command_spec.specs.declared.options.ValueOption.{ValueOption}
-use Rattle.command_words.specs.declared.program.CommandRow.{CommandRow}
+use Rattle.command_spec.specs.declared.rows.CommandRow.{CommandRow}
+use Rattle.command_spec.specs.declared.rows.CommandName.{CommandName}
+use Rattle.command_spec.specs.Rows.{Row, row, row_of, names}
 use Rattle.command_spec.specs.Values.{option_name}
-use Rattle.command_words.specs.Parsed.{IsLeaf, leaf, option_rule, row_leaf, top, words_rule}
+use Rattle.command_words.specs.Parsed.{IsLeaf, leaf, option_rule, program, row_leaf, top, words_rule}
 
 abbrev pub alone : Shape → App
 alone shape = record { top = shape; subs = [] }
@@ -43,33 +46,40 @@ pub take_none : (xs : List ValueOption) → take 0 xs ≡ []
 take_none [] = refl
 take_none (x ∷ xs) = refl
 
--- no row is there
-abbrev is_bare : List CommandRow → Bool
-is_bare [] = true
-is_bare (row ∷ rows) = false
+-- the subcommand of a command is that of its row
+pub next_leaf : (old sub new : Command) (command : CommandName) (its : CommandRow) → AddsSubcommand old sub new → IsLeaf its.name.now its.options.now sub → row_of its ≡ row command → app_of new ≡ with_subcommand (app_of old) (row_leaf command)
+unfolding row_leaf
+next_leaf old sub new command its adds is same =
+    next_command old sub new its.name.now its.options.now adds is ∙ ap (λ (r : Row). with_subcommand (app_of old) (leaf r.name r.options)) same
 
--- the command line with the subcommands of these rows
-abbrev pub with_commands : List CommandRow → App
+-- no command is there
+abbrev is_bare : List CommandName → Bool
+is_bare [] = true
+is_bare (name ∷ rows) = false
+
+-- the command line with the subcommands of these commands
+abbrev pub with_commands : List CommandName → App
 with_commands rows = record {
   top = record top { is_leaf = is_bare rows };
   subs = map row_leaf rows;
 }
 
-not_empty : (rows : List CommandRow) (row : CommandRow) → false ≡ is_bare (rows ++ row ∷ [])
-not_empty [] row = refl
-not_empty (r ∷ rows) row = refl
+not_empty : (rows : List CommandName) (name : CommandName) → false ≡ is_bare (rows ++ name ∷ [])
+not_empty [] name = refl
+not_empty (r ∷ rows) name = refl
 
-more_leaves : (rows : List CommandRow) (row : CommandRow) → map row_leaf rows ++ row_leaf row ∷ [] ≡ map row_leaf (rows ++ row ∷ [])
-more_leaves [] row = refl
-more_leaves (r ∷ rows) row = ap (λ leaves. row_leaf r ∷ leaves) (more_leaves rows row)
+more_leaves : (rows : List CommandName) (name : CommandName) → map row_leaf rows ++ row_leaf name ∷ [] ≡ map row_leaf (rows ++ name ∷ [])
+more_leaves [] name = refl
+more_leaves (r ∷ rows) name = ap (λ leaves. row_leaf r ∷ leaves) (more_leaves rows name)
 
-more_commands : (rows : List CommandRow) (row : CommandRow) → with_subcommand (with_commands rows) (row_leaf row) ≡ with_commands (rows ++ row ∷ [])
-more_commands rows row = ap₂ (λ empty leaves. record { top = record top { is_leaf = empty }; subs = leaves }) (not_empty rows row) (more_leaves rows row)
+more_commands : (rows : List CommandName) (name : CommandName) → with_subcommand (with_commands rows) (row_leaf name) ≡ with_commands (rows ++ name ∷ [])
+more_commands rows name = ap₂ (λ empty leaves. record { top = record top { is_leaf = empty }; subs = leaves }) (not_empty rows name) (more_leaves rows name)
 
-pub next_row : (old new : Command) (rows : List CommandRow) (i : ℕ) (row : CommandRow) → app_of new ≡ with_subcommand (app_of old) (row_leaf row) → app_of old ≡ with_commands (take i rows) → i < length rows → row ≡ get_or rows i row → app_of new ≡ with_commands (take (i + 1) rows)
-next_row old new rows i row is was within at =
-    is ∙ ap (λ app. with_subcommand app (row_leaf row)) was ∙ more_commands (take i rows) row ∙ ap with_commands (sym (take_more rows i row within at))
+pub next_row : (old new : Command) (rows : List CommandName) (i : ℕ) (name : CommandName) → app_of new ≡ with_subcommand (app_of old) (row_leaf name) → app_of old ≡ with_commands (take i rows) → i < length rows → name ≡ get_or rows i name → app_of new ≡ with_commands (take (i + 1) rows)
+next_row old new rows i name is was within at =
+    is ∙ ap (λ app. with_subcommand app (row_leaf name)) was ∙ more_commands (take i rows) name ∙ ap with_commands (sym (take_more rows i name within at))
 
--- where all rows are taken
-pub all_rows : (rows : List CommandRow) (i n : ℕ) (app : App) → app ≡ with_commands (take i rows) → n ≤ i → i ≤ n → app ≡ with_commands (take n rows)
-all_rows rows i n app is least most = is ∙ ap (λ k. with_commands (take k rows)) (omega arith)
+-- once all commands are taken
+pub all_rows : (rows : List CommandName) (i : ℕ) (app : App) → app ≡ with_commands (take i rows) → length rows ≤ i → rows ≡ names → app ≡ program
+unfolding row_leaf
+all_rows rows i app is least same = is ∙ ap with_commands (take_all i rows least ∙ same)

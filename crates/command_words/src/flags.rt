@@ -1,34 +1,15 @@
 //! Flags: the options without a value.
 
-ghost use Rattle.std.specs.Prelude.{◌≡◌, ◌++◌, ◌+◌, ◌<◌, IfOk, IfSome, length, take, drop, option_copied, option_and_then};
+ghost use Rattle.std.specs.Prelude.{◌≡◌, ◌++◌, ◌+◌, ◌<◌, IfOk, IfSome, length, take, drop, option_copied};
 ghost use Rattle.clap.specs.Walk.{texts};
-ghost use Rattle.command_spec.specs.Ranges.{IsInRange};
 ghost use Rattle.command_spec.specs.Words as specs;
+ghost use Rattle.command_words.specs.Parsed.{IsTaken};
 
-use command_spec::{
-    BuildCommand, Command, DataCommand, ExplainCommand, HereCommand, LintCommand, PageCommand,
-    ReplayCommand, SchemaCommand, ServeCommand, ServeOptions,
-};
 use sd_value::NoMemory;
 use std::alloc::Global;
 
-/// The flag of every command that reads data.
-pub const LENIENT: &str = "--lenient";
-
-/// The flag of the command of this name, if it has one.
-pub fn flag_of(name: &str) -> Option<&'static str>
-    ensures { option_copied result ≡ specs.flag_of name.now }
-{
-    match name {
-        "schema" => Some("--dot"),
-        "check" => Some("--here"),
-        "serve" => Some("--whole"),
-        _ => None,
-    }
-}
-
 /// Where the flag stands first before a `--`, if it stands there at all.
-pub fn flag_place(flag: &str, words: &[&str]) -> Option<usize>
+fn flag_place(flag: &str, words: &[&str]) -> Option<usize>
     ensures place { result ≡ specs.flag_place flag.now (texts words.now) }
     ensures within { IfSome result (λ at. at < length words.now) }
 {
@@ -44,7 +25,7 @@ pub fn flag_place(flag: &str, words: &[&str]) -> Option<usize>
 }
 
 /// The words but the one at this place.
-pub fn without<'a>(alloc: Global, words: &[&'a str], at: usize) -> Result<Vec<&'a str>, NoMemory>
+fn without<'a>(alloc: Global, words: &[&'a str], at: usize) -> Result<Vec<&'a str>, NoMemory>
     requires { at < length words.now }
     ensures { IfOk result (λ rest. texts rest.items
         ≡ take at (texts words.now) ++ drop (at + 1) (texts words.now)) }
@@ -54,109 +35,34 @@ pub fn without<'a>(alloc: Global, words: &[&'a str], at: usize) -> Result<Vec<&'
     Ok(rest)
 }
 
-/// The command with its flag, or without it: `check` has its flag exactly where it has data.
-fn with_flag(set: bool, command: Command) -> Option<Command>
-    requires { IsInRange command }
-    ensures exact { result ≡ specs.with_flag set command }
-    ensures ranges { IfSome result IsInRange }
-{
-    match command {
-        Command::Schema(command) => Some(Command::Schema(SchemaCommand {
-            query: command.query,
-            dot: set,
-        })),
-        Command::Serve(command) => Some(Command::Serve(ServeCommand {
-            options: ServeOptions {
-                whole: set,
-                ..command.options
-            },
-            ..command
-        })),
-        Command::Check(command) => {
-            if set {
-                Some(Command::Check(command))
-            } else {
-                None
-            }
-        }
-        Command::CheckAll(command) => {
-            if set {
-                None
-            } else {
-                Some(Command::CheckAll(command))
-            }
-        }
-        other => Some(other),
-    }
+/// Whether a flag was among words, and the other words.
+#[derive(Drop)]
+pub struct Taken<'a> {
+    pub set: bool,
+    pub rest: Vec<&'a str>,
 }
 
-/// What was given, with its flag or without it.
-pub fn marked(set: bool, given: Option<Command>) -> Option<Command>
-    requires { IfSome given IsInRange }
-    ensures exact { result ≡ option_and_then (specs.with_flag set) given }
-    ensures ranges { IfSome result IsInRange }
+/// The words without the flag, if there is such a flag.
+pub fn take_flag<'a>(
+    alloc: Global,
+    flag: Option<&str>,
+    words: &[&'a str],
+) -> Result<Taken<'a>, NoMemory>
+    ensures { IfOk result (λ taken. IsTaken taken.set taken.rest.items
+        (specs.take_flag (option_copied flag.entry) (texts words.now))) }
 {
-    match given {
-        Some(command) => with_flag(set, command),
+    let place = match flag {
+        Some(flag) => flag_place(flag, words),
         None => None,
-    }
-}
-
-/// The command with its data read leniently; none where it reads no data.
-fn leniently(command: Command) -> Option<Command>
-    requires { IsInRange command }
-    ensures exact { result ≡ specs.leniently command }
-    ensures ranges { IfSome result IsInRange }
-{
-    match command {
-        Command::Page(command) => Some(Command::Page(PageCommand {
-            sources: command.sources.leniently(),
-            ..command
-        })),
-        Command::Build(command) => Some(Command::Build(BuildCommand {
-            sources: command.sources.leniently(),
-            ..command
-        })),
-        Command::Data(command) => Some(Command::Data(DataCommand {
-            sources: command.sources.leniently(),
-            ..command
-        })),
-        Command::Explain(command) => Some(Command::Explain(ExplainCommand {
-            sources: command.sources.leniently(),
-            ..command
-        })),
-        Command::Check(command) => Some(Command::Check(HereCommand {
-            sources: command.sources.leniently(),
-            ..command
-        })),
-        Command::Lint(command) => Some(Command::Lint(LintCommand {
-            sources: command.sources.leniently(),
-            ..command
-        })),
-        Command::Serve(command) => Some(Command::Serve(ServeCommand {
-            sources: command.sources.leniently(),
-            ..command
-        })),
-        Command::Replay(command) => Some(Command::Replay(ReplayCommand {
-            sources: command.sources.leniently(),
-            ..command
-        })),
-        Command::Schema(_)
-        | Command::CheckAll(_)
-        | Command::Trial(_)
-        | Command::Help(_)
-        | Command::Version => None,
-    }
-}
-
-/// What was given, with its data read leniently.
-pub fn read_leniently(given: Option<Command>) -> Option<Command>
-    requires { IfSome given IsInRange }
-    ensures exact { result ≡ option_and_then specs.leniently given }
-    ensures ranges { IfSome result IsInRange }
-{
-    match given {
-        Some(command) => leniently(command),
-        None => None,
+    };
+    match place {
+        Some(at) => Ok(Taken {
+            set: true,
+            rest: without(alloc, words, at)?,
+        }),
+        None => Ok(Taken {
+            set: false,
+            rest: Vec::from_slice(alloc, words)?,
+        }),
     }
 }

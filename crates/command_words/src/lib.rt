@@ -1,13 +1,13 @@
 //! Reads the words of a command.
 #![tactic(auto)]
 
-ghost use Rattle.std.specs.Prelude.{◌≡◌, Some, IfOk, IfSome};
+ghost use Rattle.std.specs.Prelude.{◌≡◌, None, Some, IfOk, IfSome};
 ghost use Rattle.std.specs.Prelude.{◌≢◌, map, MatchOption, true, false, option_map};
 ghost use Rattle.std.specs.List.{list_all};
 ghost use Rattle.clap.specs.Words.{found_of, kind_of, rows_of};
 ghost use Rattle.clap.specs.Walk.{texts};
 ghost use Rattle.command_words.specs.Parsed as parsed;
-ghost use Rattle.command_spec.specs.Options.{is_empty};
+ghost use Rattle.command_spec.specs.Options.{is_empty, parts_of};
 ghost use Rattle.command_spec.specs.Words as specs;
 ghost use Rattle.command_spec.specs.Ranges.{IsFrom1To, IsInRange, IsWatchInRange, AreLimits, AreWaits, AreServeOptions};
 ghost use Rattle.command_spec.specs.Numbers.{greatest};
@@ -20,11 +20,11 @@ use clap::error::ErrorKind;
 use clap::{ArgMatches, Error};
 use command_spec::{
     BuildCommand, CheckAllCommand, Command, CommandName, DataCommand, DataFiles, ExplainCommand,
-    HelpCommand, HereCommand, LintCommand, NumberOption, PageCommand, PathOption, ReplayCommand,
-    RunLimits, SchemaCommand, ServeCommand, ServeOptions, ServeWaits, TrialCommand, ValueOption,
-    WatchOptions,
+    Flags, HelpCommand, HereCommand, LintCommand, NumberOption, PageCommand, PathOption,
+    ReplayCommand, ReportCommand, RunLimits, SchemaCommand, ServeCommand, ServeOptions, ServeWaits,
+    TextCommand, TrialCommand, ValueOption, WatchOptions,
 };
-use flags::{LENIENT, flag_of, flag_place, marked, read_leniently, without};
+use flags::take_flag;
 use numbers::{number, number_of, text_in};
 use program::{WORDS, program};
 use sd_value::{NoMemory, Str};
@@ -36,10 +36,12 @@ const MAX_ENTRIES: u64 = 20_000;
 
 fn page_command(
     alloc: Global,
+    lenient: bool,
     over: Option<Str>,
     words: &[&str],
 ) -> Result<Option<Command>, NoMemory>
-    ensures exact { IfOk result (λ given. given ≡ specs.page_command over (texts words.now)) }
+    ensures exact { IfOk result (λ given. given
+        ≡ specs.page_command lenient over (texts words.now)) }
     ensures ranges { IfOk result (λ given. IfSome given IsInRange) }
 {
     let [query, templates, address, sources @ ..] = words else {
@@ -48,21 +50,23 @@ fn page_command(
     if sources.is_empty() {
         return Ok(None);
     }
-    Ok(Some(Command::Page(PageCommand {
+    Ok(Some(Command::Text(TextCommand::Page(PageCommand {
         query: Str::new(alloc, query.as_bytes())?,
         templates: Str::new(alloc, templates.as_bytes())?,
         address: Str::new(alloc, address.as_bytes())?,
-        sources: DataFiles::of(alloc, sources)?,
+        sources: DataFiles::of(alloc, lenient, sources)?,
         over,
-    })))
+    }))))
 }
 
 fn build_command(
     alloc: Global,
+    lenient: bool,
     over: Option<Str>,
     words: &[&str],
 ) -> Result<Option<Command>, NoMemory>
-    ensures exact { IfOk result (λ given. given ≡ specs.build_command over (texts words.now)) }
+    ensures exact { IfOk result (λ given. given
+        ≡ specs.build_command lenient over (texts words.now)) }
     ensures ranges { IfOk result (λ given. IfSome given IsInRange) }
 {
     let [query, templates, folder, sources @ ..] = words else {
@@ -75,30 +79,36 @@ fn build_command(
         query: Str::new(alloc, query.as_bytes())?,
         templates: Str::new(alloc, templates.as_bytes())?,
         folder: Str::new(alloc, folder.as_bytes())?,
-        sources: DataFiles::of(alloc, sources)?,
+        sources: DataFiles::of(alloc, lenient, sources)?,
         over,
     })))
 }
 
 fn data_command(
     alloc: Global,
+    lenient: bool,
     over: Option<Str>,
     words: &[&str],
 ) -> Result<Option<Command>, NoMemory>
-    ensures exact { IfOk result (λ given. given ≡ specs.data_command over (texts words.now)) }
+    ensures exact { IfOk result (λ given. given
+        ≡ specs.data_command lenient over (texts words.now)) }
     ensures ranges { IfOk result (λ given. IfSome given IsInRange) }
 {
     if words.is_empty() {
         return Ok(None);
     }
-    Ok(Some(Command::Data(DataCommand {
-        sources: DataFiles::of(alloc, words)?,
+    Ok(Some(Command::Text(TextCommand::Data(DataCommand {
+        sources: DataFiles::of(alloc, lenient, words)?,
         over,
-    })))
+    }))))
 }
 
-fn explain_command(alloc: Global, words: &[&str]) -> Result<Option<Command>, NoMemory>
-    ensures exact { IfOk result (λ given. given ≡ specs.explain_command (texts words.now)) }
+fn explain_command(
+    alloc: Global,
+    lenient: bool,
+    words: &[&str],
+) -> Result<Option<Command>, NoMemory>
+    ensures exact { IfOk result (λ given. given ≡ specs.explain_command lenient (texts words.now)) }
     ensures ranges { IfOk result (λ given. IfSome given IsInRange) }
 {
     let [query, sources @ ..] = words else {
@@ -107,47 +117,81 @@ fn explain_command(alloc: Global, words: &[&str]) -> Result<Option<Command>, NoM
     if sources.is_empty() {
         return Ok(None);
     }
-    Ok(Some(Command::Explain(ExplainCommand {
+    Ok(Some(Command::Text(TextCommand::Explain(ExplainCommand {
         query: Str::new(alloc, query.as_bytes())?,
-        sources: DataFiles::of(alloc, sources)?,
-    })))
+        sources: DataFiles::of(alloc, lenient, sources)?,
+    }))))
 }
 
-fn schema_command(alloc: Global, words: &[&str]) -> Result<Option<Command>, NoMemory>
-    ensures exact { IfOk result (λ given. given ≡ specs.schema_command (texts words.now)) }
+fn schema_command(alloc: Global, dot: bool, words: &[&str]) -> Result<Option<Command>, NoMemory>
+    ensures exact { IfOk result (λ given. given ≡ specs.schema_command dot (texts words.now)) }
     ensures ranges { IfOk result (λ given. IfSome given IsInRange) }
 {
     let [query] = words else {
         return Ok(None);
     };
-    Ok(Some(Command::Schema(SchemaCommand {
+    Ok(Some(Command::Text(TextCommand::Schema(SchemaCommand {
         query: Str::new(alloc, query.as_bytes())?,
-        dot: false,
-    })))
+        dot,
+    }))))
 }
 
-fn check_command(alloc: Global, words: &[&str]) -> Result<Option<Command>, NoMemory>
-    ensures exact { IfOk result (λ given. given ≡ specs.check_command (texts words.now)) }
+fn check_all_command(
+    alloc: Global,
+    flags: Flags,
+    query: &str,
+    constraints: &str,
+) -> Result<Option<Command>, NoMemory>
+    ensures exact { IfOk result
+        (λ given. given ≡ specs.check_all_command flags query.now constraints.now) }
+    ensures ranges { IfOk result (λ given. IfSome given IsInRange) }
+{
+    if flags.own || flags.lenient {
+        return Ok(None);
+    }
+    Ok(Some(Command::Report(ReportCommand::CheckAll(CheckAllCommand {
+        query: Str::new(alloc, query.as_bytes())?,
+        constraints: Str::new(alloc, constraints.as_bytes())?,
+    }))))
+}
+
+fn check_here_command(
+    alloc: Global,
+    flags: Flags,
+    query: &str,
+    constraints: &str,
+    sources: &[&str],
+) -> Result<Option<Command>, NoMemory>
+    ensures exact { IfOk result (λ given. given
+        ≡ specs.check_here_command flags query.now constraints.now (texts sources.now)) }
+    ensures ranges { IfOk result (λ given. IfSome given IsInRange) }
+{
+    if !flags.own {
+        return Ok(None);
+    }
+    Ok(Some(Command::Report(ReportCommand::Check(HereCommand {
+        query: Str::new(alloc, query.as_bytes())?,
+        constraints: Str::new(alloc, constraints.as_bytes())?,
+        sources: DataFiles::of(alloc, flags.lenient, sources)?,
+    }))))
+}
+
+fn check_command(alloc: Global, flags: Flags, words: &[&str]) -> Result<Option<Command>, NoMemory>
+    ensures exact { IfOk result (λ given. given ≡ specs.check_command flags (texts words.now)) }
     ensures ranges { IfOk result (λ given. IfSome given IsInRange) }
 {
     let [query, constraints, sources @ ..] = words else {
         return Ok(None);
     };
     if sources.is_empty() {
-        return Ok(Some(Command::CheckAll(CheckAllCommand {
-            query: Str::new(alloc, query.as_bytes())?,
-            constraints: Str::new(alloc, constraints.as_bytes())?,
-        })));
+        check_all_command(alloc, flags, query, constraints)
+    } else {
+        check_here_command(alloc, flags, query, constraints, sources)
     }
-    Ok(Some(Command::Check(HereCommand {
-        query: Str::new(alloc, query.as_bytes())?,
-        constraints: Str::new(alloc, constraints.as_bytes())?,
-        sources: DataFiles::of(alloc, sources)?,
-    })))
 }
 
-fn lint_command(alloc: Global, words: &[&str]) -> Result<Option<Command>, NoMemory>
-    ensures exact { IfOk result (λ given. given ≡ specs.lint_command (texts words.now)) }
+fn lint_command(alloc: Global, lenient: bool, words: &[&str]) -> Result<Option<Command>, NoMemory>
+    ensures exact { IfOk result (λ given. given ≡ specs.lint_command lenient (texts words.now)) }
     ensures ranges { IfOk result (λ given. IfSome given IsInRange) }
 {
     let [query, templates, sources @ ..] = words else {
@@ -156,11 +200,11 @@ fn lint_command(alloc: Global, words: &[&str]) -> Result<Option<Command>, NoMemo
     if sources.is_empty() {
         return Ok(None);
     }
-    Ok(Some(Command::Lint(LintCommand {
+    Ok(Some(Command::Report(ReportCommand::Lint(LintCommand {
         query: Str::new(alloc, query.as_bytes())?,
         templates: Str::new(alloc, templates.as_bytes())?,
-        sources: DataFiles::of(alloc, sources)?,
-    })))
+        sources: DataFiles::of(alloc, lenient, sources)?,
+    }))))
 }
 
 fn trial_command(words: &[&str]) -> Option<Command>
@@ -171,9 +215,9 @@ fn trial_command(words: &[&str]) -> Option<Command>
         return None;
     };
     let entries = number(MAX_ENTRIES, entries.as_bytes())?;
-    Some(Command::Trial(TrialCommand {
+    Some(Command::Text(TextCommand::Trial(TrialCommand {
         entries: entries as u32,
-    }))
+    })))
 }
 
 fn help_command(words: &[&str]) -> Option<Command>
@@ -181,10 +225,10 @@ fn help_command(words: &[&str]) -> Option<Command>
     ensures ranges { IfSome result IsInRange }
 {
     match words {
-        [] => Some(Command::Help(HelpCommand { name: None })),
+        [] => Some(Command::Text(TextCommand::Help(HelpCommand { name: None }))),
         [word] => {
             let name = CommandName::of(word)?;
-            Some(Command::Help(HelpCommand { name: Some(name) }))
+            Some(Command::Text(TextCommand::Help(HelpCommand { name: Some(name) })))
         }
         _ => None,
     }
@@ -195,14 +239,14 @@ fn version_command(words: &[&str]) -> Option<Command>
     ensures ranges { IfSome result IsInRange }
 {
     if words.is_empty() {
-        Some(Command::Version)
+        Some(Command::Text(TextCommand::Version))
     } else {
         None
     }
 }
 
 fn run_limits(matches: &ArgMatches<'_>) -> Option<RunLimits>
-    ensures exact { result ≡ parsed.run_limits (rows_of (found_of matches.now)) }
+    ensures exact { result ≡ specs.run_limits (parsed.found (rows_of (found_of matches.now))) }
     ensures ranges { IfSome result AreLimits }
 {
     Some(RunLimits {
@@ -213,7 +257,7 @@ fn run_limits(matches: &ArgMatches<'_>) -> Option<RunLimits>
 }
 
 fn serve_waits(matches: &ArgMatches<'_>) -> Option<ServeWaits>
-    ensures exact { result ≡ parsed.serve_waits (rows_of (found_of matches.now)) }
+    ensures exact { result ≡ specs.serve_waits (parsed.found (rows_of (found_of matches.now))) }
     ensures ranges { IfSome result AreWaits }
 {
     Some(ServeWaits {
@@ -222,8 +266,9 @@ fn serve_waits(matches: &ArgMatches<'_>) -> Option<ServeWaits>
     })
 }
 
-fn serve_options(matches: &ArgMatches<'_>) -> Option<ServeOptions>
-    ensures exact { result ≡ parsed.serve_options (rows_of (found_of matches.now)) }
+fn serve_options(whole: bool, matches: &ArgMatches<'_>) -> Option<ServeOptions>
+    ensures exact { result
+        ≡ specs.serve_options whole (parsed.found (rows_of (found_of matches.now))) }
     ensures ranges { IfSome result AreServeOptions }
 {
     Some(ServeOptions {
@@ -231,7 +276,7 @@ fn serve_options(matches: &ArgMatches<'_>) -> Option<ServeOptions>
         connections: number_of(NumberOption::Connections, matches)?,
         limits: run_limits(matches)?,
         waits: serve_waits(matches)?,
-        whole: false,
+        whole,
     })
 }
 
@@ -260,7 +305,7 @@ fn serve_watch(
     matches: &ArgMatches<'_>,
 ) -> Result<Option<Option<WatchOptions>>, NoMemory>
     ensures exact { IfOk result (λ watch. watch
-        ≡ parsed.serve_watch (rows_of (found_of matches.now))) }
+        ≡ specs.serve_watch (parsed.found (rows_of (found_of matches.now)))) }
     ensures ranges { IfOk result (λ watch. IfSome watch (λ w. IfSome w IsWatchInRange)) }
 {
     match text_in(ValueOption::Path(PathOption::Watch), matches) {
@@ -274,7 +319,8 @@ fn serve_watch(
 
 // The file of the first query, if the option is given.
 fn first_query(alloc: Global, matches: &ArgMatches<'_>) -> Result<Option<Str>, NoMemory>
-    ensures { IfOk result (λ over. over ≡ parsed.first_query (rows_of (found_of matches.now))) }
+    ensures { IfOk result
+        (λ over. over ≡ specs.first_query (parsed.found (rows_of (found_of matches.now)))) }
 {
     match text_in(ValueOption::Path(PathOption::Over), matches) {
         Some(path) => Ok(Some(Str::new(alloc, path.as_bytes())?)),
@@ -286,13 +332,14 @@ fn serve_command(
     alloc: Global,
     options: ServeOptions,
     watch: Option<WatchOptions>,
+    lenient: bool,
     over: Option<Str>,
     words: &[&str],
 ) -> Result<Option<Command>, NoMemory>
     requires options { AreServeOptions options }
     requires watch { IfSome watch IsWatchInRange }
     ensures exact { IfOk result (λ given. given
-        ≡ specs.serve_command options watch over (texts words.now)) }
+        ≡ specs.serve_command options watch lenient over (texts words.now)) }
     ensures ranges { IfOk result (λ given. IfSome given IsInRange) }
 {
     let [query, templates, sources @ ..] = words else {
@@ -304,7 +351,7 @@ fn serve_command(
     Ok(Some(Command::Serve(ServeCommand {
         query: Str::new(alloc, query.as_bytes())?,
         templates: Str::new(alloc, templates.as_bytes())?,
-        sources: DataFiles::of(alloc, sources)?,
+        sources: DataFiles::of(alloc, lenient, sources)?,
         over,
         options,
         watch,
@@ -314,12 +361,14 @@ fn serve_command(
 fn replay_command(
     alloc: Global,
     limits: RunLimits,
+    lenient: bool,
     over: Option<Str>,
     words: &[&str],
 ) -> Result<Option<Command>, NoMemory>
     requires { AreLimits limits }
     ensures exact { IfOk result
-        (λ given. given ≡ specs.replay_command limits over (texts words.now)) }
+        (λ given. given
+        ≡ specs.replay_command limits lenient over (texts words.now)) }
     ensures ranges { IfOk result (λ given. IfSome given IsInRange) }
 {
     let [query, templates, script, sources @ ..] = words else {
@@ -332,100 +381,91 @@ fn replay_command(
         query: Str::new(alloc, query.as_bytes())?,
         templates: Str::new(alloc, templates.as_bytes())?,
         script: Str::new(alloc, script.as_bytes())?,
-        sources: DataFiles::of(alloc, sources)?,
+        sources: DataFiles::of(alloc, lenient, sources)?,
         over,
         limits,
     })))
 }
 
-/// A command that takes no options.
-fn plain_command(alloc: Global, name: &str, words: &[&str]) -> Result<Option<Command>, NoMemory>
-    ensures exact { IfOk result (λ given. given ≡ specs.plain_command name.now (texts words.now)) }
-    ensures ranges { IfOk result (λ given. IfSome given IsInRange) }
-{
-    match name {
-        "explain" => explain_command(alloc, words),
-        "schema" => schema_command(alloc, words),
-        "check" => check_command(alloc, words),
-        "lint" => lint_command(alloc, words),
-        "trial" => Ok(trial_command(words)),
-        "help" => Ok(help_command(words)),
-        "version" => Ok(version_command(words)),
-        _ => Ok(None),
-    }
-}
-
 fn serve_with_words(
     alloc: Global,
+    flags: Flags,
     matches: &ArgMatches<'_>,
     words: &[&str],
 ) -> Result<Option<Command>, NoMemory>
-    ensures exact { IfOk result
-        (λ given. given
-        ≡ parsed.serve_with_words (rows_of (found_of matches.now)) (texts words.now)) }
+    ensures exact { IfOk result (λ given. given ≡ specs.serve_with_words flags
+        (parsed.found (rows_of (found_of matches.now))) (texts words.now)) }
     ensures ranges { IfOk result (λ given. IfSome given IsInRange) }
 {
-    let Some(options) = serve_options(matches) else {
+    let Some(options) = serve_options(flags.own, matches) else {
         return Ok(None);
     };
     let Some(watch) = serve_watch(alloc, matches)? else {
         return Ok(None);
     };
     let over = first_query(alloc, matches)?;
-    serve_command(alloc, options, watch, over, words)
+    serve_command(alloc, options, watch, flags.lenient, over, words)
 }
 
 fn replay_with_words(
     alloc: Global,
+    flags: Flags,
     matches: &ArgMatches<'_>,
     words: &[&str],
 ) -> Result<Option<Command>, NoMemory>
-    ensures exact { IfOk result
-        (λ given. given
-        ≡ parsed.replay_with_words (rows_of (found_of matches.now)) (texts words.now)) }
+    ensures exact { IfOk result (λ given. given ≡ specs.replay_with_words flags
+        (parsed.found (rows_of (found_of matches.now))) (texts words.now)) }
     ensures ranges { IfOk result (λ given. IfSome given IsInRange) }
 {
     let Some(limits) = run_limits(matches) else {
         return Ok(None);
     };
     let over = first_query(alloc, matches)?;
-    replay_command(alloc, limits, over, words)
+    replay_command(alloc, limits, flags.lenient, over, words)
 }
 
-/// The command of this name, with the options of the matches and these words.
-fn command_with_words(
+/// The command of this name with these flags, the options of the matches and these words.
+fn command_of(
     alloc: Global,
-    name: &str,
+    name: CommandName,
+    flags: Flags,
     matches: &ArgMatches<'_>,
     words: &[&str],
 ) -> Result<Option<Command>, NoMemory>
-    ensures exact { IfOk result
-        (λ given. given
-        ≡ parsed.command_with_words name.now (rows_of (found_of matches.now)) (texts words.now)) }
+    ensures exact { IfOk result (λ given. given ≡ specs.command_of name flags
+        (parsed.found (rows_of (found_of matches.now))) (texts words.now)) }
     ensures ranges { IfOk result (λ given. IfSome given IsInRange) }
 {
+    let lenient = flags.lenient;
     match name {
-        "serve" => serve_with_words(alloc, matches, words),
-        "replay" => replay_with_words(alloc, matches, words),
-        "page" => page_command(alloc, first_query(alloc, matches)?, words),
-        "build" => build_command(alloc, first_query(alloc, matches)?, words),
-        "data" => data_command(alloc, first_query(alloc, matches)?, words),
-        _ => plain_command(alloc, name, words),
+        CommandName::Page => page_command(alloc, lenient, first_query(alloc, matches)?, words),
+        CommandName::Build => build_command(alloc, lenient, first_query(alloc, matches)?, words),
+        CommandName::Data => data_command(alloc, lenient, first_query(alloc, matches)?, words),
+        CommandName::Explain => explain_command(alloc, lenient, words),
+        CommandName::Schema => schema_command(alloc, flags.own, words),
+        CommandName::Check => check_command(alloc, flags, words),
+        CommandName::Lint => lint_command(alloc, lenient, words),
+        CommandName::Serve => serve_with_words(alloc, flags, matches, words),
+        CommandName::Replay => replay_with_words(alloc, flags, matches, words),
+        CommandName::Trial => Ok(trial_command(words)),
+        CommandName::Help => Ok(help_command(words)),
+        CommandName::Version => Ok(version_command(words)),
     }
 }
 
-fn named_command(
+fn matched_command(
     alloc: Global,
-    name: &str,
+    name: CommandName,
+    flags: Flags,
     matches: &ArgMatches<'_>,
 ) -> Result<Option<Command>, NoMemory>
-    ensures exact { IfOk result
-        (λ given. given ≡ parsed.command_in_rows name.now (rows_of (found_of matches.now))) }
+    ensures exact { IfOk result (λ given. given
+        ≡ parsed.command_in_rows name flags (rows_of (found_of matches.now))) }
     ensures ranges { IfOk result (λ given. IfSome given IsInRange) }
 {
     match matches.get_strs(WORDS) {
-        Some(words) => command_with_words(alloc, name, matches, words),
-        None => command_with_words(alloc, name, matches, &[]),
+        Some(words) => command_of(alloc, name, flags, matches, words),
+        None => command_of(alloc, name, flags, matches, &[]),
     }
 }
 
@@ -451,62 +491,73 @@ fn matches_of<'a>(alloc: Global, words: &'a [&'a str]) -> Result<Option<ArgMatch
     }
 }
 
-/// The command that these texts give, or none.
-fn text_command(alloc: Global, words: &[&str]) -> Result<Option<Command>, NoMemory>
-    ensures exact { IfOk result (λ given. given ≡ parsed.command (texts words.now)) }
+/// The command of this name with these flags, of which the line is the name and the words after it.
+fn text_command(
+    alloc: Global,
+    name: CommandName,
+    flags: Flags,
+    line: &[&str],
+) -> Result<Option<Command>, NoMemory>
+    ensures exact { IfOk result (λ given. given ≡ parsed.command name flags (texts line.now)) }
     ensures ranges { IfOk result (λ given. IfSome given IsInRange) }
 {
-    let Some(matches) = matches_of(alloc, words)? else {
+    let Some(matches) = matches_of(alloc, line)? else {
         return Ok(None);
     };
     match matches.subcommand() {
-        Some((name, matches)) => named_command(alloc, name, matches),
+        Some((_, matches)) => matched_command(alloc, name, flags, matches),
         None => Ok(None),
     }
 }
 
-/// The command that these words give, or none, where none is `--lenient`: its flag is taken out before `clap` reads the
-/// other words.
-fn flagged_command(alloc: Global, words: &[&str]) -> Result<Option<Command>, NoMemory>
+/// The command of this name with these flags and words after the name.
+fn named_command(
+    alloc: Global,
+    name: CommandName,
+    flags: Flags,
+    words: &[&str],
+) -> Result<Option<Command>, NoMemory>
     requires { list_all specs.is_word (texts words.now) ≡ true }
-    ensures exact { IfOk result (λ given. given ≡ specs.flagged_command (texts words.now)) }
+    ensures exact { IfOk result (λ given. given
+        ≡ specs.named_command name flags (parts_of None (texts words.now))) }
     ensures ranges { IfOk result (λ given. IfSome given IsInRange) }
 {
-    let [name, later @ ..] = words else {
-        return text_command(alloc, words);
-    };
-    let Some(flag) = flag_of(name) else {
-        return text_command(alloc, words);
-    };
-    match flag_place(flag, later) {
-        None => {
-            let given = text_command(alloc, words)?;
-            Ok(marked(false, given))
-        }
-        Some(at) => {
-            let rest = without(alloc, words, at + 1)?;
-            let given = text_command(alloc, &rest)?;
-            Ok(marked(true, given))
-        }
-    }
+    let mut line = Vec::with_capacity(alloc, 1)?;
+    line.push(name.row().name)?;
+    line.extend_from_slice(words)?;
+    let given = text_command(alloc, name, flags, &line)?;
+    Ok(given)
 }
 
-/// The command that these words give, or none: `--lenient` is taken out before the command's own flag.
+/// The command of this name by the words after it: `--lenient` is taken out first, then the command's own flag, and `clap`
+/// reads the others.
+fn command_by(alloc: Global, name: CommandName, words: &[&str]) -> Result<Option<Command>, NoMemory>
+    requires { list_all specs.is_word (texts words.now) ≡ true }
+    ensures exact { IfOk result (λ given. given ≡ specs.command_by name (texts words.now)) }
+    ensures ranges { IfOk result (λ given. IfSome given IsInRange) }
+{
+    let row = name.row();
+    let lenient = take_flag(alloc, row.lenient_flag(), words)?;
+    let own = take_flag(alloc, row.flag, &lenient.rest)?;
+    let flags = Flags {
+        own: own.set,
+        lenient: lenient.set,
+    };
+    named_command(alloc, name, flags, &own.rest)
+}
+
+/// The command that these words give, or none.
 fn given_command(alloc: Global, words: &[&str]) -> Result<Option<Command>, NoMemory>
     requires { list_all specs.is_word (texts words.now) ≡ true }
     ensures exact { IfOk result (λ given. given ≡ specs.given_command (texts words.now)) }
     ensures ranges { IfOk result (λ given. IfSome given IsInRange) }
 {
-    let [_, later @ ..] = words else {
+    let [word, later @ ..] = words else {
         return Ok(None);
     };
-    match flag_place(LENIENT, later) {
-        None => flagged_command(alloc, words),
-        Some(at) => {
-            let rest = without(alloc, words, at + 1)?;
-            let given = flagged_command(alloc, &rest)?;
-            Ok(read_leniently(given))
-        }
+    match CommandName::of(word) {
+        Some(name) => command_by(alloc, name, later),
+        None => Ok(None),
     }
 }
 

@@ -64,14 +64,14 @@ pub fn number(most: u64, text: &[u8]) -> Option<u64>
 /// The text of the option, where it is given.
 pub fn text_in<'m>(option: ValueOption, matches: &'m ArgMatches<'_>) -> Option<&'m str>
     ensures { option_map (λ text. text.now) result
-        ≡ parsed.text_in option (rows_of (found_of matches.now)) }
+        ≡ parsed.found (rows_of (found_of matches.now)) option }
 {
     matches.get_str(option.name())
 }
 
 /// The number of the option: its default where it isn't given, and nothing where its value is no such number.
 pub fn number_of(option: NumberOption, matches: &ArgMatches<'_>) -> Option<u64>
-    ensures exact { result ≡ parsed.number_in option (rows_of (found_of matches.now)) }
+    ensures exact { result ≡ specs.number_of option (parsed.found (rows_of (found_of matches.now))) }
     ensures range { IfSome result (IsFrom1To (specs.greatest option)) }
 {
     match text_in(ValueOption::Number(option), matches) {

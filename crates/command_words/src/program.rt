@@ -7,7 +7,7 @@ ghost use Rattle.command_words.specs.Parsed as specs;
 
 use clap::builder::ValueParser;
 use clap::{Arg, ArgAction, Command};
-use command_spec::{NumberOption, PathOption, ValueOption};
+use command_spec::{CommandName, ValueOption};
 use sd_value::NoMemory;
 use std::alloc::Global;
 
@@ -45,97 +45,19 @@ fn command_of<'a>(
     Ok(command)
 }
 
-// A command's name, and its options that have a value.
-struct CommandRow {
-    name: &'static str,
-    options: &'static [ValueOption],
-}
-
-const PAGE_OPTIONS: &[ValueOption] = &[ValueOption::Path(PathOption::Over)];
-
-const REPLAY_OPTIONS: &[ValueOption] = &[
-    ValueOption::Number(NumberOption::Requests),
-    ValueOption::Number(NumberOption::Turns),
-    ValueOption::Number(NumberOption::Cache),
-    ValueOption::Path(PathOption::Over),
-];
-
-const SERVE_OPTIONS: &[ValueOption] = &[
-    ValueOption::Number(NumberOption::Port),
-    ValueOption::Number(NumberOption::Connections),
-    ValueOption::Number(NumberOption::Requests),
-    ValueOption::Number(NumberOption::Turns),
-    ValueOption::Number(NumberOption::Cache),
-    ValueOption::Number(NumberOption::Idle),
-    ValueOption::Number(NumberOption::Stall),
-    ValueOption::Path(PathOption::Watch),
-    ValueOption::Number(NumberOption::Every),
-    ValueOption::Path(PathOption::Over),
-];
-
-const COMMANDS: &[CommandRow] = &[
-    CommandRow {
-        name: "page",
-        options: PAGE_OPTIONS,
-    },
-    CommandRow {
-        name: "build",
-        options: PAGE_OPTIONS,
-    },
-    CommandRow {
-        name: "data",
-        options: PAGE_OPTIONS,
-    },
-    CommandRow {
-        name: "explain",
-        options: &[],
-    },
-    CommandRow {
-        name: "schema",
-        options: &[],
-    },
-    CommandRow {
-        name: "check",
-        options: &[],
-    },
-    CommandRow {
-        name: "lint",
-        options: &[],
-    },
-    CommandRow {
-        name: "serve",
-        options: SERVE_OPTIONS,
-    },
-    CommandRow {
-        name: "replay",
-        options: REPLAY_OPTIONS,
-    },
-    CommandRow {
-        name: "trial",
-        options: &[],
-    },
-    CommandRow {
-        name: "help",
-        options: &[],
-    },
-    CommandRow {
-        name: "version",
-        options: &[],
-    },
-];
-
-// The command line with the subcommand of the row behind those that it has.
+// The program's command line with the subcommand of this command behind those that it has.
 fn with_command<'a>(
     alloc: Global,
     program: Command<'a>,
-    row: &CommandRow,
+    command: CommandName,
 ) -> Result<Command<'a>, NoMemory>
     ensures { IfOk result
-        (λ c. app_of c ≡ with_subcommand (app_of program.entry) (specs.row_leaf row.now)) }
+        (λ c. app_of c ≡ with_subcommand (app_of program.entry) (specs.row_leaf command)) }
 {
+    let row = command.row();
     let name: &'a str = row.name;
-    let command = command_of(alloc, name, row.options)?;
-    let program = program.subcommand(command)?;
+    let leaf = command_of(alloc, name, row.options)?;
+    let program = program.subcommand(leaf)?;
     Ok(program)
 }
 
@@ -149,8 +71,8 @@ pub fn program<'a>(alloc: Global) -> Result<Command<'a>, NoMemory>
         .disable_help_subcommand(true)
         .disable_version_flag(true)
         .subcommand_required(true);
-    for row in COMMANDS {
-        program = with_command(alloc, program, row)?;
+    for command in CommandName::all() {
+        program = with_command(alloc, program, *command)?;
     }
     Ok(program)
 }

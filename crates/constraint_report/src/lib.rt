@@ -8,4 +8,4 @@ mod pages;
 mod reach;
 mod report;
 
-pub use report::{Report, report_of};
+pub use report::report_of;

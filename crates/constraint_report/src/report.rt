@@ -10,18 +10,12 @@ use crate::lines::{both, line};
 use asker::Asker;
 use constraint_spec::Constraint;
 use query_blocks::QueryBlocks;
+use run_report::Report;
 use sd_value::{NoMemory, Str, Term};
 use site_build::Whole;
 use site_view::SiteView;
 use std::alloc::Global;
 use tmpl::Templates;
-
-/// What is printed of constraints, and whether all of them are met.
-#[derive(Debug, Drop)]
-pub struct Report {
-    pub text: Str,
-    pub all_met: bool,
-}
 
 // The report of the constraints in the site of the view.
 fn told<V: SiteView>(
@@ -34,7 +28,7 @@ fn told<V: SiteView>(
     requires own { V.Own view.old }
     requires listed { IsListed (V.site (V.fixed view.old)) terms.now labels.now }
     ensures { IfOk result (λ r. IsReport (HoldsIn (V.site (V.fixed view.old))) constraints.now
-        r.text r.all_met) }
+        r.text r.passed) }
 {
     let mut text = Vec::new(alloc);
     let mut all_met = true;
@@ -45,7 +39,10 @@ fn told<V: SiteView>(
         all_met = both(all_met, met);
     }
     let text = Str::of(alloc, text)?;
-    Ok(Report { text, all_met })
+    Ok(Report {
+        text,
+        passed: all_met,
+    })
 }
 
 /// Whether the site of the query's blocks over the asker's data meets each of the constraints: a line for each, in order,
@@ -60,7 +57,7 @@ pub fn report_of<A: Asker + Drop>(
 ) -> Result<Report, NoMemory>
     requires { AreCheckedBlocks scopes.now.version scopes.now.blocks.items }
     ensures { IfOk result (λ r. IsReport (Meets (A.graph asker) (scope_of scopes.now))
-        constraints.now r.text r.all_met) }
+        constraints.now r.text r.passed) }
 {
     let templates = Templates::of(Vec::new(alloc), Vec::new(alloc), Vec::new(alloc));
     let mut whole = Whole::of(alloc, asker, scopes, &templates)?;

@@ -2,7 +2,7 @@
 //! `command_run::strudel`, and ends with the number of its status.
 #![tactic(auto)]
 
-use command_run::{strudel, wire_waits};
+use command_run::{GivenWords, strudel};
 use edge_io::{RealFiles, RealOut};
 use run_report::{Status, report};
 use sd_value::{NoMemory, Str};
@@ -29,10 +29,10 @@ fn given_words<R: Env + AllocGlobal>(rt: &R) -> io::Result<Vec<Str>> {
 fn given_wire<'r, R: Net + Clock + Files + AllocGlobal>(
     rt: &'r R,
     process: u32,
-    words: &[Str],
-) -> Result<TcpWire<'r, R, RealFiles<'r, R>>, NoMemory> {
-    let waits = wire_waits(rt.alloc(), words)?;
-    Ok(TcpWire::new(
+    words: &GivenWords,
+) -> TcpWire<'r, R, RealFiles<'r, R>> {
+    let waits = words.waits();
+    TcpWire::new(
         rt.alloc(),
         rt,
         RealFiles::new(rt, process),
@@ -40,7 +40,7 @@ fn given_wire<'r, R: Net + Clock + Files + AllocGlobal>(
             idle: waits.idle,
             stall: waits.stall,
         },
-    ))
+    )
 }
 
 fn main(rt: HostRuntime) -> ExitCode {
@@ -50,8 +50,11 @@ fn main(rt: HostRuntime) -> ExitCode {
     let mut out = RealOut::new(rt.stdout());
     let mut err = RealOut::new(rt.stderr());
     let status = match given_words(&rt) {
-        Ok(words) => match given_wire(&rt, process, &words) {
-            Ok(mut wire) => strudel(alloc, &words, &mut files, &mut out, &mut err, &mut wire),
+        Ok(words) => match GivenWords::read(alloc, words) {
+            Ok(words) => {
+                let mut wire = given_wire(&rt, process, &words);
+                strudel(alloc, &words, &mut files, &mut out, &mut err, &mut wire)
+            }
             Err(NoMemory) => report(alloc, Status::NoMemory, &mut err),
         },
         Err(error) if error.kind() == io::ErrorKind::OutOfMemory => {

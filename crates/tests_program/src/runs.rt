@@ -1,5 +1,5 @@
 // A run of the program by its words alone, over files, outputs and a wire in memory, and what it has to leave.
-use command_run::strudel;
+use command_run::{GivenWords, strudel};
 use edge_io::{Files, MemFile, MemFiles, MemSink, Sink};
 use mem_wire::{FailingSend, MemWire};
 use script_reader::read_script;
@@ -128,7 +128,7 @@ fn exit_code<F: Files, O: Sink, W: Wire>(
     err: &mut O,
     wire: &mut W,
 ) -> Result<u8, NoMemory> {
-    let words = texts(alloc, words)?;
+    let words = GivenWords::read(alloc, texts(alloc, words)?)?;
     let status = strudel(alloc, &words, files, out, err, wire);
     Ok(status.code())
 }

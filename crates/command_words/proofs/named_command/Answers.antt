@@ -1,20 +1,12 @@
-use Rattle.std.proofs.Common.{◌≡◌, ◌∙◌, List, ℕ, [], None, Some, option_map, sym, ap, subst, IfOk, codes}
-use Rattle.std.specs.Prelude.{unwrap_or}
-use Rattle.std.specs.Borrow.{Bor}
-use Rattle.clap.specs.Words.{all_of, found_of, rows_of}
+use Rattle.std.proofs.Common.{◌∙◌, ap}
 use Rattle.clap.specs.Walk.{texts}
-use Rattle.command_words.specs.Parsed as parsed
-use Rattle.command_words.proofs.Matched.{words_found}
+use Rattle.command_spec.specs.Rows.{Row}
+use Rattle.command_words.proofs.Line.{line_is, line_command}
 use Rattle.command_words.proofs.named_command.Goals as goal
 
-pub returns-in-Some-clause-exact : goal.returns-in-Some-clause-exact
-returns-in-Some-clause-exact c =
-    let all : Some (texts c.in-Some.words.now) ≡ all_of (codes "words") (rows_of (found_of c.args.matches.now)) =
-    ap (option_map (λ (s : Bor (List (Bor (List ℕ)))). texts s.now)) (sym c.in-Some.is) ∙ words_found (found_of c.args.matches.now) (codes "words") c.get_strs.result c.get_strs.ensures in
-    subst (λ x. IfOk c.command_with_words.result (λ given. given ≡ x)) (ap (λ o. parsed.command_with_words c.args.name.now (rows_of (found_of c.args.matches.now)) (unwrap_or o [])) all) c.command_with_words.ensures.exact
-
-pub returns-in-None-clause-exact : goal.returns-in-None-clause-exact
-returns-in-None-clause-exact c =
-    let all : None ≡ all_of (codes "words") (rows_of (found_of c.args.matches.now)) =
-    ap (option_map (λ (s : Bor (List (Bor (List ℕ)))). texts s.now)) (sym c.in-None.is) ∙ words_found (found_of c.args.matches.now) (codes "words") c.get_strs.result c.get_strs.ensures in
-    subst (λ x. IfOk c.command_with_words-in-None.result (λ given. given ≡ x)) (ap (λ o. parsed.command_with_words c.args.name.now (rows_of (found_of c.args.matches.now)) (unwrap_or o [])) all) c.command_with_words-in-None.ensures.exact
+pub returns-clause-exact : goal.returns-clause-exact
+returns-clause-exact c =
+    c.in_ok-given.ensures.exact
+    ∙ line_command c.args.name c.args.flags (texts c.deref.result.now) (texts c.args.words.now)
+    (line_is _ _ _ c.deref.result.now c.args.words.now c.row.result.name c.args.name c.in_ok-line.ensures.items c.in_ok-push.ensures.items c.in_ok-extend_from_slice.ensures.items c.deref.ensures.value
+    (ap (λ (r : Row). r.name) c.row.ensures)) c.requires

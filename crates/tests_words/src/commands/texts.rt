@@ -1,6 +1,7 @@
 // Commands as texts: the name, and then each part behind a blank.
 use command_spec::{
-    Command, CommandName, DataFiles, HelpCommand, HereCommand, ReplayCommand, ServeCommand,
+    BuildCommand, Command, CommandName, DataFiles, HelpCommand, HereCommand, PageCommand,
+    ReplayCommand, ReportCommand, ServeCommand, TextCommand,
 };
 use sd_value::{NoMemory, Str};
 use std::alloc::Global;
@@ -134,46 +135,62 @@ fn replay_text(alloc: Global, c: &ReplayCommand) -> Result<Vec<u8>, NoMemory> {
     data_text(text, &c.sources, &c.over)
 }
 
-/// The command as a text: its paths as they are in it, behind them its numbers, then whether its data are read leniently, and
-/// last the file of a first query.
-pub fn command_text(alloc: Global, command: &Command) -> Result<Vec<u8>, NoMemory> {
+fn page_text(alloc: Global, c: &PageCommand) -> Result<Vec<u8>, NoMemory> {
+    let paths = [&c.query, &c.templates, &c.address];
+    let text = named(alloc, b"page", &paths, c.sources.paths.items(), &[])?;
+    data_text(text, &c.sources, &c.over)
+}
+
+fn build_text(alloc: Global, c: &BuildCommand) -> Result<Vec<u8>, NoMemory> {
+    let paths = [&c.query, &c.templates, &c.folder];
+    let text = named(alloc, b"build", &paths, c.sources.paths.items(), &[])?;
+    data_text(text, &c.sources, &c.over)
+}
+
+fn text_command_text(alloc: Global, command: &TextCommand) -> Result<Vec<u8>, NoMemory> {
     match command {
-        Command::Page(c) => {
-            let paths = [&c.query, &c.templates, &c.address];
-            let text = named(alloc, b"page", &paths, c.sources.paths.items(), &[])?;
-            data_text(text, &c.sources, &c.over)
-        }
-        Command::Build(c) => {
-            let paths = [&c.query, &c.templates, &c.folder];
-            let text = named(alloc, b"build", &paths, c.sources.paths.items(), &[])?;
-            data_text(text, &c.sources, &c.over)
-        }
-        Command::Data(c) => {
+        TextCommand::Page(c) => page_text(alloc, c),
+        TextCommand::Data(c) => {
             let text = named(alloc, b"data", &[], c.sources.paths.items(), &[])?;
             data_text(text, &c.sources, &c.over)
         }
-        Command::Explain(c) => {
+        TextCommand::Explain(c) => {
             let text = named(alloc, b"explain", &[&c.query], c.sources.paths.items(), &[])?;
             mode_text(text, &c.sources)
         }
-        Command::Schema(c) => {
+        TextCommand::Schema(c) => {
             let numbers: &[u64] = if c.dot { &[1] } else { &[] };
             named(alloc, b"schema", &[&c.query], &[], numbers)
         }
-        Command::Check(c) => here_text(alloc, c),
-        Command::CheckAll(c) => {
+        TextCommand::Trial(c) => named(alloc, b"trial", &[], &[], &[u64::from(c.entries)]),
+        TextCommand::Help(c) => named(alloc, help_text(c), &[], &[], &[]),
+        TextCommand::Version => named(alloc, b"version", &[], &[], &[]),
+    }
+}
+
+fn report_command_text(alloc: Global, command: &ReportCommand) -> Result<Vec<u8>, NoMemory> {
+    match command {
+        ReportCommand::Check(c) => here_text(alloc, c),
+        ReportCommand::CheckAll(c) => {
             let paths = [&c.query, &c.constraints];
             named(alloc, b"check all", &paths, &[], &[])
         }
-        Command::Lint(c) => {
+        ReportCommand::Lint(c) => {
             let paths = [&c.query, &c.templates];
             let text = named(alloc, b"lint", &paths, c.sources.paths.items(), &[])?;
             mode_text(text, &c.sources)
         }
+    }
+}
+
+/// The command as a text: its paths as they are in it, behind them its numbers, then whether its data are read leniently, and
+/// last the file of a first query.
+pub fn command_text(alloc: Global, command: &Command) -> Result<Vec<u8>, NoMemory> {
+    match command {
+        Command::Text(c) => text_command_text(alloc, c),
+        Command::Report(c) => report_command_text(alloc, c),
+        Command::Build(c) => build_text(alloc, c),
         Command::Serve(c) => data_text(serve_text(alloc, c)?, &c.sources, &c.over),
         Command::Replay(c) => replay_text(alloc, c),
-        Command::Trial(c) => named(alloc, b"trial", &[], &[], &[u64::from(c.entries)]),
-        Command::Help(c) => named(alloc, help_text(c), &[], &[], &[]),
-        Command::Version => named(alloc, b"version", &[], &[], &[]),
     }
 }

@@ -192,8 +192,8 @@ fn may_have(row: &UsageRow, flag: &str) -> bool {
     }
 }
 
-fn text_of(name: Option<CommandName>) -> Result<&'static str, Fail> {
-    match str::from_utf8(usage(name)) {
+fn text_of(usage: &Str) -> Result<&str, Fail> {
+    match str::from_utf8(usage.bytes()) {
         Ok(text) => Ok(text),
         Err(_) => Err(Fail::new("a text that is not UTF-8")),
     }
@@ -425,7 +425,8 @@ fn has_longer(row: &UsageRow) -> bool {
 }
 
 fn check_usage(alloc: Global, row: &UsageRow) -> Result<(), Fail> {
-    let text = text_of(Some(row.name))?;
+    let usage = usage(alloc, Some(row.name))?;
+    let text = text_of(&usage)?;
     check_form(alloc, row, text)?;
     if has_longer(row) {
         return Ok(());
@@ -474,7 +475,9 @@ fn commands_of(alloc: Global, rows: &[UsageRow]) -> Result<Vec<u8>, NoMemory> {
 
 #[test]
 fn the_usage_of_the_program_has_each_command(rt: HostRuntime) -> Result<(), Fail> {
-    let found = commands_in(rt.alloc(), text_of(None)?)?;
-    let wanted = commands_of(rt.alloc(), ROWS)?;
+    let alloc = rt.alloc();
+    let usage = usage(alloc, None)?;
+    let found = commands_in(alloc, text_of(&usage)?)?;
+    let wanted = commands_of(alloc, ROWS)?;
     check_text(b"help", &found, &wanted)
 }

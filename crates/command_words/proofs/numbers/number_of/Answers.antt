@@ -1,9 +1,8 @@
 use Rattle.std.proofs.Common.{◌∙◌, arith, List, ℕ, Some, option_map, refl, sym, ap, subst}
 use Rattle.std.specs.Borrow.{Bor}
-use Rattle.command_words.specs.Parsed.{number_or_default}
 use Rattle.command_spec.specs.declared.numbers.NumberOption.{NumberOption}
 use Rattle.command_spec.specs.declared.numbers.NumberOption.TheVariants.{Port, Connections, Requests, Turns, Cache, Idle, Stall, Every}
-use Rattle.command_spec.specs.Numbers.{default_of, greatest}
+use Rattle.command_spec.specs.Numbers.{default_of, greatest, number_or_default}
 use Rattle.command_spec.specs.Ranges.{IsFrom1To}
 use Rattle.command_words.proofs.numbers.number_of.Goals as goal
 

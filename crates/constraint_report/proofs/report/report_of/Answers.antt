@@ -27,10 +27,10 @@ returns g c =
     let w = c.in_ok-whole.whole in
     let G = g.A.Asker.graph c.args.asker in
     let q = scope_of c.args.scopes.now in
-    IfOk-weaker c.told.result (λ r. IsReport (HoldsIn (site_of (g.A.Asker.graph w.asker) (scope_of w.scopes.now))) c.args.constraints.now r.text r.all_met) (λ r. IsReport (Meets G q) c.args.constraints.now r.text r.all_met)
+    IfOk-weaker c.told.result (λ r. IsReport (HoldsIn (site_of (g.A.Asker.graph w.asker) (scope_of w.scopes.now))) c.args.constraints.now r.text r.passed) (λ r. IsReport (Meets G q) c.args.constraints.now r.text r.passed)
     (λ r told.
-    subst (λ (x : DataGraph). IsReport (Meets x q) c.args.constraints.now r.text r.all_met) c.in_ok-whole.ensures.graph
-    (subst (λ (s : Scope). IsReport (Meets (g.A.Asker.graph w.asker) s) c.args.constraints.now r.text r.all_met) (ap scope_of c.in_ok-whole.ensures.scopes)
-    (report_as (HoldsIn (site_of (g.A.Asker.graph w.asker) (scope_of w.scopes.now))) (Meets (g.A.Asker.graph w.asker) (scope_of w.scopes.now)) c.args.constraints.now r.text r.all_met
+    subst (λ (x : DataGraph). IsReport (Meets x q) c.args.constraints.now r.text r.passed) c.in_ok-whole.ensures.graph
+    (subst (λ (s : Scope). IsReport (Meets (g.A.Asker.graph w.asker) s) c.args.constraints.now r.text r.passed) (ap scope_of c.in_ok-whole.ensures.scopes)
+    (report_as (HoldsIn (site_of (g.A.Asker.graph w.asker) (scope_of w.scopes.now))) (Meets (g.A.Asker.graph w.asker) (scope_of w.scopes.now)) c.args.constraints.now r.text r.passed
     (holds_alike (g.A.Asker.graph w.asker) (scope_of w.scopes.now)) told)))
     c.told.ensures

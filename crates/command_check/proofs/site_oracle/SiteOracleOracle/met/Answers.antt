@@ -9,5 +9,5 @@ use Rattle.command_check.proofs.site_oracle.SiteOracleOracle.met.Goals as goal
 pub returns-clause-met : goal.returns-clause-met
 returns-clause-met c =
     let r = c.in_ok-report.report in
-    alone (Meets c.args.graph (scope_of c.args.self.now.blocks)) c.args.constraint.now c.from_ref.result.now r.text r.all_met c.from_ref.ensures.value
-    (subst (λ (x : DataGraph). IsReport (Meets x (scope_of c.args.self.now.blocks)) c.from_ref.result.now r.text r.all_met) (c.of-asker.ensures.store ∙ c.in_ok-store.ensures) c.in_ok-report.ensures)
+    alone (Meets c.args.graph (scope_of c.args.self.now.blocks)) c.args.constraint.now c.from_ref.result.now r.text r.passed c.from_ref.ensures.value
+    (subst (λ (x : DataGraph). IsReport (Meets x (scope_of c.args.self.now.blocks)) c.from_ref.result.now r.text r.passed) (c.of-asker.ensures.store ∙ c.in_ok-store.ensures) c.in_ok-report.ensures)
