@@ -60,5 +60,3 @@ module _ (G : DataGraph) (version : ℕ) (arcs : List Bool) (goals : List Goal) 
     complete = λ t v f h. o.complete t v f.agrees f.in_domains (f.goals_hold later (Holds l) from here) h;
     exact = λ t v c h f. f;
   }
-
-module _ (G : DataGraph) (version : ℕ) (arcs : List Bool) where
