@@ -1,5 +1,5 @@
-# What helps behind the program's line: the place in the file, the meaning, the likely cause. The launcher reads this file
-# only where the program has ended with a line; everything here is printed on the standard error.
+# What helps after the program's line: the place in the file, the meaning, the likely cause. The launcher reads this file
+# only if the program has ended with a line; everything here is printed on the standard error.
 
 # Where the program says that a file is refused: FILE: NUMBER NAME at PLACE.
 refused_line='^strudel: (.*): ([0-9]+) ([A-Za-z0-9]+) at (.*)$'
@@ -78,7 +78,7 @@ explain_json() {
   local file=$1 pointer=$2 told=$3 found
   if [ "$(wc -c <"$file")" -gt 1000000 ]; then
     echo "$told"
-    [ "$pointer" != fault ] || echo "The file is large: \`jq empty $file\` shows where it is no JSON."
+    [ "$pointer" != fault ] || echo "The file is large: \`jq empty $file\` shows where it is not JSON."
     return
   fi
   found=$(over json "$file" pointer="$pointer")
@@ -109,7 +109,7 @@ explain_words() {
     near=$(commands | awk -v word="${command//\\/\\\\}" -f "$top/share/explain/nearest.awk")
     case $command in
       "") echo "The first word is empty: a command has to be there." ;;
-      -*) echo "$command stands before the command: options stand behind its name." ;;
+      -*) echo "$command stands before the command: options come after its name." ;;
       *) echo "There is no command $command${near:+: did you mean $near}${near:+?}" ;;
     esac
     echo "\`strudel help\` lists the commands."
@@ -139,7 +139,7 @@ explain_operands() {
     elif [[ -n $open && $word = -?* ]]; then
       name=${word%%=*}
       if ! grep -q -e "^  $name " -e "\[$name\]" -e "^usage:.* $name " <<<"$usage"; then
-        echo "$name is no option of this command."
+        echo "$name is not an option of this command."
         return
       fi
       if grep -q -e "^  $name [A-Z]" <<<"$usage"; then
@@ -161,7 +161,7 @@ explain_operands() {
   fi
 }
 
-# Says that a word is no number of an option's range, if it is none.
+# Says that a word is not a number of an option's range, if it is none.
 explain_number() {
   local name=$1 word=$2 usage=$3 range
   range=$(grep -e "^  $name " <<<"$usage" | grep -o -E '[0-9]+ to [0-9]+' | head -n 1)
@@ -213,7 +213,7 @@ explain_unwritten() {
     done
     above=${above:-/}
     if [ ! -d "$above" ]; then
-      echo "$above is no folder, so the site can't be written there."
+      echo "$above is not a folder, so the site can't be written there."
     elif [ ! -w "$above" ]; then
       echo "You may not write in $above: see its permissions."
     elif [ "$(df -P "$above" 2>/dev/null | awk 'NR == 2 { print $2 }')" = 0 ]; then

@@ -54,7 +54,7 @@ function value(path, depth,    c, key, count) {
       blanks()
       if (byte() != "\"") { fail(byte() == "}" ? "a comma before the closing brace" : "a key has to be here, in double quotes"); return }
       key = quoted(); blanks()
-      if (byte() != ":") { fail("a colon has to be here, behind the key"); return }
+      if (byte() != ":") { fail("a colon has to be here, after the key"); return }
       i++
       value(path "/" key_of(key), depth + 1); if (fault >= 0) return
       blanks(); c = byte()
@@ -89,7 +89,7 @@ END {
   s = part; size = length(s); i = 1; base = 1; piece = substr(s, 1, 256); fault = -1; found = -1
   if (substr(s, 1, 3) == "\357\273\277") i = 4
   value("", 0)
-  if (fault < 0) { blanks(); if (i <= size) fail("something stands behind the whole value") }
+  if (fault < 0) { blanks(); if (i <= size) fail("something comes after the whole value") }
   if (pointer == "fault") { if (fault >= 0) print fault, reason }
   else if (found >= 0) print found
 }

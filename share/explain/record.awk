@@ -1,4 +1,4 @@
-# Shows a record of a CSV file: FILE:LINE, how many fields it has beside the header, and its text.
+# Shows a record of a CSV file: FILE:LINE, how many fields it has next to the header, and its text.
 # Variables: `file`; `record`, its number from 0, which is the header; `column`, a field of the header from 0, or -1; `told`;
 # `plain`, 1 where bytes beyond ASCII aren't shown.
 
