@@ -14,7 +14,7 @@ use Rattle.refute_site.proofs.first_broken.Goals as goal
 
 pub returns-in-Some-clause-first : goal.returns-in-Some-clause-first
 returns-in-Some-clause-first g c =
-    let t : Scope = g.T.Trial.scope c.args.trial.now in
+    let t : Scope = g.T.Oracle.scope c.args.trial.now in
     let k = c.args.constraint.now in
     let e : DataGraph = c.new-empty.result.graph in
     at_once (scope_of_query c.args.query.now) (scope_of c.in_ok-blocks.blocks) t k (map candidate_graph c.in_ok-candidates.candidates.items) c.in_ok-blocks.ensures.scope c.requires.scope c.in_ok-candidates.ensures.graphs e c.new-empty.ensures.empty c.in-Some.refuted
@@ -22,11 +22,11 @@ returns-in-Some-clause-first g c =
 
 pub returns-clause-first : goal.returns-clause-first
 returns-clause-first g c =
-    let t : Scope = g.T.Trial.scope c.args.trial.now in
+    let t : Scope = g.T.Oracle.scope c.args.trial.now in
     let k = c.args.constraint.now in
     let e : DataGraph = c.new-empty.result.graph in
     IfOk-weaker c.first_refuting.result
-    (IsFirstWithout (λ (G : DataGraph). Meets G (g.T.Trial.scope c.refuting.new.trial) k) (map candidate_graph c.deref.result.now))
+    (IsFirstWithout (λ (G : DataGraph). Meets G (g.T.Oracle.scope c.refuting.new.trial) k) (map candidate_graph c.deref.result.now))
     (IsFirstBroken (scope_of_query c.args.query.now) k)
     (λ (found : Option DataGraph) h.
     later (scope_of_query c.args.query.now) (scope_of c.in_ok-blocks.blocks) t k (map candidate_graph c.in_ok-candidates.candidates.items) c.in_ok-blocks.ensures.scope c.requires.scope c.in_ok-candidates.ensures.graphs e c.new-empty.ensures.empty

@@ -8,8 +8,8 @@ use Rattle.command_check.proofs.finding.find_all.Given as goal
 
 abbrev pub invariant-loop-i : goal.invariant-loop-i
 invariant-loop-i g l = record {
-  own : g.T.Trial.Own l.trial;
-  scope : g.T.Trial.scope l.trial ≡ g.T.Trial.scope l.initial.trial;
+  own : g.T.Oracle.Own l.trial;
+  scope : g.T.Oracle.scope l.trial ≡ g.T.Oracle.scope l.initial.trial;
   exact : AllZip (IsCheckAnswer (scope_of l.query)) (take l.i l.constraints) (map found_in l.found.items);
   holds : AllZip (HoldsOfSites (scope_of l.query)) (take l.i l.constraints) (map found_in l.found.items);
 }

@@ -13,7 +13,7 @@ graph-requires g c = variables_at c.args.candidates.now c.loop-candidate.candida
 pub loop-candidate-preserved : goal.loop-candidate-preserved
 loop-candidate-preserved g c =
     let B = c.in_ok-builder.builder.graph in
-    let s : Scope = g.T.Trial.scope c.args.trial.now in
+    let s : Scope = g.T.Oracle.scope c.args.trial.now in
     let k = c.args.constraint.now in
     record {
       own = c.in_ok-refuted.ensures.own;
@@ -27,7 +27,7 @@ loop-candidate-preserved g c =
 pub returns-in-Some-clause-first : goal.returns-in-Some-clause-first
 returns-in-Some-clause-first g c =
     let B = c.in_ok-builder.builder.graph in
-    let s : Scope = g.T.Trial.scope c.args.trial.now in
+    let s : Scope = g.T.Oracle.scope c.args.trial.now in
     let k = c.args.constraint.now in
     first_here (λ (G : DataGraph). Meets G s k) candidate_graph c.args.candidates.now c.loop-candidate.candidate-index c.candidate-item.result B c.in-Some.refuted (omega arith) c.candidate-item.is c.loop-candidate.invariant.met c.in_ok-builder.ensures
     (some_met c.in_ok-refuted.field-0 (Meets B s k) (λ (graph : DataGraph). (graph ≡ B) × (Meets B s k → ⊥)) c.in-Some.refuted c.in-Some.is
@@ -35,4 +35,4 @@ returns-in-Some-clause-first g c =
 
 pub returns-clause-first : goal.returns-clause-first
 returns-clause-first g c =
-    none_left (λ (G : DataGraph). Meets G (g.T.Trial.scope c.args.trial.now) c.args.constraint.now) candidate_graph c.args.candidates.now c.loop-candidate.candidate-index (omega arith) c.loop-candidate.invariant.met
+    none_left (λ (G : DataGraph). Meets G (g.T.Oracle.scope c.args.trial.now) c.args.constraint.now) candidate_graph c.args.candidates.now c.loop-candidate.candidate-index (omega arith) c.loop-candidate.invariant.met

@@ -6,7 +6,7 @@ use Rattle.refute_site.proofs.refuting.first_refuting.Given as goal
 
 abbrev pub invariant-loop-candidate : goal.invariant-loop-candidate
 invariant-loop-candidate g l = record {
-  own : g.T.Trial.Own l.trial;
-  scope : g.T.Trial.scope l.trial ≡ g.T.Trial.scope l.initial.trial;
-  met : All (λ G. Meets G (g.T.Trial.scope l.initial.trial) l.constraint) (map candidate_graph (take l.candidate-index l.candidates));
+  own : g.T.Oracle.Own l.trial;
+  scope : g.T.Oracle.scope l.trial ≡ g.T.Oracle.scope l.initial.trial;
+  met : All (λ G. Meets G (g.T.Oracle.scope l.initial.trial) l.constraint) (map candidate_graph (take l.candidate-index l.candidates));
 }
