@@ -42,15 +42,16 @@ is_release_of_sources() {
 }
 
 # Whether a source of the program is newer than the release. That is seen from the times at which code was last changed, against
-# `release/.fits` or, while there is none, the release itself, so a call costs some milliseconds. Only after a change the checksums
+# `release/.fits` or, while there is none, the release's `built-from`, so a call costs some milliseconds. Only after a change the checksums
 # decide, once: `release/.fits` keeps their answer. (Files are compared by the time of their last change of any kind, which no
 # copying sets back.)
 sources_are_newer() {
   local stamp=$top/release/.fits answer=yes since
   since=$stamp
-  [ -e "$stamp" ] || since=$released
-  if [ -z "$(cd "$top" && find crates.txt crates/*/src -cnewer "$since" -print -quit 2>&1)" ]; then
-    [ "$since" = "$released" ] || read -r answer <"$stamp"
+  [ -e "$stamp" ] || since=$top/release/built-from
+  # (a release that came after the answer is asked about again)
+  if [ -z "$(cd "$top" && find release/built-from crates.txt crates/*/src -cnewer "$since" -print -quit 2>&1)" ]; then
+    [ "$since" != "$stamp" ] || read -r answer <"$stamp"
   else
     # (its time is before all that is read for it)
     { : >"$stamp.time.$$" && touch -d '-2 seconds' "$stamp.time.$$"; } 2>/dev/null
