@@ -2,7 +2,7 @@
 use Rattle.std.specs.Prelude.{◌≡◌, ℕ, Bool, true, false, ◌||◌, List, [], ◌∷◌, ◌++◌, ◌+◌, ◌<◌, ◌≤◌, length, get_or, take, Ok, Err, Result, IfOk}
 use Rattle.std.specs.List.{list_any}
 use Rattle.std.proofs.Common.{refl, sym, ap, ◌∙◌, subst, append_assoc, append-nil}
-use Rattle.std.proofs.lemmas.List.{take_more, take_all}
+use Rattle.std.proofs.lemmas.List.{take_more}
 use Rattle.std.proofs.lemmas.List.Folds.{list_any-append}
 use Rattle.std.proofs.lemmas.List.Concat.{flat_map-append}
 use Rattle.tmpl.specs.declared.Part.{Part, Text, Format, Choice', Repeat'}
@@ -76,10 +76,6 @@ pub adds_more : (ps : List Part) (i : ℕ) (p : Part) (a b c : Reads) → i < le
     → AddsUses a c (uses (body_of (take (i + 1) ps)))
 adds_more ps i p a b c lt is h k = subst (AddsUses a c) (sym (uses_more ps i p lt is))
     (adds_then a b c (uses (body_of (take i ps))) (part_uses p) h k)
-
-pub adds_all : (ps : List Part) (i : ℕ) (a b : Reads) → length ps ≤ i → AddsUses a b (uses (body_of (take i ps)))
-    → AddsUses a b (uses (body_of ps))
-adds_all ps i a b le h = subst (λ l. AddsUses a b (uses (body_of l))) (take_all i ps le) h
 
 -- a choice and a loop
 pub choice_uses : (x : choices.Choice) → part_uses (variants.Choice x) ≡ record {

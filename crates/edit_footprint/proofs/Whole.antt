@@ -67,20 +67,6 @@ number_in_range ts function k e =
 
 -- ---- with an EMBED, and without
 
-pub parts_every : (f : TemplateFile) (q : Scope) (function : Name) (r : Reads) (p : FootprintParts) → r.embeds ≡ true
-    → p.every ≡ true → p.blocks.items ≡ [] → p.labels.items ≡ [] → p.collections.items ≡ []
-    → AreReads f function r → AreParts f q function p
-parts_every f q function r p embeds every blocks labels collections (t, template, reads) = (
-  t,
-  template,
-  record {
-    every = every ∙ sym embeds ∙ reads.embeds_same;
-    parts = subst
-        (λ (b : Bool). MatchBool b ((p.blocks.items ≡ []) × (p.labels.items ≡ []) × (p.collections.items ≡ []))
-        (IsWithoutEmbed q function t (footprint_of p))) (sym every) (blocks, labels, collections);
-  },
-)
-
 pub parts_fine : (f : TemplateFile) (q : Scope) (function : Name) (r : Reads) (p : FootprintParts) → r.embeds ≡ false
     → p.every ≡ false
     → p.blocks.items ≡ numbers_from (tests.rests_on function r.own.items r.others.items r.collections.items) 0 q.bodies
