@@ -1,5 +1,5 @@
 -- What a text makes of the data of a run.
-use Rattle.std.specs.Prelude.{◌≡◌, ℕ, Bool, true, false, List, [], Ok, Option, Some, None, if◌then◌else◌}
+use Rattle.std.specs.Prelude.{◌≡◌, ℕ, Bool, true, false, List, [], Ok, Option, Some, None}
 use Rattle.graph_spec.specs.DataGraph.{DataGraph}
 use Rattle.command_spec.specs.Limits.{data_limit, node_limit, edge_limit}
 use Rattle.sd_graph.specs.Statement.{Building}
