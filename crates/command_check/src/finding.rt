@@ -7,11 +7,11 @@ ghost use Rattle.command_check.specs.Told.{IsCheckAnswer, HoldsOfSites};
 ghost use Rattle.command_check.specs.Written.{found_in};
 
 use constraint_spec::{Certificate, Constraint, Verdict};
+use query_scoping::ScopedQuery;
 use refute_site::{Oracle, first_broken};
 use sd_graph::Graph;
 use sd_value::NoMemory;
 use std::alloc::Global;
-use struql_check::Checked;
 
 /// What is found of a constraint.
 #[derive(Drop)]
@@ -27,7 +27,7 @@ pub(crate) enum CheckAnswer<'a> {
 // What is found of the constraint, on which this is the prover's verdict.
 fn find<'a, T: Oracle>(
     alloc: Global,
-    query: &Checked,
+    query: &ScopedQuery,
     constraint: &Constraint,
     verdict: &'a Verdict,
     trial: &mut T,
@@ -56,7 +56,7 @@ fn find<'a, T: Oracle>(
 /// Out of memory.
 pub(crate) fn find_all<'a, T: Oracle>(
     alloc: Global,
-    query: &Checked,
+    query: &ScopedQuery,
     constraints: &[Constraint],
     verdicts: &'a [Verdict],
     trial: &mut T,
