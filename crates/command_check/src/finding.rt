@@ -7,6 +7,7 @@ ghost use Rattle.command_check.specs.Told.{IsCheckAnswer, HoldsOfSites};
 ghost use Rattle.command_check.specs.Written.{found_in};
 
 use constraint_spec::{Certificate, Constraint, Verdict};
+use ddl_laws::integers_fit;
 use query_scoping::ScopedQuery;
 use refute_site::{Oracle, first_broken};
 use sd_graph::Graph;
@@ -45,7 +46,10 @@ fn find<'a, T: Oracle>(
     match verdict {
         Verdict::Yes(certificate) => Ok(CheckAnswer::Yes(certificate)),
         Verdict::Unknown => match first_broken(alloc, query, constraint, trial)? {
-            Some(graph) => Ok(CheckAnswer::No(graph)),
+            Some(graph) => {
+                integers_fit(&graph);
+                Ok(CheckAnswer::No(graph))
+            }
             None => Ok(CheckAnswer::Unknown),
         },
     }
