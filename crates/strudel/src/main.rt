@@ -4,6 +4,7 @@
 
 use command_run::{GivenWords, strudel};
 use edge_io::{RealFiles, RealOut};
+use happenings::Stream;
 use run_report::{Status, report};
 use sd_value::{NoMemory, Str};
 use std::net::Net;
@@ -47,8 +48,8 @@ fn main(rt: HostRuntime) -> ExitCode {
     let alloc = rt.alloc();
     let process = process::id(rt.process());
     let mut files = RealFiles::new(&rt, process);
-    let mut out = RealOut::new(rt.stdout());
-    let mut err = RealOut::new(rt.stderr());
+    let mut out = RealOut::new(rt.stdout(), Stream::Output);
+    let mut err = RealOut::new(rt.stderr(), Stream::Errors);
     let status = match given_words(&rt) {
         Ok(words) => match GivenWords::read(alloc, words) {
             Ok(words) => {
