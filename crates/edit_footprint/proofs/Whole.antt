@@ -13,7 +13,7 @@ use Rattle.site_spec.specs.Site.{Scope}
 use Rattle.tmpl.specs.declared.Templates.{Templates}
 use Rattle.tmpl.specs.Reading.{file_of, template_body}
 use Rattle.tmpl.specs.Body.{Body, done, TemplateFile}
-use Rattle.demand_spec.specs.Reads.{uses}
+use Rattle.tmpl.specs.Expressions.{uses}
 use Rattle.edit_spec.specs.Footprint.{own_labels, other_labels, named_collections, has_embed, IsWithoutEmbed}
 use Rattle.edit_touches.specs.declared.FootprintParts.{FootprintParts}
 use Rattle.edit_touches.specs.Parts.{footprint_of}
