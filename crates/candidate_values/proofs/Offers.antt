@@ -57,7 +57,6 @@ module _ (G : DataGraph) (version : ℕ) where
   start_listed u v name edges starts hs he edge = absurd edge
 
   module _ (arcs : List Bool) (s : List (Option Value)) where
-
     pub offer_settled : (atom : Atom) (slot : ℕ) (all : List Value) (exact : Bool) (slot2 : ℕ) (values : List Value) (settled : Bool)
         → slice_get s slot ≡ Some None
         → IsSettled G arcs slot all exact slot2 values settled

@@ -31,7 +31,6 @@ label_of G u (Data (Text name)) v h = (name, refl, h)
 label_of G u l v h = absurd h
 
 module _ (version : ℕ) (variables : List Variable) where
-
   pub walk_atom : (from to : Operand) (r : Regex) (table : Table) (p q : Slot) → IsPlaceOf variables from p → IsPlaceOf variables to q → ((word : Word) → HasWord table word ↔ InLanguage r word)
       → IsAtomOf version variables (path from (expression r) to) (Two p (Walk table) q)
   walk_atom from to r table p q i j words = λ G t l. (
