@@ -15,7 +15,7 @@ name_of n =
     if n == 147 then codes "Unbounded" else (
     if n == 148 then codes "NoRow" else (
     if n == 149 then codes "MisspelledTag" else (
-    if n == 150 then codes "OnlyCollected" else codes "")))))))))
+    if n == 156 then codes "OnlyCollected" else codes "")))))))))
 
 -- the line of a finding in the file
 abbrev pub finding_line : List ℕ → Finding → List ℕ

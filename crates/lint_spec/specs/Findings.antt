@@ -21,7 +21,7 @@ number_of (asked.Created f) = 146
 number_of (asked.Variable block x) = 147
 number_of (asked.Rows block) = 148
 number_of asked.Tag = 149
-number_of (asked.Member c) = 150
+number_of (asked.Member c) = 156
 
 -- the mistake at the claim's place
 abbrev pub finding : Claim → Finding

@@ -47,7 +47,7 @@ pub const ROWS: &[LintRow] = &[
         query: "INPUT D { CREATE Home() } { WHERE Papers(x), x -> \"title\" -> t CREATE Page(x) LINK Home() \
             -> \"paper\" -> Page(x), Page(x) -> \"title\" -> t } { WHERE Recent(x) COLLECT Recent(x) } OUTPUT S",
         templates: "<TEMPLATE Home><SFMT @paper LINK=title></TEMPLATE><TEMPLATE Page><SFMT @title></TEMPLATE>",
-        lines: "site.struql: 148 NoRow at 139\nsite.struql: 150 OnlyCollected at 147\n",
+        lines: "site.struql: 148 NoRow at 139\nsite.struql: 156 OnlyCollected at 147\n",
     },
     // Under `not` such a condition always holds.
     LintRow {
@@ -56,7 +56,7 @@ pub const ROWS: &[LintRow] = &[
             \"paper\" -> Page(x), Page(x) -> \"title\" -> t } { WHERE Papers(x), not(Kept(x)) COLLECT \
             Kept(x) } OUTPUT S",
         templates: "<TEMPLATE Home><SFMT @paper LINK=title></TEMPLATE><TEMPLATE Page><SFMT @title></TEMPLATE>",
-        lines: "site.struql: 150 OnlyCollected at 162\n",
+        lines: "site.struql: 156 OnlyCollected at 162\n",
     },
     // A COLLECT into a collection of which the data have members.
     LintRow {
