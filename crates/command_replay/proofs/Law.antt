@@ -2,7 +2,7 @@
 use Rattle.std.proofs.Common.{◌≡◌, ◌⊎◌, ◌<◌, ℕ, List, length, inl, inr, refl, sym, subst, ap, ◌∙◌}
 use Rattle.std.specs.Prelude.{Option, Some, Result, Ok, Err}
 use Rattle.edge_io.specs.Files.{FileMap}
-use Rattle.wire.specs.declared.WireEvent.{WireEvent}
+use Rattle.happenings.specs.declared.event.WireEvent.{WireEvent}
 use Rattle.serving_spec.specs.declared.HubEnd.{HubEnd}
 use Rattle.serving_spec.specs.declared.HubEnd.TheVariants as end
 use Rattle.run_report.specs.declared.status.Place.TheVariants.{At}

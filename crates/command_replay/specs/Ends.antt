@@ -5,8 +5,8 @@ use Rattle.std.specs.List.{list_any}
 use Rattle.edge_io.specs.Sink.{Gains, GainsPart}
 use Rattle.wire.specs.Accounts.{Account}
 use Rattle.wire.specs.Told.{WireReport}
-use Rattle.wire.specs.declared.WireEvent.{WireEvent}
-use Rattle.wire.specs.declared.WireEvent.TheVariants.{Opened, Bytes, Ended, Lost, Change, Done}
+use Rattle.happenings.specs.declared.event.WireEvent.{WireEvent}
+use Rattle.happenings.specs.declared.event.WireEvent.TheVariants.{Opened, Bytes, Ended, Lost, Change, Done}
 use Rattle.serving_spec.specs.declared.HubEnd.{HubEnd}
 use Rattle.serving_spec.specs.declared.HubEnd.TheVariants as end
 use Rattle.run_report.specs.declared.status.Status.{Status}

@@ -4,7 +4,7 @@ use Rattle.std.specs.Global.{Vec}
 use Rattle.edge_io.specs.Files.{FileMap}
 use Rattle.command_spec.specs.Limits.{script_limit}
 use Rattle.run_report.specs.declared.status.Place.TheVariants.{At}
-use Rattle.wire.specs.declared.WireEvent.{WireEvent}
+use Rattle.happenings.specs.declared.event.WireEvent.{WireEvent}
 use Rattle.token_reader.specs.declared.refusal.TextRefusal.{TextRefusal}
 use Rattle.script_reader.specs.Script.{Reads}
 use Rattle.command_spec.specs.declared.ReplayCommand.{ReplayCommand}

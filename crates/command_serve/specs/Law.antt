@@ -1,7 +1,7 @@
 -- A run over connections ends well, unless it is out of memory, where its inputs are accepted and nothing outside fails.
 use Rattle.std.specs.Prelude.{◌≡◌, ◌<◌, ℕ, List, length, Some, Ok, Err}
 use Rattle.wire.specs.Told.{WireReport}
-use Rattle.wire.specs.declared.WireEvent.{WireEvent}
+use Rattle.happenings.specs.declared.event.WireEvent.{WireEvent}
 use Rattle.run_report.specs.declared.status.Status.{Status}
 use Rattle.run_report.specs.declared.status.Status.TheVariants as status
 use Rattle.command_spec.specs.declared.ServeCommand.{ServeCommand}

@@ -10,8 +10,8 @@ use Rattle.page_spec.specs.Address.{TermOf}
 use Rattle.page_spec.specs.Page.{IsOutcome, PageAt}
 use Rattle.page_spec.specs.Site.{Site}
 use Rattle.tmpl.specs.Body.{TemplateFile}
-use Rattle.wire.specs.declared.WireEvent.{WireEvent}
-use Rattle.wire.specs.declared.WireEvent.TheVariants.{Opened, Bytes, Ended, Done}
+use Rattle.happenings.specs.declared.event.WireEvent.{WireEvent}
+use Rattle.happenings.specs.declared.event.WireEvent.TheVariants.{Opened, Bytes, Ended, Done}
 use Rattle.serving_spec.specs.Changes.{Changes}
 use Rattle.serving_spec.specs.Looks.{Kept, LooksIn}
 use Rattle.hub.specs.Course.{Scene, Rules, Passes, PassesAll}

@@ -13,7 +13,7 @@ use Rattle.std.proofs.lemmas.List.{take_more, map-append, length-map}
 use Rattle.std.proofs.lemmas.List.Elements.{All-nil, All-cons, All-append}
 use Rattle.sd_value.specs.declared.Term.{Term}
 use Rattle.page_spec.specs.Show.{address, in_address, is_plain, hex_digit}
-use Rattle.wire.specs.declared.WireEvent.{WireEvent}
+use Rattle.happenings.specs.declared.event.WireEvent.{WireEvent}
 use Rattle.command_trial.specs.Askable.{IsAskable, is_visible}
 use Rattle.trial_spec.specs.Data.{below}
 use Rattle.trial_spec.specs.Events.{events_from}

@@ -10,8 +10,8 @@ use Rattle.page_spec.specs.Site.{Site}
 use Rattle.page_spec.specs.declared.Outcome.{Outcome}
 use Rattle.page_spec.specs.declared.Outcome.TheVariants.{Missing}
 use Rattle.wire.specs.Events.{is_done, IsDrawn}
-use Rattle.wire.specs.declared.WireEvent.{WireEvent}
-use Rattle.wire.specs.declared.WireEvent.TheVariants.{Opened, Bytes, Ended, Change, Done}
+use Rattle.happenings.specs.declared.event.WireEvent.{WireEvent}
+use Rattle.happenings.specs.declared.event.WireEvent.TheVariants.{Opened, Bytes, Ended, Change, Done}
 use Rattle.serving_spec.specs.Changes.{Changes}
 use Rattle.serving_spec.specs.Looks.{Kept}
 use Rattle.mem_wire.specs.Sent.{Sent}

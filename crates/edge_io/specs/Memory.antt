@@ -3,6 +3,8 @@ use Rattle.std.specs.Prelude.{ℕ, ◌+◌, ◌-◌, ◌^◌, min, Bool, List, [
 use Rattle.std.specs.Str.{bytes_eq}
 use Rattle.edge_io.specs.declared.memory.MemFile.{MemFile}
 use Rattle.edge_io.specs.Files.{FileMap}
+use Rattle.happenings.specs.Happening.{Happening}
+use Rattle.happenings.specs.declared.stream.Stream.{Stream}
 
 -- the bytes at a path: those of the first file of this path
 abbrev pub bytes_at : List MemFile → FileMap
@@ -15,7 +17,7 @@ abbrev pub times : List (List ℕ) → List ℕ → ℕ
 times paths path = count_by (λ p. bytes_eq p path) paths
 
 -- files in memory: the newest first, the numbers of the calls that fail, how many calls there were, the paths whose
--- read failed, how often a write failed, and whether memory was refused
+-- read failed, how often a write failed, whether memory was refused, and what was done since the log was lent
 pub record FilesInMemory : Type 0 where
   pub files : List MemFile
   pub failing : List ℕ
@@ -23,6 +25,7 @@ pub record FilesInMemory : Type 0 where
   pub missed : List (List ℕ)
   pub lost : ℕ
   pub is_short : Bool
+  pub trace : List Happening
 
 -- the number of the next call, counted from 1
 abbrev pub next_call : FilesInMemory → ℕ
@@ -37,13 +40,15 @@ abbrev pub IsNamed : FilesInMemory → Type 0
 IsNamed m = Contains m.failing (next_call m)
 
 -- a sink in memory: its bytes, the numbers of the puts that fail, how many there were and how many failed, and whether
--- memory was refused
+-- memory was refused; which output it is, and what was put since the log was lent
 pub record SinkInMemory : Type 0 where
   pub text : List ℕ
   pub failing : List ℕ
   pub calls : ℕ
   pub faults : ℕ
   pub is_short : Bool
+  pub stream : Stream
+  pub trace : List Happening
 
 abbrev pub next_put : SinkInMemory → ℕ
 next_put s = min (s.calls + 1) (2 ^ 64 - 1)

@@ -1,7 +1,8 @@
 // Files and a sink in memory, which fail by a list.
 ghost use Rattle.std.specs.Prelude.{◌≡◌, ◌⊎◌, ◌↔◌, Contains, ℕ, List, ◌+◌, ◌<◌, ◌≤◌, ◌^◌, ◌++◌, ◌∷◌, [], length};
 ghost use Rattle.std.specs.Prelude.{take, Some, MatchOption, None, OnOk, OnErr, IfOk, IfSome, IsErr, IsErrOf};
-ghost use Rattle.std.specs.Prelude.{vec_len, min, option_copied, true, false};
+ghost use Rattle.std.specs.Prelude.{vec_len, min, option_copied, true, false, MatchResult};
+ghost use Rattle.happenings.specs.Happening.{Read, ReadFailed, Wrote, WriteFailed, Put, PutFailed};
 ghost use Rattle.std.specs.Bool.{OnTrue};
 ghost use Rattle.std.specs.Option.{ForSome};
 ghost use Rattle.edge_io.specs.Files.{IsStartOf, HasReadCause, HasWriteCause, PutsFile, LeavesOthers};
@@ -11,9 +12,11 @@ ghost use Rattle.edge_io.specs.Memory.{bytes_at, times, lost_of, next_call, IsNa
 
 use crate::files::{Files, ReadEnd};
 use crate::sink::{Failed, Sink};
+use happenings::{Log, Stream};
 use sd_value::{NoMemory, Str};
 use std::alloc::{AllocError, Global};
 use std::marker::Model;
+use std::mem::swap;
 
 /// A file and its bytes.
 #[derive(Debug, Drop)]
@@ -34,6 +37,7 @@ pub struct MemFiles {
     missed: Vec<Str>,
     lost: u64,
     short: bool,
+    log: Log,
 }
 
 fn find<'f>(files: &'f [MemFile], path: &[u8]) -> Option<&'f MemFile>
@@ -132,6 +136,7 @@ impl Model for MemFiles {
       missed = m.missed.items;
       lost = m.lost;
       is_short = m.short;
+      trace = m.log.events;
     } };
 }
 
@@ -145,6 +150,7 @@ impl MemFiles {
           missed = [];
           lost = 0;
           is_short = false;
+          trace = [];
         } }
     {
         MemFiles {
@@ -155,6 +161,7 @@ impl MemFiles {
             missed: Vec::new(alloc),
             lost: 0,
             short: false,
+            log: Log::new(),
         }
     }
 
@@ -174,14 +181,25 @@ impl MemFiles {
 }
 
 impl Files for MemFiles {
+    type Log = Log;
+
+    ghost trace = { λ m. m.trace };
+
     ghost contents = { λ m. Some (bytes_at m.files) };
 
     ghost failed_reads = { λ m. times m.missed };
 
     ghost failed_writes = { lost_of };
 
+    fn lend(&mut self, log: &mut Log) {
+        swap(&mut self.log, log);
+    }
+
     /// Fails exactly where `failing` names the call or no file has the path.
     fn read(&mut self, alloc: Global, path: &Str, at_most: u64) -> Result<Vec<u8>, ReadEnd>
+        ensures traced { MatchResult result
+            (λ bytes. self.new.trace ≡ self.old.trace ++ Read path.now bytes.items ∷ [])
+            (λ _. self.new.trace ≡ self.old.trace ++ ReadFailed path.now ∷ []) }
         ensures bound { IfOk result (λ bytes. length bytes.items ≤ at_most) }
         ensures bytes { IfOk result
             (λ bytes. ForSome (Some (bytes_at self.old.files))
@@ -199,16 +217,26 @@ impl Files for MemFiles {
         self.calls = self.calls.saturating_add(1);
         let fails = is_named(&self.failing, self.calls);
         let Some(file) = readable(&self.files, fails, path) else {
+            self.log.read_failed(path.bytes());
             return Err(missed(self.alloc, &mut self.missed, path));
         };
         match start_of(alloc, file.bytes.bytes(), at_most) {
-            Ok(bytes) => Ok(bytes),
-            Err(_) => Err(ReadEnd::NoMemory),
+            Ok(bytes) => {
+                self.log.read(path.bytes(), &bytes);
+                Ok(bytes)
+            }
+            Err(_) => {
+                self.log.read_failed(path.bytes());
+                Err(ReadEnd::NoMemory)
+            }
         }
     }
 
     /// Fails exactly where `failing` names the call, which then leaves the files as they are, or memory was refused.
     fn write(&mut self, path: &Str, bytes: &[u8]) -> Result<(), Failed>
+        ensures traced { MatchResult result
+            (λ _. self.new.trace ≡ self.old.trace ++ Wrote path.now bytes.now ∷ [])
+            (λ _. self.new.trace ≡ self.old.trace ++ WriteFailed path.now ∷ []) }
         ensures written { OnOk result
             (PutsFile (Some (bytes_at self.old.files))
             (Some (bytes_at self.new.files)) path.now bytes.now) }
@@ -224,13 +252,16 @@ impl Files for MemFiles {
         self.calls = self.calls.saturating_add(1);
         if is_named(&self.failing, self.calls) {
             self.lost = self.lost.saturating_add(1);
+            self.log.write_failed(path.bytes());
             return Err(Failed);
         }
         if put_file(self.alloc, &mut self.files, path, bytes).is_err() {
             self.lost = self.lost.saturating_add(1);
             self.short = true;
+            self.log.write_failed(path.bytes());
             return Err(Failed);
         }
+        self.log.wrote(path.bytes(), bytes);
         Ok(())
     }
 
@@ -251,6 +282,8 @@ pub struct MemSink {
     calls: u64,
     faults: u64,
     short: bool,
+    stream: Stream,
+    log: Log,
 }
 
 impl Model for MemSink {
@@ -264,18 +297,22 @@ impl Model for MemSink {
       calls = s.calls;
       faults = s.faults;
       is_short = s.short;
+      stream = s.stream;
+      trace = s.log.events;
     } };
 }
 
 impl MemSink {
-    /// No bytes yet.
-    pub fn new(alloc: Global, failing: Vec<u64>) -> MemSink
+    /// No bytes yet, as this output.
+    pub fn new(alloc: Global, failing: Vec<u64>, stream: Stream) -> MemSink
         ensures { result ≡ record {
           text = [];
           failing = failing.items;
           calls = 0;
           faults = 0;
           is_short = false;
+          stream = stream;
+          trace = [];
         } }
     {
         MemSink {
@@ -284,6 +321,8 @@ impl MemSink {
             calls: 0,
             faults: 0,
             short: false,
+            stream,
+            log: Log::new(),
         }
     }
 
@@ -303,12 +342,28 @@ impl MemSink {
 }
 
 impl Sink for MemSink {
+    type Log = Log;
+
+    ghost stream = { λ s. s.stream };
+
+    ghost trace = { λ s. s.trace };
+
     ghost text = { λ s. Some s.text };
 
     ghost failed = { λ s. s.faults };
 
+    fn lend(&mut self, log: &mut Log) {
+        swap(&mut self.log, log);
+    }
+
     /// Fails exactly where `failing` names the call, which then adds no byte, or memory was refused.
     fn put(&mut self, bytes: &[u8]) -> Result<(), Failed>
+        ensures traced { MatchResult result
+            (λ _. self.new.trace ≡ self.old.trace ++ Put self.old.stream bytes.now ∷ [])
+            (λ _. (taken : ℕ)
+            × (self.new.trace ≡ self.old.trace ++ PutFailed self.old.stream bytes.now taken ∷ [])
+            × Gains (Some self.old.text) (Some self.new.text) (take taken bytes.now)) }
+        ensures stays { self.new.stream ≡ self.old.stream }
         ensures whole { OnOk result (Gains (Some self.old.text) (Some self.new.text) bytes.now) }
         ensures part { GainsPart (Some self.old.text) (Some self.new.text) bytes.now }
         ensures cause { HasCause self.old.faults self.new.faults result }
@@ -321,13 +376,16 @@ impl Sink for MemSink {
         self.calls = self.calls.saturating_add(1);
         if is_named(&self.failing, self.calls) {
             self.faults = self.faults.saturating_add(1);
+            self.log.put_failed(self.stream, bytes, 0);
             return Err(Failed);
         }
         if self.text.extend_from_slice(bytes).is_err() {
             self.faults = self.faults.saturating_add(1);
             self.short = true;
+            self.log.put_failed(self.stream, bytes, 0);
             return Err(Failed);
         }
+        self.log.put(self.stream, bytes);
         Ok(())
     }
 

@@ -7,8 +7,8 @@ use Rattle.sd_value.specs.declared.Term.{Term}
 use Rattle.http_spec.specs.Sessions.{OutcomeAt}
 use Rattle.wire.specs.Accounts.{Account, up_by}
 use Rattle.wire.specs.Events.{add_event, is_done, IsNextOf, IsDrawn}
-use Rattle.wire.specs.declared.WireEvent.{WireEvent}
-use Rattle.wire.specs.declared.WireEvent.TheVariants.{Opened, Bytes, Ended, Lost as LostEvent, Change, Done}
+use Rattle.happenings.specs.declared.event.WireEvent.{WireEvent}
+use Rattle.happenings.specs.declared.event.WireEvent.TheVariants.{Opened, Bytes, Ended, Lost as LostEvent, Change, Done}
 use Rattle.hub.specs.Course.{Scene, Rules, Passes, PassesAll, IsCourse}
 use Rattle.hub.specs.HubState.{scene, HubState}
 use Rattle.hub.specs.Line.{Line}

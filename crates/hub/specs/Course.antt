@@ -6,8 +6,8 @@ use Rattle.page_spec.specs.Address.{TermOf}
 use Rattle.page_spec.specs.Site.{Site}
 use Rattle.http_spec.specs.Sessions.{OutcomeAt}
 use Rattle.wire.specs.Accounts.{up_by}
-use Rattle.wire.specs.declared.WireEvent.{WireEvent}
-use Rattle.wire.specs.declared.WireEvent.TheVariants.{Change}
+use Rattle.happenings.specs.declared.event.WireEvent.{WireEvent}
+use Rattle.happenings.specs.declared.event.WireEvent.TheVariants.{Change}
 use Rattle.serving_spec.specs.Changes.{text_of, refused_of}
 use Rattle.serving_spec.specs.Made.{Made}
 use Rattle.serving_spec.specs.Shown.{shown_in}

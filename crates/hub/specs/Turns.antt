@@ -9,8 +9,8 @@ use Rattle.http_spec.specs.declared.Standing.TheVariants.{Open, Closed, Short, L
 use Rattle.http_spec.specs.Replies.{no_memory_bytes}
 use Rattle.http_spec.specs.Sessions.{OutcomeAt}
 use Rattle.wire.specs.Accounts.{Account, send_to}
-use Rattle.wire.specs.declared.WireEvent.{WireEvent}
-use Rattle.wire.specs.declared.WireEvent.TheVariants.{Opened, Bytes, Ended, Lost as LostEvent, Change, Done}
+use Rattle.happenings.specs.declared.event.WireEvent.{WireEvent}
+use Rattle.happenings.specs.declared.event.WireEvent.TheVariants.{Opened, Bytes, Ended, Lost as LostEvent, Change, Done}
 use Rattle.serving_spec.specs.Delivered.{IsDelivered, closing}
 pub use Rattle.serving_spec.specs.Changes.{state_after, Keeps}
 use Rattle.hub.specs.Line.{Line}

@@ -5,7 +5,7 @@ ghost use Rattle.std.specs.BTreeMap.{get};
 ghost use Rattle.page_spec.specs.Address.{TermOf};
 ghost use Rattle.wire.specs.Accounts.{up, up_by};
 ghost use Rattle.wire.specs.Told.{EventsStay};
-ghost use Rattle.wire.specs.declared.WireEvent.{WireEvent};
+ghost use Rattle.happenings.specs.declared.event.WireEvent.{WireEvent};
 ghost use Rattle.hub.specs.HubState.{HubState, line_of};
 ghost use Rattle.serving_spec.specs.Made.{Made, nothing};
 ghost use Rattle.serving_spec.specs.Shown.{shown_in};

@@ -4,7 +4,7 @@ ghost use Rattle.std.specs.List.{fold};
 ghost use Rattle.edge_io.specs.Counts.{Rose};
 ghost use Rattle.page_spec.specs.Address.{TermOf};
 ghost use Rattle.wire.specs.Events.{add_event, is_done, IsDrawn};
-ghost use Rattle.wire.specs.declared.WireEvent.{WireEvent};
+ghost use Rattle.happenings.specs.declared.event.WireEvent.{WireEvent};
 ghost use Rattle.hub.specs.HubState.{scene, line_of};
 ghost use Rattle.hub.specs.Course.{rules_under, IsCourse};
 ghost use Rattle.serving_spec.specs.Inputs.{moment_after, Unopened};

@@ -5,11 +5,12 @@ use Rattle.std.specs.BTreeMap.{is_at}
 use Rattle.std.specs.List.{list_any, fold}
 use Rattle.std.specs.Map.{lookup}
 use Rattle.std.specs.Ordering.{nat_cmp}
+use Rattle.happenings.specs.Happening.{Happening}
 use Rattle.wire.specs.Accounts.{Account, up}
 use Rattle.wire.specs.Events.{add_event}
 use Rattle.wire.specs.Told.{WireReport}
-use Rattle.wire.specs.declared.WireEvent.{WireEvent}
-use Rattle.wire.specs.declared.WireEvent.TheVariants.{Opened, Bytes, Ended, Lost, Change, Done}
+use Rattle.happenings.specs.declared.event.WireEvent.{WireEvent}
+use Rattle.happenings.specs.declared.event.WireEvent.TheVariants.{Opened, Bytes, Ended, Lost, Change, Done}
 use Rattle.mem_wire.specs.declared.FailingSend.{FailingSend}
 use Rattle.mem_wire.specs.Sent.{Sent}
 
@@ -38,6 +39,8 @@ pub record WireInMemory : Type 0 where
   pub entries : List (ℕ × Sent)
   -- memory was refused in a send
   pub is_short : Bool
+  -- what was done to it since the log was lent to it
+  pub trace : List Happening
 
 -- what the connection was sent, if the events open it
 abbrev pub entry_of : WireInMemory → ℕ → Option Sent

@@ -3,6 +3,9 @@
 
 ghost use Rattle.std.specs.Prelude.{◌≡◌, ◌≢◌, ◌≤◌, ◌⊎◌, All, take, ℕ, Bool, true, false, Some, None, List, [], IfOk};
 ghost use Rattle.std.specs.Prelude.{IfSome, IsSome, OnOk, OnErr, Err, is_err, IsErrOf, if◌then◌else◌};
+ghost use Rattle.std.specs.Prelude.{MatchResult, ◌++◌, ◌∷◌, length};
+ghost use Rattle.happenings.specs.Happening.{Watched, WatchFailed, Listened, ListenFailed, Given, NextFailed};
+ghost use Rattle.happenings.specs.Happening.{Sent, SendFailed, Closed};
 ghost use Rattle.std.specs.Ordering.{nat_cmp};
 ghost use Rattle.std.specs.BTreeMap.{get};
 ghost use Rattle.edge_io.specs.Counts.{Rose};
@@ -17,10 +20,12 @@ mod steady;
 
 use edge_io::Failed;
 use entry::{Entry, Went};
+use happenings::Log;
 use sd_value::{NoMemory, Str};
 use std::alloc::Global;
 use std::collections::BTreeMap;
 use std::marker::Model;
+use std::mem::swap;
 pub use steady::SteadyWire;
 use wire::{Wire, WireEnd, WireEvent};
 
@@ -51,6 +56,7 @@ pub struct MemWire {
     every: u64,
     entries: BTreeMap<u64, Entry>,
     short: bool,
+    log: Log,
 }
 
 // Written out, so that it is proved here once, and not again in each crate that drops one.
@@ -71,6 +77,7 @@ impl Drop for MemWire {
             every: _every,
             entries: _entries,
             short: _short,
+            log: _log,
         } = self;
     }
 }
@@ -95,6 +102,7 @@ impl Model for MemWire {
       every = w.every;
       entries = w.entries.entries;
       is_short = w.short;
+      trace = w.log.events;
     } };
 }
 
@@ -122,6 +130,7 @@ impl MemWire {
           every = 0;
           entries = w.entries;
           is_short = false;
+          trace = [];
         }) }
         ensures entries { IfOk result (λ w. (number : ℕ) → IfSome (entry_of w number) IsNew) }
         ensures opened { IfOk result (λ w. All (HasEntry (entry_of w)) events.items) }
@@ -143,6 +152,7 @@ impl MemWire {
             every: 0,
             entries,
             short: false,
+            log: Log::new(),
         })
     }
 
@@ -280,10 +290,26 @@ fn copy(alloc: Global, event: &WireEvent) -> Result<WireEvent, NoMemory>
 }
 
 impl Wire for MemWire {
+    type Log = Log;
+
     ghost told = { told_of };
+
+    ghost trace = { λ w. w.trace };
+
+    fn lend(&mut self, log: &mut Log)
+        ensures given { self.new.trace ≡ log.old.events }
+        ensures taken { log.new.events ≡ self.old.trace }
+        ensures same { told_of self.new ≡ told_of self.old }
+        ensures only { self.new ≡ record self.old { trace = log.old.events } }
+    {
+        swap(&mut self.log, log);
+    }
 
     /// Fails exactly where `failing` names the call.
     fn listen(&mut self, port: u16, connections: u64) -> Result<(), Failed>
+        ensures traced { MatchResult result
+            (λ _. self.new.trace ≡ self.old.trace ++ Listened port connections ∷ [])
+            (λ _. self.new.trace ≡ self.old.trace ++ ListenFailed port connections ∷ []) }
         ensures listens { (told_of self.new).listens
             ≡ add_listen (told_of self.old).listens port connections }
         ensures fine { OnOk result ((told_of self.new).next_faults
@@ -302,11 +328,20 @@ impl Wire for MemWire {
         self.listens = self.listens.saturating_add(1);
         self.port = port;
         self.connections = connections;
-        if self.call() { Err(Failed) } else { Ok(()) }
+        if self.call() {
+            self.log.listen_failed(port, connections);
+            Err(Failed)
+        } else {
+            self.log.listened(port, connections);
+            Ok(())
+        }
     }
 
     /// Reads no file, and fails exactly where `failing` names the call, unless memory for the path runs out.
     fn watch(&mut self, alloc: Global, path: &Str, every: u64) -> Result<(), WireEnd>
+        ensures traced { MatchResult result
+            (λ _. self.new.trace ≡ self.old.trace ++ Watched path.now every ∷ [])
+            (λ _. self.new.trace ≡ self.old.trace ++ WatchFailed path.now every ∷ []) }
         ensures watches { IsWatched path.now every (told_of self.old).watches
             (told_of self.new).watches result }
         ensures fine { OnOk result ((told_of self.new).next_faults
@@ -325,20 +360,26 @@ impl Wire for MemWire {
         ensures same_short { self.new.is_short ≡ self.old.is_short }
     {
         let Ok(path) = path.copy(alloc) else {
+            self.log.watch_failed(path.bytes(), every);
             return Err(WireEnd::NoMemory);
         };
         self.watches = self.watches.saturating_add(1);
         self.path = path;
         self.every = every;
         if self.call() {
+            self.log.watch_failed(self.path.bytes(), every);
             Err(WireEnd::Failed)
         } else {
+            self.log.watched(self.path.bytes(), every);
             Ok(())
         }
     }
 
     /// `Failed` exactly where `failing` names the call, which then takes no event.
     fn next(&mut self, alloc: Global) -> Result<WireEvent, WireEnd>
+        ensures traced { MatchResult result
+            (λ event. self.new.trace ≡ self.old.trace ++ Given event ∷ [])
+            (λ _. self.new.trace ≡ self.old.trace ++ NextFailed ∷ []) }
         ensures given { IfOk result (λ event. (told_of self.new).given
             ≡ add_event (told_of self.old).given event) }
         ensures left { IfOk result (λ event. IsNextOf (told_of self.old).left event
@@ -361,28 +402,36 @@ impl Wire for MemWire {
         ensures same_short { self.new.is_short ≡ self.old.is_short }
     {
         if self.call() {
+            self.log.next_failed();
             return Err(WireEnd::Failed);
         }
         if self.count < self.events.len() {
             let Ok(event) = copy(alloc, &self.events[self.count]) else {
+                self.log.next_failed();
                 return Err(WireEnd::NoMemory);
             };
             self.count += 1;
+            self.log.given(&event);
             return Ok(event);
         }
         if self.count == self.events.len() {
             self.count += 1;
         }
+        self.log.given(&WireEvent::Done);
         Ok(WireEvent::Done)
     }
 
     /// Fails exactly where the list of sends names this one, which then takes the bytes that it says, or where memory was
     /// refused.
     fn send(&mut self, connection: u64, bytes: &[u8]) -> Result<(), Failed>
+        ensures traced { MatchResult result
+            (λ _. self.new.trace ≡ self.old.trace ++ Sent connection bytes.now ∷ [])
+            (λ _. (taken : ℕ)
+            × (self.new.trace ≡ self.old.trace ++ SendFailed connection bytes.now taken ∷ [])
+            × ((told_of self.new).account connection
+            ≡ send_to ((told_of self.old).account connection) (take taken bytes.now))) }
         ensures ok { OnOk result ((told_of self.new).account connection
             ≡ send_to ((told_of self.old).account connection) bytes.now) }
-        ensures err { OnErr result ((some : ℕ) × ((told_of self.new).account connection
-            ≡ send_to ((told_of self.old).account connection) (take some bytes.now))) }
         ensures fine { OnOk result ((told_of self.new).faults connection
             ≡ (told_of self.old).faults connection) }
         ensures failed { OnErr result (Rose ((told_of self.old).faults connection)
@@ -401,13 +450,21 @@ impl Wire for MemWire {
         ensures stays_short { self.old.is_short ≡ true → self.new.is_short ≡ true }
     {
         let Some(entry) = self.entries.get_mut(&connection) else {
+            self.log.sent(connection, bytes);
             return Ok(());
         };
         let cut = cut_of(self.sends.as_slice(), connection, entry.next());
         match entry.send(bytes, cut) {
-            Went::Whole => Ok(()),
-            Went::Cut => Err(Failed),
+            Went::Whole => {
+                self.log.sent(connection, bytes);
+                Ok(())
+            }
+            Went::Cut => {
+                self.log.send_failed(connection, bytes, cut.unwrap_or(0));
+                Err(Failed)
+            }
             Went::Short => {
+                self.log.send_failed(connection, bytes, 0);
                 self.short = true;
                 Err(Failed)
             }
@@ -415,6 +472,7 @@ impl Wire for MemWire {
     }
 
     fn close(&mut self, connection: u64)
+        ensures traced { self.new.trace ≡ self.old.trace ++ Closed connection ∷ [] }
         ensures closed { (told_of self.new).account connection
             ≡ close_to ((told_of self.old).account connection) }
         ensures others { OtherAccountsStay connection (told_of self.old) (told_of self.new) }
@@ -427,5 +485,6 @@ impl Wire for MemWire {
         if let Some(entry) = self.entries.get_mut(&connection) {
             entry.close();
         }
+        self.log.closed(connection);
     }
 }

@@ -5,6 +5,7 @@ ghost use Rattle.mem_wire.specs.Steady.{steady_told};
 
 use crate::MemWire;
 use edge_io::Failed;
+use happenings::Log;
 use sd_value::{NoMemory, Str};
 use std::alloc::Global;
 use std::marker::Model;
@@ -51,6 +52,7 @@ impl SteadyWire {
           every = 0;
           entries = w.entries;
           is_short = false;
+          trace = [];
         }) }
         ensures entries { IfOk result (λ w. (number : ℕ) → IfSome (entry_of w number) IsNew) }
         ensures opened { IfOk result (λ w. All (HasEntry (entry_of w)) events.items) }
@@ -78,7 +80,15 @@ impl SteadyWire {
 }
 
 impl Wire for SteadyWire {
+    type Log = Log;
+
     ghost told = { steady_told };
+
+    ghost trace = { λ w. w.trace };
+
+    fn lend(&mut self, log: &mut Log) {
+        self.wire.lend(log);
+    }
 
     fn listen(&mut self, port: u16, connections: u64) -> Result<(), Failed> {
         self.wire.listen(port, connections)

@@ -9,7 +9,7 @@ use Rattle.grammar.proofs.Exact.{one_value}
 use Rattle.token_reader.specs.Gives.{place, IsReal}
 use Rattle.token_reader.proofs.Tokens.{one_token_list}
 use Rattle.token_reader.proofs.TextFaults.{text_fault, text_spelled_no_fault}
-use Rattle.wire.specs.declared.WireEvent.{WireEvent}
+use Rattle.happenings.specs.declared.event.WireEvent.{WireEvent}
 use Rattle.token_reader.specs.declared.refusal.TextRefusal.{TextRefusal}
 use Rattle.token_reader.specs.declared.refusal.TextRefusal.TheVariants.{TooLong, BadByte, OpenString, IntOutOfRange, Expected, NoMemory}
 use Rattle.script_reader.specs.ScriptText.{script, events}

@@ -10,7 +10,7 @@ use Rattle.grammar.proofs.Parts.{Part, Opens, ◌>>=◌, give_part, one_part, wh
 use Rattle.token_reader.specs.Gives.{IsReal}
 use Rattle.token_reader.specs.Terminals.{is_word, word}
 use Rattle.token_reader.proofs.Terminals.{made, quoted_part, word_part, other_word, word_opens}
-use Rattle.wire.specs.declared.WireEvent.TheVariants.{Opened, Bytes, Ended, Lost, Change}
+use Rattle.happenings.specs.declared.event.WireEvent.TheVariants.{Opened, Bytes, Ended, Lost, Change}
 use Rattle.script_reader.specs.Terminals.{connection, connection_value, read_connection}
 use Rattle.script_reader.specs.ScriptText.{opening, piece, ending, loss, change, phrase, script}
 use Rattle.script_reader.specs.Reading.{read_opening, read_piece, read_ending, read_loss, read_change, read_phrase, begins_phrase, read_phrases}

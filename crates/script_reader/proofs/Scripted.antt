@@ -6,8 +6,8 @@ use Rattle.sd_lex.specs.declared.token.Token.{Token}
 use Rattle.sd_lex.specs.declared.token.TokenKind.{TokenKind}
 use Rattle.sd_lex.specs.declared.token.TokenKind.TheVariants as kinds
 use Rattle.grammar.specs.Fault.{Every}
-use Rattle.wire.specs.declared.WireEvent.{WireEvent}
-use Rattle.wire.specs.declared.WireEvent.TheVariants.{Opened, Bytes, Ended, Lost, Change, Done}
+use Rattle.happenings.specs.declared.event.WireEvent.{WireEvent}
+use Rattle.happenings.specs.declared.event.WireEvent.TheVariants.{Opened, Bytes, Ended, Lost, Change, Done}
 use Rattle.script_reader.specs.Terminals.{positive, connection_kind_value}
 use Rattle.script_reader.specs.ScriptText.{phrase, script, events}
 use Rattle.script_reader.specs.Script.{IsScripted}

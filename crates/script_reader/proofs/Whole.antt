@@ -6,7 +6,7 @@ use Rattle.grammar.specs.Fault.{FirstFault}
 use Rattle.grammar.specs.Reading.{Read, Stuck, Past}
 use Rattle.token_reader.specs.Gives.{IsReal}
 use Rattle.grammar.proofs.Exact.{is_first_fault, never_past}
-use Rattle.wire.specs.declared.WireEvent.{WireEvent}
+use Rattle.happenings.specs.declared.event.WireEvent.{WireEvent}
 use Rattle.script_reader.specs.ScriptText.{script}
 use Rattle.script_reader.specs.Reading.{read_phrases}
 use Rattle.script_reader.proofs.Parts.{script_part}

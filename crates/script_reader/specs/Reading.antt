@@ -3,8 +3,8 @@ use Rattle.std.specs.Prelude.{Bool, ◌||◌, List, codes}
 use Rattle.sd_lex.specs.declared.token.Token.{Token}
 use Rattle.grammar.specs.Reading.{Outcome, ◌>>=◌, ◌>>◌, give, finish, choose, repeat}
 use Rattle.token_reader.specs.Terminals.{is_word, read_quoted, read_word}
-use Rattle.wire.specs.declared.WireEvent.{WireEvent}
-use Rattle.wire.specs.declared.WireEvent.TheVariants.{Opened, Bytes, Ended, Lost, Change}
+use Rattle.happenings.specs.declared.event.WireEvent.{WireEvent}
+use Rattle.happenings.specs.declared.event.WireEvent.TheVariants.{Opened, Bytes, Ended, Lost, Change}
 use Rattle.script_reader.specs.Terminals.{read_connection}
 
 unfoldable pub read_opening : List Token → Outcome Token WireEvent

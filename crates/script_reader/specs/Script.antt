@@ -6,8 +6,8 @@ use Rattle.sd_lex.specs.declared.refusal.LexRefusal.TheVariants as lexer
 use Rattle.sd_lex.specs.Lexing.{IsTextOrFault}
 use Rattle.grammar.specs.Fault.{FirstFault}
 use Rattle.token_reader.specs.Gives.{place, IsReal}
-use Rattle.wire.specs.declared.WireEvent.{WireEvent}
-use Rattle.wire.specs.declared.WireEvent.TheVariants.{Opened, Bytes, Ended, Lost, Change, Done}
+use Rattle.happenings.specs.declared.event.WireEvent.{WireEvent}
+use Rattle.happenings.specs.declared.event.WireEvent.TheVariants.{Opened, Bytes, Ended, Lost, Change, Done}
 use Rattle.token_reader.specs.declared.refusal.TextRefusal.{TextRefusal}
 use Rattle.token_reader.specs.declared.refusal.TextRefusal.TheVariants.{TooLong, BadByte, OpenString, IntOutOfRange, Expected, NoMemory}
 use Rattle.script_reader.specs.ScriptText.{script, events}

@@ -7,8 +7,8 @@ use Rattle.std.specs.Prelude.{Bool, true, false, List, [], ◌∷◌, filter, co
 use Rattle.sd_lex.specs.declared.token.Token.{Token}
 use Rattle.grammar.specs.Grammar.{nothing, ◌>>=◌, ◌>>◌, either, many}
 use Rattle.token_reader.specs.Terminals.{quoted, word}
-use Rattle.wire.specs.declared.WireEvent.{WireEvent}
-use Rattle.wire.specs.declared.WireEvent.TheVariants.{Opened, Bytes, Ended, Lost, Change, Done}
+use Rattle.happenings.specs.declared.event.WireEvent.{WireEvent}
+use Rattle.happenings.specs.declared.event.WireEvent.TheVariants.{Opened, Bytes, Ended, Lost, Change, Done}
 use Rattle.script_reader.specs.Terminals.{connection}
 
 abbrev pub opening : List Token → WireEvent → Type 0

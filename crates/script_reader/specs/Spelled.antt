@@ -4,7 +4,7 @@ use Rattle.std.specs.Global.{Vec}
 use Rattle.sd_lex.specs.declared.token.Token.{Token}
 use Rattle.grammar.specs.Fault.{FirstFault}
 use Rattle.token_reader.specs.Gives.{place, IsReal}
-use Rattle.wire.specs.declared.WireEvent.{WireEvent}
+use Rattle.happenings.specs.declared.event.WireEvent.{WireEvent}
 use Rattle.token_reader.specs.declared.refusal.TokenRefusal.{TokenRefusal}
 use Rattle.token_reader.specs.declared.refusal.TokenRefusal.TheVariants.{Expected, NoMemory}
 use Rattle.script_reader.specs.ScriptText.{script}

@@ -3,7 +3,7 @@
 ghost use Rattle.std.specs.Prelude.{◌≡◌, List, []};
 ghost use Rattle.grammar.specs.Reading.{repeat, starts};
 ghost use Rattle.token_reader.specs.Gives.{Gives};
-ghost use Rattle.wire.specs.declared.WireEvent.{WireEvent as AnyEvent};
+ghost use Rattle.happenings.specs.declared.event.WireEvent.{WireEvent as AnyEvent};
 ghost use Rattle.script_reader.specs.Terminals.{read_connection};
 ghost use Rattle.script_reader.specs.Reading.{read_opening, read_piece, read_ending, read_loss, read_change};
 ghost use Rattle.script_reader.specs.Reading.{read_phrase, begins_phrase, read_phrases};

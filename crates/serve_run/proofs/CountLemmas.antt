@@ -10,8 +10,8 @@ use Rattle.http_spec.specs.declared.Standing.TheVariants.{Open}
 use Rattle.http_spec.specs.Sessions.{OutcomeAt, HasAnswer}
 use Rattle.http_spec.specs.Streams.{Timed}
 use Rattle.wire.specs.Accounts.{up_by}
-use Rattle.wire.specs.declared.WireEvent.{WireEvent}
-use Rattle.wire.specs.declared.WireEvent.TheVariants.{Opened, Bytes, Ended, Lost, Change, Done}
+use Rattle.happenings.specs.declared.event.WireEvent.{WireEvent}
+use Rattle.happenings.specs.declared.event.WireEvent.TheVariants.{Opened, Bytes, Ended, Lost, Change, Done}
 use Rattle.serving_spec.specs.Changes.{Changes, state_after, data_at, text_of, refused_of, texts_in, refused_in, AllKept, AreTaken}
 use Rattle.serving_spec.specs.Counted.{Counts, no_counts, counts_with, HasCounts, IsCounted, is_of, MakeFor, counts_from, after_place, placed_from}
 use Rattle.serving_spec.specs.Inputs.{Input, Unopened, Coming, Over, Moment}

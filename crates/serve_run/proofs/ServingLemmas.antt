@@ -11,8 +11,8 @@ use Rattle.page_spec.specs.Address.{TermOf}
 use Rattle.wire.specs.Accounts.{up, up_by}
 use Rattle.wire.specs.Events.{add_event, is_done, IsDrawn}
 use Rattle.wire.specs.Told.{WireReport}
-use Rattle.wire.specs.declared.WireEvent.{WireEvent}
-use Rattle.wire.specs.declared.WireEvent.TheVariants.{Opened, Bytes, Ended, Lost, Change, Done}
+use Rattle.happenings.specs.declared.event.WireEvent.{WireEvent}
+use Rattle.happenings.specs.declared.event.WireEvent.TheVariants.{Opened, Bytes, Ended, Lost, Change, Done}
 use Rattle.serving_spec.specs.Changes.{Changes, data_at, texts_in, refused_in, AllKept}
 use Rattle.serving_spec.specs.Looks.{Kept}
 use Rattle.hub.specs.Course.{Scene, Rules, PassesAll, IsCourse}

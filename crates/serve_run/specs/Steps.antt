@@ -4,7 +4,7 @@ use Rattle.tmpl.specs.Body.{TemplateFile}
 use Rattle.page_spec.specs.Site.{Site}
 use Rattle.wire.specs.Events.{IsDrawn}
 use Rattle.wire.specs.Told.{WireReport}
-use Rattle.wire.specs.declared.WireEvent.{WireEvent}
+use Rattle.happenings.specs.declared.event.WireEvent.{WireEvent}
 use Rattle.serving_spec.specs.Changes.{Changes, LooksAt, RenewsAt}
 use Rattle.serving_spec.specs.Looks.{Kept}
 use Rattle.serving_spec.specs.RunEnds.{EndsRun}

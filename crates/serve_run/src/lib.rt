@@ -5,7 +5,7 @@ ghost use Rattle.std.specs.Prelude.{◌≡◌, ◌<◌, ◌⊎◌, ℕ, List, []
 ghost use Rattle.edge_io.specs.Counts.{Rose};
 ghost use Rattle.page_spec.specs.Page.{IsOutcome};
 ghost use Rattle.page_cache.specs.Entries.{AreKept};
-ghost use Rattle.wire.specs.declared.WireEvent.{WireEvent};
+ghost use Rattle.happenings.specs.declared.event.WireEvent.{WireEvent};
 ghost use Rattle.hub.specs.HubState.{line_of};
 ghost use Rattle.serving_spec.specs.Serving.{Serves};
 ghost use Rattle.serve_run.specs.Steps.{ServesInSteps};

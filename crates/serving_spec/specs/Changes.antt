@@ -5,8 +5,8 @@ use Rattle.sd_value.specs.declared.Term.{Term}
 use Rattle.tmpl.specs.Body.{TemplateFile}
 use Rattle.page_spec.specs.Page.{IsOutcome}
 use Rattle.page_spec.specs.Site.{Site}
-use Rattle.wire.specs.declared.WireEvent.{WireEvent}
-use Rattle.wire.specs.declared.WireEvent.TheVariants.{Opened, Bytes, Ended, Lost, Change, Done}
+use Rattle.happenings.specs.declared.event.WireEvent.{WireEvent}
+use Rattle.happenings.specs.declared.event.WireEvent.TheVariants.{Opened, Bytes, Ended, Lost, Change, Done}
 use Rattle.serving_spec.specs.Looks.{Kept, LooksIn, kept_after}
 use Rattle.serving_spec.specs.Made.{Made, AllLooked}
 use Rattle.serving_spec.specs.declared.HubEnd.{HubEnd}

@@ -8,8 +8,8 @@ use Rattle.http_spec.specs.Asks.{ask_of}
 use Rattle.http_spec.specs.Replies.{no_memory_bytes}
 use Rattle.http_spec.specs.Sessions.{OutcomeAt, AnswersStream}
 use Rattle.http_spec.specs.Streams.{Timed, Request}
-use Rattle.wire.specs.declared.WireEvent.{WireEvent}
-use Rattle.wire.specs.declared.WireEvent.TheVariants.{Opened, Bytes, Ended, Lost, Change, Done}
+use Rattle.happenings.specs.declared.event.WireEvent.{WireEvent}
+use Rattle.happenings.specs.declared.event.WireEvent.TheVariants.{Opened, Bytes, Ended, Lost, Change, Done}
 use Rattle.serving_spec.specs.Inputs.{Input, Unopened, Moment, after_event}
 use Rattle.serving_spec.specs.Made.{Made, nothing, replies_in, LooksUp, MayLookUp}
 use Rattle.serving_spec.specs.Sent.{Seen, IsServedBy}

@@ -1,8 +1,8 @@
 -- When a connection is opened.
 use Rattle.std.specs.Prelude.{ℕ, Bool, true, List, [], ◌∷◌, ◌++◌, Option, Some, None, nat_lt, if◌then◌else◌}
 use Rattle.wire.specs.Accounts.{up}
-use Rattle.wire.specs.declared.WireEvent.{WireEvent}
-use Rattle.wire.specs.declared.WireEvent.TheVariants.{Opened, Bytes, Ended, Lost, Change, Done}
+use Rattle.happenings.specs.declared.event.WireEvent.{WireEvent}
+use Rattle.happenings.specs.declared.event.WireEvent.TheVariants.{Opened, Bytes, Ended, Lost, Change, Done}
 
 -- An event opens the connection of its number, where the number is above all that were opened before.
 abbrev pub counts : Option ℕ → ℕ → Bool

@@ -2,8 +2,8 @@
 use Rattle.std.specs.Prelude.{◌≡◌, ◌<◌, ◌≤◌, ℕ, false, length, List, [], ◌∷◌, ◌++◌}
 use Rattle.std.specs.List.{list_any}
 use Rattle.wire.specs.Events.{is_done}
-use Rattle.wire.specs.declared.WireEvent.{WireEvent}
-use Rattle.wire.specs.declared.WireEvent.TheVariants.{Done}
+use Rattle.happenings.specs.declared.event.WireEvent.{WireEvent}
+use Rattle.happenings.specs.declared.event.WireEvent.TheVariants.{Done}
 use Rattle.serving_spec.specs.declared.HubEnd.{HubEnd}
 use Rattle.serving_spec.specs.declared.HubEnd.TheVariants.{Done as Finished, WireFailed, TurnsSpent, NoMemory}
 

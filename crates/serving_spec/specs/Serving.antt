@@ -7,7 +7,7 @@ use Rattle.page_spec.specs.Site.{Site}
 use Rattle.wire.specs.Accounts.{up_by}
 use Rattle.wire.specs.Events.{add_event, IsDrawn}
 use Rattle.wire.specs.Told.{WireReport}
-use Rattle.wire.specs.declared.WireEvent.{WireEvent}
+use Rattle.happenings.specs.declared.event.WireEvent.{WireEvent}
 use Rattle.serving_spec.specs.Changes.{Changes, data_at, texts_in, refused_in, AllKept, AreTaken}
 use Rattle.serving_spec.specs.Counted.{no_counts, IsCounted, MakeFor, counts_from, placed_from}
 use Rattle.serving_spec.specs.Looks.{Kept}

@@ -2,7 +2,7 @@
 use Rattle.std.proofs.Common.{◌≡◌, ◌⊎◌, ◌<◌, List, length, inl, inr}
 use Rattle.std.specs.Prelude.{Some}
 use Rattle.wire.specs.Told.{WireReport}
-use Rattle.wire.specs.declared.WireEvent.{WireEvent}
+use Rattle.happenings.specs.declared.event.WireEvent.{WireEvent}
 use Rattle.serving_spec.specs.declared.HubEnd.{HubEnd}
 use Rattle.serving_spec.specs.declared.HubEnd.TheVariants as end
 use Rattle.command_spec.specs.declared.RunLimits.{RunLimits}

@@ -4,6 +4,7 @@
 
 use command_run::{GivenWords, NoWords, run_main, waits_of};
 use edge_io::{RealFiles, RealOut};
+use happenings::Stream;
 use sd_value::Str;
 use std::net::Net;
 use std::process::ExitCode;
@@ -45,8 +46,8 @@ fn main(rt: HostRuntime) -> ExitCode {
     let words = given_words(&rt);
     let process = process::id(rt.process());
     let mut files = RealFiles::new(&rt, process);
-    let mut out = RealOut::new(rt.stdout());
-    let mut err = RealOut::new(rt.stderr());
+    let mut out = RealOut::new(rt.stdout(), Stream::Output);
+    let mut err = RealOut::new(rt.stderr(), Stream::Errors);
     let mut wire = given_wire(&rt, process, &words);
     let code = run_main(
         rt.alloc(),

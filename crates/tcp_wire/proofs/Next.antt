@@ -3,8 +3,8 @@ use Rattle.std.proofs.Common.{◌≡◌, true, Some, None, Result, Ok, Err, IfOk
 use Rattle.wire.specs.Accounts.{up}
 use Rattle.wire.specs.declared.WireEnd.{WireEnd}
 use Rattle.wire.specs.declared.WireEnd.TheVariants.{Failed, NoMemory}
-use Rattle.wire.specs.declared.WireEvent.{WireEvent}
-use Rattle.wire.specs.declared.WireEvent.TheVariants.{Opened, Bytes, Ended, Lost, Change, Done}
+use Rattle.happenings.specs.declared.event.WireEvent.{WireEvent}
+use Rattle.happenings.specs.declared.event.WireEvent.TheVariants.{Opened, Bytes, Ended, Lost, Change, Done}
 use Rattle.tcp_wire.specs.TcpState.{TcpState, Hand, IsFree, IsOpen, IsPieceOf, IsNextIn, MissesNext, kept}
 
 pub next_of_piece

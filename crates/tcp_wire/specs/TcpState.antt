@@ -3,10 +3,11 @@ use Rattle.std.specs.Prelude.{◌≡◌, ◌≢◌, ◌<◌, ◌≤◌, ◌+◌,
 use Rattle.std.specs.Prelude.{None, IsSome, option_map, if◌then◌else◌}
 use Rattle.std.specs.declared.net.socket_addr.SocketAddr.{SocketAddr}
 use Rattle.std.specs.declared.net.socket_addr.SocketAddr.TheVariants.{V4}
+use Rattle.happenings.specs.Happening.{Happening}
 use Rattle.wire.specs.Accounts.{up}
 use Rattle.wire.specs.Told.{WireReport}
-use Rattle.wire.specs.declared.WireEvent.{WireEvent}
-use Rattle.wire.specs.declared.WireEvent.TheVariants.{Opened, Bytes, Ended, Lost, Change, Done}
+use Rattle.happenings.specs.declared.event.WireEvent.{WireEvent}
+use Rattle.happenings.specs.declared.event.WireEvent.TheVariants.{Opened, Bytes, Ended, Lost, Change, Done}
 use Rattle.wire.specs.declared.WireEnd.{WireEnd}
 use Rattle.wire.specs.declared.WireEnd.TheVariants.{Failed, NoMemory}
 use Rattle.tcp_wire.specs.declared.peer.Parting.{Parting}
@@ -41,6 +42,11 @@ pub record TcpState : Type 0 where
   pub waits : Waits
   -- the file that is watched, if one is
   pub watch : Option Watch
+
+-- what the wire holds, and what was done to it since the log was lent to it
+pub record TcpNoted : Type 0 where
+  pub state : TcpState
+  pub trace : List Happening
 
 -- the address 127.0.0.1 with this port
 abbrev pub local_address : ℕ → SocketAddr

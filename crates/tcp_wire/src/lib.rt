@@ -8,6 +8,7 @@ ghost use Rattle.edge_io.specs.Counts.{Rose};
 ghost use Rattle.wire.specs.Accounts.{send_to, close_to, up};
 ghost use Rattle.wire.specs.Events.{add_event, IsNextOf, add_listen, IsWatched};
 ghost use Rattle.wire.specs.Told.{EventsStay, OtherAccountsStay, OtherFaultsStay};
+ghost use Rattle.std.specs.Prelude.{◌++◌, ◌∷◌, []};
 ghost use Rattle.tcp_wire.specs.Waits.{first_wait};
 ghost use Rattle.tcp_wire.specs.TcpState.{IsPieceOf, GivesChange, IsNextIn, IsSent, MissesNext, HasRead, kept};
 ghost use Rattle.tcp_wire.specs.TcpState.{let_go, local_address, parting_of, told_of, without_change};
@@ -20,11 +21,13 @@ mod waits;
 mod watch;
 
 use edge_io::{Failed, Files};
-use peer::{NoBytes, Parting, Peer, refuses};
+use happenings::Log;
+use peer::{CutOff, NoBytes, Parting, Peer, refuses};
 use sd_value::Str;
 use std::alloc::Global;
 use std::io::{Read, Write};
 use std::marker::Model;
+use std::mem::swap;
 use std::net::{Ipv4Addr, Net, OpenListener, OpenStream, SocketAddr, SocketAddrV4};
 use std::time::Clock;
 use waiting::Waiting;
@@ -55,7 +58,7 @@ struct Place<L> {
 /// the read fails it gives none. The wire reports nothing of what its connections send and take, and the count of
 /// failed sends of each is at its last value, where every failure counts as a rise.
 #[derive(Drop)]
-pub struct TcpWire<'r, R: Net + Clock, F> {
+struct Sockets<'r, R: Net + Clock, F> {
     system: &'r R,
     /// Where the watched file is read.
     files: F,
@@ -76,7 +79,7 @@ pub struct TcpWire<'r, R: Net + Clock, F> {
     piece: [u8; PIECE],
 }
 
-impl<'r, R: Net + Clock, F> Model for TcpWire<'r, R, F> {
+impl<'r, R: Net + Clock, F> Model for Sockets<'r, R, F> {
     ghost use Rattle.std.specs.Prelude.{option_map};
     ghost use Rattle.tcp_wire.specs.TcpState.{TcpState};
 
@@ -93,9 +96,9 @@ impl<'r, R: Net + Clock, F> Model for TcpWire<'r, R, F> {
     } };
 }
 
-impl<'r, R: Net + Clock, F: Files> TcpWire<'r, R, F> {
+impl<'r, R: Net + Clock, F: Files> Sockets<'r, R, F> {
     /// A wire that does not listen yet: until then it has no connection to give. A file is watched in `files`.
-    pub fn new(alloc: Global, system: &'r R, files: F, waits: Waits) -> Self
+    pub(crate) fn new(alloc: Global, system: &'r R, files: F, waits: Waits) -> Self
         ensures { result ≡ record {
           hand = None;
           opened = 0;
@@ -106,7 +109,7 @@ impl<'r, R: Net + Clock, F: Files> TcpWire<'r, R, F> {
           watch = None;
         } }
     {
-        TcpWire {
+        Sockets {
             system,
             files,
             watch: None,
@@ -123,7 +126,7 @@ impl<'r, R: Net + Clock, F: Files> TcpWire<'r, R, F> {
     }
 
     /// The port that the wire listens at, where it listens.
-    pub fn port(&self) -> Option<u16>
+    pub(crate) fn port(&self) -> Option<u16>
         ensures { IsSome result → IsSome self.now.address }
     {
         match self.place.as_ref()?.listener.local_addr() {
@@ -314,19 +317,19 @@ impl<'r, R: Net + Clock, F: Files> TcpWire<'r, R, F> {
     }
 
     // Sends to the connection in hand, which is let go where that fails. No other takes anything.
-    fn give(&mut self, connection: u64, bytes: &[u8]) -> Result<(), Failed>
+    fn give(&mut self, connection: u64, bytes: &[u8]) -> Result<(), CutOff>
         ensures ok { OnOk result (IsSent connection bytes.now self.old self.new) }
         ensures err { OnErr result (self.new ≡ let_go connection self.old) }
     {
         if connection != self.opened {
-            return Err(Failed);
+            return Err(CutOff { taken: 0 });
         }
         let Some(mut peer) = self.peer.take() else {
-            return Err(Failed);
+            return Err(CutOff { taken: 0 });
         };
-        if peer.send(self.waits.stall, bytes).is_err() {
+        if let Err(cut) = peer.send(self.waits.stall, bytes) {
             peer.shut();
-            return Err(Failed);
+            return Err(cut);
         }
         peer.progress.pieces = 0;
         peer.progress.replied = true;
@@ -373,11 +376,9 @@ fn listen_at<R: Net>(net: &R, address: SocketAddrV4) -> Result<Place<R::Listener
     }
 }
 
-impl<R: Net + Clock, F: Files> Wire for TcpWire<'_, R, F> {
-    ghost told = { told_of };
-
+impl<R: Net + Clock, F: Files> Sockets<'_, R, F> {
     /// Listens at 127.0.0.1.
-    fn listen(&mut self, port: u16, connections: u64) -> Result<(), Failed>
+    pub(crate) fn listen(&mut self, port: u16, connections: u64) -> Result<(), Failed>
         ensures listens { (told_of self.new).listens
             ≡ add_listen (told_of self.old).listens port connections }
         ensures fine { OnOk result ((told_of self.new).next_faults
@@ -400,7 +401,7 @@ impl<R: Net + Clock, F: Files> Wire for TcpWire<'_, R, F> {
     }
 
     /// Never `Failed`: the file is read later.
-    fn watch(&mut self, alloc: Global, path: &Str, every: u64) -> Result<(), WireEnd>
+    pub(crate) fn watch(&mut self, alloc: Global, path: &Str, every: u64) -> Result<(), WireEnd>
         ensures watches { IsWatched path.now every (told_of self.old).watches
             (told_of self.new).watches result }
         ensures fine { OnOk result ((told_of self.new).next_faults
@@ -436,7 +437,7 @@ impl<R: Net + Clock, F: Files> Wire for TcpWire<'_, R, F> {
     }
 
     /// `Failed` where no connection could be taken. It never runs out of memory: that costs the connection.
-    fn next(&mut self, alloc: Global) -> Result<WireEvent, WireEnd>
+    pub(crate) fn next(&mut self, alloc: Global) -> Result<WireEvent, WireEnd>
         ensures given { IfOk result (λ event. (told_of self.new).given
             ≡ add_event (told_of self.old).given event) }
         ensures left { IfOk result (λ event. IsNextOf (told_of self.old).left event
@@ -460,17 +461,7 @@ impl<R: Net + Clock, F: Files> Wire for TcpWire<'_, R, F> {
     }
 
     /// Fails where the connection is not in hand, and where it doesn't take all in time, which lets it go.
-    fn send(&mut self, connection: u64, bytes: &[u8]) -> Result<(), Failed>
-        ensures ok { OnOk result ((told_of self.new).account connection
-            ≡ send_to ((told_of self.old).account connection) bytes.now) }
-        ensures err { OnErr result ((some : ℕ) × ((told_of self.new).account connection
-            ≡ send_to ((told_of self.old).account connection) (take some bytes.now))) }
-        ensures fine { OnOk result ((told_of self.new).faults connection
-            ≡ (told_of self.old).faults connection) }
-        ensures failed { OnErr result (Rose ((told_of self.old).faults connection)
-            ((told_of self.new).faults connection)) }
-        ensures others { OtherAccountsStay connection (told_of self.old) (told_of self.new) }
-        ensures others_fine { OtherFaultsStay connection (told_of self.old) (told_of self.new) }
+    pub(crate) fn send(&mut self, connection: u64, bytes: &[u8]) -> Result<(), CutOff>
         ensures stays { EventsStay (told_of self.old) (told_of self.new) }
         ensures sent { OnOk result (IsSent connection bytes.now self.old self.new) }
         ensures gone { OnErr result (self.new ≡ let_go connection self.old) }
@@ -479,15 +470,101 @@ impl<R: Net + Clock, F: Files> Wire for TcpWire<'_, R, F> {
     }
 
     /// Lets the connection go, where it is in hand.
-    fn close(&mut self, connection: u64)
-        ensures closed { (told_of self.new).account connection
-            ≡ close_to ((told_of self.old).account connection) }
-        ensures others { OtherAccountsStay connection (told_of self.old) (told_of self.new) }
-        ensures faults_stay { (other : ℕ)
-            → (told_of self.new).faults other ≡ (told_of self.old).faults other }
+    pub(crate) fn close(&mut self, connection: u64)
         ensures stays { EventsStay (told_of self.old) (told_of self.new) }
         ensures gone { self.new ≡ let_go connection self.old }
     {
         self.let_go(connection);
+    }
+}
+
+/// These connections, with a log of what is done to them.
+#[derive(Drop)]
+pub struct TcpWire<'r, R: Net + Clock, F> {
+    sockets: Sockets<'r, R, F>,
+    log: Log,
+}
+
+impl<'r, R: Net + Clock, F> Model for TcpWire<'r, R, F> {
+    ghost use Rattle.tcp_wire.specs.TcpState.{TcpNoted};
+
+    ghost Value = { TcpNoted };
+
+    ghost view = { λ w. record { state = w.sockets; trace = w.log.events } };
+}
+
+impl<'r, R: Net + Clock, F: Files> TcpWire<'r, R, F> {
+    /// A wire that does not listen yet: until then it has no connection to give. A file is watched in `files`.
+    pub fn new(alloc: Global, system: &'r R, files: F, waits: Waits) -> Self
+        ensures { result.trace ≡ [] }
+    {
+        TcpWire {
+            sockets: Sockets::new(alloc, system, files, waits),
+            log: Log::new(),
+        }
+    }
+
+    /// The port that the wire listens at, where it listens.
+    pub fn port(&self) -> Option<u16>
+        ensures { IsSome result → IsSome self.now.state.address }
+    {
+        self.sockets.port()
+    }
+}
+
+impl<R: Net + Clock, F: Files> Wire for TcpWire<'_, R, F> {
+    type Log = Log;
+
+    ghost told = { λ w. told_of w.state };
+
+    ghost trace = { λ w. w.trace };
+
+    fn lend(&mut self, log: &mut Log) {
+        swap(&mut self.log, log);
+    }
+
+    fn listen(&mut self, port: u16, connections: u64) -> Result<(), Failed> {
+        let result = self.sockets.listen(port, connections);
+        match &result {
+            Ok(()) => self.log.listened(port, connections),
+            Err(_) => self.log.listen_failed(port, connections),
+        }
+        result
+    }
+
+    fn watch(&mut self, alloc: Global, path: &Str, every: u64) -> Result<(), WireEnd> {
+        let result = self.sockets.watch(alloc, path, every);
+        match &result {
+            Ok(()) => self.log.watched(path.bytes(), every),
+            Err(_) => self.log.watch_failed(path.bytes(), every),
+        }
+        result
+    }
+
+    fn next(&mut self, alloc: Global) -> Result<WireEvent, WireEnd> {
+        let result = self.sockets.next(alloc);
+        match &result {
+            Ok(event) => self.log.given(event),
+            Err(_) => self.log.next_failed(),
+        }
+        result
+    }
+
+    fn send(&mut self, connection: u64, bytes: &[u8]) -> Result<(), Failed> {
+        match self.sockets.send(connection, bytes) {
+            Ok(()) => {
+                self.log.sent(connection, bytes);
+                Ok(())
+            }
+            Err(CutOff { taken }) => {
+                self.log.send_failed(connection, bytes, taken);
+                Err(Failed)
+            }
+        }
+    }
+
+    fn close(&mut self, connection: u64) {
+        self.sockets.close(connection);
+        self.log.closed(connection);
     }
 }

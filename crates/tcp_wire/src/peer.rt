@@ -36,6 +36,12 @@ pub enum NoBytes {
     Broken,
 }
 
+/// A send that failed when so many bytes had been taken.
+#[derive(Clone, Copy, Debug, PartialEq, Eq)]
+pub struct CutOff {
+    pub taken: u64,
+}
+
 /// How a connection was let go.
 #[derive(Clone, Copy, Debug, PartialEq, Eq)]
 pub enum Parting {
@@ -152,7 +158,7 @@ impl<S: Read + Write + OpenStream + Drop> Peer<S> {
     }
 
     /// Sends all of the bytes. The waits for room halve, as those for bytes do, with each write that took only a part.
-    pub fn send(&mut self, stall: u32, bytes: &[u8]) -> Result<(), Failed>
+    pub fn send(&mut self, stall: u32, bytes: &[u8]) -> Result<(), CutOff>
         ensures progress { self.new.progress ≡ self.old.progress }
         ensures read_wait { self.new.read_wait ≡ self.old.read_wait }
     {
@@ -161,9 +167,17 @@ impl<S: Read + Write + OpenStream + Drop> Peer<S> {
             if rest.is_empty() {
                 return Ok(());
             }
-            rest = self.write_within(wait_at(stall, parts), rest)?;
+            let Ok(left) = self.write_within(wait_at(stall, parts), rest) else {
+                break;
+            };
+            rest = left;
         }
-        if rest.is_empty() { Ok(()) } else { Err(Failed) }
+        if rest.is_empty() {
+            Ok(())
+        } else {
+            let taken = bytes.len().saturating_sub(rest.len()) as u64;
+            Err(CutOff { taken })
+        }
     }
 
     /// Lets a connection go at once.

@@ -1,6 +1,7 @@
 // Each call of the forms in memory once, with ample memory, and a failing one of each kind.
 use crate::inputs::{check, check_text};
 use edge_io::{Failed, Files, MemFile, MemFiles, MemSink, ReadEnd, Sink};
+use happenings::Stream;
 use sd_value::{NoMemory, Str};
 use std::alloc::Global;
 use std::test::Fail;
@@ -68,7 +69,7 @@ fn files_are_read_and_written(rt: HostRuntime) -> Result<(), Fail> {
 // The second call fails.
 #[test]
 fn a_sink_gathers(rt: HostRuntime) -> Result<(), Fail> {
-    let mut sink = MemSink::new(rt.alloc(), [2].to_vec(rt.alloc())?);
+    let mut sink = MemSink::new(rt.alloc(), [2].to_vec(rt.alloc())?, Stream::Output);
     check(sink.put(b"ab") == Ok(()), "the first call")?;
     check(sink.put(b"cd") == Err(Failed), "the second call")?;
     check(sink.put(b"e") == Ok(()), "the third call")?;

@@ -1,6 +1,7 @@
 // Lines as they are printed.
 use crate::inputs::{check, check_text, term};
 use edge_io::MemSink;
+use happenings::Stream;
 use run_report::{PageKind, Place, Status, report};
 use sd_value::{NoMemory, Str, Value};
 use std::alloc::Global;
@@ -27,7 +28,7 @@ fn lines_are_printed(rt: HostRuntime) -> Result<(), Fail> {
     let refused = refused(alloc)?;
     let cyclic = cyclic(alloc)?;
     let code = cyclic.code();
-    let mut err = MemSink::new(alloc, Vec::new(alloc));
+    let mut err = MemSink::new(alloc, Vec::new(alloc), Stream::Errors);
     let _ = report(alloc, refused, &mut err);
     let _ = report(alloc, cyclic, &mut err);
     check(code == 7, "another exit code")?;

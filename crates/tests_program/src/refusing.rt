@@ -1,16 +1,24 @@
 // Files for which the program is out of memory.
 use crate::runs::{PLAIN, Run, check_over};
 use edge_io::{Failed, Files, ReadEnd};
+use happenings::Log;
 use sd_value::Str;
 use std::alloc::Global;
+use std::mem::swap;
 use std::test::Fail;
 
 /// Files of which each read is refused its memory, and each write is taken and forgotten.
 #[derive(Drop)]
-struct Refusing;
+struct Refusing {
+    log: Log,
+}
 
 impl Files for Refusing {
     ghost use Rattle.std.specs.Prelude.{None};
+
+    type Log = Log;
+
+    ghost trace = { λ f. f.log.events };
 
     ghost contents = { λ f. None };
 
@@ -18,11 +26,17 @@ impl Files for Refusing {
 
     ghost failed_writes = { λ f path. 0 };
 
-    fn read(&mut self, _alloc: Global, _path: &Str, _at_most: u64) -> Result<Vec<u8>, ReadEnd> {
+    fn lend(&mut self, log: &mut Log) {
+        swap(&mut self.log, log);
+    }
+
+    fn read(&mut self, _alloc: Global, path: &Str, _at_most: u64) -> Result<Vec<u8>, ReadEnd> {
+        self.log.read_failed(path.bytes());
         Err(ReadEnd::NoMemory)
     }
 
-    fn write(&mut self, _path: &Str, _bytes: &[u8]) -> Result<(), Failed> {
+    fn write(&mut self, path: &Str, bytes: &[u8]) -> Result<(), Failed> {
+        self.log.wrote(path.bytes(), bytes);
         Ok(())
     }
 
@@ -114,7 +128,7 @@ const RUNS: &[Run] = &[
 #[test]
 fn refused_memory_is_reported(rt: HostRuntime) -> Result<(), Fail> {
     for run in RUNS {
-        check_over(&rt, run, &mut Refusing)?;
+        check_over(&rt, run, &mut Refusing { log: Log::new() })?;
     }
     Ok(())
 }

@@ -1,6 +1,7 @@
 // A run of the program by its words alone, over files, outputs and a wire in memory, and what it has to leave.
 use command_run::{GivenWords, NoWords, run_main};
 use edge_io::{Files, MemFile, MemFiles, MemSink, Sink};
+use happenings::Stream;
 use mem_wire::{FailingSend, MemWire};
 use script_reader::read_script;
 use sd_value::{NoMemory, Str};
@@ -178,8 +179,8 @@ pub fn check_with<R: AllocGlobal + Abort, F: Files, W: Wire>(
     wire: &mut W,
 ) -> Result<(), Fail> {
     let alloc = rt.alloc();
-    let mut out = MemSink::new(alloc, run.failing_puts.to_vec(alloc)?);
-    let mut err = MemSink::new(alloc, run.failing_lines.to_vec(alloc)?);
+    let mut out = MemSink::new(alloc, run.failing_puts.to_vec(alloc)?, Stream::Output);
+    let mut err = MemSink::new(alloc, run.failing_lines.to_vec(alloc)?, Stream::Errors);
     let code = exit_code(alloc, run.words, files, &mut out, &mut err, wire);
     check_text(rt, run, err.bytes(), run.err);
     check_text(rt, run, out.bytes(), run.out);

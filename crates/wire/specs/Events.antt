@@ -4,8 +4,8 @@ use Rattle.std.specs.List.{list_any}
 use Rattle.wire.specs.Accounts.{up}
 use Rattle.wire.specs.declared.WireEnd.{WireEnd}
 use Rattle.wire.specs.declared.WireEnd.TheVariants.{Failed, NoMemory}
-use Rattle.wire.specs.declared.WireEvent.{WireEvent}
-use Rattle.wire.specs.declared.WireEvent.TheVariants.{Opened, Bytes, Ended, Lost, Change, Done}
+use Rattle.happenings.specs.declared.event.WireEvent.{WireEvent}
+use Rattle.happenings.specs.declared.event.WireEvent.TheVariants.{Opened, Bytes, Ended, Lost, Change, Done}
 
 -- how often listen was called, and the arguments of the last call
 pub record Listens : Type 0 where

@@ -2,7 +2,7 @@
 use Rattle.std.specs.Prelude.{◌≡◌, ◌≢◌, ℕ, List, Option}
 use Rattle.wire.specs.Accounts.{Account}
 use Rattle.wire.specs.Events.{Listens, Watches}
-use Rattle.wire.specs.declared.WireEvent.{WireEvent}
+use Rattle.happenings.specs.declared.event.WireEvent.{WireEvent}
 
 -- What a wire reports at one moment. An account, the events and the calls of listen are reported or not, each for
 -- itself; the counts of failed calls always are.

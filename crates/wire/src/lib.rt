@@ -2,31 +2,20 @@
 #![tactic(auto)]
 
 ghost use Rattle.std.specs.Prelude.{◌≡◌, ◌+◌, ℕ, List, [], ◌∷◌, ◌++◌, take, length, Option, Some, IfOk, OnOk, OnErr, IsErrOf, flat_map};
+ghost use Rattle.std.specs.Prelude.{MatchResult};
+ghost use Rattle.happenings.specs.Happening.{Happening, Watched, WatchFailed, Listened, ListenFailed, Given};
+ghost use Rattle.happenings.specs.Happening.{NextFailed, Sent, SendFailed, Closed};
 ghost use Rattle.edge_io.specs.Counts.{Rose};
 ghost use Rattle.wire.specs.Accounts.{Account, send_to, gain, close_to, up, up_by};
 ghost use Rattle.wire.specs.Events.{add_event, IsNextOf, add_listen, IsWatched};
 ghost use Rattle.wire.specs.Told.{WireReport, EventsStay, OtherAccountsStay, OtherFaultsStay};
-ghost use Rattle.wire.specs.declared.WireEvent.{WireEvent};
+ghost use Rattle.happenings.specs.declared.event.WireEvent.{WireEvent};
 
 use edge_io::Failed;
+use happenings::Trace;
+pub use happenings::WireEvent;
 use sd_value::Str;
 use std::alloc::Global;
-
-/// What comes from outside. A piece of bytes is not empty.
-#[derive(Debug, Drop)]
-pub enum WireEvent {
-    /// A connection was opened under this number.
-    Opened(u64),
-    Bytes(u64, Str),
-    /// No more bytes come of the connection.
-    Ended(u64),
-    /// The connection is gone.
-    Lost(u64),
-    /// A text that may replace or edit the data of the run.
-    Change(Str),
-    /// Nothing more comes of any connection.
-    Done,
-}
 
 /// Why there is no event.
 #[derive(Clone, Copy, Debug, PartialEq, Eq)]
@@ -38,10 +27,25 @@ pub enum WireEnd {
 /// Where events come from and replies go to. What it reports is optional but for the counts of failed calls: `WireReport` says
 /// which part. A failing answer comes only where its count rose.
 pub trait Wire {
+    /// The list of what happened that is lent to the wire.
+    type Log: Trace;
+
     ghost told: { Self → WireReport };
+
+    /// What was done to the wire since the log was lent to it.
+    ghost trace: { Self → List Happening };
+
+    /// Exchanges the log with the one in hand.
+    fn lend(&mut self, log: &mut Self::Log)
+        ensures given { trace self.new ≡ Self.Log.events log.old }
+        ensures taken { Self.Log.events log.new ≡ trace self.old }
+        ensures same { told self.new ≡ told self.old };
 
     /// Listens at the port for at most this many connections.
     fn listen(&mut self, port: u16, connections: u64) -> Result<(), Failed>
+        ensures traced { MatchResult result
+            (λ _. trace self.new ≡ trace self.old ++ Listened port connections ∷ [])
+            (λ _. trace self.new ≡ trace self.old ++ ListenFailed port connections ∷ []) }
         ensures listens { (told self.new).listens
             ≡ add_listen (told self.old).listens port connections }
         ensures fine { OnOk result ((told self.new).next_faults ≡ (told self.old).next_faults) }
@@ -56,6 +60,9 @@ pub trait Wire {
     /// Watches the file at the path: after each `every` connections that ended, what is there may come as a `Change`, before
     /// the next connection is opened. Out of memory nothing is reported of the call.
     fn watch(&mut self, alloc: Global, path: &Str, every: u64) -> Result<(), WireEnd>
+        ensures traced { MatchResult result
+            (λ _. trace self.new ≡ trace self.old ++ Watched path.now every ∷ [])
+            (λ _. trace self.new ≡ trace self.old ++ WatchFailed path.now every ∷ []) }
         ensures watches { IsWatched path.now every (told self.old).watches (told self.new).watches
             result }
         ensures fine { OnOk result ((told self.new).next_faults ≡ (told self.old).next_faults) }
@@ -71,6 +78,9 @@ pub trait Wire {
     /// The next event. Where the events left are reported it is the first of them, or `Done` where none is left. Out of
     /// memory no call has failed.
     fn next(&mut self, alloc: Global) -> Result<WireEvent, WireEnd>
+        ensures traced { MatchResult result
+            (λ event. trace self.new ≡ trace self.old ++ Given event ∷ [])
+            (λ _. trace self.new ≡ trace self.old ++ NextFailed ∷ []) }
         ensures given { IfOk result (λ event. (told self.new).given
             ≡ add_event (told self.old).given event) }
         ensures left { IfOk result (λ event. IsNextOf (told self.old).left event
@@ -89,10 +99,14 @@ pub trait Wire {
 
     /// Sends bytes to a connection. Where that fails, some first bytes were taken.
     fn send(&mut self, connection: u64, bytes: &[u8]) -> Result<(), Failed>
+        ensures traced { MatchResult result
+            (λ _. trace self.new ≡ trace self.old ++ Sent connection bytes.now ∷ [])
+            (λ _. (taken : ℕ)
+            × (trace self.new ≡ trace self.old ++ SendFailed connection bytes.now taken ∷ [])
+            × ((told self.new).account connection
+            ≡ send_to ((told self.old).account connection) (take taken bytes.now))) }
         ensures ok { OnOk result ((told self.new).account connection
             ≡ send_to ((told self.old).account connection) bytes.now) }
-        ensures err { OnErr result ((some : ℕ) × ((told self.new).account connection
-            ≡ send_to ((told self.old).account connection) (take some bytes.now))) }
         ensures fine { OnOk result ((told self.new).faults connection
             ≡ (told self.old).faults connection) }
         ensures failed { OnErr result (Rose ((told self.old).faults connection)
@@ -103,6 +117,7 @@ pub trait Wire {
 
     /// Closes a connection. It takes no memory.
     fn close(&mut self, connection: u64)
+        ensures traced { trace self.new ≡ trace self.old ++ Closed connection ∷ [] }
         ensures closed { (told self.new).account connection
             ≡ close_to ((told self.old).account connection) }
         ensures others { OtherAccountsStay connection (told self.old) (told self.new) }

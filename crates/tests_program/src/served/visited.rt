@@ -78,7 +78,15 @@ impl<'r, W, R: Net + Files> Visited<'r, W, R> {
 }
 
 impl<W: Wire, R: Net + Files> Wire for Visited<'_, W, R> {
+    type Log = W::Log;
+
     ghost told = { λ v. W.told v.wire };
+
+    ghost trace = { λ v. W.trace v.wire };
+
+    fn lend(&mut self, log: &mut W::Log) {
+        self.wire.lend(log);
+    }
 
     fn listen(&mut self, port: u16, connections: u64) -> Result<(), Failed> {
         let result = self.wire.listen(port, connections);

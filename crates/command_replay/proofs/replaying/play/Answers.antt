@@ -1,6 +1,6 @@
 use Rattle.std.proofs.Common.{List, take, ap, ◌∙◌}
 use Rattle.std.specs.List.{list_any}
-use Rattle.wire.specs.declared.WireEvent.{WireEvent}
+use Rattle.happenings.specs.declared.event.WireEvent.{WireEvent}
 use Rattle.mem_wire.specs.WireInMemory.{WireInMemory}
 use Rattle.serving_spec.specs.Openings.{opened_in}
 use Rattle.command_replay.specs.Ends.{is_change}

@@ -7,7 +7,7 @@ use Rattle.serving_spec.specs.Inputs.{Moment, Unopened}
 use Rattle.serving_spec.specs.Made.{nothing}
 use Rattle.serving_spec.specs.Shown.{shown_in}
 use Rattle.hub.specs.Turns.{ats, at_in}
-use Rattle.wire.specs.declared.WireEvent.{WireEvent}
+use Rattle.happenings.specs.declared.event.WireEvent.{WireEvent}
 use Rattle.hub.proofs.RunLemmas.{runs_start, runs_more, stands_more, stands_done, given_more, drawn_more, none_more, done_is, runs_moved, turned_at, passes_more, passes_moved, passes_done, counts_stay}
 use Rattle.hub.proofs.serving.serve.Goals as goal
 

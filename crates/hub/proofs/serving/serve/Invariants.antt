@@ -2,7 +2,7 @@ use Rattle.std.proofs.Common.{◌≡◌, ℕ, List, None, false, length}
 use Rattle.std.specs.List.{fold, list_any}
 use Rattle.page_spec.specs.Address.{TermOf}
 use Rattle.wire.specs.Events.{add_event, is_done, IsDrawn}
-use Rattle.wire.specs.declared.WireEvent.{WireEvent}
+use Rattle.happenings.specs.declared.event.WireEvent.{WireEvent}
 use Rattle.serving_spec.specs.Inputs.{Unopened}
 use Rattle.hub.specs.HubState.{line_of, scene}
 use Rattle.hub.specs.Course.{rules_under, PassesAll}

@@ -2,7 +2,7 @@ use Rattle.std.proofs.Common.{◌≡◌, ℕ, false, Option, refl, ap}
 use Rattle.std.specs.Ordering.{nat_cmp}
 use Rattle.std.specs.BTreeMap.{get}
 use Rattle.page_spec.specs.Address.{TermOf}
-use Rattle.wire.specs.declared.WireEvent.TheVariants.{Opened, Lost, Change, Done}
+use Rattle.happenings.specs.declared.event.WireEvent.TheVariants.{Opened, Lost, Change, Done}
 use Rattle.hub.specs.Line.{Line}
 use Rattle.serving_spec.specs.Made.{nothing}
 use Rattle.serving_spec.specs.Shown.{shown_in}

@@ -26,4 +26,5 @@ returns-clause-told c = c.in_ok-wire.ensures.told ∙ (λ i. record {
   every = 0;
   entries = c.in_ok-wire.wire.entries;
   is_short = false;
+  trace = [];
 })

@@ -20,3 +20,6 @@ pub returns-clause-stays : goal.returns-clause-stays
 returns-clause-stays c =
     let stays = c.close.ensures.stays in
     rw (← c.self.view_is) (stays.0, stays.1, stays.2, refl, stays.4)
+
+pub returns-clause-traced : goal.returns-clause-traced
+returns-clause-traced c = rw (← c.self.view_is) c.close.ensures.traced

@@ -18,3 +18,6 @@ returns-clause-fine c = same_count c.listen.result
 
 pub returns-clause-failed : goal.returns-clause-failed
 returns-clause-failed c = never_err c.listen.result (c.listen.ensures.fails ∙ none_fails c.self.inside.wire c.self.invariant)
+
+pub returns-clause-traced : goal.returns-clause-traced
+returns-clause-traced c = rw (← c.self.view_is) c.listen.ensures.traced

@@ -23,3 +23,6 @@ returns-clause-fine c = same_count c.next.result
 
 pub returns-clause-failed : goal.returns-clause-failed
 returns-clause-failed c = λ e. absurd (none_named c.self.inside.wire c.self.invariant (c.next.ensures.named e))
+
+pub returns-clause-traced : goal.returns-clause-traced
+returns-clause-traced c = rw (← c.self.view_is) c.next.ensures.traced

@@ -10,9 +10,6 @@ invariant_of-self c =
 pub returns-clause-ok : goal.returns-clause-ok
 returns-clause-ok c = rw (← c.self.view_is) c.send.ensures.ok
 
-pub returns-clause-err : goal.returns-clause-err
-returns-clause-err c = rw (← c.self.view_is) c.send.ensures.err
-
 pub returns-clause-fine : goal.returns-clause-fine
 returns-clause-fine c = rw (← c.self.view_is) c.send.ensures.fine
 
@@ -29,3 +26,6 @@ pub returns-clause-stays : goal.returns-clause-stays
 returns-clause-stays c =
     let stays = c.send.ensures.stays in
     rw (← c.self.view_is) (stays.0, stays.1, stays.2, refl, stays.4)
+
+pub returns-clause-traced : goal.returns-clause-traced
+returns-clause-traced c = rw (← c.self.view_is) c.send.ensures.traced

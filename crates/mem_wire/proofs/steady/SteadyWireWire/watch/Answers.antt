@@ -20,3 +20,6 @@ returns-clause-failed c = λ e. absurd (none_named c.self.inside.wire c.self.inv
 
 pub returns-clause-short : goal.returns-clause-short
 returns-clause-short c = rw (← c.self.view_is) (λ e. same_told c.self.inside.wire c.watch.new.self (c.watch.ensures.short e))
+
+pub returns-clause-traced : goal.returns-clause-traced
+returns-clause-traced c = rw (← c.self.view_is) c.watch.ensures.traced

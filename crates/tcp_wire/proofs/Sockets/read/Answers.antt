@@ -1,8 +1,8 @@
 use Rattle.std.proofs.Common.{rules, ◌≡◌, ◌≤◌, ◌∙◌, sym}
 use Rattle.tcp_wire.specs.Waits.{first_wait, wait_at}
 use Rattle.tcp_wire.proofs.Pieces.{first_piece, later_piece}
-use Rattle.tcp_wire.proofs.TcpWire.read.Goals as goal
-use Rattle.tcp_wire.proofs.TcpWire.read.Goals.{then-pieces-eq0, else-pieces-eq0}
+use Rattle.tcp_wire.proofs.Sockets.read.Goals as goal
+use Rattle.tcp_wire.proofs.Sockets.read.Goals.{then-pieces-eq0, else-pieces-eq0}
 
 pub returns-in-Ok-clause-progress : goal.returns-in-Ok-clause-progress
 returns-in-Ok-clause-progress g c =

@@ -1,5 +1,5 @@
 use Rattle.std.proofs.Common.{◌≡◌}
-use Rattle.tcp_wire.proofs.TcpWire.read_first.Given as goal
+use Rattle.tcp_wire.proofs.Sockets.read_first.Given as goal
 
 abbrev pub invariant-loop : goal.invariant-loop
 invariant-loop g l =

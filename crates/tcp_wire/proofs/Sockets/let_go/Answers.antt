@@ -1,6 +1,6 @@
 use Rattle.std.proofs.Common.{refl}
 use Rattle.tcp_wire.proofs.Release.{let_go_own, parting_own}
-use Rattle.tcp_wire.proofs.TcpWire.let_go.Goals as goal
+use Rattle.tcp_wire.proofs.Sockets.let_go.Goals as goal
 
 pub returns-clause-parted : goal.returns-clause-parted
 returns-clause-parted g c =

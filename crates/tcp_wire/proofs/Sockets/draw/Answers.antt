@@ -1,7 +1,7 @@
 use Rattle.std.proofs.Common.{rules, refl}
 use Rattle.tcp_wire.specs.TcpState.{IsFree}
 use Rattle.tcp_wire.proofs.Next.{next_of_piece, free_of_ended, next_of_ended, miss_of_ended}
-use Rattle.tcp_wire.proofs.TcpWire.draw.Goals as goal
+use Rattle.tcp_wire.proofs.Sockets.draw.Goals as goal
 
 pub returns-clause-event : goal.returns-clause-event
 returns-clause-event g c =
