@@ -105,9 +105,9 @@ module _ (given : Option Command) (before after : Seen) where
     pub write_cause : reached ≡ WriteFault
         → WriteRose given before.contents before.failed_writes after.failed_writes
         (Rose before.failed_puts after.failed_puts)
-    pub line : ¬ Rose before.failed_lines after.failed_lines
+    pub whole_line : ¬ Rose before.failed_lines after.failed_lines
         → Gains before.error after.error (line reached)
-    pub part : GainsPart before.error after.error (line reached)
+    pub part_line : GainsPart before.error after.error (line reached)
 
 -- The exit code is that of the status that the run has. Words that can't be had decide it.
 pub record Exits (words : Words) (before after : Seen) (exit : ℕ) : Type 0 where
