@@ -10,6 +10,7 @@ use Rattle.page_spec.specs.Address.{TermOf}
 use Rattle.page_spec.specs.Page.{IsOutcome, PageAt}
 use Rattle.page_spec.specs.Site.{Site}
 use Rattle.tmpl.specs.Body.{TemplateFile}
+use Rattle.happenings.specs.Happening.{Happening}
 use Rattle.happenings.specs.declared.event.WireEvent.{WireEvent}
 use Rattle.happenings.specs.declared.event.WireEvent.TheVariants.{Opened, Bytes, Ended, Done}
 use Rattle.serving_spec.specs.Changes.{Changes}
@@ -110,10 +111,10 @@ module _ {D : Type 0} (root : Option (List ℕ)) (site : D → Site) (templates 
   above : (number other : ℕ) → number + 1 ≤ other → nat_lt number other ≡ true
   above number other more = grind (arith, nat_tests)
 
-  pub all_asked : (targets : List (List ℕ)) (number : ℕ) (a z : Scene D Kept) → All IsAskable targets
-      → PassesAll rules 1 a (events_from number targets ++ Done ∷ []) z → a.current ≡ still
+  pub all_asked : (targets : List (List ℕ)) (number : ℕ) (a z : Scene D Kept) (trace : List Happening) → All IsAskable targets
+      → PassesAll rules 1 a (events_from number targets ++ Done ∷ []) z trace → a.current ≡ still
       → ((other : ℕ) → number ≤ other → other < number + length targets → a.ats other ≡ unopened) → ((other : ℕ) → number ≤ other → counts a.greatest other ≡ true) → AllAsked number targets a z
-  all_asked [] number a z askable (b, p, is) current fresh new = record {
+  all_asked [] number a z trace askable (b, p, last, (is, none), added) current fresh new = record {
     lower = λ other low. ap (λ (s : Scene D Kept). s.ats other) is ∙ p.turned.0 other;
     asked = λ fine. (
       [],
@@ -122,9 +123,9 @@ module _ {D : Type 0} (root : Option (List ℕ)) (site : D → Site) (templates 
       λ i low. absurd (omega (arith, low)),
     );
   }
-  all_asked (target ∷ targets) number a z askable (b, p, (c, q, (d, r, rest))) current fresh new =
+  all_asked (target ∷ targets) number a z trace askable (b, p, t, (c, q, u, (d, r, others, rest, _), _), _) current fresh new =
       let one = one_asked number target (All-head IsAskable target targets askable) a b c d p q r current (fresh number (omega arith) (omega arith)) (new number (omega arith)) in
-      let more = all_asked targets (number + 1) d z (All-tail IsAskable target targets askable) rest one.current
+      let more = all_asked targets (number + 1) d z others (All-tail IsAskable target targets askable) rest one.current
       (λ other least most. one.others other (λ e. omega (arith, e, least)) ∙ fresh other (omega (arith, least)) (omega (arith, most)))
       (λ other least. ap (λ g. counts g other) one.greatest ∙ above number other least) in
       record {

@@ -10,6 +10,7 @@ use Rattle.page_spec.specs.Site.{Site}
 use Rattle.page_spec.specs.declared.Outcome.{Outcome}
 use Rattle.page_spec.specs.declared.Outcome.TheVariants.{Missing}
 use Rattle.wire.specs.Events.{is_done, IsDrawn}
+use Rattle.happenings.specs.Happening.{Happening}
 use Rattle.happenings.specs.declared.event.WireEvent.{WireEvent}
 use Rattle.happenings.specs.declared.event.WireEvent.TheVariants.{Opened, Bytes, Ended, Change, Done}
 use Rattle.serving_spec.specs.Changes.{Changes}
@@ -69,9 +70,9 @@ drawn_few (first ∷ events) (e ∷ drawn) after (between, (is, left), rest) non
     omega (arith, drawn_few events drawn after (subst (λ o. IsDrawn o drawn after) left rest) (or_parts (is_done e) (list_any is_done drawn) none).1)
 
 -- the course of a run without a change
-no_change : {D C : Type 0} (rules : Rules D C) (ended : HubEnd) (ours events : List WireEvent) (first last : Scene D C) → events ≡ ours ++ Done ∷ [] → IsCourse rules 1 ended first events last → PassesAll rules 1 first (ours ++ Done ∷ []) last
-no_change rules ended ours events first last is (inl passes) = subst (λ es. PassesAll rules 1 first es last) is passes
-no_change rules ended ours events first last is (inr (short, front, text, between, changed, passes, stay)) =
+no_change : {D C : Type 0} (rules : Rules D C) (ended : HubEnd) (ours events : List WireEvent) (first last : Scene D C) (trace : List Happening) → events ≡ ours ++ Done ∷ [] → IsCourse rules 1 ended first events last trace → PassesAll rules 1 first (ours ++ Done ∷ []) last trace
+no_change rules ended ours events first last trace is (inl passes) = subst (λ es. PassesAll rules 1 first es last trace) is passes
+no_change rules ended ours events first last trace is (inr (short, front, text, between, done, part, changed, passes, stay, told, added)) =
     absurd (let wrong : Done ≡ Change text = (same_from_push ours front Done (Change text) (sym is ∙ changed)).1 in cc)
 
 pick : {P : Type 0} (number other : ℕ) → (number ≡ other) ⊎ (number < other) → (number ≡ other → P) → (number < other → P) → P
@@ -127,8 +128,8 @@ module _ {D : Type 0} (root : Option (List ℕ)) (site : D → Site) (templates 
       let drew : IsDrawn (Some (events_from 1 targets)) (ends.0 ++ Done ∷ []) ((steady_told after).left) =
       subst (λ es. IsDrawn (Some (events_from 1 targets)) es ((steady_told after).left)) ends.1 (subst (λ o. IsDrawn o serves.events ((steady_told after).left)) left serves.left) in
       let all : serves.events ≡ events_from 1 targets ++ Done ∷ [] = ends.1 ∙ ap (λ es. es ++ Done ∷ []) (drawn_all (events_from 1 targets) ends.0 ((steady_told after).left) drew ends.3 (none_done 1 targets)) in
-      let passes = no_change (run_rules root site templates texts) served.end (events_from 1 targets) serves.events tally.first tally.last all tally.course in
-      let asked = all_asked root site templates texts still targets 1 tally.first tally.last askable passes tally.data_are
+      let passes = no_change (run_rules root site templates texts) served.end (events_from 1 targets) serves.events tally.first tally.last tally.trace all tally.course in
+      let asked = all_asked root site templates texts still targets 1 tally.first tally.last tally.trace askable passes tally.data_are
       (λ other least most. tally.begins other ∙ new_at (entry_of w other) (entries w targets 1 opened other least most) (new other))
       (λ other least. ap (λ g. counts g other) tally.none_open) in
       let ended = asked.asked (λ i low. fine_at serves.events tally i (fine i low)) in

@@ -1,4 +1,5 @@
 pub mod MadeLemmas
+pub mod NotedLemmas
 mod PieceLemmas
 mod StepLemmas
 mod DateLemmas

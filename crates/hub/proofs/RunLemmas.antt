@@ -1,15 +1,18 @@
 -- A run takes one event more.
-use Rattle.std.proofs.Common.{◌≡◌, inr, ℕ, ◌<◌, Bool, true, false, ◌||◌, ◌==◌, List, [], ◌∷◌, ◌++◌, refl, sym, ap, ◌∙◌, subst, Option, Some, None, if◌then◌else◌}
+use Rattle.std.proofs.Common.{◌≡◌, inr, ℕ, ◌<◌, Bool, true, false, ◌||◌, ◌==◌, List, [], ◌∷◌, ◌++◌, refl, sym, ap, ◌∙◌, subst, append_assoc, append-nil, Option, Some, None, if◌then◌else◌}
 use Rattle.std.specs.List.{fold, list_any}
 use Rattle.std.proofs.lemmas.Grind.{fold-append}
 use Rattle.std.proofs.lemmas.List.Folds.{list_any-append}
 use Rattle.sd_value.specs.declared.Term.{Term}
 use Rattle.http_spec.specs.Sessions.{OutcomeAt}
 use Rattle.wire.specs.Accounts.{Account, up_by}
+use Rattle.wire.specs.Noted.{AreTold}
+use Rattle.wire.proofs.Noting.{told_none}
 use Rattle.wire.specs.Events.{add_event, is_done, IsNextOf, IsDrawn}
+use Rattle.happenings.specs.Happening.{Happening, Given}
 use Rattle.happenings.specs.declared.event.WireEvent.{WireEvent}
 use Rattle.happenings.specs.declared.event.WireEvent.TheVariants.{Opened, Bytes, Ended, Lost as LostEvent, Change, Done}
-use Rattle.hub.specs.Course.{Scene, Rules, Passes, PassesAll, IsCourse}
+use Rattle.hub.specs.Course.{Scene, Rules, Passes, PassesAll, IsCourse, accounts_of}
 use Rattle.hub.specs.HubState.{scene, HubState}
 use Rattle.hub.specs.Line.{Line}
 use Rattle.serving_spec.specs.Counted.{no_counts, counts_with, is_of}
@@ -132,26 +135,56 @@ turned_at page Names current root here limit first greatest e made before after 
     subst (λ n. Turned (page here current) (Names here) n greatest e made before after) same
     (subst (λ r. Turned (page r current) (Names r) limit greatest e made before after) as_root turned)
 
+-- an event was given, and then this was done
+pub one_turn : (start now given after trace part : List Happening) (e : Happening) → now ≡ start ++ trace → given ≡ now ++ e ∷ [] → after ≡ given ++ part
+    → after ≡ start ++ (trace ++ e ∷ part)
+one_turn start now given after trace part e since one added =
+    added ∙ ap (λ t. t ++ part) (one ∙ ap (λ t. t ++ e ∷ []) since) ∙ append_assoc (start ++ trace) (e ∷ []) part
+    ∙ append_assoc start trace (e ∷ part)
+
+pub one_given : (start now given trace : List Happening) (e : Happening) → now ≡ start ++ trace → given ≡ now ++ e ∷ [] → given ≡ start ++ (trace ++ e ∷ [])
+one_given start now given trace e since one = one ∙ ap (λ t. t ++ e ∷ []) since ∙ append_assoc start trace (e ∷ [])
+
+-- nothing happened after the course
+pub course_ends : (start after course : List Happening) → after ≡ start ++ course → after ≡ start ++ (course ++ [])
+course_ends start after course is = is ∙ ap (λ t. start ++ t) (sym (append-nil course))
+
 -- the course of one event more
-pub passes_more : {D C : Type 0} (rules : Rules D C) (limit : ℕ) (start between after : Scene D C) (events : List WireEvent) (e : WireEvent)
-    → PassesAll rules limit start events between → Passes rules limit e between after → PassesAll rules limit start (events ++ e ∷ []) after
-passes_more rules limit start between after [] e before step = (after, subst (λ s. Passes rules limit e s after) before step, refl)
-passes_more rules limit start between after (x ∷ events) e (next, one, rest) step = (next, one, passes_more rules limit next between after events e rest step)
+pub passes_more : {D C : Type 0} (rules : Rules D C) (limit : ℕ) (start between after : Scene D C) (events : List WireEvent) (e : WireEvent) (trace : List Happening)
+    → PassesAll rules limit start events between trace → (step : Passes rules limit e between after)
+    → PassesAll rules limit start (events ++ e ∷ []) after (trace ++ Given e ∷ step.part)
+passes_more rules limit start between after [] e trace before step =
+    let first : (it : Passes rules limit e start after) × (it.part ≡ step.part) =
+    subst (λ s. (it : Passes rules limit e s after) × (it.part ≡ step.part)) before.0 (step, refl) in (
+      after,
+      first.0,
+      [],
+      (refl, refl),
+      ap (λ t. t ++ Given e ∷ step.part) before.1 ∙ ap (λ p. Given e ∷ p) (sym first.1 ∙ sym (append-nil first.0.part)),
+    )
+passes_more rules limit start between after (x ∷ events) e trace (next, one, others, rest, is) step = (
+  next,
+  one,
+  others ++ Given e ∷ step.part,
+  passes_more rules limit next between after events e others rest step,
+  ap (λ t. t ++ Given e ∷ step.part) is ∙ append_assoc (Given x ∷ one.part) others (Given e ∷ step.part),
+)
 
 -- the wire tells the same of the connections
 pub passes_moved : {P D C : Type 0} (rules : Rules D C) (limit : ℕ) (start : Scene D C) (events : List WireEvent) (hub : HubState P) (state : P → D) (cache : P → C)
     (accounts others : ℕ → Option Account) (faults later : ℕ → ℕ) → others ≡ accounts → later ≡ faults
-    → PassesAll rules limit start events (scene state cache hub accounts faults) → PassesAll rules limit start events (scene state cache hub others later)
-passes_moved rules limit start events hub state cache accounts others faults later same fine passes =
-    subst (λ (a : ℕ → Option Account). PassesAll rules limit start events (scene state cache hub a later)) (sym same)
-    (subst (λ (f : ℕ → ℕ). PassesAll rules limit start events (scene state cache hub accounts f)) (sym fine) passes)
+    → (trace : List Happening) → PassesAll rules limit start events (scene state cache hub accounts faults) trace
+    → PassesAll rules limit start events (scene state cache hub others later) trace
+passes_moved rules limit start events hub state cache accounts others faults later same fine trace passes =
+    subst (λ (a : ℕ → Option Account). PassesAll rules limit start events (scene state cache hub a later) trace) (sym same)
+    (subst (λ (f : ℕ → ℕ). PassesAll rules limit start events (scene state cache hub accounts f) trace) (sym fine) passes)
 
 -- nothing more comes
-pub passes_done : {D C : Type 0} (rules : Rules D C) (limit : ℕ) (start now : Scene D C) (events : List WireEvent) (e : WireEvent) → e ≡ Done
-    → PassesAll rules limit start events now → PassesAll rules limit start (events ++ e ∷ []) now
-passes_done rules limit start now events e is before =
-    subst (λ x. PassesAll rules limit start (events ++ x ∷ []) now) (sym is)
-    (passes_more rules limit start now now events Done before record {
+pub passes_done : {D C : Type 0} (rules : Rules D C) (limit : ℕ) (start now : Scene D C) (events : List WireEvent) (e : WireEvent) (trace : List Happening) → e ≡ Done
+    → PassesAll rules limit start events now trace → PassesAll rules limit start (events ++ e ∷ []) now (trace ++ Given e ∷ [])
+passes_done rules limit start now events e trace is before =
+    subst (λ x. PassesAll rules limit start (events ++ x ∷ []) now (trace ++ Given x ∷ [])) (sym is)
+    (passes_more rules limit start now now events Done trace before record {
       made = nothing;
       turned = (λ number. refl, refl);
       current = refl;
@@ -161,16 +194,19 @@ passes_done rules limit start now events e is before =
       changes = refl;
       refused = refl;
       cache = refl;
+      part = [];
+      told = told_none (accounts_of now);
     })
 
 -- memory was missing for a change
 pub counts_stay : {D C : Type 0} (rules : Rules D C) (limit : ℕ) (start between after : Scene D C) (events : List WireEvent) (e : WireEvent) (text : List ℕ) (made : Made)
-    → e ≡ Change text → PassesAll rules limit start events between
+    (trace : List Happening) → e ≡ Change text → PassesAll rules limit start events between trace
     → Turned (rules.Page between.current) rules.Names limit between.greatest e made between.ats after.ats
     → after.opened ≡ opened_after e between.greatest between.opened → after.replies ≡ up_by made.replies between.replies
     → rules.found after.cache ≡ rules.found between.cache → after.changes ≡ between.changes → after.refused ≡ between.refused
-    → IsCourse rules limit NoMemory start (events ++ e ∷ []) after
-counts_stay rules limit start between after events e text made is before turned opened replies found changes refused =
+    → (part : List Happening) → AreTold part (accounts_of between) (accounts_of after)
+    → IsCourse rules limit NoMemory start (events ++ e ∷ []) after (trace ++ Given e ∷ part)
+counts_stay rules limit start between after events e text made trace is before turned opened replies found changes refused part told =
     let Of : WireEvent → Type 0 = λ x. Turned (rules.Page between.current) rules.Names limit between.greatest x made between.ats after.ats in
     let here : Of (Change text) = subst Of is turned in
     inr (
@@ -178,6 +214,8 @@ counts_stay rules limit start between after events e text made is before turned 
       events,
       text,
       between,
+      trace,
+      part,
       ap (λ x. events ++ x ∷ []) is,
       before,
       record {
@@ -188,4 +226,6 @@ counts_stay rules limit start between after events e text made is before turned 
         refused = refused;
         found = found;
       },
+      told,
+      ap (λ x. trace ++ Given x ∷ part) is,
     )

@@ -5,7 +5,9 @@ use Rattle.tmpl.specs.Body.{TemplateFile}
 use Rattle.page_spec.specs.Address.{TermOf}
 use Rattle.page_spec.specs.Site.{Site}
 use Rattle.http_spec.specs.Sessions.{OutcomeAt}
-use Rattle.wire.specs.Accounts.{up_by}
+use Rattle.happenings.specs.Happening.{Happening, Given, NextFailed}
+use Rattle.wire.specs.Accounts.{Account, up_by}
+use Rattle.wire.specs.Noted.{AreTold}
 use Rattle.happenings.specs.declared.event.WireEvent.{WireEvent}
 use Rattle.happenings.specs.declared.event.WireEvent.TheVariants.{Change}
 use Rattle.serving_spec.specs.Changes.{text_of, refused_of}
@@ -14,7 +16,7 @@ use Rattle.serving_spec.specs.Shown.{shown_in}
 use Rattle.hub.specs.Turns.{At, Turned, state_after, Keeps}
 use Rattle.serving_spec.specs.Openings.{greatest_after, opened_after}
 use Rattle.serving_spec.specs.declared.HubEnd.{HubEnd}
-use Rattle.serving_spec.specs.declared.HubEnd.TheVariants.{NoMemory}
+use Rattle.serving_spec.specs.declared.HubEnd.TheVariants.{Done as Finished, WireFailed, TurnsSpent, NoMemory}
 
 -- a run at one moment: all connections, the data, the greatest number opened, how many connections were opened, how
 -- many replies made, how many texts came and how many of them were refused, and what is kept of the pages
@@ -54,6 +56,10 @@ rules_under root site templates changed accepts Looks Renews found = record {
   found = found;
 }
 
+-- what was done to each connection
+abbrev pub accounts_of : {D C : Type 0} → Scene D C → ℕ → Option Account
+accounts_of s number = (s.ats number).account
+
 -- one event is one step
 pub record Passes {D C : Type 0} (rules : Rules D C) (limit : ℕ) (event : WireEvent)
     (before after : Scene D C) : Type 0 where
@@ -69,14 +75,18 @@ pub record Passes {D C : Type 0} (rules : Rules D C) (limit : ℕ) (event : Wire
       ≡ up_by (length (refused_of (rules.accepts before.current) event)) before.refused
   pub cache : Keeps (rules.Looks before.current) (rules.Renews before.current) event made
       before.cache after.cache
+  -- the sends and closes that were made for it, before the next event
+  pub part : List Happening
+  pub told : AreTold part (accounts_of before) (accounts_of after)
 
--- all the events, one after another
+-- all the events, one after another, and all that happened: each event, and what was done for it before the next
 abbrev pub PassesAll : {D C : Type 0} → Rules D C → ℕ → Scene D C → List WireEvent → Scene D C
-    → Type 0
-PassesAll rules limit before [] after = after ≡ before
-PassesAll {D} {C} rules limit before (event ∷ events) after =
-    (between : Scene D C) × Passes rules limit event before between
-    × PassesAll rules limit between events after
+    → List Happening → Type 0
+PassesAll rules limit before [] after trace = (after ≡ before) × (trace ≡ [])
+PassesAll {D} {C} rules limit before (event ∷ events) after trace =
+    (between : Scene D C) × (step : Passes rules limit event before between)
+    × (others : List Happening) × PassesAll rules limit between events after others
+    × (trace ≡ (Given event ∷ step.part) ++ others)
 
 -- the connections are where they were, and the counts are as they were
 pub record CountsStay {D C : Type 0} (rules : Rules D C) (before after : Scene D C) : Type 0 where
@@ -89,9 +99,23 @@ pub record CountsStay {D C : Type 0} (rules : Rules D C) (before after : Scene D
 
 -- the course of a run that ends so; out of memory for a change of the data, which is then the last event, the counts stay
 abbrev pub IsCourse : {D C : Type 0} → Rules D C → ℕ → HubEnd → Scene D C → List WireEvent
-    → Scene D C → Type 0
-IsCourse {D} {C} rules limit ended before events after =
-    PassesAll rules limit before events after
+    → Scene D C → List Happening → Type 0
+IsCourse {D} {C} rules limit ended before events after trace =
+    PassesAll rules limit before events after trace
     ⊎ ((ended ≡ NoMemory) × (front : List WireEvent) × (text : List ℕ) × (between : Scene D C)
-    × (events ≡ front ++ Change text ∷ []) × PassesAll rules limit before front between
-    × CountsStay rules between after)
+    × (done : List Happening) × (part : List Happening)
+    × (events ≡ front ++ Change text ∷ []) × PassesAll rules limit before front between done
+    × CountsStay rules between after × AreTold part (accounts_of between) (accounts_of after)
+    × (trace ≡ done ++ Given (Change text) ∷ part))
+
+-- What the list of what happened has after the last event: where the wire gave none, that.
+abbrev pub Ending : HubEnd → List Happening → Type 0
+Ending Finished last = last ≡ []
+Ending WireFailed last = last ≡ NextFailed ∷ []
+Ending TurnsSpent last = last ≡ []
+Ending NoMemory last = (last ≡ []) ⊎ (last ≡ NextFailed ∷ [])
+
+-- what happened in a run: its course, and how it ended
+abbrev pub Happens : HubEnd → (course before after : List Happening) → Type 0
+Happens ended course before after =
+    (last : List Happening) × Ending ended last × (after ≡ before ++ (course ++ last))

@@ -4,6 +4,7 @@ ghost use Rattle.sd_value.specs.declared.Term.{Term};
 ghost use Rattle.page_spec.specs.declared.Outcome.{Outcome};
 ghost use Rattle.page_spec.specs.Address.{TermOf};
 ghost use Rattle.wire.specs.Accounts.{up_by};
+ghost use Rattle.wire.specs.Noted.{Noted};
 ghost use Rattle.wire.specs.Told.{EventsStay, OtherAccountsStay, OtherFaultsStay};
 ghost use Rattle.http_spec.specs.Replies.{reply_bytes};
 ghost use Rattle.http_spec.specs.Sessions.{IsLookedUp};
@@ -80,6 +81,8 @@ impl Connection {
             × AllLooked (P.looks (P.state pages.old)) (P.cache pages.old) all.terms
             (P.cache pages.new) }
         ensures stays { EventsStay (W.told wire.old) (W.told wire.new) }
+        ensures noted { Noted (W.trace wire.old) (W.trace wire.new) (W.told wire.old).account
+            (W.told wire.new).account }
     {
         let mut from = 0;
         while from < piece.len() {
@@ -110,6 +113,7 @@ impl Connection {
     }
 
     /// Takes the end of the bytes, and sends a 400 where the rest is more than line ends.
+    #[tactic(auto, using(crate::proofs::NotedLemmas::noted_none))]
     pub(crate) fn end<P: Versions, W: Wire>(
         &mut self,
         alloc: Global,
@@ -132,6 +136,8 @@ impl Connection {
             × AllLooked (P.looks (P.state pages.old)) (P.cache pages.old) all.terms
             (P.cache pages.new) }
         ensures stays { EventsStay (W.told wire.old) (W.told wire.new) }
+        ensures noted { Noted (W.trace wire.old) (W.trace wire.new) (W.told wire.old).account
+            (W.told wire.new).account }
     {
         let Some(ask) = self.reading.end() else {
             return Standing::Closed;
@@ -167,6 +173,8 @@ pub(crate) fn answer<P: Versions, W: Wire>(
         × AllLooked (P.looks (P.state pages.old)) (P.cache pages.old) all.terms
         (P.cache pages.new) }
     ensures stays { EventsStay (W.told wire.old) (W.told wire.new) }
+    ensures noted { Noted (W.trace wire.old) (W.trace wire.new) (W.told wire.old).account
+        (W.told wire.new).account }
 {
     let close = closes(ask, last);
     match reply_to(alloc, ask, target, close, root, pages) {
@@ -186,6 +194,7 @@ fn closes(ask: &ParsedRequest, last: bool) -> bool
 }
 
 /// Sends a reply.
+#[tactic(auto, using(crate::proofs::NotedLemmas::noted_sent, crate::proofs::NotedLemmas::noted_cut))]
 fn send<W: Wire>(reply: &[u8], close: bool, number: u64, wire: &mut W) -> Standing
     ensures others { OtherAccountsStay number (W.told wire.old) (W.told wire.new) }
     ensures others_fine { OtherFaultsStay number (W.told wire.old) (W.told wire.new) }
@@ -193,6 +202,8 @@ fn send<W: Wire>(reply: &[u8], close: bool, number: u64, wire: &mut W) -> Standi
         ((W.told wire.new).account number) ((W.told wire.old).faults number)
         ((W.told wire.new).faults number) }
     ensures stays { EventsStay (W.told wire.old) (W.told wire.new) }
+    ensures noted { Noted (W.trace wire.old) (W.trace wire.new) (W.told wire.old).account
+        (W.told wire.new).account }
 {
     match wire.send(number, reply) {
         Err(_) => Standing::Lost,
@@ -210,6 +221,8 @@ pub(crate) fn cut_short<W: Wire>(number: u64, wire: &mut W) -> Standing
         ((W.told wire.new).account number) ((W.told wire.old).faults number)
         ((W.told wire.new).faults number) }
     ensures stays { EventsStay (W.told wire.old) (W.told wire.new) }
+    ensures noted { Noted (W.trace wire.old) (W.trace wire.new) (W.told wire.old).account
+        (W.told wire.new).account }
 {
     match wire.send(number, no_memory_reply()) {
         Ok(()) => Standing::Short,

@@ -4,6 +4,7 @@ ghost use Rattle.std.specs.Ordering.{nat_cmp};
 ghost use Rattle.std.specs.BTreeMap.{get};
 ghost use Rattle.page_spec.specs.Address.{TermOf};
 ghost use Rattle.wire.specs.Accounts.{up, up_by};
+ghost use Rattle.wire.specs.Noted.{Noted};
 ghost use Rattle.wire.specs.Told.{EventsStay};
 ghost use Rattle.happenings.specs.declared.event.WireEvent.{WireEvent};
 ghost use Rattle.hub.specs.HubState.{HubState, line_of};
@@ -101,6 +102,7 @@ impl<P: Versions> Hub<P> {
 
     /// Takes one event. One that opens a number not above all before, one of a connection that is not open, and `Done`
     /// are passed over. A hub that is spent passes over each.
+    #[tactic(auto, using(crate::proofs::NotedLemmas::noted_none))]
     pub fn step<W: Wire>(&mut self, alloc: Global, event: &WireEvent, wire: &mut W)
         requires own { P.Own self.old.pages }
         ensures own { P.Own self.new.pages }
@@ -134,6 +136,8 @@ impl<P: Versions> Hub<P> {
             × (P.found (P.cache self.new.pages) ≡ P.found (P.cache self.old.pages))
             × (self.new.changes ≡ self.old.changes) × (self.new.refused ≡ self.old.refused) }
         ensures stays { EventsStay (W.told wire.old) (W.told wire.new) }
+        ensures noted { Noted (W.trace wire.old) (W.trace wire.new) (W.told wire.old).account
+            (W.told wire.new).account }
     {
         if !self.desk.spent {
             self.desk.take(alloc, event, wire);
@@ -179,6 +183,7 @@ impl<P: Versions> Hub<P> {
 
 impl<P: Versions> Desk<P> {
     /// Takes one event.
+    #[tactic(auto, using(crate::proofs::NotedLemmas::noted_none))]
     fn take<W: Wire>(&mut self, alloc: Global, event: &WireEvent, wire: &mut W)
         requires some { 0 < self.old.requests }
         requires own { P.Own self.old.pages }
@@ -213,6 +218,8 @@ impl<P: Versions> Desk<P> {
             × (P.found (P.cache self.new.pages) ≡ P.found (P.cache self.old.pages))
             × (self.new.changes ≡ self.old.changes) × (self.new.refused ≡ self.old.refused) }
         ensures stays { EventsStay (W.told wire.old) (W.told wire.new) }
+        ensures noted { Noted (W.trace wire.old) (W.trace wire.new) (W.told wire.old).account
+            (W.told wire.new).account }
     {
         match event {
             WireEvent::Opened(number) => self.begin(alloc, *number, wire),
@@ -275,6 +282,7 @@ impl<P: Versions> Desk<P> {
     }
 
     /// Opens a connection, where its number is above all that were opened before.
+    #[tactic(auto, using(crate::proofs::NotedLemmas::noted_none))]
     fn begin<W: Wire>(&mut self, alloc: Global, number: u64, wire: &mut W)
         requires some { 0 < self.old.requests }
         ensures requests { self.new.requests ≡ self.old.requests }
@@ -296,6 +304,8 @@ impl<P: Versions> Desk<P> {
             (ats (get nat_cmp self.new.connections) (W.told wire.new).account
             (W.told wire.new).faults) }
         ensures stays { EventsStay (W.told wire.old) (W.told wire.new) }
+        ensures noted { Noted (W.trace wire.old) (W.trace wire.new) (W.told wire.old).account
+            (W.told wire.new).account }
     {
         if self.counts(number) {
             self.greatest = Some(number);

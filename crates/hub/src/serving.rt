@@ -4,9 +4,10 @@ ghost use Rattle.std.specs.List.{fold};
 ghost use Rattle.edge_io.specs.Counts.{Rose};
 ghost use Rattle.page_spec.specs.Address.{TermOf};
 ghost use Rattle.wire.specs.Events.{add_event, is_done, IsDrawn};
+ghost use Rattle.happenings.specs.Happening.{Happening};
 ghost use Rattle.happenings.specs.declared.event.WireEvent.{WireEvent};
 ghost use Rattle.hub.specs.HubState.{scene, line_of};
-ghost use Rattle.hub.specs.Course.{rules_under, IsCourse};
+ghost use Rattle.hub.specs.Course.{rules_under, IsCourse, Happens};
 ghost use Rattle.serving_spec.specs.Inputs.{moment_after, Unopened};
 ghost use Rattle.hub.specs.Moments.{Stands};
 ghost use Rattle.serving_spec.specs.RunEnds.{EndsRun};
@@ -30,15 +31,16 @@ pub fn serve<P: Versions, W: Wire>(
     requires alive { hub.old.spent ≡ false }
     ensures own { P.Own hub.new.pages }
 
-    // However the events interleave, each connection is as its own bytes ask for.
-    ensures stands { (events : List WireEvent)
+    // However the events interleave, each connection is as its own bytes ask for. Between an event and the next one nothing
+    // happens but the sends and closes that its step makes.
+    ensures stands { (events : List WireEvent) × (course : List Happening)
         × ((W.told wire.new).given ≡ fold add_event (W.told wire.old).given events)
         × IsDrawn (W.told wire.old).left events (W.told wire.new).left
         × EndsRun turns events result
         × IsCourse (rules_under hub.old.root P.site P.templates P.changed P.accepts P.looks P.renews
         P.found) hub.old.limit result
         (scene P.state P.cache hub.old (W.told wire.old).account (W.told wire.old).faults) events
-        (scene P.state P.cache hub.new (W.told wire.new).account (W.told wire.new).faults)
+        (scene P.state P.cache hub.new (W.told wire.new).account (W.told wire.new).faults) course
         × ((number : ℕ) → line_of hub.old number ≡ None
         → Stands (shown_in hub.old.root P.site P.templates) (TermOf hub.old.root)
         hub.old.limit number
@@ -48,7 +50,8 @@ pub fn serve<P: Versions, W: Wire>(
           input = Unopened;
         }) events)
         (at_in (line_of hub.old) (W.told wire.old).account (W.told wire.old).faults number)
-        (at_in (line_of hub.new) (W.told wire.new).account (W.told wire.new).faults number)) }
+        (at_in (line_of hub.new) (W.told wire.new).account (W.told wire.new).faults number))
+        × Happens result course (W.trace wire.old) (W.trace wire.new) }
     ensures failed { result ≡ HubEnd.WireFailed
         → Rose (W.told wire.old).next_faults (W.told wire.new).next_faults }
     ensures fine { (result ≡ HubEnd.Done) ⊎ (result ≡ HubEnd.TurnsSpent)

@@ -4,6 +4,7 @@ ghost use Rattle.std.specs.Ordering.{nat_cmp};
 ghost use Rattle.std.specs.BTreeMap.{get};
 ghost use Rattle.page_spec.specs.Address.{TermOf};
 ghost use Rattle.wire.specs.Accounts.{up_by};
+ghost use Rattle.wire.specs.Noted.{Noted};
 ghost use Rattle.wire.specs.Told.{EventsStay, OtherAccountsStay};
 ghost use Rattle.serving_spec.specs.Delivered.{closing};
 ghost use Rattle.serving_spec.specs.Made.{Made, AllLooked};
@@ -22,6 +23,7 @@ use wire::Wire;
 pub(crate) type Connections = BTreeMap<u64, Connection>;
 
 /// Opens a connection. Out of memory for it, it is sent a 503.
+#[tactic(auto, using(crate::proofs::NotedLemmas::noted_none, crate::proofs::NotedLemmas::noted_then))]
 pub(crate) fn open<W: Wire>(
     connections: &mut Connections,
     alloc: Global,
@@ -38,6 +40,8 @@ pub(crate) fn open<W: Wire>(
         (at_in (get nat_cmp connections.new) (W.told wire.new).account (W.told wire.new).faults
         number) }
     ensures stays { EventsStay (W.told wire.old) (W.told wire.new) }
+    ensures noted { Noted (W.trace wire.old) (W.trace wire.new) (W.told wire.old).account
+        (W.told wire.new).account }
 {
     if let Ok(connection) = Connection::new(alloc, requests)
         && connections.insert(number, connection).is_ok()
@@ -50,6 +54,7 @@ pub(crate) fn open<W: Wire>(
 }
 
 /// Takes a piece of one connection's bytes. A number that is not open is passed over. `made` counts the replies.
+#[tactic(auto, using(crate::proofs::NotedLemmas::noted_none, crate::proofs::NotedLemmas::noted_then))]
 pub(crate) fn take_piece<P: Versions, W: Wire>(
     connections: &mut Connections,
     alloc: Global,
@@ -77,6 +82,8 @@ pub(crate) fn take_piece<P: Versions, W: Wire>(
         × AllLooked (P.looks (P.state pages.old)) (P.cache pages.old) all.terms
         (P.cache pages.new) }
     ensures stays { EventsStay (W.told wire.old) (W.told wire.new) }
+    ensures noted { Noted (W.trace wire.old) (W.trace wire.new) (W.told wire.old).account
+        (W.told wire.new).account }
 {
     let standing = match connections.get_mut(&number) {
         None => return,
@@ -92,6 +99,7 @@ pub(crate) fn take_piece<P: Versions, W: Wire>(
 }
 
 /// Takes the end of one connection's input. A number that is not open is passed over. `made` counts the replies.
+#[tactic(auto, using(crate::proofs::NotedLemmas::noted_none, crate::proofs::NotedLemmas::noted_then))]
 pub(crate) fn finish<P: Versions, W: Wire>(
     connections: &mut Connections,
     alloc: Global,
@@ -117,6 +125,8 @@ pub(crate) fn finish<P: Versions, W: Wire>(
         × AllLooked (P.looks (P.state pages.old)) (P.cache pages.old) all.terms
         (P.cache pages.new) }
     ensures stays { EventsStay (W.told wire.old) (W.told wire.new) }
+    ensures noted { Noted (W.trace wire.old) (W.trace wire.new) (W.told wire.old).account
+        (W.told wire.new).account }
 {
     let standing = match connections.get_mut(&number) {
         None => return,
@@ -127,12 +137,15 @@ pub(crate) fn finish<P: Versions, W: Wire>(
 }
 
 /// Closes the connection where a reply has closed it.
+#[tactic(auto, using(crate::proofs::NotedLemmas::noted_none, crate::proofs::NotedLemmas::noted_closed))]
 fn settle<W: Wire>(standing: Standing, number: u64, wire: &mut W)
     ensures closed { (W.told wire.new).account number
         ≡ closing standing ((W.told wire.old).account number) }
     ensures others { OtherAccountsStay number (W.told wire.old) (W.told wire.new) }
     ensures faults { (other : ℕ) → (W.told wire.new).faults other ≡ (W.told wire.old).faults other }
     ensures stays { EventsStay (W.told wire.old) (W.told wire.new) }
+    ensures noted { Noted (W.trace wire.old) (W.trace wire.new) (W.told wire.old).account
+        (W.told wire.new).account }
 {
     match standing {
         Standing::Open => {}

@@ -10,6 +10,7 @@ use Rattle.http_spec.specs.declared.Standing.TheVariants.{Open}
 use Rattle.http_spec.specs.Sessions.{OutcomeAt, HasAnswer}
 use Rattle.http_spec.specs.Streams.{Timed}
 use Rattle.wire.specs.Accounts.{up_by}
+use Rattle.happenings.specs.Happening.{Happening}
 use Rattle.happenings.specs.declared.event.WireEvent.{WireEvent}
 use Rattle.happenings.specs.declared.event.WireEvent.TheVariants.{Opened, Bytes, Ended, Lost, Change, Done}
 use Rattle.serving_spec.specs.Changes.{Changes, state_after, data_at, text_of, refused_of, texts_in, refused_in, AllKept, AreTaken}
@@ -137,8 +138,8 @@ module _ {D : Type 0} (root : Option (List ℕ)) (site : D → Site) (templates 
       → ((n : ℕ) → at (place + n) ≡ data_at texts.changed before.current events n)
       → ((k : ℕ) → (moments k).current ≡ place) → ((k : ℕ) → (moments k).greatest ≡ before.greatest)
       → ((k : ℕ) → Here k (moments k) (counted k) (firsts k) (before.ats k))
-      → PassesAll rules limit before events after → After firsts moments counted place events before after
-  all_steps firsts [] moments counted place before after at_is places greatest here same = record {
+      → (trace : List Happening) → PassesAll rules limit before events after trace → After firsts moments counted place events before after
+  all_steps firsts [] moments counted place before after at_is places greatest here trace (same, none) = record {
     makes = [];
     one_each = refl;
     stands = λ k. subst (λ (s : Scene D Kept). Here k (moments k) (counted k) (firsts k) (s.ats k)) (sym same) (here k);
@@ -147,14 +148,14 @@ module _ {D : Type 0} (root : Option (List ℕ)) (site : D → Site) (templates 
     refused = ap (λ (s : Scene D Kept). s.refused) same;
     keeps = ap (λ (s : Scene D Kept). s.cache) same;
   }
-  all_steps firsts (e ∷ events) moments counted place before after at_is places greatest here (between, step, rest) =
+  all_steps firsts (e ∷ events) moments counted place before after at_is places greatest here trace (between, step, others, rest, is) =
       let here_is : before.current ≡ at place = sym (at_is 0) ∙ ap at (let none : place + 0 ≡ place = omega arith in none) in
       let next = all_steps firsts events (λ k. after_place k (moments k) e) (λ k. if is_of k e then counts_with (counted k) place step.made else counted k) (place + 1) between after
       (λ n. ap at (let later : place + 1 + n ≡ place + suc n = omega arith in later) ∙ at_is (suc n) ∙ ap (λ d. data_at texts.changed d events n) (sym step.current))
       (λ k. ap (λ n. n + 1) (places k))
       (λ k. greatest_of_event (λ current text. current) k (moments k) e ∙ ap (greatest_after e) (greatest k) ∙ sym step.greatest)
       (λ k. one_step k place e (moments k) (counted k) (firsts k) before between here_is (places k) (greatest k) (here k) step)
-      rest in
+      others rest in
       record {
         makes = step.made ∷ next.makes;
         one_each = make_for (rules.Page before.current) rules.Names limit before.greatest e step.made before.ats between.ats events next.makes step.turned next.one_each;
@@ -169,19 +170,20 @@ module _ {D : Type 0} (root : Option (List ℕ)) (site : D → Site) (templates 
 
   -- from the first event on
   pub steps_of : (events : List WireEvent) (first last : Scene D Kept) → ((n : ℕ) → at n ≡ data_at texts.changed first.current events n) → first.greatest ≡ None → ((k : ℕ) → (first.ats k).line ≡ None)
-      → PassesAll rules limit first events last
+      → (trace : List Happening) → PassesAll rules limit first events last trace
       → After first.ats (λ k. record { current = 0; greatest = None; input = Unopened }) (λ k. no_counts) 0 events first last
-  steps_of events first last at_is none_open closed passes =
+  steps_of events first last at_is none_open closed trace passes =
       all_steps first.ats events (λ k. record { current = 0; greatest = None; input = Unopened }) (λ k. no_counts) 0 first last
       (λ n. ap at (let same : 0 + n ≡ n = omega arith in same) ∙ at_is n)
-      (λ k. refl) (λ k. sym none_open) (λ k. record { stands = (closed k, refl, refl); opened = tt }) passes
+      (λ k. refl) (λ k. sym none_open) (λ k. record { stands = (closed k, refl, refl); opened = tt }) trace passes
 
 -- the events that were taken, and the run as it is after them: out of memory for a change, nothing is made of it
 pub record Whole {D : Type 0} (made_by : Rules D Kept) (limit : ℕ) (ended : HubEnd) (first : Scene D Kept) (events : List WireEvent) (last : Scene D Kept) : Type 0 where
   pub taken : List WireEvent
   pub all_taken : AreTaken ended events taken
   pub end : Scene D Kept
-  pub passes : PassesAll made_by limit first taken end
+  pub trace : List Happening
+  pub passes : PassesAll made_by limit first taken end trace
   pub ats : (k : ℕ) → last.ats k ≡ end.ats k
   pub opened : last.opened ≡ end.opened
   pub replies : last.replies ≡ end.replies
@@ -189,11 +191,12 @@ pub record Whole {D : Type 0} (made_by : Rules D Kept) (limit : ℕ) (ended : Hu
   pub refused : last.refused ≡ end.refused
   pub found : made_by.found last.cache ≡ made_by.found end.cache
 
-pub whole : {D : Type 0} (made_by : Rules D Kept) (limit : ℕ) (ended : HubEnd) (first : Scene D Kept) (events : List WireEvent) (last : Scene D Kept) → IsCourse made_by limit ended first events last → Whole made_by limit ended first events last
-whole made_by limit ended first events last (inl passes) = record {
+pub whole : {D : Type 0} (made_by : Rules D Kept) (limit : ℕ) (ended : HubEnd) (first : Scene D Kept) (events : List WireEvent) (last : Scene D Kept) (trace : List Happening) → IsCourse made_by limit ended first events last trace → Whole made_by limit ended first events last
+whole made_by limit ended first events last trace (inl passes) = record {
   taken = events;
   all_taken = inl refl;
   end = last;
+  trace = trace;
   passes = passes;
   ats = λ k. refl;
   opened = refl;
@@ -202,10 +205,11 @@ whole made_by limit ended first events last (inl passes) = record {
   refused = refl;
   found = refl;
 }
-whole made_by limit ended first events last (inr (short, front, text, between, is, passes, stay)) = record {
+whole made_by limit ended first events last trace (inr (short, front, text, between, done, part, is, passes, stay, told, added)) = record {
   taken = front;
   all_taken = inr (short, text, is);
   end = between;
+  trace = done;
   passes = passes;
   ats = stay.ats;
   opened = stay.opened;

@@ -11,11 +11,12 @@ use Rattle.page_spec.specs.Address.{TermOf}
 use Rattle.wire.specs.Accounts.{up, up_by}
 use Rattle.wire.specs.Events.{add_event, is_done, IsDrawn}
 use Rattle.wire.specs.Told.{WireReport}
+use Rattle.happenings.specs.Happening.{Happening}
 use Rattle.happenings.specs.declared.event.WireEvent.{WireEvent}
 use Rattle.happenings.specs.declared.event.WireEvent.TheVariants.{Opened, Bytes, Ended, Lost, Change, Done}
 use Rattle.serving_spec.specs.Changes.{Changes, data_at, texts_in, refused_in, AllKept}
 use Rattle.serving_spec.specs.Looks.{Kept}
-use Rattle.hub.specs.Course.{Scene, Rules, PassesAll, IsCourse}
+use Rattle.hub.specs.Course.{Scene, Rules, PassesAll, IsCourse, Happens}
 use Rattle.hub.specs.HubState.{scene, HubState, line_of}
 use Rattle.hub.specs.Line.{Line}
 use Rattle.serving_spec.specs.Inputs.{Input, Unopened, moment_after, input_of}
@@ -46,11 +47,11 @@ opened_step (Lost number) greatest n others = refl
 opened_step (Change text) greatest n others = refl
 opened_step Done greatest n others = refl
 
-opened_count : {D C : Type 0} (rules : Rules D C) (limit : ℕ) (before : Scene D C) (events : List WireEvent) (after : Scene D C) → PassesAll rules limit before events after
+opened_count : {D C : Type 0} (rules : Rules D C) (limit : ℕ) (before : Scene D C) (events : List WireEvent) (after : Scene D C) → (trace : List Happening) → PassesAll rules limit before events after trace
     → after.opened ≡ up_by (length (opened_from before.greatest events)) before.opened
-opened_count rules limit before [] after same = ap (λ (s : Scene _ _). s.opened) same
-opened_count rules limit before (e ∷ events) after (between, passes, rest) =
-    opened_count rules limit between events after rest
+opened_count rules limit before [] after trace (same, none) = ap (λ (s : Scene _ _). s.opened) same
+opened_count rules limit before (e ∷ events) after trace (between, passes, others, rest, is) =
+    opened_count rules limit between events after others rest
     ∙ ap (λ g. up_by (length (opened_from g events)) between.opened) passes.greatest
     ∙ ap (up_by (length (opened_from (greatest_after e before.greatest) events))) passes.opened
     ∙ opened_step e before.greatest before.opened (opened_from (greatest_after e before.greatest) events)
@@ -59,7 +60,8 @@ opened_count rules limit before (e ∷ events) after (between, passes, rest) =
 module _ {P D : Type 0} (old new : HubState P) (root : Option (List ℕ)) (site : D → Site) (templates : D → TemplateFile) (texts : Changes D) (start : D) (requests turns capacity : ℕ) (state : P → D) (cache : P → Kept)
     (before after : WireReport) (end : HubEnd) (tally : Tally) (events : List WireEvent) (some : 0 < requests)
     (given : after.given ≡ fold add_event before.given events) (left : IsDrawn before.left events after.left) (ends : EndsRun turns events end)
-    (course : IsCourse (run_rules old.root site templates texts) old.limit end (scene state cache old before.account before.faults) events (scene state cache new after.account after.faults))
+    (trace : List Happening)
+    (course : IsCourse (run_rules old.root site templates texts) old.limit end (scene state cache old before.account before.faults) events (scene state cache new after.account after.faults) trace)
     (stands : (number : ℕ) → line_of old number ≡ None
     → Stands (shown_in old.root site templates) (TermOf old.root) old.limit number
     (moment_after texts.changed number (record { current = state old.pages; greatest = old.greatest; input = Unopened }) events)
@@ -86,15 +88,16 @@ module _ {P D : Type 0} (old new : HubState P) (root : Option (List ℕ)) (site 
   abbrev last : Scene D Kept
   last = scene state cache new after.account after.faults
 
-  course_is : IsCourse (run_rules root site templates texts) requests end first events last
+  course_is : IsCourse (run_rules root site templates texts) requests end first events last trace
   course_is =
-      subst (λ r. IsCourse (run_rules r site templates texts) requests end first events last) root_is
-      (subst (λ n. IsCourse (run_rules old.root site templates texts) n end first events last) limit_is course)
+      subst (λ r. IsCourse (run_rules r site templates texts) requests end first events last trace) root_is
+      (subst (λ n. IsCourse (run_rules old.root site templates texts) n end first events last trace) limit_is course)
 
   in_steps : TalliedInSteps root site templates texts start requests capacity before after end events tally
   in_steps = record {
     first = first;
     last = last;
+    trace = trace;
     course = course_is;
     data_are = state_is;
     none_open = greatest_is;
@@ -107,13 +110,13 @@ module _ {P D : Type 0} (old new : HubState P) (root : Option (List ℕ)) (site 
   }
 
   all : Whole (run_rules root site templates texts) requests end first events last
-  all = whole (run_rules root site templates texts) requests end first events last course_is
+  all = whole (run_rules root site templates texts) requests end first events last trace course_is
 
   abbrev at_place : List WireEvent → ℕ → D
   at_place taken = data_at texts.changed start taken
 
   made : After root site templates texts requests some (at_place all.taken) first.ats (λ k. record { current = 0; greatest = None; input = Unopened }) (λ k. no_counts) 0 all.taken first all.end
-  made = steps_of root site templates texts requests some (at_place all.taken) all.taken first all.end (λ n. ap (λ d. data_at texts.changed d all.taken n) (sym state_is)) greatest_is none all.passes
+  made = steps_of root site templates texts requests some (at_place all.taken) all.taken first all.end (λ n. ap (λ d. data_at texts.changed d all.taken n) (sym state_is)) greatest_is none all.trace all.passes
 
   tallied : Tallied root site templates texts start requests capacity before after all.taken tally
   tallied = record {
@@ -125,7 +128,7 @@ module _ {P D : Type 0} (old new : HubState P) (root : Option (List ℕ)) (site 
         (counted_of (λ (place : ℕ). shown_in root site templates (at_place all.taken place)) (TermOf root) 0 requests (counts_from number 0 no_counts all.taken made.makes) (first.ats number) (all.end.ats number) (placed_input number all.taken)
         (made.stands number).stands);
     connections = ap (λ (t : Tally). t.connections) tally_is ∙ all.opened
-        ∙ opened_count (run_rules root site templates texts) requests first all.taken all.end all.passes
+        ∙ opened_count (run_rules root site templates texts) requests first all.taken all.end all.trace all.passes
         ∙ ap (λ g. up_by (length (opened_from g all.taken)) old.opened) greatest_is ∙ ap (up_by (length (opened_in all.taken))) opened_is;
     replies = ap (λ (t : Tally). t.replies) tally_is ∙ all.replies ∙ made.replies ∙ ap (λ n. fold (λ m one. up_by one.replies m) n made.makes) replies_is;
     changes = ap (λ (t : Tally). t.changes) tally_is ∙ all.changes ∙ made.changes ∙ ap (up_by (length (texts_in all.taken))) changes_is;
@@ -182,7 +185,8 @@ no_steps {D} root site templates texts start requests turns capacity wire =
       tally = record {
         first = first;
         last = first;
-        course = inl refl;
+        trace = [];
+        course = inl (refl, refl);
         data_are = refl;
         none_open = refl;
         none_counted = (refl, refl);
@@ -193,6 +197,10 @@ no_steps {D} root site templates texts start requests turns capacity wire =
         tally_is = refl;
       };
     }
+
+-- nothing happened
+pub nothing_happens : (old : List Happening) → Happens NoMemory [] old old
+nothing_happens old = ([], inl refl, sym (append-nil old))
 
 -- a cache that is new
 abbrev kept_of : ℕ → List Term → ℕ → Kept

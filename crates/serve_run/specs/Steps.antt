@@ -4,6 +4,7 @@ use Rattle.tmpl.specs.Body.{TemplateFile}
 use Rattle.page_spec.specs.Site.{Site}
 use Rattle.wire.specs.Events.{IsDrawn}
 use Rattle.wire.specs.Told.{WireReport}
+use Rattle.happenings.specs.Happening.{Happening}
 use Rattle.happenings.specs.declared.event.WireEvent.{WireEvent}
 use Rattle.serving_spec.specs.Changes.{Changes, LooksAt, RenewsAt}
 use Rattle.serving_spec.specs.Looks.{Kept}
@@ -11,7 +12,7 @@ use Rattle.serving_spec.specs.RunEnds.{EndsRun}
 use Rattle.serving_spec.specs.declared.HubEnd.{HubEnd}
 use Rattle.serving_spec.specs.declared.Served.{Served}
 use Rattle.serving_spec.specs.declared.Tally.{Tally}
-use Rattle.hub.specs.Course.{Scene, Rules, rules_under, IsCourse}
+use Rattle.hub.specs.Course.{Scene, Rules, rules_under, IsCourse, Happens}
 use Rattle.hub.specs.Turns.{At}
 
 -- a connection that is not open, as the wire reports it
@@ -32,7 +33,9 @@ pub record TalliedInSteps {D : Type 0} (root : Option (List ℕ)) (site : D → 
   -- the run before the first event and after the last one
   pub first : Scene D Kept
   pub last : Scene D Kept
-  pub course : IsCourse (run_rules root site templates texts) requests ended first events last
+  -- all that happened: each event, and the sends and closes that its step made before the next
+  pub trace : List Happening
+  pub course : IsCourse (run_rules root site templates texts) requests ended first events last trace
   -- at first no connection is open, nothing is counted and no page is kept
   pub data_are : first.current ≡ start
   pub none_open : first.greatest ≡ None
@@ -60,3 +63,12 @@ pub record ServesInSteps {D : Type 0} (root : Option (List ℕ)) (site : D → S
   pub ends : EndsRun turns events served.end
   pub tally : TalliedInSteps root site templates texts start requests capacity before after
       served.end events served.tally
+
+-- the same, and nothing else happened: the list of what happened grew by the trace of the steps, and how the run ended
+abbrev pub HappensInSteps : {D : Type 0} → Option (List ℕ) → (D → Site) → (D → TemplateFile)
+    → Changes D → (start : D) → (requests turns capacity : ℕ) → (before after : WireReport)
+    → (served : Served) → (old new : List Happening) → Type 0
+HappensInSteps root site templates texts start requests turns capacity before after served old new =
+    (steps : ServesInSteps root site templates texts start requests turns capacity before after
+    served)
+    × Happens served.end steps.tally.trace old new

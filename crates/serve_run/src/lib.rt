@@ -8,7 +8,7 @@ ghost use Rattle.page_cache.specs.Entries.{AreKept};
 ghost use Rattle.happenings.specs.declared.event.WireEvent.{WireEvent};
 ghost use Rattle.hub.specs.HubState.{line_of};
 ghost use Rattle.serving_spec.specs.Serving.{Serves};
-ghost use Rattle.serve_run.specs.Steps.{ServesInSteps};
+ghost use Rattle.serve_run.specs.Steps.{HappensInSteps};
 
 mod opened;
 mod puts;
@@ -55,10 +55,12 @@ pub fn serve_pages<P: Versions + Drop, W: Wire>(
     ensures serves { Serves root P.site P.templates
         (record { changed = P.changed; accepts = P.accepts; stays = P.stays }) (P.state pages)
         requests turns cache (W.told wire.old) (W.told wire.new) result }
-    // The hub's own steps give more for a run whose events are known.
-    ensures steps { ServesInSteps root P.site P.templates
+    // The hub's own steps give more for a run whose events are known. Nothing happens but the events, and what is sent and
+    // closed for each before the next is asked for.
+    ensures steps { HappensInSteps root P.site P.templates
         (record { changed = P.changed; accepts = P.accepts; stays = P.stays }) (P.state pages)
-        requests turns cache (W.told wire.old) (W.told wire.new) result }
+        requests turns cache (W.told wire.old) (W.told wire.new) result (W.trace wire.old)
+        (W.trace wire.new) }
     ensures listens { (W.told wire.new).listens ≡ (W.told wire.old).listens }
     ensures watches { (W.told wire.new).watches ≡ (W.told wire.old).watches }
     ensures failed { result.end ≡ HubEnd.WireFailed

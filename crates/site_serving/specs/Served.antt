@@ -1,4 +1,6 @@
 -- The site of a query over data that texts may change, served over a wire.
+use Rattle.std.specs.Prelude.{List}
+use Rattle.happenings.specs.Happening.{Happening}
 use Rattle.command_spec.specs.declared.RunLimits.{RunLimits}
 use Rattle.site_spec.specs.Site.{scope_of}
 use Rattle.site_spec.specs.Root.{root_function}
@@ -6,7 +8,7 @@ use Rattle.site_inputs.specs.Sites.{Inputs}
 use Rattle.wire.specs.Told.{WireReport}
 use Rattle.serving_spec.specs.declared.Served.{Served}
 use Rattle.serving_spec.specs.Serving.{Serves}
-use Rattle.serve_run.specs.Steps.{ServesInSteps}
+use Rattle.serve_run.specs.Steps.{HappensInSteps}
 use Rattle.site_pages.specs.Rules.{TextRules}
 use Rattle.site_pages.specs.Texts.{Current, current_site, current_templates, data_texts}
 
@@ -29,12 +31,14 @@ abbrev pub ServesSite : Inputs → RunLimits → WireReport → WireReport → S
 ServesSite s limits before after served =
     (rules : TextRules) × ServesSiteBy rules s limits before after served
 
--- the same as both, as the hub takes it step by step
-abbrev pub StepsBy : TextRules → Inputs → RunLimits → WireReport → WireReport → Served → Type 0
+-- the same as both, as the hub takes it step by step, and nothing else happened between these two lists
+abbrev pub StepsBy : TextRules → Inputs → RunLimits → WireReport → WireReport → Served
+    → (old new : List Happening) → Type 0
 StepsBy rules s limits =
-    ServesInSteps (root_function s.query) current_site current_templates (data_texts rules)
+    HappensInSteps (root_function s.query) current_site current_templates (data_texts rules)
     (first_data s) limits.requests limits.turns limits.cache
 
-abbrev pub ServesSiteInSteps : Inputs → RunLimits → WireReport → WireReport → Served → Type 0
-ServesSiteInSteps s limits before after served =
-    (rules : TextRules) × StepsBy rules s limits before after served
+abbrev pub ServesSiteInSteps : Inputs → RunLimits → WireReport → WireReport → Served
+    → (old new : List Happening) → Type 0
+ServesSiteInSteps s limits before after served old new =
+    (rules : TextRules) × StepsBy rules s limits before after served old new

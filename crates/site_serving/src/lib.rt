@@ -43,8 +43,8 @@ fn serve_inputs<W: Wire>(
     requires { AreLimits limits.now }
     ensures serves { IfOk result (ServesSiteBy the_rules (inputs_of inputs) limits.now
         (W.told wire.old) (W.told wire.new)) }
-    ensures steps { IfOk result (StepsBy the_rules (inputs_of inputs) limits.now
-        (W.told wire.old) (W.told wire.new)) }
+    ensures steps { IfOk result (λ served. StepsBy the_rules (inputs_of inputs) limits.now
+        (W.told wire.old) (W.told wire.new) served (W.trace wire.old) (W.trace wire.new)) }
     ensures listens { (W.told wire.new).listens ≡ (W.told wire.old).listens }
     ensures watches { (W.told wire.new).watches ≡ (W.told wire.old).watches }
     ensures failed { IfOk result (λ served. served.end ≡ HubEnd.WireFailed
@@ -89,7 +89,7 @@ pub fn serve_site<W: Wire>(
     ensures serves { ServesSite (inputs_of inputs) limits.now
         (W.told wire.old) (W.told wire.new) result }
     ensures steps { ServesSiteInSteps (inputs_of inputs) limits.now
-        (W.told wire.old) (W.told wire.new) result }
+        (W.told wire.old) (W.told wire.new) result (W.trace wire.old) (W.trace wire.new) }
     ensures listens { (W.told wire.new).listens ≡ (W.told wire.old).listens }
     ensures watches { (W.told wire.new).watches ≡ (W.told wire.old).watches }
     ensures failed { result.end ≡ HubEnd.WireFailed

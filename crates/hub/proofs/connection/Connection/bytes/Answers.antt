@@ -1,6 +1,7 @@
 use Rattle.std.proofs.Common.{◌≡◌, ◌<◌, ◌≤◌, ◌==◌, ◌-◌, ◌+◌, ◌++◌, ℕ, List, length, refl, sym, subst, ◌∙◌, arith, Some, None, take, drop, [], append-nil}
 use Rattle.std.proofs.lemmas.List.{take_rest, length-take-le, take_all}
 use Rattle.page_spec.specs.Address.{TermOf}
+use Rattle.wire.proofs.Noting.{noted_none, noted_then}
 use Rattle.hub.specs.Pieces.{StaysOpen}
 use Rattle.serving_spec.specs.Shown.{shown_in}
 use Rattle.hub.proofs.MadeLemmas.{made_more, made_so_far, looked_on}
@@ -28,6 +29,7 @@ loop-from-init g c = (
   λ other apart. refl,
   (refl, refl, refl, refl, refl),
   c.requires.own,
+  noted_none _ _,
 )
 
 pub returns-in_default-clause-served : goal.returns-in_default-clause-served
@@ -88,6 +90,7 @@ loop-from-preserved g c =
       λ other apart. c.in-Open.ensures.others_fine other apart ∙ c.loop-from.invariant.5 other apart,
       (c.in-Open.ensures.stays.0 ∙ c.loop-from.invariant.6.0, c.in-Open.ensures.stays.1 ∙ c.loop-from.invariant.6.1, c.in-Open.ensures.stays.2 ∙ c.loop-from.invariant.6.2, c.in-Open.ensures.stays.3 ∙ c.loop-from.invariant.6.3, c.in-Open.ensures.stays.4 ∙ c.loop-from.invariant.6.4),
       c.in-Open.ensures.own,
+      noted_then _ _ _ _ _ _ c.loop-from.invariant.8 c.in-Open.ensures.noted,
     )
 
 pub invariant_of-self-in-Closed : goal.invariant_of-self-in-Closed
@@ -188,6 +191,21 @@ returns-in-Lost-clause-served g c =
       looked_on g.P.Versions.looks (g.P.Versions.state c.loop-from.pages) (g.P.Versions.state c.args.pages.now) inv.3 sent.0.terms
           (g.P.Versions.cache c.args.pages.now) (g.P.Versions.cache c.loop-from.pages) (g.P.Versions.cache c.answer.new.pages) c.loop-from.invariant.1 inv.6 sent.3,
     )
+
+pub returns-in_default-clause-noted : goal.returns-in_default-clause-noted
+returns-in_default-clause-noted g c = c.loop-from.invariant.8
+
+pub returns-in-Closed-clause-noted : goal.returns-in-Closed-clause-noted
+returns-in-Closed-clause-noted g c = noted_then _ _ _ _ _ _ c.loop-from.invariant.8 c.in-Closed.ensures.noted
+
+pub returns-in-Short-clause-noted : goal.returns-in-Short-clause-noted
+returns-in-Short-clause-noted g c = noted_then _ _ _ _ _ _ c.loop-from.invariant.8 c.in-Short.ensures.noted
+
+pub returns-in-Lost-clause-noted : goal.returns-in-Lost-clause-noted
+returns-in-Lost-clause-noted g c = noted_then _ _ _ _ _ _ c.loop-from.invariant.8 c.in-Lost.ensures.noted
+
+pub returns-clause-noted : goal.returns-clause-noted
+returns-clause-noted g c = c.loop-from.invariant.8
 
 -- the whole piece was taken
 taken_all : (from : ℕ) (piece : List ℕ) → from ≤ length piece → (from < length piece → ⊥) → take from piece ≡ piece

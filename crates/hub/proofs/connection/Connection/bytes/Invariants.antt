@@ -4,6 +4,7 @@ use Rattle.serving_spec.specs.Shown.{shown_in}
 use Rattle.sd_value.specs.declared.Term.{Term}
 use Rattle.page_spec.specs.Address.{TermOf}
 use Rattle.wire.specs.Accounts.{gain, up_by}
+use Rattle.wire.specs.Noted.{Noted}
 use Rattle.serving_spec.specs.Made.{AllLooked}
 use Rattle.hub.specs.Makes.{LooksUpAll}
 use Rattle.hub.proofs.connection.Connection.bytes.Given as goal
@@ -26,6 +27,7 @@ invariant-loop-from g l =
     × ((g.W.Wire.told l.wire).listens ≡ (g.W.Wire.told l.fn.wire).listens) × ((g.W.Wire.told l.wire).next_faults ≡ (g.W.Wire.told l.fn.wire).next_faults)
     × ((g.W.Wire.told l.wire).watches ≡ (g.W.Wire.told l.fn.wire).watches))
     × g.P.Versions.Own l.pages
+    × Noted (g.W.Wire.trace l.fn.wire) (g.W.Wire.trace l.wire) (g.W.Wire.told l.fn.wire).account (g.W.Wire.told l.wire).account
 
 abbrev pub decreases-loop-from : goal.decreases-loop-from
 decreases-loop-from g l = length l.piece - l.from
