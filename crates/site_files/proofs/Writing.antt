@@ -1,5 +1,5 @@
 -- Writes, one after another.
-use Rattle.std.proofs.Common.{◌≡◌, ◌⊎◌, ◌∙◌, ◌+◌, ◌<◌, ◌≤◌, ℕ, List, [], ◌∷◌, ◌++◌, length, map, get_or, take, drop, inl, inr, refl, sym, ap, subst, append_assoc}
+use Rattle.std.proofs.Common.{◌≡◌, ◌∙◌, ◌+◌, ◌<◌, ◌≤◌, ℕ, List, [], ◌∷◌, ◌++◌, length, get_or, take, drop, inl, inr, refl, sym, ap, subst, append_assoc}
 use Rattle.std.specs.Prelude.{Contains, Option, Some, None, Result, Ok, Err, OnOk, ⊤}
 use Rattle.std.specs.List.{AllZip}
 use Rattle.std.proofs.lemmas.List.{take_more, take_all, drop_more, take-append-drop, append-nil}
@@ -13,16 +13,9 @@ use Rattle.page_spec.specs.Segments.{HasLongSegment}
 use Rattle.files_spec.specs.declared.stop.Stop.{Stop}
 use Rattle.files_spec.specs.declared.stop.Stop.TheVariants.{Faulty, Unwritten, NoMemory}
 use Rattle.files_spec.specs.Paths.{file_name, page_path, index_path}
-use Rattle.files_spec.specs.Files.{IsPageText, root_term}
-use Rattle.files_spec.specs.Writes.{IsPageWritten, failed_write, WritesSome, PagesWrite, IndexWrites, PagesThenIndex, SiteWrites, Adds}
-use Rattle.site_files.specs.Paths.{IsNameless}
+use Rattle.files_spec.specs.Files.{root_term}
+use Rattle.files_spec.specs.Writes.{IsPageWritten, failed_write, PagesWrite, IndexWrites, PagesThenIndex, SiteWrites, Adds}
 use Rattle.site_files.specs.Traced.{PutAdds, PageAdds, IndexAdds}
-
--- a path that isn't there: nothing was written
-pub nameless_adds : (t : Term) (path text : List ℕ) (before : List Happening) (stop : Stop) → IsNameless t stop → PutAdds path text before before (Err stop)
-nameless_adds t path text before (Faulty term kind) h = refl
-nameless_adds t path text before Unwritten h = absurd h
-nameless_adds t path text before NoMemory h = refl
 
 module _ (s : Site) (f : TemplateFile) (folder : List ℕ) where
   abbrev IsDone : Term → Happening → Type 0

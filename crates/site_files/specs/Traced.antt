@@ -8,7 +8,7 @@ use Rattle.page_spec.specs.Page.{IsOutcome}
 use Rattle.page_spec.specs.declared.Outcome.TheVariants as outcome
 use Rattle.files_spec.specs.declared.stop.Stop.{Stop}
 use Rattle.files_spec.specs.declared.stop.Stop.TheVariants.{Unwritten}
-use Rattle.files_spec.specs.Paths.{page_path, index_path}
+use Rattle.files_spec.specs.Paths.{index_path}
 use Rattle.files_spec.specs.Writes.{IsPageWritten, failed_write}
 
 -- the file at the path was given this text, or its write failed, or nothing was done

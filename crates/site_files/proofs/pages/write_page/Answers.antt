@@ -1,6 +1,6 @@
 use Rattle.std.proofs.Common.{subst}
 use Rattle.page_spec.specs.Page.{IsOutcome}
-use Rattle.site_files.proofs.Writing.{put_adds, faulty_adds}
+use Rattle.site_files.proofs.Writing.{put_adds}
 use Rattle.site_files.proofs.InTurn.{page_told}
 use Rattle.site_files.proofs.pages.write_page.Goals as goal
 
