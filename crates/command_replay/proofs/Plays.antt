@@ -23,7 +23,7 @@ of_script command path h = Contains-append_right (input_paths (data_paths comman
 
 new_account : (entry : Option Sent) → IfSome entry IsNew → IfSome (account_of entry) (λ account. account ≡ nothing_sent)
 new_account None new = tt
-new_account (Some e) new = ap (λ (s : Sent). record { sends = s.sends; taken = s.taken; closes = s.closes }) new
+new_account (Some e) new = ap (λ (s : Sent). s.account) new
 
 new_faults : (entry : Option Sent) → IfSome entry IsNew → faults_of entry ≡ 0
 new_faults None new = refl

@@ -25,7 +25,7 @@ use Rattle.command_replay.specs.Scripts.{Scripted, ScriptedEnd}
 
 -- nothing was sent to a connection yet
 abbrev pub nothing_sent : Account
-nothing_sent = record { sends = 0; taken = []; closes = 0 }
+nothing_sent = []
 
 -- the account of a connection that the event opens is reported
 abbrev pub ReportsOpened : (ℕ → Option Account) → WireEvent → Type 0

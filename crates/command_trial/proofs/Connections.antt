@@ -29,7 +29,7 @@ use Rattle.command_trial.proofs.Heads.{head_of, asks, printed, cuts}
 
 -- a connection that was sent nothing, before it is opened and after it
 abbrev unsent : Account
-unsent = record { sends = 0; taken = []; closes = 0 }
+unsent = []
 
 abbrev pub unopened : At
 unopened = record { line = None; account = Some unsent; faults = 0 }
@@ -127,7 +127,7 @@ module _ (page : OutcomeAt) (Names : List ℕ → Term → Type 0) (target : Lis
       record {
         outcome = told.0;
         is = told.1;
-        reply = ap (λ a. bytes_taken (close_to a)) sent ∙ ap (λ others. bytes_taken (close_to (gain (Some unsent) (r ∷ others)))) end.1 ∙ told.2;
+        reply = ap (λ a. bytes_taken (close_to a)) sent ∙ ap (λ others. bytes_taken (close_to (gain (Some unsent) (r ∷ others)))) end.1 ∙ append-nil r ∙ told.2;
         named = looks_are h made makes.looked makes.extra same (subst (λ ks. LooksUpAll Names (h ∷ ks) makes.looked) one makes.look_ups) makes.may makes.terms;
       }
 

@@ -95,7 +95,7 @@ entries w (target ∷ targets) number has other least most =
 -- an entry of a new wire
 new_at : (entry : Option Sent) → IsSome entry → IfSome entry IsNew → ◌≡◌ {A = At} (record { line = None; account = account_of entry; faults = faults_of entry }) unopened
 new_at None some new = absurd (true≢false (sym some))
-new_at (Some e) some new = ap (λ (s : Sent). record { line = None; account = Some (record { sends = s.sends; taken = s.taken; closes = s.closes }); faults = s.faults }) new
+new_at (Some e) some new = ap (λ (s : Sent). record { line = None; account = Some s.account; faults = s.faults }) new
 
 module _ {D : Type 0} (root : Option (List ℕ)) (site : D → Site) (templates : D → TemplateFile) (texts : Changes D) (still : D) (turns : ℕ) (targets : List (List ℕ)) (w after : WireInMemory) (served : Served) (counts_is : Counts) where
   abbrev Tally_of : List WireEvent → Type 0

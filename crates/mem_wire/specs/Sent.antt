@@ -1,9 +1,10 @@
 -- What one connection was sent.
-use Rattle.std.specs.Prelude.{ℕ, List}
+use Rattle.std.specs.Prelude.{ℕ}
+use Rattle.wire.specs.Accounts.{Account}
 
--- how many sends there were, the bytes taken, how often it was closed, and how many sends failed
+-- how many sends there were, what was done to it, how often it was closed, and how many sends failed
 pub record Sent : Type 0 where
   pub sends : ℕ
-  pub taken : List ℕ
+  pub account : Account
   pub closes : ℕ
   pub faults : ℕ

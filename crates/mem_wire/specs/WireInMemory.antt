@@ -6,7 +6,7 @@ use Rattle.std.specs.List.{list_any, fold}
 use Rattle.std.specs.Map.{lookup}
 use Rattle.std.specs.Ordering.{nat_cmp}
 use Rattle.happenings.specs.Happening.{Happening}
-use Rattle.wire.specs.Accounts.{Account, up}
+use Rattle.wire.specs.Accounts.{Account, taken_in, up}
 use Rattle.wire.specs.Events.{add_event}
 use Rattle.wire.specs.Told.{WireReport}
 use Rattle.happenings.specs.declared.event.WireEvent.{WireEvent}
@@ -60,7 +60,7 @@ cut_of (s ∷ sends) connection number =
 -- the account of a connection
 abbrev pub account_of : Option Sent → Option Account
 account_of None = None
-account_of (Some e) = Some (record { sends = e.sends; taken = e.taken; closes = e.closes })
+account_of (Some e) = Some e.account
 
 -- how many sends to a connection failed
 abbrev pub faults_of : Option Sent → ℕ
@@ -73,12 +73,12 @@ given_of events count = fold add_event (Some []) (take count (events ++ Done ∷
 
 -- nothing was sent yet
 abbrev pub IsNew : Sent → Type 0
-IsNew e = e ≡ record { sends = 0; taken = []; closes = 0; faults = 0 }
+IsNew e = e ≡ record { sends = 0; account = []; closes = 0; faults = 0 }
 
 -- the bytes that were taken
 abbrev pub taken_of : Option Sent → List ℕ
 taken_of None = []
-taken_of (Some e) = e.taken
+taken_of (Some e) = taken_in e.account
 
 -- close was called
 abbrev pub is_closed : Option Sent → Bool

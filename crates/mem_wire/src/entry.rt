@@ -1,9 +1,10 @@
 // What one connection was sent.
-ghost use Rattle.std.specs.Prelude.{◌≡◌, ◌++◌, ℕ, Some, None, take, nat_lt};
-ghost use Rattle.wire.specs.Accounts.{up, send_to, close_to};
+ghost use Rattle.std.specs.Prelude.{◌≡◌, ◌++◌, ◌∷◌, [], ℕ, Some, None, take, nat_lt};
+ghost use Rattle.wire.specs.Accounts.{up, taken_in, Took, Shut};
 ghost use Rattle.mem_wire.specs.Sent.{Sent};
 ghost use Rattle.mem_wire.specs.WireInMemory.{IsNew};
 
+use happenings::Log;
 use std::alloc::Global;
 use std::marker::Model;
 
@@ -14,19 +15,25 @@ pub(crate) struct Entry {
     taken: Vec<u8>,
     closes: u64,
     faults: u64,
+    /// What was done to it, as if its number were 0.
+    history: Log,
 }
 
 impl Model for Entry {
+    ghost use Rattle.std.specs.Prelude.{◌≡◌};
+    ghost use Rattle.wire.specs.Accounts.{account_in, taken_in};
     ghost use Rattle.mem_wire.specs.Sent.{Sent};
 
     ghost Value = { Sent };
 
     ghost view = { λ e. record {
       sends = e.sends;
-      taken = e.taken.items;
+      account = account_in e.history.events 0;
       closes = e.closes;
       faults = e.faults;
     } };
+
+    ghost invariant = { λ e. e.taken.items ≡ taken_in (account_in e.history.events 0) };
 }
 
 /// How a send went.
@@ -49,6 +56,7 @@ impl Entry {
             taken: Vec::new(alloc),
             closes: 0,
             faults: 0,
+            history: Log::new(),
         }
     }
 
@@ -64,17 +72,18 @@ impl Entry {
         ensures whole { result ≡ Went.Whole → (cut ≡ None)
             × (self.new ≡ record self.old {
               sends = up self.old.sends;
-              taken = self.old.taken ++ bytes.now;
+              account = self.old.account ++ Took bytes.now ∷ [];
             }) }
         ensures cut_short { result ≡ Went.Cut → (some : ℕ) × (cut ≡ Some some)
             × (self.new ≡ record self.old {
               sends = up self.old.sends;
-              taken = self.old.taken ++ take some bytes.now;
+              account = self.old.account ++ Took (take some bytes.now) ∷ [];
               faults = up self.old.faults;
             }) }
         ensures short { result ≡ Went.Short
             → self.new ≡ record self.old {
               sends = up self.old.sends;
+              account = self.old.account ++ Took [] ∷ [];
               faults = up self.old.faults;
             } }
     {
@@ -85,8 +94,10 @@ impl Entry {
         };
         if self.taken.extend_from_slice(taken).is_err() {
             self.faults = self.faults.saturating_add(1);
+            self.history.sent(0, &[]);
             return Went::Short;
         }
+        self.history.sent(0, taken);
         if cut.is_some() {
             self.faults = self.faults.saturating_add(1);
             return Went::Cut;
@@ -95,14 +106,18 @@ impl Entry {
     }
 
     pub(crate) fn close(&mut self)
-        ensures { self.new ≡ record self.old { closes = up self.old.closes } }
+        ensures { self.new ≡ record self.old {
+          account = self.old.account ++ Shut ∷ [];
+          closes = up self.old.closes;
+        } }
     {
         self.closes = self.closes.saturating_add(1);
+        self.history.closed(0);
     }
 
     /// The bytes that were taken.
     pub(crate) fn taken(&self) -> &[u8]
-        ensures { result.now ≡ self.now.taken }
+        ensures { result.now ≡ taken_in self.now.account }
     {
         self.taken.as_slice()
     }

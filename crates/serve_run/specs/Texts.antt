@@ -1,6 +1,6 @@
 -- What a run prints.
 use Rattle.std.specs.Prelude.{ℕ, Bool, List, [], ◌++◌, length, flat_map, codes, decimal, Option, Some, None, if◌then◌else◌}
-use Rattle.wire.specs.Accounts.{Account}
+use Rattle.wire.specs.Accounts.{Account, taken_in}
 use Rattle.serving_spec.specs.declared.Tally.{Tally}
 
 -- a line that counts something
@@ -23,7 +23,7 @@ tally_text with_changes tally =
 -- the bytes that a connection took, where this is reported
 abbrev pub bytes_taken : Option Account → List ℕ
 bytes_taken None = []
-bytes_taken (Some account) = account.taken
+bytes_taken (Some account) = taken_in account
 
 -- the line of a connection: its number, and how many bytes it took
 abbrev pub connection_line : ℕ → ℕ → List ℕ

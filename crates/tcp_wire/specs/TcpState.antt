@@ -4,7 +4,7 @@ use Rattle.std.specs.Prelude.{None, IsSome, option_map, if◌then◌else◌}
 use Rattle.std.specs.declared.net.socket_addr.SocketAddr.{SocketAddr}
 use Rattle.std.specs.declared.net.socket_addr.SocketAddr.TheVariants.{V4}
 use Rattle.happenings.specs.Happening.{Happening}
-use Rattle.wire.specs.Accounts.{up}
+use Rattle.wire.specs.Accounts.{up, account_in}
 use Rattle.wire.specs.Told.{WireReport}
 use Rattle.happenings.specs.declared.event.WireEvent.{WireEvent}
 use Rattle.happenings.specs.declared.event.WireEvent.TheVariants.{Opened, Bytes, Ended, Lost, Change, Done}
@@ -43,10 +43,11 @@ pub record TcpState : Type 0 where
   -- the file that is watched, if one is
   pub watch : Option Watch
 
--- what the wire holds, and what was done to it since the log was lent to it
+-- what the wire holds, what was done to it since the log was lent to it, and all that was done to its connections
 pub record TcpNoted : Type 0 where
   pub state : TcpState
   pub trace : List Happening
+  pub history : List Happening
 
 -- the address 127.0.0.1 with this port
 abbrev pub local_address : ℕ → SocketAddr
@@ -68,7 +69,7 @@ IsOpen w hand = (w.hand ≡ Some hand) × (hand.progress.ended ≡ false)
 abbrev pub IsFree : TcpState → Type 0
 IsFree w = (hand : Hand) → w.hand ≡ Some hand → hand.progress.ended ≡ true
 
--- what the wire reports: only its failed calls, and of the sends that any may have failed
+-- what the sockets report: only their failed calls, and of the sends that any may have failed
 abbrev pub told_of : TcpState → WireReport
 told_of w = record {
   account = λ number. None;
@@ -79,6 +80,11 @@ told_of w = record {
   watches = None;
   next_faults = w.next_faults;
 }
+
+-- what the wire reports: its connections' accounts too
+abbrev pub noted_told : TcpNoted → WireReport
+noted_told w =
+    record (told_of w.state) { account = λ number. Some (account_in w.history number) }
 
 -- the connection in hand is let go, where it has this number
 abbrev pub let_go : ℕ → TcpState → TcpState

@@ -11,7 +11,7 @@ ghost use Rattle.wire.specs.Told.{EventsStay, OtherAccountsStay, OtherFaultsStay
 ghost use Rattle.std.specs.Prelude.{◌++◌, ◌∷◌, []};
 ghost use Rattle.tcp_wire.specs.Waits.{first_wait};
 ghost use Rattle.tcp_wire.specs.TcpState.{IsPieceOf, GivesChange, IsNextIn, IsSent, MissesNext, HasRead, kept};
-ghost use Rattle.tcp_wire.specs.TcpState.{let_go, local_address, parting_of, told_of, without_change};
+ghost use Rattle.tcp_wire.specs.TcpState.{let_go, local_address, parting_of, noted_told, told_of, without_change};
 ghost use Rattle.tcp_wire.specs.Watching.{passed};
 
 mod accepting;
@@ -483,6 +483,8 @@ impl<R: Net + Clock, F: Files> Sockets<'_, R, F> {
 pub struct TcpWire<'r, R: Net + Clock, F> {
     sockets: Sockets<'r, R, F>,
     log: Log,
+    /// What was done to its connections from the start.
+    history: Log,
 }
 
 impl<'r, R: Net + Clock, F> Model for TcpWire<'r, R, F> {
@@ -490,17 +492,22 @@ impl<'r, R: Net + Clock, F> Model for TcpWire<'r, R, F> {
 
     ghost Value = { TcpNoted };
 
-    ghost view = { λ w. record { state = w.sockets; trace = w.log.events } };
+    ghost view = { λ w. record {
+      state = w.sockets;
+      trace = w.log.events;
+      history = w.history.events;
+    } };
 }
 
 impl<'r, R: Net + Clock, F: Files> TcpWire<'r, R, F> {
     /// A wire that does not listen yet: until then it has no connection to give. A file is watched in `files`.
     pub fn new(alloc: Global, system: &'r R, files: F, waits: Waits) -> Self
-        ensures { result.trace ≡ [] }
+        ensures { (result.trace ≡ []) × (result.history ≡ []) }
     {
         TcpWire {
             sockets: Sockets::new(alloc, system, files, waits),
             log: Log::new(),
+            history: Log::new(),
         }
     }
 
@@ -515,7 +522,7 @@ impl<'r, R: Net + Clock, F: Files> TcpWire<'r, R, F> {
 impl<R: Net + Clock, F: Files> Wire for TcpWire<'_, R, F> {
     type Log = Log;
 
-    ghost told = { λ w. told_of w.state };
+    ghost told = { noted_told };
 
     ghost trace = { λ w. w.trace };
 
@@ -554,10 +561,12 @@ impl<R: Net + Clock, F: Files> Wire for TcpWire<'_, R, F> {
         match self.sockets.send(connection, bytes) {
             Ok(()) => {
                 self.log.sent(connection, bytes);
+                self.history.sent(connection, bytes);
                 Ok(())
             }
             Err(CutOff { taken }) => {
                 self.log.send_failed(connection, bytes, taken);
+                self.history.send_failed(connection, bytes, taken);
                 Err(Failed)
             }
         }
@@ -566,5 +575,6 @@ impl<R: Net + Clock, F: Files> Wire for TcpWire<'_, R, F> {
     fn close(&mut self, connection: u64) {
         self.sockets.close(connection);
         self.log.closed(connection);
+        self.history.closed(connection);
     }
 }

@@ -1,3 +1,4 @@
 pub mod Accounts
 pub mod Events
+pub mod Noted
 pub mod Told

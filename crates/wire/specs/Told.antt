@@ -7,7 +7,7 @@ use Rattle.happenings.specs.declared.event.WireEvent.{WireEvent}
 -- What a wire reports at one moment. An account, the events and the calls of listen are reported or not, each for
 -- itself; the counts of failed calls always are.
 pub record WireReport : Type 0 where
-  -- what each connection was sent and took, and whether it was closed
+  -- what was done to each connection
   pub account : ℕ → Option Account
   -- how often the sends to each connection failed
   pub faults : ℕ → ℕ

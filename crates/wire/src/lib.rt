@@ -1,12 +1,13 @@
 //! Where events come from and replies go to: the trait `Wire`.
 #![tactic(auto)]
 
-ghost use Rattle.std.specs.Prelude.{◌≡◌, ◌+◌, ℕ, List, [], ◌∷◌, ◌++◌, take, length, Option, Some, IfOk, OnOk, OnErr, IsErrOf, flat_map};
+ghost use Rattle.std.specs.Prelude.{◌≡◌, ◌+◌, ℕ, List, [], ◌∷◌, ◌++◌, take, length, Option, Some, IfOk, OnOk, OnErr, IsErrOf, map};
 ghost use Rattle.std.specs.Prelude.{MatchResult};
 ghost use Rattle.happenings.specs.Happening.{Happening, Watched, WatchFailed, Listened, ListenFailed, Given};
 ghost use Rattle.happenings.specs.Happening.{NextFailed, Sent, SendFailed, Closed};
 ghost use Rattle.edge_io.specs.Counts.{Rose};
-ghost use Rattle.wire.specs.Accounts.{Account, send_to, gain, close_to, up, up_by};
+ghost use Rattle.wire.specs.Accounts.{Account, Took, send_to, gain, close_to};
+ghost use Rattle.wire.specs.Noted.{Noted};
 ghost use Rattle.wire.specs.Events.{add_event, IsNextOf, add_listen, IsWatched};
 ghost use Rattle.wire.specs.Told.{WireReport, EventsStay, OtherAccountsStay, OtherFaultsStay};
 ghost use Rattle.happenings.specs.declared.event.WireEvent.{WireEvent};
@@ -126,12 +127,15 @@ pub trait Wire {
         ensures stays { EventsStay (told self.old) (told self.new) };
 }
 
-/// What replies add to the account of a connection: one send each, and their bytes in order.
+/// What replies add to the account of a connection: one send each, in their order.
 pub fn one_delivery()
     ensures { (a : Account) (replies : List (List ℕ))
-        → gain (Some a) replies ≡ Some (record {
-          sends = up_by (length replies) a.sends;
-          taken = a.taken ++ flat_map (λ r. r) replies;
-          closes = a.closes;
-        }) }
+        → gain (Some a) replies ≡ Some (a ++ map Took replies) }
+{}
+
+/// What is noted of one part and of the next is noted of both.
+pub fn parts_are_noted()
+    ensures { (before between after : List Happening) (old now new : ℕ → Option Account)
+        → Noted before between old now → Noted between after now new
+        → Noted before after old new }
 {}

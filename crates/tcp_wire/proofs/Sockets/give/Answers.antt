@@ -9,6 +9,6 @@ pub returns-in_default-clause-err : goal.returns-in_default-clause-err
 returns-in_default-clause-err g c =
     rw (← c.self.view_is, c.take.ensures.after) (let_go_own _ _ c.if-connection-self.false)
 
-pub returns-in-Err-clause-err : goal.returns-then-is_err-clause-err
+pub returns-in-Err-clause-err : goal.returns-in-Err-clause-err
 returns-in-Err-clause-err g c =
     rw (← c.self.view_is, c.take.ensures.after) (let_go_own _ _ c.if-connection-self.false)
