@@ -2,3 +2,4 @@ pub mod Among
 pub mod Causes
 pub mod InTurn
 pub mod Puts
+pub mod Writing

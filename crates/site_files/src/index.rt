@@ -1,11 +1,13 @@
 // The root page as `index.html`.
-ghost use Rattle.std.specs.Prelude.{◌≡◌, ◌↔◌, ℕ, List, Contains, IfOk, IsTrue};
+ghost use Rattle.std.specs.Prelude.{◌≡◌, ◌↔◌, ℕ, List, Contains, IfOk, IsTrue, Some};
 ghost use Rattle.std.specs.Option.{ForSome, IsSomeAnd};
 ghost use Rattle.page_spec.specs.Page.{IsOutcome};
 ghost use Rattle.page_spec.specs.declared.Outcome.TheVariants as outcome;
 ghost use Rattle.files_spec.specs.Paths.{index_path as index_file};
 ghost use Rattle.files_spec.specs.Files.{root_term, IndexPut, IndexEnds};
 ghost use Rattle.files_spec.specs.Causes.{WritesHaveCause};
+ghost use Rattle.files_spec.specs.Writes.{Adds, IndexWrites};
+ghost use Rattle.site_files.specs.Traced.{IndexAdds};
 
 use crate::paths::index_path;
 use edge_io::Files;
@@ -49,6 +51,8 @@ fn put_index<F: Files, P: Pages>(
         (P.templates (P.fixed pages.old)) page.now (outcome.Page text) }
     ensures own { P.Own pages.new }
     ensures fixed { P.fixed pages.new ≡ P.fixed pages.old }
+    ensures traced { IndexAdds (P.site (P.fixed pages.old)) (P.templates (P.fixed pages.old))
+        folder.now page.now (F.trace files.old) (F.trace files.new) result }
     ensures ends { ForSome (F.contents files.old) (λ old. IsSomeAnd (F.contents files.new) (λ new.
         IndexPut (P.site (P.fixed pages.old)) (P.templates (P.fixed pages.old))
         folder.now page.now old new result)) }
@@ -82,6 +86,9 @@ pub fn write_index<F: Files, P: Pages>(
         (P.templates (P.fixed pages.old)) (root_term root.now) (outcome.Page text) }
     ensures own { P.Own pages.new }
     ensures fixed { P.fixed pages.new ≡ P.fixed pages.old }
+    ensures traced { Adds (F.trace files.old) (F.trace files.new) (λ part.
+        IndexWrites (P.site (P.fixed pages.old)) (P.templates (P.fixed pages.old))
+        folder.now terms.now (Some root.now) part result) }
     ensures ends { ForSome (F.contents files.old) (λ old. IsSomeAnd (F.contents files.new) (λ new.
         IndexEnds (P.site (P.fixed pages.old)) (P.templates (P.fixed pages.old))
         folder.now terms.now root.now old new result)) }

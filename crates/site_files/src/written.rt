@@ -6,6 +6,7 @@ ghost use Rattle.page_spec.specs.Page.{IsPresent};
 ghost use Rattle.address.specs.Targets.{root_name};
 ghost use Rattle.files_spec.specs.Files.{SiteEnds};
 ghost use Rattle.files_spec.specs.Causes.{WritesHaveCause, IsSitePath};
+ghost use Rattle.files_spec.specs.Writes.{Adds, SiteWrites};
 
 use crate::index::write_index;
 use crate::pages::write_pages;
@@ -30,6 +31,9 @@ pub fn write_site<F: Files, P: Pages>(
         → IsPresent (P.site (P.fixed pages.old)) (P.templates (P.fixed pages.old)) t }
     ensures own { P.Own pages.new }
     ensures fixed { P.fixed pages.new ≡ P.fixed pages.old }
+    ensures traced { Adds (F.trace files.old) (F.trace files.new) (λ part.
+        SiteWrites (P.site (P.fixed pages.old)) (P.templates (P.fixed pages.old))
+        folder.now terms.now (root_name root.entry) part result) }
     ensures ends { ForSome (F.contents files.old) (λ old. IsSomeAnd (F.contents files.new) (λ new.
         SiteEnds (P.site (P.fixed pages.old)) (P.templates (P.fixed pages.old))
         folder.now terms.now (root_name root.entry) old new result)) }

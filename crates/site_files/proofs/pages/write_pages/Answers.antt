@@ -1,12 +1,14 @@
 use Rattle.std.proofs.Common.{ℕ, List, ◌∙◌, sym, subst}
 use Rattle.std.proofs.lemmas.List.{take_all}
-use Rattle.std.specs.Prelude.{Contains, Ok}
+use Rattle.std.specs.Prelude.{Contains, Ok, Err}
 use Rattle.std.specs.Option.{IsSomeAnd}
 use Rattle.sd_value.specs.declared.Term.{Term}
 use Rattle.page_spec.specs.Page.{IsPresent}
 use Rattle.files_spec.specs.Files.{IsPageText, StopsAt, PageEnds}
 use Rattle.site_files.proofs.InTurn.{more_told, all_told, stops_told, texts_more}
 use Rattle.site_files.proofs.Causes.{one_of, still_rose, fell_not}
+use Rattle.site_files.proofs.Writing.{more_written, all_written, stop_written}
+use Rattle.site_files.specs.Traced.{PageAdds}
 use Rattle.site_files.proofs.pages.write_pages.Goals as goal
 
 pub write_page-requires-clause-own : goal.write_page-requires-clause-own
@@ -29,6 +31,9 @@ loop-term-preserved g c = record {
   written = λ old told.
       more_told (g.P.Pages.site (g.P.Pages.fixed c.args.pages.now)) (g.P.Pages.templates (g.P.Pages.fixed c.args.pages.now)) c.args.folder.now (g.F.Files.contents c.loop-term.files) (g.F.Files.contents c.write_page.new.files) c.args.terms.now c.loop-term.term-index c.term-item.result old c.loop-term-test.true c.term-item.is (c.loop-term.invariant.written old told)
       (λ now is. subst (λ fx. IsSomeAnd (g.F.Files.contents c.write_page.new.files) (λ new. PageEnds (g.P.Pages.site fx) (g.P.Pages.templates fx) c.args.folder.now c.term-item.result now new (Ok tt))) c.loop-term.invariant.fixed (c.in-Ok.ensures.ends now is));
+  added =
+      more_written (g.P.Pages.site (g.P.Pages.fixed c.args.pages.now)) (g.P.Pages.templates (g.P.Pages.fixed c.args.pages.now)) c.args.folder.now c.args.terms.now c.loop-term.term-index c.term-item.result _ _ _ c.loop-term-test.true c.term-item.is c.loop-term.invariant.added
+      (subst (λ fx. PageAdds (g.P.Pages.site fx) (g.P.Pages.templates fx) c.args.folder.now c.term-item.result (g.F.Files.trace c.loop-term.files) (g.F.Files.trace c.write_page.new.files) (Ok tt)) c.loop-term.invariant.fixed c.in-Ok.ensures.traced);
 }
 
 pub returns-in-Err-clause-fixed : goal.returns-in-Err-clause-fixed
@@ -55,3 +60,11 @@ returns-clause-texts g c = λ t h. c.loop-term.invariant.texts t (subst (λ (ts 
 
 pub returns-clause-ends : goal.returns-clause-ends
 returns-clause-ends g c = λ old told. all_told (g.P.Pages.site (g.P.Pages.fixed c.args.pages.now)) (g.P.Pages.templates (g.P.Pages.fixed c.args.pages.now)) c.args.folder.now (g.F.Files.contents c.loop-term.files) c.args.terms.now c.loop-term.term-index old c.loop-term-test.false (c.loop-term.invariant.written old told)
+
+pub returns-in-Err-clause-traced : goal.returns-in-Err-clause-traced
+returns-in-Err-clause-traced g c =
+    stop_written (g.P.Pages.site (g.P.Pages.fixed c.args.pages.now)) (g.P.Pages.templates (g.P.Pages.fixed c.args.pages.now)) c.args.folder.now c.args.terms.now c.loop-term.term-index c.term-item.result _ _ _ c.in-Err.stop c.loop-term-test.true c.term-item.is c.loop-term.invariant.added
+    (subst (λ fx. PageAdds (g.P.Pages.site fx) (g.P.Pages.templates fx) c.args.folder.now c.term-item.result (g.F.Files.trace c.loop-term.files) (g.F.Files.trace c.write_page.new.files) (Err c.in-Err.stop)) c.loop-term.invariant.fixed c.in-Err.ensures.traced)
+
+pub returns-clause-traced : goal.returns-clause-traced
+returns-clause-traced g c = all_written (g.P.Pages.site (g.P.Pages.fixed c.args.pages.now)) (g.P.Pages.templates (g.P.Pages.fixed c.args.pages.now)) c.args.folder.now c.args.terms.now c.loop-term.term-index _ _ c.loop-term-test.false c.loop-term.invariant.added

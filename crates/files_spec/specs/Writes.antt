@@ -1,0 +1,76 @@
+-- The writes of a site's files, one after another.
+use Rattle.std.specs.Prelude.{◌≡◌, ◌⊎◌, ℕ, List, [], ◌∷◌, ◌++◌, map, Contains, Option, Some, None, Result, Ok, Err, ⊤}
+use Rattle.std.specs.List.{AllZip}
+use Rattle.happenings.specs.Happening.{Happening, Wrote, WriteFailed}
+use Rattle.sd_value.specs.declared.Term.{Term}
+use Rattle.tmpl.specs.Body.{TemplateFile}
+use Rattle.page_spec.specs.Site.{Site}
+use Rattle.page_spec.specs.Page.{IsOutcome}
+use Rattle.page_spec.specs.declared.Outcome.TheVariants as outcome
+use Rattle.files_spec.specs.declared.stop.Stop.{Stop}
+use Rattle.files_spec.specs.declared.stop.Stop.TheVariants.{Unwritten}
+use Rattle.files_spec.specs.Files.{IsPageText, root_term}
+use Rattle.files_spec.specs.Paths.{page_path, index_path}
+
+module _ (site : Site) (templates : TemplateFile) (folder : List ℕ) where
+  -- the file of the term's page was given the page's text
+  pub record IsPageWritten (t : Term) (h : Happening) : Type 0 where
+    pub text : List ℕ
+    pub is_text : IsPageText site templates t text
+    pub its : h ≡ Wrote (page_path folder t) text
+
+  -- the write of the file of the term's page failed
+  abbrev pub failed_write : Term → Happening
+  failed_write t = WriteFailed (page_path folder t)
+
+  -- The pages of some first of these terms were written, in their order and each once. Of those missed, which came next,
+  -- the write failed.
+  pub record WritesSome (terms missed : List Term) (part : List Happening) : Type 0 where
+    pub front : List Term
+    pub left : List Term
+    pub done : List Happening
+    pub terms_are : front ++ (missed ++ left) ≡ terms
+    pub written : AllZip IsPageWritten front done
+    pub part_is : part ≡ done ++ map failed_write missed
+
+  -- What was written of the pages of these terms, where writing them ended so: all, or some first ones and then nothing
+  -- more.
+  abbrev pub PagesWrite : List Term → List Happening → Result ⊤ Stop → Type 0
+  PagesWrite terms part (Ok u) = AllZip IsPageWritten terms part
+  PagesWrite terms part (Err Unwritten) = (t : Term) × WritesSome terms (t ∷ []) part
+  PagesWrite terms part (Err stop) = WritesSome terms [] part
+
+  -- what was written of `index.html`, where there is a root and its page is one of these
+  abbrev pub IndexWrites
+      : List Term → (root : Option (List ℕ)) → List Happening → Result ⊤ Stop → Type 0
+  IndexWrites terms None part end = part ≡ []
+  IndexWrites terms (Some root) part (Ok u) =
+      (Contains terms (root_term root) × (text : List ℕ)
+      × IsOutcome site templates (root_term root) (outcome.Page text)
+      × (part ≡ Wrote (index_path folder) text ∷ []))
+      ⊎ ((Contains terms (root_term root) → ⊥) × (part ≡ []))
+  IndexWrites terms (Some root) part (Err Unwritten) =
+      Contains terms (root_term root) × (part ≡ WriteFailed (index_path folder) ∷ [])
+  IndexWrites terms (Some root) part (Err stop) = part ≡ []
+
+  -- all pages were written, and then the root page so
+  pub record PagesThenIndex (terms : List Term) (root : Option (List ℕ)) (part : List Happening)
+      (end : Result ⊤ Stop) : Type 0 where
+    pub pages : List Happening
+    pub index : List Happening
+    pub part_is : part ≡ pages ++ index
+    pub written : AllZip IsPageWritten terms pages
+    pub then_index : IndexWrites terms root index end
+
+  -- What was written of a site whose pages are those of these terms, in its order, where writing it ended so.
+  abbrev pub SiteWrites
+      : List Term → (root : Option (List ℕ)) → List Happening → Result ⊤ Stop → Type 0
+  SiteWrites terms root part (Ok u) = PagesThenIndex terms root part (Ok u)
+  SiteWrites terms root part (Err stop) =
+      PagesWrite terms part (Err stop) ⊎ PagesThenIndex terms root part (Err stop)
+
+-- a part that is so was added
+pub record Adds (before now : List Happening) (Is : List Happening → Type 0) : Type 0 where
+  pub part : List Happening
+  pub added : now ≡ before ++ part
+  pub its : Is part
