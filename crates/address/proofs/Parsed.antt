@@ -74,9 +74,6 @@ abbrev pub IsLeft : List ℕ → List ℕ → List ℕ → Type 0
 IsLeft whole bytes left =
     (s : List ℕ) → IsBytes s → in_address s ≡ whole → (u : List ℕ) × (s ≡ bytes ++ u) × IsBytes u × (in_address u ≡ left)
 
-pub whole_left : (whole : List ℕ) → IsLeft whole [] whole
-whole_left whole = λ s h e. (s, refl, h, e)
-
 pub nothing_left : (whole bytes left : List ℕ) → left ≡ [] → IsLeft whole bytes left → (s : List ℕ) → IsBytes s → in_address s ≡ whole → bytes ≡ s
 nothing_left whole bytes left none h s k e =
     let (u, p, ks, q) = h s k e in

@@ -22,11 +22,6 @@ none_in_nothing [] [] after e = refl
 none_in_nothing [] (b ∷ segment) after e = let f : ⊥ = cc in absurd f
 none_in_nothing (b ∷ before) segment after e = let f : ⊥ = cc in absurd f
 
-pub none_at_end : (run : ℕ) → run ≤ NAME_LIMIT → IsLongAfter run [] → ⊥
-none_at_end run small (inl ([], r, e, n, l)) = omega (arith, l, small)
-none_at_end run small (inl (b ∷ p, r, e, n, l)) = let f : ⊥ = cc in f
-none_at_end run small (inr (before, segment, after, e, n, l)) = omega (arith, none_in_nothing before segment after e, l)
-
 pub after_slash : (run b : ℕ) (bs : List ℕ) → run ≤ NAME_LIMIT → b ≡ 47 → IsLongAfter run (b ∷ bs) → IsLongAfter 0 bs
 after_slash run b bs small is (inl ([], r, e, n, l)) = absurd (omega (arith, l, small))
 after_slash run b bs small is (inl (c ∷ p, r, e, n, l)) = absurd (All-head IsOther c p n (sym (first_same b c bs (p ++ r) e) ∙ is))

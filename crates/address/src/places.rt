@@ -6,7 +6,7 @@ ghost use Rattle.address.specs.Segments.{HasLongSegment, FileEnds};
 use crate::written::address;
 use page_spec::NAME_LIMIT;
 use sd_value::{NoMemory, Term};
-use std::alloc::Global;
+use std::alloc::{AllocError, Global};
 
 /// Why a page has no file: a name on its way would have more than 255 bytes, or it was out of memory.
 #[derive(Clone, Copy, Debug, PartialEq, Eq)]
@@ -42,7 +42,7 @@ pub fn file_of(alloc: Global, term: &Term, out: &mut Vec<u8>) -> Result<(), File
     }
     match out.extend_from_slice(path) {
         Ok(()) => Ok(()),
-        Err(_) => Err(FileRefusal::NoMemory),
+        Err(AllocError) => Err(FileRefusal::NoMemory),
     }
 }
 

@@ -8,9 +8,6 @@ use Rattle.bibtex_spec.specs.declared.Nesting.TheVariants.{Closes, Unpaired, Too
 use Rattle.bibtex_spec.specs.Reading.{nesting}
 use Rattle.bibtex_laws.specs.Braces.{single, count, IsEnclosed, IsShallow}
 
-pub single_same : (b : ℕ) → single b b ≡ 1
-single_same b = grind (arith, nat_tests)
-
 single_other : (mark b : ℕ) → nat_eq b mark ≡ false → single mark b ≡ 0
 single_other mark b is = rw is refl
 

@@ -13,7 +13,7 @@ use Rattle.bibtex_spec.specs.declared.Nesting.TheVariants.{Closes, Unpaired, Too
 use Rattle.bibtex_spec.specs.Reading.{with_byte, nesting, nested, enclosed as read_up_to}
 use Rattle.bibtex_laws.specs.Braces.{single, count, IsEnclosed, IsShallow}
 use Rattle.bibtex_laws.specs.Limits.{IsByte, IsLimit, none}
-use Rattle.bibtex_laws.proofs.Braces.{Step, Closed, Bare, Deep, On, step, single_same, enclosed_none, enclosed_more, enclosed_less, shallow_none, shallow_more, shallow_less, closers, closers_enclosed, closers_shallow}
+use Rattle.bibtex_laws.proofs.Braces.{Step, Closed, Bare, Deep, On, step, enclosed_none, enclosed_more, enclosed_less, shallow_none, shallow_more, shallow_less, closers, closers_enclosed, closers_shallow}
 
 module _ (close : ℕ) (real : IsByte close) where
   abbrev pub within : ℕ → List ℕ → List ℕ → Type 0

@@ -1,6 +1,5 @@
 pub mod Runs
 pub mod Tidied
-pub mod Enclosed
 pub mod Loops
 pub mod Steps
 mod Spelled

@@ -1,7 +1,6 @@
 -- Loops that read the longest run of a class of bytes.
 use Rattle.std.proofs.Common.{◌≡◌, ◌≤◌, ℕ, Bool, true, false, List, [], ◌∷◌, ◌++◌, length, refl, sym, ap, ◌∙◌, append_assoc, arith}
 use Rattle.std.specs.Prelude.{map}
-use Rattle.std.proofs.lemmas.List.{append-nil}
 use Rattle.bibtex_spec.specs.Bytes.{lower, run, behind}
 
 -- `word` has been read of the run, and `rest` is still to be read
@@ -19,9 +18,6 @@ module _ (belongs : ℕ → Bool) where
   pub run_goes_on : (b : ℕ) (later : List ℕ) → belongs b ≡ true → run belongs (b ∷ later) ≡ b ∷ run belongs later
   run_goes_on b later is = rw is refl
 
-  pub run_stops : (b : ℕ) (later : List ℕ) → belongs b ≡ false → run belongs (b ∷ later) ≡ []
-  run_stops b later is = rw is refl
-
   pub behind_goes_on : (b : ℕ) (later : List ℕ) → belongs b ≡ true → behind belongs (b ∷ later) ≡ behind belongs later
   behind_goes_on b later is = rw is refl
 
@@ -34,34 +30,3 @@ module _ (belongs : ℕ → Bool) where
     leaves = sym (ap (behind belongs) split ∙ behind_goes_on b later is) ∙ so_far.leaves;
     shorter = omega (arith, ap length split, so_far.shorter);
   }
-
-  pub front_stops : (word rest later bytes : List ℕ) (b : ℕ) → rest ≡ b ∷ later → belongs b ≡ false → IsFront belongs word rest bytes → (word ≡ run belongs bytes) × (rest ≡ behind belongs bytes)
-  front_stops word rest later bytes b split is so_far = (
-    sym (ap (λ ys. word ++ ys) (ap (run belongs) split ∙ run_stops b later is) ∙ append-nil word) ∙ so_far.reads,
-    split ∙ sym (ap (behind belongs) split ∙ behind_stops b later is) ∙ so_far.leaves,
-  )
-
-  pub front_ends : (word rest bytes : List ℕ) → rest ≡ [] → IsFront belongs word rest bytes → (word ≡ run belongs bytes) × (rest ≡ behind belongs bytes)
-  front_ends word rest bytes none so_far = (
-    sym (ap (λ ys. word ++ ys) (ap (run belongs) none) ∙ append-nil word) ∙ so_far.reads,
-    none ∙ sym (ap (behind belongs) none) ∙ so_far.leaves,
-  )
-
-  pub lower_more : (word rest later bytes : List ℕ) (b : ℕ) → rest ≡ b ∷ later → belongs b ≡ true → IsLowerFront belongs word rest bytes → IsLowerFront belongs (word ++ lower b ∷ []) later bytes
-  lower_more word rest later bytes b split is so_far = record {
-    reads = append_assoc word (lower b ∷ []) (map lower (run belongs later)) ∙ ap (λ ys. word ++ map lower ys) (sym (ap (run belongs) split ∙ run_goes_on b later is)) ∙ so_far.reads;
-    leaves = sym (ap (behind belongs) split ∙ behind_goes_on b later is) ∙ so_far.leaves;
-    shorter = omega (arith, ap length split, so_far.shorter);
-  }
-
-  pub lower_stops : (word rest later bytes : List ℕ) (b : ℕ) → rest ≡ b ∷ later → belongs b ≡ false → IsLowerFront belongs word rest bytes → (word ≡ map lower (run belongs bytes)) × (rest ≡ behind belongs bytes)
-  lower_stops word rest later bytes b split is so_far = (
-    sym (ap (λ ys. word ++ map lower ys) (ap (run belongs) split ∙ run_stops b later is) ∙ append-nil word) ∙ so_far.reads,
-    split ∙ sym (ap (behind belongs) split ∙ behind_stops b later is) ∙ so_far.leaves,
-  )
-
-  pub lower_ends : (word rest bytes : List ℕ) → rest ≡ [] → IsLowerFront belongs word rest bytes → (word ≡ map lower (run belongs bytes)) × (rest ≡ behind belongs bytes)
-  lower_ends word rest bytes none so_far = (
-    sym (ap (λ ys. word ++ map lower ys) (ap (run belongs) none) ∙ append-nil word) ∙ so_far.reads,
-    none ∙ sym (ap (behind belongs) none) ∙ so_far.leaves,
-  )

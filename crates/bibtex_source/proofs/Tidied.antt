@@ -4,16 +4,7 @@ use Rattle.std.specs.Prelude.{◌-◌, map, if◌then◌else◌, nat_eq, ◌&&�
 use Rattle.std.proofs.lemmas.Bool.{eqb-true}
 use Rattle.std.proofs.lemmas.List.{append-nil}
 use Rattle.std.proofs.lemmas.Grind.{flat_map-append, take_at_read}
-use Rattle.bibtex_spec.specs.Values.{tidy, tidy_from, joined, begins_and, depth_behind, grow, parts_from, parts}
-
-pub tidy_more : (old new rest later total : List ℕ) (owed now : Bool) (b : ℕ) → rest ≡ b ∷ later
-    → ((xs : List ℕ) → new ++ tidy_from now xs ≡ old ++ tidy_from owed (b ∷ xs))
-    → old ++ tidy_from owed rest ≡ total → new ++ tidy_from now later ≡ total
-tidy_more old new rest later total owed now b split pushed so_far =
-    pushed later ∙ ap (λ xs. old ++ tidy_from owed xs) (sym split) ∙ so_far
-
-pub tidy_ends : (text rest total : List ℕ) (owed : Bool) → rest ≡ [] → text ++ tidy_from owed rest ≡ total → text ≡ total
-tidy_ends text rest total owed none so_far = sym (ap (λ xs. text ++ tidy_from owed xs) none ∙ append-nil text) ∙ so_far
+use Rattle.bibtex_spec.specs.Values.{tidy, joined, begins_and, depth_behind, grow, parts_from, parts}
 
 pub joined_more : (texts : List (List ℕ)) (i : ℕ) (x all : List ℕ) → i < length texts → x ≡ get_or texts i x → all ≡ joined (take i texts) → all ++ x ≡ joined (take (i + 1) texts)
 joined_more texts i x all lt at so_far =
@@ -50,15 +41,6 @@ IsSplit found part depth rest text =
 passes_three : (b c d : ℕ) (rest : List ℕ) → parts_from 3 0 (b ∷ c ∷ d ∷ rest) ≡ parts_from 0 0 rest
 passes_three b c d [] = refl
 passes_three b c d (e ∷ rest) = refl
-
--- an ` and ` has five bytes
-pub and_has_four : (bytes : List ℕ) → begins_and bytes ≡ true → 4 ≤ length bytes
-and_has_four [] is = absurd cc
-and_has_four (a ∷ []) is = absurd cc
-and_has_four (a ∷ b ∷ []) is = absurd cc
-and_has_four (a ∷ b ∷ c ∷ []) is = absurd cc
-and_has_four (a ∷ b ∷ c ∷ d ∷ []) is = absurd cc
-and_has_four (a ∷ b ∷ c ∷ d ∷ e ∷ bytes) is = omega arith
 
 at_and : (bytes : List ℕ) → begins_and bytes ≡ true → parts_from 0 0 bytes ≡ [] ∷ parts_from 0 0 (drop 4 bytes)
 at_and [] is = absurd cc

@@ -16,7 +16,7 @@ use Rattle.condition_tests.specs.declared.literal.Atom.TheVariants.{One, Two, Ar
 use Rattle.condition_tests.specs.Known.{Agrees, IsCandidate, is_arc}
 use Rattle.condition_tests.specs.Places.{IsKnown}
 use Rattle.condition_tests.specs.Meaning.{Stands, Has, HasArc, Relates, AtomHolds}
-use Rattle.candidate_values.specs.Offers.{IsListOf, IsOffer, Lists, IsSettled, IsAny}
+use Rattle.candidate_values.specs.Offers.{IsListOf, IsOffer, Lists, IsSettled}
 use Rattle.graph_spec.specs.declared.Step.{Step}
 use Rattle.graph_spec.specs.declared.Edge.{Edge as GraphEdge}
 use Rattle.graph_spec.specs.Orders.{step_cmp, edge_cmp}
@@ -57,14 +57,6 @@ module _ (G : DataGraph) (version : ℕ) where
   start_listed u v name edges starts hs he edge = absurd edge
 
   module _ (arcs : List Bool) (s : List (Option Value)) where
-    pub offer_any : (atom : Atom) (slot slot2 : ℕ) (values : List Value) (settled : Bool) → slice_get s slot ≡ Some None → IsAny G arcs slot slot2 values settled → IsOffer G version arcs atom s slot2 values settled
-    offer_any atom slot slot2 values settled free h = record {
-      free = subst (λ k. slice_get s k ≡ Some None) (sym h.same_slot) free;
-      within = λ v c. subst (λ k. IsCandidate G (is_arc arcs k) v) (sym h.same_slot) (h.all.sound v c);
-      complete = λ t v a d holds e. h.all.complete v (subst (λ k. IsCandidate G (is_arc arcs k) v) h.same_slot (d.each slot2 v e));
-      exact = λ yes. (let no = h.not_settled in cc);
-    }
-
     pub offer_settled : (atom : Atom) (slot : ℕ) (all : List Value) (exact : Bool) (slot2 : ℕ) (values : List Value) (settled : Bool)
         → slice_get s slot ≡ Some None
         → IsSettled G arcs slot all exact slot2 values settled

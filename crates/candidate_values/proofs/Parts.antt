@@ -27,10 +27,6 @@ from_map f (x ∷ xs) y h = elim (Contains-cons_cases (f x) (map f xs) y h) [
 pub part-nil : {X : Type 0} (P : X → Type 0) → IsPartOf P [] []
 part-nil P = record { of_all = λ x h. h; sound = λ x h. absurd (Contains-nil x h); complete = λ x h p. h }
 
--- all of them have it
-pub part-all : {X : Type 0} (P : X → Type 0) (xs : List X) → ((x : X) → Contains xs x → P x) → IsPartOf P xs xs
-part-all P xs h = record { of_all = λ x c. c; sound = h; complete = λ x c p. c }
-
 -- one more element of the whole list is seen, and kept
 pub part-keep : {X : Type 0} (P : X → Type 0) (xs ys : List X) (x : X) → P x → IsPartOf P xs ys → IsPartOf P (x ∷ xs) (ys ++ x ∷ [])
 part-keep P xs ys x p h = record {

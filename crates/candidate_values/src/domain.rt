@@ -5,7 +5,7 @@ ghost use Rattle.candidate_values.specs.Offers.{AreInGraph, IsListOf, IsPartOf};
 ghost use Rattle.graph_spec.specs.DataGraph.{text};
 
 use sd_value::{Datum, NoMemory, Str, Value};
-use std::alloc::Global;
+use std::alloc::{AllocError, Global};
 use store::Store;
 
 /// Whether a variable may take the value.
@@ -30,7 +30,7 @@ fn texts(alloc: Global, labels: Vec<Str>) -> Result<Vec<Value>, NoMemory>
         .into_iter()
         .map(|label| Value::Data(Datum::Text(label)))
         .collect(alloc)
-        .map_err(|_| NoMemory)
+        .map_err(|_: AllocError| NoMemory)
 }
 
 // All values that a variable may take.

@@ -18,7 +18,7 @@ use condition_tests::{
 use graph_spec::{Edge, Step};
 use query_spec::Op;
 use sd_value::{Datum, NoMemory, Value, sort_and_dedup};
-use std::alloc::Global;
+use std::alloc::{AllocError, Global};
 use store::Store;
 
 /// Values for a variable. Where it is settled, each of them makes the condition hold.
@@ -45,7 +45,7 @@ fn all_starts(alloc: Global, edges: Vec<Edge>) -> Result<Vec<Value>, NoMemory>
         .into_iter()
         .map(|edge| Value::Data(Datum::Node(edge.from)))
         .collect(alloc)
-        .map_err(|_| NoMemory)
+        .map_err(|_: AllocError| NoMemory)
 }
 
 fn all_labels(alloc: Global, steps: Vec<Step>) -> Result<Vec<Value>, NoMemory>
@@ -55,7 +55,7 @@ fn all_labels(alloc: Global, steps: Vec<Step>) -> Result<Vec<Value>, NoMemory>
         .into_iter()
         .map(|step| Value::Data(Datum::Text(step.label)))
         .collect(alloc)
-        .map_err(|_| NoMemory)
+        .map_err(|_: AllocError| NoMemory)
 }
 
 // The starts of the edges, each once.

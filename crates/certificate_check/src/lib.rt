@@ -13,25 +13,24 @@ mod uses;
 
 use constraint_spec::{Certificate, Constraint};
 use inclusion::Inclusions;
-use query_scoping::scopes;
+use query_scoping::ScopedQuery;
 use sd_value::NoMemory;
 use std::alloc::Global;
-use struql_check::Checked;
 pub use testing::passes_tests;
 
 /// Whether the certificate shows that the query's site meets the constraint over every data graph:
 /// true exactly for certificates of the constraint.
 pub fn recheck(
     alloc: Global,
-    query: &Checked,
+    query: &ScopedQuery,
     constraint: &Constraint,
     certificate: &Certificate,
 ) -> Result<bool, NoMemory>
     ensures { IfOk result (λ b. Decides b
         (IsCertificate (scope_of_query query.now) constraint.now certificate.now)) }
 {
-    let blocks = scopes(alloc, query)?;
-    let table = Inclusions::of(alloc, &blocks)?;
-    let passes = passes_tests(alloc, &table, &blocks, constraint, certificate)?;
+    let blocks = query.blocks();
+    let table = Inclusions::of(alloc, blocks)?;
+    let passes = passes_tests(alloc, &table, blocks, constraint, certificate)?;
     Ok(passes)
 }

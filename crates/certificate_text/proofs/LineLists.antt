@@ -1,6 +1,6 @@
 -- The lines of one mention less.
 use Rattle.std.proofs.Common.{◌≡◌, ℕ, suc, ◌+◌, ◌<◌, ◌≤◌, List, [], ◌∷◌, ◌++◌, length, map, drop, get_or, refl, sym, ap, ◌∙◌, arith, append_assoc, length-drop, drop-cons, add-one}
-use Rattle.std.proofs.lemmas.List.{append-nil, length-map}
+use Rattle.std.proofs.lemmas.List.{append-nil}
 use Rattle.query_spec.specs.declared.Variable.{Variable}
 use Rattle.constraint_spec.specs.Use.{LinkUse}
 use Rattle.certificate_text.specs.declared.terms.WrittenTerm.{WrittenTerm}
@@ -30,12 +30,6 @@ none_left all [] [] = (λ _. refl, λ _. refl)
 none_left all [] (p ∷ ps) = (λ _. refl, λ _. refl)
 none_left all (m ∷ ms) [] = (λ _. refl, λ _. refl)
 none_left all (m ∷ ms) (p ∷ ps) = (λ e. absurd (omega (arith, e)), λ e. absurd (omega (arith, e)))
-
--- nothing is left behind the last mention
-pub mentions_end : (all : List (List Variable)) (ms : List WrittenTerm) (ps : List (List LinkUse)) (i : ℕ) (out whole : List ℕ) → length ms ≤ i → out ++ left all ms ps i ≡ whole → out ≡ whole
-mentions_end all ms ps i out whole long so_far =
-    let none : length (map placed_of (drop i ms)) ≡ 0 = omega (arith, length-map (drop i ms) placed_of, length-drop {A = WrittenTerm}) in
-    sym (ap (λ x. out ++ x) ((none_left all (map placed_of (drop i ms)) (drop i ps)).0 none) ∙ append-nil out) ∙ so_far
 
 -- nor behind the last proof
 pub proofs_end : (all : List (List Variable)) (ms : List WrittenTerm) (ps : List (List LinkUse)) (i : ℕ) (out whole : List ℕ) → length ps ≤ i → out ++ left all ms ps i ≡ whole → out ≡ whole

@@ -6,7 +6,6 @@ use Rattle.std.proofs.lemmas.List.{append-nil, take_more, map-append, length-map
 use Rattle.std.proofs.lemmas.List.Elements.{filter-append}
 use Rattle.std.proofs.lemmas.List.Concat.{flat_map_single}
 use Rattle.std.proofs.lemmas.List.Folds.{flat_map-map}
-use Rattle.std.proofs.lemmas.Grind.{flat_map-append}
 use Rattle.query_spec.specs.Query.{SkolemTerm, Body, Collect}
 use Rattle.query_spec.specs.Mentions.{same_name}
 use Rattle.site_spec.specs.Site.{target_terms, ends_of, terms_of}
@@ -23,17 +22,6 @@ named_append f path xs ys =
     let is : SkolemTerm → _ = λ (t : SkolemTerm). same_name t.function f in
     let placed : SkolemTerm → PlacedTerm = λ t. record { path = path; term = t } in
     ap (map placed) (filter-append is xs ys) ∙ map-append placed (filter is xs) (filter is ys)
-
--- one item more of a part of a block
-pub named_more : {X : Type 0} (f path : List ℕ) (g : X → List SkolemTerm) (xs : List X) (i : ℕ) (x : X) (start found new : List PlacedTerm) → i < length xs → x ≡ get_or xs i x
-    → found ≡ start ++ terms_named f path (flat_map g (take i xs)) → new ≡ found ++ terms_named f path (g x)
-    → new ≡ start ++ terms_named f path (flat_map g (take (i + 1) xs))
-named_more {X} f path g xs i x start found new long here so_far more =
-    let all : take (i + 1) xs ≡ take i xs ++ x ∷ [] = take_more xs i x long ∙ ap (λ (y : X). take i xs ++ y ∷ []) (sym here) in
-    let before = flat_map g (take i xs) in
-    let flat : flat_map g (take (i + 1) xs) ≡ before ++ g x = ap (flat_map g) all ∙ (flat_map-append g (take i xs) (x ∷ []) ∙ ap (λ ys. before ++ ys) (append-nil (g x))) in
-    more ∙ (ap (λ ms. ms ++ terms_named f path (g x)) so_far ∙ (append_assoc start (terms_named f path before) (terms_named f path (g x))
-    ∙ ap (λ ms. start ++ ms) (sym (named_append f path before (g x)) ∙ ap (terms_named f path) (sym flat))))
 
 -- a block's terms are those of its parts
 pub block_named : (f path : List ℕ) (s : QueryBlock) (cs : List WrittenSkolem) (ks : List WrittenLink) (ps : List WrittenCollect) (start creates links new : List PlacedTerm)

@@ -6,7 +6,7 @@ ghost use Rattle.click_time.specs.Known.{Puts};
 
 use indexmap::IndexMap;
 use sd_value::{NoMemory, Str, Term, Value};
-use std::alloc::Global;
+use std::alloc::{AllocFailed, Global};
 use std::hash::Hash;
 
 /// Keys of which no two that differ are called equal.
@@ -65,7 +65,7 @@ impl<K: ExactKey + Drop, T: Drop> Known<K, T> {
     {
         match self.told.insert(key, told) {
             Ok(_old) => Ok(()),
-            Err(_refused) => Err(NoMemory),
+            Err(AllocFailed { value: _refused }) => Err(NoMemory),
         }
     }
 }

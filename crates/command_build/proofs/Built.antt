@@ -28,7 +28,7 @@ use Rattle.edge_io.specs.Counts.{Rose}
 use Rattle.site_inputs.specs.declared.fault.Fault.{Fault}
 use Rattle.site_inputs.specs.declared.fault.Fault.TheVariants as fault
 use Rattle.site_inputs.specs.Sites.{Inputs, InputsEnd}
-use Rattle.site_inputs.specs.Statuses.{ReadRose, status_of}
+use Rattle.site_inputs.specs.Statuses.{status_of}
 use Rattle.site_inputs.specs.Outside.{Host, host}
 use Rattle.site_inputs.proofs.PageFaults.{inputs_none}
 use Rattle.command_build.specs.Ends.{BuiltEnds, Builds, BuildEnds, IsSiteFile, SiteRose, build_text, written_end, stop_status}
@@ -150,19 +150,6 @@ module _ (reads reads_now writes writes_now : List ℕ → ℕ) (output output_n
       → IsSomeAnd n (λ new. BuildEnds command (Before old) (After new) status.WriteFault)
   part_told None old command s line taken h gained rose = h
   part_told (Some new) old command s line taken h gained rose = inr (record { text = line; builds = record { inputs = s; taken = taken; built = h }; gained = gained; rose = rose })
-
-pub stop_read_rose : (paths : List (List ℕ)) (before now : List ℕ → ℕ) (reason : Stop) (ended : Status) → ended ≡ stop_status reason → ReadRose paths before now ended
-stop_read_rose paths before now reason ended is = subst (ReadRose paths before now) (sym is) (by reason)
-  where
-    by : (reason : Stop) → ReadRose paths before now (stop_status reason)
-    by (stop.Faulty term kind) = tt
-    by stop.Unwritten = tt
-    by stop.NoMemory = tt
-
-pub stop_no_usage : (reason : Stop) (ended : Status) → ended ≡ stop_status reason → ended ≡ status.Usage → ⊥
-stop_no_usage (stop.Faulty term kind) ended e u = let both = sym e ∙ u in cc
-stop_no_usage stop.Unwritten ended e u = let both = sym e ∙ u in cc
-stop_no_usage stop.NoMemory ended e u = let both = sym e ∙ u in cc
 
 pub unwritten_of : (reason : Stop) (ended : Status) → ended ≡ stop_status reason → ended ≡ status.WriteFault → reason ≡ stop.Unwritten
 unwritten_of (stop.Faulty term kind) ended e u = let both = sym e ∙ u in cc

@@ -96,6 +96,7 @@ module _ (map : FileMap) (query_path constraints_path : List ℕ) where
         inputs = record { is_query = ends.first; are_constraints = ends.next.first };
         findings = told.findings;
         gained = subst (Gains old new) told.told gained;
+        exact = told.exact;
         holds = told.holds;
         all_hold = λ ok. yes_is_met ends.value ends.next.value r.text r.passed told (met ok);
       }

@@ -4,19 +4,19 @@ use Rattle.std.proofs.Common.{sym, ap, subst, ◌∙◌, length, get_or, take}
 use Rattle.std.specs.Prelude.{zero, map, Some}
 use Rattle.std.specs.List.{AllZip}
 use Rattle.std.proofs.lemmas.List.{map-append, take_all}
-use Rattle.graph_spec.specs.DataGraph.{DataGraph}
+use Rattle.graph_spec.specs.DataGraph.{DataGraph, IsWellFormed}
+use Rattle.ddl_laws.specs.RoundTrip.{HasI64s}
 use Rattle.site_spec.specs.Site.{Scope}
 use Rattle.constraint_spec.specs.declared.Constraint.{Constraint}
-use Rattle.constraint_spec.specs.Meets.{Meets}
 use Rattle.counterexample_spec.specs.First.{IsFirstBroken}
 use Rattle.constraint_prover.proofs.Zipped.{zip_more}
-use Rattle.command_check.specs.Told.{CheckAnswer}
+use Rattle.command_check.specs.Told.{CheckAnswer, IsBrokenOver}
 use Rattle.command_check.specs.Written.{found_in}
 use Rattle.command_check.specs.declared.finding.CheckAnswer.{CheckAnswer as Kept}
 
 -- a candidate that is found is a counterexample
-pub no_holds : (q : Scope) (c : Constraint) (G : DataGraph) → IsFirstBroken q c (Some G) → ¬ Meets G q c
-no_holds q c G found = found.2.4
+pub no_holds : (q : Scope) (c : Constraint) (G : DataGraph) → IsWellFormed G → HasI64s G → IsFirstBroken q c (Some G) → IsBrokenOver q c G
+no_holds q c G well integers found = record { well_formed = well; integers = integers; broken = found.2.4 }
 
 -- the pair at a place
 pub zip_at : {A B : Type 0} (R : A → B → Type 0) (xs : List A) (ys : List B) (i : ℕ) (x : A) (y : B) → AllZip R xs ys → i < length xs → x ≡ get_or xs i x → y ≡ get_or ys i y → R x y

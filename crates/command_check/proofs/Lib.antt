@@ -6,3 +6,4 @@ pub mod Found
 pub mod Growing
 pub mod Whole
 pub mod Alone
+pub mod Shown

@@ -6,7 +6,8 @@ use Rattle.edge_io.specs.Sink.{Gains}
 use Rattle.query_spec.specs.Query as plain
 use Rattle.site_spec.specs.Site.{scope_of}
 use Rattle.constraint_spec.specs.declared.Constraint.{Constraint}
-use Rattle.command_check.specs.Told.{CheckAnswer, finding_lines, HoldsOfSites, HasCertificate, IsMetOverAll}
+use Rattle.command_check.specs.Told.{CheckAnswer, finding_lines, IsCheckAnswer, HoldsOfSites}
+use Rattle.command_check.specs.Told.{HasCertificate, IsMetOverAll}
 use Rattle.run_report.specs.declared.status.Status.{Status}
 use Rattle.run_report.specs.declared.status.Status.TheVariants as status
 use Rattle.site_inputs.specs.declared.fault.Fault.{Fault}
@@ -35,14 +36,16 @@ module _ (map : FileMap) (query_path constraints_path : List ℕ) where
     pub refused : (reason : Fault) → CheckEnds map query_path constraints_path (Err reason)
         → IsDecidedFault reason → HasStatus (status_of reason) reached
 
-  -- The output has gained the lines of what is found of the file's constraints. Each constraint that is
-  -- answered yes is met in the query's site over every data graph, and at status 0 each of them is. Each
-  -- that is answered no isn't met in its site over the graph whose text is shown.
+  -- The output has gained the lines of what is found of the file's constraints: yes exactly where there
+  -- is a certificate, no exactly where there is none and some candidate breaks it. Each constraint that
+  -- is answered yes is met in the query's site over every data graph, and at status 0 each of them is.
+  -- Each that is answered no isn't met in its site over the graph whose text is shown.
   pub record FindingsHold (old new : Option (List ℕ)) (reached : Status) : Type 0 where
     pub query : plain.Query
     pub constraints : List Constraint
     pub inputs : AreInputs query constraints
     pub findings : List CheckAnswer
     pub gained : Gains old new (finding_lines query 1 constraints findings)
+    pub exact : AllZip (IsCheckAnswer (scope_of query)) constraints findings
     pub holds : AllZip (HoldsOfSites (scope_of query)) constraints findings
     pub all_hold : reached ≡ status.Ok → All (IsMetOverAll query) constraints

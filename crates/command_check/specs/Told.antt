@@ -5,7 +5,7 @@ use Rattle.std.specs.Prelude.{◌≡◌, ℕ, suc, Bool, true, false, List, [], 
 use Rattle.std.specs.Prelude.{codes, nat_eq, if◌then◌else◌, Some, None, ⊤}
 use Rattle.std.specs.Fmt.{decimal}
 use Rattle.std.specs.List.{AllZip, list_all}
-use Rattle.graph_spec.specs.DataGraph.{DataGraph}
+use Rattle.graph_spec.specs.DataGraph.{DataGraph, IsWellFormed}
 use Rattle.query_spec.specs.Query.{Query}
 use Rattle.site_spec.specs.Site.{Scope, scope_of}
 use Rattle.constraint_spec.specs.declared.Constraint.{Constraint}
@@ -13,6 +13,7 @@ use Rattle.constraint_spec.specs.Certificate.{Certificate, IsCertificate}
 use Rattle.constraint_spec.specs.Meets.{Meets}
 use Rattle.counterexample_spec.specs.First.{IsFirstBroken}
 use Rattle.sd_ddl.specs.Written.{graph_text}
+use Rattle.ddl_laws.specs.RoundTrip.{HasI64s, IsReadAgain}
 use Rattle.certificate_text.specs.Lines.{yes_text, unknown_text}
 
 -- ---- what is found of a constraint
@@ -34,11 +35,17 @@ IsCheckAnswer q c (yes x) = IsCertificate q c x
 IsCheckAnswer q c (no G) = HasNoCertificate q c × IsFirstBroken q c (Some G)
 IsCheckAnswer q c unknown = HasNoCertificate q c × IsFirstBroken q c None
 
+-- a data graph as a program holds it, over which the query's site doesn't meet the constraint
+pub record IsBrokenOver (q : Scope) (c : Constraint) (G : DataGraph) : Type 0 where
+  pub well_formed : IsWellFormed G
+  pub integers : HasI64s G
+  pub broken : ¬ Meets G q c
+
 -- At a yes, the query's site over every data graph meets the constraint. At a no, its site over the
 -- graph that is found doesn't.
 abbrev pub HoldsOfSites : Scope → Constraint → CheckAnswer → Type 0
 HoldsOfSites q c (yes x) = (G : DataGraph) → Meets G q c
-HoldsOfSites q c (no G) = ¬ Meets G q c
+HoldsOfSites q c (no G) = IsBrokenOver q c G
 HoldsOfSites q c unknown = ⊤
 
 -- whether it is a certificate
@@ -56,6 +63,13 @@ indented begins [] = []
 indented begins (b ∷ text) =
     (if begins then codes "  " else []) ++ b ∷ indented (nat_eq b 10) text
 
+-- a text without the two bytes before each of its lines
+abbrev pub unindented : (begins : Bool) → List ℕ → List ℕ
+unindented false [] = []
+unindented false (b ∷ text) = b ∷ unindented (nat_eq b 10) text
+unindented true (s ∷ t ∷ b ∷ text) = b ∷ unindented (nat_eq b 10) text
+unindented true short = []
+
 -- `K no` and the canonical text of the graph, each of its lines behind two spaces
 abbrev pub no_text : ℕ → DataGraph → List ℕ
 no_text number G = decimal number ++ codes " no\n" ++ indented true (graph_text G)
@@ -65,6 +79,16 @@ abbrev pub lines_of : Query → ℕ → Constraint → CheckAnswer → List ℕ
 lines_of q number c (yes x) = yes_text q number c x
 lines_of q number c (no G) = no_text number G
 lines_of q number c unknown = unknown_text number
+
+-- The lines are `K no` and, two spaces before each of its lines, a data text of a graph over which the
+-- query's site doesn't meet the constraint: read into an empty builder with room it gives that graph.
+pub record IsShownBroken (q : Query) (number : ℕ) (c : Constraint) (lines : List ℕ) : Type 0 where
+  pub shown : List ℕ
+  pub graph : DataGraph
+  pub below : lines ≡ decimal number ++ codes " no\n" ++ shown
+  pub is_text : unindented true shown ≡ graph_text graph
+  pub is_read : IsReadAgain graph
+  pub broken : ¬ Meets graph (scope_of q) c
 
 -- the lines of these constraints, the first of which has this number
 abbrev pub finding_lines : Query → ℕ → List Constraint → List CheckAnswer → List ℕ

@@ -6,20 +6,25 @@ ghost use Rattle.site_inputs.specs.Runs.{ReadsHaveCause};
 ghost use Rattle.command_check.specs.CheckEnds.{VerdictsTaken, CheckEnds};
 
 use crate::constraint_file::load_constraints;
+use crate::query_file::load_scoped_query;
 use crate::site_oracle::SiteOracle;
 use crate::verdicts::verdicts_of;
 use constraint_spec::Constraint;
 use edge_io::Files;
+use query_scoping::ScopedQuery;
 use run_report::Report;
 use sd_value::Str;
-use site_inputs::{Fault, load_query};
+use site_inputs::Fault;
 use std::alloc::Global;
-use struql_check::Checked;
 
-fn verdicts_on(alloc: Global, query: &Checked, constraints: &[Constraint]) -> Result<Report, Fault>
+fn verdicts_on(
+    alloc: Global,
+    query: &ScopedQuery,
+    constraints: &[Constraint],
+) -> Result<Report, Fault>
     ensures { VerdictsTaken query.now constraints.now result }
 {
-    let mut trial = SiteOracle::of(alloc, query)?;
+    let mut trial = SiteOracle::of(query);
     let verdicts = verdicts_of(alloc, query, constraints, &mut trial)?;
     Ok(Report {
         text: verdicts.text,
@@ -45,7 +50,7 @@ pub fn check_all<F: Files>(
         (F.failed_reads files.old) (F.failed_reads files.new) result }
     ensures writes { F.failed_writes files.new ≡ F.failed_writes files.old }
 {
-    let query = load_query(alloc, files, query)?;
+    let query = load_scoped_query(alloc, files, query)?;
     let constraints = load_constraints(alloc, files, &query, constraints)?;
     verdicts_on(alloc, &query, constraints.as_slice())
 }

@@ -9,11 +9,11 @@ use command_spec::TEXT_LIMIT;
 use constraint_spec::Constraint;
 use constraints::{ConstraintRefusal, parse_constraints};
 use edge_io::Files;
+use query_scoping::ScopedQuery;
 use run_report::Place;
 use sd_value::Str;
 use site_inputs::{Fault, NumberedFault, read_file, refused, told_of_text};
 use std::alloc::Global;
-use struql_check::Checked;
 
 // What a refused text of constraints reports; none where it was out of memory.
 fn told_of_constraints(refusal: &ConstraintRefusal) -> Option<NumberedFault>
@@ -34,7 +34,7 @@ fn told_of_constraints(refusal: &ConstraintRefusal) -> Option<NumberedFault>
 
 fn take_constraints(
     alloc: Global,
-    query: &Checked,
+    query: &ScopedQuery,
     path: &Str,
     bytes: &[u8],
 ) -> Result<Vec<Constraint>, Fault>
@@ -55,7 +55,7 @@ fn take_constraints(
 pub fn load_constraints<F: Files>(
     alloc: Global,
     files: &mut F,
-    query: &Checked,
+    query: &ScopedQuery,
     path: &Str,
 ) -> Result<Vec<Constraint>, Fault>
     ensures ends { ForSome (F.contents files.old) (λ map.

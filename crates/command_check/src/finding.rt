@@ -7,11 +7,12 @@ ghost use Rattle.command_check.specs.Told.{IsCheckAnswer, HoldsOfSites};
 ghost use Rattle.command_check.specs.Written.{found_in};
 
 use constraint_spec::{Certificate, Constraint, Verdict};
+use ddl_laws::integers_fit;
+use query_scoping::ScopedQuery;
 use refute_site::{Oracle, first_broken};
 use sd_graph::Graph;
 use sd_value::NoMemory;
 use std::alloc::Global;
-use struql_check::Checked;
 
 /// What is found of a constraint.
 #[derive(Drop)]
@@ -27,7 +28,7 @@ pub(crate) enum CheckAnswer<'a> {
 // What is found of the constraint, on which this is the prover's verdict.
 fn find<'a, T: Oracle>(
     alloc: Global,
-    query: &Checked,
+    query: &ScopedQuery,
     constraint: &Constraint,
     verdict: &'a Verdict,
     trial: &mut T,
@@ -45,7 +46,10 @@ fn find<'a, T: Oracle>(
     match verdict {
         Verdict::Yes(certificate) => Ok(CheckAnswer::Yes(certificate)),
         Verdict::Unknown => match first_broken(alloc, query, constraint, trial)? {
-            Some(graph) => Ok(CheckAnswer::No(graph)),
+            Some(graph) => {
+                integers_fit(&graph);
+                Ok(CheckAnswer::No(graph))
+            }
             None => Ok(CheckAnswer::Unknown),
         },
     }
@@ -56,7 +60,7 @@ fn find<'a, T: Oracle>(
 /// Out of memory.
 pub(crate) fn find_all<'a, T: Oracle>(
     alloc: Global,
-    query: &Checked,
+    query: &ScopedQuery,
     constraints: &[Constraint],
     verdicts: &'a [Verdict],
     trial: &mut T,

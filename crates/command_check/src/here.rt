@@ -6,32 +6,31 @@ ghost use Rattle.site_inputs.specs.Runs.{ReadsHaveCause};
 ghost use Rattle.command_check.specs.Ends.{ReportTaken, HereEnds};
 
 use crate::constraint_file::load_constraints;
+use crate::query_file::load_scoped_query;
 use bindings::StoreAsker;
 use command_spec::DataFiles;
 use constraint_report::report_of;
 use constraint_spec::Constraint;
 use edge_io::Files;
 use index_store::IndexStore;
-use query_scoping::scopes;
+use query_scoping::ScopedQuery;
 use run_report::Report;
 use sd_graph::Graph;
 use sd_value::Str;
-use site_inputs::{Fault, load_graph, load_query};
+use site_inputs::{Fault, load_graph};
 use std::alloc::Global;
-use struql_check::Checked;
 
 fn report_over(
     alloc: Global,
     graph: Graph,
-    query: &Checked,
+    query: &ScopedQuery,
     constraints: &[Constraint],
 ) -> Result<Report, Fault>
     ensures { ReportTaken graph query.now constraints.now result }
 {
-    let scopes = scopes(alloc, query)?;
     let store = IndexStore::of(alloc, graph)?;
     let asker = StoreAsker::of(store);
-    let report = report_of(alloc, asker, &scopes, constraints)?;
+    let report = report_of(alloc, asker, query.blocks(), constraints)?;
     Ok(report)
 }
 
@@ -54,7 +53,7 @@ pub fn check_here<F: Files>(
     ensures writes { F.failed_writes files.new ≡ F.failed_writes files.old }
 {
     let graph = load_graph(alloc, files, sources)?;
-    let query = load_query(alloc, files, query)?;
+    let query = load_scoped_query(alloc, files, query)?;
     let constraints = load_constraints(alloc, files, &query, constraints)?;
     report_over(alloc, graph, &query, constraints.as_slice())
 }

@@ -8,6 +8,7 @@ mod finding;
 mod here;
 mod laws;
 mod lines;
+mod query_file;
 mod site_oracle;
 mod verdict_laws;
 mod verdicts;

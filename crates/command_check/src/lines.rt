@@ -8,13 +8,12 @@ use crate::finding::CheckAnswer;
 use certificate_text::{print_unknown, print_yes};
 use constraint_spec::Constraint;
 use query_blocks::QueryBlocks;
-use query_scoping::scopes;
+use query_scoping::ScopedQuery;
 use schema::paths_of;
 use sd_ddl::write_ddl;
 use sd_graph::Graph;
 use sd_value::{NoMemory, Str};
 use std::alloc::Global;
-use struql_check::Checked;
 use token_writer::{put, put_number};
 
 // Appends the text, with two spaces before each of its lines.
@@ -74,7 +73,7 @@ fn print_finding(
 /// Out of memory.
 pub(crate) fn lines_of(
     alloc: Global,
-    query: &Checked,
+    query: &ScopedQuery,
     constraints: &[Constraint],
     findings: &[CheckAnswer],
 ) -> Result<Vec<u8>, NoMemory>
@@ -82,7 +81,7 @@ pub(crate) fn lines_of(
     ensures { IfOk result (λ text. text.items
         ≡ finding_lines query.now 1 constraints.now (map found_in findings.now)) }
 {
-    let blocks = scopes(alloc, query)?;
+    let blocks = query.blocks();
     let all_paths = paths_of(alloc, &query.query().blocks)?;
     let paths = all_paths.as_slice();
     let mut text = Vec::new(alloc);
@@ -90,7 +89,7 @@ pub(crate) fn lines_of(
         let number = i + 1;
         print_finding(
             alloc,
-            &blocks,
+            blocks,
             paths,
             number,
             &constraints[i],

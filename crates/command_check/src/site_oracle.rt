@@ -1,53 +1,39 @@
 //! A trial of data graphs: each graph's whole site is built and looked through.
 
-ghost use Rattle.std.specs.Prelude.{◌≡◌, ◌↔◌, IfOk, IsTrue};
-ghost use Rattle.site_spec.specs.Site.{scope_of as scope_of_query};
-ghost use Rattle.query_blocks.specs.Blocks.{scope_of, AreCheckedBlocks};
+ghost use Rattle.std.specs.Prelude.{◌≡◌, ◌↔◌, IfOk, IsTrue, Unit};
+ghost use Rattle.site_spec.specs.Site.{scope_of};
 ghost use Rattle.constraint_spec.specs.Meets.{Meets};
 
 use bindings::StoreAsker;
 use constraint_report::report_of;
 use constraint_spec::Constraint;
 use index_store::IndexStore;
-use query_blocks::QueryBlocks;
-use query_scoping::scopes;
+use query_scoping::ScopedQuery;
 use refute_site::Oracle;
 use sd_graph::Graph;
 use sd_value::NoMemory;
 use std::alloc::Global;
 use std::slice::from_ref;
-use struql_check::Checked;
 
 /// Tries data graphs for one checked query.
-pub struct SiteOracle {
-    blocks: QueryBlocks,
+#[derive(Drop)]
+pub struct SiteOracle<'a> {
+    query: &'a ScopedQuery,
 }
 
-// Written out, so that it is proved here once, and not again in each crate that drops one.
-impl Drop for SiteOracle {
-    fn drop(self) {
-        let SiteOracle { blocks: _blocks } = self;
-    }
-}
-
-impl SiteOracle {
+impl<'a> SiteOracle<'a> {
     /// The trial of the query.
-    /// # Errors
-    /// Out of memory.
-    pub fn of(alloc: Global, query: &Checked) -> Result<SiteOracle, NoMemory>
-        ensures own { IfOk result
-            (λ t. AreCheckedBlocks t.blocks.version t.blocks.blocks.items) }
-        ensures scope { IfOk result (λ t. scope_of t.blocks ≡ scope_of_query query.now) }
+    pub fn of(query: &'a ScopedQuery) -> SiteOracle<'a>
+        ensures { result.query.now ≡ query.now }
     {
-        let blocks = scopes(alloc, query)?;
-        Ok(SiteOracle { blocks })
+        SiteOracle { query }
     }
 }
 
-impl Oracle for SiteOracle {
-    ghost scope = { λ t. scope_of t.blocks };
+impl<'a> Oracle for SiteOracle<'a> {
+    ghost scope = { λ t. scope_of t.query.now };
 
-    ghost Own = { λ t. AreCheckedBlocks t.blocks.version t.blocks.blocks.items };
+    ghost Own = { λ t. Unit {0} };
 
     fn met(
         &mut self,
@@ -57,7 +43,7 @@ impl Oracle for SiteOracle {
     ) -> Result<bool, NoMemory> {
         let store = IndexStore::of(alloc, graph)?;
         let asker = StoreAsker::of(store);
-        let report = report_of(alloc, asker, &self.blocks, from_ref(constraint))?;
+        let report = report_of(alloc, asker, self.query.blocks(), from_ref(constraint))?;
         Ok(report.passed)
     }
 }

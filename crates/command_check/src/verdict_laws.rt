@@ -4,7 +4,10 @@
 ghost use Rattle.std.specs.Prelude.{◌↔◌, ℕ, List, Bool, IsTrue, All};
 ghost use Rattle.query_spec.specs.Query.{Query};
 ghost use Rattle.constraint_spec.specs.declared.Constraint.{Constraint as TheConstraint};
+ghost use Rattle.graph_spec.specs.DataGraph.{DataGraph};
+ghost use Rattle.site_spec.specs.Site.{scope_of};
 ghost use Rattle.command_check.specs.Told.{AreTold, HasCertificate, IsMetOverAll};
+ghost use Rattle.command_check.specs.Told.{no, lines_of, HoldsOfSites, IsShownBroken};
 
 /// All are answered yes exactly where each has a certificate.
 pub fn all_yes_means_certificates()
@@ -18,4 +21,12 @@ pub fn all_yes_holds_over_all_data()
     ensures { (q : Query) (constraints : List TheConstraint) (text : List ℕ) (all_yes : Bool)
         → AreTold q constraints text all_yes
         → IsTrue all_yes → All (IsMetOverAll q) constraints }
+{}
+
+/// What stands below `K no`, without its two spaces, is a data text of a graph over which the query's site doesn't meet the
+/// constraint.
+#[tactic(auto, using(crate::proofs::Shown::is_shown_broken))]
+pub fn what_is_shown_is_broken()
+    ensures { (q : Query) (number : ℕ) (c : TheConstraint) (G : DataGraph)
+        → HoldsOfSites (scope_of q) c (no G) → IsShownBroken q number c (lines_of q number c (no G)) }
 {}

@@ -9,10 +9,10 @@ use crate::finding::{CheckAnswer, find_all};
 use crate::lines::lines_of;
 use constraint_prover::prove_all;
 use constraint_spec::Constraint;
+use query_scoping::ScopedQuery;
 use refute_site::Oracle;
 use sd_value::{NoMemory, Str};
 use std::alloc::Global;
-use struql_check::Checked;
 
 /// What is printed of constraints, and whether all of them are answered yes.
 #[derive(Debug, Drop)]
@@ -45,7 +45,7 @@ fn are_all_yes(findings: &[CheckAnswer]) -> bool
 /// Out of memory.
 pub fn verdicts_of<T: Oracle>(
     alloc: Global,
-    query: &Checked,
+    query: &ScopedQuery,
     constraints: &[Constraint],
     trial: &mut T,
 ) -> Result<Verdicts, NoMemory>

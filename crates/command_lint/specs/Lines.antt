@@ -14,7 +14,8 @@ name_of n =
     if n == 146 then codes "NeverReached" else (
     if n == 147 then codes "Unbounded" else (
     if n == 148 then codes "NoRow" else (
-    if n == 149 then codes "MisspelledTag" else codes ""))))))))
+    if n == 149 then codes "MisspelledTag" else (
+    if n == 156 then codes "OnlyCollected" else codes "")))))))))
 
 -- the line of a finding in the file
 abbrev pub finding_line : List ℕ → Finding → List ℕ

@@ -21,6 +21,7 @@ fn name_of(number: u32) -> &'static [u8]
         147 => b"Unbounded",
         148 => b"NoRow",
         149 => b"MisspelledTag",
+        156 => b"OnlyCollected",
         _ => b"",
     }
 }

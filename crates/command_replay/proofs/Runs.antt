@@ -6,7 +6,7 @@ use Rattle.serving_spec.specs.declared.HubEnd.TheVariants as end
 use Rattle.run_report.specs.declared.status.Status.{Status}
 use Rattle.run_report.specs.declared.status.Status.TheVariants as status
 use Rattle.command_spec.specs.declared.RunLimits.{RunLimits}
-use Rattle.site_inputs.specs.Statuses.{ReadRose, IsSilent}
+use Rattle.site_inputs.specs.Statuses.{IsSilent}
 use Rattle.serve_run.specs.Puts.{EndPuts}
 use Rattle.command_replay.specs.Scripts.{Scripted}
 use Rattle.command_replay.specs.Ends.{run_end, IsReplayed, RunEnds}
@@ -54,16 +54,3 @@ module _ (s : Scripted) (limits : RunLimits) (old new : Option (List ℕ)) (P : 
 
   pub never_wire : (reached : Status) → RunEnds s limits old new P reached → reached ≡ status.WireFault → ⊥
   never_wire reached h is = subst (RunEnds s limits old new P) is h
-
-  pub run_read_rose : (paths : List (List ℕ)) (reads now : List ℕ → ℕ) (reached : Status) → RunEnds s limits old new P reached → ReadRose paths reads now reached
-  run_read_rose paths reads now status.Ok h = tt
-  run_read_rose paths reads now status.WriteFault h = tt
-  run_read_rose paths reads now status.WireFault h = tt
-  run_read_rose paths reads now status.TurnsSpent h = tt
-  run_read_rose paths reads now status.NoMemory h = tt
-  run_read_rose paths reads now status.Usage h = tt
-  run_read_rose paths reads now status.NotAllYes h = tt
-  run_read_rose paths reads now status.NotFound h = tt
-  run_read_rose paths reads now (status.Refused file number place) h = tt
-  run_read_rose paths reads now (status.ReadFault path) h = absurd h
-  run_read_rose paths reads now (status.PageFault term kind) h = tt

@@ -5,3 +5,4 @@ pub mod Exact
 pub mod Complete
 pub mod Checked
 pub mod Linted
+pub mod Exits

@@ -29,7 +29,7 @@ impl Model for GivenWords {
     ghost invariant = { λ g. (g.command ≡ specs.command g.words.items) × IfSome g.command IsInRange };
 }
 
-fn default_waits() -> ServeWaits
+pub(crate) fn default_waits() -> ServeWaits
     ensures { result ≡ default_waits }
 {
     ServeWaits {

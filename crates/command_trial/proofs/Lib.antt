@@ -5,4 +5,3 @@ pub mod Runs
 pub mod Replies
 pub mod Lists
 pub mod Once
-pub mod Whole

@@ -1,16 +1,16 @@
 -- What a test of an atom tells of all rows that agree with what is known.
 use Rattle.std.proofs.Common.{◌≡◌, ℕ, List, subst}
-use Rattle.std.specs.Prelude.{◌↔◌, Bool, IsTrue, Option, Some, slice_get}
+use Rattle.std.specs.Prelude.{◌↔◌, Bool, IsTrue, Option}
 use Rattle.sd_value.specs.declared.Value.{Value}
 use Rattle.graph_spec.specs.DataGraph.{DataGraph}
 use Rattle.condition_tests.specs.declared.literal.Slot.{Slot}
 use Rattle.condition_tests.specs.declared.literal.Slot.TheVariants.{Variable, Fixed}
 use Rattle.condition_tests.specs.declared.literal.Property.{Property}
 use Rattle.condition_tests.specs.declared.literal.Relation.{Relation}
-use Rattle.condition_tests.specs.declared.literal.Atom.TheVariants.{One, Two, Arc}
+use Rattle.condition_tests.specs.declared.literal.Atom.TheVariants.{One, Two}
 use Rattle.condition_tests.specs.Known.{Agrees}
-use Rattle.condition_tests.specs.Places.{IsKnown, IsFree, IsWhole, Decides}
-use Rattle.condition_tests.specs.Meaning.{Stands, Has, HasArc, Relates}
+use Rattle.condition_tests.specs.Places.{IsKnown, Decides}
+use Rattle.condition_tests.specs.Meaning.{Stands, Has, Relates}
 
 -- what is known at a place stands there in each row that agrees
 pub known_stands : (p : Slot) (t : List Value) (s : List (Option Value)) (v : Value) → Agrees t s → IsKnown p s v → Stands p t v
@@ -20,10 +20,6 @@ known_stands (Fixed w) t s v a h = h
 pub same_standing : (p : Slot) (t : List Value) (u v : Value) → Stands p t u → Stands p t v → u ≡ v
 same_standing (Variable k) t u v h g = cc
 same_standing (Fixed w) t u v h g = cc
-
-pub not_free : (p : Slot) (s : List (Option Value)) → IsWhole p s → IsFree p s → ⊥
-not_free (Variable k) s w f = let h = w.1 in cc
-not_free (Fixed v) s w f = f
 
 module _ (G : DataGraph) (version : ℕ) where
   pub decides_one : (p : Slot) (property : Property) (s : List (Option Value)) (v : Value) (b : Bool) → IsKnown p s v → (IsTrue b ↔ Has G version property v) → Decides G version (One p property) s b
@@ -39,14 +35,4 @@ module _ (G : DataGraph) (version : ℕ) where
         let eu = same_standing p t holds.0 u holds.2 (known_stands p t s u a hp) in
         let ev = same_standing q t holds.1 v holds.3 (known_stands q t s v a hq) in
         says.1 (subst (λ x. Relates G version relation x v) eu (subst (λ y. Relates G version relation holds.0 y) ev holds.4))),
-  )
-
-  pub decides_arc : (p : Slot) (k : ℕ) (q : Slot) (s : List (Option Value)) (u l v : Value) (b : Bool) → IsKnown p s u → slice_get s k ≡ Some (Some l) → IsKnown q s v → (IsTrue b ↔ HasArc G u l v) → Decides G version (Arc p k q) s b
-  decides_arc p k q s u l v b hp hk hq says = λ t a. (
-    (λ yes. (u, l, v, known_stands p t s u a hp, a.same k l hk, known_stands q t s v a hq, says.0 yes)),
-    (λ holds.
-        let eu = same_standing p t holds.0 u holds.3 (known_stands p t s u a hp) in
-        let el = same_standing (Variable k) t holds.1 l holds.4 (a.same k l hk) in
-        let ev = same_standing q t holds.2 v holds.5 (known_stands q t s v a hq) in
-        says.1 (subst (λ x. HasArc G x l v) eu (subst (λ y. HasArc G holds.0 y v) el (subst (λ z. HasArc G holds.0 holds.1 z) ev holds.6)))),
   )

@@ -2,7 +2,6 @@
 use Rattle.std.proofs.Common.{◌≡◌, ℕ, zero, suc, ◌+◌, ◌<◌, ◌≤◌, List, [], ◌∷◌, ◌++◌, take, add-one, length, arith, refl, ap, sym, ◌∙◌, inl, inr, subst}
 use Rattle.std.specs.Prelude.{◌⊎◌, ◌↔◌, IsTrue, Bool, true, false, Contains, Some, slice_get}
 use Rattle.std.specs.Ordering.{eq_by_cmp}
-use Rattle.std.proofs.lemmas.Option.{slice_get-get_or}
 use Rattle.std.proofs.lemmas.List.Elements.{Contains-append_cases, Contains-append_left, Contains-append_right, Contains-push_cases, Contains-push}
 use Rattle.sd_value.specs.Members.{Contains-nil}
 use Rattle.sd_value.specs.declared.Datum.TheVariants.{Int, Text}
@@ -44,12 +43,6 @@ module _ (version : ℕ) (v : Value) (constants : List Value) where
     | inl m ↦ before i c m e same
     | inr at ↦ (let there : slice_get constants n ≡ Some c = subst (λ j. slice_get constants j ≡ Some c) at e in let one : k ≡ c = cc in differs (subst (λ x. IsEqual version v x) (sym one) same))
   ]
-
-  pub none_of_all : ((i : ℕ) (c : Value) → i < length constants → slice_get constants i ≡ Some c → IsEqual version v c → ⊥) → IsOneOf version constants v → ⊥
-  none_of_all none h =
-      let at = slice_get-get_or constants h.1.0 h.0 h.1.1 in
-      let here : slice_get constants h.1.0 ≡ Some h.0 = at ∙ ap Some h.1.2 in
-      none h.1.0 h.0 h.1.1 here h.2
 
 twin_turned : (version : ℕ) (u v : Value) → IsTwinOf version u v → IsTwinOf version v u
 twin_turned version (Data (Int n)) (Data (Text s)) h = h

@@ -10,9 +10,10 @@ ghost use Rattle.condition_tests.specs.Places.{PlaceInRange, AtomInRange};
 
 use crate::literal::{Atom, Goal, Literal, Property, Relation, Slot};
 use automaton::{Automaton, RpeRefusal};
+use query_parts::copied_values;
 use query_spec::{Variable, index_of};
 use rpe::Rpe;
-use sd_value::{NoMemory, Value, copy};
+use sd_value::{NoMemory, copy};
 use std::alloc::Global;
 use struql_ast::{Condition, Constants, Operand, PathStep};
 
@@ -32,16 +33,6 @@ fn place_of(alloc: Global, variables: &[Variable], operand: &Operand) -> Result<
             Ok(Slot::Fixed(value))
         }
     }
-}
-
-fn constants_of(alloc: Global, items: &[Value]) -> Result<Constants, NoMemory>
-    ensures { IfOk result (λ constants. constants ≡ items.now) }
-{
-    let mut copies = Vec::new(alloc);
-    for item in items {
-        copies.push(copy(alloc, item)?)?;
-    }
-    Ok(Constants::new(copies))
 }
 
 // A label alone is looked up as an edge, and any other expression is walked.
@@ -129,7 +120,7 @@ fn atom_of(alloc: Global, variables: &[Variable], condition: &Condition) -> Resu
             ..
         } => {
             let place = place_of(alloc, variables, operand)?;
-            let constants = constants_of(alloc, constants.items())?;
+            let constants = Constants::new(copied_values(alloc, constants.items())?);
             Ok(Atom::One(place, Property::OneOf(constants)))
         }
         Condition::Kind { test, variable, .. } => {

@@ -1,7 +1,7 @@
 -- Proofs for mentions, one after another.
 use Rattle.std.proofs.Common.{inl, inr, ◌≡◌, ℕ, ◌+◌, ◌<◌, ◌≤◌, List, [], ◌∷◌, ◌++◌, refl, sym, ap, subst, ◌∙◌, length, get_or, take}
 use Rattle.std.specs.Prelude.{Option, Some, None, Contains, map, option_map, option_and_then}
-use Rattle.std.proofs.lemmas.List.{take_more, take_all}
+use Rattle.std.proofs.lemmas.List.{take_more}
 use Rattle.std.proofs.lemmas.List.Elements.{All-get_or}
 use Rattle.sd_value.specs.Members.{Contains-nil, Contains-cons_cases, among_at}
 use Rattle.query_spec.specs.Mentions.{chain_of}
@@ -47,10 +47,6 @@ module _ {X Y Z : Type 0} (f : Z → Option Y) (g : X → Z) where
   pub each_more : (xs : List X) (i : ℕ) (x : X) (ys new : List Y) (y : Y) → i < length xs → x ≡ get_or xs i x → new ≡ ys ++ y ∷ [] → for_each f (map g (take i xs)) ≡ Some ys → Some y ≡ f (g x) → for_each f (map g (take (i + 1) xs)) ≡ Some new
   each_more xs i x ys new y lt is e h k =
       ap (λ l. for_each f (map g l)) (take_more xs i x lt ∙ ap (λ z. take i xs ++ z ∷ []) (sym is)) ∙ (each_pushed (take i xs) x ys y h (sym k) ∙ ap Some (sym e))
-
-  -- its end
-  pub each_done : (xs : List X) (i : ℕ) (ys : List Y) → length xs ≤ i → for_each f (map g (take i xs)) ≡ Some ys → Some ys ≡ for_each f (map g xs)
-  each_done xs i ys le h = sym h ∙ ap (λ l. for_each f (map g l)) (take_all i xs le)
 
   -- and where it ends early
   pub each_left : (xs : List X) (i : ℕ) (x : X) → i < length xs → x ≡ get_or xs i x → None ≡ f (g x) → None ≡ for_each f (map g xs)

@@ -16,12 +16,11 @@ use certificate_search::{SearchedQuery, numbered_links};
 use checked::certificates_of_checked_queries_hold;
 use constraint_spec::{Constraint, Verdict};
 use inclusion::Inclusions;
-use query_scoping::scopes;
+use query_scoping::ScopedQuery;
 use sd_value::NoMemory;
 use search::find_certificate;
 use std::alloc::Global;
 use std::slice;
-use struql_check::Checked;
 
 // The verdicts on the constraints over one table.
 fn find_all(
@@ -47,7 +46,7 @@ fn find_all(
 /// met by the query's site over every data graph.
 pub fn prove_all(
     alloc: Global,
-    query: &Checked,
+    query: &ScopedQuery,
     constraints: &[Constraint],
 ) -> Result<Vec<Verdict>, NoMemory>
     ensures exact { IfOk result (λ vs.
@@ -57,12 +56,12 @@ pub fn prove_all(
 {
     certificates_of_checked_queries_hold();
     let _written = query.query();
-    let blocks = scopes(alloc, query)?;
-    let judge = Inclusions::of(alloc, &blocks)?;
-    let links = numbered_links(alloc, &blocks)?;
+    let blocks = query.blocks();
+    let judge = Inclusions::of(alloc, blocks)?;
+    let links = numbered_links(alloc, blocks)?;
     let searched = SearchedQuery {
         judge: &judge,
-        blocks: &blocks,
+        blocks,
         links: &links,
     };
     find_all(alloc, &searched, constraints)
@@ -70,7 +69,11 @@ pub fn prove_all(
 
 /// A certificate of the constraint, and unknown exactly where there is none. What has a certificate
 /// is met by the query's site over every data graph.
-pub fn prove(alloc: Global, query: &Checked, constraint: &Constraint) -> Result<Verdict, NoMemory>
+pub fn prove(
+    alloc: Global,
+    query: &ScopedQuery,
+    constraint: &Constraint,
+) -> Result<Verdict, NoMemory>
     ensures exact { IfOk result (IsVerdict (scope_of query.now) constraint.now) }
     ensures holds { IfOk result (HoldsOverAll (scope_of query.now) constraint.now) }
 {

@@ -10,12 +10,11 @@ use crate::checks::first_fault;
 use crate::reading::{Phrase, phrases};
 use crate::refusal::{ConstraintRefusal, NameFault};
 use constraint_spec::Constraint;
-use query_scoping::scopes;
+use query_scoping::ScopedQuery;
 use schema::functions_of;
 use sd_lex::tokens;
 use sd_value::{NoMemory, Str};
 use std::alloc::Global;
-use struql_check::Checked;
 use token_reader::Word;
 
 fn name_of(alloc: Global, word: &Word) -> Result<Str, NoMemory>
@@ -74,13 +73,13 @@ fn constraints_of(alloc: Global, phrases: &[Phrase]) -> Result<Vec<Constraint>, 
 /// The first fault of the functions that these constraints name.
 fn name_fault(
     alloc: Global,
-    query: &Checked,
+    query: &ScopedQuery,
     phrases: &[Phrase],
 ) -> Result<Option<NameFault>, NoMemory>
     ensures { IfOk result (FirstFaulty query.now phrases.now) }
 {
-    let scopes = scopes(alloc, query)?;
-    let functions = functions_of(alloc, &scopes.blocks)?;
+    let blocks = query.blocks();
+    let functions = functions_of(alloc, &blocks.blocks)?;
     Ok(first_fault(&functions, phrases))
 }
 
@@ -99,7 +98,7 @@ pub fn parse_constraints(
     alloc: Global,
     bytes: &[u8],
     limit: u64,
-    query: &Checked,
+    query: &ScopedQuery,
 ) -> Result<Vec<Constraint>, ConstraintRefusal>
     ensures { Reads query.now limit bytes.now (told result) }
 {

@@ -43,13 +43,3 @@ name_start path = by (list_any is_slash path) refl
     by : (p : Bool) → list_any is_slash path ≡ p → name_so_far path path ≡ behind_slashes path
     by true is = rw is refl
     by false is = rw (is, behind_none path is) refl
-
-pub name_slash : (name : List ℕ) (b : ℕ) (bs : List ℕ) → is_slash b ≡ true → name_so_far name (b ∷ bs) ≡ name_so_far bs bs
-name_slash name b bs is = rw is refl
-
-pub name_other : (name : List ℕ) (b : ℕ) (bs : List ℕ) → is_slash b ≡ false → name_so_far name (b ∷ bs) ≡ name_so_far name bs
-name_other name b bs is = by (list_any is_slash bs) refl
-  where
-    by : (p : Bool) → list_any is_slash bs ≡ p → name_so_far name (b ∷ bs) ≡ name_so_far name bs
-    by true rest = rw (is, rest) refl
-    by false rest = rw (is, rest) refl

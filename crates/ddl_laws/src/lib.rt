@@ -5,8 +5,10 @@ ghost use Rattle.graph_spec.specs.DataGraph.{DataGraph, IsWellFormed};
 ghost use Rattle.ddl_laws.specs.RoundTrip.{HasI64s, IsReadAgain};
 
 mod answer;
+mod integers;
 
 pub use answer::a_data_text_has_one_answer;
+pub use integers::integers_fit;
 
 /// The canonical text of a well-formed graph, read into an empty builder with room, gives the graph again: this is an
 /// answer that the contract of `sd_ddl::read_ddl` admits.

@@ -26,7 +26,8 @@ use Rattle.page_spec.proofs.Unique.{template_unique}
 use Rattle.tmpl.specs.declared.Mode.TheVariants.{Plain, Link as Linked_to}
 use Rattle.site_spec.specs.Site.{InSite, Linked, SiteEdge, IsTermUnder, IsTargetUnder, Joins}
 use Rattle.weight_spec.specs.Site.{site_of}
-use Rattle.demand_spec.specs.Reads.{Use, uses, Begins, at_here, at_collected, at_loop, Passes, UsePasses, BodyAsks, Presents, IsDemanded, IsAsked, IsRead}
+use Rattle.tmpl.specs.Expressions.{Use, uses}
+use Rattle.demand_spec.specs.Reads.{Begins, at_here, at_collected, at_loop, Passes, UsePasses, BodyAsks, Presents, IsDemanded, IsAsked, IsRead}
 use Rattle.definition_examples.specs.Bibliography.{graph, pub1, title}
 use Rattle.definition_examples.specs.BibliographySite.{row, rows, scope, papers, scoped_years, chain, root_page, paper_page, year_page}
 use Rattle.definition_examples.proofs.Tools.{names_differ}

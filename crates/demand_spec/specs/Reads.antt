@@ -1,69 +1,17 @@
 -- What a page may read of its site: the words of its templates, step by step.
-use Rattle.std.specs.Prelude.{◌≡◌, ◌⊎◌, ℕ, Bool, true, false, List, [], ◌∷◌, ◌++◌, Option, Some}
-use Rattle.std.specs.Prelude.{None}
-use Rattle.std.specs.Prelude.{Contains, get_or}
+use Rattle.std.specs.Prelude.{◌≡◌, ◌⊎◌, ℕ, true, List, [], ◌∷◌, Contains, get_or}
 pub use Rattle.sd_value.specs.Names.{Name, Label, Word}
 use Rattle.sd_value.specs.declared.Term.{Term}
 use Rattle.sd_value.specs.declared.Value.{Value}
 use Rattle.sd_value.specs.declared.Value.TheVariants.{Page}
-use Rattle.tmpl.specs.Body.{Body, done, text, format, choice, repeat, TemplateFile}
+use Rattle.tmpl.specs.Body.{Body, done, TemplateFile}
+use Rattle.tmpl.specs.Expressions.{Use, uses, LoopOver, loops}
 use Rattle.tmpl.specs.declared.Expr.{Expr}
-use Rattle.tmpl.specs.declared.Order.{Order}
-use Rattle.tmpl.specs.declared.Mode.{Mode}
-use Rattle.tmpl.specs.declared.Mode.TheVariants.{Plain, Embed, Link}
 use Rattle.tmpl.specs.declared.WordRoot.TheVariants.{Here, Loop, Collection}
 use Rattle.page_spec.specs.Site.{Site, Reaches}
 use Rattle.page_spec.specs.Pieces.{HasTemplate}
 use Rattle.page_spec.specs.Page.{IsPresent, Leads}
 use Rattle.page_spec.specs.Question.{Question, in_site, out, collected, template}
-
--- the words of a key, if there is one
-abbrev pub key_words : Option Word → List Word
-key_words None = []
-key_words (Some word) = word ∷ []
-
--- the words by which a value's link finds its label
-abbrev pub link_words : Mode → List Word
-link_words Plain = []
-link_words Embed = []
-link_words (Link word) = key_words word
-
--- the mode is EMBED
-abbrev pub is_embed : Mode → Bool
-is_embed Plain = false
-is_embed Embed = true
-is_embed (Link word) = false
-
--- an expression of a template, the words that begin at each of its values, and whether these are
--- embedded
-pub record Use : Type 0 where
-  pub expr : Expr
-  pub onward : List Word
-  pub embeds : Bool
-
--- every expression of a body, those of branches that aren't taken too
-abbrev pub uses : Body → List Use
-uses done = []
-uses (text t rest) = uses rest
-uses (format x m o rest) =
-    record { expr = x; onward = key_words o.key ++ link_words m; embeds = is_embed m } ∷ uses rest
-uses (choice negated x against taken other rest) =
-    record { expr = x; onward = []; embeds = false } ∷ (uses taken ++ uses other ++ uses rest)
-uses (repeat k x o body rest) =
-    record { expr = x; onward = key_words o.key; embeds = false } ∷ (uses body ++ uses rest)
-
--- a loop of a template, and the expression of whose values it goes
-pub record LoopOver : Type 0 where
-  pub number : ℕ
-  pub expr : Expr
-
--- every loop of a body, those of branches that aren't taken too
-abbrev pub loops : Body → List LoopOver
-loops done = []
-loops (text t rest) = loops rest
-loops (format x m o rest) = loops rest
-loops (choice negated x against taken other rest) = loops taken ++ loops other ++ loops rest
-loops (repeat k x o body rest) = record { number = k; expr = x } ∷ (loops body ++ loops rest)
 
 module _ (site : Site) where
   -- the word, begun at w, comes to u and has the label next

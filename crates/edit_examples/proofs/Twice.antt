@@ -24,7 +24,7 @@ use Rattle.page_spec.specs.Site.{InRange}
 use Rattle.page_spec.specs.Pieces.{bytes}
 use Rattle.page_spec.specs.Page.{HasText, IsOutcome}
 use Rattle.page_spec.proofs.Texts.{has_text_unique}
-use Rattle.demand_spec.specs.Reads.{Use, uses}
+use Rattle.tmpl.specs.Expressions.{Use, uses}
 use Rattle.definition_examples.specs.Tools.{edge}
 use Rattle.definition_examples.proofs.Tools.{listed, all}
 use Rattle.edit_spec.specs.Edited.{HasNodeAfter, HasEdgeAfter, HasMemberAfter}

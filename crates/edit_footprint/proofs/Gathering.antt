@@ -1,19 +1,14 @@
--- Gathering one part after another.
-use Rattle.std.specs.Prelude.{◌≡◌, ℕ, Bool, true, false, ◌||◌, List, [], ◌∷◌, ◌++◌, ◌+◌, ◌<◌, ◌≤◌, length, get_or, take, Ok, Err, Result, IfOk}
+-- Gathering one expression after another.
+use Rattle.std.specs.Prelude.{◌≡◌, ℕ, Bool, true, false, ◌||◌, List, [], ◌∷◌, ◌++◌, ◌+◌, ◌<◌, ◌≤◌, length, get_or, take, map}
 use Rattle.std.specs.List.{list_any}
 use Rattle.std.proofs.Common.{refl, sym, ap, ◌∙◌, subst, append_assoc, append-nil}
-use Rattle.std.proofs.lemmas.List.{take_more, take_all}
+use Rattle.std.proofs.lemmas.List.{take_more, take_all, map-append}
 use Rattle.std.proofs.lemmas.List.Folds.{list_any-append}
 use Rattle.std.proofs.lemmas.List.Concat.{flat_map-append}
-use Rattle.tmpl.specs.declared.Part.{Part, Text, Format, Choice', Repeat'}
-use Rattle.tmpl.specs.declared.Part.TheVariants as variants
-use Rattle.tmpl.specs.Body.{Body, done, part_before, row_body, body_of}
-use Rattle.tmpl.specs.declared.Choice as choices
-use Rattle.tmpl.specs.declared.Repeat as repeats
-use Rattle.tmpl.proofs.Bodies.{choice_body, repeat_body}
-use Rattle.demand_spec.specs.Reads.{Use, uses, key_words}
+use Rattle.tmpl.specs.declared.uses.ExprUse.{ExprUse}
+use Rattle.tmpl.specs.Expressions.{Use, use_of}
 use Rattle.edit_footprint.specs.declared.reads.Reads.{Reads}
-use Rattle.edit_footprint.specs.Gathered.{AddsUses, own_of, others_of, collections_of, part_uses}
+use Rattle.edit_footprint.specs.Gathered.{AddsUses, own_of, others_of, collections_of}
 
 or_false : (b : Bool) → b ≡ (b || false)
 or_false true = refl
@@ -46,77 +41,18 @@ adds_then a b c us vs h k = record {
       (sym (flat_map-append _ us vs));
 }
 
--- the uses of a part come before those of the rest
-pub part_first : (p : Part) (rest : Body) → uses (part_before p rest) ≡ part_uses p ++ uses rest
-part_first (Text t) rest = refl
-part_first (Format f) rest = refl
-part_first (Choice' negated x against m taken n other) rest =
-    let u : Use = record { expr = x; onward = []; embeds = false } in
-    let inner : List Use = uses (row_body taken) ++ uses (row_body other) in
-    ap (λ (l : List Use). u ∷ (l ++ uses rest)) (sym (append-nil inner))
-part_first (Repeat' number x o n body) rest =
-    let u : Use = record { expr = x; onward = key_words o.key; embeds = false } in
-    ap (λ (l : List Use). u ∷ (l ++ uses rest)) (sym (append-nil (uses (row_body body))))
+uses_more : (xs : List ExprUse) (i : ℕ) (x : ExprUse) → i < length xs → x ≡ get_or xs i x
+    → map use_of (take (i + 1) xs) ≡ map use_of (take i xs) ++ use_of x ∷ []
+uses_more xs i x lt is =
+    ap (map use_of) (take_more xs i x lt ∙ ap (λ (y : ExprUse). take i xs ++ y ∷ []) (sym is))
+    ∙ map-append use_of (take i xs) (x ∷ [])
 
-body_push : (ps : List Part) (p : Part) → uses (body_of (ps ++ p ∷ [])) ≡ uses (body_of ps) ++ part_uses p
-body_push [] p = refl
-body_push (q ∷ ps) p =
-    part_first q (body_of (ps ++ p ∷ [])) ∙ ap (λ l. part_uses q ++ l) (body_push ps p)
-    ∙ sym (append_assoc (part_uses q) (uses (body_of ps)) (part_uses p)) ∙ ap (λ l. l ++ part_uses p)
-    (sym (part_first q (body_of ps)))
+pub adds_more : (xs : List ExprUse) (i : ℕ) (x : ExprUse) (a b c : Reads) → i < length xs → x ≡ get_or xs i x
+    → AddsUses a b (map use_of (take i xs)) → AddsUses b c (use_of x ∷ [])
+    → AddsUses a c (map use_of (take (i + 1) xs))
+adds_more xs i x a b c lt is h k = subst (AddsUses a c) (sym (uses_more xs i x lt is))
+    (adds_then a b c (map use_of (take i xs)) (use_of x ∷ []) h k)
 
-pub uses_more : (ps : List Part) (i : ℕ) (p : Part) → i < length ps → p ≡ get_or ps i p
-    → uses (body_of (take (i + 1) ps)) ≡ uses (body_of (take i ps)) ++ part_uses p
-uses_more ps i p lt is =
-    ap (λ l. uses (body_of l)) (take_more ps i p lt ∙ ap (λ (q : Part). take i ps ++ q ∷ []) (sym is))
-    ∙ body_push (take i ps) p
-
-pub adds_more : (ps : List Part) (i : ℕ) (p : Part) (a b c : Reads) → i < length ps → p ≡ get_or ps i p
-    → AddsUses a b (uses (body_of (take i ps))) → AddsUses b c (part_uses p)
-    → AddsUses a c (uses (body_of (take (i + 1) ps)))
-adds_more ps i p a b c lt is h k = subst (AddsUses a c) (sym (uses_more ps i p lt is))
-    (adds_then a b c (uses (body_of (take i ps))) (part_uses p) h k)
-
-pub adds_all : (ps : List Part) (i : ℕ) (a b : Reads) → length ps ≤ i → AddsUses a b (uses (body_of (take i ps)))
-    → AddsUses a b (uses (body_of ps))
-adds_all ps i a b le h = subst (λ l. AddsUses a b (uses (body_of l))) (take_all i ps le) h
-
--- a choice and a loop
-pub choice_uses : (x : choices.Choice) → part_uses (variants.Choice x) ≡ record {
-  expr = x.values;
-  onward = [];
-  embeds =
-      false;
-} ∷ (uses (body_of x.taken.items) ++ uses (body_of x.other.items) ++ [])
-choice_uses x = ap uses (choice_body x done)
-
-pub repeat_uses : (x : repeats.Repeat) → part_uses (variants.Repeat x) ≡ record
-    { expr = x.values; onward = key_words x.order.key; embeds = false } ∷ (uses (body_of x.body.items) ++ [])
-repeat_uses x = ap uses (repeat_body x done)
-
-pub ok_then : {X E : Type 0} (r : Result X E) (P Q : X → Type 0) → IfOk r P → ((x : X) → P x → Q x) → IfOk r Q
-ok_then (Ok x) P Q h to = to x h
-ok_then (Err e) P Q h to = h
-
--- a choice: its expression, and then its two bodies
-pub choice_adds : (x : choices.Choice) (a b c d : Reads)
-    → AddsUses a b (record { expr = x.values; onward = []; embeds = false } ∷ [])
-    → AddsUses b c (uses (body_of x.taken.items)) → AddsUses c d (uses (body_of x.other.items))
-    → AddsUses a d (part_uses (variants.Choice x))
-choice_adds x a b c d h k m =
-    let u : Use = record { expr = x.values; onward = []; embeds = false } in
-    let inner : List Use = uses (body_of x.taken.items) ++ uses (body_of x.other.items) in
-    let whole : AddsUses a d (u ∷ inner) = adds_then a b d (u ∷ []) inner h
-    (adds_then b c d (uses (body_of x.taken.items)) (uses (body_of x.other.items)) k m) in
-    subst (AddsUses a d) (ap (λ (l : List Use). u ∷ l) (sym (append-nil inner)) ∙ sym (choice_uses x)) whole
-
-pub repeat_adds : (x : repeats.Repeat) (a b c : Reads) → AddsUses a b
-    (record { expr = x.values; onward = key_words x.order.key; embeds = false } ∷ [])
-    → AddsUses b c (uses (body_of x.body.items))
-    → AddsUses a c (part_uses (variants.Repeat x))
-repeat_adds x a b c h k =
-    let u : Use = record { expr = x.values; onward = key_words x.order.key; embeds = false } in
-    let whole : AddsUses a c (u ∷ uses (body_of x.body.items)) = adds_then a b c (u ∷ []) (uses (body_of x.body.items))
-    h k in
-    subst (AddsUses a c) (ap (λ (l : List Use). u ∷ l) (sym (append-nil (uses (body_of x.body.items))))
-    ∙ sym (repeat_uses x)) whole
+pub adds_all : (xs : List ExprUse) (i : ℕ) (a b : Reads) → length xs ≤ i → AddsUses a b (map use_of (take i xs))
+    → AddsUses a b (map use_of xs)
+adds_all xs i a b le h = subst (λ l. AddsUses a b (map use_of l)) (take_all i xs le) h

@@ -13,7 +13,7 @@ use Rattle.site_spec.specs.Site.{Scope}
 use Rattle.tmpl.specs.declared.Templates.{Templates}
 use Rattle.tmpl.specs.Reading.{file_of, template_body}
 use Rattle.tmpl.specs.Body.{Body, done, TemplateFile}
-use Rattle.demand_spec.specs.Reads.{uses}
+use Rattle.tmpl.specs.Expressions.{uses}
 use Rattle.edit_spec.specs.Footprint.{own_labels, other_labels, named_collections, has_embed, IsWithoutEmbed}
 use Rattle.edit_touches.specs.declared.FootprintParts.{FootprintParts}
 use Rattle.edit_touches.specs.Parts.{footprint_of}
@@ -66,20 +66,6 @@ number_in_range ts function k e =
     omega (arith, length-map ts.bodies.items template_body, h)
 
 -- ---- with an EMBED, and without
-
-pub parts_every : (f : TemplateFile) (q : Scope) (function : Name) (r : Reads) (p : FootprintParts) → r.embeds ≡ true
-    → p.every ≡ true → p.blocks.items ≡ [] → p.labels.items ≡ [] → p.collections.items ≡ []
-    → AreReads f function r → AreParts f q function p
-parts_every f q function r p embeds every blocks labels collections (t, template, reads) = (
-  t,
-  template,
-  record {
-    every = every ∙ sym embeds ∙ reads.embeds_same;
-    parts = subst
-        (λ (b : Bool). MatchBool b ((p.blocks.items ≡ []) × (p.labels.items ≡ []) × (p.collections.items ≡ []))
-        (IsWithoutEmbed q function t (footprint_of p))) (sym every) (blocks, labels, collections);
-  },
-)
 
 pub parts_fine : (f : TemplateFile) (q : Scope) (function : Name) (r : Reads) (p : FootprintParts) → r.embeds ≡ false
     → p.every ≡ false

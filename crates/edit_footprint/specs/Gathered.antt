@@ -3,9 +3,7 @@ use Rattle.std.specs.Prelude.{◌≡◌, Bool, false, ◌||◌, List, ◌++◌}
 use Rattle.std.specs.List.{flat_map, list_any}
 use Rattle.graph_spec.specs.DataGraph.{Name}
 use Rattle.tmpl.specs.declared.Expr.{Expr}
-use Rattle.tmpl.specs.declared.Part.{Part}
-use Rattle.tmpl.specs.Body.{done, part_before}
-use Rattle.demand_spec.specs.Reads.{Use, uses}
+use Rattle.tmpl.specs.Expressions.{Use}
 use Rattle.edit_spec.specs.Footprint.{labels_here, labels_beyond, collections_at}
 use Rattle.edit_footprint.specs.declared.reads.Reads.{Reads}
 
@@ -39,7 +37,3 @@ collections_of us = flat_map (λ x. collections_at x.expr.root) us
 abbrev pub AddsUses : Reads → Reads → List Use → Type 0
 AddsUses old new us = Adds old new (list_any (λ x. x.embeds) us) (own_of us) (others_of us)
     (collections_of us)
-
--- the expressions of one part
-abbrev pub part_uses : Part → List Use
-part_uses p = uses (part_before p done)

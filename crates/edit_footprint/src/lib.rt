@@ -19,7 +19,7 @@ use query_blocks::QueryBlocks;
 use reads::{Reads, gather};
 use sd_value::{NoMemory, Str, sort_and_dedup};
 use std::alloc::Global;
-use tmpl::{NamedTemplate, Templates};
+use tmpl::{NamedTemplate, Templates, uses_of};
 
 // Numbers of blocks have 32 bits.
 const MOST_BLOCKS: usize = 4_294_967_296;
@@ -49,8 +49,8 @@ fn reads_of(alloc: Global, templates: &Templates, function: &Str) -> Result<Read
     match number_of(templates.functions(), function) {
         None => Ok(reads),
         Some(number) => {
-            let parts = templates.template(number).parts.as_slice();
-            gather(alloc, parts, &mut reads)?;
+            let uses = uses_of(alloc, templates.template(number).parts.as_slice())?;
+            gather(alloc, &uses, &mut reads)?;
             Ok(reads)
         }
     }

@@ -13,7 +13,7 @@ use Rattle.weight_spec.specs.Site.{site_of}
 use Rattle.tmpl.specs.Body.{Body, TemplateFile}
 use Rattle.page_spec.specs.declared.Outcome.{Outcome}
 use Rattle.page_spec.specs.Page.{IsOutcome}
-use Rattle.demand_spec.specs.Reads.{Use, uses}
+use Rattle.tmpl.specs.Expressions.{Use, uses}
 use Rattle.edit_spec.specs.declared.Edit.{Edit}
 use Rattle.edit_spec.specs.Touches.{IsOfLabel, IsOfCollection, TouchesChain}
 use Rattle.edit_spec.specs.Footprint.{own_labels, other_labels, named_collections, IsTemplateOf, MayBeLabelled, IsFrom, RestsOn, on_term, on_own_link, on_link, on_collect, Footprint, IsWithoutEmbed, IsFootprint, TouchesFootprint, by_embed, by_block, by_label, by_collection}
@@ -23,7 +23,8 @@ use Rattle.edit_laws.proofs.Guards.{by_test}
 use Rattle.edit_laws.proofs.Chains.{distinct}
 use Rattle.edit_laws.proofs.Rows.{rows_stay}
 use Rattle.edit_laws.proofs.Sites.{RowsTo, in_site_to, linked_to, collected_to, edge_to, carried, from_function}
-use Rattle.edit_laws.proofs.Templates.{ReadsTo, use_to, UsesAlike, none_embeds}
+use Rattle.page_spec.proofs.Alike.{UsesAlike}
+use Rattle.edit_laws.proofs.Templates.{ReadsTo, use_to, none_embeds}
 use Rattle.edit_laws.proofs.Outcomes.{outcome_to}
 
 -- ---- rows of a block's chain

@@ -12,9 +12,9 @@ use Rattle.page_spec.specs.Site.{Site, Env}
 use Rattle.page_spec.specs.Pieces.{Item, byte, embed, bytes, First, Expands, Pieces}
 use Rattle.page_spec.specs.Page.{Filled, Text, Embeds, Leads, nowhere, on, Loops, IsPresent, IsOutcome}
 use Rattle.page_spec.proofs.Unique.{first_unique}
-use Rattle.demand_spec.specs.Reads.{Use, uses}
+use Rattle.tmpl.specs.Expressions.{Use, uses}
 use Rattle.edit_spec.specs.Footprint.{IsTemplateOf}
-use Rattle.edit_laws.proofs.Templates.{UsesAlike, expands_to, expands_bytes, AreBytes}
+use Rattle.page_spec.proofs.Alike.{UsesAlike, expands_to, expands_bytes, AreBytes}
 
 filled_bytes : (P Q : Value → List ℕ → Type 0) (x t : List ℕ) → Filled P (bytes x) t → Filled Q (bytes x) t
 filled_bytes P Q [] t h = h

@@ -13,7 +13,7 @@ use Rattle.tmpl.specs.declared.WordRoot.{WordRoot}
 use Rattle.tmpl.specs.declared.WordRoot.TheVariants.{Here, Loop, Collection}
 use Rattle.tmpl.specs.Body.{Body, done, TemplateFile}
 use Rattle.page_spec.specs.Pieces.{First}
-use Rattle.demand_spec.specs.Reads.{uses}
+use Rattle.tmpl.specs.Expressions.{uses}
 use Rattle.edit_spec.specs.declared.Edit.{Edit}
 use Rattle.edit_spec.specs.Touches.{IsOfLabel, IsOfCollection, TouchesChain}
 

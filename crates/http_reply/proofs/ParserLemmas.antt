@@ -2,7 +2,7 @@
 use Rattle.std.proofs.Common.{◌≡◌, ℕ, ◌<◌, true, List, [], ◌∷◌, ◌++◌, length, refl, sym, ap, ◌∙◌, subst, arith, append_assoc, get_or, length-append, false, lit<, lit≤}
 use Rattle.std.proofs.lemmas.List.{append-nil, get_or_at}
 use Rattle.std.proofs.lemmas.List.Elements.{All-cons, All-nil}
-use Rattle.httparse.specs.Grammar.{LineEnd, lf, print_version, RequestHead, IsRequestHead, print_request, HasNoRequest}
+use Rattle.httparse.specs.Grammar.{LineEnd, lf, print_version, RequestHead, IsRequestHead, print_request}
 use Rattle.httparse.specs.Grammar.{IsField, is_token_byte, is_uri_byte}
 use Rattle.httparse.specs.Spans.{RequestOverflows}
 use Rattle.httparse.proofs.GrammarLemmas.{print_request-append}
@@ -19,10 +19,6 @@ line_ends_no_head bytes h all e =
     let inside : length space.0 < length bytes = omega (arith, simp length-append at (ap length is)) in
     let no : false ≡ true = subst (λ b. is_line_end_byte b ≡ true) at (all (length space.0) 0 inside) in
     cc
-
--- a text that is no request at all begins with no head
-pub no_request_no_head : (bytes : List ℕ) → HasNoRequest bytes → HasNoHead bytes
-no_request_no_head bytes none h rest reads = none h rest (reads.head.valid, reads.whole)
 
 -- a text at whose front only too many lines could stand begins with no head
 pub overflow_no_head : (bytes : List ℕ) → RequestOverflows 64 bytes → HasNoHead bytes

@@ -8,7 +8,7 @@ use Rattle.http_spec.specs.Heads.{IsHead, HasNoHead, print_heads}
 use Rattle.http_spec.specs.Sessions.{OutcomeAt, closes_after, HasReplies, Session}
 use Rattle.http_spec.specs.Streams.{Timed, Request, timed, bytes_in, IsCutTo}
 use Rattle.http_spec.proofs.HeadLemmas.{head_last, last_of, later_cut}
-use Rattle.http_spec.proofs.StreamLemmas.{bytes-append, cut_later}
+use Rattle.http_spec.proofs.StreamLemmas.{bytes-append}
 use Rattle.hub.specs.Pieces.{AreReplies}
 
 pub timed-append : {D : Type 0} (d : D) (a b : List ℕ) → timed d (a ++ b) ≡ timed d a ++ timed d b
@@ -164,11 +164,3 @@ session_more page d limit left stream rest requests replies others piece x heads
         answered = has_append page limit left requests (requests_of d heads) replies others closed count session.answered (replies_dated page d left heads others closed answered);
       },
     )
-
--- bytes that come later are in its rest
-pub session_later : {D : Type 0} (page : D → OutcomeAt) (limit : ℕ) (stream later rest : List (Timed D)) (requests : List (Request D)) (replies : List (List ℕ)) (closed : Bool)
-    → Session page limit stream requests rest replies closed → Session page limit (stream ++ later) requests (rest ++ later) replies closed
-session_later page limit stream later rest requests replies closed session = record {
-  cut = cut_later stream later rest requests session.cut;
-  answered = session.answered;
-}

@@ -17,16 +17,6 @@ pub record AreNumbered {X : Type 0} (xs : List X) (n : ℕ) (keys : List X) (fir
   pub known : (i : ℕ) → i < n → Contains firsts (slice_index originals i)
   pub equal : (i : ℕ) (d : X) → i < n → item_at xs d (slice_index originals i) ≡ item_at xs d i
 
-pub numbered_none : {X : Type 0} (xs : List X) → AreNumbered xs 0 [] [] []
-numbered_none xs = record {
-  same = refl;
-  below = λ a l. absurd (omega arith);
-  found = λ a d l. absurd (omega arith);
-  counted = refl;
-  known = λ i l. absurd (omega arith);
-  equal = λ i d l. absurd (omega arith);
-}
-
 -- what holds of each place of a list, and of one pushed
 at_pushed : {Y : Type 0} (P : ℕ → Y → Type 0) (ys : List Y) (y d : Y) → ((i : ℕ) → i < length ys → P i (item_at ys d i)) → P (length ys) y
     → (i : ℕ) → i < length ys + 1 → P i (item_at (ys ++ y ∷ []) d i)

@@ -16,14 +16,11 @@ use Rattle.std.proofs.lemmas.Map.Keys.{Less-from_sorted, sorted_from_all_adjacen
 use Rattle.std.proofs.lemmas.Map.Steps.{length-le_from_distinct_below}
 use Rattle.std.proofs.lemmas.Map.Views.{Contains-from_any}
 use Rattle.sd_value.specs.Ascending.{ListsExactly}
-use Rattle.sd_value.specs.Members.{Contains-nil, Contains-map, Contains-mapped}
+use Rattle.sd_value.specs.Members.{Contains-map, Contains-mapped}
 use Rattle.sd_value.specs.OrderLaws.{both_tie}
 use Rattle.index_store.specs.declared.ranks.Keyed.{Keyed}
 use Rattle.index_store.specs.Ranks.{item_at, turn_cmp, keyed_cmp, IsInOrder, IsMerged, AreFirsts, AreRanks, AreOrderedAs, AreKeyed}
 use Rattle.index_store.proofs.RankLaws.{All-from_contained, map-ascends}
-
-pub keyed_none : {X : Type 0} (xs : List X) → AreKeyed xs [] []
-keyed_none xs = record { sound = λ k h. absurd (Contains-nil k h); complete = λ i h. absurd (Contains-nil i h) }
 
 -- one place more
 pub keyed_more : {X : Type 0} (xs : List X) (places : List ℕ) (ks : List (Keyed X)) → AreKeyed xs places ks → (k : Keyed X) → ((d : X) → k.key.now ≡ item_at xs d k.place) → AreKeyed xs (places ++ k.place ∷ []) (ks ++ k ∷ [])

@@ -1,5 +1,5 @@
 -- A query over positions picks what the query picks from the edges at them.
-use Rattle.std.specs.Prelude.{◌≡◌, ◌<◌, ℕ, Bool, true, false, cond, List, [], ◌∷◌, length, nat_lt, All, Contains}
+use Rattle.std.specs.Prelude.{◌≡◌, ◌<◌, ℕ, Bool, true, false, cond, List, [], ◌∷◌, length, nat_lt, All}
 use Rattle.std.specs.declared.cmp.Ordering.{Ordering}
 use Rattle.std.specs.declared.cmp.Ordering.TheVariants.{Less}
 use Rattle.std.specs.Ordering.{is_eq, ordering_index}
@@ -10,7 +10,6 @@ use Rattle.std.proofs.lemmas.List.{get_or-map, length-map}
 use Rattle.std.proofs.lemmas.List.Elements.{All-head, All-tail, All-cons}
 use Rattle.graph_spec.specs.declared.Edge.{Edge}
 use Rattle.list_lookup.specs.Picked.{in_place, IsPlaced}
-use Rattle.sd_value.specs.Ascending.{ListsExactly}
 use Rattle.index_store.specs.Indexed.{edge_at, edges_at, place_at, IsOrder}
 
 is_below : (i n : ℕ) → i < n → nat_lt i n ≡ true
@@ -50,6 +49,3 @@ All-filter P test (p ∷ ps) all = by (All-filter P test ps (All-tail P p ps all
 pub same_order : {R : Edge → Edge → Ordering} {es ds : List Edge} {ps qs : List ℕ} → ds ≡ es → qs ≡ ps → IsOrder R es ps → IsOrder R ds qs
 same_order {R} {es} {ds} {ps} {qs} edges positions order =
     subst (λ xs. IsOrder R xs qs) (sym edges) (subst (IsOrder R es) (sym positions) order)
-
-pub lists_edges : {R : Edge → Edge → Ordering} {es ds : List Edge} {ps : List ℕ} → es ≡ ds → IsOrder R es ps → ListsExactly R (Contains ds) (edges_at es ps)
-lists_edges {R} {es} {ds} {ps} edges order = subst (λ xs. ListsExactly R (Contains xs) (edges_at es ps)) edges order.lists

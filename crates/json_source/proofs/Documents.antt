@@ -27,6 +27,3 @@ pub spelled_is : (text bytes : List ℕ) → IsUtf8 text → IsUtf8 bytes → li
     → tokens bytes ≡ map spelled_token (tokens text) → if_utf8 spelled_value text ≡ if_utf8 read bytes
 spelled_is text bytes h k good same =
     rw (is_utf8-from_IsUtf8 text h, is_utf8-from_IsUtf8 bytes k, good) (ap value_of_tokens (sym same))
-
-pub spelled_bad : (text : List ℕ) → list_any is_bad (tokens text) ≡ true → if_utf8 spelled_value text ≡ None
-spelled_bad text bad = no_value spelled_value text (λ h. rw bad refl)

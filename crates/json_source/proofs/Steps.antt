@@ -19,7 +19,7 @@ use Rattle.json_source.specs.Names.{Pointer, item_place, item_name, member_place
 use Rattle.json_source.specs.Document.{value_of}
 use Rattle.json_source.specs.Tables.{is_table, are_objects, is_collection}
 use Rattle.json_source.specs.declared.rules.JsonRules.{JsonRules}
-use Rattle.json_source.specs.Text.{json_ending, JsonStep, record_steps, record_statements, records_steps, collection_steps, collections_steps, object_steps, top_steps, text_steps, steps_of, value_steps, items_steps, members_steps}
+use Rattle.json_source.specs.Text.{json_ending, JsonStep, record_steps, records_steps, collection_steps, collections_steps, text_steps, steps_of, value_steps, items_steps, members_steps}
 use Rattle.json_source.specs.declared.refusal.JsonRefusal.{JsonRefusal}
 use Rattle.json_source.specs.declared.refusal.JsonRefusal.TheVariants.{NotJson, NotInteger, NotRecords, TooManyEdges, TooManyNodes, NoMemory}
 
@@ -108,10 +108,6 @@ members_stop rules b c d steps at node entries left key v label place name e spl
     stop b c d steps (value_steps rules place node label name (view v)) (members_steps rules at node (members_view left)) e
     (subst (λ rest. Continues b steps c rest) (next_members rules at node entries left key v label place name split l p n) whole) ends
 
-pub record_is : (rules : JsonRules) (at : Pointer) (c n : Name) (d : Data) (ms : Members) → Some ms ≡ as_object d → record_steps rules at c n d ≡ record_statements rules at c n ms
-record_is rules at c n (object os) ms h = let e : os ≡ ms = cc in ap (record_statements rules at c n) e
-record_is rules at c n d ms h = cc
-
 pub no_record : (rules : JsonRules) (at : Pointer) (c n : Name) (d : Data) → ◌≡◌ {A = Option Members} None (as_object d) → record_steps rules at c n d ≡ fails (NotRecords at) ∷ []
 no_record rules at c n (object os) h = cc
 no_record rules at c n d h = refl
@@ -147,18 +143,6 @@ pub no_list : (rules : JsonRules) (at : Pointer) (c n : Name) (d : Data) → ◌
 no_list rules at c n (array ds) h = cc
 no_list rules at c n d h = refl
 
-pub list_is : (rules : JsonRules) (at : Pointer) (c n : Name) (d : Data) (ds : Items) → Some ds ≡ as_array d → collection_steps rules at c n d ≡ records_steps rules at c n 0 ds
-list_is rules at c n (array es) ds h = let e : es ≡ ds = cc in ap (records_steps rules at c n 0) e
-list_is rules at c n d ds h = cc
-
-pub top_object : (rules : JsonRules) (stem : Name) (d : Data) (ms : Members) → Some ms ≡ as_object d → top_steps rules stem d ≡ object_steps rules stem ms
-top_object rules stem (object os) ms h = let e : os ≡ ms = cc in ap (object_steps rules stem) e
-top_object rules stem d ms h = cc
-
-pub top_other : (rules : JsonRules) (stem : Name) (d : Data) → ◌≡◌ {A = Option Members} None (as_object d) → top_steps rules stem d ≡ collection_steps rules [] stem stem d
-top_other rules stem (object os) h = cc
-top_other rules stem d h = refl
-
 next_collection : (rules : JsonRules) (stem top : Name) (entries left : List Entry) (key : Text Global) (v : Json) (label place name : List ℕ)
     → is_collection rules (view v) ≡ true → top ≡ [] → entries ≡ (key, v) ∷ left → label ≡ string_bytes key → place ≡ member_place top label → name ≡ member_name stem label
     → collections_steps rules stem (members_view entries) ≡ collection_steps rules place label name (view v) ++ collections_steps rules stem (members_view left)
@@ -187,16 +171,6 @@ pub collections_stop : (rules : JsonRules) (b c d : Building) (steps : List Json
 collections_stop rules b c d steps stem top entries left key v label place name e table none split l p n whole ends =
     stop b c d steps (collection_steps rules place label name (view v)) (collections_steps rules stem (members_view left)) e
     (subst (λ rest. Continues b steps c rest) (next_collection rules stem top entries left key v label place name table none split l p n) whole) ends
-
--- a member that is passed over
-pub collections_skip : (rules : JsonRules) (b c : Building) (steps : List JsonStep) (stem : Name) (entries left : List Entry) (key : Text Global) (v : Json)
-    → is_collection rules (view v) ≡ false → entries ≡ (key, v) ∷ left
-    → Continues b steps c (collections_steps rules stem (members_view entries))
-    → Continues b steps c (collections_steps rules stem (members_view left))
-collections_skip rules b c steps stem entries left key v other split whole =
-    subst (λ rest. Continues b steps c rest)
-    (ap (λ es. collections_steps rules stem (members_view es)) split
-    ∙ ap (λ t. (if t then collection_steps rules (member_place [] (string_bytes key)) (string_bytes key) (member_name stem (string_bytes key)) (view v) else []) ++ collections_steps rules stem (members_view left)) other) whole
 
 -- a text that was not read
 pub unread : (rules : JsonRules) (b : Building) (stem : Name) (bytes : List ℕ) (e : JsonRefusal) → (e ≡ NoMemory) ⊎ ((e ≡ NotJson) × (value_of rules bytes ≡ None)) → Ends b (text_steps rules stem bytes) b (json_ending (Err e))

@@ -8,7 +8,7 @@ use Rattle.lint_spec.specs.declared.Claim.{Claim}
 use Rattle.lint_spec.specs.declared.Finding.{Finding}
 
 -- the number of a mistake: UnknownCollection, UnknownLabel, NoSuchLink, NeverCreated, NoTemplate,
--- NeverReached, Unbounded, NoRow, MisspelledTag
+-- NeverReached, Unbounded, NoRow, MisspelledTag, OnlyCollected
 abbrev pub number_of : Asked → ℕ
 number_of (asked.Collection c) = 141
 number_of (asked.Labels labels) = 142
@@ -21,6 +21,7 @@ number_of (asked.Created f) = 146
 number_of (asked.Variable block x) = 147
 number_of (asked.Rows block) = 148
 number_of asked.Tag = 149
+number_of (asked.Member c) = 156
 
 -- the mistake at the claim's place
 abbrev pub finding : Claim → Finding

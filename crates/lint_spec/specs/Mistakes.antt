@@ -68,6 +68,9 @@ module _ (graph : DataGraph) (q : Scope) (templates : TemplateFile) (further : L
   -- the data have no member of the collection, and no COLLECT names it
   IsMistake (asked.Collection c) =
       ((n : Name) → HasMember graph c n → ⊥) × (Contains (collected q.bodies) c → ⊥)
+  -- the data have no member of the collection; a COLLECT names it, but conditions read the data alone
+  IsMistake (asked.Member c) =
+      ((n : Name) → HasMember graph c n → ⊥) × Contains (collected q.bodies) c
   -- no edge has one of the labels
   IsMistake (asked.Labels labels) = SomeOf (λ l. IsLabelOf graph l → ⊥) labels
   -- the variable stands for a label, and no edge has one of those with which it is compared

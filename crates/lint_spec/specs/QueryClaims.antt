@@ -82,7 +82,8 @@ module _ (number : ℕ) where
   -- a condition; `under` where it is under `not`
   abbrev pub condition_claims : Bool → Condition → List Claim
   condition_claims under (member c x x_place place) =
-      claim (asked.Collection c) place.start ∷ variable_claims under x x_place
+      claim (asked.Collection c) place.start ∷ claim (asked.Member c) place.start
+      ∷ variable_claims under x x_place
   condition_claims under (path t s u place) =
       operand_claims under t ++ step_claims under s ++ operand_claims under u
   condition_claims under (compare t op u place) =
@@ -98,10 +99,10 @@ module _ (number : ℕ) where
 abbrev pub create_claim : Term → Claim
 create_claim t = claim (asked.Created t.function) t.span.start
 
--- what a link leads to
-abbrev pub link_claims : Target → List Claim
-link_claims (plain o) = []
-link_claims (made t) = claim (asked.Linked t.function) t.span.start ∷ []
+-- a value to which a link leads, or which a COLLECT has
+abbrev pub target_claims : Target → List Claim
+target_claims (plain o) = []
+target_claims (made t) = claim (asked.Linked t.function) t.span.start ∷ []
 
 -- ---- blocks
 
@@ -121,7 +122,8 @@ abbrev pub block_claims : ℕ → PlacedBlock → List Claim
 block_claims number b =
     claim (asked.Rows number) b.span.start
     ∷ (flat_map (condition_claims number false) b.clauses.conditions
-    ++ map create_claim b.clauses.creates ++ flat_map (λ k. link_claims k.target) b.clauses.links)
+    ++ map create_claim b.clauses.creates ++ flat_map (λ k. target_claims k.target) b.clauses.links
+    ++ flat_map (λ k. target_claims k.target) b.clauses.collects)
 
 -- blocks of which the first has this number
 abbrev pub numbered_claims : ℕ → List PlacedBlock → List Claim

@@ -47,8 +47,10 @@ impl Labels {
 /// What a query or a file of templates asks for. Blocks are numbered from 0 in the text's order.
 #[derive(Debug)]
 pub enum Asked {
-    /// Members of a collection.
+    /// Members of a collection: nodes of the data, or values that a COLLECT puts into it.
     Collection(Str),
+    /// Nodes of the data in a collection, if a COLLECT names it too.
+    Member(Str),
     /// Edges of the data by each of the labels of a path expression.
     Labels(Labels),
     /// Edges by each of the labels with which a variable of a block is compared, if it stands for one.
@@ -66,7 +68,7 @@ pub enum Asked {
     Rows(u64),
     /// A way to the pages of a function that a CREATE names.
     Created(Str),
-    /// A template for the pages of a function to which a link leads.
+    /// A template for the pages of a function to which a link leads, or which a COLLECT has.
     Linked(Str),
     /// Pages of the function that a template presents.
     Presented(Str),
@@ -86,6 +88,7 @@ impl Drop for Asked {
     fn drop(self) {
         match self {
             Asked::Collection(_) => {}
+            Asked::Member(_) => {}
             Asked::Labels(_) => {}
             Asked::Compared {
                 block: _,

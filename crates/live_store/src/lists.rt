@@ -87,17 +87,6 @@ pub(crate) fn left(most: u64, base: u64, gone: u64, came: u64) -> u64
     base - gone + came
 }
 
-/// The same, where it is not known whether that is a number of 64 bits. One that isn't is out of memory.
-pub(crate) fn count_left(base: u64, gone: u64, came: u64) -> Result<u64, NoMemory>
-    requires { gone ≤ base }
-    ensures { IfOk result (λ n. n ≡ base - gone + came) }
-{
-    match (base - gone).checked_add(came) {
-        Some(count) => Ok(count),
-        None => Err(NoMemory),
-    }
-}
-
 /// Whether something is there of which it is known whether it was there, went and came.
 pub(crate) fn is_left(base: bool, gone: bool, came: bool) -> bool
     ensures { IsTrue result ↔ (IsTrue came ⊎ (IsTrue base × (IsTrue gone → ⊥))) }

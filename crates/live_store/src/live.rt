@@ -8,7 +8,7 @@ ghost use Rattle.live_layers.specs.Items.{HasItem};
 ghost use Rattle.live_store.specs.Live.{Applies, AreTold};
 
 use crate::changes::{change, item_is_in};
-use crate::lists::{count_left, is_among, is_left};
+use crate::lists::{is_among, is_left};
 use crate::nodes::{declare, forget, node_of};
 use crate::told::Told;
 use edit_spec::Edit;
@@ -68,10 +68,13 @@ fn check_room(limits: Limits, told: &Told) -> Result<(), GraphRefusal>
     ensures { (L : DataGraph) → AreTold L told.now
         → Fits limits (length L.nodes) (length L.edges + length L.members) result }
 {
-    let edges = count_left(told.sizes.edges, 0, told.members)?;
     if told.sizes.nodes > limits.nodes {
         return Err(GraphRefusal::TooManyNodes);
     }
+    // What passes 64 bits passes any limit.
+    let Some(edges) = told.sizes.edges.checked_add(told.members) else {
+        return Err(GraphRefusal::TooManyEdges);
+    };
     if edges > limits.edges {
         return Err(GraphRefusal::TooManyEdges);
     }

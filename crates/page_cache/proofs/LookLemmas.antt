@@ -7,7 +7,7 @@ use Rattle.std.specs.Prelude.{◌↔◌}
 use Rattle.std.specs.Option.{option_map_or}
 use Rattle.std.specs.Map.{keys_of, lookup, lookup_entry, remove_entry}
 use Rattle.std.specs.Ordering.{is_eq, ordering_reverse}
-use Rattle.std.proofs.Math.Seq.{drop-cons, take-suc, drop-append_seam, take-append_seam}
+use Rattle.std.proofs.Math.Seq.{drop-cons, take-suc, drop-append_seam}
 use Rattle.std.proofs.lemmas.List.{drop_all, take_all, length-take-le, length-map, map-append}
 use Rattle.std.specs.declared.cmp.Ordering.{Ordering}
 use Rattle.std.specs.declared.cmp.Ordering.TheVariants.{Less, Equal, Greater}
@@ -288,14 +288,6 @@ module _ (stays : Term → Bool) (given : List Term) (es : List (Term × List �
   own_flags =
       ap (drop (length given)) flags_split
       ∙ ap (λ n. drop n (map stays given ++ map stays (keys_of es))) (sym (length-map given stays)) ∙ drop-append_seam (map stays given) (map stays (keys_of es))
-
-  pub given_flags : take (length given) flags ≡ map stays given
-  given_flags =
-      ap (take (length given)) flags_split
-      ∙ ap (λ n. take n (map stays given ++ map stays (keys_of es))) (sym (length-map given stays)) ∙ take-append_seam (map stays given) (map stays (keys_of es))
-
-  pub own_terms : drop (length given) all ≡ keys_of es
-  own_terms = ap (drop (length given)) all_is ∙ drop-append_seam given (keys_of es)
 
 -- the text was accepted
 taken_accepts : (accepts : Bool) (same : Same) → ((Taken same ≡ Refused) ↔ (accepts ≡ false)) → accepts ≡ true

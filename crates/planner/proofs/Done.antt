@@ -130,17 +130,6 @@ pub record IsUnderWay (sizes : Sizes) (arcs : List Bool) (shapes : List Shape) (
   pub leads : Leads sizes arcs shapes (state first bound) steps (state used now)
   pub costly : AreCostlyBefore sizes shapes used now from
 
-pub under_way-init : (sizes : Sizes) (arcs : List Bool) (shapes : List Shape) (bound used : List Bool) → length used ≡ length shapes → AllFalse used → IsUnderWay sizes arcs shapes bound used bound 0 []
-under_way-init sizes arcs shapes bound used long none = record {
-  used_long = long;
-  bound_long = refl;
-  first = used;
-  first_long = long;
-  first_unused = none;
-  leads = refl;
-  costly = λ j cost l k. absurd (omega (arith, l));
-}
-
 pub under_way-more : (sizes : Sizes) (arcs : List Bool) (shapes : List Shape) (bound used now : List Bool) (from : ℕ) (steps : List PlanStep) (step : PlanStep) (used2 now2 : List Bool) (from2 : ℕ)
     → IsUnderWay sizes arcs shapes bound used now from steps → length used2 ≡ length used → length now2 ≡ length now → IsStep sizes arcs shapes (state used now) step (state used2 now2)
     → AreCostlyBefore sizes shapes used2 now2 from2 → IsUnderWay sizes arcs shapes bound used2 now2 from2 (steps ++ step ∷ [])

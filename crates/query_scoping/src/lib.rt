@@ -19,7 +19,10 @@ use std::alloc::Global;
 use struql_check::Checked;
 
 mod blocks;
+mod scoped_query;
 mod variables;
+
+pub use scoped_query::ScopedQuery;
 
 /// In a query without faults each block is safe with the conditions of all blocks round it.
 pub fn faultless_is_safe()

@@ -14,9 +14,6 @@ use Rattle.query_spec.specs.Rows.{value_in}
 pub record NotBefore (variables : List Variable) (name : List ℕ) (i : ℕ) : Type 0 where
   pub other : (j : ℕ) (v : Variable) → j < i → slice_get variables j ≡ Some v → v.name ≡ name → ⊥
 
-pub none_before : (variables : List Variable) (name : List ℕ) → NotBefore variables name 0
-none_before variables name = record { other = λ j v l. absurd (omega arith) }
-
 split_below : (j n : ℕ) → j < n + 1 → (j < n) ⊎ (j ≡ n)
 split_below j n h = search (arith, h)
 

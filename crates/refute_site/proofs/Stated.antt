@@ -1,10 +1,8 @@
 -- Graphs to which more and more is added.
 use Rattle.std.proofs.Common.{◌≡◌, ℕ, suc, ◌+◌, ◌<◌, ◌≤◌, List, [], ◌∷◌, ◌++◌, sym, ap, ◌∙◌, length, get_or, take, append_assoc, append-nil, arith}
 use Rattle.std.specs.Prelude.{Bool, map}
-use Rattle.std.specs.List.{flat_map}
-use Rattle.std.proofs.lemmas.List.{take_more, take_all, length-take-le, length-map, map-append}
+use Rattle.std.proofs.lemmas.List.{take_more, length-take-le, length-map, map-append}
 use Rattle.std.proofs.lemmas.List.Sums.{fold-append}
-use Rattle.std.proofs.lemmas.Grind.{flat_map-append}
 use Rattle.graph_spec.specs.DataGraph.{DataGraph}
 use Rattle.graph_spec.specs.Statement.{Statement, graph_with}
 use Rattle.query_spec.specs.Query.{Condition as PlainCondition}
@@ -17,17 +15,6 @@ use Rattle.counterexample_spec.specs.Frozen.{with_all, asked, all_asked}
 -- what is added after what was
 pub with_more : (G H K : DataGraph) (xs ys : List Statement) → H ≡ with_all G xs → K ≡ with_all H ys → K ≡ with_all G (xs ++ ys)
 with_more G H K xs ys e f = f ∙ ap (λ z. with_all z ys) e ∙ sym (fold-append (λ G s. graph_with s G) G xs ys)
-
--- a loop that adds what h says of each item
-pub items_more : {X : Type 0} (h : X → List Statement) (G H K : DataGraph) (xs : List X) (i : ℕ) (x : X) → i < length xs → x ≡ get_or xs i x → H ≡ with_all G (flat_map h (take i xs)) → K ≡ with_all H (h x) → K ≡ with_all G (flat_map h (take (i + 1) xs))
-items_more h G H K xs i x lt is e f =
-    let front = take_more xs i x lt ∙ ap (λ z. take i xs ++ z ∷ []) (sym is) in
-    with_more G H K (flat_map h (take i xs)) (h x) e f
-    ∙ ap (with_all G) (ap (λ z. flat_map h (take i xs) ++ z) (sym (append-nil (h x))) ∙ sym (flat_map-append h (take i xs) (x ∷ [])) ∙ ap (flat_map h) (sym front))
-
--- and its end
-pub items_all : {X : Type 0} (h : X → List Statement) (G H : DataGraph) (xs : List X) (i : ℕ) → length xs ≤ i → H ≡ with_all G (flat_map h (take i xs)) → H ≡ with_all G (flat_map h xs)
-items_all h G H xs i le e = e ∙ ap (λ l. with_all G (flat_map h l)) (take_all i xs le)
 
 module _ (s : Assignment) (copy : Copy) (repeats : Bool) where
   -- one condition more at the end
@@ -53,7 +40,3 @@ module _ (s : Assignment) (copy : Copy) (repeats : Bool) where
       ∙ ap (with_all G)
       (ap (λ n. all_asked s copy repeats 0 (map condition_of (take i xs)) ++ asked s copy repeats n (condition_of x)) counted
       ∙ sym (asked_pushed 0 (map condition_of (take i xs)) (condition_of x)) ∙ ap (all_asked s copy repeats 0) (sym mapped))
-
-  -- and its end
-  pub conditions_all : (G H : DataGraph) (xs : List Condition) (cs : List PlainCondition) (i : ℕ) → map condition_of xs ≡ cs → length xs ≤ i → H ≡ with_all G (all_asked s copy repeats 0 (map condition_of (take i xs))) → H ≡ with_all G (all_asked s copy repeats 0 cs)
-  conditions_all G H xs cs i same le e = e ∙ ap (λ l. with_all G (all_asked s copy repeats 0 (map condition_of l))) (take_all i xs le) ∙ ap (λ l. with_all G (all_asked s copy repeats 0 l)) same

@@ -25,12 +25,11 @@ use candidate::UNBOUNDED;
 use candidates::candidates_of;
 use constraint_spec::Constraint;
 pub use oracle::Oracle;
-use query_scoping::scopes;
+use query_scoping::ScopedQuery;
 use refuting::{first_refuting, refuting};
 use sd_graph::{Graph, GraphBuilder};
 use sd_value::NoMemory;
 use std::alloc::Global;
-use struql_check::Checked;
 
 /// The first of the constraint's candidates over which the query's site doesn't meet the constraint,
 /// and none exactly where it meets it over each of them. The candidates are made one after another.
@@ -38,7 +37,7 @@ use struql_check::Checked;
 /// Out of memory.
 pub fn first_broken<T: Oracle>(
     alloc: Global,
-    query: &Checked,
+    query: &ScopedQuery,
     constraint: &Constraint,
     trial: &mut T,
 ) -> Result<Option<Graph>, NoMemory>
@@ -48,8 +47,7 @@ pub fn first_broken<T: Oracle>(
     ensures scope { T.scope trial.new ≡ T.scope trial.old }
     ensures first { IfOk result (IsFirstBroken (scope_of query.now) constraint.now) }
 {
-    let blocks = scopes(alloc, query)?;
-    let candidates = candidates_of(alloc, &blocks, constraint)?;
+    let candidates = candidates_of(alloc, query.blocks(), constraint)?;
     let empty = GraphBuilder::new(alloc, UNBOUNDED);
     if let Some(refuted) = refuting(alloc, empty, constraint, trial)? {
         return Ok(Some(refuted));

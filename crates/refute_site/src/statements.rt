@@ -9,6 +9,7 @@ use crate::freezing::ChainCopy;
 use sd_graph::GraphBuilder;
 use sd_value::{Datum, NoMemory, Str, Value, copy};
 use std::alloc::Global;
+use token_writer::{put, put_number};
 
 // Declares the value, if it is a node.
 fn add_value(alloc: Global, builder: &mut GraphBuilder, value: &Value) -> Result<(), NoMemory>
@@ -112,10 +113,10 @@ fn step(alloc: Global, chain_copy: ChainCopy, k: usize, number: usize) -> Result
     ensures { IfOk result (λ v. v ≡ step_of (copy_of chain_copy.entry) k number) }
 {
     let mut name = Vec::from_slice(alloc, b"step_")?;
-    name.extend_from_slice(k.to_string(alloc)?.as_bytes())?;
-    name.extend_from_slice(b"_")?;
-    name.extend_from_slice(number.to_string(alloc)?.as_bytes())?;
-    name.extend_from_slice(ending(chain_copy))?;
+    put_number(k as u128, &mut name)?;
+    put(b"_", &mut name)?;
+    put_number(number as u128, &mut name)?;
+    put(ending(chain_copy), &mut name)?;
     Ok(Value::Data(Datum::Node(Str::of(alloc, name)?)))
 }
 

@@ -24,10 +24,3 @@ reached_more cmp s from word i l at ends lt is g exact =
       sound = λ v h. let r = exact.sound v h in let q = g.sound r.0 r.1 in (q.0, q.1, subst (λ w. Reaches s q.0 w v) (sym e) (reaches_push s q.0 (take i word) l r.0 v q.2 r.2));
       complete = λ v (u, k, h). let r = reaches_pushed s u (take i word) l v (subst (λ w. Reaches s u w v) e h) in exact.complete v (r.0, g.complete r.0 (u, k, r.1), r.2);
     }
-
-pub reached_none : (cmp : Value → Value → Ordering) (s : Site) (from : List Value) (at : List Value) → ListsExactly cmp (Contains from) at → ListsExactly cmp (λ v. (u : Value) × Contains from u × Reaches s u [] v) at
-reached_none cmp s from at exact = record {
-  ascending = exact.ascending;
-  sound = λ v h. (v, exact.sound v h, refl);
-  complete = λ v (u, h, e). exact.complete v (subst (Contains from) e h);
-}

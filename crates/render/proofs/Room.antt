@@ -1,6 +1,5 @@
 -- What a page has room for.
 use Rattle.std.proofs.Common.{◌≡◌, ◌⊎◌, ℕ, suc, ◌+◌, ◌<◌, ◌≤◌, List, [], ◌∷◌, ◌++◌, length, inl, inr, sym, ap, ◌∙◌, refl, subst, arith, Ok, Err, Result, IfOk, append_assoc, append-nil, length-append}
-use Rattle.std.proofs.lemmas.Bool.{cases_order}
 use Rattle.sd_value.specs.declared.Value.{Value}
 use Rattle.page_spec.specs.declared.Piece.{Piece}
 use Rattle.page_spec.specs.declared.Piece.TheVariants as piece
@@ -75,14 +74,6 @@ fits_short n ps size kept (inr h) le = absurd (omega (arith, h.0, le))
 pub fits_long : (n : ℕ) (ps : List Item) (size : ℕ) (kept : List Item) → Fits n ps size kept → PAGE_LIMIT < size → PAGE_LIMIT < n + own_length ps
 fits_long n ps size kept (inl h) lt = absurd (omega (arith, h.0, lt))
 fits_long n ps size kept (inr h) lt = h.1
-
-pub fits_none : (n : ℕ) → Fits n [] n []
-fits_none n = by_order (cases_order n PAGE_LIMIT)
-  where
-    by_order : (n ≡ PAGE_LIMIT) ⊎ ((n < PAGE_LIMIT) ⊎ (PAGE_LIMIT < n)) → Fits n [] n []
-    by_order (inl e) = inl (omega (arith, e), omega arith, refl)
-    by_order (inr (inl l)) = inl (omega (arith, l), omega arith, refl)
-    by_order (inr (inr l)) = inr (l, omega (arith, l), refl)
 
 items_push : (ls : List Piece) (p : Piece) → items_of (ls ++ p ∷ []) ≡ items_of ls ++ piece_items p
 items_push ls p = items_append ls (p ∷ []) ∙ ap (λ z. items_of ls ++ z) (append-nil (piece_items p))

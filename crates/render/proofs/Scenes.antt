@@ -19,7 +19,8 @@ use Rattle.tmpl.specs.declared.Mode.{Mode}
 use Rattle.tmpl.specs.declared.Mode.TheVariants.{Plain, Embed, Link}
 use Rattle.tmpl.specs.declared.WordRoot.{WordRoot}
 use Rattle.tmpl.specs.declared.WordRoot.TheVariants.{Here, Loop, Collection}
-use Rattle.demand_spec.specs.Reads.{Word, Use, LoopOver, uses, loops, key_words, link_words, is_embed, Begins, at_here, at_collected, at_loop, Ranges, Passes, BodyAsks, MayAsk}
+use Rattle.tmpl.specs.Expressions.{Use, LoopOver, uses, loops, key_words, link_words, is_embed}
+use Rattle.demand_spec.specs.Reads.{Word, Begins, at_here, at_collected, at_loop, Ranges, Passes, BodyAsks, MayAsk}
 use Rattle.render.specs.Asks.{RangeAsks, KeyAsks, ArrangedAsks, ModeAsks, SceneAsks, ValueAsks, FrameAsks, LedAsks}
 use Rattle.page_spec.specs.Page.{Embeds, Leads, nowhere}
 use Rattle.sd_value.specs.declared.Term.{Term}

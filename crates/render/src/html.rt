@@ -6,7 +6,7 @@ use address::push_shown;
 use sd_value::{Datum, NoMemory, Value};
 use std::alloc::Global;
 
-/// The text with `&`, `<`, `>` and `"` written as HTML's entities.
+/// The text with `&`, `<`, `>`, `"` and `'` written as HTML's entities.
 pub fn push_escaped(out: &mut Vec<u8>, text: &[u8]) -> Result<(), NoMemory>
     ensures { OnOk result (out.new.items ≡ out.old.items ++ spec.escaped text.now) }
 {
@@ -32,6 +32,7 @@ fn entity_of(byte: u8) -> Option<&'static [u8]>
         b'<' => Some(b"&lt;"),
         b'>' => Some(b"&gt;"),
         b'"' => Some(b"&quot;"),
+        b'\'' => Some(b"&#39;"),
         _ => None,
     }
 }

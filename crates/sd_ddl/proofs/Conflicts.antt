@@ -82,9 +82,6 @@ pub record Reached (parts front later : List Part) : Type 0 where
   pub steps_are : steps parts ≡ all_said (kinds_told parts) front ++ steps_from (kinds_told parts) front later
   pub all_fit : NoFails (all_said (kinds_told parts) front)
 
-pub reached_first : (parts : List Part) → Reached parts [] parts
-reached_first parts = record { steps_are = refl; all_fit = tt }
-
 pub reached_next : (parts front later : List Part) (p : Part) → Reached parts front (p ∷ later)
     → (steps_of (kinds_told parts) front p ≡ said (kinds_told parts) p) × NoFails (said (kinds_told parts) p) → Reached parts (front ++ p ∷ []) later
 reached_next parts front later p r is = record {
@@ -101,9 +98,6 @@ pub reached_conflict : (parts front later : List Part) (p : Part) → Reached pa
     → steps parts ≡ all_said (kinds_told parts) front ++ (fails (place_of p) ∷ steps_from (kinds_told parts) (front ++ p ∷ []) later)
 reached_conflict parts front later p r is =
     r.steps_are ∙ ap (λ s. all_said (kinds_told parts) front ++ (s ++ steps_from (kinds_told parts) (front ++ p ∷ []) later)) is
-
-pub reached_all : (parts : List Part) → Reached parts parts [] → steps parts ≡ all_said (kinds_told parts) parts
-reached_all parts r = r.steps_are ∙ append-nil (all_said (kinds_told parts) parts)
 
 -- without a conflict the answer is that of all steps
 pub takes_all : (parts : List Part) (steps_said : List (Step ℕ ℕ)) (b c : Building) (r : Result (Unit {0}) Stop) → steps parts ≡ steps_said → NoFails steps_said

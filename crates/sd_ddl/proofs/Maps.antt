@@ -8,7 +8,6 @@ use Rattle.std.specs.declared.cmp.Ordering.TheVariants.{Less, Equal, Greater}
 use Rattle.std.specs.Ordering.{is_eq, ordering_then}
 use Rattle.std.specs.BTreeMap.{BTreeMap, get, is_at}
 use Rattle.std.specs.BTreeSet.{insert_key}
-use Rattle.std.proofs.lemmas.List.{append-nil}
 use Rattle.std.proofs.lemmas.Grind.{flat_map-append}
 use Rattle.sd_value.specs.Order.{bytes_cmp}
 use Rattle.sd_value.specs.OrderLaws.{bytes_cmp-exact}
@@ -17,16 +16,14 @@ use Rattle.sd_graph.specs.Inserted.{inserted-there, inserted-cases, inserted-her
 use Rattle.token_reader.specs.declared.reading.Word.{Word}
 use Rattle.ddl_text.specs.declared.tree.Kind.{Kind}
 use Rattle.sd_ddl.specs.declared.part.Part.{Part}
-use Rattle.sd_ddl.specs.declared.part.Giving.{Giving}
-use Rattle.sd_ddl.specs.declared.part.Part.TheVariants.{Gives, Member}
+use Rattle.sd_ddl.specs.declared.part.Part.TheVariants.{Member}
 use Rattle.sd_ddl.specs.declared.kinds.StatedKinds.{StatedKinds}
 use Rattle.sd_ddl.specs.declared.kinds.StatedKinds.TheVariants.{Nothing, One, Several}
-use Rattle.sd_ddl.specs.declared.kinds.Givings.{Givings}
 use Rattle.sd_ddl.specs.declared.kinds.Kinds.{Kinds}
 use Rattle.sd_ddl.specs.declared.collections.Collections.{Collections}
-use Rattle.sd_ddl.specs.Kinds.{Name, same_kind, same_name, given, given_by, collections, collection_by, kinds_of, told}
+use Rattle.sd_ddl.specs.Kinds.{Name, same_kind, same_name, given, collections, collection_by, kinds_of, told}
 use Rattle.sd_ddl.specs.Tables.{both, pair_cmp, or_nothing, told_in, names_of, insert_all, HasGivings, HasCollections, Knows, tell}
-use Rattle.sd_ddl.proofs.Told.{both-nothing, told-perhaps, Tells, Tells-as, Tells-one, Tells-told, Tells-tell}
+use Rattle.sd_ddl.proofs.Told.{both-nothing, Tells, Tells-as, Tells-one, Tells-told, Tells-tell}
 
 eq_then : (p q : Ordering) → is_eq (ordering_then p q) ≡ (is_eq p && is_eq q)
 eq_then Less q = refl
@@ -60,21 +57,6 @@ told-added m n x y c a t k ex ey et up d b = by (same_name c d) (same_name a b) 
     by true false p q = at ∙ (λ i. or_nothing (cond (p i && q i) (Some t) (get pair_cmp m (d, b)))) ∙ sym (both-nothing _)
     by false q p e = at ∙ (λ i. or_nothing (cond (p i && e i) (Some t) (get pair_cmp m (d, b)))) ∙ sym (both-nothing _)
 
--- the givings of one part more
-pub given-more : (front : List Part) (p : Part) (c a : Name) → given (front ++ p ∷ []) c a ≡ given front c a ++ (given_by c a p ++ [])
-given-more front p c a = flat_map-append (given_by c a) front (p ∷ [])
-
-pub givings-more : (front : List Part) (g : Giving) (old new : Givings) → ((c a : Name) → told_in new c a ≡ both (told_in old c a) (told (given_by c a (Gives g))))
-    → HasGivings front old → HasGivings (front ++ Gives g ∷ []) new
-givings-more front g old new add has c a =
-    add c a ∙ ap (λ t. both t (told (given_by c a (Gives g)))) (has c a)
-    ∙ sym (told-perhaps (given front c a) (same_name g.collection c && same_name g.attribute a) g.kind.kind) ∙ sym (ap told (given-more front (Gives g) c a))
-
--- a part that gives nothing
-pub givings-same : (front : List Part) (p : Part) (table : Givings) → ((c a : Name) → given_by c a p ≡ []) → HasGivings front table → HasGivings (front ++ p ∷ []) table
-givings-same front p table none has c a =
-    has c a ∙ sym (ap told (given-more front p c a ∙ ap (λ ks. given front c a ++ (ks ++ [])) (none c a) ∙ append-nil (given front c a)))
-
 pub insert_all-more : (names ns : List Name) (here : Bool) (n : Name)
     → insert_all names (ns ++ ((if here then n ∷ [] else []) ++ [])) ≡ (if here then insert_key bytes_cmp (insert_all names ns) n else insert_all names ns)
 insert_all-more names [] true n = refl
@@ -94,10 +76,6 @@ collections-added front c object old new here others has o =
     by : (b : Bool) → same_name object o ≡ b → names_of new o ≡ (if b then insert_key bytes_cmp (insert_all [] (collections front o)) c.text else insert_all [] (collections front o))
     by true e = subst (λ x. names_of new x ≡ insert_key bytes_cmp (insert_all [] (collections front x)) c.text) (same_name-is object o e) (here ∙ ap (λ ns. insert_key bytes_cmp ns c.text) (has object))
     by false e = others o e ∙ has o
-
-pub collections-same : (front : List Part) (p : Part) (table : Collections) → ((o : Name) → collection_by o p ≡ []) → HasCollections front table → HasCollections (front ++ p ∷ []) table
-collections-same front p table none has o =
-    has o ∙ sym (ap (insert_all []) (collections-more front p o ∙ ap (λ ns. collections front o ++ (ns ++ [])) (none o) ∙ append-nil (collections front o)))
 
 insert_all-there : (names ns : List Name) (n : Name) → Contains names n → Contains (insert_all names ns) n
 insert_all-there names [] n h = h

@@ -1,8 +1,6 @@
 -- What is told of kinds, one list after another.
 use Rattle.std.proofs.Common.{◌≡◌, ◌≢◌, ◌⊎◌, refl, sym, ap, subst, ◌∙◌, inl, inr, Bool, true, false, ◌&&◌, ◌||◌, not, List, [], ◌∷◌, ◌++◌, if◌then◌else◌, Contains}
 use Rattle.std.specs.List.{list_all}
-use Rattle.std.proofs.lemmas.List.{append-nil}
-use Rattle.std.proofs.lemmas.List.Folds.{list_all-append}
 use Rattle.sd_value.specs.Members.{IsOneOf, Contains-nil, Contains-cons_cases, Contains-here, Contains-there}
 use Rattle.ddl_text.specs.declared.tree.Kind.{Kind}
 use Rattle.ddl_text.specs.declared.tree.Kind.TheVariants as kinds
@@ -42,21 +40,6 @@ pub both-nothing : (t : StatedKinds) → both t Nothing ≡ t
 both-nothing Nothing = refl
 both-nothing (One k) = refl
 both-nothing Several = refl
-
--- one kind more
-pub told-more : (ks : List Kind) (k : Kind) → told (ks ++ k ∷ []) ≡ both (told ks) (One k)
-told-more [] k = refl
-told-more (j ∷ ks) k = ap (λ b. if b then One j else Several) (list_all-append (same_kind j) ks (k ∷ [])) ∙ by (list_all (same_kind j) ks) (same_kind j k) refl
-  where
-    by : (all here : Bool) → same_kind j k ≡ here → (if all && (here && true) then One j else Several) ≡ both (if all then One j else Several) (One k)
-    by false here e = refl
-    by true true e = sym (ap (λ b. if b then One j else Several) e)
-    by true false e = sym (ap (λ b. if b then One j else Several) e)
-
--- perhaps one kind more
-pub told-perhaps : (ks : List Kind) (here : Bool) (k : Kind) → told (ks ++ ((if here then k ∷ [] else []) ++ [])) ≡ both (told ks) (told (if here then k ∷ [] else []))
-told-perhaps ks true k = told-more ks k
-told-perhaps ks false k = ap told (append-nil ks) ∙ sym (both-nothing (told ks))
 
 none_differs : (j k : Kind) (ks : List Kind) → same_kind j k ≡ true → list_all (same_kind j) ks ≡ true → differs ks k ≡ false
 none_differs j k [] e h = refl

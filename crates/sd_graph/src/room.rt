@@ -8,7 +8,7 @@ ghost use Rattle.sd_graph.specs.Gathered.{elements, IsInOrder, IsSettled};
 use crate::copied::Copied;
 use crate::gathered::Gathered;
 use crate::{GraphRefusal, Limits, over};
-use std::alloc::Global;
+use std::alloc::{AllocFailed, Global};
 use std::collections::BTreeSet;
 
 // Why an element has no room in its set: `nodes` is the number of nodes then, and `others` that of the other set's
@@ -50,7 +50,7 @@ fn put_ordered<K: Copied>(
     }
     match set.insert(key) {
         Ok(_) => Ok(()),
-        Err(_) => Err(GraphRefusal::NoMemory),
+        Err(AllocFailed { value: _refused }) => Err(GraphRefusal::NoMemory),
     }
 }
 

@@ -17,6 +17,3 @@ still_rose a b c ab path rose = rose_over (a path) (b path) (c path) (ab path) r
 
 rose_before : (a b c : ℕ) → Rose a b → b ≤ c → Rose a c
 rose_before a b c rose up = omega (arith, rose, up)
-
-pub rose_then : (a b c : List ℕ → ℕ) → NoneFell b c → (path : List ℕ) → Rose (a path) (b path) → Rose (a path) (c path)
-rose_then a b c bc path rose = rose_before (a path) (b path) (c path) rose (bc path)

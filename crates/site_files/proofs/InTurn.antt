@@ -1,6 +1,6 @@
 -- Page after page.
 use Rattle.std.proofs.Common.{◌≡◌, ◌⊎◌, ◌∙◌, ◌+◌, ◌<◌, ◌≤◌, ℕ, List, [], ◌∷◌, ◌++◌, length, get_or, take, drop, inl, inr, ⊎_elim, refl, sym, ap, subst}
-use Rattle.std.specs.Prelude.{Contains, Option, Some, None, Result, Ok, Err, OnOk, ⊤}
+use Rattle.std.specs.Prelude.{Contains, Option, Some, None, Result, Ok, Err, ⊤}
 use Rattle.std.specs.Option.{IsSomeAnd}
 use Rattle.std.proofs.lemmas.List.{take_more, take_all, drop_more, take-append-drop}
 use Rattle.std.proofs.lemmas.List.Elements.{Contains-push_cases}
@@ -9,12 +9,10 @@ use Rattle.tmpl.specs.Body.{TemplateFile}
 use Rattle.page_spec.specs.Site.{Site}
 use Rattle.page_spec.specs.Page.{IsOutcome}
 use Rattle.page_spec.specs.declared.Outcome.TheVariants as outcome
-use Rattle.address.specs.Segments.{HasLongSegment}
 use Rattle.edge_io.specs.Files.{FileMap, put_file, ChangesOnly}
-use Rattle.run_report.specs.declared.status.PageKind.{PageKind}
 use Rattle.files_spec.specs.declared.stop.Stop.{Stop}
 use Rattle.files_spec.specs.declared.stop.Stop.TheVariants.{Faulty, Unwritten, NoMemory}
-use Rattle.files_spec.specs.Paths.{file_name, page_path, index_path}
+use Rattle.files_spec.specs.Paths.{page_path, index_path}
 use Rattle.site_files.specs.Puts.{PutEnds}
 use Rattle.files_spec.specs.Files.{IsPageText, IsFaulty, PagesWritten, StopsAt, PageEnds, StopsIn, PagesEnd, IndexPut, IndexEnds, RootEnds, SiteEnds, root_term}
 
@@ -25,15 +23,6 @@ module _ (s : Site) (f : TemplateFile) (folder : List ℕ) where
   put_page_ends t text old new (Err (Faulty term kind)) o p = (p.0, subst (IsFaulty s f t) (sym p.1) ((text, o), p.2), p.3)
   put_page_ends t text old new (Err Unwritten) o p = ((text, record { is_outcome = o; has_file = p.0 }), p.1)
   put_page_ends t text old new (Err NoMemory) o p = p
-
-  pub put_page_text : (t : Term) (text : List ℕ) (end : Result ⊤ Stop) → IsOutcome s f t (outcome.Page text) → OnOk end (HasLongSegment (file_name t) → ⊥) → OnOk end ((x : List ℕ) × IsPageText s f t x)
-  put_page_text t text (Ok u) o p = (text, record { is_outcome = o; has_file = p })
-  put_page_text t text (Err stop) o p = p
-
-  -- a page that has a fault changes no file
-  pub faulty_ends : (t : Term) (kind : PageKind) (stop : Stop) (map : FileMap) → (stop ≡ Faulty t kind) ⊎ (stop ≡ NoMemory) → IsFaulty s f t kind → PageEnds s f folder t map map (Err stop)
-  faulty_ends t kind stop map (inl e) is = rw e (refl, is, refl)
-  faulty_ends t kind stop map (inr e) is = rw e refl
 
   written_more : (ts : List Term) (t : Term) (old now new : FileMap) (text : List ℕ) → PagesWritten s f folder ts old now → IsPageText s f t text → new ≡ put_file now (page_path folder t) text → PagesWritten s f folder (ts ++ t ∷ []) old new
   written_more [] t old now new text w p e = (text, p, e ∙ ap (λ (map : FileMap). put_file map (page_path folder t) text) w)
@@ -70,11 +59,6 @@ module _ (s : Site) (f : TemplateFile) (folder : List ℕ) where
   pub page_told : (n : Option FileMap) (t : Term) (text : List ℕ) (old : FileMap) (end : Result ⊤ Stop) → IsOutcome s f t (outcome.Page text) → IsSomeAnd n (λ new. PutEnds folder t text old new end) → IsSomeAnd n (λ new. PageEnds s f folder t old new end)
   page_told None t text old end o h = h
   page_told (Some new) t text old end o h = put_page_ends t text old new end o h
-
-  pub faulty_told : (o n : Option FileMap) (t : Term) (kind : PageKind) (stop : Stop) (old : FileMap) → n ≡ o → o ≡ Some old → (stop ≡ Faulty t kind) ⊎ (stop ≡ NoMemory) → IsFaulty s f t kind → IsSomeAnd n (λ new. PageEnds s f folder t old new (Err stop))
-  faulty_told o n t kind stop old same told e is =
-      let at : n ≡ Some old = same ∙ told in
-      subst (λ (x : Option FileMap). IsSomeAnd x (λ new. PageEnds s f folder t old new (Err stop))) (sym at) (faulty_ends t kind stop old e is)
 
   pub more_told : (o n : Option FileMap) (terms : List Term) (i : ℕ) (t : Term) (old : FileMap) → i < length terms → t ≡ get_or terms i t → IsSomeAnd o (λ now. PagesWritten s f folder (take i terms) old now)
       → ((now : FileMap) → o ≡ Some now → IsSomeAnd n (λ new. PageEnds s f folder t now new (Ok tt))) → IsSomeAnd n (λ new. PagesWritten s f folder (take (i + 1) terms) old new)

@@ -1,7 +1,6 @@
 -- What holds or doesn't, by its parts.
 use Rattle.std.proofs.Common.{◌≡◌, ◌⊎◌, ℕ, zero, suc, ◌<◌, List, [], ◌∷◌, inl, inr, ⊎_elim, refl, sym, ap, subst, arith}
 use Rattle.std.specs.Prelude.{Contains, All}
-use Rattle.std.specs.List.{AllZip}
 use Rattle.std.specs.declared.cmp.Ordering.{Ordering}
 use Rattle.std.specs.declared.cmp.Ordering.TheVariants.{Less, Equal, Greater}
 use Rattle.std.specs.Cmp.{IsTotalOrder}
@@ -55,14 +54,6 @@ dec_all P each (x ∷ xs) = by (each x) (dec_all P each xs)
     by (yes p) (yes a) = yes (All-cons P x xs p a)
     by (yes p) (no m) = no (λ h. m (All-tail P x xs h))
     by (no n) d = no (λ h. n (All-head P x xs h))
-
--- the elements of two lists are so, place by place
-pub dec_zip : {X Y : Type 0} (R : X → Y → Type 0) → ((x : X) (y : Y) → Dec (R x y)) → (xs : List X) (ys : List Y)
-    → Dec (AllZip R xs ys)
-dec_zip R each [] [] = yes tt
-dec_zip R each [] (y ∷ ys) = no (λ h. h)
-dec_zip R each (x ∷ xs) [] = no (λ h. h)
-dec_zip R each (x ∷ xs) (y ∷ ys) = dec_both (each x y) (dec_zip R each xs ys)
 
 -- two are one
 module _ {X : Type 0} (R : X → X → Ordering) (total : IsTotalOrder R) (exact : IsAntisymmetric R) where

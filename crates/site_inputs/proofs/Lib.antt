@@ -7,3 +7,5 @@ pub mod Decided
 pub mod DecidedInputs
 pub mod Endings
 pub mod SiteData
+pub mod ReadLemmas
+pub mod SiteReads

@@ -10,7 +10,6 @@ use Rattle.sd_graph.specs.declared.GraphRefusal.TheVariants as graph
 use Rattle.compose.specs.Listed.{AnswersWithin}
 use Rattle.compose.proofs.Whole as one_site
 use Rattle.composed_data.specs.SiteData.{DecidesSiteData, SiteDataEnds}
-use Rattle.run_report.specs.declared.status.Place.TheVariants.{At}
 use Rattle.site_inputs.specs.declared.data.DataInputs.{DataInputs}
 use Rattle.site_inputs.specs.declared.fault.Fault.{Fault}
 use Rattle.site_inputs.specs.declared.fault.Fault.TheVariants.{Refused, Unread, Faulty, NotFound, NoMemory}
@@ -39,17 +38,6 @@ decided_by : (raw : DataGraph) (first : plain.Query) (reason : GraphRefusal) (nu
     → SiteDataEnds empty_building.limits raw (scope_of first) (Err reason) → SiteIsDecided raw first (Err reason)
 decided_by raw first reason number told (inl d) = d
 decided_by raw first reason number told (inr e) = absurd (no_number reason number (reason_is reason graph.NoMemory e) told)
-
-pub site_refused : (path : List ℕ) (raw : DataGraph) (first : plain.Query) (reason : GraphRefusal) (number : ℕ)
-    → graph_number reason ≡ Some number
-    → SiteDataEnds empty_building.limits raw (scope_of first) (Err reason) → (fault : Fault)
-    → (fault ≡ Refused (record { file = path; number = number; place = At 0 })) ⊎ (fault ≡ NoMemory)
-    → SiteTaken path raw first (Err fault)
-site_refused path raw first reason number told ends fault (inl is) =
-    subst (λ (f : Fault). SiteTaken path raw first (Err f)) (sym is)
-    (record { reason = reason; decided = decided_by raw first reason number told ends; its = refl; told = told; place = refl })
-site_refused path raw first reason number told ends fault (inr is) =
-    subst (λ (f : Fault). SiteTaken path raw first (Err f)) (sym is) tt
 
 -- ---- the bytes decide one end
 

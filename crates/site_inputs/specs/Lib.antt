@@ -4,3 +4,4 @@ pub mod Sites
 pub mod Values
 pub mod Statuses
 pub mod Outside
+pub mod Reads

@@ -2,6 +2,7 @@
 ghost use Rattle.std.specs.Prelude.{◌≡◌, ◌∷◌, [], ◌++◌};
 ghost use Rattle.std.specs.Option.{ForSome};
 ghost use Rattle.command_spec.specs.Inputs.{data_paths};
+ghost use Rattle.site_inputs.specs.Reads.{Reads};
 ghost use Rattle.site_inputs.specs.Runs.{ReadsHaveCause, Then};
 ghost use Rattle.site_inputs.specs.Sources.{GraphEnds, empty_building};
 ghost use Rattle.site_inputs.specs.Sites.{QueryEnds, SiteTaken, DataInputsEnd};
@@ -52,6 +53,10 @@ fn load_over<F: Files>(
     sources: &DataFiles,
     path: &Str,
 ) -> Result<DataInputs, Fault>
+    ensures traced { Reads (sources.now.paths ++ (path.now ∷ [])) (F.trace files.old) (F.trace files.new)
+        (F.contents files.old) result
+        (λ map. Then (GraphEnds map empty_building sources.now)
+        (λ raw. Then (QueryEnds map path.now) (λ first. SiteTaken path.now raw first)) result) }
     ensures ends { ForSome (F.contents files.old) (λ map.
         Then (GraphEnds map empty_building sources.now)
         (λ raw. Then (QueryEnds map path.now) (λ first. SiteTaken path.now raw first)) result) }
@@ -76,6 +81,9 @@ pub fn load_data<F: Files>(
     sources: &DataFiles,
     over: &Option<Str>,
 ) -> Result<DataInputs, Fault>
+    ensures traced { Reads (data_paths sources.now over.now) (F.trace files.old) (F.trace files.new)
+        (F.contents files.old) result
+        (λ map. DataInputsEnd map sources.now over.now result) }
     ensures ends { ForSome (F.contents files.old) (λ map.
         DataInputsEnd map sources.now over.now result) }
     ensures same { F.contents files.new ≡ F.contents files.old }

@@ -1,6 +1,7 @@
 // The inputs, each read and decoded before the next.
 ghost use Rattle.std.specs.Prelude.{◌≡◌, ◌⊎◌, ◌<◌, ◌^◌, ◌∷◌, [], ℕ, length, Ok, Err, ⊤, Result};
 ghost use Rattle.std.specs.Option.{ForSome};
+ghost use Rattle.site_inputs.specs.Reads.{Reads};
 ghost use Rattle.site_inputs.specs.Runs.{FileEnds, ReadsHaveCause};
 ghost use Rattle.site_inputs.specs.Sources.{TextTaken, SourceEnds, FilesEnd, GraphEnds, empty_building};
 ghost use Rattle.site_inputs.specs.Sources.{graph_result, with_building};
@@ -22,6 +23,9 @@ pub fn read_file<F: Files>(
     limit: u64,
 ) -> Result<Str, Fault>
     requires { limit < 2 ^ 63 }
+    ensures traced { Reads (path.now ∷ []) (F.trace files.old) (F.trace files.new)
+        (F.contents files.old) result
+        (λ map. FileEnds limit map path.now result) }
     ensures ends { ForSome (F.contents files.old) (λ map. FileEnds limit map path.now result) }
     ensures same { F.contents files.new ≡ F.contents files.old }
     ensures cause { ReadsHaveCause (path.now ∷ [])
@@ -65,6 +69,9 @@ fn take_source<F: Files>(
     path: &Str,
     graph: &mut GraphBuilder,
 ) -> Result<(), Fault>
+    ensures traced { Reads (path.now ∷ []) (F.trace files.old) (F.trace files.new)
+        (F.contents files.old) result
+        (λ map. SourceEnds rules map path.now graph.old (with_building graph.new result)) }
     ensures ends { ForSome (F.contents files.old) (λ map.
         SourceEnds rules map path.now graph.old (with_building graph.new result)) }
     ensures same { F.contents files.new ≡ F.contents files.old }
@@ -83,6 +90,9 @@ fn gather_files<F: Files>(
     rules: SourceRules,
     paths: &[Str],
 ) -> Result<GraphBuilder, Fault>
+    ensures traced { Reads paths.now (F.trace files.old) (F.trace files.new)
+        (F.contents files.old) result
+        (λ map. FilesEnd rules map empty_building paths.now (graph_result result)) }
     ensures ends { ForSome (F.contents files.old) (λ map.
         FilesEnd rules map empty_building paths.now (graph_result result)) }
     ensures same { F.contents files.new ≡ F.contents files.old }
@@ -105,6 +115,9 @@ pub(crate) fn gather<F: Files>(
     files: &mut F,
     sources: &DataFiles,
 ) -> Result<GraphBuilder, Fault>
+    ensures traced { Reads sources.now.paths (F.trace files.old) (F.trace files.new)
+        (F.contents files.old) result
+        (λ map. GraphEnds map empty_building sources.now (graph_result result)) }
     ensures ends { ForSome (F.contents files.old) (λ map.
         GraphEnds map empty_building sources.now (graph_result result)) }
     ensures same { F.contents files.new ≡ F.contents files.old }
@@ -124,6 +137,9 @@ pub fn load_graph<F: Files>(
     files: &mut F,
     sources: &DataFiles,
 ) -> Result<Graph, Fault>
+    ensures traced { Reads sources.now.paths (F.trace files.old) (F.trace files.new)
+        (F.contents files.old) result
+        (λ map. GraphEnds map empty_building sources.now result) }
     ensures ends { ForSome (F.contents files.old) (λ map.
         GraphEnds map empty_building sources.now result) }
     ensures same { F.contents files.new ≡ F.contents files.old }

@@ -1,6 +1,7 @@
 // The inputs of a site, each read and decoded before the next.
 ghost use Rattle.std.specs.Prelude.{◌≡◌, ◌∷◌, []};
 ghost use Rattle.std.specs.Option.{ForSome};
+ghost use Rattle.site_inputs.specs.Reads.{Reads};
 ghost use Rattle.site_inputs.specs.Runs.{ReadsHaveCause};
 ghost use Rattle.command_spec.specs.Inputs.{data_paths, input_paths};
 ghost use Rattle.site_inputs.specs.Sites.{QueryTaken, QueryEnds, TemplatesTaken, TemplatesEnd, InputsEnd};
@@ -51,6 +52,9 @@ pub fn take_query(alloc: Global, path: &Str, bytes: &[u8]) -> Result<Checked, Fa
 /// # Errors
 /// A query that is refused or unread, or out of memory.
 pub fn load_query<F: Files>(alloc: Global, files: &mut F, path: &Str) -> Result<Checked, Fault>
+    ensures traced { Reads (path.now ∷ []) (F.trace files.old) (F.trace files.new)
+        (F.contents files.old) result
+        (λ map. QueryEnds map path.now result) }
     ensures ends { ForSome (F.contents files.old) (λ map. QueryEnds map path.now result) }
     ensures same { F.contents files.new ≡ F.contents files.old }
     ensures cause { ReadsHaveCause (path.now ∷ [])
@@ -78,6 +82,9 @@ pub fn take_templates(alloc: Global, path: &Str, bytes: &[u8]) -> Result<Templat
 
 // The templates of a file.
 fn load_templates<F: Files>(alloc: Global, files: &mut F, path: &Str) -> Result<Templates, Fault>
+    ensures traced { Reads (path.now ∷ []) (F.trace files.old) (F.trace files.new)
+        (F.contents files.old) result
+        (λ map. TemplatesEnd map path.now (file_result result)) }
     ensures ends { ForSome (F.contents files.old) (λ map.
         TemplatesEnd map path.now (file_result result)) }
     ensures same { F.contents files.new ≡ F.contents files.old }
@@ -100,6 +107,9 @@ pub fn load_inputs<F: Files>(
     query: &Str,
     templates: &Str,
 ) -> Result<SiteInputs, Fault>
+    ensures traced { Reads (input_paths (data_paths sources.now over.now) query.now templates.now) (F.trace files.old) (F.trace files.new)
+        (F.contents files.old) result
+        (λ map. InputsEnd map sources.now over.now query.now templates.now (inputs_result result)) }
     ensures ends { ForSome (F.contents files.old) (λ map.
         InputsEnd map sources.now over.now query.now templates.now (inputs_result result)) }
     ensures same { F.contents files.new ≡ F.contents files.old }

@@ -1,6 +1,6 @@
 -- Marks of blocks and of claims.
 use Rattle.std.proofs.Common.{◌≡◌, ◌↔◌, ℕ, ◌+◌, ◌<◌, ◌≤◌, zero, suc, Bool, true, false, cond, List, [], ◌∷◌, ◌++◌, length, take, get_or, refl, sym, ap, ◌∙◌, subst, arith}
-use Rattle.std.specs.Prelude.{IsTrue, Contains, Option, Some, None, map, slice_get, option_map}
+use Rattle.std.specs.Prelude.{IsTrue, Contains, Option, Some, map, slice_get, option_map}
 use Rattle.std.specs.List.{AllZip}
 use Rattle.std.proofs.lemmas.List.{take_more, take_all}
 use Rattle.std.proofs.lemmas.Option.{slice_get-map}
@@ -22,13 +22,6 @@ use Rattle.lint_spec.specs.Mistakes.{OfBlock}
 use Rattle.lint_spec.specs.Findings.{finding, marked, AreFindings}
 
 -- ---- the block of a number
-
--- there is none
-pub of_no_block : (s : QueryBlocks) (number : ℕ) (P : Body → Type 0) → slice_get s.blocks.items number ≡ None → IsTrue false ↔ OfBlock (scope_of s) number P
-of_no_block s number P none = (
-  λ t. absurd cc,
-  λ o. (let at : slice_get (map body_of s.blocks.items) number ≡ None = slice_get-map body_of s.blocks.items number ∙ ap (option_map body_of) none in let there = o.1 in absurd cc),
-)
 
 -- there is one, of which a test decides
 pub of_some_block : (s : QueryBlocks) (number : ℕ) (P : Body → Type 0) (b : QueryBlock) (r : Bool) → slice_get s.blocks.items number ≡ Some b → IsTrue r ↔ P (body_of b) → IsTrue r ↔ OfBlock (scope_of s) number P
@@ -105,10 +98,6 @@ module _ (P : Asked → Type 0) where
   zip_push [] (m ∷ marks) c mark zip here = absurd zip
   zip_push (d ∷ claims) [] c mark zip here = absurd zip
   zip_push (d ∷ claims) (m ∷ marks) c mark zip here = (zip.0, zip_push claims marks c mark zip.1 here)
-
-  -- no claim so far
-  pub no_findings : AreFindings P [] []
-  no_findings = record { marks = []; decided = tt; are = refl }
 
   -- one claim more
   pub findings_more : (claims : List Claim) (i : ℕ) (c : Claim) (mark : Bool) (found now : List Finding) → i < length claims → c ≡ get_or claims i c

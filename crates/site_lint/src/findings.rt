@@ -29,6 +29,7 @@ fn number_of(what: &Asked) -> u32
         Asked::Variable { .. } => 147,
         Asked::Rows(_) => 148,
         Asked::Tag => 149,
+        Asked::Member(_) => 156,
     }
 }
 

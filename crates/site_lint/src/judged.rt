@@ -12,7 +12,7 @@ ghost use Rattle.site_lint.specs.Judged.{HasNames, AreWithoutRows};
 
 use crate::conditions::{is_arc, is_unbounded};
 use crate::links::LinkAnswers;
-use crate::lookups::{has_unknown, is_absent, is_empty_collection, is_unknown};
+use crate::lookups::{has_unknown, is_absent, is_empty_collection, is_only_collected, is_unknown};
 use crate::names::SiteNames;
 use lint_spec::Asked;
 use query_blocks::{QueryBlock, QueryBlocks};
@@ -182,6 +182,7 @@ pub(crate) fn is_mistake<S: Store, L: LinkAnswers>(
     let names = site.names;
     match what {
         Asked::Collection(name) => { Ok(is_empty_collection(site.store, &names.collected, name)) }
+        Asked::Member(name) => Ok(is_only_collected(site.store, &names.collected, name)),
         Asked::Labels(labels) => Ok(has_unknown(site.store, labels.items())),
         Asked::Compared {
             block,

@@ -38,6 +38,14 @@ pub(crate) fn is_empty_collection<S: Store>(store: &S, collected: &[Str], name: 
     has_no_member(store, name) && is_absent(collected, name)
 }
 
+/// Whether the data have no member of the collection, and it is among those of COLLECTs.
+pub(crate) fn is_only_collected<S: Store>(store: &S, collected: &[Str], name: &Str) -> bool
+    ensures { IsTrue result ↔ ((n : List ℕ) → HasMember (S.graph store.now) name.now n → ⊥)
+        × Contains collected.now name.now }
+{
+    has_no_member(store, name) && is_among(collected, name)
+}
+
 /// Whether no edge has the label.
 pub(crate) fn is_unknown<S: Store>(store: &S, label: &Str) -> bool
     ensures { IsTrue result ↔ (IsLabelOf (S.graph store.now) label.now → ⊥) }

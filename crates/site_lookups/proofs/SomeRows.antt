@@ -159,9 +159,6 @@ joined_told G c k p label wanted bound rows ends s tells some g v = (
       g.complete w.0 v w.1 (target_told c.variables k.target wanted j.row w.0 v tells long (row_long G c w.0 (some.sound w.0 w.1).is_row) (sym w.2) j.holds.to),
 )
 
-pub tells_none : (vs : List Variable) (target : Target) → Tells (take 0 vs) target []
-tells_none vs target = record { one_each = refl; set = λ k v h c. cc }
-
 length_push : {X : Type 0} (xs : List X) (x : X) → length (xs ++ x ∷ []) ≡ length xs + 1
 length_push [] x = refl
 length_push (y ∷ xs) x = omega (arith, length_push xs x)

@@ -23,9 +23,9 @@ use Rattle.sd_value.specs.declared.Value.TheVariants.{Data, Page}
 use Rattle.sd_value.specs.declared.Datum.{Datum}
 use Rattle.sd_value.specs.declared.Datum.TheVariants.{Text}
 use Rattle.sd_value.specs.declared.Term.{Term}
-use Rattle.query_spec.specs.Query.{Operand, SkolemTerm, Target, plain, made, Link, Chain}
+use Rattle.query_spec.specs.Query.{Operand, SkolemTerm, Target, plain, made}
 use Rattle.query_spec.specs.Holds.{Assignment, operand_value}
-use Rattle.site_spec.specs.Site.{Scope, IsTermUnder, IsTargetUnder, IsJoined, Linked, SiteEdge, SomeRow, SomeOf}
+use Rattle.site_spec.specs.Site.{Scope, IsTermUnder, IsTargetUnder, IsJoined, Linked, SiteEdge, SomeOf}
 
 data_same : (s : Assignment) (o : Operand) (d e : Datum) → operand_value s o ≡ Some (Data d) → operand_value s o ≡ Some (Data e) → d ≡ e
 data_same s o d e h k = let both : Some (Data d) ≡ Some (Data e) = sym h ∙ k in cc
@@ -74,9 +74,6 @@ source_to s t p source e h =
 
 pub source_from : (s : Assignment) (t : SkolemTerm) (p : Term) (source : Target) → source ≡ made t → IsTermUnder s t p → IsTargetUnder s source (Page p)
 source_from s t p source e h = subst (λ x. IsTargetUnder s x (Page p)) (sym e) (p, h, refl)
-
-pub joined_source : (G : DataGraph) (c : Chain) (k : Link) (t : SkolemTerm) (p : Term) (label : Name) (v : Value) → k.source ≡ made t → IsJoined G c (Page p) label v k → SomeRow G c (λ s. IsTermUnder s t p)
-joined_source G c k t p label v e j = record { row = j.row; is_row = j.is_row; holds = source_to (value_in c.variables j.row) t p k.source e j.holds.from }
 
 pub block_joins : (G : DataGraph) (u : Value) (label : Name) (b : QueryBlock) (ends : List Value) → Gathered (λ k v. IsJoined G b.chain u label v (link_of k)) b.links.items ends → (v : Value) → Contains ends v ↔ BlockJoins G u label b v
 block_joins G u label b ends g v =

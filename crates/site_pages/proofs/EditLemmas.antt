@@ -41,11 +41,6 @@ of_data_under None text e is =
     let spelled : IsSpelled text (Some e) = subst P (sym is) (the_edits.spells text) in spelled.1
 of_data_under (Some q) text e is = let never : ⊥ = cc in absurd never
 
--- where there is no room nothing changes
-pub not_taken : (o : Option Edit) (G : DataGraph) → is_taken o G ≡ false → edited o G ≡ G
-not_taken None G is = refl
-not_taken (Some e) G is = ap (λ (b : Bool). if b then graph_after e G else G) is
-
 first_of : (a b : Bool) → (a && b) ≡ true → a ≡ true
 first_of true b is = refl
 first_of false b is = cc

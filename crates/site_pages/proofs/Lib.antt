@@ -1,3 +1,2 @@
-pub mod StoreLemmas
 pub mod PagesLemmas
 pub mod EditLemmas

@@ -1,5 +1,5 @@
 -- What a text makes of a site's data.
-use Rattle.std.proofs.Common.{◌≡◌, ◌↔◌, ℕ, Bool, true, false, List, Option, map, refl, sym, ap, subst, ◌∙◌, true≢false, if◌then◌else◌}
+use Rattle.std.proofs.Common.{◌≡◌, ◌↔◌, ℕ, Bool, true, false, List, Option, map, refl, sym, ap, ◌∙◌, true≢false, if◌then◌else◌}
 use Rattle.std.specs.Prelude.{◌&&◌, ◌||◌, not, Some}
 use Rattle.sd_value.specs.declared.Term.{Term}
 use Rattle.graph_spec.specs.DataGraph.{DataGraph}
@@ -7,9 +7,6 @@ use Rattle.query_spec.specs.Query as plain
 use Rattle.tmpl.specs.Body.{TemplateFile}
 use Rattle.site_spec.specs.Site.{Scope}
 use Rattle.click_time.specs.Page.{PageFixed}
-use Rattle.versions.specs.declared.Changed.{Changed}
-use Rattle.versions.specs.declared.Changed.TheVariants.{Refused}
-use Rattle.versions.specs.Changes.{TellsEach}
 use Rattle.data_texts.proofs.TheReader.{accepts_made, accepts_none}
 use Rattle.data_texts.specs.ComposedTexts.{MakesData}
 use Rattle.data_texts.proofs.Reading.{one_data}
@@ -30,11 +27,6 @@ accepts = (data_texts the_rules).accepts
 
 abbrev pub stays : Current → List ℕ → Term → Bool
 stays = (data_texts the_rules).stays
-
--- pages over the same data, query and templates have one meaning
-pub same_fixed : (f : PageFixed) (graph : DataGraph) (scope : Scope) (templates : TemplateFile) → f.graph ≡ graph → f.scope ≡ scope → f.templates ≡ templates
-    → f ≡ record { graph = graph; scope = scope; templates = templates }
-same_fixed f graph scope templates graph_is scope_is templates_are = λ i. record { graph = graph_is i; scope = scope_is i; templates = templates_are i }
 
 -- the same data, query and templates, also under one first query
 pub same_current : (first : Option plain.Query) (f : PageFixed) (graph : DataGraph) (scope : Scope) (templates : TemplateFile) → f ≡ record { graph = graph; scope = scope; templates = templates }
@@ -74,17 +66,8 @@ module _ (before : Current) (text : List ℕ) where
     data_changed now is =
         is ∙ sym (ap (λ (b : Bool). over_data before (if b then stated else left)) read.0 ∙ ap (over_data before) read.1)
 
-    pub data_accepted : accepts before text ≡ true
-    data_accepted = ap (λ (b : Bool). b || is_taken found before.pages.graph) read.0
-
-    pub data_refused : (c : Changed) → (c ≡ Refused → ⊥) → (c ≡ Refused) ↔ (accepts before text ≡ false)
-    data_refused c never = (λ e. absurd (never e), λ f. absurd (true≢false (sym data_accepted ∙ f)))
-
     none_stays_so : ◌≡◌ {A = Term → Bool} (λ t. false) (stays before text)
     none_stays_so = sym (ap stays_by read.0)
-
-    pub data_flags : (kept : List Term) (c : Changed) → TellsEach (λ t. false) kept c → TellsEach (stays before text) kept c
-    data_flags kept c tells = subst (λ (s : Term → Bool). TellsEach s kept c) none_stays_so tells
 
     pub data_stays : (t : Term) → stays before text t ≡ false
     data_stays t = ap (λ (b : Bool). if b then false else edit_stays the_rules before found t) read.0
@@ -95,20 +78,11 @@ module _ (before : Current) (text : List ℕ) where
     not_data : is_data ≡ false
     not_data = accepts_none (MakesData before.first) (the_rules.data_readers before.first) text none
 
-    pub edit_changed : (now : Current) → now ≡ over_data before left → now ≡ changed before text
-    edit_changed now is = is ∙ sym (ap (λ (b : Bool). over_data before (if b then stated else left)) not_data)
-
     taken_is : accepts before text ≡ is_taken found before.pages.graph
     taken_is = ap (λ (b : Bool). b || is_taken found before.pages.graph) not_data
 
-    pub edit_refused : (c : Changed) → (c ≡ Refused) ↔ (is_taken found before.pages.graph ≡ false) → (c ≡ Refused) ↔ (accepts before text ≡ false)
-    edit_refused c h = (λ e. taken_is ∙ h.0 e, λ f. h.1 (sym taken_is ∙ f))
-
     stays_so : ◌≡◌ {A = Term → Bool} (edit_stays the_rules before found) (stays before text)
     stays_so = sym (ap stays_by not_data)
-
-    pub edit_flags : (kept : List Term) (c : Changed) → TellsEach (edit_stays the_rules before found) kept c → TellsEach (stays before text) kept c
-    edit_flags kept c tells = subst (λ (s : Term → Bool). TellsEach s kept c) stays_so tells
 
     pub edit_stays_is : (t : Term) → stays before text t ≡ edit_stays the_rules before found t
     edit_stays_is t = ap (λ (b : Bool). if b then false else edit_stays the_rules before found t) not_data

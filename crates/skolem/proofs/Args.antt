@@ -49,10 +49,6 @@ pub record Solved (variables : List Variable) (operands : List Written) (given :
   pub to : (row : List Value) → length row ≡ length variables → Agrees row bound → (j : ℕ) (o : Written) (d : Datum) → j < i → slice_get operands j ≡ Some o → slice_get given j ≡ Some d → SolvesOperand variables (operand_of o) d row
   pub from : (row : List Value) → length row ≡ length variables → ((j : ℕ) (o : Written) (d : Datum) → j < i → slice_get operands j ≡ Some o → slice_get given j ≡ Some d → SolvesOperand variables (operand_of o) d row) → Agrees row bound
 
-pub solved-none : (variables : List Variable) (operands : List Written) (given : List Datum) (bound : List (Option Value)) → length bound ≡ length variables
-    → ((row : List Value) → length row ≡ length variables → Agrees row bound) → Solved variables operands given 0 bound
-solved-none variables operands given bound long free = record { one_each = long; to = λ row l a j o d h. absurd (omega (arith, h)); from = λ row l f. free row l }
-
 split_below : (j n : ℕ) → j < n + 1 → (j < n) ⊎ (j ≡ n)
 split_below j n h = search (arith, h)
 

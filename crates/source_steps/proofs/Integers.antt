@@ -75,12 +75,6 @@ not_parsed {E} f e h = elim (cases_Bool (is_integer f)) [
 pub written : (f : Field) → FitsSigned w64 (number_of f) → true ≡ pointwise nat_eq (signed_decimal (number_of f)) f → is_integer f ≡ true
 written f fits same = is_an_integer f fits.sfits (sym (same_text (signed_decimal (number_of f)) f same))
 
-pub not_written : (f : Field) → false ≡ pointwise nat_eq (signed_decimal (number_of f)) f → is_integer f ≡ false
-not_written f other = elim (cases_Bool (is_integer f)) [
-  | inl is ↦ absurd (other_text (signed_decimal (number_of f)) f other (sym (integer_is f is).1))
-  | inr no_ ↦ no_
-]
-
 pub has_value : (links : Bool) (f : Field) → IsFieldValue links f (value_of links f)
 has_value links f = elim (cases_Bool (is_integer f)) [
   | inl is ↦ let p = integer_is f is in inl (number_of f, p.0, p.1, rw is refl)

@@ -1,38 +1,36 @@
-//! The program: `main` hands its words and the system's files, outputs and sockets to
-//! `command_run::strudel`, and ends with the number of its status.
+//! The program: `main` makes the system's files, outputs and sockets, and calls
+//! `command_run::run_main` with them and its words.
 #![tactic(auto)]
 
-use command_run::{GivenWords, strudel};
+use command_run::{GivenWords, NoWords, run_main, waits_of};
 use edge_io::{RealFiles, RealOut};
 use happenings::Stream;
-use run_report::{Status, report};
-use sd_value::{NoMemory, Str};
+use sd_value::Str;
 use std::net::Net;
 use std::process::ExitCode;
 use std::rt::{Env, Files};
 use std::time::Clock;
-use std::{env, io, process};
+use std::{env, process};
 use tcp_wire::{TcpWire, Waits};
 
 // The words after the program's name. A word that isn't text fails them all.
-fn given_words<R: Env + AllocGlobal>(rt: &R) -> io::Result<Vec<Str>> {
-    let mut words = Vec::new(rt.alloc());
+fn given_words<R: Env + AllocGlobal>(rt: &R) -> Result<GivenWords, NoWords> {
+    let alloc = rt.alloc();
+    let mut words = Vec::new(alloc);
     for word in env::args(rt)?.skip(1) {
-        let Ok(word) = Str::new(rt.alloc(), word.as_bytes()) else {
-            return Err(io::Error::from(io::ErrorKind::OutOfMemory));
-        };
-        words.push(word)?;
+        words.push(Str::new(alloc, word.as_bytes())?)?;
     }
-    Ok(words)
+    let given = GivenWords::read(alloc, words)?;
+    Ok(given)
 }
 
 // A wire over the system's sockets that waits as the words say.
 fn given_wire<'r, R: Net + Clock + Files + AllocGlobal>(
     rt: &'r R,
     process: u32,
-    words: &GivenWords,
+    words: &Result<GivenWords, NoWords>,
 ) -> TcpWire<'r, R, RealFiles<'r, R>> {
-    let waits = words.waits();
+    let waits = waits_of(words);
     TcpWire::new(
         rt.alloc(),
         rt,
@@ -45,23 +43,19 @@ fn given_wire<'r, R: Net + Clock + Files + AllocGlobal>(
 }
 
 fn main(rt: HostRuntime) -> ExitCode {
-    let alloc = rt.alloc();
+    let words = given_words(&rt);
     let process = process::id(rt.process());
     let mut files = RealFiles::new(&rt, process);
     let mut out = RealOut::new(rt.stdout(), Stream::Output);
     let mut err = RealOut::new(rt.stderr(), Stream::Errors);
-    let status = match given_words(&rt) {
-        Ok(words) => match GivenWords::read(alloc, words) {
-            Ok(words) => {
-                let mut wire = given_wire(&rt, process, &words);
-                strudel(alloc, &words, &mut files, &mut out, &mut err, &mut wire)
-            }
-            Err(NoMemory) => report(alloc, Status::NoMemory, &mut err),
-        },
-        Err(error) if error.kind() == io::ErrorKind::OutOfMemory => {
-            report(alloc, Status::NoMemory, &mut err)
-        }
-        Err(_) => report(alloc, Status::Usage, &mut err),
-    };
-    ExitCode::from(status.code())
+    let mut wire = given_wire(&rt, process, &words);
+    let code = run_main(
+        rt.alloc(),
+        &words,
+        &mut files,
+        &mut out,
+        &mut err,
+        &mut wire,
+    );
+    ExitCode::from(code)
 }

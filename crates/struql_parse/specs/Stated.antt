@@ -5,8 +5,9 @@ use Rattle.struql_ast.specs.declared.Query as declared
 use Rattle.struql_ast.specs.Written.{Query, query_written}
 use Rattle.grammar.specs.Fault.{FirstFault, FirstPast}
 use Rattle.grammar.specs.Reading.{starts}
-use Rattle.struql_parse.specs.declared.refusal.TokenRefusal.{TokenRefusal}
-use Rattle.struql_parse.specs.declared.refusal.TokenRefusal.TheVariants.{Expected, TooDeep, BadVersion, NoMemory}
+use Rattle.token_reader.specs.declared.refusal.TextRefusal.TheVariants.{Expected, NoMemory}
+use Rattle.struql_parse.specs.declared.refusal.ParseRefusal.{ParseRefusal}
+use Rattle.struql_parse.specs.declared.refusal.ParseRefusal.TheVariants.{Text, TooDeep, BadVersion}
 use Rattle.struql_text.specs.Terminals.{is_other_version}
 use Rattle.struql_parse.specs.Blocks.{query_within, query_spelled}
 use Rattle.token_reader.specs.Gives.{place, IsReal}
@@ -14,10 +15,10 @@ use Rattle.token_reader.specs.Gives.{place, IsReal}
 -- `Ok` has the query that the tokens spell within the limits, with all its places. `Expected` has the place of the first
 -- token such that nothing that is spelled begins with the tokens up to and with it. `BadVersion` and `TooDeep` have that
 -- of the first token such that something does, but nothing within the limits: the number that is no version, or else the
--- sign that goes too deep.
-abbrev pub States : List Token → ℕ → Result declared.Query TokenRefusal → Type 0
+-- sign that goes too deep. Tokens have no other faults.
+abbrev pub States : List Token → ℕ → Result declared.Query ParseRefusal → Type 0
 States tokens text_end (Ok q) = query_within tokens (query_written q)
-States tokens text_end (Err (Expected at)) =
+States tokens text_end (Err (Text (Expected at))) =
     (rest : List Token) × FirstFault IsReal query_within query_spelled tokens rest
     × (at ≡ place text_end rest)
 States tokens text_end (Err (TooDeep at)) =
@@ -26,12 +27,14 @@ States tokens text_end (Err (TooDeep at)) =
 States tokens text_end (Err (BadVersion at)) =
     (rest : List Token) × FirstPast IsReal query_within query_spelled tokens rest
     × (starts is_other_version rest ≡ true) × (at ≡ place text_end rest)
-States tokens text_end (Err NoMemory) = Unit {0}
+States tokens text_end (Err (Text NoMemory)) = Unit {0}
+States tokens text_end (Err (Text fault)) = ⊥
 
 -- What is spelled within the limits is the answer, unless it is out of memory.
-abbrev pub IsOnly : List Token → Result declared.Query TokenRefusal → Type 0
+abbrev pub IsOnly : List Token → Result declared.Query ParseRefusal → Type 0
 IsOnly tokens (Ok q) = (value : Query) → query_within tokens value → query_written q ≡ value
-IsOnly tokens (Err (Expected at)) = (value : Query) → query_spelled tokens value → ⊥
+IsOnly tokens (Err (Text (Expected at))) = (value : Query) → query_spelled tokens value → ⊥
 IsOnly tokens (Err (TooDeep at)) = (value : Query) → query_within tokens value → ⊥
 IsOnly tokens (Err (BadVersion at)) = (value : Query) → query_within tokens value → ⊥
-IsOnly tokens (Err NoMemory) = Unit {0}
+IsOnly tokens (Err (Text NoMemory)) = Unit {0}
+IsOnly tokens (Err (Text fault)) = ⊥

@@ -17,13 +17,13 @@ ghost use Rattle.struql_parse.specs.Stated.{States, IsOnly};
 
 use crate::clauses::{Inner, braces_at};
 use crate::listed::list_at;
-use crate::refusal::TokenRefusal;
+use crate::refusal::ParseRefusal;
 use sd_lex::{Sign, Span, Token, TokenKind};
 use sd_value::NoMemory;
 use std::alloc::Global;
 use struql_ast::{Block, Collect, Condition, Link, Query, SkolemTerm};
 use struql_text::{Keyword, from_to, has_keyword, keyword_at, name_at};
-use token_reader::{Halt, has_sign, place_of};
+use token_reader::{Halt, TextRefusal, has_sign, place_of};
 
 /// A block without braces that is still open.
 #[derive(Drop)]
@@ -434,21 +434,24 @@ fn whole_at(alloc: Global, tokens: &[Token]) -> Result<Query, Halt<Token>>
 }
 
 /// The query that these tokens spell. The text ends at `text_end`.
-pub fn parse_tokens(alloc: Global, tokens: &[Token], text_end: u64) -> Result<Query, TokenRefusal>
+pub fn parse_tokens(alloc: Global, tokens: &[Token], text_end: u64) -> Result<Query, ParseRefusal>
     ensures exact { States tokens.now text_end result }
     ensures only { IsOnly tokens.now result }
 {
     match whole_at(alloc, tokens) {
         Ok(query) => Ok(query),
-        Err(Halt::Expected(rest)) => Err(TokenRefusal::Expected(place_of(rest, text_end))),
+        Err(Halt::Expected(rest)) => {
+            let place = place_of(rest, text_end);
+            Err(ParseRefusal::Text(TextRefusal::Expected(place)))
+        }
         Err(Halt::TooDeep(rest)) => {
             let at = place_of(rest, text_end);
             if has_other_version(rest) {
-                Err(TokenRefusal::BadVersion(at))
+                Err(ParseRefusal::BadVersion(at))
             } else {
-                Err(TokenRefusal::TooDeep(at))
+                Err(ParseRefusal::TooDeep(at))
             }
         }
-        Err(Halt::NoMemory) => Err(TokenRefusal::NoMemory),
+        Err(Halt::NoMemory) => Err(ParseRefusal::Text(TextRefusal::NoMemory)),
     }
 }

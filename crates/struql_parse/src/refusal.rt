@@ -1,22 +1,10 @@
 //! Why a text is no query.
 
 ghost use Rattle.std.specs.Prelude.{◌≡◌, ◌≢◌, true, false};
-ghost use Rattle.struql_parse.specs.Refused.{of_lexer, of_tokens};
+ghost use Rattle.struql_parse.specs.Refused.{of_lexer};
 
 use sd_lex::LexRefusal;
 use token_reader::TextRefusal;
-
-/// Why tokens are no query.
-#[derive(Clone, Copy, Debug, PartialEq, Eq)]
-pub enum TokenRefusal {
-    /// The token at this place doesn't fit, or the text ends too early.
-    Expected(u64),
-    /// The token at this place passes a limit.
-    TooDeep(u64),
-    /// The number at this place is no version.
-    BadVersion(u64),
-    NoMemory,
-}
 
 /// Why a text is no query. Each place counts bytes from the start.
 #[derive(Clone, Copy, Debug, PartialEq, Eq)]
@@ -46,18 +34,5 @@ impl From<LexRefusal> for ParseRefusal {
 
     fn from(e: LexRefusal) -> Self {
         ParseRefusal::Text(TextRefusal::from(e))
-    }
-}
-
-impl From<TokenRefusal> for ParseRefusal {
-    ghost from_gives = { λ e r. r ≡ of_tokens e };
-
-    fn from(e: TokenRefusal) -> Self {
-        match e {
-            TokenRefusal::Expected(at) => ParseRefusal::Text(TextRefusal::Expected(at)),
-            TokenRefusal::TooDeep(at) => ParseRefusal::TooDeep(at),
-            TokenRefusal::BadVersion(at) => ParseRefusal::BadVersion(at),
-            TokenRefusal::NoMemory => ParseRefusal::Text(TextRefusal::NoMemory),
-        }
     }
 }

@@ -223,19 +223,6 @@ atom_part (suc depth) (suc deeper) less n =
 pub expression_part : (depth deeper : ℕ) → depth < deeper → (n : ℕ) → Part IsReal (expression bounded depth n) (expression unbounded deeper n) AfterAlt (read_expression depth n)
 expression_part depth deeper less n = in_terms depth deeper n (alt_part (atoms bounded depth) (atoms unbounded deeper) (read_atom depth) (atom_part depth deeper less) n)
 
--- the steps of the loops
-pub dot_step_at_depth : (depth : ℕ) (e : Counted) → Part IsReal (dot_step bounded (atoms bounded depth) e) (dot_step unbounded (atoms unbounded (suc depth)) e) (Stops (is_sign signs.Star)) (read_dot_step (read_atom depth) e)
-dot_step_at_depth depth = dot_step_part (atoms bounded depth) (atoms unbounded (suc depth)) (read_atom depth) (atom_part depth (suc depth) (omega arith))
-
-pub dot_opens_at_depth : (depth : ℕ) (e : Counted) → Opens (dot_step unbounded (atoms unbounded (suc depth)) e) (λ t. is_sign signs.Dot t ≡ true)
-dot_opens_at_depth depth = dot_opens (atoms bounded depth) (atoms unbounded (suc depth)) (read_atom depth) (atom_part depth (suc depth) (omega arith))
-
-pub bar_step_at_depth : (depth : ℕ) (e : Counted) → Part IsReal (bar_step bounded (atoms bounded depth) e) (bar_step unbounded (atoms unbounded (suc depth)) e) AfterSeq (read_bar_step (read_atom depth) e)
-bar_step_at_depth depth = bar_step_part (atoms bounded depth) (atoms unbounded (suc depth)) (read_atom depth) (atom_part depth (suc depth) (omega arith))
-
-pub bar_opens_at_depth : (depth : ℕ) (e : Counted) → Opens (bar_step unbounded (atoms unbounded (suc depth)) e) (λ t. is_sign signs.Bar t ≡ true)
-bar_opens_at_depth depth = bar_opens (atoms bounded depth) (atoms unbounded (suc depth)) (read_atom depth) (atom_part depth (suc depth) (omega arith))
-
 -- more parentheses at once spell more
 
 alt_map : (P Q : ℕ → List Token → Counted → Type 0) → ((n : ℕ) (x : List Token) (v : Counted) → P n x v → Q n x v) → (n : ℕ) (x : List Token) (v : Counted) → alt unbounded P n x v → alt unbounded Q n x v

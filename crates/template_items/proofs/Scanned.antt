@@ -1,6 +1,6 @@
 -- What scanning has found so far, and that bytes have no other items.
 use Rattle.std.proofs.Common.{◌≡◌, ℕ, ◌+◌, ◌-◌, ◌<◌, ◌≤◌, List, [], ◌∷◌, ◌++◌, length, drop, refl, sym, ap, subst, ◌∙◌, arith, length-append, append_assoc, Option, Result, Ok, Err}
-use Rattle.std.specs.Prelude.{IfOk}
+use Rattle.std.specs.Prelude.{IfOk, Some, None}
 use Rattle.std.specs.Global.{Vec}
 use Rattle.sd_value.specs.declared.NoMemory.{NoMemory}
 use Rattle.std.proofs.lemmas.List.{length-drop}
@@ -22,29 +22,42 @@ token_within at bytes (Ok t) before h =
     (omega (arith, some, h.3.last), omega (arith, before, parts, rest, h.3.last))
 token_within at bytes (Err e) before h = tt
 
--- the items that were found from the first state on, and the place that was reached
+-- the items that were found from the first state on, each at a place of its own, and the place that was reached
 pub record Reached (bytes : List ℕ) (s : State) (items : List Item) : Type 0 where
   pub place : s.place ≤ length bytes
   pub few : s.loops ≤ s.place
+  pub apart : length items ≤ s.place
   pub goes_on : (more : List Item) → Scans bytes s more → Scans bytes first_state (items ++ more)
 
 pub first_reached : (bytes : List ℕ) → Reached bytes first_state []
-first_reached bytes = record { place = omega arith; few = omega arith; goes_on = λ more h. h }
+first_reached bytes = record { place = omega arith; few = omega arith; apart = omega arith; goes_on = λ more h. h }
 
 pub passes_reached : (bytes : List ℕ) (s next : State) (items : List Item) → Reached bytes s items → (f : Front) → f ≡ Passes next → f ≡ front bytes s → GoesOn (length bytes) s f → Reached bytes next items
 passes_reached bytes s next items so_far f here is on =
     let step : IsWithin (length bytes) s next = subst (GoesOn (length bytes) s) here on in
-    record { place = step.1; few = step.2; goes_on = λ more h. so_far.goes_on more (passes next (sym is ∙ here) h) }
+    record { place = step.1; few = step.2; apart = omega (arith, so_far.apart, step.0); goes_on = λ more h. so_far.goes_on more (passes next (sym is ∙ here) h) }
 
 pub finds_reached : (bytes : List ℕ) (s next : State) (items : List Item) (item : Item) → Reached bytes s items → (f : Front) → f ≡ Finds item next → f ≡ front bytes s → GoesOn (length bytes) s f → Reached bytes next (items ++ item ∷ [])
 finds_reached bytes s next items item so_far f here is on = let step : IsWithin (length bytes) s next = subst (GoesOn (length bytes) s) here on in record {
   place = step.1;
   few = step.2;
+  apart = omega (arith, so_far.apart, step.0, length-append items (item ∷ []));
   goes_on = λ more h. subst (Scans bytes first_state) (sym (append_assoc items (item ∷ []) more)) (so_far.goes_on (item ∷ more) (finds item next more (sym is ∙ here) refl h));
 }
 
 pub ends_reached : (bytes : List ℕ) (s : State) (items : List Item) (last : Option Item) → (total : List Item) → total ≡ items ++ last_items last → Reached bytes s items → (f : Front) → f ≡ Ends last → f ≡ front bytes s → Scans bytes first_state total
 ends_reached bytes s items last total all so_far f here is = subst (Scans bytes first_state) (sym all) (so_far.goes_on (last_items last) (ends last (sym is ∙ here) refl))
+
+last_length : (last : Option Item) → length (last_items last) ≤ 1
+last_length None = omega arith
+last_length (Some item) = omega arith
+
+-- each item but the last begins at another byte
+pub ended_few : (bytes : List ℕ) (s : State) (items : List Item) (last : Option Item) → Reached bytes s items → (r : Result (Vec Item) NoMemory) → IfOk r (λ v. v.items ≡ items ++ last_items last) → IfOk r (λ v. length v.items ≤ length bytes + 1)
+ended_few bytes s items last so_far (Ok v) all =
+    let total : length v.items ≡ length items + length (last_items last) = ap length all ∙ length-append items (last_items last) in
+    omega (arith, total, last_length last, so_far.apart, so_far.place)
+ended_few bytes s items last so_far (Err e) all = tt
 
 -- bytes have one list of items
 pub one_list : (bytes : List ℕ) {s : State} {xs ys : List Item} → Scans bytes s xs → Scans bytes s ys → xs ≡ ys

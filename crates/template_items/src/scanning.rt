@@ -344,6 +344,7 @@ pub fn items(alloc: Global, bytes: &[u8]) -> Result<Vec<Item>, NoMemory>
     ensures exact { IfOk result (λ v. AreItems bytes.now v.items) }
     ensures only { (items : List AnyItem) → AreItems bytes.now items
         → IfOk result (λ v. v.items ≡ items) }
+    ensures few { IfOk result (λ v. length v.items ≤ length bytes.now + 1) }
 {
     let mut items = Vec::new(alloc);
     let mut state = State {

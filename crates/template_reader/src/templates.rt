@@ -1,6 +1,6 @@
 //! The reader of a file of templates.
 
-ghost use Rattle.std.specs.Prelude.{◌≡◌, ◌<◌, ◌≤◌, ◌^◌, ◌++◌, ◌∷◌, [], List, length, map, IfOk};
+ghost use Rattle.std.specs.Prelude.{◌≡◌, ◌≢◌, ◌<◌, ◌≤◌, ◌^◌, ◌++◌, ◌∷◌, [], List, length, map, IfOk};
 ghost use Rattle.template_items.specs.declared.item.Item.{Item as AnyItem};
 ghost use Rattle.template_items.specs.Scanning.{AreItems};
 ghost use Rattle.tmpl.specs.Reading.{file_of};
@@ -30,15 +30,13 @@ struct Tables {
 }
 
 impl Tables {
-    /// Files one more template.
+    /// Files one more template, where their numbers reach.
     fn add(&mut self, entry: Entry) -> Result<(), NoMemory>
+        requires { length self.old.bodies.items < 2 ^ 32 }
         ensures { IfOk result (λ _. (entries : List PlainEntry) → Filed self.old entries
             → Filed self.new (entries ++ entry_of entry ∷ [])) }
     {
-        // A text has fewer templates than bytes, so their numbers don't run out.
-        let Ok(number) = u32::try_from(self.bodies.len()) else {
-            return Err(NoMemory);
-        };
+        let number = self.bodies.len() as u32;
         let named = NamedTemplate {
             name: entry.name,
             template: number,
@@ -56,6 +54,7 @@ impl Tables {
 
 /// The file of these templates.
 fn filed(alloc: Global, entries: Vec<Entry>) -> Result<Templates, NoMemory>
+    requires { length entries.items ≤ 2 ^ 32 }
     ensures { IfOk result (λ t. file_of t ≡ file_from (map entry_of entries.items)) }
 {
     let mut tables = Tables {
@@ -118,6 +117,7 @@ fn past_at(item: &Item) -> TmplRefusal
 
 /// The answer to a whole file.
 fn whole(alloc: Global, doubled: Option<u64>, entries: Vec<Entry>) -> Result<Templates, TmplRefusal>
+    requires { length entries.items ≤ 2 ^ 32 }
     ensures { GivesTemplates (whole_answer doubled (map entry_of entries.items)) result }
 {
     if let Some(at) = doubled {
@@ -125,7 +125,7 @@ fn whole(alloc: Global, doubled: Option<u64>, entries: Vec<Entry>) -> Result<Tem
     }
     match filed(alloc, entries) {
         Ok(templates) => Ok(templates),
-        Err(_) => Err(TmplRefusal::NoMemory),
+        Err(NoMemory) => Err(TmplRefusal::NoMemory),
     }
 }
 
@@ -136,7 +136,7 @@ fn unfit(alloc: Global, doubled: Option<u64>, items: &[Item], rest: &[Item]) -> 
     match rest {
         [] => match innermost(alloc, items) {
             Ok(place) => unless_twice(doubled, TmplRefusal::Unclosed(place)),
-            Err(_) => TmplRefusal::NoMemory,
+            Err(NoMemory) => TmplRefusal::NoMemory,
         },
         [first, ..] => unless_before(doubled, first.place, TmplRefusal::Expected(first.place)),
     }
@@ -144,17 +144,19 @@ fn unfit(alloc: Global, doubled: Option<u64>, items: &[Item], rest: &[Item]) -> 
 
 /// The refusal of items of which the first of `rest` passes a limit.
 fn beyond(doubled: Option<u64>, rest: &[Item]) -> TmplRefusal
+    requires { rest.now ≢ [] }
     ensures { result ≡ beyond_answer doubled rest.now }
 {
     match rest {
-        [] => TmplRefusal::NoMemory,
+        [] => unreachable!(),
         [first, ..] => unless_before(doubled, first.place, past_at(first)),
     }
 }
 
 /// The answer to items among which a name occurs twice at `doubled`, or none does.
 fn answer(alloc: Global, items: &[Item], doubled: Option<u64>) -> Result<Templates, TmplRefusal>
-    requires { doubled ≡ twice items.now }
+    requires doubled { doubled ≡ twice items.now }
+    requires few { length items.now ≤ 2 ^ 32 }
     ensures exact { UnlessNoMemory (IsItemsAnswer items.now) result }
     ensures only { (entries : List PlainEntry) → within items.now entries
         → GivesTemplates (whole_answer (twice items.now) entries) result }
@@ -179,11 +181,7 @@ pub fn read_templates(alloc: Global, bytes: &[u8], limit: u64) -> Result<Templat
     if bytes.len() as u64 > limit {
         return Err(TmplRefusal::TooLong(limit));
     }
-    let Ok(items) = items(alloc, bytes) else {
-        return Err(TmplRefusal::NoMemory);
-    };
-    let Ok(doubled) = twice(alloc, items.as_slice()) else {
-        return Err(TmplRefusal::NoMemory);
-    };
+    let items = items(alloc, bytes)?;
+    let doubled = twice(alloc, items.as_slice())?;
     answer(alloc, items.as_slice(), doubled)
 }

@@ -219,9 +219,6 @@ not_false : (b : Bool) → not b ≡ true → b ≡ false
 not_false true e = absurd cc
 not_false false e = refl
 
-pub unknown_is_not_known : (scope : List Bound) (i : Item) → is_unknown scope i ≡ true → is_known scope i ≡ false
-unknown_is_not_known scope i e = not_false (is_known scope i) (and_true (is_some (variable_value i)) (is_none (known_value scope i)) e).1
-
 pub known_is_not_unknown : (scope : List Bound) (i : Item) → is_known scope i ≡ true → is_unknown scope i ≡ false
 known_is_not_unknown scope i e = and_false (is_some (variable_value i)) (is_none (known_value scope i)) (ap not e)
 

@@ -1,10 +1,9 @@
 // Counterexamples of small queries, each beside the data text that was worked out by hand.
-use crate::checks::{check, check_text};
+use crate::checks::{check, check_text, scoped_query};
 use crate::lines::told;
 use crate::verdicts::{VERDICTS, VerdictRow};
 use command_check::SiteOracle;
 use constraints::parse_constraints;
-use query_reader::read_query;
 use refute_site::{Oracle, first_broken};
 use sd_ddl::{read_ddl, write_ddl};
 use sd_graph::{Graph, GraphBuilder, PROGRAM_LIMITS};
@@ -80,12 +79,12 @@ const COUNTEREXAMPLES: &[Counterexample] = &[
 
 // The first graph over which the query's site breaks the constraint.
 fn refuted(alloc: Global, row: &Counterexample) -> Result<Option<Graph>, Fail> {
-    let query = read_query(alloc, row.query.as_bytes(), 65_536)?;
+    let query = scoped_query(alloc, row.query.as_bytes())?;
     let constraints = parse_constraints(alloc, row.constraint.as_bytes(), 65_536, &query)?;
     let [constraint] = constraints.as_slice() else {
         return Err(Fail::new(row.constraint));
     };
-    let mut trial = SiteOracle::of(alloc, &query)?;
+    let mut trial = SiteOracle::of(&query);
     Ok(first_broken(alloc, &query, constraint, &mut trial)?)
 }
 
@@ -111,7 +110,7 @@ fn graphs_that_break_a_constraint(rt: HostRuntime) -> Result<(), Fail> {
 
 // Whether the query's site over the data breaks the constraint.
 fn is_broken(alloc: Global, row: &VerdictRow, data: &[u8]) -> Result<bool, Fail> {
-    let query = read_query(alloc, row.query.as_bytes(), 65_536)?;
+    let query = scoped_query(alloc, row.query.as_bytes())?;
     let constraints = parse_constraints(alloc, row.constraint.as_bytes(), 65_536, &query)?;
     let [constraint] = constraints.as_slice() else {
         return Err(Fail::new(row.constraint));
@@ -119,7 +118,7 @@ fn is_broken(alloc: Global, row: &VerdictRow, data: &[u8]) -> Result<bool, Fail>
     let mut builder = GraphBuilder::new(alloc, PROGRAM_LIMITS);
     read_ddl(alloc, data, 65_536, &mut builder)?;
     let graph = builder.finish(alloc)?;
-    let mut trial = SiteOracle::of(alloc, &query)?;
+    let mut trial = SiteOracle::of(&query);
     let met = trial.met(alloc, graph, constraint)?;
     Ok(!met)
 }

@@ -1,17 +1,15 @@
 // The lines of certificates, beside the texts that were worked by hand.
-use crate::checks::{check, check_text};
+use crate::checks::{check, check_text, scoped_query};
 use certificate_check::recheck;
 use certificate_text::{print_unknown, print_yes};
 use command_check::{SiteOracle, Verdicts, verdicts_of};
 use constraint_spec::{Certificate, Constraint, LinkUse, MentionProof};
 use constraints::parse_constraints;
-use query_reader::read_query;
-use query_scoping::scopes;
+use query_scoping::ScopedQuery;
 use schema::paths_of;
 use sd_value::{NoMemory, Str};
 use std::alloc::Global;
 use std::test::Fail;
-use struql_check::Checked;
 
 const PAPERS: &[u8] = b"INPUT Bib { CREATE RootPage() } \
     { WHERE Publications(x), x -> l -> v CREATE PaperPage(x) \
@@ -68,7 +66,7 @@ fn certificate_of(alloc: Global, links: &[usize]) -> Result<Certificate, NoMemor
     Ok(Certificate::new(proofs))
 }
 
-fn check_certificate(alloc: Global, query: &Checked, row: &CertificateRow) -> Result<(), Fail> {
+fn check_certificate(alloc: Global, query: &ScopedQuery, row: &CertificateRow) -> Result<(), Fail> {
     let certificate = certificate_of(alloc, row.links)?;
     let constraint = Constraint::One {
         function: Str::new(alloc, b"YearPage")?,
@@ -79,13 +77,13 @@ fn check_certificate(alloc: Global, query: &Checked, row: &CertificateRow) -> Re
     let Some(lines) = row.lines else {
         return Ok(());
     };
-    let blocks = scopes(alloc, query)?;
+    let blocks = query.blocks();
     let paths = paths_of(alloc, &query.query().blocks)?;
     let mut out = Vec::new(alloc);
     if paths.len() == blocks.blocks.len() {
         print_yes(
             alloc,
-            &blocks,
+            blocks,
             &paths,
             2,
             &constraint,
@@ -98,7 +96,7 @@ fn check_certificate(alloc: Global, query: &Checked, row: &CertificateRow) -> Re
 
 #[test]
 fn certificates_have_their_lines(rt: HostRuntime) -> Result<(), Fail> {
-    let query = read_query(rt.alloc(), PAPERS, 65_536)?;
+    let query = scoped_query(rt.alloc(), PAPERS)?;
     for row in CERTIFICATES {
         check_certificate(rt.alloc(), &query, row)?;
     }
@@ -109,9 +107,9 @@ fn certificates_have_their_lines(rt: HostRuntime) -> Result<(), Fail> {
 
 /// What is told of the constraints of the text, and whether all are answered yes.
 pub fn told(alloc: Global, query: &[u8], constraints: &[u8]) -> Result<Verdicts, Fail> {
-    let query = read_query(alloc, query, 65_536)?;
+    let query = scoped_query(alloc, query)?;
     let constraints = parse_constraints(alloc, constraints, 65_536, &query)?;
-    let mut trial = SiteOracle::of(alloc, &query)?;
+    let mut trial = SiteOracle::of(&query);
     Ok(verdicts_of(alloc, &query, &constraints, &mut trial)?)
 }
 

@@ -1,11 +1,11 @@
 // Texts of constraints, and texts that are refused, over a query with a root and a function of one argument.
+use crate::checks::scoped_query;
 use constraint_spec::Constraint;
 use constraints::{ConstraintRefusal, parse_constraints};
-use query_reader::read_query;
+use query_scoping::ScopedQuery;
 use sd_value::NoMemory;
 use std::alloc::Global;
 use std::test::Fail;
-use struql_check::Checked;
 use token_reader::TextRefusal;
 
 const QUERY: &[u8] = b"INPUT D { CREATE R() } { WHERE C(x) CREATE F(x) } OUTPUT S";
@@ -186,7 +186,7 @@ fn words_of(alloc: Global, constraints: &[Constraint]) -> Result<Vec<u8>, NoMemo
     Ok(words)
 }
 
-fn ends_so(alloc: Global, query: &Checked, row: &TextRow) -> Result<bool, NoMemory> {
+fn ends_so(alloc: Global, query: &ScopedQuery, row: &TextRow) -> Result<bool, NoMemory> {
     let blanks = b" ".repeat(alloc, row.blanks)?;
     let text = [row.text.as_bytes(), blanks.as_slice()].concat(alloc)?;
     match (parse_constraints(alloc, &text, row.limit, query), row.ends) {
@@ -198,7 +198,7 @@ fn ends_so(alloc: Global, query: &Checked, row: &TextRow) -> Result<bool, NoMemo
 
 #[test]
 fn texts_are_read_or_refused(rt: HostRuntime) -> Result<(), Fail> {
-    let query = read_query(rt.alloc(), QUERY, LIMIT)?;
+    let query = scoped_query(rt.alloc(), QUERY)?;
     for row in TEXTS {
         let is_so = ends_so(rt.alloc(), &query, row)?;
         assert!(rt; is_so, "{} and {} blanks", row.text, row.blanks);

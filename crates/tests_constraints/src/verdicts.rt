@@ -1,8 +1,8 @@
 // Constraints of small queries, each with the verdict that was worked out by hand.
+use crate::checks::scoped_query;
 use constraint_prover::prove;
 use constraint_spec::Verdict;
 use constraints::parse_constraints;
-use query_reader::read_query;
 use std::test::Fail;
 
 /// A constraint, and whether it has a certificate.
@@ -453,7 +453,7 @@ pub const VERDICTS: &[VerdictRow] = &[
 fn each_constraint_has_its_verdict(rt: HostRuntime) -> Result<(), Fail> {
     let alloc = rt.alloc();
     for row in VERDICTS {
-        let query = read_query(alloc, row.query.as_bytes(), 65_536)?;
+        let query = scoped_query(alloc, row.query.as_bytes())?;
         let constraints = parse_constraints(alloc, row.constraint.as_bytes(), 65_536, &query)?;
         let [constraint] = constraints.as_slice() else {
             return Err(Fail::new(row.constraint));

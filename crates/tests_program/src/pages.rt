@@ -97,6 +97,15 @@ const PAGES: &[PageRow] = &[
         err: "",
     },
     PageRow {
+        data_text: "object o { a \"Bob's <\\\"b\\\" & c>\" }",
+        query: VALUES,
+        templates: "<TEMPLATE F><a title='<SFMT @a>'></TEMPLATE>",
+        address: "/F/no.html",
+        code: 0,
+        out: "<a title='Bob&#39;s &lt;&quot;b&quot; &amp; c&gt;'>",
+        err: "",
+    },
+    PageRow {
         data_text: "",
         query: SITE,
         templates: LOOKS,

@@ -1,5 +1,5 @@
 // A run of the program by its words alone, over files, outputs and a wire in memory, and what it has to leave.
-use command_run::{GivenWords, strudel};
+use command_run::{GivenWords, NoWords, run_main};
 use edge_io::{Files, MemFile, MemFiles, MemSink, Sink};
 use happenings::Stream;
 use mem_wire::{FailingSend, MemWire};
@@ -119,6 +119,13 @@ fn texts(alloc: Global, words: &[&str]) -> Result<Vec<Str>, NoMemory> {
     Ok(texts)
 }
 
+// The words of a run, with the command that they give.
+fn words_of(alloc: Global, words: &[&str]) -> Result<GivenWords, NoWords> {
+    let texts = texts(alloc, words)?;
+    let words = GivenWords::read(alloc, texts)?;
+    Ok(words)
+}
+
 // The exit code of a run of these words. Nothing else calls the program, and this says nothing of it, so that its long
 // contract stands in one proof alone.
 fn exit_code<F: Files, O: Sink, W: Wire>(
@@ -128,10 +135,9 @@ fn exit_code<F: Files, O: Sink, W: Wire>(
     out: &mut O,
     err: &mut O,
     wire: &mut W,
-) -> Result<u8, NoMemory> {
-    let words = GivenWords::read(alloc, texts(alloc, words)?)?;
-    let status = strudel(alloc, &words, files, out, err, wire);
-    Ok(status.code())
+) -> u8 {
+    let words = words_of(alloc, words);
+    run_main(alloc, &words, files, out, err, wire)
 }
 
 /// Fails with the words and the name of the run, and with what isn't as it says.
@@ -178,7 +184,7 @@ pub fn check_with<R: AllocGlobal + Abort, F: Files, W: Wire>(
     let code = exit_code(alloc, run.words, files, &mut out, &mut err, wire);
     check_text(rt, run, err.bytes(), run.err);
     check_text(rt, run, out.bytes(), run.out);
-    check(rt, run, code == Ok(run.code), "the exit code");
+    check(rt, run, code == run.code, "the exit code");
     Ok(())
 }
 

@@ -593,6 +593,13 @@ const SITE_RUNS: &[Run] = &[
         err: "",
         ..PLAIN
     },
+    Run {
+        words: &["trial", "2000"],
+        code: 0,
+        out: "entries 2000\nrequests 4062\nok 4062\nmissing 0\nbytes 570872\nhits 0\n",
+        err: "",
+        ..PLAIN
+    },
 ];
 
 #[test]

@@ -2,7 +2,7 @@
 use crate::inputs::{BIBLIOGRAPHY, LIMIT, asker_of, builder_of, check_text, query_of, quoted};
 use constraint_report::report_of;
 use constraints::parse_constraints;
-use query_scoping::scopes;
+use query_scoping::ScopedQuery;
 use std::process::Abort;
 use std::test::Fail;
 
@@ -89,12 +89,11 @@ const REPORTS: &[ReportRow] = &[
 
 fn check_report<R: AllocGlobal + Abort>(rt: &R, row: &ReportRow) -> Result<(), Fail> {
     let alloc = rt.alloc();
-    let query = query_of(alloc, row.query)?;
+    let query = ScopedQuery::of(alloc, query_of(alloc, row.query)?)?;
     let text = quoted(alloc, row.constraints)?;
     let constraints = parse_constraints(alloc, text.as_bytes(), LIMIT, &query)?;
-    let scopes = scopes(alloc, &query)?;
     let asker = asker_of(alloc, builder_of(alloc, row.data)?)?;
-    let report = report_of(alloc, asker, &scopes, constraints.as_slice())?;
+    let report = report_of(alloc, asker, query.blocks(), constraints.as_slice())?;
     assert_eq!(rt; report.passed, row.all_met, "{}", row.constraints);
     check_text(rt, report.text.bytes(), row.lines, row.constraints)
 }

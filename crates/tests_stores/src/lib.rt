@@ -6,6 +6,8 @@ mod calls;
 #[cfg(test)]
 mod inputs;
 #[cfg(test)]
+mod large;
+#[cfg(test)]
 mod printed;
 #[cfg(test)]
 mod walk_rows;

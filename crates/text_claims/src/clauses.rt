@@ -3,15 +3,15 @@
 ghost use Rattle.std.specs.Prelude.{◌≡◌, ◌++◌, ◌∷◌, [], false, IfOk, map};
 ghost use Rattle.std.specs.List.{flat_map};
 ghost use Rattle.struql_ast.specs.Written.{condition_written, term_written, target_written};
-ghost use Rattle.struql_ast.specs.Written.{link_written, block_clauses, block_span};
-ghost use Rattle.lint_spec.specs.QueryClaims.{condition_claims, create_claim, link_claims};
+ghost use Rattle.struql_ast.specs.Written.{link_written, collect_written, block_clauses, block_span};
+ghost use Rattle.lint_spec.specs.QueryClaims.{condition_claims, create_claim, target_claims};
 ghost use Rattle.lint_spec.specs.QueryClaims.{block_claims};
 
 use crate::conditions::{push, push_condition};
 use lint_spec::{Asked, Claim};
 use sd_value::NoMemory;
 use std::alloc::Global;
-use struql_ast::{Block, Condition, Link, SkolemTerm, Target};
+use struql_ast::{Block, Collect, Condition, Link, SkolemTerm, Target};
 
 fn push_conditions(
     alloc: Global,
@@ -41,7 +41,7 @@ fn push_creates(alloc: Global, found: &mut Vec<Claim>, terms: &[SkolemTerm]) -> 
 
 fn push_target(alloc: Global, found: &mut Vec<Claim>, target: &Target) -> Result<(), NoMemory>
     ensures { IfOk result (λ _. found.new.items
-        ≡ found.old.items ++ link_claims (target_written target.now)) }
+        ≡ found.old.items ++ target_claims (target_written target.now)) }
 {
     match target {
         Target::Plain(_) => Ok(()),
@@ -54,10 +54,24 @@ fn push_target(alloc: Global, found: &mut Vec<Claim>, target: &Target) -> Result
 
 fn push_links(alloc: Global, found: &mut Vec<Claim>, links: &[Link]) -> Result<(), NoMemory>
     ensures { IfOk result (λ _. found.new.items ≡ found.old.items
-        ++ flat_map (λ k. link_claims k.target) (map link_written links.now)) }
+        ++ flat_map (λ k. target_claims k.target) (map link_written links.now)) }
 {
     for link in links {
         push_target(alloc, found, &link.target)?;
+    }
+    Ok(())
+}
+
+fn push_collects(
+    alloc: Global,
+    found: &mut Vec<Claim>,
+    collects: &[Collect],
+) -> Result<(), NoMemory>
+    ensures { IfOk result (λ _. found.new.items ≡ found.old.items
+        ++ flat_map (λ k. target_claims k.target) (map collect_written collects.now)) }
+{
+    for collect in collects {
+        push_target(alloc, found, &collect.target)?;
     }
     Ok(())
 }
@@ -75,5 +89,6 @@ pub(crate) fn push_block(
     push(found, Asked::Rows(number), block.span.start)?;
     push_conditions(alloc, found, number, &block.conditions)?;
     push_creates(alloc, found, &block.creates)?;
-    push_links(alloc, found, &block.links)
+    push_links(alloc, found, &block.links)?;
+    push_collects(alloc, found, &block.collects)
 }

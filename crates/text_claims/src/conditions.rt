@@ -239,8 +239,12 @@ pub(crate) fn push_condition(
             variable_span,
             span,
         } => {
-            let collection = collection.copy(alloc)?;
-            push(found, Asked::Collection(collection), span.start)?;
+            push(
+                found,
+                Asked::Collection(collection.copy(alloc)?),
+                span.start,
+            )?;
+            push(found, Asked::Member(collection.copy(alloc)?), span.start)?;
             push_variable(alloc, found, block, under, variable, *variable_span)
         }
         Condition::Path { from, step, to, .. } => {

@@ -3,8 +3,11 @@
 
 ghost use Rattle.std.specs.Prelude.{All, ◌≡◌, ◌<◌, length};
 
+mod uses;
+
 use sd_value::{Str, Value};
 use std::marker::Model;
+pub use uses::{ExprUse, uses_of};
 
 /// The labels of a path, in order.
 #[derive(Drop)]

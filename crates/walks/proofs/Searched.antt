@@ -63,9 +63,6 @@ leads_to_end G Backward n u l v p h small =
     subst (λ (x : Value). Contains (pairs_of Backward n G.edges) (x, p)) (sym e.2) (pairs_of_has Backward n G.edges e.0 p e.1 small)
 
 module _ (G : DataGraph) (t : Table) (d : Direction) where
-  pub first_within : (u v : Value) (p : ℕ) → LeadsFirst G t d u v p → Contains (all_pairs G t d) (v, p)
-  first_within u v p (l, a, f, r) = leads_to_end G d _ u l v p a (slice_get_within t.letters p r.0 r.1)
-
   pub leads_within : (task : Task) (v : Value) (q : ℕ) → Leads G t d task v q → Contains (all_pairs G t d) (v, q)
   leads_within task v q (l, a, n, r) = leads_to_end G d _ task.value l v q a (slice_get_within t.letters q r.0 r.1)
 

@@ -117,12 +117,6 @@ selects_all t d u seen taken ordered selects = record {
   complete = λ v (s, g, e). elim ((selects.exact v).1 (s, found seen.entries v s g, e)) [ inl c ↦ c | inr k ↦ absurd (let m = k.1.1 in omega (arith, m)) ];
 }
 
-pub selects_none : (t : Table) (d : Direction) (u : Value) (seen : BTreeMap Value (List ℕ)) → IsOrdered value_cmp seen → Selects t d u seen.entries [] seen.entries
-selects_none t d u seen ordered = record {
-  ascending = ordered;
-  exact = λ v. (λ h. elim h [ inl c ↦ absurd (let m = c.1 in omega (arith, m)) | inr k ↦ k ], λ h. inr h);
-}
-
 pub no_entries : (es : List (Value × List ℕ)) → (0 < length es → ⊥) → es ≡ []
 no_entries [] h = refl
 no_entries (x ∷ xs) h = absurd (h (omega arith))

@@ -39,13 +39,6 @@ has_tested s p = (
   λ h. and_both _ _ ((small_test p).1 h.small) ((bit_test _).1 h.bit),
 )
 
-pub has_or_not : (s : List ℕ) (p : ℕ) → Has s p ⊎ (Has s p → ⊥)
-has_or_not s p = by_test (has_test s p) refl
-  where
-    by_test : (b : Bool) → has_test s p ≡ b → Has s p ⊎ (Has s p → ⊥)
-    by_test true e = inl ((has_tested s p).0 e)
-    by_test false e = inr (λ h. let k = (has_tested s p).1 h in cc)
-
 some_tested : (o : Option (List ℕ)) (p : ℕ) → (has_some o p ≡ true) ↔ ((s : List ℕ) × (o ≡ Some s) × Has s p)
 some_tested None p = (λ h. cc, λ (s, e, h). cc)
 some_tested (Some s) p = (

@@ -1,7 +1,8 @@
 use Rattle.std.proofs.Common.{◌∙◌, refl, sym, ap, subst, List, false}
+use Rattle.std.specs.Prelude.{map}
 use Rattle.tmpl.specs.Reading.{file_of, template_body}
 use Rattle.tmpl.specs.Body.{body_of}
-use Rattle.demand_spec.specs.Reads.{uses}
+use Rattle.tmpl.specs.Expressions.{uses, use_of}
 use Rattle.tmpl.specs.declared.Part.{Part}
 use Rattle.edit_footprint.specs.declared.reads.Reads.{Reads}
 use Rattle.edit_footprint.specs.Gathered.{AddsUses}
@@ -45,5 +46,6 @@ returns-in_ok-gather-in-Some c =
     })
     (sym c.in-Some.is ∙ c.number_of.ensures ∙ ap (number_of c.args.function.now) c.functions.ensures)
     c.template.ensures
-    (subst (λ (l : List Part). AddsUses old c.gather.new.reads (uses (body_of l))) c.as_slice-parts.ensures.value
-    c.in_ok-gather-in-Some.ensures)
+    (subst (AddsUses old c.gather.new.reads)
+    (ap (map use_of) c.deref.ensures.value ∙ c.in_ok-uses-in-Some.ensures
+    ∙ ap (λ (l : List Part). uses (body_of l)) c.as_slice.ensures.value) c.in_ok-gather-in-Some.ensures)

@@ -41,13 +41,31 @@ pub const ROWS: &[LintRow] = &[
         templates: "<TEMPLATE Home><SFMT #\"my-file\".title><SFMT @paper LINK=title></TEMPLATE><TEMPLATE Page><SFMT @title></TEMPLATE>",
         lines: "site.struql: 148 NoRow at 26\nsite.struql: 141 UnknownCollection at 34\nsite.tmpl: 141 UnknownCollection at 22\n",
     },
-    // A collection that a COLLECT fills is known, though the data have no member of it.
+    // A collection that a COLLECT fills is known, but a condition on it reads the data, which have no member of it.
     LintRow {
         data: "object a in Papers { title \"One\" year 1998 } object b in Papers { title \"Two\" }",
         query: "INPUT D { CREATE Home() } { WHERE Papers(x), x -> \"title\" -> t CREATE Page(x) LINK Home() \
             -> \"paper\" -> Page(x), Page(x) -> \"title\" -> t } { WHERE Recent(x) COLLECT Recent(x) } OUTPUT S",
         templates: "<TEMPLATE Home><SFMT @paper LINK=title></TEMPLATE><TEMPLATE Page><SFMT @title></TEMPLATE>",
-        lines: "site.struql: 148 NoRow at 139\n",
+        lines: "site.struql: 148 NoRow at 139\nsite.struql: 156 OnlyCollected at 147\n",
+    },
+    // Under `not` such a condition always holds.
+    LintRow {
+        data: "object a in Papers { title \"One\" year 1998 } object b in Papers { title \"Two\" }",
+        query: "INPUT D { CREATE Home() } { WHERE Papers(x), x -> \"title\" -> t CREATE Page(x) LINK Home() -> \
+            \"paper\" -> Page(x), Page(x) -> \"title\" -> t } { WHERE Papers(x), not(Kept(x)) COLLECT \
+            Kept(x) } OUTPUT S",
+        templates: "<TEMPLATE Home><SFMT @paper LINK=title></TEMPLATE><TEMPLATE Page><SFMT @title></TEMPLATE>",
+        lines: "site.struql: 156 OnlyCollected at 162\n",
+    },
+    // A COLLECT into a collection of which the data have members.
+    LintRow {
+        data: "object a in Papers { title \"One\" year 1998 } object b in Papers { title \"Two\" }",
+        query: "INPUT D { CREATE Home() } { WHERE Papers(x), x -> \"title\" -> t CREATE Page(x) LINK Home() -> \
+            \"paper\" -> Page(x), Page(x) -> \"title\" -> t } { WHERE Papers(x), x -> \"year\" -> y COLLECT \
+            Papers(Page(x)) } OUTPUT S",
+        templates: "<TEMPLATE Home><SFMT @paper LINK=title></TEMPLATE><TEMPLATE Page><SFMT @title></TEMPLATE>",
+        lines: "",
     },
     // A collection of a template.
     LintRow {
@@ -187,7 +205,27 @@ pub const ROWS: &[LintRow] = &[
             -> \"paper\" -> Page(x), Page(x) -> \"title\" -> t } { WHERE Papers(x) COLLECT All(Page(x)) } \
             OUTPUT S",
         templates: "<TEMPLATE Home><SFMT @paper LINK=title></TEMPLATE><TEMPLATE COLLECTION All>x</TEMPLATE>",
-        lines: "site.struql: 145 NoTemplate at 104\n",
+        lines: "site.struql: 145 NoTemplate at 104\nsite.struql: 145 NoTemplate at 169\n",
+    },
+    // A function that only a COLLECT has, and no template presents.
+    LintRow {
+        data: "object a in Papers { title \"One\" year 1998 } object b in Papers { title \"Two\" }",
+        query: "INPUT D { CREATE Home() } { WHERE Papers(x), x -> \"title\" -> t CREATE Page(x) LINK Home() -> \
+            \"paper\" -> Page(x), Page(x) -> \"title\" -> t } { WHERE Papers(x) CREATE Card(x) LINK Card(x) \
+            -> \"name\" -> x COLLECT All(Card(x)) } OUTPUT S",
+        templates: "<TEMPLATE Home><SFMT #All LINK><SFMT @paper LINK=title></TEMPLATE><TEMPLATE Page><SFMT \
+            @title></TEMPLATE>",
+        lines: "site.struql: 145 NoTemplate at 212\n",
+    },
+    // A word goes on from its pages.
+    LintRow {
+        data: "object a in Papers { title \"One\" year 1998 } object b in Papers { title \"Two\" }",
+        query: "INPUT D { CREATE Home() } { WHERE Papers(x), x -> \"title\" -> t CREATE Page(x) LINK Home() -> \
+            \"paper\" -> Page(x), Page(x) -> \"title\" -> t } { WHERE Papers(x), x -> \"title\" -> t CREATE \
+            Card(x) LINK Card(x) -> \"name\" -> t COLLECT All(Card(x)) } OUTPUT S",
+        templates: "<TEMPLATE Home><SFMT #All.name><SFMT @paper LINK=title></TEMPLATE><TEMPLATE Page><SFMT \
+            @title></TEMPLATE>",
+        lines: "",
     },
     // A created function that nothing reaches; the root's is reached by its address.
     LintRow {

@@ -19,7 +19,7 @@ returns-in-Some-clause-exact g c = (
 
 pub returns-in-Some-clause-holds : goal.returns-in-Some-clause-holds
 returns-in-Some-clause-holds g c =
-    no_holds (scope_of c.args.query.now) c.args.constraint.now c.in-Some.graph
+    no_holds (scope_of c.args.query.now) c.args.constraint.now c.in-Some.graph c.integers_fit.ensures.well_formed c.integers_fit.ensures.integers
     (subst (IsFirstBroken (scope_of c.args.query.now) c.args.constraint.now) c.in-Some.is c.in_ok-graph-in-Unknown.ensures.first)
 
 pub returns-in-None-clause-exact : goal.returns-in-None-clause-exact

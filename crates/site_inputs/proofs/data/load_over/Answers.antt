@@ -1,5 +1,6 @@
 use Rattle.std.proofs.Common.{◌∙◌, ◌∷◌, [], ◌++◌, inl, inr, arith}
 use Rattle.std.proofs.lemmas.Result.{err_from_is_err_and}
+use Rattle.std.specs.Prelude.{Ok, Err}
 use Rattle.site_inputs.specs.Sources.{GraphEnds, empty_building}
 use Rattle.site_inputs.specs.Sites.{QueryEnds, SiteTaken}
 use Rattle.site_inputs.specs.Runs.{Then}
@@ -7,6 +8,8 @@ use Rattle.site_inputs.proofs.Runs.{none_fell}
 use Rattle.site_inputs.proofs.Graphs.{then_next}
 use Rattle.site_inputs.proofs.Causes.{cause_within, of_files, of_first}
 use Rattle.site_inputs.proofs.SiteData.{no_unread}
+use Rattle.site_inputs.proofs.SiteReads.{site_is_read}
+use Rattle.site_inputs.proofs.ReadLemmas.{reads_then, reads_stop, reads_fault, reads_done}
 use Rattle.site_inputs.proofs.data.load_over.Goals as goal
 
 pub returns-clause-ends : goal.returns-clause-ends
@@ -48,3 +51,30 @@ returns-clause-cause g c = record {
   later = none_fell c.in_ok-gathered.ensures.cause.later c.in_ok-first.ensures.cause.later;
   failed = no_unread c.args.path.now c.in_ok-gathered.gathered.graph c.in_ok-first.first (c.args.sources.now.paths ++ (c.args.path.now ∷ [])) _ _ c.take_site.result c.take_site.ensures;
 }
+
+pub returns-in_err-gathered-clause-traced : goal.returns-in_err-gathered-clause-traced
+returns-in_err-gathered-clause-traced g c =
+    let p = err_from_is_err_and c.from_residual.result c.from_residual.ensures.1 in
+    rw (p.1, p.2)
+    (reads_stop _ _ c.args.sources.now.paths (c.args.path.now ∷ []) _ _ _ c.in_err-gathered.field-0.0 _ _ c.in_err-gathered.ensures.traced (λ map h. inl h))
+
+pub returns-in_err-first-clause-traced : goal.returns-in_err-first-clause-traced
+returns-in_err-first-clause-traced g c =
+    let p = err_from_is_err_and c.from_residual-in_err-first.result c.from_residual-in_err-first.ensures.1 in
+    rw (p.1, p.2)
+    (reads_then c.args.sources.now.paths (c.args.path.now ∷ []) _ _ _ _ _ c.in_ok-gathered.gathered (Err c.in_err-first.field-0.0) _ _ _ c.in_ok-gathered.ensures.traced
+    (reads_fault _ _ (c.args.path.now ∷ []) _ _ _ c.in_err-first.field-0.0 _ (λ map. QueryEnds map c.args.path.now (Err c.in_err-first.field-0.0)) c.in_err-first.ensures.traced (λ map h. h))
+    c.in_ok-gathered.ensures.same
+    (λ map f n. inr (record { value = c.in_ok-gathered.gathered.graph; first = f; next = inl n })))
+
+pub returns-clause-traced : goal.returns-clause-traced
+returns-clause-traced g c =
+    let path = c.args.path.now in
+    let raw = c.in_ok-gathered.gathered.graph in
+    let first = c.in_ok-first.first in
+    reads_done (c.args.sources.now.paths ++ (path ∷ [])) _ _ _ first c.take_site.result _ _
+    (reads_then c.args.sources.now.paths (path ∷ []) _ _ _ _ _ c.in_ok-gathered.gathered (Ok first) _ _ (λ map. GraphEnds map empty_building c.args.sources.now (Ok raw) × QueryEnds map path (Ok first))
+    c.in_ok-gathered.ensures.traced c.in_ok-first.ensures.traced c.in_ok-gathered.ensures.same (λ map f n. (f, n)))
+    (site_is_read path raw first c.take_site.result c.take_site.ensures)
+    (λ map h. then_next (GraphEnds map empty_building c.args.sources.now) (λ raw. Then (QueryEnds map path) (λ first. SiteTaken path raw first)) raw c.take_site.result h.0
+    (then_next (QueryEnds map path) (λ first. SiteTaken path raw first) first c.take_site.result h.1 c.take_site.ensures))

@@ -1,7 +1,11 @@
-use Rattle.std.proofs.Common.{◌∙◌, ◌∷◌, [], arith}
+use Rattle.std.proofs.Common.{◌∙◌, ◌∷◌, [], inl, inr, refl, arith}
+use Rattle.std.specs.Prelude.{Ok, Err}
 use Rattle.std.proofs.lemmas.Result.{err_from_is_err_and}
 use Rattle.command_spec.specs.Inputs.{data_paths, input_paths}
+use Rattle.site_inputs.specs.Sites.{QueryEnds, TemplatesEnd}
+use Rattle.site_inputs.specs.Values.{file_result}
 use Rattle.site_inputs.proofs.Runs.{none_fell}
+use Rattle.site_inputs.proofs.ReadLemmas.{reads_then, reads_stop, reads_fault, reads_done}
 use Rattle.site_inputs.proofs.Sites.{templates_fault}
 use Rattle.site_inputs.proofs.Causes.{cause_within, of_sources, of_query, of_templates}
 use Rattle.site_inputs.proofs.site.load_inputs.Goals as goal
@@ -35,3 +39,42 @@ returns-in_err-templates-clause-cause g c =
     rw (p.1, p.2)
     (cause_within (c.args.templates.now ∷ []) (input_paths (data_paths c.args.sources.now c.args.over.now) c.args.query.now c.args.templates.now) _ _ _ c.in_err-templates.field-0.0
     (of_templates (data_paths c.args.sources.now c.args.over.now) c.args.query.now c.args.templates.now) (none_fell c.in_ok-data.ensures.cause.later c.in_ok-query.ensures.cause.later) c.in_err-templates.ensures.cause)
+
+pub returns-in_err-data-clause-traced : goal.returns-in_err-data-clause-traced
+returns-in_err-data-clause-traced g c =
+    let p = err_from_is_err_and c.from_residual.result c.from_residual.ensures.1 in
+    rw (p.1, p.2)
+    (reads_stop _ _ (data_paths c.args.sources.now c.args.over.now) (c.args.query.now ∷ c.args.templates.now ∷ []) _ _ _ c.in_err-data.field-0.0 _ _ c.in_err-data.ensures.traced (λ map h. inl h))
+
+pub returns-in_err-query-clause-traced : goal.returns-in_err-query-clause-traced
+returns-in_err-query-clause-traced g c =
+    let p = err_from_is_err_and c.from_residual-in_err-query.result c.from_residual-in_err-query.ensures.1 in
+    rw (p.1, p.2)
+    (reads_then (data_paths c.args.sources.now c.args.over.now) (c.args.query.now ∷ c.args.templates.now ∷ []) _ _ _ _ _ c.in_ok-data.data (Err c.in_err-query.field-0.0) _ _ _ c.in_ok-data.ensures.traced
+    (reads_stop _ _ (c.args.query.now ∷ []) (c.args.templates.now ∷ []) _ _ _ c.in_err-query.field-0.0 _ (λ map. QueryEnds map c.args.query.now (Err c.in_err-query.field-0.0)) c.in_err-query.ensures.traced (λ map h. h))
+    c.in_ok-data.ensures.same
+    (λ map f n. inr (record { value = c.in_ok-data.data; first = f; next = inl n })))
+
+pub returns-in_err-templates-clause-traced : goal.returns-in_err-templates-clause-traced
+returns-in_err-templates-clause-traced g c =
+    let p = err_from_is_err_and c.from_residual-in_err-templates.result c.from_residual-in_err-templates.ensures.1 in
+    rw (p.1, p.2)
+    (reads_then (data_paths c.args.sources.now c.args.over.now) (c.args.query.now ∷ c.args.templates.now ∷ []) _ _ _ _ _ c.in_ok-data.data (Err c.in_err-templates.field-0.0) _ _ _ c.in_ok-data.ensures.traced
+    (reads_then (c.args.query.now ∷ []) (c.args.templates.now ∷ []) _ _ _ _ _ c.in_ok-query.query (Err c.in_err-templates.field-0.0) _ _
+    (λ map. QueryEnds map c.args.query.now (Ok c.in_ok-query.query) × TemplatesEnd map c.args.templates.now (Err c.in_err-templates.field-0.0))
+    c.in_ok-query.ensures.traced
+    (reads_fault _ _ (c.args.templates.now ∷ []) _ _ _ c.in_err-templates.field-0.0 _ (λ map. TemplatesEnd map c.args.templates.now (Err c.in_err-templates.field-0.0)) c.in_err-templates.ensures.traced (λ map h. h))
+    c.in_ok-query.ensures.same (λ map f n. (f, n)))
+    c.in_ok-data.ensures.same
+    (λ map f n. templates_fault map _ _ _ _ c.in_ok-data.data c.in_ok-query.query c.in_err-templates.field-0.0 f n.0 n.1))
+
+pub returns-clause-traced : goal.returns-clause-traced
+returns-clause-traced g c =
+    reads_then (data_paths c.args.sources.now c.args.over.now) (c.args.query.now ∷ c.args.templates.now ∷ []) _ _ _ _ _ c.in_ok-data.data (Ok _) _ _ _ c.in_ok-data.ensures.traced
+    (reads_then (c.args.query.now ∷ []) (c.args.templates.now ∷ []) _ _ _ _ _ c.in_ok-query.query (Ok _) _ _
+    (λ map. QueryEnds map c.args.query.now (Ok c.in_ok-query.query) × TemplatesEnd map c.args.templates.now (file_result (Ok c.in_ok-templates.templates)))
+    c.in_ok-query.ensures.traced
+    (reads_done (c.args.templates.now ∷ []) _ _ _ c.in_ok-templates.templates (Ok _) _ (λ map. TemplatesEnd map c.args.templates.now (file_result (Ok c.in_ok-templates.templates))) c.in_ok-templates.ensures.traced tt (λ map h. h))
+    c.in_ok-query.ensures.same (λ map f n. (f, n)))
+    c.in_ok-data.ensures.same
+    (λ map f n. record { value = c.in_ok-data.data; first = f; next = record { value = c.in_ok-query.query; first = n.0; next = record { value = _; first = n.1; next = inl refl } } })

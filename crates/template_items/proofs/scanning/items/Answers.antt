@@ -1,4 +1,4 @@
-use Rattle.template_items.proofs.Scanned.{passes_reached, finds_reached, ended_says, only_list}
+use Rattle.template_items.proofs.Scanned.{passes_reached, finds_reached, ended_says, ended_few, only_list}
 use Rattle.template_items.proofs.scanning.items.Goals as goal
 
 pub items-preserved-in-Passes : goal.items-preserved-in-Passes
@@ -12,3 +12,6 @@ returns-in-Ends-clause-exact c = ended_says c.args.bytes.now c.items.state c.ite
 
 pub returns-in-Ends-clause-only : goal.returns-in-Ends-clause-only
 returns-in-Ends-clause-only c = only_list c.args.bytes.now c.ended.result (ended_says c.args.bytes.now c.items.state c.items.items.items c.in-Ends.last c.items.invariant c.in_ok-next.field-0 c.in-Ends.is c.in_ok-next.ensures.is c.ended.result c.ended.ensures)
+
+pub returns-in-Ends-clause-few : goal.returns-in-Ends-clause-few
+returns-in-Ends-clause-few c = ended_few c.args.bytes.now c.items.state c.items.items.items c.in-Ends.last c.items.invariant c.ended.result c.ended.ensures

@@ -1,0 +1,30 @@
+// The query of a file, with its blocks.
+ghost use Rattle.std.specs.Prelude.{◌≡◌, ◌∷◌, []};
+ghost use Rattle.std.specs.Option.{ForSome};
+ghost use Rattle.site_inputs.specs.Runs.{ReadsHaveCause};
+ghost use Rattle.site_inputs.specs.Sites.{QueryEnds};
+
+use edge_io::Files;
+use query_scoping::ScopedQuery;
+use sd_value::Str;
+use site_inputs::{Fault, load_query};
+use std::alloc::Global;
+
+/// The checked query of a file, with its blocks.
+/// # Errors
+/// A query that is refused or unread, or out of memory.
+pub(crate) fn load_scoped_query<F: Files>(
+    alloc: Global,
+    files: &mut F,
+    path: &Str,
+) -> Result<ScopedQuery, Fault>
+    ensures ends { ForSome (F.contents files.old) (λ map. QueryEnds map path.now result) }
+    ensures same { F.contents files.new ≡ F.contents files.old }
+    ensures cause { ReadsHaveCause (path.now ∷ [])
+        (F.failed_reads files.old) (F.failed_reads files.new) result }
+    ensures writes { F.failed_writes files.new ≡ F.failed_writes files.old }
+{
+    let query = load_query(alloc, files, path)?;
+    let scoped = ScopedQuery::of(alloc, query)?;
+    Ok(scoped)
+}

@@ -1,0 +1,62 @@
+// The program from its words to its exit code.
+ghost use Rattle.std.specs.Prelude.{◌≡◌};
+ghost use Rattle.command_run.specs.Main.{status_without, waits_given, Exits, seen};
+
+use crate::given::{GivenWords, default_waits};
+use crate::no_words::NoWords;
+use crate::top::strudel;
+use command_spec::ServeWaits;
+use edge_io::{Files, Sink};
+use run_report::{Status, report};
+use std::alloc::Global;
+use wire::Wire;
+
+/// How long the wire of a run is to wait for a connection: what its words say where they give `serve`, and else the
+/// defaults.
+pub fn waits_of(words: &Result<GivenWords, NoWords>) -> ServeWaits
+    ensures { result ≡ waits_given words.now }
+{
+    match words {
+        Ok(words) => words.waits(),
+        Err(_) => default_waits(),
+    }
+}
+
+fn status_of_no_words(reason: NoWords) -> Status
+    ensures { result ≡ status_without reason }
+{
+    match reason {
+        NoWords::Unreadable => Status::Usage,
+        NoWords::NoMemory => Status::NoMemory,
+    }
+}
+
+/// Does all that the program does, and gives its exit code. `words` are those after the program's name, with the command
+/// that they give, or why there are none. The answer is put on `out`, and a line on `err` reports any other end. `serve`
+/// takes its connections from `wire`, which waits as `waits_of` says.
+pub fn run_main<F: Files, O: Sink, E: Sink, W: Wire>(
+    alloc: Global,
+    words: &Result<GivenWords, NoWords>,
+    files: &mut F,
+    out: &mut O,
+    err: &mut E,
+    wire: &mut W,
+) -> u8
+    ensures { Exits words.now
+        (seen (F.contents files.old) (F.failed_reads files.old) (F.failed_writes files.old)
+        (O.text out.old) (O.failed out.old) (E.text err.old) (E.failed err.old) (W.told wire.old))
+        (seen (F.contents files.new) (F.failed_reads files.new) (F.failed_writes files.new)
+        (O.text out.new) (O.failed out.new) (E.text err.new) (E.failed err.new) (W.told wire.new))
+        result }
+{
+    match words {
+        Ok(words) => {
+            let status = strudel(alloc, words, files, out, err, wire);
+            status.code()
+        }
+        Err(reason) => {
+            let status = report(alloc, status_of_no_words(*reason), err);
+            status.code()
+        }
+    }
+}
