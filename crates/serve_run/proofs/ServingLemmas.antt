@@ -31,7 +31,7 @@ use Rattle.serving_spec.specs.declared.HubEnd.TheVariants.{Done as Finished, Wir
 use Rattle.serving_spec.specs.Sent.{seen, IsServed}
 use Rattle.serving_spec.specs.Counted.{no_counts, IsCounted, counts_from}
 use Rattle.serving_spec.specs.Serving.{none_kept, placed_input, Tallied, Serves}
-use Rattle.serve_run.specs.Steps.{at, run_rules, TalliedInSteps, ServesInSteps}
+use Rattle.serve_run.specs.Steps.{at, run_rules, TalliedInSteps, ServesInSteps, HappensInSteps}
 use Rattle.serve_run.proofs.CountLemmas.{served_of, counted_of, plain_served, After, steps_of, Whole, whole}
 
 -- one event more opens one connection more, or none
@@ -146,6 +146,11 @@ module _ {P D : Type 0} (old new : HubState P) (root : Option (List ℕ)) (site 
   pub serves_in_steps : ServesInSteps root site templates texts start requests turns capacity before after (record { end = end; tally = tally })
   serves_in_steps = record { events = events; left = left; ends = ends; tally = in_steps }
 
+  pub happens_in_steps : (old_trace new_trace : List Happening) → Happens end trace old_trace new_trace
+      → HappensInSteps root site templates texts start requests turns capacity before after (record { end = end; tally = tally }) old_trace new_trace
+  unfolding serves_in_steps in_steps
+  happens_in_steps old_trace new_trace happens = (serves_in_steps, happens)
+
 abbrev no_tally : Tally
 no_tally = record { connections = 0; replies = 0; hits = 0; changes = 0; refused = 0 }
 
@@ -199,8 +204,14 @@ no_steps {D} root site templates texts start requests turns capacity wire =
     }
 
 -- nothing happened
-pub nothing_happens : (old : List Happening) → Happens NoMemory [] old old
+nothing_happens : (old : List Happening) → Happens NoMemory [] old old
 nothing_happens old = ([], inl refl, sym (append-nil old))
+
+pub no_steps_happen : {D : Type 0} (root : Option (List ℕ)) (site : D → Site) (templates : D → TemplateFile) (texts : Changes D) (start : D) (requests turns capacity : ℕ) (wire : WireReport)
+    (trace : List Happening) → HappensInSteps root site templates texts start requests turns capacity wire wire (record { end = NoMemory; tally = no_tally }) trace trace
+unfolding no_steps
+no_steps_happen root site templates texts start requests turns capacity wire trace =
+    (no_steps root site templates texts start requests turns capacity wire, nothing_happens trace)
 
 -- a cache that is new
 abbrev kept_of : ℕ → List Term → ℕ → Kept

@@ -1,6 +1,6 @@
 use Rattle.site_spec.specs.Root.{root_function}
 use Rattle.site_inputs.specs.Values.{inputs_of}
-use Rattle.serve_run.proofs.ServingLemmas.{serves_nothing, no_steps, nothing_happens}
+use Rattle.serve_run.proofs.ServingLemmas.{serves_nothing, no_steps_happen}
 use Rattle.site_pages.specs.Rules.{the_rules}
 use Rattle.site_pages.specs.Texts.{current_site, current_templates, data_texts}
 use Rattle.site_serving.specs.Served.{first_data}
@@ -18,9 +18,8 @@ pub returns-in-Err-clause-steps : goal.returns-in-Err-clause-steps
 returns-in-Err-clause-steps g c =
     rw c.in-Err.ensures.err (
       the_rules,
-      no_steps (root_function c.args.inputs.query) current_site current_templates (data_texts the_rules) (first_data (inputs_of c.args.inputs)) c.args.limits.now.requests c.args.limits.now.turns c.args.limits.now.cache
-          (g.W.Wire.told c.args.wire.now),
-      nothing_happens (g.W.Wire.trace c.args.wire.now),
+      no_steps_happen (root_function c.args.inputs.query) current_site current_templates (data_texts the_rules) (first_data (inputs_of c.args.inputs)) c.args.limits.now.requests c.args.limits.now.turns c.args.limits.now.cache
+          (g.W.Wire.told c.args.wire.now) (g.W.Wire.trace c.args.wire.now),
     )
 
 pub returns-in-Ok-clause-serves : goal.returns-in-Ok-clause-serves

@@ -1,4 +1,4 @@
-use Rattle.std.proofs.Common.{List, ℕ, Bool, [], ◌++◌, codes, ap, sym, ◌∙◌, append-nil}
+use Rattle.std.proofs.Common.{Bool, [], ◌++◌, codes, ap, sym, ◌∙◌, append-nil}
 use Rattle.serve_run.specs.Texts.{count_line, change_lines, tally_text}
 use Rattle.serve_run.proofs.Gained.{four_pieces}
 use Rattle.serve_run.proofs.texts.push_tally.Goals as goal
