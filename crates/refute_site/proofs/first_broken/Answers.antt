@@ -17,7 +17,7 @@ returns-in-Some-clause-first g c =
     let t : Scope = g.T.Oracle.scope c.args.trial.now in
     let k = c.args.constraint.now in
     let e : DataGraph = c.new-empty.result.graph in
-    at_once (scope_of_query c.args.query.now) (scope_of c.blocks.result.now) t k (map candidate_graph c.in_ok-candidates.candidates.items) c.blocks.ensures.scope c.requires.scope c.in_ok-candidates.ensures.graphs e c.new-empty.ensures.empty c.in-Some.refuted
+    at_once (scope_of_query c.args.query.now) (scope_of c.blocks-2.result.now) t k (map candidate_graph c.in_ok-candidates.candidates.items) c.blocks-2.ensures.scope c.requires.scope c.in_ok-candidates.ensures.graphs e c.new-empty.ensures.empty c.in-Some.refuted
     (some_met c.in_ok-refuted.field-0 (Meets e t k) (λ (graph : DataGraph). (graph ≡ e) × (Meets e t k → ⊥)) c.in-Some.refuted c.in-Some.is c.in_ok-refuted.ensures.first)
 
 pub returns-clause-first : goal.returns-clause-first
@@ -29,7 +29,7 @@ returns-clause-first g c =
     (IsFirstWithout (λ (G : DataGraph). Meets G (g.T.Oracle.scope c.refuting.new.trial) k) (map candidate_graph c.deref.result.now))
     (IsFirstBroken (scope_of_query c.args.query.now) k)
     (λ (found : Option DataGraph) h.
-    later (scope_of_query c.args.query.now) (scope_of c.blocks.result.now) t k (map candidate_graph c.in_ok-candidates.candidates.items) c.blocks.ensures.scope c.requires.scope c.in_ok-candidates.ensures.graphs e c.new-empty.ensures.empty
+    later (scope_of_query c.args.query.now) (scope_of c.blocks-2.result.now) t k (map candidate_graph c.in_ok-candidates.candidates.items) c.blocks-2.ensures.scope c.requires.scope c.in_ok-candidates.ensures.graphs e c.new-empty.ensures.empty
     (none_met c.in_ok-refuted.field-0 (Meets e t k) (λ (graph : DataGraph). (graph ≡ e) × (Meets e t k → ⊥)) c.in_default.is c.in_ok-refuted.ensures.first)
     found
     (subst (λ (l : List Candidate). IsFirstWithout (λ (G : DataGraph). Meets G t k) (map candidate_graph l) found) c.deref.ensures.value
