@@ -18,7 +18,7 @@ returns-clause-steps g c =
     let after = g.W.Wire.trace c.serve_pages-served.new.wire in
     let served = c.serve_pages-served.result in
     let is_root : c.in_ok-root.root ≡ root_function c.args.inputs.query =
-        c.in_ok-root.ensures ∙ ap (λ s. root_of_bodies s.bodies) c.in_ok-scopes.ensures.scope in
+    c.in_ok-root.ensures ∙ ap (λ s. root_of_bodies s.bodies) c.in_ok-scopes.ensures.scope in
     let start = first_data (inputs_of c.args.inputs) in
     let is_start = c.in_ok-pages.ensures.state ∙ ap (λ (scope : Scope). record { first = start.first; pages = record { graph = start.pages.graph; scope = scope; templates = start.pages.templates } }) c.in_ok-scopes.ensures.scope in
     subst (λ (r : Option (List ℕ)). HappensInSteps r current_site current_templates (data_texts the_rules) start limits.requests limits.turns limits.cache old new served before after) is_root

@@ -15,7 +15,7 @@ returns-in-Done c =
     c.requires.askable
     (ap (λ (w : WireInMemory). w.events) c.in_ok-wire.ensures.told ∙ c.in_ok-events.ensures) (ap (λ (w : WireInMemory). w.count) c.in_ok-wire.ensures.told) c.in_ok-wire.ensures.entries
     (subst (All (HasEntry (entry_of c.in_ok-wire.wire))) c.in_ok-events.ensures c.in_ok-wire.ensures.opened)
-    c.serve_site-served.ensures.steps.1 c.in-Done.is c.in_ok-count-in-Done.ensures.fine c.in_ok-count-in-Done.ensures.counted
+    c.serve_site-served.ensures.steps.1.0 c.in-Done.is c.in_ok-count-in-Done.ensures.fine c.in_ok-count-in-Done.ensures.counted
 
 pub unreachable-requires : goal.unreachable-requires
 unreachable-requires c =
@@ -26,7 +26,7 @@ unreachable-requires c =
     turns_left (root_function (inputs_of c.args.site).query) current_site current_templates
     (data_texts c.serve_site-served.ensures.steps.0) (first_data (inputs_of c.args.site)) 4294967296 c.in_ok-wire.wire
     c.serve_site-served.new.wire c.serve_site-served.result fewer
-    (ap (λ (w : WireInMemory). w.count) c.in_ok-wire.ensures.told) c.serve_site-served.ensures.steps.1 c.in-TurnsSpent.is
+    (ap (λ (w : WireInMemory). w.count) c.in_ok-wire.ensures.told) c.serve_site-served.ensures.steps.1.0 c.in-TurnsSpent.is
 
 pub unreachable-requires-in-WireFailed : goal.unreachable-requires-in-WireFailed
 unreachable-requires-in-WireFailed c = never_rose (c.serve_site-served.ensures.failed c.in-WireFailed.is)
