@@ -1,6 +1,6 @@
 //! A trial of data graphs: each graph's whole site is built and looked through.
 
-ghost use Rattle.std.specs.Prelude.{◌≡◌, ◌↔◌, IfOk, IsTrue, Unit};
+ghost use Rattle.std.specs.Prelude.{◌≡◌, ◌↔◌, IfOk, IsTrue};
 ghost use Rattle.site_spec.specs.Site.{scope_of};
 ghost use Rattle.constraint_spec.specs.Meets.{Meets};
 

@@ -9,5 +9,5 @@ use Rattle.command_check.proofs.here.report_over.Goals as goal
 pub returns : goal.returns
 returns c =
     let r = c.in_ok-report.report in
-    subst (λ (s : Scope). IsReport (Meets c.args.graph s) c.args.constraints.now r.text r.passed) c.blocks.ensures.scope
-    (subst (λ (x : DataGraph). IsReport (Meets x (scope_of c.blocks.result.now)) c.args.constraints.now r.text r.passed) (c.of-asker.ensures.store ∙ c.in_ok-store.ensures) c.in_ok-report.ensures)
+    subst (λ (s : Scope). IsReport (Meets c.args.graph s) c.args.constraints.now r.text r.passed) c.blocks-2.ensures.scope
+    (subst (λ (x : DataGraph). IsReport (Meets x (scope_of c.blocks-2.result.now)) c.args.constraints.now r.text r.passed) (c.of-asker.ensures.store ∙ c.in_ok-store.ensures) c.in_ok-report.ensures)

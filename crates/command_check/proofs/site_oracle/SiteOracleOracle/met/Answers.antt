@@ -12,5 +12,5 @@ returns-clause-met c =
     let r = c.in_ok-report.report in
     let told = c.from_ref.result.now in
     alone (Meets c.args.graph (scope_of_query c.args.self.now.query.now)) c.args.constraint.now told r.text r.passed c.from_ref.ensures.value
-    (subst (λ (s : Scope). IsReport (Meets c.args.graph s) told r.text r.passed) c.blocks.ensures.scope
-    (subst (λ (x : DataGraph). IsReport (Meets x (scope_of c.blocks.result.now)) told r.text r.passed) (c.of-asker.ensures.store ∙ c.in_ok-store.ensures) c.in_ok-report.ensures))
+    (subst (λ (s : Scope). IsReport (Meets c.args.graph s) told r.text r.passed) c.blocks-2.ensures.scope
+    (subst (λ (x : DataGraph). IsReport (Meets x (scope_of c.blocks-2.result.now)) told r.text r.passed) (c.of-asker.ensures.store ∙ c.in_ok-store.ensures) c.in_ok-report.ensures))
