@@ -282,19 +282,33 @@ fn goes_in(
     }
 }
 
+// Takes the steps, with the files of one full disk. The first that doesn't go as it says.
+fn first_amiss<'a>(
+    rt: &HostRuntime,
+    disk: &'a FullDisk<'a, HostRuntime>,
+    folder: &Folder,
+    long: &[u8],
+    steps: &[Step],
+) -> Option<usize> {
+    let mut full: FullFiles<'a> = RealFiles::new(disk, NUMBER);
+    for (place, step) in steps.iter().enumerate() {
+        if !goes_in(rt, &mut full, folder, long, step) {
+            return Some(place);
+        }
+    }
+    None
+}
+
 fn take_story(rt: &HostRuntime, long: &[u8], story: &Story) -> Result<(), Fail> {
     let folder = Folder::fresh(rt, story.folder)?;
     let disk = FullDisk {
         system: rt,
         room: ROOM,
     };
-    let mut full = RealFiles::new(&disk, NUMBER);
-    for (place, step) in story.steps.iter().enumerate() {
-        if !goes_in(rt, &mut full, &folder, long, step) {
-            return Err(Fail::new(format_args!("{}: step {place}", story.name)));
-        }
+    match first_amiss(rt, &disk, &folder, long, story.steps) {
+        Some(place) => Err(Fail::new(format_args!("{}: step {place}", story.name))),
+        None => folder.remove(rt),
     }
-    folder.remove(rt)
 }
 
 #[test]
