@@ -487,4 +487,11 @@ impl Wire for MemWire {
         }
         self.log.closed(connection);
     }
+
+    /// Does nothing.
+    fn finish(&mut self)
+        ensures traced { self.new.trace ≡ self.old.trace }
+        ensures stays { told_of self.new ≡ told_of self.old }
+        ensures nothing { self.new ≡ self.old }
+    {}
 }

@@ -109,4 +109,8 @@ impl Wire for SteadyWire {
     fn close(&mut self, connection: u64) {
         self.wire.close(connection);
     }
+
+    fn finish(&mut self) {
+        self.wire.finish();
+    }
 }

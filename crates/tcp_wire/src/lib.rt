@@ -577,4 +577,6 @@ impl<R: Net + Clock, F: Files> Wire for TcpWire<'_, R, F> {
         self.log.closed(connection);
         self.history.closed(connection);
     }
+
+    fn finish(&mut self) {}
 }

@@ -58,8 +58,8 @@ pub trait Wire {
             × ((told self.new).left ≡ (told self.old).left)
             × ((told self.new).watches ≡ (told self.old).watches) };
 
-    /// Watches the file at the path: after each `every` connections that ended, what is there may come as a `Change`, before
-    /// the next connection is opened. Out of memory nothing is reported of the call.
+    /// Watches the file at the path: after each `every` connections that ended, what is there may come as a `Change`. Out of
+    /// memory nothing is reported of the call.
     fn watch(&mut self, alloc: Global, path: &Str, every: u64) -> Result<(), WireEnd>
         ensures traced { MatchResult result
             (λ _. trace self.new ≡ trace self.old ++ Watched path.now every ∷ [])
@@ -98,7 +98,8 @@ pub trait Wire {
             × ((told self.new).listens ≡ (told self.old).listens)
             × ((told self.new).watches ≡ (told self.old).watches) };
 
-    /// Sends bytes to a connection. Where that fails, some first bytes were taken.
+    /// Sends bytes to a connection. They are taken whole, and go out as the client takes them, in this order, also after it
+    /// is closed. Where that fails, some first bytes were taken.
     fn send(&mut self, connection: u64, bytes: &[u8]) -> Result<(), Failed>
         ensures traced { MatchResult result
             (λ _. trace self.new ≡ trace self.old ++ Sent connection bytes.now ∷ [])
@@ -116,7 +117,7 @@ pub trait Wire {
         ensures others_fine { OtherFaultsStay connection (told self.old) (told self.new) }
         ensures stays { EventsStay (told self.old) (told self.new) };
 
-    /// Closes a connection. It takes no memory.
+    /// Closes a connection: no event comes of it any more. It takes no memory.
     fn close(&mut self, connection: u64)
         ensures traced { trace self.new ≡ trace self.old ++ Closed connection ∷ [] }
         ensures closed { (told self.new).account connection
@@ -125,6 +126,11 @@ pub trait Wire {
         ensures faults_stay { (other : ℕ)
             → (told self.new).faults other ≡ (told self.old).faults other }
         ensures stays { EventsStay (told self.old) (told self.new) };
+
+    /// Lets out what connections have still to take, as long as they are waited for, and lets all of them go.
+    fn finish(&mut self)
+        ensures traced { trace self.new ≡ trace self.old }
+        ensures stays { told self.new ≡ told self.old };
 }
 
 /// What replies add to the account of a connection: one send each, in their order.

@@ -111,4 +111,8 @@ impl<W: Wire, R: Net + Files> Wire for Visited<'_, W, R> {
         self.wire.close(connection);
         self.visit();
     }
+
+    fn finish(&mut self) {
+        self.wire.finish();
+    }
 }
