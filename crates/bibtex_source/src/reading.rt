@@ -302,7 +302,8 @@ fn fields_at<'a>(
     macros: &Macros,
     bytes: &'a [u8],
 ) -> Result<(Vec<Field>, &'a [u8]), Halt<'a>>
-    ensures is { GivesPhrase (λ x. x.0.items) (λ x. x.1.now) result (read_fields macros.now bytes.now) }
+    ensures is { GivesPhrase (λ x. x.0.items) (λ x. x.1.now) result
+        (read_fields macros.now bytes.now) }
     ensures shorter { IfOk result (λ x. length x.1.now ≤ length bytes.now) }
 {
     let mut fields = Vec::new(alloc);
@@ -326,7 +327,8 @@ fn entry_at<'a>(
     class: Str,
     bytes: &'a [u8],
 ) -> Result<(Item, &'a [u8]), Halt<'a>>
-    ensures is { GivesPhrase (λ x. x.0) (λ x. x.1.now) result (read_entry macros.now class bytes.now) }
+    ensures is { GivesPhrase (λ x. x.0) (λ x. x.1.now) result
+        (read_entry macros.now class bytes.now) }
     ensures shorter { IfOk result (λ x. length x.1.now ≤ length bytes.now) }
 {
     let (close, rest) = open_at(bytes)?;
@@ -350,7 +352,8 @@ fn definition_at<'a>(
     macros: &Macros,
     bytes: &'a [u8],
 ) -> Result<(Item, &'a [u8]), Halt<'a>>
-    ensures is { GivesPhrase (λ x. x.0) (λ x. x.1.now) result (read_definition macros.now bytes.now) }
+    ensures is { GivesPhrase (λ x. x.0) (λ x. x.1.now) result
+        (read_definition macros.now bytes.now) }
     ensures shorter { IfOk result (λ x. length x.1.now ≤ length bytes.now) }
 {
     let (close, rest) = open_at(bytes)?;
@@ -383,7 +386,8 @@ fn rest_at<'a>(
     class: Str,
     bytes: &'a [u8],
 ) -> Result<(Item, &'a [u8]), Halt<'a>>
-    ensures is { GivesPhrase (λ x. x.0) (λ x. x.1.now) result (read_rest macros.now class bytes.now) }
+    ensures is { GivesPhrase (λ x. x.0) (λ x. x.1.now) result
+        (read_rest macros.now class bytes.now) }
     ensures shorter { IfOk result (λ x. length x.1.now ≤ length bytes.now) }
 {
     if class.bytes() == b"comment".as_slice() {

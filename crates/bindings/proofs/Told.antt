@@ -18,7 +18,7 @@ use Rattle.condition_tests.specs.declared.literal.Goal.{Goal}
 use Rattle.condition_tests.specs.Known.{known_part, Agrees, KnownInDomains}
 use Rattle.bindings.specs.Fits.{Fits, IsPassed, IsChoice, IsComplete}
 use Rattle.bindings.specs.declared.some_rows.Told.{Told}
-use Rattle.bindings.specs.Told.{HasPart, AreTold, AddsSome, same_part}
+use Rattle.bindings.specs.Told.{HasPart, RowsAreTold, AddsSome, same_part}
 use Rattle.bindings.proofs.Found.{FitsWith, later, split, join, complete_fits, only_complete, nil_of, none_in, append-nil}
 
 pub same_values : (p q : Vec Value) → same_part p q ≡ true → p.items ≡ q.items
@@ -58,7 +58,7 @@ module _ (wanted : List Bool) where
   }
 
   -- one row more, whose part isn't kept yet
-  pub told_row : (old new : Told) (r : List Value) → new.first ≡ old.first → new.others ≡ old.others → new.rows.items ≡ old.rows.items ++ r ∷ [] → AreTold wanted old → AreTold wanted new
+  pub told_row : (old new : Told) (r : List Value) → new.first ≡ old.first → new.others ≡ old.others → new.rows.items ≡ old.rows.items ++ r ∷ [] → RowsAreTold wanted old → RowsAreTold wanted new
   told_row old new r first others rows told = record {
     first = λ q h. part_kept old.rows.items new.rows.items q.items more (told.first q (sym first ∙ h));
     others = λ q h. part_kept old.rows.items new.rows.items q.items more (told.others q (subst (λ s. contains same_part s q ≡ true) others h));
@@ -72,7 +72,7 @@ module _ (wanted : List Bool) where
 
   -- it is kept beside the first
   pub told_other : (old new : Told) (part : Vec Value) → new.first ≡ old.first → ((q : Vec Value) → contains same_part new.others q ≡ cond (same_part part q) true (contains same_part old.others q)) → new.rows ≡ old.rows
-      → HasPart wanted old.rows.items part.items → AreTold wanted old → AreTold wanted new
+      → HasPart wanted old.rows.items part.items → RowsAreTold wanted old → RowsAreTold wanted new
   told_other old new part first adds rows has told = record {
     first = λ q h. subst (λ s. HasPart wanted s.items q.items) (sym rows) (told.first q (sym first ∙ h));
     others = λ q h. subst (λ s. HasPart wanted s.items q.items) (sym rows) (by_test q (same_part part q) refl (sym (adds q) ∙ h));

@@ -19,7 +19,7 @@ module _ (wanted : List Bool) where
   HasPart rows part = (r : List Value) × Contains rows r × (wanted_part wanted r ≡ part)
 
   -- each part that is kept, the first or another, is one of a row that was found
-  pub record AreTold (told : Told) : Type 0 where
+  pub record RowsAreTold (told : Told) : Type 0 where
     pub first : (part : Vec Value) → told.first ≡ Some part → HasPart told.rows.items part.items
     pub others :
         (part : Vec Value) → IsTrue (contains same_part told.others part)

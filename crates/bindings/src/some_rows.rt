@@ -8,7 +8,7 @@ ghost use Rattle.condition_tests.specs.Places.{GoalsInRange};
 ghost use Rattle.condition_tests.specs.Resolved.{AreGoalsOf};
 ghost use Rattle.bindings.specs.Fits.{Fits, IsChoice, IsComplete, IsStopped};
 ghost use Rattle.candidate_values.specs.Kept.{IsKept};
-ghost use Rattle.bindings.specs.Told.{AreTold, AddsSome, HasPart};
+ghost use Rattle.bindings.specs.Told.{RowsAreTold, AddsSome, HasPart};
 
 use crate::row::row_of;
 use crate::search::{Choice, are_in_domains, choose, choose_goal, clear, passed, put};
@@ -58,7 +58,7 @@ fn part_of(
 
 // Whether this part was kept, so that a row was found that has it.
 fn is_told(told: &Told, part: &Vec<Value>) -> bool
-    ensures { IsTrue result → (wanted : List Bool) → AreTold wanted told.now
+    ensures { IsTrue result → (wanted : List Bool) → RowsAreTold wanted told.now
         → HasPart wanted told.now.rows.items part.now.items }
 {
     match &told.first {
@@ -72,7 +72,7 @@ fn keep(told: &mut Told, part: Vec<Value>) -> Result<(), NoMemory>
     ensures rows { told.new.rows ≡ told.old.rows }
     ensures told { IfOk result
         (λ _. (wanted : List Bool) → HasPart wanted told.old.rows.items part.items
-        → AreTold wanted told.old → AreTold wanted told.new) }
+        → RowsAreTold wanted told.old → RowsAreTold wanted told.new) }
 {
     if told.first.is_none() {
         told.first = Some(part);
@@ -102,11 +102,11 @@ fn add_witness<S: Store>(
     ensures told { IfOk result
         (λ _. (wanted : List Bool)
         → ((t : List AnyValue) → Agrees t current.now → wanted_part wanted t ≡ part.items)
-        → AreTold wanted told.old → AreTold wanted told.new) }
+        → RowsAreTold wanted told.old → RowsAreTold wanted told.new) }
     ensures adds { IfOk result
         (λ _. (wanted : List Bool)
         → ((t : List AnyValue) → Agrees t current.now → wanted_part wanted t ≡ part.items)
-        → AreTold wanted told.old
+        → RowsAreTold wanted told.old
         → AddsSome wanted
         (Fits (S.graph search.now.store.now) search.now.version search.now.arcs.now
         search.now.goals.now at current.now) told.old.rows.items told.new.rows.items) }
@@ -169,11 +169,11 @@ fn some_rows<S: Store>(
     requires in_range { GoalsInRange (length current.old) search.now.goals.now }
     requires kept { IsKept (S.graph search.now.store.now) search.now.goals.now kept.old }
     requires one_flag_each { length wanted.now.flags.now ≡ length current.old }
-    requires told { AreTold wanted.now.flags.now told.old }
+    requires told { RowsAreTold wanted.now.flags.now told.old }
     ensures kept { IfOk result
         (λ _. IsKept (S.graph search.now.store.now) search.now.goals.now kept.new) }
     ensures restored { IfOk result (λ _. current.new ≡ current.old) }
-    ensures told { IfOk result (λ _. AreTold wanted.now.flags.now told.new) }
+    ensures told { IfOk result (λ _. RowsAreTold wanted.now.flags.now told.new) }
     ensures adds { IfOk result
         (λ _. AddsSome wanted.now.flags.now
         (Fits (S.graph search.now.store.now) search.now.version search.now.arcs.now

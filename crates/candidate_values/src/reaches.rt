@@ -67,7 +67,8 @@ fn put(
     values: Vec<Value>,
 ) -> Result<(), NoMemory>
     ensures { IfOk result
-        (λ _. (G : DataGraph) (goals : List Goal) (d : AnyDirection) → AreReaches G goals d lists.old
+        (λ _. (G : DataGraph) (goals : List Goal) (d : AnyDirection)
+        → AreReaches G goals d lists.old
         → IsReach G goals d key values.items → AreReaches G goals d lists.new) }
 {
     lists.insert(key, values)?;

@@ -6,10 +6,10 @@ ghost use Rattle.struql_ast.specs.Reading.{operand_of, step_of, condition_of, te
 ghost use Rattle.constraint_spec.specs.Use.{rename_operand, rename_step, rename, rename_term};
 ghost use Rattle.constraint_spec.specs.Use.{name_for as mapped_name};
 
-use query_parts::{copied_rpe, copied_values};
+use query_parts::copied_rpe;
 use query_spec::{Op, Test, Variable};
 use sd_lex::Span;
-use sd_value::{NoMemory, Str};
+use sd_value::{NoMemory, Str, copied_list};
 use std::alloc::Global;
 use struql_ast::{Condition, Constants, Operand, PathStep, SkolemTerm};
 
@@ -164,7 +164,7 @@ fn renamed_list(
 {
     Ok(Condition::OneOf {
         operand: renamed_operand(alloc, naming.variables, naming.names, operand)?,
-        constants: Constants::new(copied_values(alloc, constants.items())?),
+        constants: Constants::new(copied_list(alloc, constants.items())?),
         span,
     })
 }

@@ -19,8 +19,7 @@ ghost use Rattle.click_time.specs.Told.{AreTerms, AreEnds, AreGathered, AreNumbe
 use crate::known::Known;
 use asker::Asker;
 use query_blocks::QueryBlocks;
-use query_parts::copied_values;
-use sd_value::{NoMemory, Str, Term, Value, copy};
+use sd_value::{NoMemory, Str, Term, Value, copied_list, copy};
 use site_lookups::{collected, edges_out, in_site, template};
 use std::alloc::Global;
 use tmpl::Templates;
@@ -36,7 +35,7 @@ fn recalled(alloc: Global, told: &Option<Vec<Value>>) -> Result<Vec<Value>, NoMe
     ensures { IfOk result (λ vs. IsSomeAnd told.now (λ kept. vs.items ≡ kept.items)) }
 {
     match told {
-        Some(values) => copied_values(alloc, values.as_slice()),
+        Some(values) => copied_list(alloc, values.as_slice()),
         None => Err(NoMemory),
     }
 }
@@ -133,7 +132,7 @@ fn ends_first<A: Asker>(
     let again = edge_key(alloc, value, label)?;
     known.put(first, None)?;
     let ends = edges_out(alloc, asker, scopes, value, label)?;
-    let kept = copied_values(alloc, ends.as_slice())?;
+    let kept = copied_list(alloc, ends.as_slice())?;
     known.put(again, Some(kept))?;
     Ok(ends)
 }
@@ -201,7 +200,7 @@ fn gathered_first<A: Asker>(
     let again = name.copy(alloc)?;
     known.put(first, None)?;
     let values = collected(alloc, asker, scopes, name)?;
-    let kept = copied_values(alloc, values.as_slice())?;
+    let kept = copied_list(alloc, values.as_slice())?;
     known.put(again, Some(kept))?;
     Ok(values)
 }

@@ -39,7 +39,8 @@ fn find<'a, T: Oracle>(
     requires holds { HoldsOverAll (scope_of query.now) constraint.now verdict.now }
     ensures own { T.Own trial.new }
     ensures scope { T.scope trial.new ≡ T.scope trial.old }
-    ensures exact { IfOk result (λ f. IsCheckAnswer (scope_of query.now) constraint.now (found_in f)) }
+    ensures exact { IfOk result (λ f.
+        IsCheckAnswer (scope_of query.now) constraint.now (found_in f)) }
     ensures holds { IfOk result
         (λ f. HoldsOfSites (scope_of query.now) constraint.now (found_in f)) }
 {

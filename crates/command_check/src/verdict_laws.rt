@@ -28,5 +28,6 @@ pub fn all_yes_holds_over_all_data()
 #[tactic(auto, using(crate::proofs::Shown::is_shown_broken))]
 pub fn what_is_shown_is_broken()
     ensures { (q : Query) (number : ℕ) (c : TheConstraint) (G : DataGraph)
-        → HoldsOfSites (scope_of q) c (no G) → IsShownBroken q number c (lines_of q number c (no G)) }
+        → HoldsOfSites (scope_of q) c (no G)
+        → IsShownBroken q number c (lines_of q number c (no G)) }
 {}

@@ -71,7 +71,8 @@ pub fn text_in<'m>(option: ValueOption, matches: &'m ArgMatches<'_>) -> Option<&
 
 /// The number of the option: its default where it isn't given, and nothing where its value is no such number.
 pub fn number_of(option: NumberOption, matches: &ArgMatches<'_>) -> Option<u64>
-    ensures exact { result ≡ specs.number_of option (parsed.found (rows_of (found_of matches.now))) }
+    ensures exact { result
+        ≡ specs.number_of option (parsed.found (rows_of (found_of matches.now))) }
     ensures range { IfSome result (IsFrom1To (specs.greatest option)) }
 {
     match text_in(ValueOption::Number(option), matches) {

@@ -10,10 +10,9 @@ ghost use Rattle.condition_tests.specs.Places.{PlaceInRange, AtomInRange};
 
 use crate::literal::{Atom, Goal, Literal, Property, Relation, Slot};
 use automaton::{Automaton, RpeRefusal};
-use query_parts::copied_values;
 use query_spec::{Variable, index_of};
 use rpe::Rpe;
-use sd_value::{NoMemory, copy};
+use sd_value::{NoMemory, copied_list, copy};
 use std::alloc::Global;
 use struql_ast::{Condition, Constants, Operand, PathStep};
 
@@ -120,7 +119,7 @@ fn atom_of(alloc: Global, variables: &[Variable], condition: &Condition) -> Resu
             ..
         } => {
             let place = place_of(alloc, variables, operand)?;
-            let constants = Constants::new(copied_values(alloc, constants.items())?);
+            let constants = Constants::new(copied_list(alloc, constants.items())?);
             Ok(Atom::One(place, Property::OneOf(constants)))
         }
         Condition::Kind { test, variable, .. } => {

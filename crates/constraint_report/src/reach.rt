@@ -49,7 +49,8 @@ fn add_ends<V: SiteView>(
     ensures own { V.Own view.new }
     ensures fixed { V.fixed view.new ≡ V.fixed view.old }
     ensures added { OnOk result
-        (Adds (IsNext (V.site (V.fixed view.old)) page.now label.now) found.old.keys found.new.keys) }
+        (Adds (IsNext (V.site (V.fixed view.old)) page.now label.now)
+        found.old.keys found.new.keys) }
 {
     let ends = ends(alloc, view, page, label)?;
     add_pages(alloc, found, ends.as_slice())?;

@@ -14,8 +14,7 @@ pub use contents::{all_labels, all_values};
 use graph_spec::{Edge, Member, Step};
 pub use itself::{NameAt, ValueAt};
 use list_lookup::Query;
-use sd_graph::Copied;
-use sd_value::{Datum, NoMemory, Str, Value, copy};
+use sd_value::{Copied, Datum, NoMemory, Str, Value, copy};
 use std::alloc::Global;
 use std::cmp::Ordering;
 

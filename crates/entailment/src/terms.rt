@@ -19,7 +19,8 @@ fn are_none(args: &[Operand]) -> bool
 
 /// Whether the term is the function's without arguments, which is the term of the root's page.
 pub fn is_root(term: &SkolemTerm, function: &Str) -> bool
-    ensures { result ≡ same_term (term_of term.now) (record { function = function.now; args = [] }) }
+    ensures { result
+        ≡ same_term (term_of term.now) (record { function = function.now; args = [] }) }
 {
     term.function == *function && are_none(&term.args)
 }

@@ -6,7 +6,7 @@ use Rattle.std.proofs.lemmas.List.Folds.{list_any-append}
 use Rattle.sd_value.specs.declared.Term.{Term}
 use Rattle.http_spec.specs.Sessions.{OutcomeAt}
 use Rattle.wire.specs.Accounts.{Account, up_by}
-use Rattle.wire.specs.Noted.{AreTold}
+use Rattle.wire.specs.Noted.{AreAccountedFor}
 use Rattle.wire.proofs.Noting.{told_none}
 use Rattle.wire.specs.Events.{add_event, is_done, IsNextOf, IsDrawn}
 use Rattle.happenings.specs.Happening.{Happening, Given}
@@ -204,7 +204,7 @@ pub counts_stay : {D C : Type 0} (rules : Rules D C) (limit : ℕ) (start betwee
     → Turned (rules.Page between.current) rules.Names limit between.greatest e made between.ats after.ats
     → after.opened ≡ opened_after e between.greatest between.opened → after.replies ≡ up_by made.replies between.replies
     → rules.found after.cache ≡ rules.found between.cache → after.changes ≡ between.changes → after.refused ≡ between.refused
-    → (part : List Happening) → AreTold part (accounts_of between) (accounts_of after)
+    → (part : List Happening) → AreAccountedFor part (accounts_of between) (accounts_of after)
     → IsCourse rules limit NoMemory start (events ++ e ∷ []) after (trace ++ Given e ∷ part)
 counts_stay rules limit start between after events e text made trace is before turned opened replies found changes refused part told =
     let Of : WireEvent → Type 0 = λ x. Turned (rules.Page between.current) rules.Names limit between.greatest x made between.ats after.ats in

@@ -7,7 +7,7 @@ use Rattle.page_spec.specs.Site.{Site}
 use Rattle.http_spec.specs.Sessions.{OutcomeAt}
 use Rattle.happenings.specs.Happening.{Happening, Given, NextFailed}
 use Rattle.wire.specs.Accounts.{Account, up_by}
-use Rattle.wire.specs.Noted.{AreTold}
+use Rattle.wire.specs.Noted.{AreAccountedFor}
 use Rattle.happenings.specs.declared.event.WireEvent.{WireEvent}
 use Rattle.happenings.specs.declared.event.WireEvent.TheVariants.{Change}
 use Rattle.serving_spec.specs.Changes.{text_of, refused_of}
@@ -77,7 +77,7 @@ pub record Passes {D C : Type 0} (rules : Rules D C) (limit : ℕ) (event : Wire
       before.cache after.cache
   -- the sends and closes that were made for it, before the next event
   pub part : List Happening
-  pub told : AreTold part (accounts_of before) (accounts_of after)
+  pub told : AreAccountedFor part (accounts_of before) (accounts_of after)
 
 -- all the events, one after another, and all that happened: each event, and what was done for it before the next
 abbrev pub PassesAll : {D C : Type 0} → Rules D C → ℕ → Scene D C → List WireEvent → Scene D C
@@ -105,7 +105,7 @@ IsCourse {D} {C} rules limit ended before events after trace =
     ⊎ ((ended ≡ NoMemory) × (front : List WireEvent) × (text : List ℕ) × (between : Scene D C)
     × (done : List Happening) × (part : List Happening)
     × (events ≡ front ++ Change text ∷ []) × PassesAll rules limit before front between done
-    × CountsStay rules between after × AreTold part (accounts_of between) (accounts_of after)
+    × CountsStay rules between after × AreAccountedFor part (accounts_of between) (accounts_of after)
     × (trace ≡ done ++ Given (Change text) ∷ part))
 
 -- What the list of what happened has after the last event: where the wire gave none, that.

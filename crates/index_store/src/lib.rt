@@ -29,8 +29,8 @@ use crate::spans::{
 };
 use edge_queries::{EdgeAt, Incoming, IncomingBy, Labelled, Members, NameAt, Out, OutAll};
 use list_lookup::{first, give_all, has, part};
-use sd_graph::{Edge, Graph, Member, Sizes, Step, Store, copied_list};
-use sd_value::{Datum, NoMemory, Str, Value, copy};
+use sd_graph::{Edge, Graph, Member, Sizes, Step, Store};
+use sd_value::{Datum, NoMemory, Str, Value, copied_list, copy};
 use std::alloc::Global;
 use std::marker::Model;
 

@@ -10,8 +10,8 @@ use edge_queries::{
     EdgeAt, Incoming, IncomingBy, Labelled, MemberAt, Members, NameAt, Out, OutAll, ValueAt,
 };
 use list_lookup::{any, count, first, has, scan};
-use sd_graph::{Edge, Graph, Sizes, Step, Store, copied_list};
-use sd_value::{NoMemory, Str, Value, sort_and_dedup};
+use sd_graph::{Edge, Graph, Sizes, Step, Store};
+use sd_value::{NoMemory, Str, Value, copied_list, sort_and_dedup};
 use std::alloc::Global;
 use std::marker::Model;
 

@@ -12,8 +12,7 @@ ghost use Rattle.live_layers.specs.Grouped.{elements, node_name, AreOrders, AreN
 
 use crate::orders::Orders;
 use graph_spec::Edge;
-use sd_graph::Copied;
-use sd_value::{Datum, NoMemory, Str, Value};
+use sd_value::{Copied, Datum, NoMemory, Str, Value};
 use std::alloc::Global;
 use std::collections::BTreeSet;
 use std::marker::Model;

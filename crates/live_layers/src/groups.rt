@@ -6,8 +6,7 @@ ghost use Rattle.std.specs.Set.{remove_key};
 ghost use Rattle.std.specs.List.Sorted.{IsStrictlySortedBy};
 ghost use Rattle.live_layers.specs.Grouped.{group};
 
-use sd_graph::Copied;
-use sd_value::NoMemory;
+use sd_value::{Copied, NoMemory};
 use std::alloc::Global;
 use std::collections::{BTreeMap, BTreeSet};
 

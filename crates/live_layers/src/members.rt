@@ -12,8 +12,7 @@ ghost use Rattle.live_layers.specs.Grouped.{elements, IsGrouped, IsNear};
 
 use crate::groups::Groups;
 use graph_spec::Member;
-use sd_graph::Copied;
-use sd_value::{NoMemory, Str};
+use sd_value::{Copied, NoMemory, Str};
 use std::alloc::Global;
 use std::collections::BTreeSet;
 use std::marker::Model;

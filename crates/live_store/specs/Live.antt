@@ -62,7 +62,7 @@ pub record Layers (B C D : DataGraph) (nodes : List Name) (L : DataGraph) : Type
       (Contains C.members)
 
 -- how large a graph is
-pub record AreTold (L : DataGraph) (told : Told) : Type 0 where
+pub record GraphIsTold (L : DataGraph) (told : Told) : Type 0 where
   pub node_count : told.sizes.nodes ≡ length L.nodes
   pub edge_count : told.sizes.edges ≡ length L.edges
   pub value_count : IsCountOf value_cmp (IsValueOf L) told.sizes.values
@@ -72,7 +72,7 @@ pub record AreTold (L : DataGraph) (told : Told) : Type 0 where
 -- the store's parts fit together
 pub record IsLive (b : Building) (B C D : DataGraph) (nodes : List Name) (told : Told) : Type 0 where
   pub layers : Layers B C D nodes b.graph
-  pub reported : AreTold b.graph told
+  pub reported : GraphIsTold b.graph told
   pub within : IsWithin b
 
 -- a node that the edit declares

@@ -5,7 +5,7 @@ ghost use Rattle.sd_graph.specs.Statement.{IsWithin, Fits};
 ghost use Rattle.edit_spec.specs.Edited.{Edited, IsOfData};
 ghost use Rattle.index_store.specs.Indexed.{IsNodeOf as IsOneOf};
 ghost use Rattle.live_layers.specs.Items.{HasItem};
-ghost use Rattle.live_store.specs.Live.{Applies, AreTold};
+ghost use Rattle.live_store.specs.Live.{Applies, GraphIsTold};
 
 use crate::changes::{change, item_is_in};
 use crate::lists::{is_among, is_left};
@@ -65,7 +65,7 @@ impl Model for LiveStore {
 
 // Whether there is room for a graph of this size.
 fn check_room(limits: Limits, told: &Told) -> Result<(), GraphRefusal>
-    ensures { (L : DataGraph) → AreTold L told.now
+    ensures { (L : DataGraph) → GraphIsTold L told.now
         → Fits limits (length L.nodes) (length L.edges + length L.members) result }
 {
     if told.sizes.nodes > limits.nodes {

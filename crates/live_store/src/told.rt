@@ -5,7 +5,7 @@ ghost use Rattle.graph_spec.specs.DataGraph.{DataGraph, IsWellFormed, IsValueOf,
 ghost use Rattle.graph_spec.specs.Steps.{IsCountOf};
 ghost use Rattle.edit_spec.specs.Edited.{Edited, IsOfData, HasNodeAfter};
 ghost use Rattle.live_layers.specs.Items.{HasItem};
-ghost use Rattle.live_store.specs.Live.{AreTold, IsAtom};
+ghost use Rattle.live_store.specs.Live.{GraphIsTold, IsAtom};
 ghost use Rattle.live_store.specs.Counts.{OneEdge, OneMember, HasOneMore, HasNodes};
 
 use crate::changes::puts;
@@ -129,7 +129,7 @@ impl LiveStore {
         requires { IsTrue was ↔ Contains self.now.graph.edges edge.now }
         ensures { IfOk result (λ told. (H : DataGraph) → IsWellFormed H
             → OneEdge self.now.graph H edge.now is → length H.nodes ≡ nodes
-            → H.members ≡ self.now.graph.members → AreTold H told) }
+            → H.members ≡ self.now.graph.members → GraphIsTold H told) }
     {
         let before = self.sizes();
         let edges = recount(before.edges, was, is)?;
@@ -158,7 +158,7 @@ impl LiveStore {
         requires { IsTrue was ↔ Contains self.now.graph.members member.now }
         ensures { IfOk result (λ told. (H : DataGraph) → IsWellFormed H
             → OneMember self.now.graph H member.now is → length H.nodes ≡ nodes
-            → H.edges ≡ self.now.graph.edges → AreTold H told) }
+            → H.edges ≡ self.now.graph.edges → GraphIsTold H told) }
     {
         let before = self.sizes();
         let members = recount(self.member_count(), was, is)?;
@@ -179,7 +179,7 @@ impl LiveStore {
     pub(crate) fn told_after(&self, edit: &Edit) -> Result<Told, NoMemory>
         requires { IsOfData edit.now }
         ensures { IfOk result (λ told. (H : DataGraph) → Edited self.now.graph edit.now H
-            → AreTold H told) }
+            → GraphIsTold H told) }
     {
         let _sizes = self.sizes();
         let was = self.has_item(edit);

@@ -15,7 +15,7 @@ use Rattle.tmpl.specs.declared.Against.{Against}
 use Rattle.tmpl.specs.Body.{Body, done, text, format, choice, repeat, TemplateFile}
 use Rattle.tmpl.specs.Expressions.{Use, uses, key_words, link_words, is_embed}
 use Rattle.page_spec.specs.Site.{Site, Reaches, Env, InRange, HasKey, Arranged}
-use Rattle.page_spec.specs.Pieces.{Item, byte, bytes, Holds, Taken, Formatted, delimiter, Joined, binding, Expands}
+use Rattle.page_spec.specs.Pieces.{Item, byte, bytes, TestHolds, Taken, Formatted, delimiter, Joined, binding, Expands}
 
 -- what an expression of a body that presents n reads of the first site is in the second one
 pub record UseTo (s r : Site) (n : Value) (x : Use) : Type 0 where
@@ -63,8 +63,8 @@ module _ (s r : Site) (n : Value) where
     is,
   )
 
-  holds_to : (x : Use) → UseTo s r n x → (e : Env) → e.here ≡ n → (against : Option Against) → Holds s e x.expr against
-      → Holds r e x.expr against
+  holds_to : (x : Use) → UseTo s r n x → (e : Env) → e.here ≡ n → (against : Option Against) → TestHolds s e x.expr against
+      → TestHolds r e x.expr against
   holds_to x a e at None (v, h) = (v, a.range e at v h)
   holds_to x a e at (Some k) (v, h, is) = (v, a.range e at v h, is)
 
@@ -128,12 +128,12 @@ expands_to s r n f (choice negated x against taken other rest) alike e at ps (a,
       b,
       (elim branch [
         | inl so ↦ inl (
-          taken_to negated (Holds s e x against) (Holds r e x against) to from so.0,
+          taken_to negated (TestHolds s e x against) (TestHolds r e x against) to from so.0,
           expands_to s r n f
               taken in_taken e at a so.1,
         )
         | inr not_so ↦ inr (
-          λ k. not_so.0 (taken_to negated (Holds r e x against) (Holds s e x against) from to k),
+          λ k. not_so.0 (taken_to negated (TestHolds r e x against) (TestHolds s e x against) from to k),
           expands_to s r n f other in_other e at a not_so.1,
         )
       ]),

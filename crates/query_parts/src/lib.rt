@@ -10,7 +10,7 @@ ghost use Rattle.struql_ast.specs.Reading.{operand_of, step_of, condition_of, te
 use query_spec::{Op, Test};
 use rpe::Rpe;
 use sd_lex::Span;
-use sd_value::{NoMemory, Str, Value};
+use sd_value::{NoMemory, Str, Value, copied_list};
 use std::alloc::Global;
 use struql_ast::{
     Collect, Condition, Constants, Link, LinkLabel, Operand, PathStep, SkolemTerm, Target,
@@ -40,17 +40,6 @@ fn copied_operands(alloc: Global, operands: &[Operand]) -> Result<Vec<Operand>, 
     let mut copies = Vec::new(alloc);
     for item in operands {
         copies.push(copied_operand(alloc, item)?)?;
-    }
-    Ok(copies)
-}
-
-/// Equal values.
-pub fn copied_values(alloc: Global, values: &[Value]) -> Result<Vec<Value>, NoMemory>
-    ensures { IfOk result (λ copy. copy.items ≡ values.now) }
-{
-    let mut copies = Vec::new(alloc);
-    for item in values {
-        copies.push(sd_value::copy(alloc, item)?)?;
     }
     Ok(copies)
 }
@@ -167,7 +156,7 @@ fn one_of_condition(
 {
     Ok(Condition::OneOf {
         operand: copied_operand(alloc, left)?,
-        constants: Constants::new(copied_values(alloc, constants.items())?),
+        constants: Constants::new(copied_list(alloc, constants.items())?),
         span,
     })
 }

@@ -255,7 +255,8 @@ fn all_candidates<'a>(
 ) -> Result<Vec<Candidate<'a>>, NoMemory>
     requires { AreCheckedBlocks query.now.version query.now.blocks.items }
     ensures graphs { IfOk result (λ found. AreLinkGraphs (scope_of query.now) function.now label.now
-        (one_graphs (scope_of query.now) function.now label.now) (map candidate_graph found.items)) }
+        (one_graphs (scope_of query.now) function.now label.now)
+        (map candidate_graph found.items)) }
     ensures variables { IfOk result (λ found. HaveTheirVariables found.items) }
 {
     let judge = Inclusions::of(alloc, query)?;

@@ -4,7 +4,7 @@ ghost use Rattle.sd_value.specs.declared.Value.{Value};
 ghost use Rattle.sd_value.specs.Order.{value_cmp};
 ghost use Rattle.sd_value.specs.Ascending.{ListsExactly};
 ghost use Rattle.page_spec.specs.Site.{Reaches, InRange, HasKey, Starts, IsBound, keyed_cmp, Arranged};
-ghost use Rattle.page_spec.specs.Pieces.{HoldsBetween, Holds};
+ghost use Rattle.page_spec.specs.Pieces.{HoldsBetween, TestHolds};
 ghost use Rattle.page_spec.specs.Question.{out as asks_out};
 ghost use Rattle.demand_spec.specs.Reads.{KeepsOnly};
 ghost use Rattle.render.specs.Asks.{WordAsks, RootAsks, RangeAsks, KeyAsks, ArrangedAsks};
@@ -196,7 +196,7 @@ pub fn holds<V: SiteView>(
       loops = loops.now;
     } expr.now) (V.kept view.old) (V.kept view.new) }
     ensures answer { IfOk result (λ r. IsTrue r
-        ↔ Holds (V.site (V.fixed view.old)) record {
+        ↔ TestHolds (V.site (V.fixed view.old)) record {
           here = here.now;
           loops = loops.now;
         } expr.now against.now) }

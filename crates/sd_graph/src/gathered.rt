@@ -6,8 +6,7 @@ ghost use Rattle.std.specs.List.Sorted.{IsStrictlySortedBy};
 ghost use Rattle.sd_value.specs.Ascending.{ListsExactly};
 ghost use Rattle.sd_graph.specs.Gathered.{elements, insert_all, IsInOrder, IsSettled};
 
-use crate::copied::{Copied, copied_list};
-use sd_value::NoMemory;
+use sd_value::{Copied, NoMemory, copied_list};
 use std::alloc::Global;
 use std::collections::BTreeSet;
 

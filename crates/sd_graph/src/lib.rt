@@ -4,14 +4,12 @@
 ghost use Rattle.sd_graph.specs.Statement.{Refuses};
 
 mod builder;
-mod copied;
 mod gathered;
 mod graph;
 mod names;
 mod room;
 
 pub use builder::{GraphBuilder, known_statements_change_nothing};
-pub use copied::{Copied, copied_list};
 pub use graph::Graph;
 pub use graph_spec::{Edge, Member, Step};
 use sd_value::NoMemory;

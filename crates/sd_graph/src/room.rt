@@ -5,9 +5,9 @@ ghost use Rattle.std.specs.BTreeSet.{insert_key};
 ghost use Rattle.sd_graph.specs.Statement.{Fits, Refuses};
 ghost use Rattle.sd_graph.specs.Gathered.{elements, IsInOrder, IsSettled};
 
-use crate::copied::Copied;
 use crate::gathered::Gathered;
 use crate::{GraphRefusal, Limits, over};
+use sd_value::Copied;
 use std::alloc::{AllocFailed, Global};
 use std::collections::BTreeSet;
 

@@ -53,8 +53,8 @@ fn load_over<F: Files>(
     sources: &DataFiles,
     path: &Str,
 ) -> Result<DataInputs, Fault>
-    ensures traced { Reads (sources.now.paths ++ (path.now ∷ [])) (F.trace files.old) (F.trace files.new)
-        (F.contents files.old) result
+    ensures traced { Reads (sources.now.paths ++ (path.now ∷ []))
+        (F.trace files.old) (F.trace files.new) (F.contents files.old) result
         (λ map. Then (GraphEnds map empty_building sources.now)
         (λ raw. Then (QueryEnds map path.now) (λ first. SiteTaken path.now raw first)) result) }
     ensures ends { ForSome (F.contents files.old) (λ map.

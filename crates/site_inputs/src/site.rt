@@ -107,8 +107,8 @@ pub fn load_inputs<F: Files>(
     query: &Str,
     templates: &Str,
 ) -> Result<SiteInputs, Fault>
-    ensures traced { Reads (input_paths (data_paths sources.now over.now) query.now templates.now) (F.trace files.old) (F.trace files.new)
-        (F.contents files.old) result
+    ensures traced { Reads (input_paths (data_paths sources.now over.now) query.now templates.now)
+        (F.trace files.old) (F.trace files.new) (F.contents files.old) result
         (λ map. InputsEnd map sources.now over.now query.now templates.now (inputs_result result)) }
     ensures ends { ForSome (F.contents files.old) (λ map.
         InputsEnd map sources.now over.now query.now templates.now (inputs_result result)) }

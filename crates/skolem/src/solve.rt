@@ -39,7 +39,8 @@ fn bind(
         (λ b. MatchBool b
         (Adds (SolvesOperand variables.now (operand_of operand.now) datum.now)
         values.old.items values.new.items)
-        (Refutes (SolvesOperand variables.now (operand_of operand.now) datum.now) values.old.items)) }
+        (Refutes (SolvesOperand variables.now (operand_of operand.now) datum.now)
+        values.old.items)) }
 {
     let value = Value::Data(datum.copy(alloc)?);
     match operand {

@@ -7,8 +7,8 @@ use conditions::{Assigned, holds};
 use edge_queries::{all_labels, all_values};
 use query_blocks::QueryBlocks;
 use query_spec::Variable;
-use sd_graph::{Graph, copied_list};
-use sd_value::{Datum, NoMemory, Value, copy, sort_and_dedup};
+use sd_graph::Graph;
+use sd_value::{Datum, NoMemory, Value, copied_list, copy, sort_and_dedup};
 use std::alloc::Global;
 use struql_ast::{Chain, Condition};
 

@@ -6,7 +6,7 @@ use Rattle.std.proofs.lemmas.List.Elements.{All-nil, All-cons, All-head, All-tai
 use Rattle.std.proofs.lemmas.Bool.{cases_eq}
 use Rattle.happenings.specs.Happening.{Happening, Sent, SendFailed, Closed}
 use Rattle.wire.specs.Accounts.{Account, Deed, Took, Shut, after_deeds, send_to, close_to, deed_to, account_in}
-use Rattle.wire.specs.Noted.{IsDeed, AreTold, Noted}
+use Rattle.wire.specs.Noted.{IsDeed, AreAccountedFor, Noted}
 use Rattle.wire.proofs.AccountLemmas.{deed_here, deed_elsewhere}
 
 -- ---- accounts after deeds
@@ -21,10 +21,10 @@ more_deeds first next (Some a) = ap Some (append_assoc a first next)
 
 -- ---- parts, one after another
 
-pub told_none : (accounts : ℕ → Option Account) → AreTold [] accounts accounts
+pub told_none : (accounts : ℕ → Option Account) → AreAccountedFor [] accounts accounts
 told_none accounts = record { deeds = All-nil IsDeed; each = λ number. sym (no_deeds (accounts number)) }
 
-told_then : (first next : List Happening) (old now new : ℕ → Option Account) → AreTold first old now → AreTold next now new → AreTold (first ++ next) old new
+told_then : (first next : List Happening) (old now new : ℕ → Option Account) → AreAccountedFor first old now → AreAccountedFor next now new → AreAccountedFor (first ++ next) old new
 told_then first next old now new one two = record {
   deeds = all_more first one.deeds;
   each = λ number. two.each number ∙ ap (after_deeds (account_in next number)) (one.each number)

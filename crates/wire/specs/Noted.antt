@@ -23,7 +23,7 @@ IsDeed (SendFailed k bytes taken) = ⊤
 IsDeed (Closed k) = ⊤
 
 -- These sends and closes are what the accounts tell: that of each connection grew by those of them that are its own.
-pub record AreTold (part : List Happening) (old new : ℕ → Option Account) : Type 0 where
+pub record AreAccountedFor (part : List Happening) (old new : ℕ → Option Account) : Type 0 where
   pub deeds : All IsDeed part
   pub each : (number : ℕ) → new number ≡ after_deeds (account_in part number) (old number)
 
@@ -31,4 +31,4 @@ pub record AreTold (part : List Happening) (old new : ℕ → Option Account) : 
 pub record Noted (before after : List Happening) (old new : ℕ → Option Account) : Type 0 where
   pub part : List Happening
   pub added : after ≡ before ++ part
-  pub told : AreTold part old new
+  pub told : AreAccountedFor part old new

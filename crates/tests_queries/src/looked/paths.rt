@@ -1,7 +1,7 @@
 // The ends of walks, by the parts of their expression.
 use rpe::Rpe;
-use sd_graph::{Graph, copied_list};
-use sd_value::{Datum, NoMemory, Str, Value, copy, sort_and_dedup};
+use sd_graph::Graph;
+use sd_value::{Datum, NoMemory, Str, Value, copied_list, copy, sort_and_dedup};
 use std::alloc::Global;
 
 /// Whether the value is the node of this name.

@@ -5,7 +5,7 @@ use Rattle.page_spec.specs.declared.Bound.{Bound}
 use Rattle.tmpl.specs.declared.Part.{Part}
 use Rattle.tmpl.specs.Body.{body_of}
 use Rattle.page_spec.specs.Site.{Env}
-use Rattle.page_spec.specs.Pieces.{Item, Expands, Joined, Formatted, Holds, binding, bytes, delimiter}
+use Rattle.page_spec.specs.Pieces.{Item, Expands, Joined, Formatted, TestHolds, binding, bytes, delimiter}
 use Rattle.std.proofs.Common.{[], ◌++◌}
 use Rattle.std.specs.Prelude.{if◌then◌else◌, nat_lt}
 use Rattle.render.specs.Room.{Adds}
@@ -195,7 +195,7 @@ expand_part-returns-then-is_taken-clause-answer g t c =
     let sc : Env = record { here = c.args.here.now; loops = c.args.loops.now } in
     let x = c.in-Choice.choice in
     let h = c.in_ok-holds-in-Choice.ensures.answer in
-    let way = taken_by x.negated c.in_ok-holds-in-Choice.holds (Holds s sc x.values x.against) h.0 h.1 (sym c.is_taken.ensures ∙ c.if-is_taken.true) in
+    let way = taken_by x.negated c.in_ok-holds-in-Choice.holds (TestHolds s sc x.values x.against) h.0 h.1 (sym c.is_taken.ensures ∙ c.if-is_taken.true) in
     let all = subst (λ y. IfOk c.expand.result (λ _. (ps : List Item) × Expands (g.V.SiteView.site y) (g.V.SiteView.templates y) sc (body_of c.as_slice-then-is_taken.result.now) ps × Adds c.args.out.now c.expand.new.out ps)) c.holds.ensures.fixed c.expand.ensures.answer in
     ok_then _ _ c.expand.result
     (λ _ (ps, expands, adds).
@@ -222,7 +222,7 @@ expand_part-returns-else-is_taken-clause-answer g t c =
     let sc : Env = record { here = c.args.here.now; loops = c.args.loops.now } in
     let x = c.in-Choice.choice in
     let h = c.in_ok-holds-in-Choice.ensures.answer in
-    let way = not_taken_by x.negated c.in_ok-holds-in-Choice.holds (Holds s sc x.values x.against) h.0 h.1 (sym c.is_taken.ensures ∙ c.if-is_taken.false) in
+    let way = not_taken_by x.negated c.in_ok-holds-in-Choice.holds (TestHolds s sc x.values x.against) h.0 h.1 (sym c.is_taken.ensures ∙ c.if-is_taken.false) in
     let all = subst (λ y. IfOk c.expand-else-is_taken.result (λ _. (ps : List Item) × Expands (g.V.SiteView.site y) (g.V.SiteView.templates y) sc (body_of c.as_slice-else-is_taken.result.now) ps × Adds c.args.out.now c.expand-else-is_taken.new.out ps)) c.holds.ensures.fixed c.expand-else-is_taken.ensures.answer in
     ok_then _ _ c.expand-else-is_taken.result
     (λ _ (ps, expands, adds).

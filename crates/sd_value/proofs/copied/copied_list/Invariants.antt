@@ -1,5 +1,5 @@
 use Rattle.std.proofs.Common.{◌≡◌, take}
-use Rattle.sd_graph.proofs.copied.copied_list.Given as goal
+use Rattle.sd_value.proofs.copied.copied_list.Given as goal
 
 abbrev pub invariant-loop-item : goal.invariant-loop-item
 invariant-loop-item g l = l.copied.items ≡ take l.item-index l.items

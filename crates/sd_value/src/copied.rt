@@ -1,11 +1,10 @@
-// Copies of what ordered sets and lists have.
+// Copies of values and of lists.
 ghost use Rattle.std.specs.Prelude.{◌≡◌, IfOk};
 
-use graph_spec::{Edge, Member};
-use sd_value::{ExactOrd, NoMemory, Str, Value, copy};
+use crate::{ExactOrd, NoMemory, Str, Value, copy};
 use std::alloc::Global;
 
-/// What an ordered set has, or what its groups are found by.
+/// What an ordered set has, what its groups are found by, or what a list has.
 pub trait Copied: ExactOrd + Drop {
     /// An equal one. Its texts share their bytes with this one's.
     fn copied(&self, alloc: Global) -> Result<Self, NoMemory>
@@ -21,25 +20,6 @@ impl Copied for Str {
 impl Copied for Value {
     fn copied(&self, alloc: Global) -> Result<Value, NoMemory> {
         copy(alloc, self)
-    }
-}
-
-impl Copied for Edge {
-    fn copied(&self, alloc: Global) -> Result<Edge, NoMemory> {
-        Ok(Edge {
-            from: self.from.copy(alloc)?,
-            label: self.label.copy(alloc)?,
-            to: copy(alloc, &self.to)?,
-        })
-    }
-}
-
-impl Copied for Member {
-    fn copied(&self, alloc: Global) -> Result<Member, NoMemory> {
-        Ok(Member {
-            collection: self.collection.copy(alloc)?,
-            node: self.node.copy(alloc)?,
-        })
     }
 }
 
