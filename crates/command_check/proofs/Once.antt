@@ -15,7 +15,7 @@ use Rattle.run_report.specs.declared.status.Place.TheVariants.{At}
 use Rattle.site_inputs.specs.declared.fault.Fault.{Fault}
 use Rattle.site_inputs.specs.declared.fault.Fault.TheVariants.{Refused, Unread, Faulty, NotFound, NoMemory}
 use Rattle.site_inputs.specs.declared.fault.Refusal.{Refusal}
-use Rattle.site_inputs.specs.declared.told.NumberedFault.{NumberedFault}
+use Rattle.data_source.specs.declared.numbered.NumberedFault.{NumberedFault}
 use Rattle.site_inputs.specs.Runs.{FileEnds, IsDecided, Decides}
 use Rattle.site_inputs.proofs.Decided.{then_decides}
 use Rattle.site_inputs.proofs.DecidedInputs.{file_decides}

@@ -11,9 +11,9 @@ use Rattle.constraints.specs.Constraints.{Reads}
 use Rattle.run_report.specs.declared.status.Place.TheVariants.{At}
 use Rattle.site_inputs.specs.declared.fault.Fault.{Fault}
 use Rattle.site_inputs.specs.declared.fault.Fault.TheVariants.{Refused, NoMemory}
-use Rattle.site_inputs.specs.declared.told.NumberedFault.{NumberedFault}
+use Rattle.data_source.specs.declared.numbered.NumberedFault.{NumberedFault}
 use Rattle.site_inputs.specs.Runs.{Then, FileEnds}
-use Rattle.site_inputs.specs.Sites.{text_told}
+use Rattle.data_source.specs.Numbered.{text_told}
 
 -- the number and the place of a refused text of constraints; none where it was out of memory
 abbrev pub constraints_told : ConstraintRefusal → Option NumberedFault

@@ -8,11 +8,12 @@ ghost use Rattle.command_check.specs.ConstraintFile.{ConstraintsTaken, Constrain
 use command_spec::TEXT_LIMIT;
 use constraint_spec::Constraint;
 use constraints::{ConstraintRefusal, parse_constraints};
+use data_source::{NumberedFault, told_of_text};
 use edge_io::Files;
 use query_scoping::ScopedQuery;
 use run_report::Place;
 use sd_value::Str;
-use site_inputs::{Fault, NumberedFault, read_file, refused, told_of_text};
+use site_inputs::{Fault, read_file, refused};
 use std::alloc::Global;
 
 // What a refused text of constraints reports; none where it was out of memory.

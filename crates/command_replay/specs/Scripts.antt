@@ -10,7 +10,7 @@ use Rattle.script_reader.specs.Script.{Reads}
 use Rattle.command_spec.specs.declared.ReplayCommand.{ReplayCommand}
 use Rattle.site_inputs.specs.declared.fault.Fault.{Fault}
 use Rattle.site_inputs.specs.declared.fault.Fault.TheVariants.{Refused, NoMemory}
-use Rattle.site_inputs.specs.declared.told.NumberedFault.{NumberedFault}
+use Rattle.data_source.specs.declared.numbered.NumberedFault.{NumberedFault}
 use Rattle.site_inputs.specs.Runs.{Then, EndsWith, FileEnds}
 use Rattle.site_inputs.specs.Sites.{Inputs, InputsEnd, text_told}
 use Rattle.site_inputs.specs.Values.{inputs_of}

@@ -6,11 +6,12 @@ ghost use Rattle.site_inputs.specs.Runs.{ReadsHaveCause};
 ghost use Rattle.command_replay.specs.Scripts.{script_result, ScriptTaken, ScriptEnds};
 
 use command_spec::SCRIPT_LIMIT;
+use data_source::told_of_text;
 use edge_io::Files;
 use run_report::Place;
 use script_reader::read_script;
 use sd_value::Str;
-use site_inputs::{Fault, read_file, refused, told_of_text};
+use site_inputs::{Fault, read_file, refused};
 use std::alloc::Global;
 use wire::WireEvent;
 

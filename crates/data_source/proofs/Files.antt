@@ -2,6 +2,7 @@
 use Rattle.std.specs.Prelude.{◌≡◌, ℕ, List, Result, Ok, Err, ⊤}
 use Rattle.std.proofs.Common.{refl, sym, ◌∙◌, ap}
 use Rattle.sd_graph.specs.Statement.{Building}
+use Rattle.token_reader.specs.declared.refusal.TextRefusal.TheVariants as text
 use Rattle.sd_ddl.specs.declared.refusal.DdlRefusal.{DdlRefusal}
 use Rattle.sd_ddl.specs.declared.refusal.DdlRefusal.TheVariants as ddl
 use Rattle.csv_source.specs.Once as csv_law
@@ -21,7 +22,7 @@ use Rattle.data_source.specs.OneAnswer.{HasOneAnswer}
 
 settled : (p : Result ⊤ DdlRefusal) → (answer_told ddl_told p ≡ Err NoMemory → ⊥) → IsSettled p
 settled (Ok u) h = tt
-settled (Err ddl.NoMemory) h = h refl
+settled (Err (ddl.Text text.NoMemory)) h = h refl
 settled (Err e) h = tt
 
 -- the same of a format

@@ -3,6 +3,7 @@ use Rattle.std.specs.Prelude.{◌≡◌, ◌||◌, ℕ, Bool, true, false, List,
 use Rattle.std.proofs.Common.{refl, inl}
 use Rattle.std.specs.List.{list_any}
 use Rattle.sd_graph.specs.Statement.{Building}
+use Rattle.token_reader.specs.declared.refusal.TextRefusal.TheVariants as text
 use Rattle.sd_ddl.specs.declared.refusal.DdlRefusal.TheVariants as ddl
 use Rattle.csv_source.specs.declared.refusal.CsvRefusal.TheVariants as csv
 use Rattle.csv_source.specs.Text as csv_text
@@ -19,7 +20,7 @@ use Rattle.data_source.specs.Takes.{TakesAs}
 
 -- out of memory before anything is read
 pub no_memory_first : (rules : SourceRules) (format : Format) (limit : ℕ) (bytes : List ℕ) (b : Building) → TakesAs rules format limit bytes b b (Err NoMemory)
-no_memory_first rules DataText limit bytes b = (Err ddl.NoMemory, inl refl, refl)
+no_memory_first rules DataText limit bytes b = (Err (ddl.Text text.NoMemory), inl refl, refl)
 no_memory_first rules (Csv stem) limit bytes b = (Err csv.NoMemory, ([], csv_text.text_steps rules.csv stem bytes, refl, refl), refl)
 no_memory_first rules (Json stem) limit bytes b = (Err json.NoMemory, ([], json_text.text_steps rules.json stem bytes, refl, refl), refl)
 no_memory_first rules (BibTex stem) limit bytes b = (Err bib.NoMemory, ([], bib_text.text_steps stem bytes, refl, refl), refl)

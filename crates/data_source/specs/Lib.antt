@@ -1,3 +1,4 @@
+pub mod Numbered
 pub mod Rules
 pub mod Formats
 pub mod Told

@@ -1,5 +1,5 @@
 -- The numbers and places of refusals.
-use Rattle.std.specs.Prelude.{Result, Ok, Err, ⊤}
+use Rattle.std.specs.Prelude.{Option, Some, None, Result, Ok, Err, ⊤}
 use Rattle.run_report.specs.declared.status.Place.TheVariants.{At, Row, Column, Path}
 use Rattle.sd_ddl.specs.declared.refusal.DdlRefusal.{DdlRefusal}
 use Rattle.sd_ddl.specs.declared.refusal.DdlRefusal.TheVariants as ddl
@@ -9,19 +9,21 @@ use Rattle.json_source.specs.declared.refusal.JsonRefusal.{JsonRefusal}
 use Rattle.json_source.specs.declared.refusal.JsonRefusal.TheVariants as json
 use Rattle.bibtex_source.specs.declared.refusal.BibRefusal.{BibRefusal}
 use Rattle.bibtex_source.specs.declared.refusal.BibRefusal.TheVariants as bib
+use Rattle.data_source.specs.Numbered.{text_told}
+use Rattle.data_source.specs.declared.numbered.NumberedFault.{NumberedFault}
 use Rattle.data_source.specs.declared.refusal.SourceRefusal.{SourceRefusal}
 use Rattle.data_source.specs.declared.refusal.SourceRefusal.TheVariants.{Refused, NoMemory}
 
+-- a refused text with its number; none out of memory
+abbrev pub placed : Option NumberedFault → SourceRefusal
+placed (Some told) = Refused told.number (At told.at)
+placed None = NoMemory
+
 abbrev pub ddl_told : DdlRefusal → SourceRefusal
-ddl_told (ddl.TooLong at) = Refused 24 (At at)
-ddl_told (ddl.BadByte at) = Refused 21 (At at)
-ddl_told (ddl.OpenString at) = Refused 22 (At at)
-ddl_told (ddl.IntOutOfRange at) = Refused 23 (At at)
-ddl_told (ddl.Expected at) = Refused 31 (At at)
+ddl_told (ddl.Text e) = placed (text_told 31 e)
 ddl_told (ddl.KindConflict at) = Refused 32 (At at)
 ddl_told (ddl.TooManyEdges at) = Refused 11 (At at)
 ddl_told (ddl.TooManyNodes at) = Refused 12 (At at)
-ddl_told ddl.NoMemory = NoMemory
 
 abbrev pub csv_told : CsvRefusal → SourceRefusal
 csv_told (csv.NotUtf8 row) = Refused 41 (Row row)

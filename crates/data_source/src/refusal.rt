@@ -3,12 +3,14 @@ ghost use Rattle.std.specs.Prelude.{◌≡◌};
 ghost use Rattle.data_source.specs.Told.{ddl_told, csv_told, json_told, bib_told};
 ghost use Rattle.data_source.specs.declared.refusal.SourceRefusal.TheVariants.{NoMemory as OutOfMemory};
 
+use crate::numbered::told_of_text;
 use bibtex_source::BibRefusal;
 use csv_source::CsvRefusal;
 use json_source::JsonRefusal;
 use run_report::Place;
 use sd_ddl::DdlRefusal;
 use sd_value::NoMemory;
+use token_reader::TextRefusal;
 
 /// Why a data file is refused: the number of the refusal and its place.
 #[derive(Debug, Drop)]
@@ -21,6 +23,16 @@ fn refused(number: u32, place: Place) -> SourceRefusal
     ensures { result ≡ SourceRefusal.Refused number place }
 {
     SourceRefusal::Refused { number, place }
+}
+
+// A text that has no tokens, or whose tokens fit no data text.
+fn refused_text(refusal: TextRefusal) -> SourceRefusal
+    ensures { result ≡ ddl_told (DdlRefusal.Text refusal) }
+{
+    match told_of_text(&refusal, 31) {
+        Some(told) => refused(told.number, Place::At(told.at)),
+        None => SourceRefusal::NoMemory,
+    }
 }
 
 impl From<NoMemory> for SourceRefusal {
@@ -36,15 +48,10 @@ impl From<DdlRefusal> for SourceRefusal {
 
     fn from(refusal: DdlRefusal) -> SourceRefusal {
         match refusal {
-            DdlRefusal::TooLong(at) => refused(24, Place::At(at)),
-            DdlRefusal::BadByte(at) => refused(21, Place::At(at)),
-            DdlRefusal::OpenString(at) => refused(22, Place::At(at)),
-            DdlRefusal::IntOutOfRange(at) => refused(23, Place::At(at)),
-            DdlRefusal::Expected(at) => refused(31, Place::At(at)),
+            DdlRefusal::Text(refusal) => refused_text(refusal),
             DdlRefusal::KindConflict(at) => refused(32, Place::At(at)),
             DdlRefusal::TooManyEdges(at) => refused(11, Place::At(at)),
             DdlRefusal::TooManyNodes(at) => refused(12, Place::At(at)),
-            DdlRefusal::NoMemory => SourceRefusal::NoMemory,
         }
     }
 }

@@ -6,7 +6,8 @@ use Rattle.command_spec.specs.Limits.{data_limit}
 use Rattle.sd_graph.specs.Statement.{Building, IsEmpty}
 use Rattle.sd_ddl.specs.Reads.{Reads, Follows}
 use Rattle.sd_ddl.specs.declared.refusal.DdlRefusal.{DdlRefusal}
-use Rattle.sd_ddl.specs.declared.refusal.DdlRefusal.TheVariants.{TooLong, BadByte, OpenString, IntOutOfRange, Expected, KindConflict, TooManyEdges, TooManyNodes, NoMemory}
+use Rattle.token_reader.specs.declared.refusal.TextRefusal.TheVariants.{TooLong, BadByte, OpenString, IntOutOfRange, Expected, NoMemory}
+use Rattle.sd_ddl.specs.declared.refusal.DdlRefusal.TheVariants.{Text, KindConflict, TooManyEdges, TooManyNodes}
 use Rattle.ddl_laws.specs.OneAnswer.{IsSettled}
 use Rattle.ddl_laws.proofs.DataText as ddl_law
 use Rattle.data_texts.specs.Texts.{no_data, States, Reader}
@@ -54,20 +55,20 @@ none_stated text left e reads settled G (b, other, is) =
     let same : Ok tt ≡ Err e = both.1 in
     absurd cc
 
-settled : (e : DdlRefusal) → e ≢ NoMemory → IsSettled (Err e)
-settled (TooLong at) other = tt
-settled (BadByte at) other = tt
-settled (OpenString at) other = tt
-settled (IntOutOfRange at) other = tt
-settled (Expected at) other = tt
+settled : (e : DdlRefusal) → e ≢ Text NoMemory → IsSettled (Err e)
+settled (Text (TooLong at)) other = tt
+settled (Text (BadByte at)) other = tt
+settled (Text (OpenString at)) other = tt
+settled (Text (IntOutOfRange at)) other = tt
+settled (Text (Expected at)) other = tt
 settled (KindConflict at) other = tt
 settled (TooManyEdges at) other = tt
 settled (TooManyNodes at) other = tt
-settled NoMemory other = other refl
+settled (Text NoMemory) other = other refl
 
 -- the same of the bytes of the text and a new graph
 pub none_from : (text bytes : List ℕ) (b left : Building) (e : DdlRefusal) → bytes ≡ text → b.limits ≡ no_data.limits → IsEmpty b.graph
-    → Reads data_limit bytes b left (Err e) → e ≢ NoMemory → (G : DataGraph) → ¬ States text G
+    → Reads data_limit bytes b left (Err e) → e ≢ Text NoMemory → (G : DataGraph) → ¬ States text G
 none_from text bytes b left e bytes_are limits empty reads other =
     let is : b ≡ no_data = λ i. record { limits = limits i; graph = record { nodes = empty.0 i; edges = empty.1 i; members = empty.2 i } } in
     none_stated text left e (subst (λ (x : Building). Reads data_limit text x left (Err e)) is (subst (λ (t : List ℕ). Reads data_limit t b left (Err e)) bytes_are reads)) (settled e other)

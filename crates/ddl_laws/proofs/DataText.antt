@@ -16,10 +16,11 @@ use Rattle.ddl_text.specs.Reading.{read_file}
 use Rattle.token_reader.specs.Refused.{of_lexer}
 use Rattle.ddl_text.proofs.Parts.{file_part}
 use Rattle.sd_ddl.specs.declared.refusal.DdlRefusal.{DdlRefusal}
-use Rattle.sd_ddl.specs.declared.refusal.DdlRefusal.TheVariants.{TooLong, BadByte, OpenString, IntOutOfRange, Expected, KindConflict, TooManyEdges, TooManyNodes, NoMemory}
+use Rattle.token_reader.specs.declared.refusal.TextRefusal.TheVariants.{TooLong, BadByte, OpenString, IntOutOfRange, Expected, NoMemory}
+use Rattle.sd_ddl.specs.declared.refusal.DdlRefusal.TheVariants.{Text, KindConflict, TooManyEdges, TooManyNodes}
 use Rattle.sd_ddl.specs.Parts.{parts}
 use Rattle.sd_ddl.specs.Steps.{steps}
-use Rattle.sd_ddl.specs.Reads.{Reads, of_text}
+use Rattle.sd_ddl.specs.Reads.{Reads}
 use Rattle.token_reader.proofs.Tokens.{one_token_list}
 use Rattle.token_reader.proofs.TextFaults.{text_fault, text_spelled_no_fault}
 use Rattle.ddl_laws.specs.OneAnswer.{IsSettled, HasOneAnswer}
@@ -31,7 +32,7 @@ ended done = Ok tt
 ended (fault at) = Err (KindConflict at)
 ended (too_many_nodes at) = Err (TooManyNodes at)
 ended (too_many_edges at) = Err (TooManyEdges at)
-ended no_memory = Err NoMemory
+ended no_memory = Err (Text NoMemory)
 
 -- what the graph is after them: after a conflict it is as it was
 abbrev left_by : Building → Building → Ending ℕ ℕ → Building
@@ -40,22 +41,22 @@ left_by b d e = d
 
 -- the three ways to an answer: by the lexer, by the grammar, or by the steps of the statements
 data Way (limit : ℕ) (bytes : List ℕ) (b c : Building) (r : Result ⊤ DdlRefusal) : Type 0 where
-  lexed : (e : LexRefusal) → IsTextOrFault limit bytes (Err e) → c ≡ b → r ≡ Err (of_text (of_lexer e)) → Way limit bytes b c r
-  stuck : (tokens rest : List Token) → IsTextOrFault limit bytes (Ok tokens) → FirstFault IsReal file file tokens rest → c ≡ b → r ≡ Err (Expected (place (length bytes) rest)) → Way limit bytes b c r
+  lexed : (e : LexRefusal) → IsTextOrFault limit bytes (Err e) → c ≡ b → r ≡ Err (Text (of_lexer e)) → Way limit bytes b c r
+  stuck : (tokens rest : List Token) → IsTextOrFault limit bytes (Ok tokens) → FirstFault IsReal file file tokens rest → c ≡ b → r ≡ Err (Text (Expected (place (length bytes) rest))) → Way limit bytes b c r
   taken : (tokens : List Token) (statements : List Statement) → IsTextOrFault limit bytes (Ok tokens) → file tokens statements
       → (e : Ending ℕ ℕ) (d : Building) → IsTold e → Ends b (steps (parts statements)) d e → c ≡ left_by b d e → r ≡ ended e → Way limit bytes b c r
 
 way : (limit : ℕ) (bytes : List ℕ) (b c : Building) (r : Result ⊤ DdlRefusal) → Reads limit bytes b c r → IsSettled r → Way limit bytes b c r
 way limit bytes b c (Ok u) (statements, (tokens, l, f), t) settled = taken tokens statements l f done c tt t refl refl
-way limit bytes b c (Err (TooLong at)) h settled = lexed (lexer.TooLong at) h.1 h.0 refl
-way limit bytes b c (Err (BadByte at)) h settled = lexed (lexer.BadByte at) h.1 h.0 refl
-way limit bytes b c (Err (OpenString at)) h settled = lexed (lexer.OpenString at) h.1 h.0 refl
-way limit bytes b c (Err (IntOutOfRange at)) h settled = lexed (lexer.IntOutOfRange at) h.1 h.0 refl
-way limit bytes b c (Err (Expected at)) (same, (tokens, l, rest, f, is)) settled = stuck tokens rest l f same (ap (λ x. Err (Expected x)) is)
+way limit bytes b c (Err (Text (TooLong at))) h settled = lexed (lexer.TooLong at) h.1 h.0 refl
+way limit bytes b c (Err (Text (BadByte at))) h settled = lexed (lexer.BadByte at) h.1 h.0 refl
+way limit bytes b c (Err (Text (OpenString at))) h settled = lexed (lexer.OpenString at) h.1 h.0 refl
+way limit bytes b c (Err (Text (IntOutOfRange at))) h settled = lexed (lexer.IntOutOfRange at) h.1 h.0 refl
+way limit bytes b c (Err (Text (Expected at))) (same, (tokens, l, rest, f, is)) settled = stuck tokens rest l f same (ap (λ x. Err (Text (Expected x))) is)
 way limit bytes b c (Err (KindConflict at)) (statements, (tokens, l, f), t) settled = taken tokens statements l f (fault at) t.1.0 tt t.1.1 t.0 refl
 way limit bytes b c (Err (TooManyEdges at)) (statements, (tokens, l, f), t) settled = taken tokens statements l f (too_many_edges at) c tt t refl refl
 way limit bytes b c (Err (TooManyNodes at)) (statements, (tokens, l, f), t) settled = taken tokens statements l f (too_many_nodes at) c tt t refl refl
-way limit bytes b c (Err NoMemory) h settled = absurd settled
+way limit bytes b c (Err (Text NoMemory)) h settled = absurd settled
 
 no_lexed : (limit : ℕ) (bytes : List ℕ) (tokens : List Token) (e : LexRefusal) → IsTextOrFault limit bytes (Ok tokens) → IsTextOrFault limit bytes (Err e) → ⊥
 no_lexed limit bytes tokens e l h = let both : Ok tokens ≡ Err e = one_token_list limit bytes (Ok tokens) (Err e) l h in cc
@@ -67,14 +68,14 @@ one_way : (limit : ℕ) (bytes : List ℕ) (b c d : Building) (r s : Result ⊤ 
 one_way limit bytes b c d r s (lexed e h same is) (lexed f k same2 is2) =
     let both : Err e ≡ Err f = one_token_list limit bytes (Err e) (Err f) h k in
     let one : e ≡ f = cc in
-    (same ∙ sym same2, is ∙ ap (λ x. Err (of_text (of_lexer x))) one ∙ sym is2)
+    (same ∙ sym same2, is ∙ ap (λ x. Err (Text (of_lexer x))) one ∙ sym is2)
 one_way limit bytes b c d r s (lexed e h same is) (stuck tokens rest l f same2 is2) = absurd (no_lexed limit bytes tokens e l h)
 one_way limit bytes b c d r s (lexed e h same is) (taken tokens statements l f ending x settled t same2 is2) = absurd (no_lexed limit bytes tokens e l h)
 one_way limit bytes b c d r s (stuck tokens rest l f same is) (lexed e h same2 is2) = absurd (no_lexed limit bytes tokens e l h)
 one_way limit bytes b c d r s (stuck tokens rest l f same is) (stuck tokens2 rest2 m g same2 is2) =
     let e : tokens2 ≡ tokens = same_tokens limit bytes tokens2 tokens m l in
     let one : rest ≡ rest2 = text_fault file file (λ x v h. h) limit bytes tokens l rest rest2 f (subst (λ x. FirstFault IsReal file file x rest2) e g) in
-    (same ∙ sym same2, is ∙ ap (λ x. Err (Expected (place (length bytes) x))) one ∙ sym is2)
+    (same ∙ sym same2, is ∙ ap (λ x. Err (Text (Expected (place (length bytes) x)))) one ∙ sym is2)
 one_way limit bytes b c d r s (stuck tokens rest l f same is) (taken tokens2 statements m g ending x settled t same2 is2) =
     let e : tokens2 ≡ tokens = same_tokens limit bytes tokens2 tokens m l in
     absurd (text_spelled_no_fault file file (λ x v h. h) limit bytes tokens l statements rest (subst (λ x. file x statements) e g) f)

@@ -3,11 +3,12 @@ use Rattle.std.specs.Prelude.{◌≡◌, ℕ, List, Result, Err, ⊤}
 use Rattle.sd_graph.specs.Statement.{Building}
 use Rattle.sd_ddl.specs.Reads.{Reads}
 use Rattle.sd_ddl.specs.declared.refusal.DdlRefusal.{DdlRefusal}
-use Rattle.sd_ddl.specs.declared.refusal.DdlRefusal.TheVariants.{NoMemory}
+use Rattle.sd_ddl.specs.declared.refusal.DdlRefusal.TheVariants.{Text}
+use Rattle.token_reader.specs.declared.refusal.TextRefusal.TheVariants.{NoMemory}
 
 -- any answer but out of memory
 abbrev pub IsSettled : Result ⊤ DdlRefusal → Type 0
-IsSettled (Err NoMemory) = ⊥
+IsSettled (Err (Text NoMemory)) = ⊥
 IsSettled answer = ⊤
 
 -- two such answers to the same bytes and the same graph are equal, and leave the same graph

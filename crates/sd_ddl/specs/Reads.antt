@@ -11,9 +11,7 @@ use Rattle.ddl_text.specs.Text.{TextStates}
 use Rattle.sd_ddl.specs.declared.conflict.Stop.{Stop}
 use Rattle.sd_ddl.specs.declared.conflict.Stop.TheVariants as stops
 use Rattle.sd_ddl.specs.declared.refusal.DdlRefusal.{DdlRefusal}
-use Rattle.sd_ddl.specs.declared.refusal.DdlRefusal.TheVariants.{TooLong, BadByte, OpenString, IntOutOfRange}
-use Rattle.sd_ddl.specs.declared.refusal.DdlRefusal.TheVariants.{Expected, KindConflict, TooManyEdges, TooManyNodes}
-use Rattle.sd_ddl.specs.declared.refusal.DdlRefusal.TheVariants.{NoMemory}
+use Rattle.sd_ddl.specs.declared.refusal.DdlRefusal.TheVariants.{Text, KindConflict, TooManyEdges, TooManyNodes}
 use Rattle.sd_ddl.specs.Parts.{parts}
 use Rattle.sd_ddl.specs.Stops.{Takes}
 
@@ -31,31 +29,22 @@ Follows limit bytes b c r =
 abbrev pub IsNoText : ℕ → List ℕ → Building → Building → TextRefusal → Type 0
 IsNoText limit bytes b c e = (c ≡ b) × TextStates limit bytes (Err e)
 
+-- What reading a text gave, and what it left. Out of memory it left the graph as it was, or with some first statements.
 abbrev pub Reads : ℕ → List ℕ → Building → Building → Result ⊤ DdlRefusal → Type 0
 Reads limit bytes b c (Ok u) = Follows limit bytes b c (Ok u)
-Reads limit bytes b c (Err (TooLong at)) = IsNoText limit bytes b c (text.TooLong at)
-Reads limit bytes b c (Err (BadByte at)) = IsNoText limit bytes b c (text.BadByte at)
-Reads limit bytes b c (Err (OpenString at)) = IsNoText limit bytes b c (text.OpenString at)
-Reads limit bytes b c (Err (IntOutOfRange at)) = IsNoText limit bytes b c (text.IntOutOfRange at)
-Reads limit bytes b c (Err (Expected at)) = IsNoText limit bytes b c (text.Expected at)
+Reads limit bytes b c (Err (Text text.NoMemory)) =
+    (c ≡ b) ⊎ Follows limit bytes b c (Err stops.NoMemory)
+Reads limit bytes b c (Err (Text e)) = IsNoText limit bytes b c e
 Reads limit bytes b c (Err (KindConflict at)) =
     Follows limit bytes b c (Err (stops.KindConflict at))
 Reads limit bytes b c (Err (TooManyEdges at)) =
     Follows limit bytes b c (Err (stops.TooManyEdges at))
 Reads limit bytes b c (Err (TooManyNodes at)) =
     Follows limit bytes b c (Err (stops.TooManyNodes at))
-Reads limit bytes b c (Err NoMemory) = (c ≡ b) ⊎ Follows limit bytes b c (Err stops.NoMemory)
 
-abbrev pub of_text : TextRefusal → DdlRefusal
-of_text (text.TooLong at) = TooLong at
-of_text (text.BadByte at) = BadByte at
-of_text (text.OpenString at) = OpenString at
-of_text (text.IntOutOfRange at) = IntOutOfRange at
-of_text (text.Expected at) = Expected at
-of_text text.NoMemory = NoMemory
-
+-- a stop in the statements as a refusal of the text
 abbrev pub of_stop : Stop → DdlRefusal
 of_stop (stops.KindConflict at) = KindConflict at
 of_stop (stops.TooManyEdges at) = TooManyEdges at
 of_stop (stops.TooManyNodes at) = TooManyNodes at
-of_stop stops.NoMemory = NoMemory
+of_stop stops.NoMemory = Text text.NoMemory

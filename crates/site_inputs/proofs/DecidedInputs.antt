@@ -26,7 +26,7 @@ use Rattle.run_report.specs.declared.status.Place.TheVariants.{At}
 use Rattle.site_inputs.specs.declared.fault.Fault.{Fault}
 use Rattle.site_inputs.specs.declared.fault.Fault.TheVariants.{Refused, Unread, Faulty, NotFound, NoMemory}
 use Rattle.site_inputs.specs.declared.fault.Refusal.{Refusal}
-use Rattle.site_inputs.specs.declared.told.NumberedFault.{NumberedFault}
+use Rattle.data_source.specs.declared.numbered.NumberedFault.{NumberedFault}
 use Rattle.site_inputs.specs.Runs.{FileEnds, IsDecided, Decides}
 use Rattle.command_spec.specs.Limits.{data_limit}
 use Rattle.command_spec.specs.declared.DataFiles.{DataFiles}

@@ -13,8 +13,6 @@ use Rattle.composed_data.specs.SiteData.{DecidesSiteData}
 use Rattle.page_spec.specs.Site.{Site}
 use Rattle.sd_graph.specs.declared.GraphRefusal.{GraphRefusal}
 use Rattle.sd_graph.specs.declared.GraphRefusal.TheVariants as over
-use Rattle.token_reader.specs.declared.refusal.TextRefusal.{TextRefusal}
-use Rattle.token_reader.specs.declared.refusal.TextRefusal.TheVariants as text
 use Rattle.struql_parse.specs.declared.refusal.ParseRefusal.{ParseRefusal}
 use Rattle.struql_parse.specs.declared.refusal.ParseRefusal.TheVariants as parse
 use Rattle.struql_check.specs.declared.refusal.CheckRefusal.{CheckRefusal}
@@ -30,21 +28,12 @@ use Rattle.site_inputs.specs.declared.data.DataInputs.{DataInputs}
 use Rattle.site_inputs.specs.declared.fault.Fault.{Fault}
 use Rattle.site_inputs.specs.declared.fault.Fault.TheVariants.{Refused, NoMemory}
 use Rattle.site_inputs.specs.declared.fault.Refusal.{Refusal}
-use Rattle.site_inputs.specs.declared.told.NumberedFault.{NumberedFault}
+use Rattle.data_source.specs.declared.numbered.NumberedFault.{NumberedFault}
+use Rattle.data_source.specs.Numbered.{text_told}
 use Rattle.site_inputs.specs.Runs.{Then, EndsWith, FileEnds}
 use Rattle.site_inputs.specs.Sources.{GraphEnds, empty_building}
 
 -- ---- the query
-
--- the number and the place of a refused text, if `expected` is the number of its grammar; none if the reader was out of
--- memory
-abbrev pub text_told : ℕ → TextRefusal → Option NumberedFault
-text_told expected (text.BadByte at) = Some (record { number = 21; at = at })
-text_told expected (text.OpenString at) = Some (record { number = 22; at = at })
-text_told expected (text.IntOutOfRange at) = Some (record { number = 23; at = at })
-text_told expected (text.TooLong at) = Some (record { number = 24; at = at })
-text_told expected (text.Expected at) = Some (record { number = expected; at = at })
-text_told expected text.NoMemory = None
 
 -- those of a refused spelling
 abbrev pub parse_told : ParseRefusal → Option NumberedFault

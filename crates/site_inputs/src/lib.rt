@@ -12,4 +12,3 @@ pub use data::{DataInputs, load_data};
 pub use fault::{Fault, Refusal, refused, unread};
 pub use inputs::{load_graph, read_file};
 pub use site::{SiteInputs, load_inputs, load_query, take_query, take_templates};
-pub use told::{NumberedFault, told_of_text};

@@ -1,48 +1,12 @@
 // The numbers of refusals.
 ghost use Rattle.std.specs.Prelude.{◌≡◌};
-ghost use Rattle.site_inputs.specs.Sites.{text_told, parse_told, check_told, query_told, templates_told};
+ghost use Rattle.site_inputs.specs.Sites.{parse_told, check_told, query_told, templates_told};
 
+use data_source::{NumberedFault, told_of_text};
 use query_reader::QueryRefusal;
 use struql_check::CheckRefusal;
 use struql_parse::ParseRefusal;
 use template_reader::TmplRefusal;
-use token_reader::TextRefusal;
-
-/// The number of a refusal, and the byte at which it is.
-#[derive(Clone, Copy, Debug)]
-pub struct NumberedFault {
-    pub number: u32,
-    pub at: u64,
-}
-
-/// What a refused text reports, if `expected` is the number of its grammar; none if the reader was out of memory.
-pub fn told_of_text(refusal: &TextRefusal, expected: u32) -> Option<NumberedFault>
-    ensures { result ≡ text_told expected refusal.now }
-{
-    match refusal {
-        TextRefusal::BadByte(at) => Some(NumberedFault {
-            number: 21,
-            at: *at,
-        }),
-        TextRefusal::OpenString(at) => Some(NumberedFault {
-            number: 22,
-            at: *at,
-        }),
-        TextRefusal::IntOutOfRange(at) => Some(NumberedFault {
-            number: 23,
-            at: *at,
-        }),
-        TextRefusal::TooLong(at) => Some(NumberedFault {
-            number: 24,
-            at: *at,
-        }),
-        TextRefusal::Expected(at) => Some(NumberedFault {
-            number: expected,
-            at: *at,
-        }),
-        TextRefusal::NoMemory => None,
-    }
-}
 
 // What a text that is no query reports.
 fn told_of_parse(refusal: &ParseRefusal) -> Option<NumberedFault>

@@ -4,6 +4,7 @@ use crate::checks::check;
 use sd_ddl::{DdlRefusal, read_ddl};
 use std::alloc::Global;
 use std::test::Fail;
+use token_reader::TextRefusal;
 
 const KINDS: &[u8] = b"collection A { u url } collection B { u file } object o in A, B { u \"x\" }";
 
@@ -30,12 +31,12 @@ const ROW: Row = Row {
 const ROWS: &[Row] = &[
     Row {
         text: b"object a {",
-        refusal: Some(DdlRefusal::Expected(10)),
+        refusal: Some(DdlRefusal::Text(TextRefusal::Expected(10))),
         ..ROW
     },
     Row {
         text: b"object a { v \"x",
-        refusal: Some(DdlRefusal::OpenString(13)),
+        refusal: Some(DdlRefusal::Text(TextRefusal::OpenString(13))),
         ..ROW
     },
     Row {
@@ -78,17 +79,17 @@ const ROWS: &[Row] = &[
     },
     Row {
         text: b"object a { } object b {",
-        refusal: Some(DdlRefusal::Expected(23)),
+        refusal: Some(DdlRefusal::Text(TextRefusal::Expected(23))),
         ..ROW
     },
     Row {
         text: b"object a { } }",
-        refusal: Some(DdlRefusal::Expected(13)),
+        refusal: Some(DdlRefusal::Text(TextRefusal::Expected(13))),
         ..ROW
     },
     Row {
         text: b"object a { } object b { v \"x",
-        refusal: Some(DdlRefusal::OpenString(26)),
+        refusal: Some(DdlRefusal::Text(TextRefusal::OpenString(26))),
         ..ROW
     },
     Row {
