@@ -1,5 +1,0 @@
-use Rattle.std.proofs.Common.{length}
-use Rattle.certificate_check.proofs.names.+are_some.Given as goal
-
-abbrev pub decreases-are_some : goal.decreases-are_some
-decreases-are_some l = length l.variables.now
