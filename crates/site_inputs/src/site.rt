@@ -19,7 +19,7 @@ use edge_io::Files;
 use query_reader::{QueryRefusal, check_written, read_written};
 use run_report::Place;
 use sd_graph::Graph;
-use sd_value::Str;
+use sd_value::{NoMemory, Str};
 use std::alloc::Global;
 use struql_ast::Query;
 use struql_check::Checked;
@@ -42,8 +42,8 @@ fn refused_query(alloc: Global, path: &Str, refusal: &QueryRefusal) -> Fault
     ensures { QueryRefused path.now refusal.now result }
 {
     match told_of_query(refusal) {
-        Some(told) => refused(alloc, path, told.number, Place::At(told.at)),
-        None => Fault::NoMemory,
+        Ok(told) => refused(alloc, path, told.number, Place::At(told.at)),
+        Err(NoMemory) => Fault::NoMemory,
     }
 }
 
@@ -111,8 +111,8 @@ pub fn take_templates(alloc: Global, path: &Str, bytes: &[u8]) -> Result<Templat
     match read_templates(alloc, bytes, TEXT_LIMIT) {
         Ok(templates) => Ok(templates),
         Err(refusal) => match told_of_templates(&refusal) {
-            Some(told) => Err(refused(alloc, path, told.number, Place::At(told.at))),
-            None => Err(Fault::NoMemory),
+            Ok(told) => Err(refused(alloc, path, told.number, Place::At(told.at))),
+            Err(NoMemory) => Err(Fault::NoMemory),
         },
     }
 }
