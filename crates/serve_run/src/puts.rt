@@ -1,37 +1,75 @@
-// What is put at the end of a run over connections.
-ghost use Rattle.std.specs.Prelude.{◌≡◌};
-ghost use Rattle.edge_io.specs.Counts.{Rose};
-ghost use Rattle.serve_run.specs.Puts.{IsPut, EndPuts};
+// What is put in a run over connections, while the log is lent to the output.
+ghost use Rattle.std.specs.Prelude.{◌≡◌, ◌++◌, ◌∷◌, [], ℕ, List, OnOk, MatchResult};
+ghost use Rattle.edge_io.specs.Counts.{Rose, HasCause};
+ghost use Rattle.edge_io.specs.Sink.{Gains, GainsPart};
+ghost use Rattle.happenings.specs.Happening.{Happening, Put, PutFailed};
+ghost use Rattle.serve_run.specs.Puts.{IsPut, EndPuts, IsOnePut, EndHappens};
 
-use edge_io::Sink;
+use edge_io::{Failed, Sink};
+use happenings::Trace;
 use run_report::Status;
 use serving_spec::HubEnd;
 
-/// Puts a text whose failure changes no status.
-pub fn put_anyway<O: Sink>(text: &[u8], out: &mut O)
-    ensures { IsPut (Rose (O.failed out.old) (O.failed out.new)) (O.text out.old) (O.text out.new)
-        text.now }
+/// Puts a text.
+/// # Errors
+/// The output failed at some part of it.
+pub fn put_noted<L: Trace, O: Sink<Log = L>>(
+    log: &mut L,
+    text: &[u8],
+    out: &mut O,
+) -> Result<(), Failed>
+    ensures whole { OnOk result (Gains (O.text out.old) (O.text out.new) text.now) }
+    ensures part { GainsPart (O.text out.old) (O.text out.new) text.now }
+    ensures cause { HasCause (O.failed out.old) (O.failed out.new) result }
+    ensures stays { O.stream out.new ≡ O.stream out.old }
+    ensures course { MatchResult result
+        (λ _. L.events log.new ≡ L.events log.old ++ Put (O.stream out.old) text.now ∷ [])
+        (λ _. (taken : ℕ) × (L.events log.new
+        ≡ L.events log.old ++ PutFailed (O.stream out.old) text.now taken ∷ [])) }
+    ensures lent { O.trace out.new ≡ O.trace out.old }
 {
-    let _ = out.put(text);
+    out.lend(log);
+    let result = out.put(text);
+    out.lend(log);
+    result
+}
+
+/// Puts a text whose failure changes no status.
+pub fn put_anyway<L: Trace, O: Sink<Log = L>>(log: &mut L, text: &[u8], out: &mut O)
+    ensures ends { IsPut (Rose (O.failed out.old) (O.failed out.new))
+        (O.text out.old) (O.text out.new) text.now }
+    ensures course { (part : List Happening) × (L.events log.new ≡ L.events log.old ++ part)
+        × IsOnePut (O.stream out.old) text.now part }
+    ensures lent { O.trace out.new ≡ O.trace out.old }
+{
+    let _ = put_noted(log, text, out);
 }
 
 /// Puts the text of a run that ended so, and reports its status.
-pub fn put_end<O: Sink>(end: HubEnd, text: &[u8], out: &mut O) -> Status
+pub fn put_end<L: Trace, O: Sink<Log = L>>(
+    log: &mut L,
+    end: HubEnd,
+    text: &[u8],
+    out: &mut O,
+) -> Status
     ensures ends { EndPuts end text.now (O.text out.old) (O.text out.new)
         (Rose (O.failed out.old) (O.failed out.new)) result }
     ensures cause { result ≡ Status.WriteFault → Rose (O.failed out.old) (O.failed out.new) }
+    ensures course { (part : List Happening) × (L.events log.new ≡ L.events log.old ++ part)
+        × EndHappens end (O.stream out.old) text.now part result }
+    ensures lent { O.trace out.new ≡ O.trace out.old }
 {
     match end {
-        HubEnd::Done => match out.put(text) {
+        HubEnd::Done => match put_noted(log, text, out) {
             Ok(()) => Status::Ok,
             Err(_) => Status::WriteFault,
         },
         HubEnd::WireFailed => {
-            put_anyway(text, out);
+            put_anyway(log, text, out);
             Status::WireFault
         }
         HubEnd::TurnsSpent => {
-            put_anyway(text, out);
+            put_anyway(log, text, out);
             Status::TurnsSpent
         }
         HubEnd::NoMemory => Status::NoMemory,
