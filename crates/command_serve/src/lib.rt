@@ -1,7 +1,7 @@
 //! The command `serve`: the site over HTTP.
 #![tactic(auto)]
 
-ghost use Rattle.std.specs.Prelude.{◌≡◌, ◌⊎◌, ℕ, List, [], ◌∷◌, ◌++◌, IfOk, OnOk, OnErr, IsErrOf, Some};
+ghost use Rattle.std.specs.Prelude.{◌≡◌, ◌⊎◌, ℕ, List, [], ◌∷◌, ◌++◌, IfOk, OnOk, OnErr, IsErrOf, Some, IsSome};
 ghost use Rattle.std.specs.Prelude.{if◌then◌else◌};
 ghost use Rattle.std.specs.Option.{ForSome};
 ghost use Rattle.edge_io.specs.Counts.{Rose};
@@ -271,6 +271,7 @@ fn watch_if<L: Trace, W: Wire<Log = L>>(
     ensures failed { IsErrOf result WireEnd.Failed
         → Rose (W.told wire.old).next_faults (W.told wire.new).next_faults }
     ensures fine { OnOk result ((W.told wire.new).next_faults ≡ (W.told wire.old).next_faults) }
+    ensures some { OnErr result (IsSome watch.now) }
     ensures course { L.events log.new ≡ L.events log.old ++ watch_of watch.now result }
     ensures lent { W.trace wire.new ≡ W.trace wire.old }
 {
