@@ -1,11 +1,10 @@
 //! The command `build`: the whole site as files.
 #![tactic(auto)]
 
-ghost use Rattle.std.specs.Prelude.{◌≡◌, ◌⊎◌, ◌++◌, ◌∷◌, [], ℕ, List, IfOk, OnOk, MatchResult};
+ghost use Rattle.std.specs.Prelude.{◌≡◌, ◌⊎◌, ◌++◌, List, IfOk};
 ghost use Rattle.std.specs.Option.{ForSome, IsSomeAnd};
-ghost use Rattle.edge_io.specs.Counts.{Rose, HasCause};
-ghost use Rattle.edge_io.specs.Sink.{Gains, GainsPart};
-ghost use Rattle.happenings.specs.Happening.{Happening, Put, PutFailed};
+ghost use Rattle.edge_io.specs.Counts.{Rose};
+ghost use Rattle.happenings.specs.Happening.{Happening};
 ghost use Rattle.files_spec.specs.Causes.{WritesHaveCause};
 ghost use Rattle.site_inputs.specs.Reads.{Reads};
 ghost use Rattle.site_inputs.specs.Runs.{ReadsHaveCause};
@@ -22,28 +21,29 @@ mod laws;
 
 use bindings::StoreAsker;
 use command_spec::BuildCommand;
-use edge_io::{Failed, Files, Sink};
+use edge_io::{Files, Sink};
 use files_spec::Stop;
 use happenings::Trace;
 use index_store::IndexStore;
 pub use laws::builds_end_well;
 use query_blocks::root_of;
 use query_scoping::scopes;
-use run_report::Status;
+use run_report::{Status, put_noted};
 use sd_value::{NoMemory, Str};
 use site_build::Whole;
 use site_files::write_site;
 use site_inputs::{Fault, SiteInputs, load_inputs};
 use std::alloc::Global;
+use token_writer::{put, put_number};
 
 // The line that reports the number of pages.
 fn pages_line(alloc: Global, count: usize) -> Result<Str, NoMemory>
     ensures { IfOk result (λ text. text ≡ build_text count) }
 {
     let mut text = Vec::new(alloc);
-    text.extend_from_slice(b"pages ")?;
-    text.extend_from_slice(count.to_string(alloc)?.as_bytes())?;
-    text.extend_from_slice(b"\n")?;
+    put(b"pages ", &mut text)?;
+    put_number(count as u128, &mut text)?;
+    put(b"\n", &mut text)?;
     Ok(Str::of(alloc, text)?)
 }
 
@@ -136,23 +136,6 @@ fn write_noted<L: Trace, F: Files<Log = L>>(
     result
 }
 
-// Puts the line, while the log is lent to the output.
-fn put_line<L: Trace, O: Sink<Log = L>>(log: &mut L, line: &Str, out: &mut O) -> Result<(), Failed>
-    ensures whole { OnOk result (Gains (O.text out.old) (O.text out.new) line.now) }
-    ensures part { GainsPart (O.text out.old) (O.text out.new) line.now }
-    ensures cause { HasCause (O.failed out.old) (O.failed out.new) result }
-    ensures course { MatchResult result
-        (λ _. L.events log.new ≡ L.events log.old ++ Put (O.stream out.old) line.now ∷ [])
-        (λ _. (taken : ℕ) × (L.events log.new
-        ≡ L.events log.old ++ PutFailed (O.stream out.old) line.now taken ∷ [])) }
-    ensures lent { O.trace out.new ≡ O.trace out.old }
-{
-    out.lend(log);
-    let result = out.put(line.bytes());
-    out.lend(log);
-    result
-}
-
 fn status_of_stop(stop: Stop) -> Status
     ensures { result ≡ stop_status stop }
 {
@@ -199,7 +182,7 @@ pub fn build<L: Trace, F: Files<Log = L>, O: Sink<Log = L>>(
         Err(fault) => return Status::from(fault),
     };
     match write_noted(alloc, log, files, inputs, &command.folder) {
-        Ok(line) => match put_line(log, &line, out) {
+        Ok(line) => match put_noted(log, line.bytes(), out) {
             Ok(()) => Status::Ok,
             Err(_) => Status::WriteFault,
         },

@@ -22,7 +22,8 @@ use Rattle.site_inputs.specs.Sites.{Inputs, InputsEnd}
 use Rattle.site_inputs.specs.Statuses.{status_of}
 use Rattle.site_inputs.specs.Values.{inputs_of, inputs_result}
 use Rattle.site_inputs.proofs.ReadLemmas.{reads_fault}
-use Rattle.serve_run.specs.Puts.{IsOnePut, EndHappens}
+use Rattle.run_report.specs.Told.{IsOnePut}
+use Rattle.serve_run.specs.Puts.{EndHappens}
 use Rattle.serve_run.specs.Texts.{tally_text}
 use Rattle.serve_run.proofs.Added.{Added, added_then, added_behind, added_none}
 use Rattle.site_serving.specs.Served.{ServesSiteInSteps}

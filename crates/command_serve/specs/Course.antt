@@ -17,7 +17,8 @@ use Rattle.site_inputs.specs.declared.fault.Fault.{Fault}
 use Rattle.site_inputs.specs.Reads.{Reads}
 use Rattle.site_inputs.specs.Sites.{Inputs, InputsEnd}
 use Rattle.site_inputs.specs.Statuses.{status_of}
-use Rattle.serve_run.specs.Puts.{IsOnePut, EndHappens}
+use Rattle.run_report.specs.Told.{IsOnePut}
+use Rattle.serve_run.specs.Puts.{EndHappens}
 use Rattle.serve_run.specs.Texts.{tally_text}
 use Rattle.site_serving.specs.Served.{ServesSiteInSteps}
 use Rattle.command_serve.specs.Ends.{serving_text, no_tally, Watching, Listening}

@@ -29,12 +29,13 @@ use command_spec::{RunLimits, ServeCommand, ServeOptions, WatchOptions};
 use edge_io::{Failed, Files, Sink};
 use happenings::Trace;
 pub use laws::serving_ends_well;
-use run_report::Status;
+use run_report::{Status, put_noted};
 use sd_value::{NoMemory, Str};
-use serve_run::{Served, put_anyway, put_end, put_noted, tally_text};
+use serve_run::{Served, put_anyway, put_end, tally_text};
 use site_inputs::{Fault, SiteInputs, load_inputs};
 use site_serving::{PageSource, serve_site};
 use std::alloc::Global;
+use token_writer::{put, put_number};
 use wire::{Wire, WireEnd};
 
 // The counts of a run without connections.
@@ -48,9 +49,9 @@ fn serving_line(alloc: Global, port: u16) -> Result<Str, NoMemory>
     ensures { IfOk result (λ text. text ≡ serving_text port) }
 {
     let mut text = Vec::new(alloc);
-    text.extend_from_slice(b"serving ")?;
-    text.extend_from_slice(port.to_string(alloc)?.as_bytes())?;
-    text.extend_from_slice(b"\n")?;
+    put(b"serving ", &mut text)?;
+    put_number(port as u128, &mut text)?;
+    put(b"\n", &mut text)?;
     Ok(Str::of(alloc, text)?)
 }
 

@@ -4,7 +4,7 @@ use Rattle.std.proofs.lemmas.List.{append-nil}
 use Rattle.std.specs.Prelude.{Result, Ok, Err, MatchResult, ⊤}
 use Rattle.happenings.specs.Happening.{Happening, Put, PutFailed}
 use Rattle.happenings.specs.declared.stream.Stream.{Stream}
-use Rattle.serve_run.specs.Puts.{IsOnePut}
+use Rattle.run_report.specs.Told.{IsOnePut}
 
 -- a part that is so was added
 abbrev pub Added : (before after : List Happening) → (List Happening → Type 0) → Type 0

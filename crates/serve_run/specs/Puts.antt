@@ -5,6 +5,7 @@ use Rattle.happenings.specs.Happening.{Happening, Put, PutFailed}
 use Rattle.happenings.specs.declared.stream.Stream.{Stream}
 use Rattle.serving_spec.specs.declared.HubEnd.{HubEnd}
 use Rattle.serving_spec.specs.declared.HubEnd.TheVariants as end
+use Rattle.run_report.specs.Told.{IsOnePut}
 use Rattle.run_report.specs.declared.status.Status.{Status}
 use Rattle.run_report.specs.declared.status.Status.TheVariants.{Ok, NotAllYes, Usage, Refused, ReadFault, WriteFault}
 use Rattle.run_report.specs.declared.status.Status.TheVariants.{WireFault, PageFault, NoMemory, NotFound, TurnsSpent}
@@ -31,11 +32,6 @@ EndPuts ended text old new PutsRose (PageFault term kind) = ⊥
 EndPuts ended text old new PutsRose NotFound = ⊥
 
 -- ---- what happened
-
--- the text was put, whole or in part
-abbrev pub IsOnePut : Stream → List ℕ → List Happening → Type 0
-IsOnePut stream text part =
-    (part ≡ Put stream text ∷ []) ⊎ ((taken : ℕ) × (part ≡ PutFailed stream text taken ∷ []))
 
 -- What was put at the end of a run that ended so, whose text this is, where this is its status: out of memory nothing.
 abbrev pub EndHappens : HubEnd → Stream → List ℕ → List Happening → Status → Type 0

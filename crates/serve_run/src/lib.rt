@@ -17,7 +17,7 @@ mod texts;
 use hub::{Hub, serve};
 pub use opened::opened_in;
 use page_cache::Cached;
-pub use puts::{put_anyway, put_end, put_noted};
+pub use puts::{put_anyway, put_end};
 use sd_value::{NoMemory, Str};
 pub use serving_spec::Served;
 use serving_spec::{HubEnd, Tally};

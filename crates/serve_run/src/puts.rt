@@ -1,38 +1,14 @@
 // What is put in a run over connections, while the log is lent to the output.
-ghost use Rattle.std.specs.Prelude.{◌≡◌, ◌++◌, ◌∷◌, [], ℕ, List, OnOk, MatchResult};
-ghost use Rattle.edge_io.specs.Counts.{Rose, HasCause};
-ghost use Rattle.edge_io.specs.Sink.{Gains, GainsPart};
-ghost use Rattle.happenings.specs.Happening.{Happening, Put, PutFailed};
-ghost use Rattle.serve_run.specs.Puts.{IsPut, EndPuts, IsOnePut, EndHappens};
+ghost use Rattle.std.specs.Prelude.{◌≡◌, ◌++◌, List};
+ghost use Rattle.edge_io.specs.Counts.{Rose};
+ghost use Rattle.happenings.specs.Happening.{Happening};
+ghost use Rattle.run_report.specs.Told.{IsOnePut};
+ghost use Rattle.serve_run.specs.Puts.{IsPut, EndPuts, EndHappens};
 
-use edge_io::{Failed, Sink};
+use edge_io::Sink;
 use happenings::Trace;
-use run_report::Status;
+use run_report::{Status, put_noted};
 use serving_spec::HubEnd;
-
-/// Puts a text.
-/// # Errors
-/// The output failed at some part of it.
-pub fn put_noted<L: Trace, O: Sink<Log = L>>(
-    log: &mut L,
-    text: &[u8],
-    out: &mut O,
-) -> Result<(), Failed>
-    ensures whole { OnOk result (Gains (O.text out.old) (O.text out.new) text.now) }
-    ensures part { GainsPart (O.text out.old) (O.text out.new) text.now }
-    ensures cause { HasCause (O.failed out.old) (O.failed out.new) result }
-    ensures stays { O.stream out.new ≡ O.stream out.old }
-    ensures course { MatchResult result
-        (λ _. L.events log.new ≡ L.events log.old ++ Put (O.stream out.old) text.now ∷ [])
-        (λ _. (taken : ℕ) × (L.events log.new
-        ≡ L.events log.old ++ PutFailed (O.stream out.old) text.now taken ∷ [])) }
-    ensures lent { O.trace out.new ≡ O.trace out.old }
-{
-    out.lend(log);
-    let result = out.put(text);
-    out.lend(log);
-    result
-}
 
 /// Puts a text whose failure changes no status.
 pub fn put_anyway<L: Trace, O: Sink<Log = L>>(log: &mut L, text: &[u8], out: &mut O)
