@@ -1,5 +1,5 @@
 -- What putting the line of a status notes.
-use Rattle.std.proofs.Common.{◌≡◌, ◌≢◌, ◌⊎◌, ℕ, List, [], ◌∷◌, ◌++◌, refl, sym, subst, ◌∙◌, inl, inr}
+use Rattle.std.proofs.Common.{◌≡◌, ◌≢◌, ℕ, List, [], ◌∷◌, ◌++◌, refl, sym, subst, ◌∙◌, inl, inr}
 use Rattle.std.specs.Prelude.{codes, Result, Ok, Err, MatchResult}
 use Rattle.happenings.specs.Happening.{Happening, Put, PutFailed}
 use Rattle.happenings.specs.declared.stream.Stream.{Stream}
