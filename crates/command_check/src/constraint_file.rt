@@ -2,6 +2,7 @@
 ghost use Rattle.std.specs.Prelude.{◌≡◌, ◌∷◌, []};
 ghost use Rattle.std.specs.Option.{ForSome};
 ghost use Rattle.data_source.specs.Numbered.{Tells};
+ghost use Rattle.site_inputs.specs.Reads.{Reads};
 ghost use Rattle.site_inputs.specs.Runs.{ReadsHaveCause};
 ghost use Rattle.command_check.specs.ConstraintFile.{constraints_told, constraints_result};
 ghost use Rattle.command_check.specs.ConstraintFile.{ConstraintsTaken, ConstraintsEnd};
@@ -66,6 +67,9 @@ pub fn load_constraints<F: Files>(
     ensures cause { ReadsHaveCause (path.now ∷ [])
         (F.failed_reads files.old) (F.failed_reads files.new) result }
     ensures writes { F.failed_writes files.new ≡ F.failed_writes files.old }
+    ensures traced { Reads (path.now ∷ [])
+        (F.trace files.old) (F.trace files.new) (F.contents files.old) result
+        (λ map. ConstraintsEnd query.now map path.now (constraints_result result)) }
 {
     let bytes = read_file(alloc, files, path, TEXT_LIMIT)?;
     take_constraints(alloc, query, path, bytes.bytes())

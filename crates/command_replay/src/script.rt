@@ -2,6 +2,7 @@
 ghost use Rattle.std.specs.Prelude.{◌≡◌, ◌∷◌, [], IfOk, All};
 ghost use Rattle.std.specs.Option.{ForSome};
 ghost use Rattle.script_reader.specs.Script.{IsScripted};
+ghost use Rattle.site_inputs.specs.Reads.{Reads};
 ghost use Rattle.site_inputs.specs.Runs.{ReadsHaveCause};
 ghost use Rattle.command_replay.specs.Scripts.{script_result, ScriptTaken, ScriptEnds};
 
@@ -35,6 +36,9 @@ pub fn load_script<F: Files>(
     files: &mut F,
     path: &Str,
 ) -> Result<Vec<WireEvent>, Fault>
+    ensures traced { Reads (path.now ∷ []) (F.trace files.old) (F.trace files.new)
+        (F.contents files.old) result
+        (λ map. ScriptEnds map path.now (script_result result)) }
     ensures ends { ForSome (F.contents files.old) (λ map.
         ScriptEnds map path.now (script_result result)) }
     ensures same { F.contents files.new ≡ F.contents files.old }
