@@ -1,0 +1,35 @@
+//! Each term of a query's site has an outcome, and so has each target.
+#![tactic(auto)]
+
+ghost use Rattle.std.specs.Prelude.{◌⊎◌, ℕ, List, Option};
+ghost use Rattle.sd_value.specs.Names.{Name};
+ghost use Rattle.sd_value.specs.declared.Term.{Term};
+ghost use Rattle.sd_value.specs.declared.Value.{Value};
+ghost use Rattle.graph_spec.specs.DataGraph.{DataGraph};
+ghost use Rattle.site_spec.specs.Site.{Scope};
+ghost use Rattle.tmpl.specs.Body.{TemplateFile};
+ghost use Rattle.page_spec.specs.declared.Outcome.{Outcome};
+ghost use Rattle.page_spec.specs.Pieces.{HasTemplate};
+ghost use Rattle.page_spec.specs.Page.{HasText, Loops, IsOutcome, PageAt};
+ghost use Rattle.weight_spec.specs.Site.{site_of};
+
+/// Each value that has a template has a text, or a cycle of embeds is reached from it.
+pub fn each_value_ends_or_loops()
+    ensures { (graph : DataGraph) (query : Scope) (file : TemplateFile) (v : Value) (k : ℕ)
+        → HasTemplate (site_of graph query) file v k
+        → ((text : List ℕ) × HasText (site_of graph query) file v text)
+        ⊎ Loops (site_of graph query) file v }
+{}
+
+/// Each term has an outcome: its page, that there is none, the value that its cycle is named by, or that its text is too
+/// long.
+pub fn each_term_has_an_outcome()
+    ensures { (graph : DataGraph) (query : Scope) (file : TemplateFile) (t : Term)
+        → (o : Outcome) × IsOutcome (site_of graph query) file t o }
+{}
+
+/// Each target has an outcome: that of the term that it names, or that there is no page where it names none.
+pub fn each_target_has_an_outcome()
+    ensures { (root : Option Name) (graph : DataGraph) (query : Scope) (file : TemplateFile)
+        (target : List ℕ) → (o : Outcome) × PageAt root (site_of graph query) file target o }
+{}
