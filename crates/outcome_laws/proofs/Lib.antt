@@ -5,4 +5,6 @@ pub mod Ending
 pub mod Short
 pub mod Targets
 pub mod Outcomes
+pub mod Heads
+pub mod Connections
 pub mod QuerySites
