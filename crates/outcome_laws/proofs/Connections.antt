@@ -64,17 +64,17 @@ fewer stream p c =
 
 -- ---- how it ends
 
-abbrev Ending : Bool → List ℕ → Bool → Type 0
-Ending ended rest closed =
+abbrev HasEnd : Bool → List ℕ → Bool → Type 0
+HasEnd ended rest closed =
     (standing : Standing) × (last : List (List ℕ)) × (standing ≡ Short → ⊥) × Ends ended standing rest closed last
 
--- no head is left, and no further one has room
+-- no head is there, and none has room
 too_long : (ended : Bool) (rest : List ℕ) (closed : Bool) → closed ≡ false → HasNoHead rest → max_head ≤ length rest
-    → Ending ended rest closed
+    → HasEnd ended rest closed
 too_long ended rest closed is none long = (Closed, refusal ∷ [], λ e. cc, inr (inl (is, (none, inl long), refl)))
 
 short_rest : (ended : Bool) (rest : List ℕ) (closed : Bool) → closed ≡ false → HasNoHead rest → length rest < max_head
-    → Ending ended rest closed
+    → HasEnd ended rest closed
 short_rest false rest closed is none few = (Open, [], λ e. cc, (refl, is, (none, few), refl))
 short_rest true rest closed is none few =
     elim (are_line_ends_or_not rest) [
@@ -82,10 +82,10 @@ short_rest true rest closed is none few =
       | no more ↦ (Closed, refusal ∷ [], λ e. cc, inr (inl (is, (none, inr (inr (refl, more))), refl)))
     ]
 
-ending : (ended : Bool) (rest : List ℕ) (closed : Bool)
-    → (closed ≡ true) ⊎ ((closed ≡ false) × HasNoHead rest) → Ending ended rest closed
-ending ended rest closed (inl is) = (Closed, [], λ e. cc, inl (is, refl))
-ending ended rest closed (inr h) =
+end_of : (ended : Bool) (rest : List ℕ) (closed : Bool)
+    → (closed ≡ true) ⊎ ((closed ≡ false) × HasNoHead rest) → HasEnd ended rest closed
+end_of ended rest closed (inl is) = (Closed, [], λ e. cc, inl (is, refl))
+end_of ended rest closed (inr h) =
     elim (dec_lt (length rest) max_head) [
       | yes few ↦ short_rest ended rest closed h.0 h.1 few
       | no many ↦ too_long ended rest closed h.0 h.1 (let long : max_head ≤ length rest = omega (arith, many) in long)
@@ -187,7 +187,7 @@ module _ {D : Type 0} (page : D → OutcomeAt)
       × AnswersStream page limit stream ended standing replies
   answer_of limit stream ended =
       let h = handled (length stream) limit stream (omega arith) in
-      let e = ending ended (bytes_in h.rest) h.closed h.done in (
+      let e = end_of ended (bytes_in h.rest) h.closed h.done in (
         e.0,
         h.replies ++ e.1,
         e.2,

@@ -1,4 +1,4 @@
--- The site of a query over a data graph can be listed, and so its terms and targets have outcomes.
+-- The site of a query over a data graph can be listed.
 use Rattle.graph_spec.specs.DataGraph.{DataGraph}
 use Rattle.graph_spec.specs.Orders.{member_cmp, member_cmp-total, member_cmp-exact}
 use Rattle.site_spec.specs.Site.{Scope}
