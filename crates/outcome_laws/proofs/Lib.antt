@@ -7,4 +7,5 @@ pub mod Targets
 pub mod Outcomes
 pub mod Heads
 pub mod Connections
+pub mod Trials
 pub mod QuerySites

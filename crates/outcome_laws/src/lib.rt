@@ -14,6 +14,7 @@ ghost use Rattle.page_spec.specs.Page.{HasText, Loops, IsOutcome, PageAt};
 ghost use Rattle.weight_spec.specs.Site.{site_of};
 ghost use Rattle.http_spec.specs.Streams.{Timed};
 ghost use Rattle.http_spec.specs.Sessions.{AnswersStream};
+ghost use Rattle.trial_spec.specs.Asked.{IsTrialText};
 
 use http_spec::Standing;
 
@@ -58,4 +59,11 @@ pub fn each_connection_has_an_answer<C: Changing>()
         × AnswersStream (λ current. PageAt root
         (site_of (C.graph current) (C.query current)) (C.templates current))
         limit stream ended standing replies }
+{}
+
+/// Asking for the targets of a trial of any number of entries gives a text.
+pub fn each_trial_has_a_text()
+    ensures { (root : Option Name) (graph : DataGraph) (query : Scope) (file : TemplateFile)
+        (entries : ℕ) → (text : List ℕ)
+        × IsTrialText root (site_of graph query) file entries text }
 {}
