@@ -1,16 +1,21 @@
 //! The command `build`: the whole site as files.
 #![tactic(auto)]
 
-ghost use Rattle.std.specs.Prelude.{◌≡◌, ◌⊎◌, IfOk};
+ghost use Rattle.std.specs.Prelude.{◌≡◌, ◌⊎◌, ◌++◌, List, IfOk};
 ghost use Rattle.std.specs.Option.{ForSome, IsSomeAnd};
 ghost use Rattle.edge_io.specs.Counts.{Rose};
+ghost use Rattle.happenings.specs.Happening.{Happening};
 ghost use Rattle.files_spec.specs.Causes.{WritesHaveCause};
-ghost use Rattle.site_inputs.specs.Values.{inputs_of};
+ghost use Rattle.site_inputs.specs.Reads.{Reads};
+ghost use Rattle.site_inputs.specs.Runs.{ReadsHaveCause};
+ghost use Rattle.site_inputs.specs.Sites.{InputsEnd};
+ghost use Rattle.site_inputs.specs.Values.{inputs_of, inputs_result};
 ghost use Rattle.command_spec.specs.Inputs.{data_paths, input_paths};
 ghost use Rattle.site_inputs.specs.Statuses.{ReadRose, IsSilent};
 ghost use Rattle.site_inputs.specs.Outside.{host};
 ghost use Rattle.command_build.specs.Ends.{build_text, BuiltEnds, BuildEnds};
 ghost use Rattle.command_build.specs.Ends.{IsSiteFile, FileRose, stop_status};
+ghost use Rattle.command_build.specs.Course.{WritesBuilt, BuildCourse};
 
 mod laws;
 
@@ -18,25 +23,27 @@ use bindings::StoreAsker;
 use command_spec::BuildCommand;
 use edge_io::{Files, Sink};
 use files_spec::Stop;
+use happenings::Trace;
 use index_store::IndexStore;
 pub use laws::builds_end_well;
 use query_blocks::root_of;
 use query_scoping::scopes;
-use run_report::Status;
+use run_report::{Status, put_noted};
 use sd_value::{NoMemory, Str};
 use site_build::Whole;
 use site_files::write_site;
-use site_inputs::{SiteInputs, load_inputs};
+use site_inputs::{Fault, SiteInputs, load_inputs};
 use std::alloc::Global;
+use token_writer::{put, put_number};
 
 // The line that reports the number of pages.
 fn pages_line(alloc: Global, count: usize) -> Result<Str, NoMemory>
     ensures { IfOk result (λ text. text ≡ build_text count) }
 {
     let mut text = Vec::new(alloc);
-    text.extend_from_slice(b"pages ")?;
-    text.extend_from_slice(count.to_string(alloc)?.as_bytes())?;
-    text.extend_from_slice(b"\n")?;
+    put(b"pages ", &mut text)?;
+    put_number(count as u128, &mut text)?;
+    put(b"\n", &mut text)?;
     Ok(Str::of(alloc, text)?)
 }
 
@@ -52,6 +59,8 @@ fn write_built<F: Files>(
     ensures reads { F.failed_reads files.new ≡ F.failed_reads files.old }
     ensures cause { WritesHaveCause (IsSiteFile (inputs_of inputs) folder.now)
         (F.failed_writes files.old) (F.failed_writes files.new) result }
+    ensures traced { (part : List Happening) × (F.trace files.new ≡ F.trace files.old ++ part)
+        × WritesBuilt (inputs_of inputs) folder.now result part }
 {
     let scopes = scopes(alloc, &inputs.query)?;
     let store = IndexStore::of(alloc, inputs.graph)?;
@@ -67,6 +76,66 @@ fn write_built<F: Files>(
     }
 }
 
+// Reads the inputs, while the log is lent to the files.
+fn load_noted<L: Trace, F: Files<Log = L>>(
+    alloc: Global,
+    log: &mut L,
+    files: &mut F,
+    command: &BuildCommand,
+) -> Result<SiteInputs, Fault>
+    ensures ends { ForSome (F.contents files.old) (λ map.
+        InputsEnd map command.now.sources command.now.over command.now.query
+        command.now.templates (inputs_result result)) }
+    ensures same { F.contents files.new ≡ F.contents files.old }
+    ensures cause { ReadsHaveCause
+        (input_paths (data_paths command.now.sources command.now.over)
+        command.now.query command.now.templates)
+        (F.failed_reads files.old) (F.failed_reads files.new) result }
+    ensures writes { F.failed_writes files.new ≡ F.failed_writes files.old }
+    ensures course { Reads
+        (input_paths (data_paths command.now.sources command.now.over)
+        command.now.query command.now.templates)
+        (L.events log.old) (L.events log.new) (F.contents files.old) result
+        (λ map. InputsEnd map command.now.sources command.now.over command.now.query
+        command.now.templates (inputs_result result)) }
+    ensures lent { F.trace files.new ≡ F.trace files.old }
+{
+    files.lend(log);
+    let result = load_inputs(
+        alloc,
+        files,
+        &command.sources,
+        &command.over,
+        &command.query,
+        &command.templates,
+    );
+    files.lend(log);
+    result
+}
+
+// Writes the site of the inputs, while the log is lent to the files.
+fn write_noted<L: Trace, F: Files<Log = L>>(
+    alloc: Global,
+    log: &mut L,
+    files: &mut F,
+    inputs: SiteInputs,
+    folder: &Str,
+) -> Result<Str, Stop>
+    ensures ends { ForSome (F.contents files.old) (λ old. IsSomeAnd (F.contents files.new) (λ new.
+        BuiltEnds (inputs_of inputs) folder.now old new result)) }
+    ensures reads { F.failed_reads files.new ≡ F.failed_reads files.old }
+    ensures cause { WritesHaveCause (IsSiteFile (inputs_of inputs) folder.now)
+        (F.failed_writes files.old) (F.failed_writes files.new) result }
+    ensures course { (part : List Happening) × (L.events log.new ≡ L.events log.old ++ part)
+        × WritesBuilt (inputs_of inputs) folder.now result part }
+    ensures lent { F.trace files.new ≡ F.trace files.old }
+{
+    files.lend(log);
+    let result = write_built(alloc, files, inputs, folder);
+    files.lend(log);
+    result
+}
+
 fn status_of_stop(stop: Stop) -> Status
     ensures { result ≡ stop_status stop }
 {
@@ -78,9 +147,10 @@ fn status_of_stop(stop: Stop) -> Status
 }
 
 /// Writes every page of the site of the query over the data under the folder, ascending, then `index.html` where the
-/// root page is one of them, and reports their number on `out`.
-pub fn build<F: Files, O: Sink>(
+/// root page is one of them, and reports their number on `out`. The log is lent to each device for its calls.
+pub fn build<L: Trace, F: Files<Log = L>, O: Sink<Log = L>>(
     alloc: Global,
+    log: &mut L,
     files: &mut F,
     out: &mut O,
     command: &BuildCommand,
@@ -103,20 +173,16 @@ pub fn build<F: Files, O: Sink>(
         → Rose (O.failed out.old) (O.failed out.new)
         ⊎ FileRose (F.contents files.old) command.now
         (F.failed_writes files.old) (F.failed_writes files.new) }
+    ensures course { (part : List Happening) × (L.events log.new ≡ L.events log.old ++ part)
+        × BuildCourse command.now (O.stream out.old) (F.contents files.old) part result }
+    ensures lent { (F.trace files.new ≡ F.trace files.old) × (O.trace out.new ≡ O.trace out.old) }
 {
-    let inputs = match load_inputs(
-        alloc,
-        files,
-        &command.sources,
-        &command.over,
-        &command.query,
-        &command.templates,
-    ) {
+    let inputs = match load_noted(alloc, log, files, command) {
         Ok(inputs) => inputs,
         Err(fault) => return Status::from(fault),
     };
-    match write_built(alloc, files, inputs, &command.folder) {
-        Ok(line) => match out.put(line.bytes()) {
+    match write_noted(alloc, log, files, inputs, &command.folder) {
+        Ok(line) => match put_noted(log, line.bytes(), out) {
             Ok(()) => Status::Ok,
             Err(_) => Status::WriteFault,
         },

@@ -1,3 +1,4 @@
 pub mod Scripts
 pub mod Ends
+pub mod Course
 pub mod Law

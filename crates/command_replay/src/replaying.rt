@@ -1,19 +1,23 @@
 // The command `replay`.
-ghost use Rattle.std.specs.Prelude.{◌≡◌, IfOk, take, length};
+ghost use Rattle.std.specs.Prelude.{◌≡◌, ◌++◌, List, IfOk, take, length};
 ghost use Rattle.std.specs.List.{list_any};
 ghost use Rattle.std.specs.Option.{ForSome};
 ghost use Rattle.edge_io.specs.Counts.{Rose};
+ghost use Rattle.happenings.specs.Happening.{Happening};
 ghost use Rattle.command_spec.specs.Ranges.{AreLimits};
+ghost use Rattle.site_inputs.specs.Reads.{Reads};
 ghost use Rattle.site_inputs.specs.Runs.{ReadsHaveCause};
 ghost use Rattle.site_inputs.specs.Statuses.{ReadRose, IsSilent};
 ghost use Rattle.site_inputs.specs.Outside.{host};
 ghost use Rattle.command_spec.specs.Inputs.{replay_paths};
 ghost use Rattle.command_replay.specs.Scripts.{scripted_of, scripted_result, ScriptedEnd};
 ghost use Rattle.command_replay.specs.Ends.{is_change, run_end, IsReplayed, ReplayEnds};
+ghost use Rattle.command_replay.specs.Course.{ReplayCourse};
 
 use crate::script::load_script;
 use command_spec::{ReplayCommand, RunLimits};
 use edge_io::{Files, Sink};
+use happenings::Trace;
 use hub::HubEnd;
 use mem_wire::MemWire;
 use run_report::Status;
@@ -44,6 +48,9 @@ fn load_all<F: Files>(
     files: &mut F,
     command: &ReplayCommand,
 ) -> Result<Script, Fault>
+    ensures traced { Reads (replay_paths command.now) (F.trace files.old) (F.trace files.new)
+        (F.contents files.old) result
+        (λ map. ScriptedEnd map command.now (scripted_result result)) }
     ensures ends { ForSome (F.contents files.old) (λ map.
         ScriptedEnd map command.now (scripted_result result)) }
     ensures same { F.contents files.new ≡ F.contents files.old }
@@ -60,6 +67,29 @@ fn load_all<F: Files>(
     )?;
     let events = load_script(alloc, files, &command.script)?;
     Ok(Script { site, events })
+}
+
+// The same, while the log is lent to the files.
+fn load_noted<L: Trace, F: Files<Log = L>>(
+    alloc: Global,
+    log: &mut L,
+    files: &mut F,
+    command: &ReplayCommand,
+) -> Result<Script, Fault>
+    ensures ends { ForSome (F.contents files.old) (λ map.
+        ScriptedEnd map command.now (scripted_result result)) }
+    ensures same { F.contents files.new ≡ F.contents files.old }
+    ensures cause { ReadsHaveCause (replay_paths command.now)
+        (F.failed_reads files.old) (F.failed_reads files.new) result }
+    ensures course { Reads (replay_paths command.now) (L.events log.old) (L.events log.new)
+        (F.contents files.old) result
+        (λ map. ScriptedEnd map command.now (scripted_result result)) }
+    ensures lent { F.trace files.new ≡ F.trace files.old }
+{
+    files.lend(log);
+    let result = load_all(alloc, files, command);
+    files.lend(log);
+    result
 }
 
 // The first events, or all of them.
@@ -117,9 +147,11 @@ fn play(alloc: Global, script: Script, limits: &RunLimits) -> Result<Finished, N
 }
 
 /// Serves the site of the query over the data over the events of the script, and prints what each connection was sent,
-/// and the counts of the run.
-pub fn replay<F: Files, O: Sink>(
+/// and the counts of the run. The log is lent to the files and to the output for their calls; the wire is in memory, with a log
+/// of its own.
+pub fn replay<L: Trace, F: Files<Log = L>, O: Sink<Log = L>>(
     alloc: Global,
+    log: &mut L,
     files: &mut F,
     out: &mut O,
     command: &ReplayCommand,
@@ -139,13 +171,16 @@ pub fn replay<F: Files, O: Sink>(
     ensures read_cause { ReadRose (replay_paths command.now)
         (F.failed_reads files.old) (F.failed_reads files.new) result }
     ensures write_cause { result ≡ Status.WriteFault → Rose (O.failed out.old) (O.failed out.new) }
+    ensures course { (part : List Happening) × (L.events log.new ≡ L.events log.old ++ part)
+        × ReplayCourse command.now (O.stream out.old) (F.contents files.old) part result }
+    ensures lent { (F.trace files.new ≡ F.trace files.old) × (O.trace out.new ≡ O.trace out.old) }
 {
-    let script = match load_all(alloc, files, command) {
+    let script = match load_noted(alloc, log, files, command) {
         Ok(script) => script,
         Err(fault) => return Status::from(fault),
     };
     match play(alloc, script, &command.limits) {
-        Ok(finished) => put_end(finished.end, &finished.text, out),
+        Ok(finished) => put_end(log, finished.end, &finished.text, out),
         Err(NoMemory) => Status::NoMemory,
     }
 }

@@ -2,6 +2,7 @@
 ghost use Rattle.std.specs.Prelude.{◌≡◌, ◌∷◌, [], IfOk, All};
 ghost use Rattle.std.specs.Option.{ForSome};
 ghost use Rattle.script_reader.specs.Script.{IsScripted};
+ghost use Rattle.site_inputs.specs.Reads.{Reads};
 ghost use Rattle.site_inputs.specs.Runs.{ReadsHaveCause};
 ghost use Rattle.command_replay.specs.Scripts.{script_result, ScriptTaken, ScriptEnds};
 
@@ -10,7 +11,7 @@ use data_source::told_of_text;
 use edge_io::Files;
 use run_report::Place;
 use script_reader::read_script;
-use sd_value::Str;
+use sd_value::{NoMemory, Str};
 use site_inputs::{Fault, read_file, refused};
 use std::alloc::Global;
 use wire::WireEvent;
@@ -21,8 +22,8 @@ fn take_script(alloc: Global, path: &Str, bytes: &[u8]) -> Result<Vec<WireEvent>
     match read_script(alloc, bytes, SCRIPT_LIMIT) {
         Ok(events) => Ok(events),
         Err(refusal) => match told_of_text(&refusal, 111) {
-            Some(told) => Err(refused(alloc, path, told.number, Place::At(told.at))),
-            None => Err(Fault::NoMemory),
+            Ok(told) => Err(refused(alloc, path, told.number, Place::At(told.at))),
+            Err(NoMemory) => Err(Fault::NoMemory),
         },
     }
 }
@@ -35,6 +36,9 @@ pub fn load_script<F: Files>(
     files: &mut F,
     path: &Str,
 ) -> Result<Vec<WireEvent>, Fault>
+    ensures traced { Reads (path.now ∷ []) (F.trace files.old) (F.trace files.new)
+        (F.contents files.old) result
+        (λ map. ScriptEnds map path.now (script_result result)) }
     ensures ends { ForSome (F.contents files.old) (λ map.
         ScriptEnds map path.now (script_result result)) }
     ensures same { F.contents files.new ≡ F.contents files.old }

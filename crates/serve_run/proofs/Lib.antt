@@ -2,3 +2,4 @@ pub mod ServingLemmas
 pub mod PutLemmas
 pub mod Gained
 pub mod CountLemmas
+pub mod Added

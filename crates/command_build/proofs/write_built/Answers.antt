@@ -14,6 +14,7 @@ use Rattle.site_inputs.specs.Values.{inputs_of}
 use Rattle.site_inputs.proofs.Sites.{root_copied}
 use Rattle.command_build.specs.Ends.{IsSiteFile}
 use Rattle.command_build.proofs.Built.{built_told, unbuilt_told, site_file, unwritten_again, no_write}
+use Rattle.command_build.proofs.Courses.{written_added, unwritten_added}
 use Rattle.command_build.proofs.write_built.Goals as goal
 
 pub write_site-requires-clause-present : goal.write_site-requires-clause-present
@@ -77,3 +78,35 @@ pub returns-in_err-line-clause-cause : goal.returns-in_err-line-clause-cause
 returns-in_err-line-clause-cause g c =
     let p = err_from_is_err_and c.from_residual-in_err-line.result c.from_residual-in_err-line.ensures.1 in
     no_write (IsSiteFile (inputs_of c.args.inputs) c.args.folder.now) (g.F.Files.failed_writes c.args.files.now) c.from_residual-in_err-line.result (p.1 ∙ ap (λ (r : Stop). Err r) p.2)
+
+pub returns-in-Ok-clause-traced : goal.returns-in-Ok-clause-traced
+returns-in-Ok-clause-traced g c =
+    written_added (inputs_of c.args.inputs) _ _ _ _ c.args.folder.now c.as_slice-terms.result.now (Ok c.in_ok-line.line) _ _
+    (c.in_ok-whole.ensures.graph ∙ c.of-asker.ensures.store ∙ c.in_ok-store.ensures)
+    (ap scope_of c.in_ok-whole.ensures.scopes ∙ c.in_ok-scopes.ensures.scope)
+    (ap file_of c.in_ok-whole.ensures.templates)
+    (root_copied c.root_of-root.result ∙ c.root_of-root.ensures ∙ ap (λ s. root_of_bodies s.bodies) c.in_ok-scopes.ensures.scope)
+    (subst (ListsExactly term_cmp (IsPresent (site_of _ (scope_of c.in_ok-whole.whole.scopes.now)) (file_of c.in_ok-whole.whole.templates.now))) (sym c.as_slice-terms.ensures.value) c.in_ok-pages.ensures)
+    c.in_ok-line.ensures
+    c.in-Ok.ensures.traced
+
+pub returns-clause-traced : goal.returns-clause-traced
+returns-clause-traced g c =
+    written_added (inputs_of c.args.inputs) _ _ _ _ c.args.folder.now c.as_slice-terms.result.now (Err c.in-Err.stop) _ _
+    (c.in_ok-whole.ensures.graph ∙ c.of-asker.ensures.store ∙ c.in_ok-store.ensures)
+    (ap scope_of c.in_ok-whole.ensures.scopes ∙ c.in_ok-scopes.ensures.scope)
+    (ap file_of c.in_ok-whole.ensures.templates)
+    (root_copied c.root_of-root.result ∙ c.root_of-root.ensures ∙ ap (λ s. root_of_bodies s.bodies) c.in_ok-scopes.ensures.scope)
+    (subst (ListsExactly term_cmp (IsPresent (site_of _ (scope_of c.in_ok-whole.whole.scopes.now)) (file_of c.in_ok-whole.whole.templates.now))) (sym c.as_slice-terms.ensures.value) c.in_ok-pages.ensures)
+    tt
+    c.in-Err.ensures.traced
+
+pub returns-in_err-pages-clause-traced : goal.returns-in_err-pages-clause-traced
+returns-in_err-pages-clause-traced g c =
+    let p = err_from_is_err_and c.from_residual-in_err-pages.result c.from_residual-in_err-pages.ensures.1 in
+    unwritten_added (inputs_of c.args.inputs) c.args.folder.now c.from_residual-in_err-pages.result (g.F.Files.trace c.args.files.now) (p.1 ∙ ap (λ (r : Stop). Err r) p.2)
+
+pub returns-in_err-line-clause-traced : goal.returns-in_err-line-clause-traced
+returns-in_err-line-clause-traced g c =
+    let p = err_from_is_err_and c.from_residual-in_err-line.result c.from_residual-in_err-line.ensures.1 in
+    unwritten_added (inputs_of c.args.inputs) c.args.folder.now c.from_residual-in_err-line.result (g.F.Files.trace c.args.files.now) (p.1 ∙ ap (λ (r : Stop). Err r) p.2)

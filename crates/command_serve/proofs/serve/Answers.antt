@@ -1,8 +1,9 @@
 use Rattle.std.specs.Prelude.{None}
-use Rattle.std.proofs.Common.{inl, Ok}
+use Rattle.std.proofs.Common.{inl, Ok, []}
 use Rattle.site_inputs.specs.Values.{inputs_of}
 use Rattle.site_inputs.specs.Outside.{outside}
 use Rattle.command_serve.proofs.Told.{never_silent, never_usage, over_read_rose}
+use Rattle.command_serve.proofs.Courses.{reads_then_serves, reads_stop_serve}
 use Rattle.command_serve.proofs.serve.Goals as goal
 
 pub returns-in-Ok-clause-silent : goal.returns-in-Ok-clause-silent
@@ -30,5 +31,15 @@ returns-in-Ok-clause-ends g c = λ x e.
     inl (record {
       inputs = inputs_of c.in-Ok.inputs;
       taken = (c.in-Ok.ensures.ends x e);
-      ends = c.serve_over.ensures.ends x x (g.F.Files.failed_reads c.args.files.now) (g.F.Files.failed_reads c.load_inputs.new.files) (g.F.Files.failed_writes c.args.files.now) (g.F.Files.failed_writes c.load_inputs.new.files);
+      ends = c.serve_over.ensures.ends x x (g.F.Files.failed_reads c.args.files.now) (g.F.Files.failed_reads c.load_noted.new.files) (g.F.Files.failed_writes c.args.files.now) (g.F.Files.failed_writes c.load_noted.new.files);
     })
+
+pub returns-in-Ok-clause-course : goal.returns-in-Ok-clause-course
+returns-in-Ok-clause-course g c =
+    reads_then_serves c.args.command.now (g.O.Sink.stream c.args.out.now) (g.F.Files.contents c.args.files.now) (g.W.Wire.told c.args.wire.now) (g.W.Wire.told c.serve_over.new.wire) c.serve_over.result
+    (g.L.Trace.events c.args.log.now) (g.L.Trace.events c.load_noted.new.log) (g.L.Trace.events c.serve_over.new.log) c.in-Ok.inputs c.in-Ok.ensures.course c.serve_over.ensures.course
+
+pub returns-in-Err-clause-course : goal.returns-in-Err-clause-course
+returns-in-Err-clause-course g c =
+    reads_stop_serve c.args.command.now (g.O.Sink.stream c.args.out.now) (g.F.Files.contents c.args.files.now) (g.W.Wire.told c.args.wire.now) (g.W.Wire.told c.args.wire.now) c.from.result
+    (g.L.Trace.events c.args.log.now) (g.L.Trace.events c.load_noted.new.log) [] c.in-Err.fault c.from.ensures c.in-Err.ensures.course
