@@ -2,6 +2,7 @@
 ghost use Rattle.std.specs.Prelude.{◌≡◌};
 ghost use Rattle.std.specs.Option.{ForSome};
 ghost use Rattle.command_spec.specs.Inputs.{inputs_of_report};
+ghost use Rattle.site_inputs.specs.Reads.{Reads};
 ghost use Rattle.site_inputs.specs.Runs.{ReadsHaveCause};
 ghost use Rattle.command_answers.specs.Reports.{ReportAnswers};
 
@@ -25,6 +26,9 @@ pub fn report_answer<F: Files>(
     ensures same { F.contents files.new ≡ F.contents files.old }
     ensures cause { ReadsHaveCause (inputs_of_report command.now)
         (F.failed_reads files.old) (F.failed_reads files.new) result }
+    ensures traced { Reads (inputs_of_report command.now)
+        (F.trace files.old) (F.trace files.new) (F.contents files.old) result
+        (λ map. ReportAnswers map command.now result) }
 {
     match command {
         ReportCommand::Check(c) => check_here(alloc, files, &c.sources, &c.query, &c.constraints),

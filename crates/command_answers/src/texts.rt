@@ -3,6 +3,7 @@ ghost use Rattle.std.specs.Prelude.{◌≡◌};
 ghost use Rattle.std.specs.Option.{ForSome};
 ghost use Rattle.command_spec.specs.Inputs.{inputs_of_text};
 ghost use Rattle.command_spec.specs.Ranges.{IsTextInRange};
+ghost use Rattle.site_inputs.specs.Reads.{Reads};
 ghost use Rattle.site_inputs.specs.Runs.{ReadsHaveCause};
 ghost use Rattle.command_answers.specs.Texts.{TextAnswers};
 
@@ -31,6 +32,9 @@ pub fn text_answer<F: Files>(
     ensures same { F.contents files.new ≡ F.contents files.old }
     ensures cause { ReadsHaveCause (inputs_of_text command.now)
         (F.failed_reads files.old) (F.failed_reads files.new) result }
+    ensures traced { Reads (inputs_of_text command.now)
+        (F.trace files.old) (F.trace files.new) (F.contents files.old) result
+        (λ map. TextAnswers map command.now result) }
 {
     match command {
         TextCommand::Page(command) => page(alloc, files, command),

@@ -2,6 +2,7 @@
 ghost use Rattle.std.specs.Prelude.{◌≡◌};
 ghost use Rattle.std.specs.Option.{ForSome};
 ghost use Rattle.command_spec.specs.Inputs.{check_paths};
+ghost use Rattle.site_inputs.specs.Reads.{Reads};
 ghost use Rattle.site_inputs.specs.Runs.{ReadsHaveCause};
 ghost use Rattle.command_check.specs.CheckEnds.{VerdictsTaken, CheckEnds};
 
@@ -49,6 +50,9 @@ pub fn check_all<F: Files>(
     ensures cause { ReadsHaveCause (check_paths query.now constraints.now)
         (F.failed_reads files.old) (F.failed_reads files.new) result }
     ensures writes { F.failed_writes files.new ≡ F.failed_writes files.old }
+    ensures traced { Reads (check_paths query.now constraints.now)
+        (F.trace files.old) (F.trace files.new) (F.contents files.old) result
+        (λ map. CheckEnds map query.now constraints.now result) }
 {
     let query = load_scoped_query(alloc, files, query)?;
     let constraints = load_constraints(alloc, files, &query, constraints)?;

@@ -2,6 +2,7 @@
 ghost use Rattle.std.specs.Prelude.{◌≡◌};
 ghost use Rattle.std.specs.Option.{ForSome};
 ghost use Rattle.command_spec.specs.Inputs.{here_paths};
+ghost use Rattle.site_inputs.specs.Reads.{Reads};
 ghost use Rattle.site_inputs.specs.Runs.{ReadsHaveCause};
 ghost use Rattle.command_check.specs.Ends.{ReportTaken, HereEnds};
 
@@ -51,6 +52,9 @@ pub fn check_here<F: Files>(
     ensures cause { ReadsHaveCause (here_paths sources.now query.now constraints.now)
         (F.failed_reads files.old) (F.failed_reads files.new) result }
     ensures writes { F.failed_writes files.new ≡ F.failed_writes files.old }
+    ensures traced { Reads (here_paths sources.now query.now constraints.now)
+        (F.trace files.old) (F.trace files.new) (F.contents files.old) result
+        (λ map. HereEnds map sources.now query.now constraints.now result) }
 {
     let graph = load_graph(alloc, files, sources)?;
     let query = load_scoped_query(alloc, files, query)?;

@@ -1,6 +1,7 @@
 // The query of a file, with its blocks.
 ghost use Rattle.std.specs.Prelude.{◌≡◌, ◌∷◌, []};
 ghost use Rattle.std.specs.Option.{ForSome};
+ghost use Rattle.site_inputs.specs.Reads.{Reads};
 ghost use Rattle.site_inputs.specs.Runs.{ReadsHaveCause};
 ghost use Rattle.site_inputs.specs.Sites.{QueryEnds};
 
@@ -23,6 +24,9 @@ pub(crate) fn load_scoped_query<F: Files>(
     ensures cause { ReadsHaveCause (path.now ∷ [])
         (F.failed_reads files.old) (F.failed_reads files.new) result }
     ensures writes { F.failed_writes files.new ≡ F.failed_writes files.old }
+    ensures traced { Reads (path.now ∷ [])
+        (F.trace files.old) (F.trace files.new) (F.contents files.old) result
+        (λ map. QueryEnds map path.now result) }
 {
     let query = load_query(alloc, files, path)?;
     let scoped = ScopedQuery::of(alloc, query)?;

@@ -4,6 +4,7 @@
 ghost use Rattle.std.specs.Prelude.{◌≡◌};
 ghost use Rattle.std.specs.Option.{ForSome};
 ghost use Rattle.command_spec.specs.Inputs.{data_paths};
+ghost use Rattle.site_inputs.specs.Reads.{Reads};
 ghost use Rattle.site_inputs.specs.Runs.{ReadsHaveCause};
 ghost use Rattle.command_data.specs.Ends.{DataEnds};
 
@@ -25,6 +26,9 @@ pub fn data<F: Files>(alloc: Global, files: &mut F, command: &DataCommand) -> Re
     ensures same { F.contents files.new ≡ F.contents files.old }
     ensures cause { ReadsHaveCause (data_paths command.now.sources command.now.over)
         (F.failed_reads files.old) (F.failed_reads files.new) result }
+    ensures traced { Reads (data_paths command.now.sources command.now.over)
+        (F.trace files.old) (F.trace files.new) (F.contents files.old) result
+        (λ map. DataEnds map command.now result) }
 {
     let data = load_data(alloc, files, &command.sources, &command.over)?;
     let mut text = Vec::new(alloc);

@@ -3,6 +3,7 @@
 
 ghost use Rattle.std.specs.Prelude.{◌≡◌};
 ghost use Rattle.std.specs.Option.{ForSome};
+ghost use Rattle.site_inputs.specs.Reads.{Reads};
 ghost use Rattle.site_inputs.specs.Runs.{ReadsHaveCause};
 ghost use Rattle.command_spec.specs.Inputs.{explain_paths};
 ghost use Rattle.command_explain.specs.Ends.{ExplainTaken, ExplainEnds};
@@ -43,6 +44,9 @@ pub fn explain<F: Files>(
     ensures same { F.contents files.new ≡ F.contents files.old }
     ensures cause { ReadsHaveCause (explain_paths command.now)
         (F.failed_reads files.old) (F.failed_reads files.new) result }
+    ensures traced { Reads (explain_paths command.now)
+        (F.trace files.old) (F.trace files.new) (F.contents files.old) result
+        (λ map. ExplainEnds map command.now result) }
 {
     let graph = load_graph(alloc, files, &command.sources)?;
     let query = load_query(alloc, files, &command.query)?;

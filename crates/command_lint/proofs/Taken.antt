@@ -14,6 +14,7 @@ use Rattle.site_inputs.specs.declared.fault.Fault.TheVariants.{Refused, Unread, 
 use Rattle.site_inputs.specs.Runs.{Then, FileEnds, ReadsHaveCause}
 use Rattle.site_inputs.specs.Sources.{GraphEnds, empty_building}
 use Rattle.site_inputs.specs.Sites.{QueryTaken, TemplatesTaken}
+use Rattle.site_inputs.proofs.ReadLemmas.{IsRead}
 use Rattle.command_lint.specs.Ends.{LintTaken, LintEnds, texts_of}
 use Rattle.command_lint.proofs.Law.{WithGraph, WithQueryBytes, WithQuery, WithTemplates, Judged}
 
@@ -22,12 +23,11 @@ then_next : {A B : Type 0} (First : Result A Fault → Type 0) (Next : A → Res
 then_next First Next a (Ok b) first next = record { value = a; first = first; next = next }
 then_next First Next a (Err fault) first next = inr (record { value = a; first = first; next = next })
 
--- the texts are judged by their bytes
-pub judged_as : (graph : DataGraph) (query : plain.Query) (templates : TemplateFile) (query_path q query_bytes templates_path t template_bytes : List ℕ) (result : Result Report Fault) → q ≡ query_bytes → t ≡ template_bytes
-    → LintTaken graph query templates (texts_of query_path q templates_path t) result → LintTaken graph query templates (texts_of query_path query_bytes templates_path template_bytes) result
-judged_as graph query templates query_path q query_bytes templates_path t template_bytes result one other h =
-    subst (λ (x : List ℕ). LintTaken graph query templates (texts_of query_path query_bytes templates_path x) result) other
-    (subst (λ (x : List ℕ). LintTaken graph query templates (texts_of query_path x templates_path t) result) one h)
+-- the templates are judged by their bytes
+pub judged_as : (graph : DataGraph) (query : plain.Query) (templates : TemplateFile) (query_path query_bytes templates_path t template_bytes : List ℕ) (result : Result Report Fault) → t ≡ template_bytes
+    → LintTaken graph query templates (texts_of query_path query_bytes templates_path t) result → LintTaken graph query templates (texts_of query_path query_bytes templates_path template_bytes) result
+judged_as graph query templates query_path query_bytes templates_path t template_bytes result same h =
+    subst (λ (x : List ℕ). LintTaken graph query templates (texts_of query_path query_bytes templates_path x) result) same h
 
 module _ (map : FileMap) (sources : DataFiles) (query_path templates_path : List ℕ) (graph : DataGraph) (is_graph : GraphEnds map empty_building sources (Ok graph)) where
   -- behind the data
@@ -82,3 +82,19 @@ templates_cause path bytes paths before now NoMemory later taken = record { late
 templates_cause path bytes paths before now (Unread p) later taken = absurd taken
 templates_cause path bytes paths before now (Faulty term kind) later taken = absurd taken
 templates_cause path bytes paths before now NotFound later taken = absurd taken
+
+-- ---- a text that is refused is read
+
+pub query_is_read : (path bytes : List ℕ) (fault : Fault) → QueryTaken path bytes (Err fault) → IsRead {A = Report} (Err fault)
+query_is_read path bytes (Refused r) taken = tt
+query_is_read path bytes (Unread p) taken = absurd taken
+query_is_read path bytes (Faulty term kind) taken = tt
+query_is_read path bytes NotFound taken = tt
+query_is_read path bytes NoMemory taken = tt
+
+pub templates_are_read : (path bytes : List ℕ) (fault : Fault) → TemplatesTaken path bytes (Err fault) → IsRead {A = Report} (Err fault)
+templates_are_read path bytes (Refused r) taken = tt
+templates_are_read path bytes (Unread p) taken = absurd taken
+templates_are_read path bytes (Faulty term kind) taken = tt
+templates_are_read path bytes NotFound taken = tt
+templates_are_read path bytes NoMemory taken = tt

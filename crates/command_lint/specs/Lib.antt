@@ -1,4 +1,5 @@
 pub mod Lines
+pub mod Asks
 pub mod Ends
 pub mod Law
 pub mod Links

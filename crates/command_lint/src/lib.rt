@@ -4,21 +4,24 @@
 ghost use Rattle.std.specs.Prelude.{◌≡◌};
 ghost use Rattle.std.specs.Option.{ForSome};
 ghost use Rattle.command_spec.specs.Inputs.{input_paths};
+ghost use Rattle.site_inputs.specs.Reads.{Reads};
 ghost use Rattle.site_inputs.specs.Runs.{ReadsHaveCause};
 ghost use Rattle.command_lint.specs.Ends.{LintEnds};
 
+mod asked;
 mod laws;
 mod lines;
 mod link_answers;
 mod texts;
 
+use crate::asked::take_asked;
 use crate::texts::{InputText, report_of};
 use command_spec::{DataFiles, TEXT_LIMIT};
 use edge_io::Files;
 pub use laws::reports_are_decided;
 use run_report::Report;
 use sd_value::Str;
-use site_inputs::{Fault, load_graph, read_file, take_query, take_templates};
+use site_inputs::{Fault, load_graph, read_file, take_templates};
 use std::alloc::Global;
 
 /// What a query and its templates ask for and isn't there, over the data: a line for each finding, those in the query
@@ -38,27 +41,19 @@ pub fn lint<F: Files>(
     ensures cause { ReadsHaveCause (input_paths sources.now.paths query_path.now templates_path.now)
         (F.failed_reads files.old) (F.failed_reads files.new) result }
     ensures writes { F.failed_writes files.new ≡ F.failed_writes files.old }
+    ensures traced { Reads (input_paths sources.now.paths query_path.now templates_path.now)
+        (F.trace files.old) (F.trace files.new) (F.contents files.old) result
+        (λ map. LintEnds map sources.now query_path.now templates_path.now result) }
 {
     let graph = load_graph(alloc, files, sources)?;
     let query_bytes = read_file(alloc, files, query_path, TEXT_LIMIT)?;
-    let query = take_query(alloc, query_path, query_bytes.bytes())?;
+    let query = take_asked(alloc, query_path, query_bytes.bytes())?;
     let template_bytes = read_file(alloc, files, templates_path, TEXT_LIMIT)?;
     let templates = take_templates(alloc, templates_path, template_bytes.bytes())?;
-    let query_text = InputText {
-        path: query_path,
-        bytes: query_bytes.bytes(),
-    };
     let template_text = InputText {
         path: templates_path,
         bytes: template_bytes.bytes(),
     };
-    let report = report_of(
-        alloc,
-        graph,
-        &query,
-        &query_text,
-        &templates,
-        &template_text,
-    )?;
+    let report = report_of(alloc, graph, query_path, &query, &templates, &template_text)?;
     Ok(report)
 }

@@ -5,7 +5,7 @@ ghost use Rattle.command_lint.specs.Lines.{name_of as name_by, finding_line};
 
 use lint_spec::Finding;
 use sd_value::{NoMemory, Str};
-use std::alloc::Global;
+use token_writer::put_number;
 
 // The name of a mistake of this number.
 fn name_of(number: u32) -> &'static [u8]
@@ -27,22 +27,17 @@ fn name_of(number: u32) -> &'static [u8]
 }
 
 // Adds the line of a finding in the file.
-fn push_line(
-    alloc: Global,
-    text: &mut Vec<u8>,
-    path: &Str,
-    finding: &Finding,
-) -> Result<(), NoMemory>
+fn push_line(text: &mut Vec<u8>, path: &Str, finding: &Finding) -> Result<(), NoMemory>
     ensures { IfOk result (λ _. text.new.items
         ≡ text.old.items ++ finding_line path.now finding.now) }
 {
     text.extend_from_slice(path.bytes())?;
     text.extend_from_slice(b": ")?;
-    text.extend_from_slice(finding.number.to_string(alloc)?.as_bytes())?;
+    put_number(finding.number as u128, text)?;
     text.extend_from_slice(b" ")?;
     text.extend_from_slice(name_of(finding.number))?;
     text.extend_from_slice(b" at ")?;
-    text.extend_from_slice(finding.at.to_string(alloc)?.as_bytes())?;
+    put_number(finding.at as u128, text)?;
     text.extend_from_slice(b"\n")?;
     Ok(())
 }
@@ -51,7 +46,6 @@ fn push_line(
 /// # Errors
 /// Out of memory.
 pub(crate) fn push_lines(
-    alloc: Global,
     text: &mut Vec<u8>,
     path: &Str,
     findings: &[Finding],
@@ -60,7 +54,7 @@ pub(crate) fn push_lines(
         ≡ text.old.items ++ flat_map (finding_line path.now) findings.now) }
 {
     for finding in findings {
-        push_line(alloc, text, path, finding)?;
+        push_line(text, path, finding)?;
     }
     Ok(())
 }

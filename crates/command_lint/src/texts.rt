@@ -1,14 +1,13 @@
 // The findings of a query's text and of its templates'.
-ghost use Rattle.std.specs.Prelude.{◌≡◌, ◌++◌, ◌↔◌, [], IfOk, IsTrue};
+ghost use Rattle.std.specs.Prelude.{◌≡◌, ◌++◌, ◌↔◌, ℕ, List, [], IfOk, IsTrue};
 ghost use Rattle.std.specs.List.{flat_map};
-ghost use Rattle.command_spec.specs.Limits.{text_limit};
-ghost use Rattle.struql_ast.specs.Written.{query_written};
-ghost use Rattle.query_reader.specs.Reads.{Spells};
 ghost use Rattle.template_items.specs.Scanning.{AreItems};
 ghost use Rattle.tmpl.specs.Reading.{file_of};
 ghost use Rattle.command_lint.specs.Lines.{finding_line};
+ghost use Rattle.command_lint.specs.Asks.{Asks};
 ghost use Rattle.command_lint.specs.Ends.{IsLintReport, texts_of};
 
+use crate::asked::AskedQuery;
 use crate::lines::push_lines;
 use crate::link_answers::QueryLinks;
 use bindings::StoreAsker;
@@ -21,11 +20,8 @@ use sd_graph::Graph;
 use sd_value::{NoMemory, Str};
 use site_lint::{LintedSite, blocks_without_rows, findings_of, names_of};
 use std::alloc::Global;
-use struql_ast::Query;
-use struql_check::Checked;
-use struql_parse::parse;
 use template_items::{Item, items};
-use text_claims::further_labels;
+use text_claims::{claims_of_templates, further_labels};
 use tmpl::Templates;
 
 /// A text, and the path of its file.
@@ -33,17 +29,6 @@ use tmpl::Templates;
 pub(crate) struct InputText<'a> {
     pub path: &'a Str,
     pub bytes: &'a [u8],
-}
-
-// The query that the text spells, with its places.
-fn written_query(alloc: Global, bytes: &[u8]) -> Result<Query, NoMemory>
-    ensures { IfOk result (λ query. Spells text_limit bytes.now (query_written query)) }
-{
-    // The text was read before, so that only memory is missing here.
-    match parse(alloc, bytes, TEXT_LIMIT) {
-        Ok(query) => Ok(query),
-        Err(_) => Err(NoMemory),
-    }
 }
 
 // The items of the text of a file of templates.
@@ -79,8 +64,8 @@ fn report(
         ↔ (in_query.now ++ in_templates.now ≡ [])) }
 {
     let mut text = Vec::new(alloc);
-    push_lines(alloc, &mut text, query_path, in_query)?;
-    push_lines(alloc, &mut text, templates_path, in_templates)?;
+    push_lines(&mut text, query_path, in_query)?;
+    push_lines(&mut text, templates_path, in_templates)?;
     let text = Str::of(alloc, text)?;
     Ok(Report {
         text,
@@ -94,19 +79,19 @@ fn report(
 pub(crate) fn report_of(
     alloc: Global,
     graph: Graph,
-    query: &Checked,
-    query_text: &InputText,
+    query_path: &Str,
+    query: &AskedQuery,
     templates: &Templates,
     template_text: &InputText,
 ) -> Result<Report, NoMemory>
-    ensures { IfOk result (λ r. IsLintReport graph query.now (file_of templates.now)
-        (texts_of query_text.now.path.now query_text.now.bytes.now
+    ensures { (bytes : List ℕ) → Asks bytes query.now.asked.items → IfOk result (λ r.
+        IsLintReport graph query.now.checked (file_of templates.now)
+        (texts_of query_path.now bytes
         template_text.now.path.now template_text.now.bytes.now) r.text r.passed) }
 {
-    let written = written_query(alloc, query_text.bytes)?;
     let items = template_items(alloc, template_text.bytes)?;
     let further = further_labels(alloc, &items)?;
-    let scopes = scopes(alloc, query)?;
+    let scopes = scopes(alloc, &query.checked)?;
     let store = IndexStore::of(alloc, graph)?;
     let mut asker = StoreAsker::of(store);
     let without_rows = blocks_without_rows(alloc, &mut asker, &scopes)?;
@@ -121,13 +106,12 @@ pub(crate) fn report_of(
         names: &names,
         without_rows: &without_rows,
     };
-    let asked = text_claims::claims_of_query(alloc, &written)?;
-    let in_query = findings_of(alloc, &site, &asked)?;
-    let asked = text_claims::claims_of_templates(alloc, &items)?;
+    let in_query = findings_of(alloc, &site, &query.asked)?;
+    let asked = claims_of_templates(alloc, &items)?;
     let in_templates = findings_of(alloc, &site, &asked)?;
     report(
         alloc,
-        query_text.path,
+        query_path,
         &in_query,
         template_text.path,
         &in_templates,

@@ -7,6 +7,7 @@ ghost use Rattle.tmpl.specs.Reading.{file_of};
 ghost use Rattle.page_spec.specs.Page.{IsOutcome};
 ghost use Rattle.weight_spec.specs.Site.{site_of};
 ghost use Rattle.query_blocks.specs.Blocks.{scope_of, AreCheckedBlocks};
+ghost use Rattle.site_inputs.specs.Reads.{Reads};
 ghost use Rattle.site_inputs.specs.Runs.{ReadsHaveCause};
 ghost use Rattle.command_spec.specs.Inputs.{data_paths, input_paths};
 ghost use Rattle.site_inputs.specs.Values.{inputs_of};
@@ -92,6 +93,11 @@ pub fn page<F: Files>(alloc: Global, files: &mut F, command: &PageCommand) -> Re
         (input_paths (data_paths command.now.sources command.now.over)
         command.now.query command.now.templates)
         (F.failed_reads files.old) (F.failed_reads files.new) result }
+    ensures traced { Reads
+        (input_paths (data_paths command.now.sources command.now.over)
+        command.now.query command.now.templates)
+        (F.trace files.old) (F.trace files.new) (F.contents files.old) result
+        (λ map. PageEnds map command.now result) }
 {
     let inputs = load_inputs(
         alloc,

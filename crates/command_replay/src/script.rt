@@ -11,7 +11,7 @@ use data_source::told_of_text;
 use edge_io::Files;
 use run_report::Place;
 use script_reader::read_script;
-use sd_value::Str;
+use sd_value::{NoMemory, Str};
 use site_inputs::{Fault, read_file, refused};
 use std::alloc::Global;
 use wire::WireEvent;
@@ -22,8 +22,8 @@ fn take_script(alloc: Global, path: &Str, bytes: &[u8]) -> Result<Vec<WireEvent>
     match read_script(alloc, bytes, SCRIPT_LIMIT) {
         Ok(events) => Ok(events),
         Err(refusal) => match told_of_text(&refusal, 111) {
-            Some(told) => Err(refused(alloc, path, told.number, Place::At(told.at))),
-            None => Err(Fault::NoMemory),
+            Ok(told) => Err(refused(alloc, path, told.number, Place::At(told.at))),
+            Err(NoMemory) => Err(Fault::NoMemory),
         },
     }
 }

@@ -6,3 +6,4 @@ pub mod Complete
 pub mod Checked
 pub mod Linted
 pub mod Exits
+pub mod Courses

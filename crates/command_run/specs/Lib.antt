@@ -1,3 +1,4 @@
 pub mod Top
 pub mod Complete
 pub mod Main
+pub mod IsRun

@@ -4,6 +4,7 @@
 #![tactic(auto)]
 
 mod given;
+mod lent;
 mod no_words;
 mod top;
 mod whole;

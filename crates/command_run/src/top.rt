@@ -1,8 +1,9 @@
 // The whole run.
-ghost use Rattle.std.specs.Prelude.{◌≡◌, ◌⊎◌, None, Some};
+ghost use Rattle.std.specs.Prelude.{◌≡◌, ◌⊎◌, ◌++◌, List, None, Some};
 ghost use Rattle.std.specs.Option.{ForSome, IsSomeAnd};
 ghost use Rattle.edge_io.specs.Counts.{Rose};
 ghost use Rattle.edge_io.specs.Sink.{Gains, GainsPart};
+ghost use Rattle.happenings.specs.Happening.{Happening};
 ghost use Rattle.command_spec.specs.Words.{command};
 ghost use Rattle.command_spec.specs.Ranges.{IsInRange};
 ghost use Rattle.run_report.specs.Report.{line};
@@ -12,30 +13,39 @@ ghost use Rattle.command_run.specs.Complete.{IsComplete};
 ghost use Rattle.command_spec.specs.Inputs.{inputs_of_command, given_inputs};
 ghost use Rattle.command_run.specs.Top.{Ends, AnswerEnds, text_report, RunEnds, IsExact, AnswersHold};
 ghost use Rattle.command_run.specs.Top.{FindingsAreTold, WriteRose, WritesNoFile, UsesNoWire};
+ghost use Rattle.command_run.specs.IsRun.{AnswerPuts, CommandCourse, Course, CourseThenLine};
 
 use crate::given::GivenWords;
-use command_answers::{report_answer, text_answer};
+use crate::lent::{line_lent, report_lent, text_lent};
 use command_build::build;
 use command_replay::replay;
 use command_serve::serve;
 use command_spec::Command;
 use edge_io::{Files, Sink};
-use run_report::{Report, Status, report};
+use happenings::Trace;
+use run_report::{Report, Status, put_noted};
 use sd_value::Str;
 use site_inputs::Fault;
 use std::alloc::Global;
 use wire::Wire;
 
 // Puts the text that a command is answered, or gives the status of the fault.
-fn put_answer<O: Sink>(answer: Result<Str, Fault>, out: &mut O) -> Status
+fn put_answer<L: Trace, O: Sink<Log = L>>(
+    log: &mut L,
+    answer: Result<Str, Fault>,
+    out: &mut O,
+) -> Status
     ensures ends { AnswerEnds text_report (λ a. a ≡ answer)
         (O.text out.old) (O.text out.new) result }
     ensures words { result ≡ Status.Usage → ⊥ }
     ensures silent { IsSilent result → out.new ≡ out.old }
     ensures write_cause { result ≡ Status.WriteFault → Rose (O.failed out.old) (O.failed out.new) }
+    ensures puts { (puts : List Happening) × (L.events log.new ≡ L.events log.old ++ puts)
+        × AnswerPuts text_report (O.stream out.old) answer puts result }
+    ensures lent { O.trace out.new ≡ O.trace out.old }
 {
     match answer {
-        Ok(text) => match out.put(text.bytes()) {
+        Ok(text) => match put_noted(log, text.bytes(), out) {
             Ok(()) => Status::Ok,
             Err(_) => Status::WriteFault,
         },
@@ -44,15 +54,22 @@ fn put_answer<O: Sink>(answer: Result<Str, Fault>, out: &mut O) -> Status
 }
 
 // Puts the text of the report that a command is answered, or gives the status of the fault.
-fn put_report<O: Sink>(answer: Result<Report, Fault>, out: &mut O) -> Status
+fn put_report<L: Trace, O: Sink<Log = L>>(
+    log: &mut L,
+    answer: Result<Report, Fault>,
+    out: &mut O,
+) -> Status
     ensures ends { AnswerEnds (λ report. report) (λ a. a ≡ answer)
         (O.text out.old) (O.text out.new) result }
     ensures words { result ≡ Status.Usage → ⊥ }
     ensures silent { IsSilent result → out.new ≡ out.old }
     ensures write_cause { result ≡ Status.WriteFault → Rose (O.failed out.old) (O.failed out.new) }
+    ensures puts { (puts : List Happening) × (L.events log.new ≡ L.events log.old ++ puts)
+        × AnswerPuts (λ report. report) (O.stream out.old) answer puts result }
+    ensures lent { O.trace out.new ≡ O.trace out.old }
 {
     match answer {
-        Ok(report) => match out.put(report.text.bytes()) {
+        Ok(report) => match put_noted(log, report.text.bytes(), out) {
             Ok(()) => {
                 if report.passed {
                     Status::Ok
@@ -67,8 +84,9 @@ fn put_report<O: Sink>(answer: Result<Report, Fault>, out: &mut O) -> Status
 }
 
 // Runs a command.
-fn run_command<F: Files, O: Sink, W: Wire>(
+fn run_command<L: Trace, F: Files<Log = L>, O: Sink<Log = L>, W: Wire<Log = L>>(
     alloc: Global,
+    log: &mut L,
     files: &mut F,
     out: &mut O,
     wire: &mut W,
@@ -95,26 +113,32 @@ fn run_command<F: Files, O: Sink, W: Wire>(
         → WriteRose (Some command.now) (F.contents files.old)
         (F.failed_writes files.old) (F.failed_writes files.new)
         (Rose (O.failed out.old) (O.failed out.new)) }
+    ensures course { (course : List Happening) × (L.events log.new ≡ L.events log.old ++ course)
+        × CommandCourse (O.stream out.old) (F.contents files.old) (W.told wire.old)
+        (W.told wire.new) command.now course result }
+    ensures lent { (F.trace files.new ≡ F.trace files.old) × (O.trace out.new ≡ O.trace out.old)
+        × (W.trace wire.new ≡ W.trace wire.old) }
 {
     match command {
         Command::Text(command) => {
-            let answer = text_answer(alloc, files, command);
-            put_answer(answer, out)
+            let answer = text_lent(alloc, log, files, command);
+            put_answer(log, answer, out)
         }
         Command::Report(command) => {
-            let answer = report_answer(alloc, files, command);
-            put_report(answer, out)
+            let answer = report_lent(alloc, log, files, command);
+            put_report(log, answer, out)
         }
-        Command::Build(command) => build(alloc, files, out, command),
-        Command::Serve(command) => serve(alloc, files, out, wire, command),
-        Command::Replay(command) => replay(alloc, files, out, command),
+        Command::Build(command) => build(alloc, log, files, out, command),
+        Command::Serve(command) => serve(alloc, log, files, out, wire, command),
+        Command::Replay(command) => replay(alloc, log, files, out, command),
     }
 }
 
 // Runs the command of the words.
-fn run<F: Files, O: Sink, W: Wire>(
+fn run<L: Trace, F: Files<Log = L>, O: Sink<Log = L>, W: Wire<Log = L>>(
     alloc: Global,
     words: &GivenWords,
+    log: &mut L,
     files: &mut F,
     out: &mut O,
     wire: &mut W,
@@ -142,18 +166,25 @@ fn run<F: Files, O: Sink, W: Wire>(
         → WriteRose (command words.now) (F.contents files.old)
         (F.failed_writes files.old) (F.failed_writes files.new)
         (Rose (O.failed out.old) (O.failed out.new)) }
+    ensures course { (course : List Happening) × (L.events log.new ≡ L.events log.old ++ course)
+        × Course (O.stream out.old) (F.contents files.old) (W.told wire.old) (W.told wire.new)
+        (command words.now) course result }
+    ensures lent { (F.trace files.new ≡ F.trace files.old) × (O.trace out.new ≡ O.trace out.old)
+        × (W.trace wire.new ≡ W.trace wire.old) }
 {
     match words.command() {
-        Some(command) => run_command(alloc, files, out, wire, command),
+        Some(command) => run_command(alloc, log, files, out, wire, command),
         None => Status::Usage,
     }
 }
 
-/// Does all that the program does. `words` are those after the program's name. The answer is put on `out`, and a line
-/// on `err` reports any other end; the status has the exit code. `serve` takes its connections from `wire`.
-pub fn strudel<F: Files, O: Sink, E: Sink, W: Wire>(
+/// Does all that the program does, and notes in `log` all that happens. `words` are those after the program's name. The
+/// answer is put on `out`, and a line on `err` reports any other end; the status has the exit code. `serve` takes its
+/// connections from `wire`.
+pub fn strudel<L: Trace, F: Files<Log = L>, O: Sink<Log = L>, E: Sink<Log = L>, W: Wire<Log = L>>(
     alloc: Global,
     words: &GivenWords,
+    log: &mut L,
     files: &mut F,
     out: &mut O,
     err: &mut E,
@@ -223,7 +254,16 @@ pub fn strudel<F: Files, O: Sink, E: Sink, W: Wire>(
     ensures line { ¬ Rose (E.failed err.old) (E.failed err.new)
         → Gains (E.text err.old) (E.text err.new) (line result) }
     ensures part { GainsPart (E.text err.old) (E.text err.new) (line result) }
+
+    // All that happened, in its order. What is done to a device without the log shows in its own trace.
+    ensures happens { (trace : List Happening) × (L.events log.new ≡ L.events log.old ++ trace)
+        × CourseThenLine (E.stream err.old)
+        (Course (O.stream out.old) (F.contents files.old) (W.told wire.old) (W.told wire.new)
+        (command words.now))
+        trace result }
+    ensures lent { (F.trace files.new ≡ F.trace files.old) × (O.trace out.new ≡ O.trace out.old)
+        × (E.trace err.new ≡ E.trace err.old) × (W.trace wire.new ≡ W.trace wire.old) }
 {
-    let status = run(alloc, words, files, out, wire);
-    report(alloc, status, err)
+    let status = run(alloc, words, log, files, out, wire);
+    line_lent(alloc, log, status, err)
 }

@@ -1,13 +1,17 @@
 // The program from its words to its exit code.
-ghost use Rattle.std.specs.Prelude.{◌≡◌};
+ghost use Rattle.std.specs.Prelude.{◌≡◌, ◌++◌, List};
+ghost use Rattle.happenings.specs.Happening.{Happening};
+ghost use Rattle.command_run.specs.IsRun.{IsRun};
 ghost use Rattle.command_run.specs.Main.{status_without, waits_given, Exits, seen};
 
 use crate::given::{GivenWords, default_waits};
+use crate::lent::line_lent;
 use crate::no_words::NoWords;
 use crate::top::strudel;
 use command_spec::ServeWaits;
 use edge_io::{Files, Sink};
-use run_report::{Status, report};
+use happenings::Trace;
+use run_report::Status;
 use std::alloc::Global;
 use wire::Wire;
 
@@ -33,29 +37,36 @@ fn status_of_no_words(reason: NoWords) -> Status
 
 /// Does all that the program does, and gives its exit code. `words` are those after the program's name, with the command
 /// that they give, or why there are none. The answer is put on `out`, and a line on `err` reports any other end. `serve`
-/// takes its connections from `wire`, which waits as `waits_of` says.
-pub fn run_main<F: Files, O: Sink, E: Sink, W: Wire>(
+/// takes its connections from `wire`, which waits as `waits_of` says. All that happens is noted in `log`, in its order:
+/// what is done to a device without the log would show in that device's own trace, and there is nothing.
+pub fn run_main<L: Trace, F: Files<Log = L>, O: Sink<Log = L>, E: Sink<Log = L>, W: Wire<Log = L>>(
     alloc: Global,
     words: &Result<GivenWords, NoWords>,
+    log: &mut L,
     files: &mut F,
     out: &mut O,
     err: &mut E,
     wire: &mut W,
 ) -> u8
-    ensures { Exits words.now
+    ensures exits { Exits words.now
         (seen (F.contents files.old) (F.failed_reads files.old) (F.failed_writes files.old)
         (O.text out.old) (O.failed out.old) (E.text err.old) (E.failed err.old) (W.told wire.old))
         (seen (F.contents files.new) (F.failed_reads files.new) (F.failed_writes files.new)
         (O.text out.new) (O.failed out.new) (E.text err.new) (E.failed err.new) (W.told wire.new))
         result }
+    ensures run { (trace : List Happening) × (L.events log.new ≡ L.events log.old ++ trace)
+        × IsRun (O.stream out.old) (E.stream err.old) (F.contents files.old) (W.told wire.old)
+        (W.told wire.new) words.now trace result }
+    ensures lent { (F.trace files.new ≡ F.trace files.old) × (O.trace out.new ≡ O.trace out.old)
+        × (E.trace err.new ≡ E.trace err.old) × (W.trace wire.new ≡ W.trace wire.old) }
 {
     match words {
         Ok(words) => {
-            let status = strudel(alloc, words, files, out, err, wire);
+            let status = strudel(alloc, words, log, files, out, err, wire);
             status.code()
         }
         Err(reason) => {
-            let status = report(alloc, status_of_no_words(*reason), err);
+            let status = line_lent(alloc, log, status_of_no_words(*reason), err);
             status.code()
         }
     }

@@ -3,6 +3,7 @@
 
 ghost use Rattle.std.specs.Prelude.{◌≡◌, ◌∷◌, []};
 ghost use Rattle.std.specs.Option.{ForSome};
+ghost use Rattle.site_inputs.specs.Reads.{Reads};
 ghost use Rattle.site_inputs.specs.Runs.{ReadsHaveCause};
 ghost use Rattle.command_schema.specs.Ends.{SchemaTaken, SchemaEnds};
 
@@ -41,6 +42,9 @@ pub fn schema_text<F: Files>(
     ensures same { F.contents files.new ≡ F.contents files.old }
     ensures cause { ReadsHaveCause (command.now.query ∷ [])
         (F.failed_reads files.old) (F.failed_reads files.new) result }
+    ensures traced { Reads (command.now.query ∷ [])
+        (F.trace files.old) (F.trace files.new) (F.contents files.old) result
+        (λ map. SchemaEnds map command.now result) }
 {
     let query = load_query(alloc, files, &command.query)?;
     text_of(alloc, &query, command.dot)

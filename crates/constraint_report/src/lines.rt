@@ -4,6 +4,7 @@ ghost use Rattle.constraint_report.specs.Report.{verdict_word, verdict_line};
 
 use sd_value::{NoMemory, Str};
 use std::alloc::Global;
+use token_writer::{put, put_number};
 
 fn word(met: bool) -> &'static [u8]
     ensures { result.now ≡ verdict_word met }
@@ -16,8 +17,8 @@ pub fn line(alloc: Global, number: usize, met: bool) -> Result<Str, NoMemory>
     ensures { IfOk result (λ text. text ≡ verdict_line number met) }
 {
     let mut text = Vec::new(alloc);
-    text.extend_from_slice(number.to_string(alloc)?.as_bytes())?;
-    text.extend_from_slice(word(met))?;
+    put_number(number as u128, &mut text)?;
+    put(word(met), &mut text)?;
     Ok(Str::of(alloc, text)?)
 }
 

@@ -1,7 +1,7 @@
 // The numbers of refusals that all texts of tokens share.
-ghost use Rattle.std.specs.Prelude.{◌≡◌};
-ghost use Rattle.data_source.specs.Numbered.{text_told};
+ghost use Rattle.data_source.specs.Numbered.{text_told, Tells};
 
+use sd_value::NoMemory;
 use token_reader::TextRefusal;
 
 /// The number of a refusal, and the byte at which it is.
@@ -11,31 +11,33 @@ pub struct NumberedFault {
     pub at: u64,
 }
 
-/// What a refused text reports, if `expected` is the number of its grammar; none if the reader was out of memory.
-pub fn told_of_text(refusal: &TextRefusal, expected: u32) -> Option<NumberedFault>
-    ensures { result ≡ text_told expected refusal.now }
+/// What a refused text reports, if `expected` is the number of its grammar.
+/// # Errors
+/// The reader was out of memory.
+pub fn told_of_text(refusal: &TextRefusal, expected: u32) -> Result<NumberedFault, NoMemory>
+    ensures { Tells (text_told expected refusal.now) result }
 {
     match refusal {
-        TextRefusal::BadByte(at) => Some(NumberedFault {
+        TextRefusal::BadByte(at) => Ok(NumberedFault {
             number: 21,
             at: *at,
         }),
-        TextRefusal::OpenString(at) => Some(NumberedFault {
+        TextRefusal::OpenString(at) => Ok(NumberedFault {
             number: 22,
             at: *at,
         }),
-        TextRefusal::IntOutOfRange(at) => Some(NumberedFault {
+        TextRefusal::IntOutOfRange(at) => Ok(NumberedFault {
             number: 23,
             at: *at,
         }),
-        TextRefusal::TooLong(at) => Some(NumberedFault {
+        TextRefusal::TooLong(at) => Ok(NumberedFault {
             number: 24,
             at: *at,
         }),
-        TextRefusal::Expected(at) => Some(NumberedFault {
+        TextRefusal::Expected(at) => Ok(NumberedFault {
             number: expected,
             at: *at,
         }),
-        TextRefusal::NoMemory => None,
+        TextRefusal::NoMemory => Err(NoMemory),
     }
 }

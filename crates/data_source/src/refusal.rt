@@ -30,8 +30,8 @@ fn refused_text(refusal: TextRefusal) -> SourceRefusal
     ensures { result ≡ ddl_told (DdlRefusal.Text refusal) }
 {
     match told_of_text(&refusal, 31) {
-        Some(told) => refused(told.number, Place::At(told.at)),
-        None => SourceRefusal::NoMemory,
+        Ok(told) => refused(told.number, Place::At(told.at)),
+        Err(NoMemory) => SourceRefusal::NoMemory,
     }
 }
 

@@ -61,7 +61,7 @@ skipped : (whole : List ℕ) → Skipped whole
 skipped whole = skip (length whole) whole whole (omega arith) (behind_itself whole)
 
 -- all tokens from a place on, or the first fault
-abbrev Found : ℕ → List ℕ → Type 0
+abbrev pub Found : ℕ → List ℕ → Type 0
 Found start bytes = (r : Result (List Token) LexRefusal) × IsTokensOrFault start bytes r
 
 unique : (at : ℕ) (rest : List ℕ) (r s : Result Token LexRefusal) → lexeme at rest ≡ r → IsTokenOrFault at rest s → GivesTokens s r
@@ -101,7 +101,7 @@ lexed_on zero start bytes at (b ∷ rest) tokens fits reached = absurd (omega (a
 lexed_on (suc fuel) start bytes at (b ∷ rest) tokens fits reached =
     one_lexeme fuel start bytes at (b ∷ rest) tokens fits (λ none. cc) reached (λ next after more less now. lexed_on fuel start bytes next after more less now) (lexeme at (b ∷ rest)) refl
 
-lexed : (start : ℕ) (bytes : List ℕ) → Found start bytes
+pub lexed : (start : ℕ) (bytes : List ℕ) → Found start bytes
 lexed start bytes =
     let behind = skipped bytes in
     lexed_on (length behind.after) start bytes (start + (length bytes - length behind.after)) behind.after [] (omega arith)

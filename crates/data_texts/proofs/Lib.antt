@@ -6,3 +6,4 @@ pub mod Readers
 pub mod TheEdits
 pub mod TheTouching
 pub mod Flags
+pub mod Apart

@@ -58,7 +58,7 @@ of_edit tokens e (front, back, v, s, w, h) = of_action back e h
 Spelling : List ℕ → Type 0
 Spelling text = (o : Option Edit) × IsSpelled text o
 
-same_tokens : (text : List ℕ) (tokens others : List Token) → IsTextOrFault data_limit text (Ok tokens)
+pub same_tokens : (text : List ℕ) (tokens others : List Token) → IsTextOrFault data_limit text (Ok tokens)
     → IsTextOrFault data_limit text (Ok others) → tokens ≡ others
 same_tokens text tokens others l m =
     let both : Ok tokens ≡ Ok others = one_token_list data_limit text (Ok tokens) (Ok others) l m in cc

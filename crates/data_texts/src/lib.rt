@@ -7,10 +7,12 @@ ghost use Rattle.data_texts.specs.Texts.{States, IsRead};
 
 mod composed;
 mod edits;
+mod run_texts;
 
 use command_spec::DATA_LIMIT;
 pub use composed::read_text;
 pub use edits::{read_text_edit, spared};
+pub use run_texts::{RunText, edits_are_no_data, read_run_text};
 use sd_ddl::read_ddl;
 use sd_graph::{Graph, GraphBuilder, PROGRAM_LIMITS};
 use sd_value::{NoMemory, Str};

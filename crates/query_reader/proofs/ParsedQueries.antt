@@ -1,6 +1,6 @@
 -- What the grammar of queries spells is what a check asks of a query.
 use Rattle.std.proofs.Common.{◌∙◌, ◌≡◌, ◌⊎◌, ℕ, zero, suc, ◌+◌, ◌≤◌, ◌<◌, ◌^◌, ℤ, pos, List, [], ◌∷◌, ◌++◌, length, Bool, true, false, arith, ap, sym, refl, subst, inl, inr}
-use Rattle.std.specs.Prelude.{Option, Some, None, map, All, if◌then◌else◌}
+use Rattle.std.specs.Prelude.{Option, Some, None, Result, Ok, Err, map, All, if◌then◌else◌}
 use Rattle.std.specs.Ordering.{int_eq}
 use Rattle.std.specs.List.{flat_map}
 use Rattle.std.proofs.lemmas.List.Elements.{All-nil, All-cons}
@@ -11,12 +11,17 @@ use Rattle.sd_lex.specs.declared.token.TokenKind.{TokenKind}
 use Rattle.sd_lex.specs.declared.token.TokenKind.TheVariants as kinds
 use Rattle.query_spec.specs.Mentions.{IsFlat}
 use Rattle.query_spec.specs.Query as plain
-use Rattle.struql_ast.specs.Written.{Condition, Term, Link, Collect, Clauses, Blocks, no_blocks, block, Query}
+use Rattle.struql_ast.specs.declared.Query as declared
+use Rattle.struql_ast.specs.Written.{Condition, Term, Link, Collect, Clauses, Blocks, no_blocks, block, Query, query_written}
 use Rattle.struql_text.specs.Terminals.{version_kind_value, version_value}
 use Rattle.struql_text.specs.Expression.{expression_within}
+use Rattle.struql_parse.specs.declared.refusal.ParseRefusal.{ParseRefusal}
 use Rattle.struql_parse.specs.Blocks.{Body, body, Groups, no_groups, grouped, levels, head, query_within}
+use Rattle.struql_parse.specs.Text.{TextStates}
 use Rattle.struql_check.specs.Parsed.{IsWritable, condition_constants, term_constants, link_constants, target_constants, constants, body_terms, bodies_within, bodies, IsParsed}
-use Rattle.query_scoping.proofs.Plain.{condition_plain, term_plain, link_plain, collect_plain, clauses_plain, blocks_plain, query_plain}
+use Rattle.query_scoping.proofs.Plain.{condition_plain, term_plain, link_plain, collect_plain, clauses_plain, blocks_plain, query_plain, query_same}
+use Rattle.query_reader.specs.Reads.{IsWritten}
+use Rattle.query_reader.proofs.Tokens.{text_length}
 use Rattle.query_reader.proofs.Weights.{weigh, one_each, link_weight, collect_weight, body_weight, total, few_of, few_bodies, conditions_few, terms_few, links_few, collects_few}
 use Rattle.query_reader.proofs.Sound.{Each, split_length}
 use Rattle.query_reader.proofs.Items.{Writable, both_writable, GoodCondition, link_size, collect_size, none_is}
@@ -115,3 +120,10 @@ within_parsed tokens q
     let fits : size (grouped groups) ≤ length tokens = omega (arith, grown.0, sized, w1, w2, w3, w4) in
     subst (λ (x : Query). IsParsed (query_plain x)) (sym is)
     (blocks_parsed (grouped groups) (length tokens) (closing_good groups.closed groups.bare good.0 good.1) fits small n input.text output.text (head_version a n begin))
+
+-- what the grammar answers to a text
+pub is_written : (limit : ℕ) (bytes : List ℕ) (result : Result declared.Query ParseRefusal) → limit < 2 ^ 32 → TextStates limit bytes result → IsWritten limit bytes result
+is_written limit bytes (Ok query) small states =
+    let few = text_length limit bytes states.0 states.1 in
+    (states, subst IsParsed (query_same query) (within_parsed states.0 (query_written query) states.2 (omega (arith, few, small))))
+is_written limit bytes (Err refusal) small states = states

@@ -7,9 +7,11 @@ use Rattle.struql_ast.specs.declared.Query.{Query}
 use Rattle.struql_ast.specs.Reading.{query_of}
 use Rattle.struql_ast.specs.Written as written
 use Rattle.struql_ast.specs.Written.{query_written}
+use Rattle.struql_parse.specs.declared.refusal.ParseRefusal.{ParseRefusal}
 use Rattle.struql_parse.specs.Blocks.{query_within}
 use Rattle.struql_parse.specs.Text.{TextStates}
 use Rattle.struql_check.specs.Faults.{IsFaultless}
+use Rattle.struql_check.specs.Parsed.{IsParsed}
 use Rattle.struql_check.specs.Checked.{ReportsFirst}
 use Rattle.query_reader.specs.declared.QueryRefusal.{QueryRefusal}
 use Rattle.query_reader.specs.declared.QueryRefusal.TheVariants.{NotSpelled, NotChecked}
@@ -18,6 +20,12 @@ use Rattle.query_reader.specs.declared.QueryRefusal.TheVariants.{NotSpelled, Not
 abbrev pub Spells : ℕ → List ℕ → written.Query → Type 0
 Spells limit bytes q =
     (tokens : List Token) × IsTextOrFault limit bytes (Ok tokens) × query_within tokens q
+
+-- the query that the text spells, which is one that a check takes, or why it spells none
+abbrev pub IsWritten : ℕ → List ℕ → Result Query ParseRefusal → Type 0
+IsWritten limit bytes (Ok query) =
+    Spells limit bytes (query_written query) × IsParsed (query_of query)
+IsWritten limit bytes (Err refusal) = TextStates limit bytes (Err refusal)
 
 -- the text spells a query without faults, and this is its plain tree
 pub record IsAccepted (limit : ℕ) (bytes : List ℕ) (checked : plain.Query) : Type 0 where

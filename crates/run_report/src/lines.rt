@@ -1,17 +1,20 @@
 // The line that reports a status.
-ghost use Rattle.std.specs.Prelude.{◌≡◌, ◌≤◌, ◌⊎◌, ◌++◌, OnOk, IfOk, IfSome, IsSome, codes};
+ghost use Rattle.std.specs.Prelude.{◌≡◌, ◌≤◌, ◌⊎◌, ◌++◌, List, OnOk, IfOk, IfSome, IsSome, codes};
 ghost use Rattle.std.specs.Fmt.{decimal};
 ghost use Rattle.edge_io.specs.Counts.{Rose};
 ghost use Rattle.edge_io.specs.Sink.{Gains, GainsPart};
+ghost use Rattle.happenings.specs.Happening.{Happening};
 ghost use Rattle.page_spec.specs.Show.{show as show_value, address as address_of};
 ghost use Rattle.run_report.specs.Report.{line, message, shown, page_fault, IsFixed};
 ghost use Rattle.run_report.specs.Report as specs;
+ghost use Rattle.run_report.specs.Told.{TellsText, IsTold};
 
 use crate::status::{PageKind, Place, Status};
 use address::{address, show};
 use edge_io::Sink;
 use sd_value::{NoMemory, Str};
 use std::alloc::Global;
+use token_writer::put_number;
 
 fn source_refusal_name(number: u32) -> &'static [u8]
     ensures { result.now ≡ specs.source_refusal_name number }
@@ -74,25 +77,18 @@ fn add(text: &mut Vec<u8>, piece: &[u8]) -> Result<(), NoMemory>
     Ok(())
 }
 
-fn add_number(alloc: Global, text: &mut Vec<u8>, number: u64) -> Result<(), NoMemory>
-    ensures { OnOk result (text.new.items ≡ text.old.items ++ decimal number) }
-{
-    let digits = number.to_string(alloc)?;
-    add(text, digits.as_bytes())
-}
-
-fn add_place(alloc: Global, text: &mut Vec<u8>, place: &Place) -> Result<(), NoMemory>
+fn add_place(text: &mut Vec<u8>, place: &Place) -> Result<(), NoMemory>
     ensures { OnOk result (text.new.items ≡ text.old.items ++ shown place.now) }
 {
     match place {
-        Place::At(at) => add_number(alloc, text, *at),
+        Place::At(at) => put_number(*at as u128, text),
         Place::Row(row) => {
             add(text, b"row ")?;
-            add_number(alloc, text, *row)
+            put_number(*row as u128, text)
         }
         Place::Column(column) => {
             add(text, b"column ")?;
-            add_number(alloc, text, *column)
+            put_number(*column as u128, text)
         }
         Place::Path(path) => {
             add(text, b"#")?;
@@ -131,24 +127,18 @@ fn add_refusal_name(text: &mut Vec<u8>, number: u32) -> Result<(), NoMemory>
     Ok(())
 }
 
-fn add_refusal(
-    alloc: Global,
-    text: &mut Vec<u8>,
-    file: &Str,
-    number: u32,
-    place: &Place,
-) -> Result<(), NoMemory>
+fn add_refusal(text: &mut Vec<u8>, file: &Str, number: u32, place: &Place) -> Result<(), NoMemory>
     ensures { OnOk result (text.new.items
         ≡ text.old.items ++ file.now ++ codes ": " ++ decimal number ++ codes " "
         ++ specs.refusal_name number ++ codes " at " ++ shown place.now) }
 {
     add(text, file.bytes())?;
     add(text, b": ")?;
-    add_number(alloc, text, u64::from(number))?;
+    put_number(number as u128, text)?;
     add(text, b" ")?;
     add_refusal_name(text, number)?;
     add(text, b" at ")?;
-    add_place(alloc, text, place)
+    add_place(text, place)
 }
 
 fn add_message(alloc: Global, text: &mut Vec<u8>, status: &Status) -> Result<(), NoMemory>
@@ -161,7 +151,7 @@ fn add_message(alloc: Global, text: &mut Vec<u8>, status: &Status) -> Result<(),
             file,
             number,
             place,
-        } => add_refusal(alloc, text, file, *number, place),
+        } => add_refusal(text, file, *number, place),
         Status::ReadFault { path } => add_unread(text, path),
         Status::WriteFault => add(text, b"cannot write"),
         Status::WireFault => add(text, b"connection source failed"),
@@ -213,6 +203,8 @@ fn put_line<E: Sink>(text: &[u8], err: &mut E)
         → Gains (E.text err.old) (E.text err.new) text.now }
     ensures part { GainsPart (E.text err.old) (E.text err.new) text.now }
     ensures later { E.failed err.old ≤ E.failed err.new }
+    ensures traced { (part : List Happening) × (E.trace err.new ≡ E.trace err.old ++ part)
+        × TellsText (E.stream err.old) text.now part }
 {
     if !text.is_empty() {
         let _ = err.put(text);
@@ -227,6 +219,8 @@ pub fn report<E: Sink>(alloc: Global, status: Status, err: &mut E) -> Status
         → Gains (E.text err.old) (E.text err.new) (line result) }
     ensures part { GainsPart (E.text err.old) (E.text err.new) (line result) }
     ensures later { E.failed err.old ≤ E.failed err.new }
+    ensures traced { (part : List Happening) × (E.trace err.new ≡ E.trace err.old ++ part)
+        × IsTold (E.stream err.old) result part }
 {
     if let Some(text) = fixed_line(&status) {
         put_line(text, err);

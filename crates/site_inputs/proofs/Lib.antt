@@ -9,3 +9,4 @@ pub mod Endings
 pub mod SiteData
 pub mod ReadLemmas
 pub mod SiteReads
+pub mod WrittenQueries

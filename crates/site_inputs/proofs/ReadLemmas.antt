@@ -11,7 +11,7 @@ use Rattle.site_inputs.specs.declared.fault.Refusal.{Refusal}
 use Rattle.data_source.specs.declared.rules.SourceRules.{SourceRules}
 use Rattle.graph_spec.specs.DataGraph.{DataGraph}
 use Rattle.sd_graph.specs.Statement.{Building}
-use Rattle.site_inputs.specs.Runs.{FileEnds}
+use Rattle.site_inputs.specs.Runs.{EndsWith, FileEnds}
 use Rattle.site_inputs.specs.Sources.{SourceEnds, FilesEnd, empty_building}
 use Rattle.site_inputs.proofs.Graphs.{then_next}
 use Rattle.site_inputs.specs.Reads.{Got, path_of, read_of, ReadsAll, ReadsSome, ReadsTo, AreOf, IsSeen, Reads}
@@ -261,3 +261,35 @@ pub gathered_first : (rules : SourceRules) (paths : List (List ℕ)) (b : Buildi
     → (b.graph.nodes ≡ []) × (b.graph.edges ≡ []) × (b.graph.members ≡ []) → Gathered rules paths paths b before before contents
 gathered_first rules paths b before contents limits none =
     subst (λ (c : Building). Gathered rules paths paths c before before contents) (sym (building_is b limits none)) (gathered_none rules paths before contents)
+
+-- ---- no reads, and parts that read nothing more
+
+-- no path is read
+pub reads_none : {A : Type 0} (before : List Happening) (contents : Option FileMap) (result : Result A Fault) (Ends : FileMap → Type 0)
+    → IsRead result → ((map : FileMap) → Ends map) → Reads [] before before contents result Ends
+reads_none before contents result Ends is ends = record {
+  part = [];
+  added = sym (append-nil before);
+  reads = to_all [] [] result is (record { gots = []; paths_are = refl; part_is = refl });
+  ends = λ map h. ends map;
+}
+
+-- the same of an equal command
+pub reads_of : {C A : Type 0} (paths : C → List (List ℕ)) (Ends : FileMap → C → Result A Fault → Type 0) (given is : C) (before now : List Happening) (contents : Option FileMap) (result : Result A Fault)
+    → given ≡ is → Reads (paths is) before now contents result (λ map. Ends map is result) → Reads (paths given) before now contents result (λ map. Ends map given result)
+reads_of {C} paths Ends given is before now contents result same h =
+    subst (λ (c : C). Reads (paths c) before now contents result (λ map. Ends map c result)) (sym same) h
+
+-- a part that never ends with an unread path
+pub reads_no_more : {A : Type 0} (Taken : Result A Fault → Type 0) → ((path : List ℕ) → Taken (Err (Unread path)) → ⊥) → (result : Result A Fault) → Taken result → IsRead result
+reads_no_more Taken never (Ok value) taken = tt
+reads_no_more Taken never (Err (Unread path)) taken = never path taken
+reads_no_more Taken never (Err (Refused refusal)) taken = tt
+reads_no_more Taken never (Err (Faulty term kind)) taken = tt
+reads_no_more Taken never (Err NotFound) taken = tt
+reads_no_more Taken never (Err NoMemory) taken = tt
+
+-- an end with this value
+pub end_is_read : {A : Type 0} (value : A) (result : Result A Fault) → EndsWith value result → IsRead result
+end_is_read {A} value result (inl is) = subst (λ (r : Result A Fault). IsRead r) (sym is) tt
+end_is_read {A} value result (inr is) = subst (λ (r : Result A Fault). IsRead r) (sym is) tt

@@ -13,13 +13,15 @@ use Rattle.composed_data.specs.SiteData.{DecidesSiteData}
 use Rattle.page_spec.specs.Site.{Site}
 use Rattle.sd_graph.specs.declared.GraphRefusal.{GraphRefusal}
 use Rattle.sd_graph.specs.declared.GraphRefusal.TheVariants as over
+use Rattle.struql_ast.specs.declared.Query.{Query}
+use Rattle.struql_ast.specs.Written as written
 use Rattle.struql_parse.specs.declared.refusal.ParseRefusal.{ParseRefusal}
 use Rattle.struql_parse.specs.declared.refusal.ParseRefusal.TheVariants as parse
 use Rattle.struql_check.specs.declared.refusal.CheckRefusal.{CheckRefusal}
 use Rattle.struql_check.specs.declared.refusal.CheckRefusal.TheVariants as check
 use Rattle.query_reader.specs.declared.QueryRefusal.{QueryRefusal}
 use Rattle.query_reader.specs.declared.QueryRefusal.TheVariants.{NotSpelled, NotChecked}
-use Rattle.query_reader.specs.Reads.{IsAccepted, IsRefused}
+use Rattle.query_reader.specs.Reads.{Spells, IsWritten, IsAccepted, IsRefused}
 use Rattle.template_reader.specs.declared.refusal.TmplRefusal.{TmplRefusal}
 use Rattle.template_reader.specs.declared.refusal.TmplRefusal.TheVariants as templates
 use Rattle.template_reader.specs.Faults.{IsTemplatesAnswer}
@@ -59,6 +61,21 @@ abbrev pub query_told : QueryRefusal → Option NumberedFault
 query_told (NotSpelled refusal) = parse_told refusal
 query_told (NotChecked refusal) = check_told refusal
 
+-- how the text ends of a query that is refused for this reason
+abbrev pub QueryRefused : List ℕ → QueryRefusal → Fault → Type 0
+QueryRefused path e (Refused refusal) =
+    (told : NumberedFault) × (refusal ≡ record { file = path; number = told.number; place = At told.at })
+    × (query_told e ≡ Some told)
+QueryRefused path e NoMemory = ⊤
+QueryRefused path e fault = ⊥
+
+-- How a query's text ends before it is checked: with the query that it spells, with its places, or refused.
+abbrev pub WrittenTaken : List ℕ → List ℕ → Result Query Fault → Type 0
+WrittenTaken path bytes (Ok query) = IsWritten text_limit bytes (Ok query)
+WrittenTaken path bytes (Err NoMemory) = ⊤
+WrittenTaken path bytes (Err fault) =
+    (e : ParseRefusal) × IsWritten text_limit bytes (Err e) × QueryRefused path (NotSpelled e) fault
+
 -- How a query's text ends: with the checked query, or refused.
 abbrev pub QueryTaken : List ℕ → List ℕ → Result plain.Query Fault → Type 0
 QueryTaken path bytes (Ok query) = IsAccepted text_limit bytes query
@@ -67,6 +84,11 @@ QueryTaken path bytes (Err (Refused refusal)) =
     × (e : QueryRefusal) × IsRefused text_limit bytes e × (query_told e ≡ Some told)
 QueryTaken path bytes (Err NoMemory) = ⊤
 QueryTaken path bytes (Err fault) = ⊥
+
+-- how every text ends that spells this query
+abbrev pub TextsTaken : List ℕ → written.Query → Result plain.Query Fault → Type 0
+TextsTaken path query result =
+    (bytes : List ℕ) → Spells text_limit bytes query → QueryTaken path bytes result
 
 -- How the file of a query ends: it is read, and then its text is taken.
 abbrev pub QueryEnds : FileMap → List ℕ → Result plain.Query Fault → Type 0

@@ -11,4 +11,6 @@ mod told;
 pub use data::{DataInputs, load_data};
 pub use fault::{Fault, Refusal, refused, unread};
 pub use inputs::{load_graph, read_file};
-pub use site::{SiteInputs, load_inputs, load_query, take_query, take_templates};
+pub use site::{
+    SiteInputs, load_inputs, load_query, take_checked, take_query, take_templates, take_written,
+};

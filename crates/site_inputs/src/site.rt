@@ -4,7 +4,10 @@ ghost use Rattle.std.specs.Option.{ForSome};
 ghost use Rattle.site_inputs.specs.Reads.{Reads};
 ghost use Rattle.site_inputs.specs.Runs.{ReadsHaveCause};
 ghost use Rattle.command_spec.specs.Inputs.{data_paths, input_paths};
-ghost use Rattle.site_inputs.specs.Sites.{QueryTaken, QueryEnds, TemplatesTaken, TemplatesEnd, InputsEnd};
+ghost use Rattle.site_inputs.specs.Sites.{QueryRefused, WrittenTaken, TextsTaken, QueryTaken, QueryEnds, TemplatesTaken, TemplatesEnd, InputsEnd};
+ghost use Rattle.struql_ast.specs.Reading.{query_of};
+ghost use Rattle.struql_ast.specs.Written.{query_written};
+ghost use Rattle.struql_check.specs.Parsed.{IsParsed};
 ghost use Rattle.site_inputs.specs.Values.{file_result, inputs_result};
 
 use crate::data::load_data;
@@ -13,11 +16,12 @@ use crate::inputs::read_file;
 use crate::told::{told_of_query, told_of_templates};
 use command_spec::{DataFiles, TEXT_LIMIT};
 use edge_io::Files;
-use query_reader::read_query;
+use query_reader::{QueryRefusal, check_written, read_written};
 use run_report::Place;
 use sd_graph::Graph;
-use sd_value::Str;
+use sd_value::{NoMemory, Str};
 use std::alloc::Global;
+use struql_ast::Query;
 use struql_check::Checked;
 use template_reader::read_templates;
 use tmpl::Templates;
@@ -33,19 +37,52 @@ pub struct SiteInputs {
     pub templates: Templates,
 }
 
+// What a refused query ends with: its refusal, with the file's path, or out of memory.
+fn refused_query(alloc: Global, path: &Str, refusal: &QueryRefusal) -> Fault
+    ensures { QueryRefused path.now refusal.now result }
+{
+    match told_of_query(refusal) {
+        Ok(told) => refused(alloc, path, told.number, Place::At(told.at)),
+        Err(NoMemory) => Fault::NoMemory,
+    }
+}
+
+/// The query that a text spells, with the places of its parts, before it is checked.
+/// # Errors
+/// A text that is refused, with the file's path, or out of memory.
+pub fn take_written(alloc: Global, path: &Str, bytes: &[u8]) -> Result<Query, Fault>
+    ensures { WrittenTaken path.now bytes.now result }
+{
+    match read_written(alloc, bytes, TEXT_LIMIT) {
+        Ok(query) => Ok(query),
+        Err(refusal) => {
+            let reason = QueryRefusal::NotSpelled(refusal);
+            Err(refused_query(alloc, path, &reason))
+        }
+    }
+}
+
+/// The checked query of a text, of which this is the written one.
+/// # Errors
+/// The query's first fault, with the file's path, or out of memory.
+pub fn take_checked(alloc: Global, path: &Str, query: Query) -> Result<Checked, Fault>
+    requires { IsParsed (query_of query) }
+    ensures { TextsTaken path.now (query_written query) result }
+{
+    match check_written(alloc, query) {
+        Ok(query) => Ok(query),
+        Err(refusal) => Err(refused_query(alloc, path, &refusal)),
+    }
+}
+
 /// The checked query that a text spells.
 /// # Errors
 /// A text that is refused, with the file's path, or out of memory.
 pub fn take_query(alloc: Global, path: &Str, bytes: &[u8]) -> Result<Checked, Fault>
     ensures { QueryTaken path.now bytes.now result }
 {
-    match read_query(alloc, bytes, TEXT_LIMIT) {
-        Ok(query) => Ok(query),
-        Err(refusal) => match told_of_query(&refusal) {
-            Some(told) => Err(refused(alloc, path, told.number, Place::At(told.at))),
-            None => Err(Fault::NoMemory),
-        },
-    }
+    let query = take_written(alloc, path, bytes)?;
+    take_checked(alloc, path, query)
 }
 
 /// The checked query of a file.
@@ -74,8 +111,8 @@ pub fn take_templates(alloc: Global, path: &Str, bytes: &[u8]) -> Result<Templat
     match read_templates(alloc, bytes, TEXT_LIMIT) {
         Ok(templates) => Ok(templates),
         Err(refusal) => match told_of_templates(&refusal) {
-            Some(told) => Err(refused(alloc, path, told.number, Place::At(told.at))),
-            None => Err(Fault::NoMemory),
+            Ok(told) => Err(refused(alloc, path, told.number, Place::At(told.at))),
+            Err(NoMemory) => Err(Fault::NoMemory),
         },
     }
 }

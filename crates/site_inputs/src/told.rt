@@ -1,24 +1,25 @@
 // The numbers of refusals.
-ghost use Rattle.std.specs.Prelude.{◌≡◌};
+ghost use Rattle.data_source.specs.Numbered.{Tells};
 ghost use Rattle.site_inputs.specs.Sites.{parse_told, check_told, query_told, templates_told};
 
 use data_source::{NumberedFault, told_of_text};
 use query_reader::QueryRefusal;
+use sd_value::NoMemory;
 use struql_check::CheckRefusal;
 use struql_parse::ParseRefusal;
 use template_reader::TmplRefusal;
 
 // What a text that is no query reports.
-fn told_of_parse(refusal: &ParseRefusal) -> Option<NumberedFault>
-    ensures { result ≡ parse_told refusal.now }
+fn told_of_parse(refusal: &ParseRefusal) -> Result<NumberedFault, NoMemory>
+    ensures { Tells (parse_told refusal.now) result }
 {
     match refusal {
         ParseRefusal::Text(refusal) => told_of_text(refusal, 71),
-        ParseRefusal::TooDeep(at) => Some(NumberedFault {
+        ParseRefusal::TooDeep(at) => Ok(NumberedFault {
             number: 72,
             at: *at,
         }),
-        ParseRefusal::BadVersion(at) => Some(NumberedFault {
+        ParseRefusal::BadVersion(at) => Ok(NumberedFault {
             number: 73,
             at: *at,
         }),
@@ -26,53 +27,53 @@ fn told_of_parse(refusal: &ParseRefusal) -> Option<NumberedFault>
 }
 
 // What a query with a fault reports.
-fn told_of_check(refusal: &CheckRefusal) -> Option<NumberedFault>
-    ensures { result ≡ check_told refusal.now }
+fn told_of_check(refusal: &CheckRefusal) -> Result<NumberedFault, NoMemory>
+    ensures { Tells (check_told refusal.now) result }
 {
     match refusal {
-        CheckRefusal::TooManyPositions(at) => Some(NumberedFault {
+        CheckRefusal::TooManyPositions(at) => Ok(NumberedFault {
             number: 51,
             at: *at,
         }),
-        CheckRefusal::Unbound(at) => Some(NumberedFault {
+        CheckRefusal::Unbound(at) => Ok(NumberedFault {
             number: 61,
             at: *at,
         }),
-        CheckRefusal::NeverCreated(at) => Some(NumberedFault {
+        CheckRefusal::NeverCreated(at) => Ok(NumberedFault {
             number: 62,
             at: *at,
         }),
-        CheckRefusal::Arity(at) => Some(NumberedFault {
+        CheckRefusal::Arity(at) => Ok(NumberedFault {
             number: 63,
             at: *at,
         }),
-        CheckRefusal::LinkFromData(at) => Some(NumberedFault {
+        CheckRefusal::LinkFromData(at) => Ok(NumberedFault {
             number: 64,
             at: *at,
         }),
-        CheckRefusal::ArcAsNode(at) => Some(NumberedFault {
+        CheckRefusal::ArcAsNode(at) => Ok(NumberedFault {
             number: 65,
             at: *at,
         }),
-        CheckRefusal::NotLabel(at) => Some(NumberedFault {
+        CheckRefusal::NotLabel(at) => Ok(NumberedFault {
             number: 66,
             at: *at,
         }),
-        CheckRefusal::Reserved(at) => Some(NumberedFault {
+        CheckRefusal::Reserved(at) => Ok(NumberedFault {
             number: 67,
             at: *at,
         }),
-        CheckRefusal::TooManyVariables(at) => Some(NumberedFault {
+        CheckRefusal::TooManyVariables(at) => Ok(NumberedFault {
             number: 68,
             at: *at,
         }),
-        CheckRefusal::NoMemory => None,
+        CheckRefusal::NoMemory => Err(NoMemory),
     }
 }
 
 /// What a refused query reports; none where it was out of memory.
-pub fn told_of_query(refusal: &QueryRefusal) -> Option<NumberedFault>
-    ensures { result ≡ query_told refusal.now }
+pub fn told_of_query(refusal: &QueryRefusal) -> Result<NumberedFault, NoMemory>
+    ensures { Tells (query_told refusal.now) result }
 {
     match refusal {
         QueryRefusal::NotSpelled(refusal) => told_of_parse(refusal),
@@ -81,34 +82,34 @@ pub fn told_of_query(refusal: &QueryRefusal) -> Option<NumberedFault>
 }
 
 /// What a refused file of templates reports; none where it was out of memory.
-pub fn told_of_templates(refusal: &TmplRefusal) -> Option<NumberedFault>
-    ensures { result ≡ templates_told refusal.now }
+pub fn told_of_templates(refusal: &TmplRefusal) -> Result<NumberedFault, NoMemory>
+    ensures { Tells (templates_told refusal.now) result }
 {
     match refusal {
-        TmplRefusal::TooLong(at) => Some(NumberedFault {
+        TmplRefusal::TooLong(at) => Ok(NumberedFault {
             number: 24,
             at: *at,
         }),
-        TmplRefusal::Expected(at) => Some(NumberedFault {
+        TmplRefusal::Expected(at) => Ok(NumberedFault {
             number: 81,
             at: *at,
         }),
-        TmplRefusal::Unclosed(at) => Some(NumberedFault {
+        TmplRefusal::Unclosed(at) => Ok(NumberedFault {
             number: 82,
             at: *at,
         }),
-        TmplRefusal::Twice(at) => Some(NumberedFault {
+        TmplRefusal::Twice(at) => Ok(NumberedFault {
             number: 83,
             at: *at,
         }),
-        TmplRefusal::TooDeep(at) => Some(NumberedFault {
+        TmplRefusal::TooDeep(at) => Ok(NumberedFault {
             number: 84,
             at: *at,
         }),
-        TmplRefusal::UnknownVariable(at) => Some(NumberedFault {
+        TmplRefusal::UnknownVariable(at) => Ok(NumberedFault {
             number: 85,
             at: *at,
         }),
-        TmplRefusal::NoMemory => None,
+        TmplRefusal::NoMemory => Err(NoMemory),
     }
 }

@@ -11,7 +11,7 @@ ghost use Rattle.site_pages.specs.Texts.{Current, current_site, current_template
 mod live;
 mod made;
 
-use data_texts::{read_text, read_text_edit, spared};
+use data_texts::{RunText, read_run_text, spared};
 use edit_spec::Edit;
 pub use made::PageSource;
 use made::{MadePages, pages_after, pages_over};
@@ -102,10 +102,9 @@ fn no_pages<'q>(
 }
 
 impl<'q> SitePages<'q> {
-    ghost use Rattle.std.specs.Prelude.{◌≡◌, ◌↔◌, false, IfOk, Some};
+    ghost use Rattle.std.specs.Prelude.{◌≡◌, ◌↔◌, false, IfOk, IfSome, Some};
     ghost use Rattle.edit_spec.specs.Edited.{IsOfData};
-    ghost use Rattle.data_texts.specs.Edits.{edit_under, edited, is_taken};
-    ghost use Rattle.data_texts.proofs.TheEdits.{the_edits};
+    ghost use Rattle.data_texts.specs.Edits.{edited, is_taken};
     ghost use Rattle.site_pages.specs.Rules.{the_rules};
     ghost use Rattle.versions.specs.Changes.{TellsEach};
     ghost use Rattle.site_pages.specs.Texts.{edit_stays, over_data};
@@ -157,29 +156,26 @@ impl<'q> SitePages<'q> {
         }
     }
 
-    // Makes the edit that a text spells, if it spells one that is taken.
+    // Makes the edit that a text spells, if it spells one and that is taken.
     fn take_text_edit(
         &mut self,
         alloc: Global,
-        text: &Str,
+        edit: &Option<Edit>,
         kept: &[Term],
     ) -> Result<Changed, NoMemory>
         requires own { ⟦<SitePages<'q> as Versions>⟧.Own self.old }
+        requires of_data { IfSome edit.now IsOfData }
         ensures own { ⟦<SitePages<'q> as Versions>⟧.Own self.new }
         ensures state { IfOk result (λ c. ⟦<SitePages<'q> as Versions>⟧.state self.new
-            ≡ over_data (⟦<SitePages<'q> as Versions>⟧.state self.old) (edited
-            (edit_under the_edits (⟦<SitePages<'q> as Versions>⟧.state self.old).first text.now)
-            (⟦<SitePages<'q> as Versions>⟧.state self.old).pages.graph)) }
+            ≡ over_data (⟦<SitePages<'q> as Versions>⟧.state self.old)
+            (edited edit.now (⟦<SitePages<'q> as Versions>⟧.state self.old).pages.graph)) }
         ensures refused { IfOk result (λ c. (c ≡ Changed.Refused) ↔ (is_taken
-            (edit_under the_edits (⟦<SitePages<'q> as Versions>⟧.state self.old).first text.now)
-            (⟦<SitePages<'q> as Versions>⟧.state self.old).pages.graph ≡ false)) }
+            edit.now (⟦<SitePages<'q> as Versions>⟧.state self.old).pages.graph ≡ false)) }
         ensures flags { IfOk result (TellsEach (edit_stays the_rules
-            (⟦<SitePages<'q> as Versions>⟧.state self.old)
-            (edit_under the_edits (⟦<SitePages<'q> as Versions>⟧.state self.old).first text.now))
-            kept.now) }
+            (⟦<SitePages<'q> as Versions>⟧.state self.old) edit.now) kept.now) }
     {
-        match read_text_edit(alloc, text, self.first)? {
-            Some(edit) => self.take_edit(alloc, &edit, kept),
+        match edit {
+            Some(edit) => self.take_edit(alloc, edit, kept),
             None => Ok(Changed::Refused),
         }
     }
@@ -226,9 +222,9 @@ impl<'q> Versions for SitePages<'q> {
 
     /// A text that states data replaces them all. Any other may be an edit of them.
     fn change(&mut self, alloc: Global, text: &Str, kept: &[Term]) -> Result<Changed, NoMemory> {
-        match read_text(alloc, text, self.first)? {
-            Some(graph) => self.take_data(alloc, graph, kept),
-            None => self.take_text_edit(alloc, text, kept),
+        match read_run_text(alloc, text, self.first)? {
+            RunText::Data(graph) => self.take_data(alloc, graph, kept),
+            RunText::Other(edit) => self.take_text_edit(alloc, &edit, kept),
         }
     }
 

@@ -1,10 +1,10 @@
-//! The program: `main` makes the system's files, outputs and sockets, and calls
+//! The program: `main` makes the system's files, outputs and sockets and an empty log, and calls
 //! `command_run::run_main` with them and its words.
 #![tactic(auto)]
 
 use command_run::{GivenWords, NoWords, run_main, waits_of};
 use edge_io::{RealFiles, RealOut};
-use happenings::Stream;
+use happenings::{Log, Stream};
 use sd_value::Str;
 use std::net::Net;
 use std::process::ExitCode;
@@ -45,6 +45,7 @@ fn given_wire<'r, R: Net + Clock + Files + AllocGlobal>(
 fn main(rt: HostRuntime) -> ExitCode {
     let words = given_words(&rt);
     let process = process::id(rt.process());
+    let mut log = Log::new();
     let mut files = RealFiles::new(&rt, process);
     let mut out = RealOut::new(rt.stdout(), Stream::Output);
     let mut err = RealOut::new(rt.stderr(), Stream::Errors);
@@ -52,6 +53,7 @@ fn main(rt: HostRuntime) -> ExitCode {
     let code = run_main(
         rt.alloc(),
         &words,
+        &mut log,
         &mut files,
         &mut out,
         &mut err,

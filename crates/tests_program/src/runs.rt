@@ -1,7 +1,7 @@
 // A run of the program by its words alone, over files, outputs and a wire in memory, and what it has to leave.
 use command_run::{GivenWords, NoWords, run_main};
 use edge_io::{Files, MemFile, MemFiles, MemSink, Sink};
-use happenings::Stream;
+use happenings::{Log, Stream};
 use mem_wire::{FailingSend, MemWire};
 use script_reader::read_script;
 use sd_value::{NoMemory, Str};
@@ -128,7 +128,7 @@ fn words_of(alloc: Global, words: &[&str]) -> Result<GivenWords, NoWords> {
 
 // The exit code of a run of these words. Nothing else calls the program, and this says nothing of it, so that its long
 // contract stands in one proof alone.
-fn exit_code<F: Files, O: Sink, W: Wire>(
+fn exit_code<F: Files<Log = Log>, O: Sink<Log = Log>, W: Wire<Log = Log>>(
     alloc: Global,
     words: &[&str],
     files: &mut F,
@@ -137,7 +137,8 @@ fn exit_code<F: Files, O: Sink, W: Wire>(
     wire: &mut W,
 ) -> u8 {
     let words = words_of(alloc, words);
-    run_main(alloc, &words, files, out, err, wire)
+    let mut log = Log::new();
+    run_main(alloc, &words, &mut log, files, out, err, wire)
 }
 
 /// Fails with the words and the name of the run, and with what isn't as it says.
@@ -172,7 +173,7 @@ fn check_written<R: AllocGlobal + Abort>(rt: &R, run: &Run, files: &MemFiles) ->
 }
 
 /// The run over these files and this wire ends as it says.
-pub fn check_with<R: AllocGlobal + Abort, F: Files, W: Wire>(
+pub fn check_with<R: AllocGlobal + Abort, F: Files<Log = Log>, W: Wire<Log = Log>>(
     rt: &R,
     run: &Run,
     files: &mut F,
@@ -189,7 +190,7 @@ pub fn check_with<R: AllocGlobal + Abort, F: Files, W: Wire>(
 }
 
 /// The run over these files ends as it says.
-pub fn check_over<R: AllocGlobal + Abort, F: Files>(
+pub fn check_over<R: AllocGlobal + Abort, F: Files<Log = Log>>(
     rt: &R,
     run: &Run,
     files: &mut F,

@@ -4,6 +4,7 @@ mod visited;
 use crate::runs::{FileRow, PLAIN, Run, check_with, files_of};
 use crate::site::{BIB, LOOKS, SITE};
 use edge_io::RealFiles;
+use happenings::Log;
 use std::alloc::Global;
 use std::io::Read;
 use std::net::Net;
@@ -54,7 +55,7 @@ fn free_port<R: Net + Clock>(alloc: Global, net: &R) -> Result<u16, Fail> {
 }
 
 // The run of these words, each a line, ends well and puts this on the output.
-fn check_serve<R: AllocGlobal + Abort, W: Wire>(
+fn check_serve<R: AllocGlobal + Abort, W: Wire<Log = Log>>(
     rt: &R,
     lines: &str,
     out: &str,

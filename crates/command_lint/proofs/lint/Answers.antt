@@ -1,12 +1,18 @@
-use Rattle.std.proofs.Common.{ℕ, List, ◌∙◌, ◌∷◌, [], subst, arith}
+use Rattle.std.proofs.Common.{ℕ, List, ◌∙◌, ◌∷◌, [], inl, subst, arith}
 use Rattle.std.proofs.lemmas.Result.{err_from_is_err_and}
 use Rattle.std.specs.Prelude.{Ok, Err}
 use Rattle.command_spec.specs.Inputs.{input_paths}
+use Rattle.command_spec.specs.Limits.{text_limit}
+use Rattle.run_report.specs.declared.reports.Report.{Report}
 use Rattle.tmpl.specs.Reading.{file_of}
+use Rattle.site_inputs.specs.declared.fault.Fault.TheVariants.{NoMemory}
+use Rattle.site_inputs.specs.Runs.{FileEnds}
 use Rattle.site_inputs.specs.Sites.{QueryTaken, TemplatesTaken}
 use Rattle.site_inputs.proofs.Runs.{none_fell}
 use Rattle.site_inputs.proofs.Causes.{cause_within, of_sources, of_query, of_templates}
-use Rattle.command_lint.proofs.Taken.{judged_as, all_taken, query_fault, templates_unread, templates_fault, query_cause, templates_cause}
+use Rattle.site_inputs.proofs.ReadLemmas.{reads_then, reads_stop, reads_fault, reads_done}
+use Rattle.command_lint.specs.Asks.{Asks}
+use Rattle.command_lint.proofs.Taken.{judged_as, graph_next, all_taken, query_fault, templates_unread, templates_fault, query_cause, templates_cause, query_is_read, templates_are_read}
 use Rattle.command_lint.proofs.lint.Goals as goal
 
 pub returns-clause-ends : goal.returns-clause-ends
@@ -14,11 +20,12 @@ returns-clause-ends g c = λ map told.
     let templates = file_of c.in_ok-templates.templates in
     all_taken map c.args.sources.now c.args.query_path.now c.args.templates_path.now c.in_ok-graph.graph (c.in_ok-graph.ensures.ends map told)
     c.in_ok-query_bytes.query_bytes (c.in_ok-query_bytes.ensures.ends map (c.in_ok-graph.ensures.same ∙ told))
-    c.in_ok-query.query (subst (λ (b : List ℕ). QueryTaken c.args.query_path.now b (Ok c.in_ok-query.query)) c.bytes.ensures c.in_ok-query.ensures)
+    c.in_ok-query.query.checked (subst (λ (b : List ℕ). QueryTaken c.args.query_path.now b (Ok c.in_ok-query.query.checked)) c.bytes.ensures c.in_ok-query.ensures.0)
     c.in_ok-template_bytes.template_bytes (c.in_ok-template_bytes.ensures.ends map (c.in_ok-query_bytes.ensures.same ∙ c.in_ok-graph.ensures.same ∙ told))
     templates (Ok c.in_ok-report.report) (subst (λ (b : List ℕ). TemplatesTaken c.args.templates_path.now b (Ok templates)) c.bytes-2.ensures c.in_ok-templates.ensures)
-    (judged_as c.in_ok-graph.graph c.in_ok-query.query templates c.args.query_path.now c.bytes-3.result.now c.in_ok-query_bytes.query_bytes c.args.templates_path.now c.bytes-4.result.now c.in_ok-template_bytes.template_bytes (Ok c.in_ok-report.report)
-    c.bytes-3.ensures c.bytes-4.ensures c.in_ok-report.ensures)
+    (judged_as c.in_ok-graph.graph c.in_ok-query.query.checked templates c.args.query_path.now c.in_ok-query_bytes.query_bytes c.args.templates_path.now c.bytes-3.result.now c.in_ok-template_bytes.template_bytes (Ok c.in_ok-report.report)
+    c.bytes-3.ensures
+    (c.in_ok-report.ensures c.in_ok-query_bytes.query_bytes (subst (λ (b : List ℕ). Asks b c.in_ok-query.query.asked.items) c.bytes.ensures c.in_ok-query.ensures.1)))
 
 pub returns-in_err-query-clause-ends : goal.returns-in_err-query-clause-ends
 returns-in_err-query-clause-ends g c = λ map told.
@@ -34,7 +41,7 @@ returns-in_err-template_bytes-clause-ends g c = λ map told.
     rw (p.1, p.2)
     (templates_unread map c.args.sources.now c.args.query_path.now c.args.templates_path.now c.in_ok-graph.graph (c.in_ok-graph.ensures.ends map told)
     c.in_ok-query_bytes.query_bytes (c.in_ok-query_bytes.ensures.ends map (c.in_ok-graph.ensures.same ∙ told))
-    c.in_ok-query.query (subst (λ (b : List ℕ). QueryTaken c.args.query_path.now b (Ok c.in_ok-query.query)) c.bytes.ensures c.in_ok-query.ensures)
+    c.in_ok-query.query.checked (subst (λ (b : List ℕ). QueryTaken c.args.query_path.now b (Ok c.in_ok-query.query.checked)) c.bytes.ensures c.in_ok-query.ensures.0)
     c.in_err-template_bytes.field-0.0 (c.in_err-template_bytes.ensures.ends map (c.in_ok-query_bytes.ensures.same ∙ c.in_ok-graph.ensures.same ∙ told)))
 
 pub returns-in_err-templates-clause-ends : goal.returns-in_err-templates-clause-ends
@@ -43,7 +50,7 @@ returns-in_err-templates-clause-ends g c = λ map told.
     rw (p.1, p.2)
     (templates_fault map c.args.sources.now c.args.query_path.now c.args.templates_path.now c.in_ok-graph.graph (c.in_ok-graph.ensures.ends map told)
     c.in_ok-query_bytes.query_bytes (c.in_ok-query_bytes.ensures.ends map (c.in_ok-graph.ensures.same ∙ told))
-    c.in_ok-query.query (subst (λ (b : List ℕ). QueryTaken c.args.query_path.now b (Ok c.in_ok-query.query)) c.bytes.ensures c.in_ok-query.ensures)
+    c.in_ok-query.query.checked (subst (λ (b : List ℕ). QueryTaken c.args.query_path.now b (Ok c.in_ok-query.query.checked)) c.bytes.ensures c.in_ok-query.ensures.0)
     c.in_ok-template_bytes.template_bytes (c.in_ok-template_bytes.ensures.ends map (c.in_ok-query_bytes.ensures.same ∙ c.in_ok-graph.ensures.same ∙ told))
     c.in_err-templates.field-0.0 (subst (λ (b : List ℕ). TemplatesTaken c.args.templates_path.now b (Err c.in_err-templates.field-0.0)) c.bytes-2.ensures c.in_err-templates.ensures))
 
@@ -79,3 +86,107 @@ returns-in_err-templates-clause-cause g c =
     let p = err_from_is_err_and c.from_residual-in_err-templates.result c.from_residual-in_err-templates.ensures.1 in
     rw (p.1, p.2)
     (templates_cause _ _ _ _ _ c.in_err-templates.field-0.0 (none_fell (none_fell c.in_ok-graph.ensures.cause.later c.in_ok-query_bytes.ensures.cause.later) c.in_ok-template_bytes.ensures.cause.later) c.in_err-templates.ensures)
+
+-- ---- what was read
+
+pub returns-in_err-graph-clause-traced : goal.returns-in_err-graph-clause-traced
+returns-in_err-graph-clause-traced g c =
+    let p = err_from_is_err_and c.from_residual.result c.from_residual.ensures.1 in
+    rw (p.1, p.2)
+    (reads_stop _ _ c.args.sources.now.paths (c.args.query_path.now ∷ c.args.templates_path.now ∷ []) _ _ _ c.in_err-graph.field-0.0 _ _ c.in_err-graph.ensures.traced (λ map h. inl h))
+
+pub returns-in_err-query_bytes-clause-traced : goal.returns-in_err-query_bytes-clause-traced
+returns-in_err-query_bytes-clause-traced g c =
+    let p = err_from_is_err_and c.from_residual-in_err-query_bytes.result c.from_residual-in_err-query_bytes.ensures.1 in
+    let fault = c.in_err-query_bytes.field-0.0 in
+    rw (p.1, p.2)
+    (reads_then c.args.sources.now.paths (c.args.query_path.now ∷ c.args.templates_path.now ∷ []) _ _ _ _ _ c.in_ok-graph.graph (Err fault) _ _ _ c.in_ok-graph.ensures.traced
+    (reads_stop _ Report (c.args.query_path.now ∷ []) (c.args.templates_path.now ∷ []) _ _ _ fault _ (λ map. FileEnds text_limit map c.args.query_path.now (Err fault)) c.in_err-query_bytes.ensures.traced (λ map h. h))
+    c.in_ok-graph.ensures.same
+    (λ map f n. graph_next map c.args.sources.now c.args.query_path.now c.args.templates_path.now c.in_ok-graph.graph f (Err fault) (inl n)))
+
+pub returns-in_err-query-clause-traced : goal.returns-in_err-query-clause-traced
+returns-in_err-query-clause-traced g c =
+    let p = err_from_is_err_and c.from_residual-in_err-query.result c.from_residual-in_err-query.ensures.1 in
+    let fault = c.in_err-query.field-0.0 in
+    let query_bytes = c.in_ok-query_bytes.query_bytes in
+    let refused : QueryTaken c.args.query_path.now query_bytes (Err fault) = subst (λ (b : List ℕ). QueryTaken c.args.query_path.now b (Err fault)) c.bytes.ensures c.in_err-query.ensures in
+    rw (p.1, p.2)
+    (reads_then c.args.sources.now.paths (c.args.query_path.now ∷ c.args.templates_path.now ∷ []) _ _ _ _ _ c.in_ok-graph.graph (Err fault) _ _ _ c.in_ok-graph.ensures.traced
+    (reads_stop Report Report (c.args.query_path.now ∷ []) (c.args.templates_path.now ∷ []) _ _ _ fault (λ map. FileEnds text_limit map c.args.query_path.now (Ok query_bytes)) (λ map. FileEnds text_limit map c.args.query_path.now (Ok query_bytes))
+    (reads_done (c.args.query_path.now ∷ []) _ _ _ query_bytes (Err fault) _ _ c.in_ok-query_bytes.ensures.traced (query_is_read c.args.query_path.now query_bytes fault refused) (λ map h. h))
+    (λ map h. h))
+    c.in_ok-graph.ensures.same
+    (λ map f n. query_fault map c.args.sources.now c.args.query_path.now c.args.templates_path.now c.in_ok-graph.graph f query_bytes n fault refused))
+
+pub returns-in_err-template_bytes-clause-traced : goal.returns-in_err-template_bytes-clause-traced
+returns-in_err-template_bytes-clause-traced g c =
+    let p = err_from_is_err_and c.from_residual-in_err-template_bytes.result c.from_residual-in_err-template_bytes.ensures.1 in
+    let fault = c.in_err-template_bytes.field-0.0 in
+    let query_bytes = c.in_ok-query_bytes.query_bytes in
+    rw (p.1, p.2)
+    (reads_then c.args.sources.now.paths (c.args.query_path.now ∷ c.args.templates_path.now ∷ []) _ _ _ _ _ c.in_ok-graph.graph (Err fault) _ _ _ c.in_ok-graph.ensures.traced
+    (reads_then (c.args.query_path.now ∷ []) (c.args.templates_path.now ∷ []) _ _ _ _ _ query_bytes (Err fault) _ _
+    (λ map. FileEnds text_limit map c.args.query_path.now (Ok query_bytes) × FileEnds text_limit map c.args.templates_path.now (Err fault))
+    c.in_ok-query_bytes.ensures.traced
+    (reads_fault _ Report (c.args.templates_path.now ∷ []) _ _ _ fault _ (λ map. FileEnds text_limit map c.args.templates_path.now (Err fault)) c.in_err-template_bytes.ensures.traced (λ map h. h))
+    c.in_ok-query_bytes.ensures.same (λ map f n. (f, n)))
+    c.in_ok-graph.ensures.same
+    (λ map f n. templates_unread map c.args.sources.now c.args.query_path.now c.args.templates_path.now c.in_ok-graph.graph f query_bytes n.0
+    c.in_ok-query.query.checked (subst (λ (b : List ℕ). QueryTaken c.args.query_path.now b (Ok c.in_ok-query.query.checked)) c.bytes.ensures c.in_ok-query.ensures.0) fault n.1))
+
+pub returns-in_err-templates-clause-traced : goal.returns-in_err-templates-clause-traced
+returns-in_err-templates-clause-traced g c =
+    let p = err_from_is_err_and c.from_residual-in_err-templates.result c.from_residual-in_err-templates.ensures.1 in
+    let fault = c.in_err-templates.field-0.0 in
+    let query_bytes = c.in_ok-query_bytes.query_bytes in
+    let template_bytes = c.in_ok-template_bytes.template_bytes in
+    let refused : TemplatesTaken c.args.templates_path.now template_bytes (Err fault) = subst (λ (b : List ℕ). TemplatesTaken c.args.templates_path.now b (Err fault)) c.bytes-2.ensures c.in_err-templates.ensures in
+    rw (p.1, p.2)
+    (reads_then c.args.sources.now.paths (c.args.query_path.now ∷ c.args.templates_path.now ∷ []) _ _ _ _ _ c.in_ok-graph.graph (Err fault) _ _ _ c.in_ok-graph.ensures.traced
+    (reads_then (c.args.query_path.now ∷ []) (c.args.templates_path.now ∷ []) _ _ _ _ _ query_bytes (Err fault) _ _
+    (λ map. FileEnds text_limit map c.args.query_path.now (Ok query_bytes) × FileEnds text_limit map c.args.templates_path.now (Ok template_bytes))
+    c.in_ok-query_bytes.ensures.traced
+    (reads_done {B = Report} (c.args.templates_path.now ∷ []) _ _ _ template_bytes (Err fault) _ (λ map. FileEnds text_limit map c.args.templates_path.now (Ok template_bytes)) c.in_ok-template_bytes.ensures.traced
+    (templates_are_read c.args.templates_path.now template_bytes fault refused) (λ map h. h))
+    c.in_ok-query_bytes.ensures.same (λ map f n. (f, n)))
+    c.in_ok-graph.ensures.same
+    (λ map f n. templates_fault map c.args.sources.now c.args.query_path.now c.args.templates_path.now c.in_ok-graph.graph f query_bytes n.0
+    c.in_ok-query.query.checked (subst (λ (b : List ℕ). QueryTaken c.args.query_path.now b (Ok c.in_ok-query.query.checked)) c.bytes.ensures c.in_ok-query.ensures.0)
+    template_bytes n.1 fault refused))
+
+pub returns-in_err-report-clause-traced : goal.returns-in_err-report-clause-traced
+returns-in_err-report-clause-traced g c =
+    let p = err_from_is_err_and c.from_residual-in_err-report.result c.from_residual-in_err-report.ensures.1 in
+    let query_bytes = c.in_ok-query_bytes.query_bytes in
+    let template_bytes = c.in_ok-template_bytes.template_bytes in
+    let templates = file_of c.in_ok-templates.templates in
+    rw (p.1, p.2)
+    (reads_then c.args.sources.now.paths (c.args.query_path.now ∷ c.args.templates_path.now ∷ []) _ _ _ _ _ c.in_ok-graph.graph (Err NoMemory) _ _ _ c.in_ok-graph.ensures.traced
+    (reads_then (c.args.query_path.now ∷ []) (c.args.templates_path.now ∷ []) _ _ _ _ _ query_bytes (Err NoMemory) _ _
+    (λ map. FileEnds text_limit map c.args.query_path.now (Ok query_bytes) × FileEnds text_limit map c.args.templates_path.now (Ok template_bytes))
+    c.in_ok-query_bytes.ensures.traced
+    (reads_done {B = Report} (c.args.templates_path.now ∷ []) _ _ _ template_bytes (Err NoMemory) _ (λ map. FileEnds text_limit map c.args.templates_path.now (Ok template_bytes)) c.in_ok-template_bytes.ensures.traced tt (λ map h. h))
+    c.in_ok-query_bytes.ensures.same (λ map f n. (f, n)))
+    c.in_ok-graph.ensures.same
+    (λ map f n. all_taken map c.args.sources.now c.args.query_path.now c.args.templates_path.now c.in_ok-graph.graph f query_bytes n.0
+    c.in_ok-query.query.checked (subst (λ (b : List ℕ). QueryTaken c.args.query_path.now b (Ok c.in_ok-query.query.checked)) c.bytes.ensures c.in_ok-query.ensures.0)
+    template_bytes n.1 templates (Err NoMemory) (subst (λ (b : List ℕ). TemplatesTaken c.args.templates_path.now b (Ok templates)) c.bytes-2.ensures c.in_ok-templates.ensures) tt))
+
+pub returns-clause-traced : goal.returns-clause-traced
+returns-clause-traced g c =
+    let query_bytes = c.in_ok-query_bytes.query_bytes in
+    let template_bytes = c.in_ok-template_bytes.template_bytes in
+    let templates = file_of c.in_ok-templates.templates in
+    let told = c.in_ok-report.ensures query_bytes (subst (λ (b : List ℕ). Asks b c.in_ok-query.query.asked.items) c.bytes.ensures c.in_ok-query.ensures.1) in
+    reads_then c.args.sources.now.paths (c.args.query_path.now ∷ c.args.templates_path.now ∷ []) _ _ _ _ _ c.in_ok-graph.graph (Ok c.in_ok-report.report) _ _ _ c.in_ok-graph.ensures.traced
+    (reads_then (c.args.query_path.now ∷ []) (c.args.templates_path.now ∷ []) _ _ _ _ _ query_bytes (Ok c.in_ok-report.report) _ _
+    (λ map. FileEnds text_limit map c.args.query_path.now (Ok query_bytes) × FileEnds text_limit map c.args.templates_path.now (Ok template_bytes))
+    c.in_ok-query_bytes.ensures.traced
+    (reads_done (c.args.templates_path.now ∷ []) _ _ _ template_bytes (Ok c.in_ok-report.report) _ (λ map. FileEnds text_limit map c.args.templates_path.now (Ok template_bytes)) c.in_ok-template_bytes.ensures.traced tt (λ map h. h))
+    c.in_ok-query_bytes.ensures.same (λ map f n. (f, n)))
+    c.in_ok-graph.ensures.same
+    (λ map f n. all_taken map c.args.sources.now c.args.query_path.now c.args.templates_path.now c.in_ok-graph.graph f query_bytes n.0
+    c.in_ok-query.query.checked (subst (λ (b : List ℕ). QueryTaken c.args.query_path.now b (Ok c.in_ok-query.query.checked)) c.bytes.ensures c.in_ok-query.ensures.0)
+    template_bytes n.1 templates (Ok c.in_ok-report.report) (subst (λ (b : List ℕ). TemplatesTaken c.args.templates_path.now b (Ok templates)) c.bytes-2.ensures c.in_ok-templates.ensures)
+    (judged_as c.in_ok-graph.graph c.in_ok-query.query.checked templates c.args.query_path.now query_bytes c.args.templates_path.now c.bytes-3.result.now template_bytes (Ok c.in_ok-report.report) c.bytes-3.ensures told))

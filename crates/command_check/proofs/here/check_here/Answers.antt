@@ -1,9 +1,14 @@
-use Rattle.std.proofs.Common.{List, ◌∙◌, ◌∷◌, [], arith, subst}
+use Rattle.std.proofs.Common.{List, ◌∙◌, ◌∷◌, [], inl, inr, arith, subst}
 use Rattle.std.proofs.lemmas.Result.{err_from_is_err_and}
+use Rattle.std.specs.Prelude.{Ok, Err}
 use Rattle.constraint_spec.specs.declared.Constraint.{Constraint}
+use Rattle.site_inputs.specs.Sources.{GraphEnds, empty_building}
+use Rattle.site_inputs.specs.Sites.{QueryEnds}
 use Rattle.site_inputs.proofs.Runs.{none_fell}
+use Rattle.site_inputs.proofs.ReadLemmas.{reads_then, reads_stop, reads_fault, reads_done, reads_no_more}
 use Rattle.site_inputs.proofs.Causes.{cause_within, of_sources, of_query, of_templates}
 use Rattle.command_spec.specs.Inputs.{here_paths}
+use Rattle.command_check.specs.ConstraintFile.{ConstraintsEnd}
 use Rattle.command_check.specs.Ends.{ReportTaken}
 use Rattle.command_check.proofs.Stopped.{all_taken, constraints_fault, report_cause}
 use Rattle.command_check.proofs.here.check_here.Goals as goal
@@ -50,3 +55,61 @@ returns-in_err-constraints-clause-cause g c =
     rw (p.1, p.2)
     (cause_within (c.args.constraints.now ∷ []) (here_paths c.args.sources.now c.args.query.now c.args.constraints.now) _ _ _ c.in_err-constraints.field-0.0
     (of_templates c.args.sources.now.paths c.args.query.now c.args.constraints.now) (none_fell c.in_ok-graph.ensures.cause.later c.in_ok-query.ensures.cause.later) c.in_err-constraints.ensures.cause)
+
+pub returns-in_err-graph-clause-traced : goal.returns-in_err-graph-clause-traced
+returns-in_err-graph-clause-traced g c =
+    let p = err_from_is_err_and c.from_residual.result c.from_residual.ensures.1 in
+    rw (p.1, p.2)
+    (reads_stop _ _ c.args.sources.now.paths (c.args.query.now ∷ c.args.constraints.now ∷ []) _ _ _ c.in_err-graph.field-0.0 _ _ c.in_err-graph.ensures.traced (λ map h. inl h))
+
+pub returns-in_err-query-clause-traced : goal.returns-in_err-query-clause-traced
+returns-in_err-query-clause-traced g c =
+    let p = err_from_is_err_and c.from_residual-in_err-query.result c.from_residual-in_err-query.ensures.1 in
+    let path = c.args.query.now in
+    let graph = c.in_ok-graph.graph in
+    let fault = c.in_err-query.field-0.0 in
+    rw (p.1, p.2)
+    (reads_then c.args.sources.now.paths (path ∷ c.args.constraints.now ∷ []) _ _ _ _ _ graph (Err fault) _ _ _ c.in_ok-graph.ensures.traced
+    (reads_stop _ _ (path ∷ []) (c.args.constraints.now ∷ []) _ _ _ fault _ (λ map. QueryEnds map path (Err fault)) c.in_err-query.ensures.traced (λ map h. h))
+    c.in_ok-graph.ensures.same
+    (λ map f n. inr (record { value = graph; first = f; next = inl n })))
+
+pub returns-in_err-constraints-clause-traced : goal.returns-in_err-constraints-clause-traced
+returns-in_err-constraints-clause-traced g c =
+    let p = err_from_is_err_and c.from_residual-in_err-constraints.result c.from_residual-in_err-constraints.ensures.1 in
+    let sources = c.args.sources.now in
+    let query_path = c.args.query.now in
+    let path = c.args.constraints.now in
+    let graph = c.in_ok-graph.graph in
+    let query = c.in_ok-query.query in
+    let fault = c.in_err-constraints.field-0.0 in
+    rw (p.1, p.2)
+    (reads_then sources.paths (query_path ∷ path ∷ []) _ _ _ _ _ graph (Err fault) _ _ _ c.in_ok-graph.ensures.traced
+    (reads_then (query_path ∷ []) (path ∷ []) _ _ _ _ _ query (Err fault) _ _
+    (λ map. QueryEnds map query_path (Ok query) × ConstraintsEnd query map path (Err fault))
+    c.in_ok-query.ensures.traced
+    (reads_fault _ _ (path ∷ []) _ _ _ fault _ (λ map. ConstraintsEnd query map path (Err fault)) c.in_err-constraints.ensures.traced (λ map h. h))
+    c.in_ok-query.ensures.same (λ map f n. (f, n)))
+    c.in_ok-graph.ensures.same
+    (λ map f n. constraints_fault map sources query_path path graph query fault f n.0 n.1))
+
+pub returns-clause-traced : goal.returns-clause-traced
+returns-clause-traced g c =
+    let sources = c.args.sources.now in
+    let query_path = c.args.query.now in
+    let path = c.args.constraints.now in
+    let graph = c.in_ok-graph.graph in
+    let query = c.in_ok-query.query in
+    let constraints = c.in_ok-constraints.constraints in
+    let result = c.report_over.result in
+    let taken = subst (λ (cs : List Constraint). ReportTaken graph query cs result) c.as_slice.ensures.value c.report_over.ensures in
+    reads_done (here_paths sources query_path path) _ _ _ constraints result _ _
+    (reads_then sources.paths (query_path ∷ path ∷ []) _ _ _ _ _ graph (Ok constraints) _ _
+    (λ map. GraphEnds map empty_building sources (Ok graph) × (QueryEnds map query_path (Ok query) × ConstraintsEnd query map path (Ok constraints.items)))
+    c.in_ok-graph.ensures.traced
+    (reads_then (query_path ∷ []) (path ∷ []) _ _ _ _ _ query (Ok constraints) _ _
+    (λ map. QueryEnds map query_path (Ok query) × ConstraintsEnd query map path (Ok constraints.items))
+    c.in_ok-query.ensures.traced c.in_ok-constraints.ensures.traced c.in_ok-query.ensures.same (λ map f n. (f, n)))
+    c.in_ok-graph.ensures.same (λ map f n. (f, n)))
+    (reads_no_more (ReportTaken graph query constraints.items) (λ path taken. taken) result taken)
+    (λ map h. all_taken map sources query_path path graph query constraints.items result h.0 h.1.0 h.1.1 taken)

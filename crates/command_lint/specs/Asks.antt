@@ -1,0 +1,21 @@
+-- A query, and what its text asks for.
+use Rattle.std.specs.Prelude.{◌≡◌, ℕ, List, Result, Ok, Err}
+use Rattle.command_spec.specs.Limits.{text_limit}
+use Rattle.struql_ast.specs.Written as written
+use Rattle.query_reader.specs.Reads.{Spells}
+use Rattle.lint_spec.specs.declared.Claim.{Claim}
+use Rattle.lint_spec.specs.QueryClaims.{query_claims}
+use Rattle.site_inputs.specs.declared.fault.Fault.{Fault}
+use Rattle.site_inputs.specs.Sites.{QueryTaken}
+use Rattle.command_lint.specs.declared.asked.AskedQuery.{AskedQuery}
+
+-- the text spells a query, and this is all that it asks for
+abbrev pub Asks : List ℕ → List Claim → Type 0
+Asks bytes claims =
+    (query : written.Query) × Spells text_limit bytes query × (claims ≡ query_claims query)
+
+-- How a query's text ends: with the checked query and all that the text asks for, or refused.
+abbrev pub AskedTaken : List ℕ → List ℕ → Result AskedQuery Fault → Type 0
+AskedTaken path bytes (Ok query) =
+    QueryTaken path bytes (Ok query.checked) × Asks bytes query.asked.items
+AskedTaken path bytes (Err fault) = QueryTaken path bytes (Err fault)
