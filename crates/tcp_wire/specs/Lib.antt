@@ -1,3 +1,5 @@
+pub mod Book
+pub mod Pace
 pub mod Replies
 pub mod TcpState
 pub mod Waits

@@ -1,42 +1,35 @@
 // How connections are taken from a listener.
-ghost use Rattle.std.specs.Prelude.{◌≡◌, IfErr};
-ghost use Rattle.tcp_wire.specs.Waits.{tries};
+use edge_io::Failed;
+use std::io::ErrorKind;
+use std::net::{Net, OpenListener, SocketAddr};
+use std::os::fd::AsRawFd;
 
-use std::net::OpenListener;
-use std::thread;
-use std::time::{Clock, Duration};
-
-/// How often a connection is tried to be taken before that counts as a failure.
-const TRIES: u32 = 100;
-
-/// How long a failing try is followed by none, in milliseconds.
-const PAUSE: u64 = 10;
-
-/// The next connection, for which this waits. Most failures pass: a client has gone, or the system is short of something.
-/// So each is followed by a pause and another try, up to a hundred tries in all, and their number is the error.
-pub fn take_next<L: OpenListener, C: Clock>(listener: &L, clock: &C) -> Result<L::Stream, u32>
-    ensures { IfErr result (λ tried. tried ≡ tries) }
-{
-    let mut tried = 0;
-    for _ in 0..TRIES {
-        if let Ok((stream, _)) = listener.accept() {
-            return Ok(stream);
-        }
-        tried += 1;
-        thread::sleep(clock, Duration::from_millis(PAUSE));
-    }
-    Err(tried)
+/// What a listener gives at once.
+pub enum Arrival<S> {
+    Came(S),
+    /// No connection waits.
+    Nobody,
+    Failed,
 }
 
-/// A connection that waits to be taken, if there is one.
-pub fn take_waiting<L: OpenListener>(listener: &L) -> Option<L::Stream> {
+/// A connection that waits to be taken.
+pub fn take_waiting<L: OpenListener>(listener: &L) -> Arrival<L::Stream> {
+    match listener.accept() {
+        Ok((stream, _)) => Arrival::Came(stream),
+        Err(error) if error.kind() == ErrorKind::WouldBlock => Arrival::Nobody,
+        Err(_) => Arrival::Failed,
+    }
+}
+
+/// A listener at this address whose calls don't wait. As many connections as the system allows wait to be taken.
+pub fn listen_at<R: Net>(net: &R, address: SocketAddr) -> Result<R::Listener, Failed> {
+    let Ok(listener) = net.bind(address) else {
+        return Err(Failed);
+    };
     if listener.set_nonblocking(true).is_err() {
-        return None;
+        return Err(Failed);
     }
-    let taken = listener.accept();
-    let _ = listener.set_nonblocking(false);
-    match taken {
-        Ok((stream, _)) => Some(stream),
-        Err(_) => None,
-    }
+    // The listener of std lets 128 wait. The system cuts this number to its own limit.
+    let _ = libc::net::listen(listener.as_raw_fd(), i32::MAX);
+    Ok(listener)
 }

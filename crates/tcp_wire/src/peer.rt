@@ -1,221 +1,285 @@
-// The connection in hand: how it is read, sent to and let go.
-ghost use Rattle.std.specs.Prelude.{◌≡◌, ◌≤◌, length, IfOk, OnOk, if◌then◌else◌};
-ghost use Rattle.tcp_wire.specs.TcpState.{fresh_progress};
+// One connection: how it is read, sent to and let go. None of its calls waits.
+ghost use Rattle.std.specs.Prelude.{◌≡◌, ◌≤◌, length, IfErr, if◌then◌else◌};
 ghost use Rattle.tcp_wire.specs.Replies.{refuses};
 
-use crate::waits::{MOST_PARTS, wait_at};
-use edge_io::Failed;
-use std::io;
+use crate::pace::Pace;
+use crate::piece::Piece;
+use crate::waits::Waits;
+use byte_queue::{ByteQueue, CutOff, next_head, write_ready};
+use std::alloc::Global;
 use std::io::{ErrorKind, Read, Write};
 use std::net::{OpenStream, Shutdown};
-use std::time::Duration;
+use std::os::fd::{AsRawFd, RawFd};
 
-/// How many bytes are dropped at most that a client goes on to send after it was refused.
-const DRAINED: usize = 262_144;
+/// How many bytes are dropped at most that a client goes on to send after its connection was closed.
+const MOST_DROPPED: u64 = 16_777_216;
 
-/// How long a client that was refused is waited for, in milliseconds.
-const LINGER: u32 = 200;
+/// How long such a client is waited for, in milliseconds.
+const LINGER: u64 = 2_000;
 
-/// How far a connection is.
+/// Where a connection is between its opening and its end.
 #[derive(Clone, Copy, Debug, PartialEq, Eq)]
-pub struct Progress {
+enum Phase {
+    /// It is read.
+    Reading,
     /// Its input has ended.
-    pub ended: bool,
-    /// How many pieces have come since it was opened or was last sent to.
-    pub pieces: u32,
-    /// It was sent something.
-    pub replied: bool,
-    /// What it was sent last refuses a request, of which more may come.
-    pub refused: bool,
+    Ended,
+    /// It is closed, and is let go once it has taken what is queued.
+    Parting,
+    /// It was told that no more comes, and what it goes on to send is dropped.
+    Lingering,
+    /// It is let go.
+    Gone,
 }
 
-/// Why a read gave nothing.
-#[derive(Clone, Copy, Debug, PartialEq, Eq)]
-pub enum NoBytes {
-    Expired,
-    Broken,
-}
-
-/// A send that failed when so many bytes had been taken.
-#[derive(Clone, Copy, Debug, PartialEq, Eq)]
-pub struct CutOff {
-    pub taken: u64,
-}
-
-/// How a connection was let go.
-#[derive(Clone, Copy, Debug, PartialEq, Eq)]
-pub enum Parting {
-    Shut,
-    Drained,
+/// What comes of a connection.
+#[derive(Drop)]
+pub enum News {
+    Bytes(Piece),
+    Ended,
+    Lost,
 }
 
 /// A connection.
 #[derive(Drop)]
 pub struct Peer<S> {
     stream: S,
-    pub progress: Progress,
-    /// How long its reads wait, in milliseconds, or 0 where that was never set.
-    pub read_wait: u32,
-    write_wait: u32,
+    /// Its number, or 0 before it is opened and after it is closed.
+    pub number: u64,
+    phase: Phase,
+    pace: Pace,
+    /// It is among those that are visited next.
+    pub is_listed: bool,
+    /// The system reports when it can be read or written.
+    pub is_registered: bool,
+    /// Nothing more of it can be read for now.
+    is_dry: bool,
+    /// The client has said that it sends no more.
+    has_hung_up: bool,
+    /// What it may go on to send is dropped after it is closed.
+    lingers: bool,
+    /// How many replies it was sent, up to two.
+    replies: u8,
+    /// What was read and is not given yet.
+    input: ByteQueue,
+    /// What it has still to take.
+    output: ByteQueue,
 }
 
-/// Whether a reply is one that refuses a request before all of it was read.
+/// The reply refuses a request before all of it was read.
 pub fn refuses(reply: &[u8]) -> bool
     ensures { result ≡ refuses reply.now }
 {
     reply.starts_with(b"HTTP/1.1 400 ") || reply.starts_with(b"HTTP/1.1 405 ")
 }
 
-fn is_interrupted(error: &io::Error) -> bool {
-    error.kind() == ErrorKind::Interrupted
-}
-
-impl<S: Read + Write + OpenStream + Drop> Peer<S> {
-    /// A connection whose replies go out at once, each as it is sent.
-    pub fn open(stream: S) -> Peer<S>
-        ensures progress { result.progress ≡ fresh_progress }
-        ensures read_wait { result.read_wait ≡ 0 }
-    {
-        let _ = stream.set_nodelay(true);
+impl<S: Read + Write + OpenStream + AsRawFd + Drop> Peer<S> {
+    /// A connection that was just taken.
+    pub fn new(alloc: Global, stream: S, now: u64) -> Self {
         Peer {
             stream,
-            progress: Progress {
-                ended: false,
-                pieces: 0,
-                replied: false,
-                refused: false,
-            },
-            read_wait: 0,
-            write_wait: 0,
+            number: 0,
+            phase: Phase::Reading,
+            pace: Pace::start(now),
+            is_listed: false,
+            is_registered: false,
+            is_dry: false,
+            has_hung_up: false,
+            lingers: false,
+            replies: 0,
+            input: ByteQueue::new(alloc),
+            output: ByteQueue::new(alloc),
         }
     }
 
-    // Sets how long reads wait.
-    fn set_read_wait(&mut self, millis: u32) -> Result<(), NoBytes>
-        ensures ok { OnOk result (self.new.read_wait ≡ millis) }
-        ensures progress { self.new.progress ≡ self.old.progress }
-    {
-        if self.read_wait == millis {
+    /// The descriptor of its socket.
+    pub fn descriptor(&self) -> RawFd {
+        self.stream.as_raw_fd()
+    }
+
+    /// Whether it was not opened yet.
+    pub fn is_unopened(&self) -> bool {
+        self.number == 0 && matches!(self.phase, Phase::Reading | Phase::Ended)
+    }
+
+    /// How many bytes it has still to take.
+    pub fn queued(&self) -> usize {
+        self.output.len()
+    }
+
+    /// When it last gave or took bytes, in milliseconds of the clock.
+    pub fn since(&self) -> u64 {
+        self.pace.since
+    }
+
+    /// Whether nothing more can be done with it until the system reports it.
+    pub fn is_waiting(&self) -> bool {
+        self.is_dry || !self.output.is_empty() || self.phase == Phase::Ended
+    }
+
+    /// The system has reported it.
+    pub fn wake(&mut self, has_hung_up: bool) {
+        self.is_dry = false;
+        self.has_hung_up |= has_hung_up;
+    }
+
+    /// Whether it is waited for no longer.
+    pub fn is_over(&self, now: u64, waits: Waits) -> bool {
+        let limit = if !self.output.is_empty() {
+            u64::from(waits.stall)
+        } else if self.phase == Phase::Lingering {
+            LINGER
+        } else {
+            u64::from(waits.idle)
+        };
+        self.pace.is_over(now, limit)
+    }
+
+    /// Has it let go at its next turn.
+    pub fn give_up(&mut self, alloc: Global) {
+        self.phase = Phase::Gone;
+        self.output = ByteQueue::new(alloc);
+    }
+
+    /// Its turn: it takes what it has room for of what is queued, and once that is all it is read.
+    pub fn take_turn(&mut self, alloc: Global, now: u64, buffer: &mut [u8]) -> Option<News> {
+        if self.flush(now).is_err() {
+            return Some(News::Lost);
+        }
+        if !self.output.is_empty() {
+            return None;
+        }
+        match self.phase {
+            Phase::Reading => self.feed(alloc, now, buffer),
+            Phase::Ended => None,
+            Phase::Parting => self.settle(now),
+            Phase::Lingering => self.drain(now, buffer),
+            Phase::Gone => Some(News::Lost),
+        }
+    }
+
+    // Writes what it has room for of what is queued.
+    fn flush(&mut self, now: u64) -> Result<(), CutOff> {
+        if self.output.is_empty() {
             return Ok(());
         }
-        let wait = Duration::from_millis(u64::from(millis));
-        if self.stream.set_read_timeout(Some(wait)).is_err() {
-            return Err(NoBytes::Broken);
+        let taken = write_ready(&mut self.stream, self.output.rest())?;
+        self.output.advance(taken);
+        if self.output.is_empty() {
+            self.pace = Pace::start(now);
+        } else if taken > 0 {
+            self.pace.go_on(now, taken);
         }
-        self.read_wait = millis;
         Ok(())
     }
 
-    // Sets how long writes wait.
-    fn set_write_wait(&mut self, millis: u32) -> Result<(), Failed>
-        ensures progress { self.new.progress ≡ self.old.progress }
-        ensures read_wait { self.new.read_wait ≡ self.old.read_wait }
-    {
-        if self.write_wait == millis {
-            return Ok(());
+    // What comes next of its input: the bytes up to the end of a head, so that each turn makes one reply at most.
+    fn feed(&mut self, alloc: Global, now: u64, buffer: &mut [u8]) -> Option<News> {
+        if self.input.is_empty()
+            && let Err(news) = self.fill(now, buffer)
+        {
+            return news;
         }
-        let wait = Duration::from_millis(u64::from(millis));
-        if self.stream.set_write_timeout(Some(wait)).is_err() {
-            return Err(Failed);
+        let (head, _) = next_head(self.input.rest());
+        if head.is_empty() {
+            return None;
         }
-        self.write_wait = millis;
-        Ok(())
+        let count = head.len();
+        match Piece::new(alloc, head) {
+            Ok(piece) => {
+                self.input.advance(count);
+                Some(News::Bytes(piece))
+            }
+            Err(_) => Some(News::Lost),
+        }
     }
 
-    /// Reads what has come, or comes within this time: how many bytes, where 0 is the end. A read that a signal interrupts
-    /// is repeated.
-    pub fn read_within(&mut self, millis: u32, piece: &mut [u8]) -> Result<usize, NoBytes>
-        ensures bound { IfOk result (λ count. count ≤ length piece.new) }
-        ensures wait { OnOk result (self.new.read_wait ≡ millis) }
-        ensures progress { self.new.progress ≡ self.old.progress }
-    {
-        self.set_read_wait(millis)?;
-        for _ in 0..u64::MAX {
-            match self.stream.read(piece) {
-                Ok(count) => return Ok(count),
-                Err(error) if is_interrupted(&error) => {}
-                Err(error) if error.kind() == ErrorKind::WouldBlock => {
-                    return Err(NoBytes::Expired);
+    // Reads what has come, where all that came before was given. An error is what comes in place of bytes.
+    fn fill(&mut self, now: u64, buffer: &mut [u8]) -> Result<(), Option<News>> {
+        if self.is_dry {
+            return Err(None);
+        }
+        match self.stream.read(buffer) {
+            Ok(0) => {
+                self.phase = Phase::Ended;
+                Err(Some(News::Ended))
+            }
+            Ok(count) => {
+                self.pace.go_on(now, count);
+                // The end that came with these bytes was reported with them, and not again.
+                self.is_dry = count < buffer.len() && !self.has_hung_up;
+                match self.input.push(&buffer[..count]) {
+                    Ok(()) => Ok(()),
+                    Err(_) => Err(Some(News::Lost)),
                 }
-                Err(_) => return Err(NoBytes::Broken),
             }
-        }
-        Err(NoBytes::Broken)
-    }
-
-    // Writes what the system takes within this time, and says what is left. A write that a signal interrupts takes nothing.
-    fn write_within<'b>(&mut self, millis: u32, bytes: &'b [u8]) -> Result<&'b [u8], Failed>
-        ensures progress { self.new.progress ≡ self.old.progress }
-        ensures read_wait { self.new.read_wait ≡ self.old.read_wait }
-    {
-        self.set_write_wait(millis)?;
-        match self.stream.write(bytes) {
-            Ok(0) => Err(Failed),
-            Ok(count) => Ok(&bytes[count..]),
-            Err(error) if is_interrupted(&error) => Ok(bytes),
-            Err(_) => Err(Failed),
+            Err(error) if error.kind() == ErrorKind::Interrupted => Err(None),
+            Err(error) if error.kind() == ErrorKind::WouldBlock => {
+                self.is_dry = true;
+                Err(None)
+            }
+            Err(_) => Err(Some(News::Lost)),
         }
     }
 
-    /// Sends all of the bytes. The waits for room halve, as those for bytes do, with each write that took only a part.
-    pub fn send(&mut self, stall: u32, bytes: &[u8]) -> Result<(), CutOff>
-        ensures progress { self.new.progress ≡ self.old.progress }
-        ensures read_wait { self.new.read_wait ≡ self.old.read_wait }
-    {
-        let mut rest = bytes;
-        for parts in 0..MOST_PARTS {
-            if rest.is_empty() {
-                return Ok(());
-            }
-            let Ok(left) = self.write_within(wait_at(stall, parts), rest) else {
-                break;
-            };
-            rest = left;
+    // All is taken by a connection that is closed: it is let go, or else told that no more comes.
+    fn settle(&mut self, now: u64) -> Option<News> {
+        if !self.lingers || self.stream.shutdown(Shutdown::Write).is_err() {
+            return Some(News::Lost);
         }
-        if rest.is_empty() {
-            Ok(())
+        self.phase = Phase::Lingering;
+        self.pace = Pace::start(now);
+        self.is_dry = false;
+        None
+    }
+
+    // Reads and drops what a client goes on to send.
+    fn drain(&mut self, now: u64, buffer: &mut [u8]) -> Option<News> {
+        match self.stream.read(buffer) {
+            Ok(count) if count > 0 && self.pace.bytes < MOST_DROPPED => {
+                self.pace.go_on(now, count);
+                None
+            }
+            Err(error) if error.kind() == ErrorKind::Interrupted => None,
+            Err(error) if error.kind() == ErrorKind::WouldBlock => {
+                self.is_dry = true;
+                None
+            }
+            _ => Some(News::Lost),
+        }
+    }
+
+    /// Sends bytes: what it has no room for is queued, to go out in its turns.
+    pub fn send(&mut self, now: u64, bytes: &[u8]) -> Result<(), CutOff>
+        ensures { IfErr result (λ cut. cut.taken ≤ length bytes.now) }
+    {
+        self.hasten();
+        let taken = if self.output.is_empty() {
+            write_ready(&mut self.stream, bytes)?
         } else {
-            let taken = bytes.len().saturating_sub(rest.len()) as u64;
-            Err(CutOff { taken })
+            0
+        };
+        if self.output.push(&bytes[taken..]).is_err() {
+            return Err(CutOff { taken });
         }
+        self.pace = Pace::start(now);
+        Ok(())
     }
 
-    /// Lets a connection go at once.
-    pub fn shut(self) -> Parting
-        ensures { result ≡ Parting.Shut }
-    {
-        let _ = self.stream.shutdown(Shutdown::Both);
-        Parting::Shut
+    // From its second reply on each is sent at once.
+    fn hasten(&mut self) {
+        if self.replies == 1 {
+            let _ = self.stream.set_nodelay(true);
+        }
+        self.replies = self.replies.saturating_add(1).min(2);
     }
 
-    // Lets a client that was refused go: it is told that no more comes, and what it goes on to send is read and dropped,
-    // so that no reset takes the reply from it.
-    fn drain(mut self, piece: &mut [u8]) -> Parting
-        ensures { result ≡ Parting.Drained }
-    {
-        let _ = self.stream.shutdown(Shutdown::Write);
-        let mut left = DRAINED;
-        for parts in 0..MOST_PARTS {
-            let room = left.min(piece.len());
-            let Ok(count) = self.read_within(wait_at(LINGER, parts), &mut piece[..room]) else {
-                break;
-            };
-            if count == 0 {
-                break;
-            }
-            left -= count;
-        }
-        Parting::Drained
-    }
-
-    /// Lets a connection go, and drains it where its last reply refused a request.
-    pub fn part(self, piece: &mut [u8]) -> Parting
-        ensures { result ≡ (if self.progress.refused then Parting.Drained else Parting.Shut) }
-    {
-        if self.progress.refused {
-            self.drain(piece)
-        } else {
-            self.shut()
-        }
+    /// It is closed, and is let go once it has taken what is queued. Where its last reply refused a request, or something
+    /// may be left to be read, it lingers, so that no reset takes the reply from it.
+    pub fn part(&mut self, refused: bool) {
+        self.lingers =
+            refused || !self.input.is_empty() || (!self.is_dry && self.phase == Phase::Reading);
+        self.number = 0;
+        self.phase = Phase::Parting;
     }
 }
