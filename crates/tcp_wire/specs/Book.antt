@@ -40,9 +40,9 @@ fresh_progress = record { ended = false; pieces = 0; replied = false; refused = 
 abbrev pub with_opened : (token : ℕ) → BookState → BookState
 with_opened token book = record
     (with_line (up book.opened) (record { token = token; progress = fresh_progress }) book) {
-  opened = up book.opened;
-  left = book.left - 1;
-}
+      opened = up book.opened;
+      left = book.left - 1;
+    }
 
 -- the line after one more piece
 abbrev pub with_piece : Line → Line

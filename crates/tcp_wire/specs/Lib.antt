@@ -1,5 +1,4 @@
 pub mod Book
-pub mod Pace
 pub mod Replies
 pub mod TcpState
 pub mod Waits

@@ -1,4 +1,4 @@
--- How long a connection is waited for.
+-- How many pieces of a connection are taken without a reply.
 use Rattle.std.specs.Prelude.{ℕ}
 
 -- after this many pieces without a reply a connection is lost

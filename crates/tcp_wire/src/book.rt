@@ -4,10 +4,12 @@ ghost use Rattle.tcp_wire.specs.Book.{Line, BookState, line_of, let_go, new_book
 ghost use Rattle.tcp_wire.specs.Book.{with_reply, TakesPiece, TakesEnd, Replies};
 ghost use Rattle.wire.specs.Accounts.{up};
 
-use crate::waits::MOST_PIECES;
 use std::alloc::Global;
 use std::collections::BTreeMap;
 use std::marker::Model;
+
+/// After this many pieces without a reply a connection is lost.
+const MOST_PIECES: u32 = 521;
 
 /// How far a connection is.
 #[derive(Clone, Copy, Debug, PartialEq, Eq)]
@@ -164,7 +166,7 @@ impl Book {
 
     /// A reply was sent to a connection that is open. `refused` says that more of its request may come.
     pub fn reply(&mut self, number: u64, refused: bool)
-        ensures { IsSome (line_of self.old number) → Replies number refused self.old self.new }
+        ensures some { IsSome (line_of self.old number) → Replies number refused self.old self.new }
         ensures none { line_of self.old number ≡ None → self.new ≡ self.old }
     {
         if let Some(mut line) = self.line(number) {

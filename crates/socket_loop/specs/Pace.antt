@@ -1,6 +1,6 @@
 -- How fast a connection gives or takes bytes, and when that is too slow. Times are in milliseconds.
 use Rattle.std.specs.Prelude.{◌+◌, ◌-◌, ◌/◌, ◌^◌, ◌==◌, ◌||◌, ℕ, Bool, nat_lt, min, if◌then◌else◌}
-use Rattle.tcp_wire.specs.declared.pace.Pace.{Pace}
+use Rattle.socket_loop.specs.declared.pace.Pace.{Pace}
 
 -- a wait that begins
 abbrev pub started : (now : ℕ) → Pace

@@ -1,6 +1,6 @@
 // How fast a connection gives or takes bytes.
 ghost use Rattle.std.specs.Prelude.{◌≡◌, ◌+◌, ◌≤◌, ◌<◌};
-ghost use Rattle.tcp_wire.specs.Pace.{is_over, started, gone_on};
+ghost use Rattle.socket_loop.specs.Pace.{is_over, started, gone_on};
 
 /// How many bytes a millisecond a connection gives or takes at least.
 const RATE: u64 = 16;

@@ -1,5 +1,4 @@
 // How connections are taken from a listener.
-use edge_io::Failed;
 use std::io::ErrorKind;
 use std::net::{Net, OpenListener, SocketAddr};
 use std::os::fd::AsRawFd;
@@ -22,14 +21,10 @@ pub fn take_waiting<L: OpenListener>(listener: &L) -> Arrival<L::Stream> {
 }
 
 /// A listener at this address whose calls don't wait. As many connections as the system allows wait to be taken.
-pub fn listen_at<R: Net>(net: &R, address: SocketAddr) -> Result<R::Listener, Failed> {
-    let Ok(listener) = net.bind(address) else {
-        return Err(Failed);
-    };
-    if listener.set_nonblocking(true).is_err() {
-        return Err(Failed);
-    }
+pub fn listen_at<R: Net>(net: &R, address: SocketAddr) -> Option<R::Listener> {
+    let listener = net.bind(address).ok()?;
+    listener.set_nonblocking(true).ok()?;
     // The listener of std lets 128 wait. The system cuts this number to its own limit.
     let _ = libc::net::listen(listener.as_raw_fd(), i32::MAX);
-    Ok(listener)
+    Some(listener)
 }

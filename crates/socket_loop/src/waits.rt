@@ -8,6 +8,3 @@ pub struct Waits {
     /// For room, while a reply is sent.
     pub stall: u32,
 }
-
-/// After this many pieces without a reply a connection is lost.
-pub(crate) const MOST_PIECES: u32 = 521;

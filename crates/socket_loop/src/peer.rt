@@ -1,6 +1,5 @@
 // One connection: how it is read, sent to and let go. None of its calls waits.
-ghost use Rattle.std.specs.Prelude.{◌≡◌, ◌≤◌, length, IfErr, if◌then◌else◌};
-ghost use Rattle.tcp_wire.specs.Replies.{refuses};
+ghost use Rattle.std.specs.Prelude.{◌≡◌, ◌≤◌, length, IfErr};
 
 use crate::pace::Pace;
 use crate::piece::Piece;
@@ -64,13 +63,6 @@ pub struct Peer<S> {
     input: ByteQueue,
     /// What it has still to take.
     output: ByteQueue,
-}
-
-/// The reply refuses a request before all of it was read.
-pub fn refuses(reply: &[u8]) -> bool
-    ensures { result ≡ refuses reply.now }
-{
-    reply.starts_with(b"HTTP/1.1 400 ") || reply.starts_with(b"HTTP/1.1 405 ")
 }
 
 impl<S: Read + Write + OpenStream + AsRawFd + Drop> Peer<S> {
@@ -277,8 +269,9 @@ impl<S: Read + Write + OpenStream + AsRawFd + Drop> Peer<S> {
     /// It is closed, and is let go once it has taken what is queued. Where its last reply refused a request, or something
     /// may be left to be read, it lingers, so that no reset takes the reply from it.
     pub fn part(&mut self, refused: bool) {
-        self.lingers =
-            refused || !self.input.is_empty() || (!self.is_dry && self.phase == Phase::Reading);
+        self.lingers = refused
+            || !self.input.is_empty()
+            || (!self.is_dry && self.phase == Phase::Reading);
         self.number = 0;
         self.phase = Phase::Parting;
     }

@@ -56,9 +56,10 @@ impl<L, S> Model for EventLoop<L, S> {
     ghost view = { λ _. tt };
 }
 
-impl<S: Read + Write + OpenStream + AsRawFd + Drop, L: OpenListener<Stream = S> + AsRawFd + Drop>
-    EventLoop<L, S>
-{
+impl<
+    S: Read + Write + OpenStream + AsRawFd + Drop,
+    L: OpenListener<Stream = S> + AsRawFd + Drop,
+> EventLoop<L, S> {
     /// A loop over the connections of this listener, of which at most so many are open at once. Nothing where the system
     /// or memory refuses it.
     pub fn new<R: Net>(

@@ -1,4 +1,0 @@
-mod Next
-mod Pieces
-mod Release
-mod Sends
