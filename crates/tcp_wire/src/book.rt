@@ -182,7 +182,11 @@ impl Book {
         requires { IsSome (line_of self.old number) }
         ensures { self.new ≡ with_line number line self.old }
     {
-        let _ = self.lines.insert(number, line);
+        // Only a new number takes memory.
+        match self.lines.insert(number, line) {
+            Ok(_) => {}
+            Err(_) => {}
+        }
     }
 
     /// Lets a connection go, if it is open.

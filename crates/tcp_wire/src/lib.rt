@@ -121,7 +121,10 @@ impl<'r, R: Net + Clock, F: Files> Sockets<'r, R, F> {
             return held;
         }
         let accepts = self.book.expects_more();
-        self.running.as_mut()?.next(self.system, accepts)
+        match &mut self.running {
+            Some(running) => running.next(self.system, accepts),
+            None => None,
+        }
     }
 
     // What the watched file holds, where it is to be read and holds another text than before.
@@ -145,15 +148,26 @@ impl<'r, R: Net + Clock, F: Files> Sockets<'r, R, F> {
         }
     }
 
+    // The change that comes before the next connection is opened, if one does.
+    fn change(&mut self, alloc: Global) -> Option<Str>
+        ensures none { result ≡ None → self.new ≡ self.old }
+        ensures some { IfSome result (λ text. (0 < self.old.book.left)
+            × GivesChange self.old text self.new) }
+    {
+        if !self.book.expects_more() {
+            return None;
+        }
+        let text = self.look(alloc)?;
+        Some(text)
+    }
+
     // Opens the connection of the signal, which is held until then, or gives a change before. Where memory for it is
     // refused, and where no more are opened, it is let go.
     fn open(&mut self, alloc: Global, signal: Signal) -> Option<WireEvent>
         ensures none { result ≡ None → self.new ≡ self.old }
         ensures some { IfSome result (λ event. IsNextIn self.old event self.new) }
     {
-        if self.book.expects_more()
-            && let Some(text) = self.look(alloc)
-        {
+        if let Some(text) = self.change(alloc) {
             self.held = Some(signal);
             return Some(WireEvent::Change(text));
         }
