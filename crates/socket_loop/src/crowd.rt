@@ -79,9 +79,16 @@ impl<S: Read + Write + OpenStream + AsRawFd + Drop> Crowd<S> {
         self.peers.len()
     }
 
-    /// Whether some are to be visited.
-    pub fn is_busy(&self) -> bool {
-        !self.listed.is_empty()
+    /// Whether some are to be visited. Those that are gone are no longer listed then, up to the first other one.
+    pub fn is_busy(&mut self) -> bool {
+        for _ in 0..self.listed.len() {
+            match self.listed.front() {
+                Some(token) if self.peers.contains_key(token) => return true,
+                _ => {}
+            }
+            let _ = self.listed.pop_front();
+        }
+        false
     }
 
     /// The time, as the clock has it now, in milliseconds.
@@ -158,6 +165,7 @@ impl<S: Read + Write + OpenStream + AsRawFd + Drop> Crowd<S> {
         let after = peer.queued();
         let number = peer.number;
         let is_over = peer.is_waiting() && peer.is_over(self.now, self.waits);
+        let is_reported = peer.is_registered && peer.is_spent();
         self.count(before, after);
         let news = match turn {
             None if !is_over => {
@@ -168,6 +176,7 @@ impl<S: Read + Write + OpenStream + AsRawFd + Drop> Crowd<S> {
             None => News::Lost,
         };
         match news {
+            News::Bytes(_) if is_reported => {}
             News::Bytes(_) => self.list(token),
             News::Ended => self.wait_for(token, poll),
             News::Lost => self.remove(token),

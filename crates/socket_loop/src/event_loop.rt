@@ -143,13 +143,13 @@ impl<
     }
 
     // How long the system is waited for: not at all where connections are listed, and else until the next sweep, if one is
-    // open.
-    fn timeout(&self, accepts: bool) -> Option<Duration> {
+    // open or may be.
+    fn timeout(&mut self, accepts: bool) -> Option<Duration> {
         if self.crowd.is_busy() {
             Some(Duration::from_millis(0))
         } else if accepts && self.is_stuck {
             Some(Duration::from_millis(PAUSE))
-        } else if self.crowd.len() > 0 {
+        } else if self.crowd.len() > 0 || (accepts && self.is_awaited) {
             Some(Duration::from_millis(SWEEP))
         } else {
             None

@@ -109,6 +109,11 @@ impl<S: Read + Write + OpenStream + AsRawFd + Drop> Peer<S> {
         self.is_dry || !self.output.is_empty() || self.phase == Phase::Ended
     }
 
+    /// Whether all that has come is given.
+    pub fn is_spent(&self) -> bool {
+        self.is_dry && self.input.is_empty()
+    }
+
     /// The system has reported it.
     pub fn wake(&mut self, has_hung_up: bool) {
         self.is_dry = false;
