@@ -1,7 +1,7 @@
 // The book of the connections that are open, by their numbers.
 ghost use Rattle.std.specs.Prelude.{◌≡◌, ◌<◌, [], true, false, None, Some, IfSome, IsSome};
-ghost use Rattle.tcp_wire.specs.Book.{Line, BookState, line_of, let_go, new_book, with_opened, with_line};
-ghost use Rattle.tcp_wire.specs.Book.{with_reply, TakesPiece, TakesEnd, Replies};
+ghost use Rattle.tcp_wire.specs.Book.{line_of, let_go, new_book, with_opened, with_line};
+ghost use Rattle.tcp_wire.specs.Book.{TakesPiece, TakesEnd, Replies};
 ghost use Rattle.wire.specs.Accounts.{up};
 
 use std::alloc::Global;

@@ -161,37 +161,44 @@ impl<'r, R: Net + Clock, F: Files> Sockets<'r, R, F> {
         Some(text)
     }
 
-    // Opens the connection of the signal, which is held until then, or gives a change before. Where memory for it is
+    // Opens the connection of which this came, which is held until then, or gives a change before. Where memory for it is
     // refused, and where no more are opened, it is let go.
-    fn open(&mut self, alloc: Global, signal: Signal) -> Option<WireEvent>
+    fn open(&mut self, alloc: Global, token: u64, news: News) -> Option<WireEvent>
         ensures none { result ≡ None → self.new ≡ self.old }
         ensures some { IfSome result (λ event. IsNextIn self.old event self.new) }
     {
         if let Some(text) = self.change(alloc) {
-            self.held = Some(signal);
+            self.hold(token, 0, news);
             return Some(WireEvent::Change(text));
         }
-        let Some(number) = self.book.open(signal.token) else {
-            self.cut(signal.token);
+        let Some(number) = self.book.open(token) else {
+            self.cut(token);
             return None;
         };
         self.pass();
-        self.hold(signal, number);
+        self.name(token, number);
+        self.hold(token, number, news);
         Some(WireEvent::Opened(number))
     }
 
-    // Holds what came of a connection that was opened under this number.
-    fn hold(&mut self, signal: Signal, number: u64)
+    // Holds what came of a connection.
+    fn hold(&mut self, token: u64, number: u64, news: News)
+        ensures { self.new ≡ self.old }
+    {
+        self.held = Some(Signal {
+            token,
+            number,
+            news,
+        });
+    }
+
+    // Tells the loop the number of a connection.
+    fn name(&mut self, token: u64, number: u64)
         ensures { self.new ≡ self.old }
     {
         if let Some(running) = &mut self.running {
-            running.name(signal.token, number);
+            running.name(token, number);
         }
-        self.held = Some(Signal {
-            token: signal.token,
-            number,
-            news: signal.news,
-        });
     }
 
     // A piece of a connection. Where too many came without a reply it is lost.
@@ -234,17 +241,23 @@ impl<'r, R: Net + Clock, F: Files> Sockets<'r, R, F> {
         ensures none { result ≡ None → self.new ≡ self.old }
         ensures some { IfSome result (λ event. IsNextIn self.old event self.new) }
     {
-        if signal.number == 0 {
-            return self.open(alloc, signal);
+        let Signal {
+            token,
+            number,
+            news,
+        } = signal;
+        if number == 0 {
+            return self.open(alloc, token, news);
         }
-        match signal.news {
-            News::Bytes(piece) => self.take_piece(signal.token, signal.number, piece),
-            News::Ended => self.take_end(signal.number),
-            News::Lost => self.lose(signal.number),
+        match news {
+            News::Bytes(piece) => self.take_piece(token, number, piece),
+            News::Ended => self.take_end(number),
+            News::Lost => self.lose(number),
         }
     }
 
     // The next event.
+    #[tactic(auto, using(crate::proofs::Next::faults_stay))]
     fn draw(&mut self, alloc: Global) -> Result<WireEvent, WireEnd>
         ensures event { IfOk result (λ event. IsNextIn self.old event self.new) }
         ensures fine { OnOk result (self.new.next_faults ≡ self.old.next_faults) }
@@ -563,8 +576,8 @@ impl<R: Net + Clock, F: Files> Wire for TcpWire<'_, R, F> {
                 self.history.sent(connection, bytes);
                 Ok(())
             }
-            Err(cut) => {
-                let taken = cut.taken as u64;
+            Err(CutOff { taken }) => {
+                let taken = taken as u64;
                 self.log.send_failed(connection, bytes, taken);
                 self.history.send_failed(connection, bytes, taken);
                 Err(Failed)

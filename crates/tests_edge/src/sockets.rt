@@ -14,12 +14,6 @@ const SHORT: Waits = Waits {
     stall: 60,
 };
 
-// Only what takes no reply ends within these waits.
-const SLOW: Waits = Waits {
-    idle: 600_000,
-    stall: 60,
-};
-
 // What ends within these waits has another reason.
 const LONG: Waits = Waits {
     idle: 600_000,
@@ -162,10 +156,10 @@ const TALKS: &[Talk] = &[
             Step::Take(1, b"a reply"),
         ],
     },
-    // Of 32 MiB a slow client takes 16 while another one sends bytes; then it is waited for no longer than the stall.
+    // All of its 32 MiB.
     Talk {
         name: "a client takes a long reply while another one is heard",
-        waits: SLOW,
+        waits: LONG,
         steps: &[
             Step::Listen(2),
             Step::Connect(2),
@@ -177,7 +171,8 @@ const TALKS: &[Talk] = &[
             Step::Close(1),
             Step::Opened(2),
             Step::Piece(2, b"x"),
-            Step::TakeAside(256, 0, 65_536, 1, 2),
+            Step::TakeAside(512, 0, 65_536, 1, 2),
+            Step::Take(0, b""),
             Step::Reply(2, b"a reply"),
             Step::Finish,
             Step::Take(1, b"a reply"),
