@@ -13,6 +13,9 @@ use std::time::Clock;
 use std::{env, process};
 use tcp_wire::{TcpWire, Waits};
 
+/// How many connections are open at once, if the system has descriptors for them.
+const MOST_OPEN: usize = 16_384;
+
 // The words after the program's name. A word that isn't text fails them all.
 fn given_words<R: Env + AllocGlobal>(rt: &R) -> Result<GivenWords, NoWords> {
     let alloc = rt.alloc();
@@ -39,6 +42,7 @@ fn given_wire<'r, R: Net + Clock + Files + AllocGlobal>(
             idle: waits.idle,
             stall: waits.stall,
         },
+        MOST_OPEN,
     )
 }
 
