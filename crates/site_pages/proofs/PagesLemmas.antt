@@ -87,6 +87,13 @@ module _ (before : Current) (text : List ℕ) where
     pub edit_stays_is : (t : Term) → stays before text t ≡ edit_stays the_rules before found t
     edit_stays_is t = ap (λ (b : Bool). if b then false else edit_stays the_rules before found t) not_data
 
+    module _ (o : Option Edit) (is : o ≡ found) where
+      pub edit_stays_by : (t : Term) → stays before text t ≡ edit_stays the_rules before o t
+      edit_stays_by t = edit_stays_is t ∙ ap (λ (x : Option Edit). edit_stays the_rules before x t) (sym is)
+
+      pub edit_flags : ◌≡◌ {A = Term → Bool} (edit_stays the_rules before o) (stays before text)
+      edit_flags = ap (λ (x : Option Edit). edit_stays the_rules before x) is ∙ stays_so
+
 -- ---- an edit of the pages' own store
 
 graph_in : (pages : MadePages) → (store_in pages).graph ≡ (fixed_of pages).graph
