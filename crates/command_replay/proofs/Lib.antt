@@ -1,3 +1,4 @@
 pub mod Runs
 pub mod Plays
+pub mod Courses
 pub mod Law

@@ -35,6 +35,7 @@ pub(crate) fn default_waits() -> ServeWaits
     ServeWaits {
         idle: NumberOption::Idle.otherwise() as u32,
         stall: NumberOption::Stall.otherwise() as u32,
+        at_once: NumberOption::OpenAtOnce.otherwise() as u32,
     }
 }
 

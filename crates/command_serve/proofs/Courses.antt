@@ -31,10 +31,22 @@ use Rattle.command_serve.specs.Ends.{serving_text, no_tally, Watching, WatchesIf
 use Rattle.command_serve.specs.Course.{listen_of, watch_of, CountsHappen, ServesThenCounts, TellsThenServes, ListensThenTells, OverCourse, ServeCourse}
 
 -- the steps of a run are what they added
-pub steps_added : (s : Inputs) (limits : RunLimits) (before after : WireReport) (served : Served) (old new : List Happening) → ServesSiteInSteps s limits before after served old new
+steps_added : (s : Inputs) (limits : RunLimits) (before after : WireReport) (served : Served) (old new : List Happening) → ServesSiteInSteps s limits before after served old new
     → Added old new (ServesSiteInSteps s limits before after served [])
-steps_added s limits before after served old new (rules, steps, last, ending, is) =
-    (steps.tally.trace ++ last, is, rules, steps, last, ending, refl)
+steps_added s limits before after served old new (rules, (steps, (last, ending, is))) =
+    (steps.tally.trace ++ last, is, (rules, (steps, (last, ending, refl))))
+
+-- the same over a wire to which the log was lent for them
+pub steps_lent : (s : Inputs) (limits : RunLimits) (before lent done after : WireReport) (served : Served) (old given taken new : List Happening)
+    → lent ≡ before → after ≡ done → given ≡ old → new ≡ taken → ServesSiteInSteps s limits lent done served given taken
+    → Added old new (ServesSiteInSteps s limits before after served [])
+steps_lent s limits before lent done after served old given taken new is_before is_after is_given is_taken steps =
+    let x = steps_added s limits lent done served given taken steps in (
+      x.0,
+      is_taken ∙ x.1 ∙ ap (λ t. t ++ x.0) is_given,
+      subst (λ (r : WireReport). ServesSiteInSteps s limits r after served [] x.0) is_before
+          (subst (λ (r : WireReport). ServesSiteInSteps s limits lent r served [] x.0) (sym is_after) x.2),
+    )
 
 -- the counts
 pub counts_added : (stream : Stream) (watches : Bool) (served : Served) (text : List ℕ) (reached : Status) (a b : List Happening) → text ≡ tally_text watches served.tally
@@ -80,11 +92,11 @@ module _ (s : Inputs) (stream : Stream) (watches : Bool) (options : ServeOptions
 
 -- the wire watches, if it is to, or not
 module _ (s : Inputs) (stream : Stream) (options : ServeOptions) (a b c : List Happening) where
-  pub over_then : (watch : Option WatchOptions) (before between after : WireReport) (reached : Status) → b ≡ a ++ watch_of {E = ⊤} watch (Ok tt) → WatchesIf watch before between
+  pub over_then : (E : Type 0) (watch : Option WatchOptions) (before between after : WireReport) (reached : Status) (unit : ⊤) → b ≡ a ++ watch_of {E = E} watch (Ok unit) → WatchesIf watch before between
       → Added b c (λ p. ListensThenTells s stream (is_some watch) options between after p reached) → Added a c (λ p. OverCourse s stream watch options before after p reached)
-  over_then None before between after reached is same y =
+  over_then E None before between after reached unit is same y =
       (y.0, y.1 ∙ ap (λ r. r ++ y.0) (is ∙ append-nil a), inl (subst (λ (t : WireReport). ListensThenTells s stream false options t after y.0 reached) same y.2))
-  over_then (Some watch) before between after reached is watching y =
+  over_then E (Some watch) before between after reached unit is watching y =
       added_behind a b c (Watched watch.path watch.every) (λ p. ListensThenTells s stream true options between after p reached) (λ p. OverCourse s stream (Some watch) options before after p reached)
       is y (λ q others. inl (inr (q, between, watching, others, refl)))
 

@@ -1,7 +1,7 @@
 -- What happens in a run of `serve`, in its order: the inputs are read; the wire is let watch, if a file is to be watched, and
 -- listen; the port is reported; each event is taken, with what is sent and closed for it before the next; and the counts
 -- are put. Each of these only where the one before was done.
-use Rattle.std.specs.Prelude.{◌≡◌, ◌⊎◌, ℕ, Bool, List, [], ◌∷◌, ◌++◌, is_some, Option, Some, None, Result, Ok, Err, ⊤}
+use Rattle.std.specs.Prelude.{◌≡◌, ◌⊎◌, ℕ, Bool, true, false, List, [], ◌∷◌, ◌++◌, Option, Some, None, Result, Ok, Err, ⊤}
 use Rattle.edge_io.specs.Files.{FileMap}
 use Rattle.happenings.specs.Happening.{Happening, Put, PutFailed, Watched, WatchFailed, Listened, ListenFailed}
 use Rattle.happenings.specs.declared.stream.Stream.{Stream}

@@ -41,3 +41,7 @@ cache_limit = 4096
 -- the longest wait for a connection, in milliseconds
 abbrev pub wait_limit : ℕ
 wait_limit = 4294967295
+
+-- the most connections that are open at once
+abbrev pub open_limit : ℕ
+open_limit = 16384

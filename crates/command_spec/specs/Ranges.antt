@@ -1,6 +1,6 @@
 -- The ranges in which the numbers of a command lie.
 use Rattle.std.specs.Prelude.{ℕ, ◌≤◌, IfSome, ⊤}
-use Rattle.command_spec.specs.Limits.{entry_limit, count_limit, port_limit, cache_limit, wait_limit}
+use Rattle.command_spec.specs.Limits.{entry_limit, count_limit, port_limit, cache_limit, wait_limit, open_limit}
 use Rattle.command_spec.specs.declared.RunLimits.{RunLimits}
 use Rattle.command_spec.specs.declared.ServeOptions.{ServeOptions}
 use Rattle.command_spec.specs.declared.ServeWaits.{ServeWaits}
@@ -24,6 +24,7 @@ pub record AreLimits (limits : RunLimits) : Type 0 where
 pub record AreWaits (waits : ServeWaits) : Type 0 where
   pub idle : IsFrom1To wait_limit waits.idle
   pub stall : IsFrom1To wait_limit waits.stall
+  pub at_once : IsFrom1To open_limit waits.at_once
 
 -- the options of `serve` are in their ranges
 pub record AreServeOptions (options : ServeOptions) : Type 0 where

@@ -4,7 +4,7 @@ use Rattle.std.specs.Prelude.{if◌then◌else◌, codes}
 use Rattle.std.specs.Option.{option_copied}
 use Rattle.std.specs.Str.{bytes_eq}
 use Rattle.command_spec.specs.declared.numbers.NumberOption.TheVariants.{Port, Connections, Requests}
-use Rattle.command_spec.specs.declared.numbers.NumberOption.TheVariants.{Turns, Cache, Idle, Stall, Every}
+use Rattle.command_spec.specs.declared.numbers.NumberOption.TheVariants.{Turns, Cache, Idle, Stall, OpenAtOnce, Every}
 use Rattle.command_spec.specs.declared.options.PathOption.TheVariants.{Watch, Over}
 use Rattle.command_spec.specs.declared.options.ValueOption.{ValueOption}
 use Rattle.command_spec.specs.declared.options.ValueOption.TheVariants.{Number, Path}
@@ -27,7 +27,7 @@ pub record Row : Type 0 where
 abbrev pub options_of_serve : List ValueOption
 options_of_serve =
     Number Port ∷ Number Connections ∷ Number Requests ∷ Number Turns ∷ Number Cache
-    ∷ Number Idle ∷ Number Stall ∷ Path Watch ∷ Number Every ∷ Path Over ∷ []
+    ∷ Number Idle ∷ Number Stall ∷ Number OpenAtOnce ∷ Path Watch ∷ Number Every ∷ Path Over ∷ []
 
 -- the options of `replay`
 abbrev pub options_of_replay : List ValueOption
@@ -190,6 +190,7 @@ serve_row = record {
       ++ codes "  --idle MS        milliseconds that a silent client has, 1 to 4294967295 (5000)\n"
       ++ codes "  --stall MS       milliseconds that a reply waits for its client, 1 to 4294967295 "
       ++ codes "(10000)\n"
+      ++ codes "  --open N         connections that are open at once, 1 to 16384 (16384)\n"
       ++ codes "  --watch PATH     a file of data text that replaces the data when it has changed\n"
       ++ codes "  --every N        connections after which it is read, 1 to 4294967296 (1)\n"
       ++ codes "  --over FILE      a first query, whose site over the data files is the data\n"

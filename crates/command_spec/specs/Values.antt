@@ -6,7 +6,7 @@ use Rattle.std.specs.Str.{bytes_eq}
 use Rattle.command_spec.specs.Options.{Setting}
 use Rattle.command_spec.specs.declared.numbers.NumberOption.{NumberOption}
 use Rattle.command_spec.specs.declared.numbers.NumberOption.TheVariants.{Port, Connections, Requests, Turns, Cache}
-use Rattle.command_spec.specs.declared.numbers.NumberOption.TheVariants.{Idle, Stall, Every}
+use Rattle.command_spec.specs.declared.numbers.NumberOption.TheVariants.{Idle, Stall, OpenAtOnce, Every}
 use Rattle.command_spec.specs.declared.options.PathOption.{PathOption}
 use Rattle.command_spec.specs.declared.options.PathOption.TheVariants.{Watch, Over}
 use Rattle.command_spec.specs.declared.options.ValueOption.{ValueOption}
@@ -21,6 +21,7 @@ number_name Turns = codes "turns"
 number_name Cache = codes "cache"
 number_name Idle = codes "idle"
 number_name Stall = codes "stall"
+number_name OpenAtOnce = codes "open"
 number_name Every = codes "every"
 
 -- the name of an option whose value is a path

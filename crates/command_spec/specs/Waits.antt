@@ -1,6 +1,6 @@
--- How long the wire of a run waits for a connection, in milliseconds.
+-- How long the wire of a run waits for a connection, in milliseconds, and for how many at once.
 use Rattle.std.specs.Prelude.{Option, None, Some}
-use Rattle.command_spec.specs.declared.numbers.NumberOption.TheVariants.{Idle, Stall}
+use Rattle.command_spec.specs.declared.numbers.NumberOption.TheVariants.{Idle, Stall, OpenAtOnce}
 use Rattle.command_spec.specs.declared.ServeWaits.{ServeWaits}
 use Rattle.command_spec.specs.declared.Command.{Command}
 use Rattle.command_spec.specs.declared.Command.TheVariants.{Serve}
@@ -8,7 +8,11 @@ use Rattle.command_spec.specs.Numbers.{default_of}
 
 -- the waits where no option says others
 abbrev pub default_waits : ServeWaits
-default_waits = record { idle = default_of Idle; stall = default_of Stall }
+default_waits = record {
+  idle = default_of Idle;
+  stall = default_of Stall;
+  at_once = default_of OpenAtOnce;
+}
 
 -- the waits of a command: those of its options, where it is `serve`
 abbrev pub command_waits : Command → ServeWaits

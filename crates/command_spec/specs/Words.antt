@@ -5,7 +5,7 @@ use Rattle.std.specs.List.{list_all}
 use Rattle.std.specs.Str.{bytes_eq, is_utf8}
 use Rattle.command_spec.specs.Limits.{entry_limit}
 use Rattle.command_spec.specs.declared.numbers.NumberOption.TheVariants.{Port, Connections, Requests}
-use Rattle.command_spec.specs.declared.numbers.NumberOption.TheVariants.{Turns, Cache, Idle, Stall, Every}
+use Rattle.command_spec.specs.declared.numbers.NumberOption.TheVariants.{Turns, Cache, Idle, Stall, OpenAtOnce, Every}
 use Rattle.command_spec.specs.declared.options.PathOption.TheVariants.{Watch, Over}
 use Rattle.command_spec.specs.declared.options.ValueOption.TheVariants.{Number, Path}
 use Rattle.command_spec.specs.declared.rows.CommandName.{CommandName}
@@ -170,12 +170,13 @@ run_limits given = do
   cache ← number_of Cache given
   Some (record { requests = requests; turns = turns; cache = cache })
 
--- how long `serve` waits for a connection
+-- how long `serve` waits for a connection, and for how many at once
 abbrev pub serve_waits : Given → Option ServeWaits
 serve_waits given = do
   idle ← number_of Idle given
   stall ← number_of Stall given
-  Some (record { idle = idle; stall = stall })
+  at_once ← number_of OpenAtOnce given
+  Some (record { idle = idle; stall = stall; at_once = at_once })
 
 -- the options of `serve`, with or without its flag
 abbrev pub serve_options : Bool → Given → Option ServeOptions

@@ -154,13 +154,15 @@ pub struct RunLimits {
     pub cache: u32,
 }
 
-/// How long `serve` waits for a connection, in milliseconds.
+/// How long `serve` waits for a connection, in milliseconds, and for how many at once.
 #[derive(Clone, Copy, Debug, PartialEq, Eq)]
 pub struct ServeWaits {
     /// For bytes, after its opening or its last reply, 1 to 4,294,967,295.
     pub idle: u32,
     /// For room, while a reply is sent, 1 to 4,294,967,295.
     pub stall: u32,
+    /// Connections that are open at once, 1 to 16,384. Others wait in the system's queue.
+    pub at_once: u32,
 }
 
 /// The options of `serve`.

@@ -13,6 +13,7 @@ pub enum NumberOption {
     Cache,
     Idle,
     Stall,
+    OpenAtOnce,
     Every,
 }
 
@@ -29,6 +30,7 @@ impl NumberOption {
             NumberOption::Cache => "cache",
             NumberOption::Idle => "idle",
             NumberOption::Stall => "stall",
+            NumberOption::OpenAtOnce => "open",
             NumberOption::Every => "every",
         }
     }
@@ -45,6 +47,7 @@ impl NumberOption {
             | NumberOption::Every => 4_294_967_296,
             NumberOption::Cache => 4_096,
             NumberOption::Idle | NumberOption::Stall => 4_294_967_295,
+            NumberOption::OpenAtOnce => 16_384,
         }
     }
 
@@ -59,6 +62,7 @@ impl NumberOption {
             NumberOption::Cache => 256,
             NumberOption::Idle => 5_000,
             NumberOption::Stall => 10_000,
+            NumberOption::OpenAtOnce => 16_384,
         }
     }
 }

@@ -68,6 +68,7 @@ const SERVE_OPTIONS: &[ValueOption] = &[
     ValueOption::Number(NumberOption::Cache),
     ValueOption::Number(NumberOption::Idle),
     ValueOption::Number(NumberOption::Stall),
+    ValueOption::Number(NumberOption::OpenAtOnce),
     ValueOption::Path(PathOption::Watch),
     ValueOption::Number(NumberOption::Every),
     ValueOption::Path(PathOption::Over),
@@ -225,6 +226,7 @@ Serves the pages of the site on 127.0.0.1 over HTTP.\n\
 \x20 --cache N        pages that are kept, 1 to 4096 (256)\n\
 \x20 --idle MS        milliseconds that a silent client has, 1 to 4294967295 (5000)\n\
 \x20 --stall MS       milliseconds that a reply waits for its client, 1 to 4294967295 (10000)\n\
+\x20 --open N         connections that are open at once, 1 to 16384 (16384)\n\
 \x20 --watch PATH     a file of data text that replaces the data when it has changed\n\
 \x20 --every N        connections after which it is read, 1 to 4294967296 (1)\n\
 \x20 --over FILE      a first query, whose site over the data files is the data\n\

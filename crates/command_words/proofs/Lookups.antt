@@ -6,7 +6,7 @@ use Rattle.std.proofs.lemmas.Slice.Eq.{bytes_eq-Decides}
 use Rattle.clap.specs.Walk.{Rule, Text, arg_by_id, arg_by_long, arg_by_short, has_short}
 use Rattle.clap.specs.declared.builder.value_parser.ValueParser.TheVariants.{String}
 use Rattle.command_spec.specs.declared.options.ValueOption.{ValueOption}
-use Rattle.command_spec.specs.declared.numbers.NumberOption.TheVariants.{Port, Connections, Requests, Turns, Cache, Idle, Stall, Every}
+use Rattle.command_spec.specs.declared.numbers.NumberOption.TheVariants.{Port, Connections, Requests, Turns, Cache, Idle, Stall, OpenAtOnce, Every}
 use Rattle.command_spec.specs.declared.options.PathOption.TheVariants.{Watch, Over}
 use Rattle.command_spec.specs.declared.options.ValueOption.TheVariants.{Number, Path}
 use Rattle.command_spec.specs.Values.{option_name, option_word, is_among}
@@ -60,6 +60,7 @@ dashed (Number Turns) = refl
 dashed (Number Cache) = refl
 dashed (Number Idle) = refl
 dashed (Number Stall) = refl
+dashed (Number OpenAtOnce) = refl
 dashed (Path Watch) = refl
 dashed (Number Every) = refl
 dashed (Path Over) = refl
@@ -72,6 +73,7 @@ own_name (Number Turns) = refl
 own_name (Number Cache) = refl
 own_name (Number Idle) = refl
 own_name (Number Stall) = refl
+own_name (Number OpenAtOnce) = refl
 own_name (Path Watch) = refl
 own_name (Number Every) = refl
 own_name (Path Over) = refl
@@ -86,6 +88,7 @@ which name =
     else if bytes_eq name (codes "cache") then Some (Number Cache)
     else if bytes_eq name (codes "idle") then Some (Number Idle)
     else if bytes_eq name (codes "stall") then Some (Number Stall)
+    else if bytes_eq name (codes "open") then Some (Number OpenAtOnce)
     else if bytes_eq name (codes "watch") then Some (Path Watch)
     else if bytes_eq name (codes "every") then Some (Number Every)
     else if bytes_eq name (codes "over") then Some (Path Over)
@@ -100,6 +103,7 @@ which_own (Number Turns) = refl
 which_own (Number Cache) = refl
 which_own (Number Idle) = refl
 which_own (Number Stall) = refl
+which_own (Number OpenAtOnce) = refl
 which_own (Path Watch) = refl
 which_own (Number Every) = refl
 which_own (Path Over) = refl

@@ -5,7 +5,7 @@ use Rattle.std.specs.List.{list_all}
 use Rattle.std.specs.Str.{bytes_eq}
 use Rattle.clap.specs.Walk.{Row, Text}
 use Rattle.command_spec.specs.declared.options.ValueOption.{ValueOption}
-use Rattle.command_spec.specs.declared.numbers.NumberOption.TheVariants.{Port, Connections, Requests, Turns, Cache, Idle, Stall, Every}
+use Rattle.command_spec.specs.declared.numbers.NumberOption.TheVariants.{Port, Connections, Requests, Turns, Cache, Idle, Stall, OpenAtOnce, Every}
 use Rattle.command_spec.specs.declared.options.PathOption.TheVariants.{Watch, Over}
 use Rattle.command_spec.specs.declared.options.ValueOption.TheVariants.{Number, Path}
 use Rattle.command_spec.specs.declared.RunLimits.{RunLimits}
@@ -39,7 +39,7 @@ module _ (f g : Given) (equal : (o : ValueOption) → f o ≡ g o) where
   same_limits = rw (equal (Number Requests), equal (Number Turns), equal (Number Cache)) refl
 
   same_waits : serve_waits f ≡ serve_waits g
-  same_waits = rw (equal (Number Idle), equal (Number Stall)) refl
+  same_waits = rw (equal (Number Idle), equal (Number Stall), equal (Number OpenAtOnce)) refl
 
   same_options : (whole : Bool) → serve_options whole f ≡ serve_options whole g
   same_options whole = rw (equal (Number Port), equal (Number Connections), same_limits, same_waits) refl

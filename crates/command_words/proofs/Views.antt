@@ -12,7 +12,7 @@ use Rattle.std.specs.Char.{encode_utf8}
 use Rattle.clap.specs.Walk.{Text}
 use Rattle.clap.specs.Lexer.{has_byte, long_of, name_and_value, short_of}
 use Rattle.command_spec.specs.declared.options.ValueOption.{ValueOption}
-use Rattle.command_spec.specs.declared.numbers.NumberOption.TheVariants.{Port, Connections, Requests, Turns, Cache, Idle, Stall, Every}
+use Rattle.command_spec.specs.declared.numbers.NumberOption.TheVariants.{Port, Connections, Requests, Turns, Cache, Idle, Stall, OpenAtOnce, Every}
 use Rattle.command_spec.specs.declared.options.PathOption.TheVariants.{Watch, Over}
 use Rattle.command_spec.specs.declared.options.ValueOption.TheVariants.{Number, Path}
 use Rattle.command_spec.specs.Values.{option_word, is_among}
@@ -134,6 +134,7 @@ one_dash first rest d (Number Turns) = rw d refl
 one_dash first rest d (Number Cache) = rw d refl
 one_dash first rest d (Number Idle) = rw d refl
 one_dash first rest d (Number Stall) = rw d refl
+one_dash first rest d (Number OpenAtOnce) = rw d refl
 one_dash first rest d (Path Watch) = rw d refl
 one_dash first rest d (Number Every) = rw d refl
 one_dash first rest d (Path Over) = rw d refl
@@ -146,6 +147,7 @@ dash_alone (Number Turns) = refl
 dash_alone (Number Cache) = refl
 dash_alone (Number Idle) = refl
 dash_alone (Number Stall) = refl
+dash_alone (Number OpenAtOnce) = refl
 dash_alone (Path Watch) = refl
 dash_alone (Number Every) = refl
 dash_alone (Path Over) = refl

@@ -263,6 +263,7 @@ fn serve_waits(matches: &ArgMatches<'_>) -> Option<ServeWaits>
     Some(ServeWaits {
         idle: number_of(NumberOption::Idle, matches)? as u32,
         stall: number_of(NumberOption::Stall, matches)? as u32,
+        at_once: number_of(NumberOption::OpenAtOnce, matches)? as u32,
     })
 }
 

@@ -1,11 +1,12 @@
 -- No text is both a data text and an edit: the first token of an edit begins no statement.
-use Rattle.std.proofs.Common.{◌≡◌, ◌⊎◌, inl, inr, ◌≤◌, ◌<◌, ℕ, Bool, true, false, List, [], ◌∷◌, ◌++◌, length, refl, sym, ap, subst, ◌∙◌, arith, true≢false, Result, Ok, Err}
+use Rattle.std.proofs.Common.{◌≡◌, ◌≢◌, ◌⊎◌, inl, inr, ◌≤◌, ◌<◌, ℕ, Bool, true, false, List, [], ◌∷◌, ◌++◌, length, refl, sym, ap, subst, ◌∙◌, arith, true≢false, Result, Ok, Err}
 use Rattle.std.specs.Prelude.{codes, Option, Some, None}
 use Rattle.std.proofs.lemmas.List.{append-nil}
 use Rattle.sd_lex.specs.declared.refusal.LexRefusal.{LexRefusal}
+use Rattle.sd_lex.specs.declared.refusal.LexRefusal.TheVariants.{NoMemory}
 use Rattle.sd_lex.specs.declared.closing.Rest.{Rest}
 use Rattle.sd_lex.specs.declared.token.Token.{Token}
-use Rattle.sd_lex.specs.Lexing.{Lexes, IsFirstFault, IsTokensOrFault, IsTextOrFault, behind_mark, mark_len}
+use Rattle.sd_lex.specs.Lexing.{Lexes, IsFirstFault, IsTokensOrFault, IsTextOrFault, behind_mark, mark_len, UnlessNoMemory}
 use Rattle.sd_lex.specs.Closing.{is_close, IsStart, IsClosed, IsClosedOrFault}
 use Rattle.sd_lex.proofs.Gaps.{joined, un_end}
 use Rattle.grammar.specs.Reading.{starts}
@@ -25,7 +26,7 @@ use Rattle.data_texts.specs.Texts.{States}
 use Rattle.data_texts.specs.ComposedTexts.{MakesData}
 use Rattle.data_texts.specs.Edits.{IsSpelled, EditReader, edit_under}
 use Rattle.data_texts.specs.RunTexts.{BeginsEdit, AreApart}
-use Rattle.data_texts.proofs.Lexed.{lexed}
+use Rattle.data_texts.proofs.Lexed.{plain, lexed}
 use Rattle.data_texts.proofs.TheEdits.{same_tokens}
 
 -- whether the first of these tokens is the word `edit`
@@ -76,6 +77,10 @@ pub none_under : (first : Option plain.Query) (text : List ℕ) → BeginsEdit t
 none_under None text is reader = none_spelled text is (reader.edit_in text) (reader.spells text)
 none_under (Some q) text is reader = refl
 
+-- the test of the first token of these
+pub begins_by : (text : List ℕ) (tokens shown : List Token) (b : Bool) → b ≡ begins shown → shown ≡ tokens → BeginsEdit text (begins tokens) → BeginsEdit text b
+begins_by text tokens shown b is same h = subst (BeginsEdit text) (sym (is ∙ ap begins same)) h
+
 -- ---- the tokens up to the first `}`
 
 same_text : (text bytes : List ℕ) (b : Bool) → bytes ≡ text → BeginsEdit bytes b → BeginsEdit text b
@@ -97,8 +102,10 @@ module _ (text bytes : List ℕ) (is : bytes ≡ text) (rest : Rest) (start : Is
       let both : None ≡ Some e = (one_lexing None (Some e) refl refl fault.no_gap (fault.some, fault.fault) (placed all l.1.0 l.1.1) fault.before).1 in
       absurd cc
 
-  pub fault_begins : (tokens : List Token) (e : LexRefusal) → IsClosedOrFault rest.at rest.bytes.now tokens (Err e) → BeginsEdit text false
-  fault_begins tokens e fault = same_text text bytes false is (λ all l. absurd (faulty all e l fault))
+  pub fault_begins : (tokens : List Token) (e : LexRefusal) → e ≢ NoMemory → UnlessNoMemory (IsClosedOrFault rest.at rest.bytes.now tokens) (Err e) → BeginsEdit text false
+  fault_begins tokens e other read =
+      let fault : IsFirstFault rest.at rest.bytes.now e = plain (IsClosedOrFault rest.at rest.bytes.now tokens) (Err e) read (λ same. other cc) in
+      same_text text bytes false is (λ all l. absurd (faulty all e l fault))
 
   module _ (tokens : List Token) (left : Rest) (part : Lexes left.at left.bytes.now rest.at rest.bytes.now tokens) where
     -- the tokens of the text begin with these

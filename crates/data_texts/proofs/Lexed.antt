@@ -21,7 +21,7 @@ unless P (Err (OpenString p)) h = h
 unless P (Err (IntOutOfRange p)) h = h
 unless P (Err NoMemory) h = tt
 
-plain : {A : Type 0} (P : Result A LexRefusal → Type 0) (r : Result A LexRefusal) → UnlessNoMemory P r → (r ≡ Err NoMemory → ⊥) → P r
+pub plain : {A : Type 0} (P : Result A LexRefusal → Type 0) (r : Result A LexRefusal) → UnlessNoMemory P r → (r ≡ Err NoMemory → ⊥) → P r
 plain P (Ok x) h some = h
 plain P (Err (TooLong p)) h some = h
 plain P (Err (BadByte p)) h some = h

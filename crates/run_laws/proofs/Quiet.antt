@@ -1,10 +1,9 @@
 -- Happenings that are no reads of files, and those that are no events either.
-use Rattle.std.proofs.Common.{◌≡◌, ◌⊎◌, ℕ, List, [], ◌∷◌, ◌++◌, map, inl, inr, refl, sym, ap, subst, ◌∙◌}
+use Rattle.std.proofs.Common.{◌≡◌, List, [], ◌∷◌, ◌++◌, map, refl, sym, ap, subst, ◌∙◌}
 use Rattle.std.proofs.lemmas.List.Elements.{All-nil, All-cons, All-head, All-tail}
 use Rattle.std.specs.Prelude.{All, ⊤}
 use Rattle.std.specs.List.{AllZip}
-use Rattle.happenings.specs.Happening.{Happening, Read, ReadFailed, Wrote, WriteFailed, Put, PutFailed, Watched, WatchFailed, Listened, ListenFailed, Given, NextFailed, Sent, SendFailed, Closed}
-use Rattle.happenings.specs.declared.stream.Stream.{Stream}
+use Rattle.happenings.specs.Happening.{Happening, Read, ReadFailed, Given}
 use Rattle.wire.specs.Noted.{IsDeed}
 use Rattle.run_laws.specs.Order.{IsNoRead}
 

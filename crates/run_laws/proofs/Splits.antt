@@ -18,7 +18,7 @@ use Rattle.serving_spec.specs.declared.HubEnd.TheVariants as end
 use Rattle.hub.specs.Course.{Scene, Rules, PassesAll, IsCourse, Ending}
 use Rattle.files_spec.specs.declared.stop.Stop.{Stop}
 use Rattle.files_spec.specs.declared.stop.Stop.TheVariants as stop
-use Rattle.files_spec.specs.Writes.{IsPageWritten, WritesSome, IndexWrites, PagesThenIndex, SiteWrites}
+use Rattle.files_spec.specs.Writes.{IsPageWritten, WritesSome, IndexWrites, PagesThenIndex, PagesWrite, SiteWrites}
 use Rattle.files_spec.specs.Paths.{page_path}
 use Rattle.run_report.specs.Told.{IsOnePut, IsTold}
 use Rattle.run_report.specs.declared.reports.Report.{Report}
@@ -141,7 +141,7 @@ module _ (site : Site) (templates : TemplateFile) (folder : List ℕ) where
       each_is IsQuiet part (h.pages ++ h.index) h.part_is
       (both IsQuiet h.pages h.index (pages_quiet terms h.pages h.written) (index_quiet terms root h.index ended h.then_index))
 
-  stopped_quiet : (terms : List Term) (part : List Happening) (reason : Stop) → _ → Each IsQuiet part
+  stopped_quiet : (terms : List Term) (part : List Happening) (reason : Stop) → PagesWrite site templates folder terms part (prelude.Err reason) → Each IsQuiet part
   stopped_quiet terms part stop.Unwritten h = some_quiet terms (h.0 ∷ []) part h.1
   stopped_quiet terms part reason h = some_quiet terms [] part h
 

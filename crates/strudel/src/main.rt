@@ -13,9 +13,6 @@ use std::time::Clock;
 use std::{env, process};
 use tcp_wire::{TcpWire, Waits};
 
-/// How many connections are open at once, if the system has descriptors for them.
-const MOST_OPEN: usize = 16_384;
-
 // The words after the program's name. A word that isn't text fails them all.
 fn given_words<R: Env + AllocGlobal>(rt: &R) -> Result<GivenWords, NoWords> {
     let alloc = rt.alloc();
@@ -27,7 +24,7 @@ fn given_words<R: Env + AllocGlobal>(rt: &R) -> Result<GivenWords, NoWords> {
     Ok(given)
 }
 
-// A wire over the system's sockets that waits as the words say.
+// A wire over the system's sockets that waits, and for as many connections at once, as the words say.
 fn given_wire<'r, R: Net + Clock + Files + AllocGlobal>(
     rt: &'r R,
     process: u32,
@@ -42,7 +39,7 @@ fn given_wire<'r, R: Net + Clock + Files + AllocGlobal>(
             idle: waits.idle,
             stall: waits.stall,
         },
-        MOST_OPEN,
+        waits.at_once as usize,
     )
 }
 

@@ -3,6 +3,7 @@ mod changes;
 mod edited;
 mod requests;
 mod turns;
+mod untold;
 mod whole;
 
 use crate::runs::{FileRow, PLAIN, Run, check_beside};

@@ -110,3 +110,18 @@ pub returns-in_err-line-clause-traced : goal.returns-in_err-line-clause-traced
 returns-in_err-line-clause-traced g c =
     let p = err_from_is_err_and c.from_residual-in_err-line.result c.from_residual-in_err-line.ensures.1 in
     unwritten_added (inputs_of c.args.inputs) c.args.folder.now c.from_residual-in_err-line.result (g.F.Files.trace c.args.files.now) (p.1 ∙ ap (λ (r : Stop). Err r) p.2)
+
+pub returns-in_err-scopes-clause-traced : goal.returns-in_err-scopes-clause-traced
+returns-in_err-scopes-clause-traced g c =
+    let p = err_from_is_err_and c.from_residual.result c.from_residual.ensures.1 in
+    unwritten_added (inputs_of c.args.inputs) c.args.folder.now c.from_residual.result (g.F.Files.trace c.args.files.now) (p.1 ∙ ap (λ (r : Stop). Err r) p.2)
+
+pub returns-in_err-store-clause-traced : goal.returns-in_err-store-clause-traced
+returns-in_err-store-clause-traced g c =
+    let p = err_from_is_err_and c.from_residual-in_err-store.result c.from_residual-in_err-store.ensures.1 in
+    unwritten_added (inputs_of c.args.inputs) c.args.folder.now c.from_residual-in_err-store.result (g.F.Files.trace c.args.files.now) (p.1 ∙ ap (λ (r : Stop). Err r) p.2)
+
+pub returns-in_err-whole-clause-traced : goal.returns-in_err-whole-clause-traced
+returns-in_err-whole-clause-traced g c =
+    let p = err_from_is_err_and c.from_residual-in_err-whole.result c.from_residual-in_err-whole.ensures.1 in
+    unwritten_added (inputs_of c.args.inputs) c.args.folder.now c.from_residual-in_err-whole.result (g.F.Files.trace c.args.files.now) (p.1 ∙ ap (λ (r : Stop). Err r) p.2)

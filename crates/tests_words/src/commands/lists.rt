@@ -129,7 +129,7 @@ const COMMANDS: &[CommandRow] = &[
     },
     CommandRow {
         words: &["serve", "q", "t", "a", "b"],
-        command: "serve q t a b 8080 4294967296 1 4294967296 256 5000 10000",
+        command: "serve q t a b 8080 4294967296 1 4294967296 256 5000 10000 16384",
     },
     CommandRow {
         words: &[
@@ -145,7 +145,7 @@ const COMMANDS: &[CommandRow] = &[
             "--",
             "--port",
         ],
-        command: "serve q t --port 65535 4294967296 1 4294967296 4096 5000 10000",
+        command: "serve q t --port 65535 4294967296 1 4294967296 4096 5000 10000 16384",
     },
     CommandRow {
         words: &["replay", "q", "t", "s", "a"],
@@ -153,35 +153,35 @@ const COMMANDS: &[CommandRow] = &[
     },
     CommandRow {
         words: &["serve", "q", "t", "d", "--port", "1"],
-        command: "serve q t d 1 4294967296 1 4294967296 256 5000 10000",
+        command: "serve q t d 1 4294967296 1 4294967296 256 5000 10000 16384",
     },
     CommandRow {
         words: &["serve", "q", "--port", "1", "t", "d", "--cache=2", "e"],
-        command: "serve q t d e 1 4294967296 1 4294967296 2 5000 10000",
+        command: "serve q t d e 1 4294967296 1 4294967296 2 5000 10000 16384",
     },
     CommandRow {
         words: &["serve", "--idle", "1", "q", "t", "d", "--stall=4294967295"],
-        command: "serve q t d 8080 4294967296 1 4294967296 256 1 4294967295",
+        command: "serve q t d 8080 4294967296 1 4294967296 256 1 4294967295 16384",
     },
     CommandRow {
         words: &["serve", "--watch", "w", "q", "t", "d"],
-        command: "serve q t w d 8080 4294967296 1 4294967296 256 5000 10000 1",
+        command: "serve q t w d 8080 4294967296 1 4294967296 256 5000 10000 16384 1",
     },
     CommandRow {
         words: &["serve", "q", "t", "d", "--every=4294967296", "--watch=w=1"],
-        command: "serve q t w=1 d 8080 4294967296 1 4294967296 256 5000 10000 4294967296",
+        command: "serve q t w=1 d 8080 4294967296 1 4294967296 256 5000 10000 16384 4294967296",
     },
     CommandRow {
         words: &["serve", "--whole", "q", "t", "d"],
-        command: "serve whole q t d 8080 4294967296 1 4294967296 256 5000 10000",
+        command: "serve whole q t d 8080 4294967296 1 4294967296 256 5000 10000 16384",
     },
     CommandRow {
         words: &["serve", "q", "t", "--watch", "w", "d", "--whole"],
-        command: "serve whole q t w d 8080 4294967296 1 4294967296 256 5000 10000 1",
+        command: "serve whole q t w d 8080 4294967296 1 4294967296 256 5000 10000 16384 1",
     },
     CommandRow {
         words: &["serve", "q", "t", "--", "--whole"],
-        command: "serve q t --whole 8080 4294967296 1 4294967296 256 5000 10000",
+        command: "serve q t --whole 8080 4294967296 1 4294967296 256 5000 10000 16384",
     },
     CommandRow {
         words: &["page", "--over", "f", "q", "t", "a", "d"],
@@ -223,7 +223,7 @@ const COMMANDS: &[CommandRow] = &[
     },
     CommandRow {
         words: &["serve", "q", "t", "--", "--port", "--", "d"],
-        command: "serve q t --port -- d 8080 4294967296 1 4294967296 256 5000 10000",
+        command: "serve q t --port -- d 8080 4294967296 1 4294967296 256 5000 10000 16384",
     },
     CommandRow {
         words: &["data", "d", "--", "-5", "-x", "--port=1"],
@@ -439,9 +439,12 @@ const NO_COMMANDS: &[&[&str]] = &[
     &["serve", "--idle=4294967296", "q", "t", "d"],
     &["serve", "--stall", "0", "q", "t", "d"],
     &["serve", "--stall", "4294967296", "q", "t", "d"],
+    &["serve", "--open", "0", "q", "t", "d"],
+    &["serve", "--open", "16385", "q", "t", "d"],
     &["serve", "--idle=1", "--idle=1", "q", "t", "d"],
     &["replay", "--idle=1", "q", "t", "s", "d"],
     &["replay", "--stall=1", "q", "t", "s", "d"],
+    &["replay", "--open=1", "q", "t", "s", "d"],
     &["serve", "--every=1", "q", "t", "d"],
     &["serve", "--watch=w", "--every=0", "q", "t", "d"],
     &["serve", "--watch=w", "--every=4294967297", "q", "t", "d"],

@@ -101,6 +101,7 @@ fn serve_text(alloc: Global, c: &ServeCommand) -> Result<Vec<u8>, NoMemory> {
         u64::from(limits.cache),
         u64::from(c.options.waits.idle),
         u64::from(c.options.waits.stall),
+        u64::from(c.options.waits.at_once),
     ];
     let name: &[u8] = if c.options.whole {
         b"serve whole"

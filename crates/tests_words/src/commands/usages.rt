@@ -115,6 +115,7 @@ const ROWS: &[UsageRow] = &[
             ValueOption::Number(NumberOption::Cache),
             ValueOption::Number(NumberOption::Idle),
             ValueOption::Number(NumberOption::Stall),
+            ValueOption::Number(NumberOption::OpenAtOnce),
             ValueOption::Path(PathOption::Watch),
             ValueOption::Number(NumberOption::Every),
             ValueOption::Path(PathOption::Over),
@@ -172,6 +173,7 @@ const OPTIONS: &[ValueOption] = &[
     ValueOption::Number(NumberOption::Cache),
     ValueOption::Number(NumberOption::Idle),
     ValueOption::Number(NumberOption::Stall),
+    ValueOption::Number(NumberOption::OpenAtOnce),
     ValueOption::Path(PathOption::Watch),
     ValueOption::Path(PathOption::Over),
 ];

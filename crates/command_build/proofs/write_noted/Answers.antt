@@ -1,0 +1,5 @@
+use Rattle.command_build.proofs.write_noted.Goals as goal
+
+pub returns-clause-course : goal.returns-clause-course
+returns-clause-course g c =
+    rw c.lend-2.ensures.taken (rw c.lend.ensures.given at c.write_built-result.ensures.traced)

@@ -1,0 +1,11 @@
+pub mod Listing
+pub mod Choosing
+pub mod Expanding
+pub mod Ending
+pub mod Short
+pub mod Targets
+pub mod Outcomes
+pub mod Heads
+pub mod Connections
+pub mod Trials
+pub mod QuerySites
