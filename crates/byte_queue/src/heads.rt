@@ -1,7 +1,7 @@
 // Where the first head of bytes ends.
 ghost use Rattle.std.specs.Prelude.{◌≡◌, ◌≤◌, ◌<◌, ◌++◌, length};
 
-/// How many bytes there are up to the first blank line, with the line ends behind it, or all. Carriage returns don't
+/// How many bytes there are up to the first blank line, with the line ends after it, or all. Carriage returns don't
 /// count.
 pub fn head_end(bytes: &[u8]) -> usize
     ensures within { result ≤ length bytes.now }
@@ -49,7 +49,7 @@ mod tests {
     ];
 
     #[test]
-    fn cuts_behind_a_blank_line(rt: HostRuntime) -> Result<(), Fail> {
+    fn cuts_after_a_blank_line(rt: HostRuntime) -> Result<(), Fail> {
         for (head, rest) in HEADS {
             let mut bytes = Vec::new(rt.alloc());
             bytes.extend_from_slice(head)?;

@@ -8,7 +8,7 @@ use std::io;
 use std::io::Write;
 use std::marker::Model;
 
-/// Bytes that are put in behind the others and taken out at the front.
+/// Bytes that are put in after the others and taken out at the front.
 #[derive(Drop)]
 pub struct ByteQueue {
     alloc: Global,

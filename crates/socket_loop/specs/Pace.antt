@@ -18,7 +18,7 @@ gone_on now count pace = record {
 abbrev pub least_rate : ℕ
 least_rate = 16
 
--- the time is over: nothing for longer than the limit, or less than the least rate behind it
+-- the time is over: nothing for longer than the limit, or less than the least rate after it
 abbrev pub is_over : (limit now : ℕ) → Pace → Bool
 is_over limit now pace =
     nat_lt limit (now - pace.since)

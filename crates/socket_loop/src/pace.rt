@@ -39,7 +39,7 @@ impl Pace {
         self.bytes = self.bytes.saturating_add(count as u64);
     }
 
-    /// Whether the time is over: nothing for longer than the limit, or less than the least rate behind it.
+    /// Whether the time is over: nothing for longer than the limit, or less than the least rate after it.
     pub fn is_over(&self, now: u64, limit: u64) -> bool
         ensures { result ≡ is_over limit now self.now }
     {
