@@ -6,7 +6,6 @@ use Rattle.edge_io.specs.Files.{FileMap}
 use Rattle.happenings.specs.Happening.{Happening, Put, PutFailed, Watched, WatchFailed, Listened, ListenFailed}
 use Rattle.happenings.specs.declared.stream.Stream.{Stream}
 use Rattle.wire.specs.Told.{WireReport}
-use Rattle.serving_spec.specs.declared.HubEnd.{HubEnd}
 use Rattle.serving_spec.specs.declared.Served.{Served}
 use Rattle.run_report.specs.declared.status.Status.{Status}
 use Rattle.run_report.specs.declared.status.Status.TheVariants as status
@@ -20,15 +19,15 @@ use Rattle.site_inputs.specs.declared.site.SiteInputs.{SiteInputs}
 use Rattle.site_inputs.specs.Reads.{Reads}
 use Rattle.site_inputs.specs.Sites.{Inputs, InputsEnd}
 use Rattle.site_inputs.specs.Statuses.{status_of}
-use Rattle.site_inputs.specs.Values.{inputs_of, inputs_result}
+use Rattle.site_inputs.specs.Values.{inputs_of}
 use Rattle.site_inputs.proofs.ReadLemmas.{reads_fault}
 use Rattle.run_report.specs.Told.{IsOnePut}
 use Rattle.serve_run.specs.Puts.{EndHappens}
 use Rattle.serve_run.specs.Texts.{tally_text}
 use Rattle.serve_run.proofs.Added.{Added, added_then, added_behind, added_none}
-use Rattle.site_serving.specs.Served.{ServesSiteInSteps}
-use Rattle.command_serve.specs.Ends.{serving_text, no_tally, Watching, WatchesIf, Listening}
-use Rattle.command_serve.specs.Course.{listen_of, watch_of, CountsHappen, ServesThenCounts, TellsThenServes, ListensThenTells, OverCourse, ServeCourse}
+use Rattle.site_serving.specs.Served.{ServesSite, ServesSiteInSteps}
+use Rattle.command_serve.specs.Ends.{serving_text, no_tally, WatchesIf, Listening}
+use Rattle.command_serve.specs.Course.{watch_of, CountsHappen, ServesThenCounts, TellsThenServes, ListensThenTells, OverCourse, ServeCourse}
 
 -- the steps of a run are what they added
 steps_added : (s : Inputs) (limits : RunLimits) (before after : WireReport) (served : Served) (old new : List Happening) → ServesSiteInSteps s limits before after served old new
@@ -47,6 +46,11 @@ steps_lent s limits before lent done after served old given taken new is_before 
       subst (λ (r : WireReport). ServesSiteInSteps s limits r after served [] x.0) is_before
           (subst (λ (r : WireReport). ServesSiteInSteps s limits lent r served [] x.0) (sym is_after) x.2),
     )
+
+pub serves_lent : (s : Inputs) (limits : RunLimits) (before lent done after : WireReport) (served : Served) → lent ≡ before → after ≡ done → ServesSite s limits lent done served
+    → ServesSite s limits before after served
+serves_lent s limits before lent done after served is_before is_after serves =
+    subst (λ (r : WireReport). ServesSite s limits r after served) is_before (subst (λ (r : WireReport). ServesSite s limits lent r served) (sym is_after) serves)
 
 -- the counts
 pub counts_added : (stream : Stream) (watches : Bool) (served : Served) (text : List ℕ) (reached : Status) (a b : List Happening) → text ≡ tally_text watches served.tally

@@ -14,7 +14,7 @@ use Rattle.site_inputs.specs.Statuses.{ReadRose, status_of}
 use Rattle.site_inputs.proofs.DecidedInputs.{inputs_decide}
 use Rattle.command_serve.specs.Ends.{OverEnds, ServeEnds}
 use Rattle.site_inputs.specs.Outside.{Outside, PutsRose, EventsRose, AllRead, HasStatus}
-use Rattle.command_serve.specs.Law.{HasTurns, ServingIsDecided, ServingEndsWell}
+use Rattle.command_serve.specs.Law.{HasTurns, ServingEndsWell}
 use Rattle.site_inputs.proofs.Endings.{not_both, by_reason, not_refused}
 use Rattle.command_serve.proofs.Told.{watched_left}
 

@@ -18,7 +18,7 @@ use Rattle.command_spec.specs.declared.ServeOptions.{ServeOptions}
 use Rattle.command_spec.specs.declared.WatchOptions.{WatchOptions}
 use Rattle.site_inputs.specs.Sites.{Inputs}
 use Rattle.site_inputs.specs.Statuses.{ReadRose, IsSilent}
-use Rattle.site_inputs.specs.Outside.{Outside, host, outside}
+use Rattle.site_inputs.specs.Outside.{Outside, outside}
 use Rattle.serve_run.specs.Texts.{tally_text}
 use Rattle.serve_run.proofs.Gained.{gains_then, part_then, put_then, first_part}
 use Rattle.command_serve.specs.Ends.{serving_text, no_tally, WatchesIf, IsLetWatch, IsReady, Serving, CountsPut, ListeningEnds, ServesTo, TellingEnds, ListensAndEnds, WatchedEnds, OverEnds}

@@ -18,7 +18,7 @@ use Rattle.command_spec.specs.declared.WatchOptions.{WatchOptions}
 use Rattle.site_inputs.specs.declared.fault.Fault.{Fault}
 use Rattle.site_inputs.specs.Sites.{Inputs, InputsEnd}
 use Rattle.site_inputs.specs.Statuses.{status_of}
-use Rattle.site_inputs.specs.Outside.{Host, Outside, PutsRose}
+use Rattle.site_inputs.specs.Outside.{Outside, PutsRose}
 use Rattle.serve_run.specs.Texts.{tally_text}
 use Rattle.site_serving.specs.Served.{ServesSite}
 use Rattle.serve_run.specs.Puts.{IsPut, EndPuts}

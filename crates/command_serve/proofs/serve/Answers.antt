@@ -1,5 +1,5 @@
 use Rattle.std.specs.Prelude.{None}
-use Rattle.std.proofs.Common.{inl, Ok, []}
+use Rattle.std.proofs.Common.{inl, []}
 use Rattle.site_inputs.specs.Values.{inputs_of}
 use Rattle.site_inputs.specs.Outside.{outside}
 use Rattle.command_serve.proofs.Told.{never_silent, never_usage, over_read_rose}

@@ -1,9 +1,9 @@
-use Rattle.std.proofs.Common.{◌∙◌, [], ap, inl, inr}
+use Rattle.std.proofs.Common.{◌∙◌, [], ap, inl}
 use Rattle.site_inputs.specs.Values.{inputs_of}
 use Rattle.serve_run.specs.Texts.{tally_text}
 use Rattle.command_serve.specs.Ends.{no_tally}
 use Rattle.command_serve.proofs.Told.{over_of}
-use Rattle.command_serve.proofs.Courses.{over_then, watch_fails, watch_short, over_short}
+use Rattle.command_serve.proofs.Courses.{over_then, watch_fails, watch_short}
 use Rattle.command_serve.proofs.serve_over.Goals as goal
 
 pub returns-in-Ok-watch_if-clause-ends : goal.returns-in-Ok-watch_if-clause-ends

@@ -1,4 +1,4 @@
-use Rattle.std.proofs.Common.{inl, inr, refl, sym}
+use Rattle.std.proofs.Common.{inl, inr, refl}
 use Rattle.site_inputs.specs.Values.{inputs_of}
 use Rattle.command_serve.proofs.Courses.{listens_then, listens_fails}
 use Rattle.command_serve.proofs.serve_watching.Goals as goal
