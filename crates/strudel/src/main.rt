@@ -24,7 +24,7 @@ fn given_words<R: Env + AllocGlobal>(rt: &R) -> Result<GivenWords, NoWords> {
     Ok(given)
 }
 
-// A wire over the system's sockets that waits as the words say.
+// A wire over the system's sockets that waits, and for as many connections at once, as the words say.
 fn given_wire<'r, R: Net + Clock + Files + AllocGlobal>(
     rt: &'r R,
     process: u32,
@@ -39,6 +39,7 @@ fn given_wire<'r, R: Net + Clock + Files + AllocGlobal>(
             idle: waits.idle,
             stall: waits.stall,
         },
+        waits.at_once as usize,
     )
 }
 

@@ -1,4 +1,1 @@
 mod Next
-mod Pieces
-mod Release
-mod Sends

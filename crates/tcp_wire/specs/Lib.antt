@@ -1,3 +1,4 @@
+pub mod Book
 pub mod Replies
 pub mod TcpState
 pub mod Waits

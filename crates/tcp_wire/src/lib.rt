@@ -1,7 +1,7 @@
-//! A wire over the system's sockets at 127.0.0.1, one connection after another.
+//! A wire over the system's sockets at 127.0.0.1: many connections at once, by the system's reports of which are ready.
 #![tactic(auto)]
 
-ghost use Rattle.std.specs.Prelude.{◌≡◌, ◌≤◌, ℕ, take, Some, None, Err, IfOk, IfErr, OnOk, OnErr, IsErrOf, IfSome};
+ghost use Rattle.std.specs.Prelude.{◌≡◌, ◌≤◌, ◌<◌, ℕ, take, length, Some, None, Err, IfOk, IfErr, OnOk, OnErr, IsErrOf, IfSome};
 ghost use Rattle.std.specs.Prelude.{IsSome, MatchResult, option_map};
 ghost use Rattle.std.specs.declared.net.socket_addr.SocketAddr.TheVariants.{V4};
 ghost use Rattle.edge_io.specs.Counts.{Rose};
@@ -9,119 +9,89 @@ ghost use Rattle.wire.specs.Accounts.{send_to, close_to, up};
 ghost use Rattle.wire.specs.Events.{add_event, IsNextOf, add_listen, IsWatched};
 ghost use Rattle.wire.specs.Told.{EventsStay, OtherAccountsStay, OtherFaultsStay};
 ghost use Rattle.std.specs.Prelude.{◌++◌, ◌∷◌, []};
-ghost use Rattle.tcp_wire.specs.Waits.{first_wait};
-ghost use Rattle.tcp_wire.specs.TcpState.{IsPieceOf, GivesChange, IsNextIn, IsSent, MissesNext, HasRead, kept};
-ghost use Rattle.tcp_wire.specs.TcpState.{let_go, local_address, parting_of, noted_told, told_of, without_change};
-ghost use Rattle.tcp_wire.specs.Watching.{passed};
+ghost use Rattle.tcp_wire.specs.Book.{line_of, new_book};
+ghost use Rattle.tcp_wire.specs.TcpState.{GivesChange, IsNextIn, IsSent, MissesNext, goes, all_gone};
+ghost use Rattle.tcp_wire.specs.TcpState.{local_address, parting_of, noted_told, told_of, without_change};
 
-mod accepting;
-mod peer;
-mod waiting;
-mod waits;
+mod book;
+mod parting;
 mod watch;
 
+use book::Book;
+use byte_queue::CutOff;
 use edge_io::{Failed, Files};
 use happenings::Log;
-use peer::{CutOff, NoBytes, Parting, Peer, refuses};
+use parting::{Parting, refuses};
 use sd_value::Str;
+pub use socket_loop::Waits;
+use socket_loop::{EventLoop, News, Piece, Signal, listen_at};
 use std::alloc::Global;
-use std::io::{Read, Write};
 use std::marker::Model;
 use std::mem::swap;
-use std::net::{Ipv4Addr, Net, OpenListener, OpenStream, SocketAddr, SocketAddrV4};
+use std::net::{Ipv4Addr, Net, SocketAddr, SocketAddrV4};
 use std::time::Clock;
-use waiting::Waiting;
-pub use waits::Waits;
-use waits::{MOST_PARTS, first_wait, first_waits, wait_at};
 use watch::Watch;
 use wire::{Wire, WireEnd, WireEvent};
 
-/// The longest piece, in bytes.
-const PIECE: usize = 16384;
-
-/// Where the wire listens.
-#[derive(Drop)]
-struct Place<L> {
-    listener: L,
-    address: SocketAddr,
-}
-
-/// Connections to 127.0.0.1, one after another. A connection is opened only once it has sent something, or its input
-/// has ended: until then it waits beside others, at most 64 in all, and holds up none; one that sends nothing for long
-/// enough (`Waits`) is let go and never opened. Where 64 wait and none of them has sent anything, the one that came
-/// first is let go for the next, and so is at once one that memory is refused for. One that is opened stays in hand
-/// until it is closed, a send to it fails or it is lost, or until the event after the end of its input is asked for;
-/// only then the next one is opened. It is lost where nothing comes for long enough, where too many pieces come without
-/// a reply, where it has sent nothing since its last reply and another one has sent something, and where memory is
-/// refused for what it sent. A file that is watched is read after each so many connections that ended, when the next
-/// one has come and before it is opened, and gives a change where it holds another text than at the last read; where
-/// the read fails it gives none. The wire reports nothing of what its connections send and take, and the count of
-/// failed sends of each is at its last value, where every failure counts as a rise.
+/// Connections to 127.0.0.1, many at once. A connection is opened only once it has sent something, or its input has ended;
+/// one that sends nothing for long enough (`Waits`) is let go and never opened. Each has its turns: in one it takes what it
+/// has room for of what it was sent, and gives what it has sent up to the end of a request's head. It is open until it is
+/// closed, a send to it fails or it is lost. It is lost where it gives or takes nothing for long enough, or too slowly,
+/// where too many pieces come without a reply, where memory is refused for what it sent, and where the replies that are
+/// queued for all take too much memory and it has taken nothing for longest. A file that is watched is read after each so
+/// many connections that ended, when the next one has come and before it is opened, and gives a change where it holds
+/// another text than at the last read; where the read fails it gives none. The wire reports nothing of what its connections
+/// send, and the count of failed sends of each is at its last value, where every failure counts as a rise.
 #[derive(Drop)]
 struct Sockets<'r, R: Net + Clock, F> {
+    alloc: Global,
     system: &'r R,
     /// Where the watched file is read.
     files: F,
     watch: Option<Watch>,
     waits: Waits,
-    place: Option<Place<R::Listener>>,
-    peer: Option<Peer<R::Stream>>,
-    /// The next connection, where a change was given before it.
-    ready: Option<R::Stream>,
-    /// The connections that have sent nothing yet.
-    waiting: Waiting<R::Stream>,
-    /// The number of the last connection that was opened.
-    opened: u64,
-    /// How many more connections are taken.
-    left: u64,
+    /// How many connections are open at once.
+    open: usize,
+    /// The loop over the connections, and the address, where the wire listens.
+    running: Option<EventLoop<R::Listener, R::Stream>>,
+    address: Option<SocketAddr>,
+    /// What came of a connection that is not opened yet, where another event was given before it.
+    held: Option<Signal>,
+    /// The connections that are open.
+    book: Book,
     next_faults: u64,
-    /// Where pieces are read into.
-    piece: [u8; PIECE],
 }
 
 impl<'r, R: Net + Clock, F> Model for Sockets<'r, R, F> {
-    ghost use Rattle.std.specs.Prelude.{option_map};
     ghost use Rattle.tcp_wire.specs.TcpState.{TcpState};
 
     ghost Value = { TcpState };
 
     ghost view = { λ w. record {
-      hand = option_map (λ p. record { progress = p.progress; read_wait = p.read_wait }) w.peer;
-      opened = w.opened;
-      left = w.left;
+      book = w.book;
       next_faults = w.next_faults;
-      address = option_map (λ p. p.address) w.place;
-      waits = w.waits;
+      address = w.address;
       watch = w.watch;
     } };
 }
 
 impl<'r, R: Net + Clock, F: Files> Sockets<'r, R, F> {
     /// A wire that does not listen yet: until then it has no connection to give. A file is watched in `files`.
-    pub(crate) fn new(alloc: Global, system: &'r R, files: F, waits: Waits) -> Self
-        ensures { result ≡ record {
-          hand = None;
-          opened = 0;
-          left = 0;
-          next_faults = 0;
-          address = None;
-          waits = waits;
-          watch = None;
-        } }
+    pub(crate) fn new(alloc: Global, system: &'r R, files: F, waits: Waits, open: usize) -> Self
+        ensures { result ≡ record { book = new_book; next_faults = 0; address = None; watch = None } }
     {
         Sockets {
+            alloc,
             system,
             files,
             watch: None,
             waits,
-            place: None,
-            peer: None,
-            ready: None,
-            waiting: Waiting::new(alloc),
-            opened: 0,
-            left: 0,
+            open,
+            running: None,
+            address: None,
+            held: None,
+            book: Book::new(alloc),
             next_faults: 0,
-            piece: [0; PIECE],
         }
     }
 
@@ -129,184 +99,228 @@ impl<'r, R: Net + Clock, F: Files> Sockets<'r, R, F> {
     pub(crate) fn port(&self) -> Option<u16>
         ensures { IsSome result → IsSome self.now.address }
     {
-        match self.place.as_ref()?.listener.local_addr() {
-            Ok(address) => Some(address.port()),
-            Err(_) => None,
-        }
+        let _listens = self.address?;
+        self.running.as_ref()?.port()
     }
 
-    // Whether another connection has sent something and may be opened.
-    fn other_waits(&mut self) -> bool
+    // Lets a connection of the loop go at once.
+    fn cut(&mut self, token: u64)
         ensures { self.new ≡ self.old }
     {
-        if self.left == 0 {
-            return false;
-        }
-        match &self.place {
-            Some(place) => {
-                let found = self.waiting.find_spoken(&place.listener, self.waits.idle);
-                found.is_some()
-            }
-            None => false,
+        if let Some(running) = &mut self.running {
+            running.cut(token);
         }
     }
 
-    // The stream of the next connection.
-    fn take_stream(&mut self) -> Option<R::Stream>
+    // What comes next of any connection: what was held, or else what the loop gives.
+    fn next_signal(&mut self) -> Option<Signal>
         ensures { self.new ≡ self.old }
     {
-        let place = self.place.as_ref()?;
-        self.waiting
-            .next(&place.listener, self.system, self.waits.idle)
-    }
-
-    // The stream of the next connection: the one that came before a change was given, or a new one.
-    fn next_stream(&mut self) -> Option<R::Stream>
-        ensures { self.new ≡ self.old }
-    {
-        let ready = self.ready.take();
-        if ready.is_some() {
-            return ready;
+        let held = self.held.take();
+        if held.is_some() {
+            return held;
         }
-        self.take_stream()
-    }
-
-    // The next connection, before which the watched file may give a change, or `Done` where no more are taken. The file is
-    // read once the connection has come, so that it is as late as may be.
-    fn accept(&mut self, alloc: Global) -> Result<WireEvent, WireEnd>
-        requires { self.old.hand ≡ None }
-        ensures event { IfOk result (λ event. IsNextIn self.old event self.new) }
-        ensures fine { OnOk result (self.new.next_faults ≡ self.old.next_faults) }
-        ensures err { OnErr result ((result ≡ Err WireEnd.Failed)
-            × (self.new ≡ record self.old { next_faults = up self.old.next_faults })) }
-    {
-        if self.left == 0 {
-            return Ok(WireEvent::Done);
+        let accepts = self.book.expects_more();
+        match &mut self.running {
+            Some(running) => running.next(self.system, accepts),
+            None => None,
         }
-        let Some(stream) = self.next_stream() else {
-            self.next_faults = self.next_faults.saturating_add(1);
-            return Err(WireEnd::Failed);
-        };
-        if let Some(text) = self.look(alloc) {
-            self.ready = Some(stream);
-            return Ok(WireEvent::Change(text));
-        }
-        self.left -= 1;
-        self.opened = self.opened.saturating_add(1);
-        self.peer = Some(Peer::open(stream));
-        Ok(WireEvent::Opened(self.opened))
     }
 
     // What the watched file holds, where it is to be read and holds another text than before.
     fn look(&mut self, alloc: Global) -> Option<Str>
-        requires { self.old.hand ≡ None }
-        ensures none { result ≡ None → self.new ≡ without_change self.old }
+        ensures none { result ≡ None → self.new ≡ self.old }
         ensures some { IfSome result (λ text. GivesChange self.old text self.new) }
     {
         let mut watch = self.watch.take()?;
-        let text = watch.look(alloc, &mut self.files, self.opened);
+        let text = watch.look(alloc, &mut self.files, self.book.ended());
         self.watch = Some(watch);
         text
     }
 
-    // Reads the first bytes of a connection since its opening or its last reply. Behind each wait that gave nothing another
-    // one that has sent something takes its place.
-    fn read_first(&mut self, peer: &mut Peer<R::Stream>) -> Result<usize, NoBytes>
-        ensures bound { IfOk result (λ count. count ≤ 16384) }
-        ensures wait { OnOk result (peer.new.read_wait ≡ first_wait self.old.waits.idle) }
-        ensures progress { peer.new.progress ≡ peer.old.progress }
-        ensures same { self.new ≡ self.old }
+    // The next connection is opened without a change.
+    fn pass(&mut self)
+        ensures { self.new ≡ without_change self.old }
     {
-        let wait = first_wait(self.waits.idle);
-        for _ in 0..first_waits(self.waits.idle) {
-            let read = peer.read_within(wait, &mut self.piece);
-            if read != Err(NoBytes::Expired) {
-                return read;
-            }
-            self.waiting.pass(wait);
-            if self.other_waits() {
-                break;
-            }
+        if let Some(mut watch) = self.watch.take() {
+            watch.pass(self.book.ended());
+            self.watch = Some(watch);
         }
-        Err(NoBytes::Expired)
     }
 
-    // Reads the next bytes of a connection: how many, where 0 is the end, or none where it is lost.
-    fn read(&mut self, peer: &mut Peer<R::Stream>) -> Option<usize>
-        ensures read { IfSome result (λ count.
-            HasRead self.old.waits.idle peer.old.progress peer.new.read_wait count) }
-        ensures progress { peer.new.progress ≡ peer.old.progress }
-        ensures same { self.new ≡ self.old }
+    // The change that comes before the next connection is opened, if one does.
+    fn change(&mut self, alloc: Global) -> Option<Str>
+        ensures none { result ≡ None → self.new ≡ self.old }
+        ensures some { IfSome result (λ text. (0 < self.old.book.left)
+            × GivesChange self.old text self.new) }
     {
-        let pieces = peer.progress.pieces;
-        if pieces >= MOST_PARTS {
+        if !self.book.expects_more() {
             return None;
         }
-        let read = if pieces == 0 {
-            self.read_first(peer)
-        } else {
-            peer.read_within(wait_at(self.waits.idle, pieces), &mut self.piece)
+        let text = self.look(alloc)?;
+        Some(text)
+    }
+
+    // Opens the connection of which this came, which is held until then, or gives a change before. Where memory for it is
+    // refused, and where no more are opened, it is let go.
+    fn open(&mut self, alloc: Global, token: u64, news: News) -> Option<WireEvent>
+        ensures none { result ≡ None → self.new ≡ self.old }
+        ensures some { IfSome result (λ event. IsNextIn self.old event self.new) }
+    {
+        if let Some(text) = self.change(alloc) {
+            self.hold(token, 0, news);
+            return Some(WireEvent::Change(text));
+        }
+        let Some(number) = self.book.open(token) else {
+            self.cut(token);
+            return None;
         };
-        match read {
-            Ok(count) => Some(count),
-            Err(_) => None,
+        self.pass();
+        self.name(token, number);
+        self.hold(token, number, news);
+        Some(WireEvent::Opened(number))
+    }
+
+    // Holds what came of a connection.
+    fn hold(&mut self, token: u64, number: u64, news: News)
+        ensures { self.new ≡ self.old }
+    {
+        self.held = Some(Signal {
+            token,
+            number,
+            news,
+        });
+    }
+
+    // Tells the loop the number of a connection.
+    fn name(&mut self, token: u64, number: u64)
+        ensures { self.new ≡ self.old }
+    {
+        if let Some(running) = &mut self.running {
+            running.name(token, number);
         }
     }
 
-    // What comes of the connection in hand.
-    fn event_of(&mut self, alloc: Global, peer: &mut Peer<R::Stream>) -> WireEvent
-        ensures event { IsPieceOf self.old.opened self.old.waits.idle
-            (record { progress = peer.old.progress; read_wait = peer.old.read_wait }) result
-            (record { progress = peer.new.progress; read_wait = peer.new.read_wait }) }
-        ensures same { self.new ≡ self.old }
+    // A piece of a connection. Where too many came without a reply it is lost.
+    fn take_piece(&mut self, token: u64, number: u64, piece: Piece) -> Option<WireEvent>
+        ensures none { result ≡ None → self.new ≡ self.old }
+        ensures some { IfSome result (λ event. IsNextIn self.old event self.new) }
     {
-        let Some(count) = self.read(peer) else {
-            return WireEvent::Lost(self.opened);
-        };
-        if count == 0 {
-            peer.progress.ended = true;
-            return WireEvent::Ended(self.opened);
+        if self.book.take_piece(number) {
+            return Some(WireEvent::Bytes(number, piece.into_text()));
         }
-        match Str::new(alloc, &self.piece[..count]) {
-            Ok(piece) => {
-                peer.progress.pieces += 1;
-                WireEvent::Bytes(self.opened, piece)
-            }
-            Err(_) => WireEvent::Lost(self.opened),
+        self.cut(token);
+        self.lose(number)
+    }
+
+    // The end of a connection's input.
+    fn take_end(&mut self, number: u64) -> Option<WireEvent>
+        ensures none { result ≡ None → self.new ≡ self.old }
+        ensures some { IfSome result (λ event. IsNextIn self.old event self.new) }
+    {
+        if self.book.take_end(number) {
+            Some(WireEvent::Ended(number))
+        } else {
+            None
+        }
+    }
+
+    // The loss of a connection, if it is open.
+    fn lose(&mut self, number: u64) -> Option<WireEvent>
+        ensures none { result ≡ None → self.new ≡ self.old }
+        ensures some { IfSome result (λ event. IsNextIn self.old event self.new) }
+    {
+        match self.book.let_go(number) {
+            Some(_) => Some(WireEvent::Lost(number)),
+            None => None,
+        }
+    }
+
+    // The event of a signal, if it makes one.
+    fn take(&mut self, alloc: Global, signal: Signal) -> Option<WireEvent>
+        ensures none { result ≡ None → self.new ≡ self.old }
+        ensures some { IfSome result (λ event. IsNextIn self.old event self.new) }
+    {
+        let Signal {
+            token,
+            number,
+            news,
+        } = signal;
+        if number == 0 {
+            return self.open(alloc, token, news);
+        }
+        match news {
+            News::Bytes(piece) => self.take_piece(token, number, piece),
+            News::Ended => self.take_end(number),
+            News::Lost => self.lose(number),
         }
     }
 
     // The next event.
+    #[tactic(auto, using(crate::proofs::Next::faults_stay))]
     fn draw(&mut self, alloc: Global) -> Result<WireEvent, WireEnd>
         ensures event { IfOk result (λ event. IsNextIn self.old event self.new) }
         ensures fine { OnOk result (self.new.next_faults ≡ self.old.next_faults) }
         ensures err { MatchResult result (λ event. Unit {0}) (MissesNext self.old self.new) }
     {
-        let Some(mut peer) = self.peer.take() else {
-            return self.accept(alloc);
-        };
-        if peer.progress.ended {
-            peer.shut();
-            return self.accept(alloc);
+        for _ in 0..u64::MAX {
+            let Some(signal) = self.next_signal() else {
+                break;
+            };
+            if let Some(event) = self.take(alloc, signal) {
+                return Ok(event);
+            }
         }
-        let event = self.event_of(alloc, &mut peer);
-        self.peer = keep(peer, &event);
-        Ok(event)
+        self.end()
+    }
+
+    // Nothing comes any more: connections that are open still are lost, and then the wire is done, or has failed.
+    fn end(&mut self) -> Result<WireEvent, WireEnd>
+        ensures event { IfOk result (λ event. IsNextIn self.old event self.new) }
+        ensures fine { OnOk result (self.new.next_faults ≡ self.old.next_faults) }
+        ensures err { MatchResult result (λ event. Unit {0}) (MissesNext self.old self.new) }
+    {
+        if let Some(number) = self.book.first() {
+            self.book.let_go(number);
+            return Ok(WireEvent::Lost(number));
+        }
+        if !self.book.expects_more() {
+            return Ok(WireEvent::Done);
+        }
+        self.next_faults = self.next_faults.saturating_add(1);
+        Err(WireEnd::Failed)
+    }
+
+    // Listens at this address.
+    fn start(&mut self, address: SocketAddr) -> Result<(), Failed>
+        ensures ok { OnOk result (self.new ≡ record self.old { address = Some address }) }
+        ensures err { OnErr result (self.new ≡ self.old) }
+    {
+        let Some(listener) = listen_at(self.system, address) else {
+            return Err(Failed);
+        };
+        let running = EventLoop::new(self.alloc, self.system, listener, self.waits, self.open);
+        if running.is_none() {
+            return Err(Failed);
+        }
+        self.running = running;
+        self.address = Some(address);
+        Ok(())
     }
 
     // Listens at 127.0.0.1.
     fn bind(&mut self, port: u16, connections: u64) -> Result<(), Failed>
         ensures ok { OnOk result (self.new ≡ record self.old {
-          left = connections;
+          book = record self.old.book { left = connections };
           address = Some (local_address port);
         }) }
         ensures err { OnErr result (self.new
             ≡ record self.old { next_faults = up self.old.next_faults }) }
     {
-        match listen_at(self.system, SocketAddrV4::new(Ipv4Addr::LOCALHOST, port)) {
-            Ok(place) => {
-                self.place = Some(place);
-                self.left = connections;
+        let address = SocketAddr::from(SocketAddrV4::new(Ipv4Addr::LOCALHOST, port));
+        match self.start(address) {
+            Ok(()) => {
+                self.book.expect(connections);
                 Ok(())
             }
             Err(_) => {
@@ -316,63 +330,45 @@ impl<'r, R: Net + Clock, F: Files> Sockets<'r, R, F> {
         }
     }
 
-    // Sends to the connection in hand, which is let go where that fails. No other takes anything.
+    // The loop's part of a send.
+    fn pass_on(&mut self, token: u64, bytes: &[u8]) -> Result<(), CutOff>
+        ensures same { self.new ≡ self.old }
+        ensures err { IfErr result (λ cut. cut.taken ≤ length bytes.now) }
+    {
+        match &mut self.running {
+            Some(running) => running.send(self.system, token, bytes),
+            None => Err(CutOff { taken: 0 }),
+        }
+    }
+
+    // Sends to a connection that is open, which is let go where that fails. No other takes anything.
     fn give(&mut self, connection: u64, bytes: &[u8]) -> Result<(), CutOff>
         ensures ok { OnOk result (IsSent connection bytes.now self.old self.new) }
-        ensures err { OnErr result (self.new ≡ let_go connection self.old) }
+        ensures err { OnErr result (self.new ≡ goes connection self.old) }
+        ensures taken { IfErr result (λ cut. cut.taken ≤ length bytes.now) }
     {
-        if connection != self.opened {
-            return Err(CutOff { taken: 0 });
-        }
-        let Some(mut peer) = self.peer.take() else {
+        let Some(line) = self.book.line(connection) else {
             return Err(CutOff { taken: 0 });
         };
-        if let Err(cut) = peer.send(self.waits.stall, bytes) {
-            peer.shut();
+        if let Err(cut) = self.pass_on(line.token, bytes) {
+            self.book.let_go(connection);
             return Err(cut);
         }
-        peer.progress.pieces = 0;
-        peer.progress.replied = true;
-        peer.progress.refused = refuses(bytes);
-        self.peer = Some(peer);
+        self.book.reply(connection, refuses(bytes));
         Ok(())
     }
 
-    // Lets the connection in hand go, where it has this number.
+    // Lets a connection go, if it is open.
     fn let_go(&mut self, connection: u64) -> Option<Parting>
         ensures parted { result ≡ parting_of connection self.old }
-        ensures gone { self.new ≡ let_go connection self.old }
+        ensures gone { self.new ≡ goes connection self.old }
     {
-        if connection != self.opened {
-            return None;
+        let line = self.book.let_go(connection)?;
+        let refused = line.progress.refused;
+        if let Some(running) = &mut self.running {
+            running.part(line.token, refused);
         }
-        let peer = self.peer.take()?;
-        Some(peer.part(&mut self.piece))
-    }
-}
-
-// The connection after what came of it: none where it is lost.
-fn keep<S: Read + Write + OpenStream + Drop>(peer: Peer<S>, event: &WireEvent) -> Option<Peer<S>>
-    ensures { option_map (λ p. record { progress = p.progress; read_wait = p.read_wait }) result
-        ≡ kept event.now (record { progress = peer.progress; read_wait = peer.read_wait }) }
-{
-    match event {
-        WireEvent::Lost(_) => {
-            peer.shut();
-            None
-        }
-        _ => Some(peer),
-    }
-}
-
-// Listens at this address.
-fn listen_at<R: Net>(net: &R, address: SocketAddrV4) -> Result<Place<R::Listener>, Failed>
-    ensures { IfOk result (λ place. place.address ≡ V4 address) }
-{
-    let address = SocketAddr::from(address);
-    match net.bind(address) {
-        Ok(listener) => Ok(Place { listener, address }),
-        Err(_) => Err(Failed),
+        Some(Parting::of(refused))
     }
 }
 
@@ -391,7 +387,7 @@ impl<R: Net + Clock, F: Files> Sockets<'_, R, F> {
             × ((told_of self.new).left ≡ (told_of self.old).left)
             × ((told_of self.new).watches ≡ (told_of self.old).watches) }
         ensures at { OnOk result (self.new ≡ record self.old {
-          left = connections;
+          book = record self.old.book { left = connections };
           address = Some (local_address port);
         }) }
         ensures nowhere { OnErr result (self.new
@@ -418,7 +414,7 @@ impl<R: Net + Clock, F: Files> Sockets<'_, R, F> {
           watch = Some (record {
             path = path.now;
             every = every;
-            read_at = self.old.opened;
+            read_at = self.old.book.ended;
             last = None;
           });
         }) }
@@ -430,13 +426,14 @@ impl<R: Net + Clock, F: Files> Sockets<'_, R, F> {
         self.watch = Some(Watch {
             path,
             every,
-            read_at: self.opened,
+            read_at: self.book.ended(),
             last: None,
         });
         Ok(())
     }
 
-    /// `Failed` where no connection could be taken. It never runs out of memory: that costs the connection.
+    /// `Failed` where no connection could be taken, or the system doesn't wait. It never runs out of memory: that costs a
+    /// connection.
     pub(crate) fn next(&mut self, alloc: Global) -> Result<WireEvent, WireEnd>
         ensures given { IfOk result (λ event. (told_of self.new).given
             ≡ add_event (told_of self.old).given event) }
@@ -460,21 +457,34 @@ impl<R: Net + Clock, F: Files> Sockets<'_, R, F> {
         self.draw(alloc)
     }
 
-    /// Fails where the connection is not in hand, and where it doesn't take all in time, which lets it go.
+    /// What the connection has no room for is queued. Fails where it is not open, and where it is gone or memory for the
+    /// queue is refused, which lets it go.
     pub(crate) fn send(&mut self, connection: u64, bytes: &[u8]) -> Result<(), CutOff>
         ensures stays { EventsStay (told_of self.old) (told_of self.new) }
         ensures sent { OnOk result (IsSent connection bytes.now self.old self.new) }
-        ensures gone { OnErr result (self.new ≡ let_go connection self.old) }
+        ensures gone { OnErr result (self.new ≡ goes connection self.old) }
+        ensures taken { IfErr result (λ cut. cut.taken ≤ length bytes.now) }
     {
         self.give(connection, bytes)
     }
 
-    /// Lets the connection go, where it is in hand.
+    /// Lets the connection go, if it is open: at once, or as soon as it has taken what is queued.
     pub(crate) fn close(&mut self, connection: u64)
         ensures stays { EventsStay (told_of self.old) (told_of self.new) }
-        ensures gone { self.new ≡ let_go connection self.old }
+        ensures gone { self.new ≡ goes connection self.old }
     {
         self.let_go(connection);
+    }
+
+    /// Lets all connections go as soon as they have taken what is queued, or their time is over.
+    pub(crate) fn finish(&mut self)
+        ensures { self.new ≡ all_gone self.old }
+    {
+        self.held = None;
+        self.book.clear();
+        if let Some(running) = &mut self.running {
+            running.finish(self.system);
+        }
     }
 }
 
@@ -501,11 +511,13 @@ impl<'r, R: Net + Clock, F> Model for TcpWire<'r, R, F> {
 
 impl<'r, R: Net + Clock, F: Files> TcpWire<'r, R, F> {
     /// A wire that does not listen yet: until then it has no connection to give. A file is watched in `files`.
-    pub fn new(alloc: Global, system: &'r R, files: F, waits: Waits) -> Self
+    /// At most `open` connections are open at once, and no more than the system has descriptors for; beyond them new ones
+    /// wait in the system's queue.
+    pub fn new(alloc: Global, system: &'r R, files: F, waits: Waits, open: usize) -> Self
         ensures { (result.trace ≡ []) × (result.history ≡ []) }
     {
         TcpWire {
-            sockets: Sockets::new(alloc, system, files, waits),
+            sockets: Sockets::new(alloc, system, files, waits, open),
             log: Log::new(),
             history: Log::new(),
         }
@@ -565,6 +577,7 @@ impl<R: Net + Clock, F: Files> Wire for TcpWire<'_, R, F> {
                 Ok(())
             }
             Err(CutOff { taken }) => {
+                let taken = taken as u64;
                 self.log.send_failed(connection, bytes, taken);
                 self.history.send_failed(connection, bytes, taken);
                 Err(Failed)
@@ -578,5 +591,7 @@ impl<R: Net + Clock, F: Files> Wire for TcpWire<'_, R, F> {
         self.history.closed(connection);
     }
 
-    fn finish(&mut self) {}
+    fn finish(&mut self) {
+        self.sockets.finish();
+    }
 }

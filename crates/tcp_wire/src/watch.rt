@@ -50,15 +50,14 @@ impl Watch {
     }
 
     /// What the file holds, where it is to be read and holds another text than before. `ended` is how many connections have
-    /// ended. None where the read fails, and where memory is refused.
+    /// ended. None where it is not to be read, where the read fails, and where memory is refused.
     pub fn look<F: Files>(&mut self, alloc: Global, files: &mut F, ended: u64) -> Option<Str>
-        ensures none { result ≡ None → self.new ≡ passed ended self.old }
+        ensures none { result ≡ None → self.new ≡ self.old }
         ensures some { IfSome result (λ text. IsChanged ended self.old text self.new) }
     {
         if !self.is_due(ended) {
             return None;
         }
-        self.read_at = ended;
         let text = read(alloc, files, &self.path)?;
         if self.is_last(&text) {
             return None;
@@ -66,7 +65,17 @@ impl Watch {
         let Ok(copy) = text.copy(alloc) else {
             return None;
         };
+        self.read_at = ended;
         self.last = Some(copy);
         Some(text)
+    }
+
+    /// The next connection is opened without a change: the file was read, if that was due.
+    pub fn pass(&mut self, ended: u64)
+        ensures { self.new ≡ passed ended self.old }
+    {
+        if self.is_due(ended) {
+            self.read_at = ended;
+        }
     }
 }

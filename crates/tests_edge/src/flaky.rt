@@ -29,6 +29,10 @@ impl<L: OpenListener> OpenListener for FlakyListener<L> {
     fn local_addr(&self) -> io::Result<SocketAddr> {
         self.listener.local_addr()
     }
+
+    fn set_nonblocking(&self, nonblocking: bool) -> io::Result<()> {
+        self.listener.set_nonblocking(nonblocking)
+    }
 }
 
 impl<L: AsRawFd> AsRawFd for FlakyListener<L> {
@@ -37,7 +41,7 @@ impl<L: AsRawFd> AsRawFd for FlakyListener<L> {
     }
 }
 
-/// A system whose listeners fail so often before they take a connection, and whose clock waits for nothing.
+/// A system whose listeners fail so often before they take a connection.
 #[derive(Drop)]
 pub struct Flaky<'r, R> {
     pub system: &'r R,

@@ -2,6 +2,8 @@
 #![tactic(auto)]
 
 #[cfg(test)]
+mod burst;
+#[cfg(test)]
 mod files;
 #[cfg(test)]
 mod flaky;

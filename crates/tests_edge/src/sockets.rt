@@ -1,5 +1,7 @@
-// How the wire waits, and when it reads a watched file: short waits of some tens of milliseconds, and no time is measured.
+// How the wire waits and serves many clients at once, and when it reads a watched file: short waits of some tens of
+// milliseconds, and no time is measured.
 // One thread is client and server.
+use crate::burst::answers_burst;
 use crate::flaky::Flaky;
 use crate::folder::Folder;
 use crate::talk::{Step, Talk, take_talk};
@@ -53,6 +55,7 @@ const TALKS: &[Talk] = &[
             Step::End(0),
             Step::Opened(1),
             Step::Ended(1),
+            Step::Close(1),
             Step::Done,
         ],
     },
@@ -120,7 +123,7 @@ const TALKS: &[Talk] = &[
     },
     // A reply that is longer than what the system keeps for a client that reads nothing.
     Talk {
-        name: "a client that takes no reply is let go",
+        name: "a client that takes no reply is lost",
         waits: SHORT,
         steps: &[
             Step::Listen(1),
@@ -128,9 +131,87 @@ const TALKS: &[Talk] = &[
             Step::Send(0, b"a request"),
             Step::Opened(1),
             Step::Piece(1, b"a request"),
-            Step::LongReplyFails(1, 33_554_432),
+            Step::LongReply(1, 33_554_432),
+            Step::Lost(1),
             Step::ReplyFails(1, b"x"),
             Step::Done,
+        ],
+    },
+    Talk {
+        name: "a client that takes no reply holds up no other",
+        waits: LONG,
+        steps: &[
+            Step::Listen(2),
+            Step::Connect(2),
+            Step::Send(0, b"a request"),
+            Step::Opened(1),
+            Step::Piece(1, b"a request"),
+            Step::LongReply(1, 33_554_432),
+            Step::Close(1),
+            Step::Send(1, b"another"),
+            Step::Opened(2),
+            Step::Piece(2, b"another"),
+            Step::Reply(2, b"a reply"),
+            Step::Close(2),
+            Step::Take(1, b"a reply"),
+        ],
+    },
+    // All of its 32 MiB.
+    Talk {
+        name: "a client takes a long reply while another one is heard",
+        waits: LONG,
+        steps: &[
+            Step::Listen(2),
+            Step::Connect(2),
+            Step::Send(0, b"a request"),
+            Step::Send(1, b"x"),
+            Step::Opened(1),
+            Step::Piece(1, b"a request"),
+            Step::LongReply(1, 33_554_432),
+            Step::Close(1),
+            Step::Opened(2),
+            Step::Piece(2, b"x"),
+            Step::TakeAside(512, 0, 65_536, 1, 2),
+            Step::Take(0, b""),
+            Step::Reply(2, b"a reply"),
+            Step::Finish,
+            Step::Take(1, b"a reply"),
+        ],
+    },
+    Talk {
+        name: "half a head holds up no other client",
+        waits: LONG,
+        steps: &[
+            Step::Listen(2),
+            Step::Connect(2),
+            Step::Send(0, b"GET / HT"),
+            Step::Opened(1),
+            Step::Piece(1, b"GET / HT"),
+            Step::Send(1, b"a request"),
+            Step::Opened(2),
+            Step::Piece(2, b"a request"),
+            Step::Reply(2, b"a reply"),
+            Step::Close(2),
+            Step::Take(1, b"a reply"),
+            Step::Send(0, b"TP/1.1"),
+            Step::Piece(1, b"TP/1.1"),
+        ],
+    },
+    // One head a turn.
+    Talk {
+        name: "requests that are sent at once take turns with those of others",
+        waits: LONG,
+        steps: &[
+            Step::Listen(2),
+            Step::Connect(2),
+            Step::Send(0, b"one\n\ntwo\n\nthree\n\n"),
+            Step::Send(1, b"four\n\n"),
+            Step::Opened(1),
+            Step::Piece(1, b"one\n\n"),
+            Step::Opened(2),
+            Step::Piece(2, b"four\n\n"),
+            Step::Piece(1, b"two\n\n"),
+            Step::Piece(1, b"three\n\n"),
         ],
     },
     // The silent one is opened once it sends something.
@@ -153,7 +234,6 @@ const TALKS: &[Talk] = &[
             Step::Done,
         ],
     },
-    // Sixty-four wait; for more, those that came first are let go.
     Talk {
         name: "a hundred silent clients hold up no other",
         waits: LONG,
@@ -163,11 +243,23 @@ const TALKS: &[Talk] = &[
             Step::Send(100, b"a request"),
             Step::Opened(1),
             Step::Piece(1, b"a request"),
-            Step::Take(0, b""),
             Step::Close(1),
-            Step::Send(99, b"a late one"),
+            Step::Send(0, b"a late one"),
             Step::Opened(2),
             Step::Piece(2, b"a late one"),
+        ],
+    },
+    // At most 128 are open at once: two more wait until those that have sent nothing for a second are let go.
+    Talk {
+        name: "silent clients make room for those that wait",
+        waits: LONG,
+        steps: &[
+            Step::Listen(2),
+            Step::Connect(130),
+            Step::Send(129, b"a request"),
+            Step::Opened(1),
+            Step::Piece(1, b"a request"),
+            Step::Take(0, b""),
         ],
     },
     // Those that have sent something are opened in the order in which they came.
@@ -187,7 +279,7 @@ const TALKS: &[Talk] = &[
         ],
     },
     Talk {
-        name: "another client takes the place of one that is idle",
+        name: "a client that is idle after a reply holds up no other",
         waits: LONG,
         steps: &[
             Step::Listen(2),
@@ -197,13 +289,12 @@ const TALKS: &[Talk] = &[
             Step::Piece(1, b"a request"),
             Step::Reply(1, b"a reply"),
             Step::Connect(1),
-            Step::Send(0, b"one more"),
-            Step::Piece(1, b"one more"),
-            Step::Reply(1, b"a reply"),
             Step::Send(1, b"a request"),
-            Step::Lost(1),
             Step::Opened(2),
             Step::Piece(2, b"a request"),
+            Step::Reply(2, b"a reply"),
+            Step::Send(0, b"one more"),
+            Step::Piece(1, b"one more"),
         ],
     },
     // Where no more connections are taken, an idle one keeps its place until its time is over.
@@ -270,7 +361,29 @@ const TALKS: &[Talk] = &[
         ],
     },
     Talk {
-        name: "only the connection in hand is sent to and closed",
+        name: "a client that is refused and goes on sending holds up no other",
+        waits: LONG,
+        steps: &[
+            Step::Listen(2),
+            Step::Connect(2),
+            Step::Send(0, REQUEST),
+            Step::Opened(1),
+            Step::Piece(1, REQUEST),
+            Step::SendMany(0, 100_000),
+            Step::Reply(1, REFUSAL),
+            Step::Close(1),
+            Step::Send(1, b"a request"),
+            Step::Opened(2),
+            Step::Piece(2, b"a request"),
+            Step::SendMany(0, 100_000),
+            Step::Reply(2, b"a reply"),
+            Step::Close(2),
+            Step::Take(0, REFUSAL),
+            Step::Take(1, b"a reply"),
+        ],
+    },
+    Talk {
+        name: "only connections that are open are sent to and closed",
         waits: LONG,
         steps: &[
             Step::Listen(1),
@@ -393,6 +506,18 @@ fn each_talk_goes_by_its_steps(rt: HostRuntime) -> Result<(), Fail> {
         take_talk(&rt, &rt, path.as_str(), talk)?;
     }
     folder.remove(&rt)
+}
+
+// So many clients connect at once, of which 128 are open at a time.
+const BURST: usize = 300;
+
+#[test]
+fn a_burst_of_clients_is_answered(rt: HostRuntime) -> Result<(), Fail> {
+    if answers_burst(&rt, BURST) {
+        Ok(())
+    } else {
+        Err(Fail::new("a client has no reply"))
+    }
 }
 
 // A talk over a system whose listener fails so often before it takes a connection.

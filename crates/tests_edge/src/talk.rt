@@ -33,12 +33,16 @@ pub enum Step<'a> {
     End(usize),
     /// The client takes these bytes until its connection is closed.
     Take(usize, &'a [u8]),
+    /// So many times the client takes so many bytes, and then the other one sends a byte, which its connection has next.
+    TakeAside(u32, usize, usize, usize, u64),
+    /// The wire lets out what is queued, and lets all go.
+    Finish,
     /// The reply is sent to the connection.
     Reply(u64, &'a [u8]),
     /// The reply can't be sent to it.
     ReplyFails(u64, &'a [u8]),
-    /// A reply of so many bytes can't be sent to it.
-    LongReplyFails(u64, usize),
+    /// A reply of so many bytes is sent to it.
+    LongReply(u64, usize),
     /// The connection is closed.
     Close(u64),
     /// Next the connection is opened.
@@ -59,6 +63,9 @@ pub enum Step<'a> {
     Done,
 }
 
+// How many connections are open at once.
+const OPEN: usize = 128;
+
 /// A talk with a wire that waits so.
 pub struct Talk {
     pub name: &'static str,
@@ -70,6 +77,7 @@ pub struct Talk {
 fn times(step: &Step<'_>) -> u32 {
     match step {
         Step::Connect(times) | Step::Pieces(times, _, _) => *times,
+        Step::TakeAside(times, ..) => *times,
         _ => 1,
     }
 }
@@ -94,6 +102,32 @@ fn connects<R: Net + Clock>(
 fn takes<S: Read>(alloc: Global, client: &mut S, wanted: &[u8]) -> bool {
     let mut taken = Vec::new(alloc);
     client.read_to_end(&mut taken).is_ok() && taken.as_slice() == wanted
+}
+
+// A client takes so many bytes. Does it?
+fn takes_some<S: Read>(alloc: Global, client: &mut S, count: usize) -> bool {
+    match vec![in alloc; 0u8; count] {
+        Ok(mut bytes) => client.read_exact(&mut bytes).is_ok(),
+        Err(_) => false,
+    }
+}
+
+// A client takes so many bytes, and then another one sends a byte. Do they?
+fn takes_aside<S: Read + Write>(
+    alloc: Global,
+    clients: &mut [S],
+    reader: usize,
+    count: usize,
+    writer: usize,
+) -> bool {
+    let takes = match clients.get_mut(reader) {
+        Some(client) => takes_some(alloc, client, count),
+        None => false,
+    };
+    match clients.get_mut(writer) {
+        Some(client) => takes && client.write_all(b"x").is_ok(),
+        None => false,
+    }
 }
 
 // A client sends so many bytes. Does it?
@@ -139,12 +173,16 @@ fn serves<W: Wire>(alloc: Global, wire: &mut W, path: &str, step: &Step<'_>) -> 
         Step::Watch(every) => watches(alloc, wire, path, *every),
         Step::Reply(number, reply) => wire.send(*number, reply).is_ok(),
         Step::ReplyFails(number, reply) => wire.send(*number, reply) == Err(Failed),
-        Step::LongReplyFails(number, count) => match vec![in alloc; b'x'; *count] {
-            Ok(reply) => wire.send(*number, &reply) == Err(Failed),
+        Step::LongReply(number, count) => match vec![in alloc; b'x'; *count] {
+            Ok(reply) => wire.send(*number, &reply).is_ok(),
             Err(_) => false,
         },
         Step::Close(number) => {
             wire.close(*number);
+            true
+        }
+        Step::Finish => {
+            wire.finish();
             true
         }
         _ => false,
@@ -160,9 +198,10 @@ fn is_next<W: Wire>(alloc: Global, wire: &mut W, step: &Step<'_>) -> bool {
         (Ok(WireEvent::Bytes(found, piece)), Step::Piece(wanted, bytes)) => {
             found == *wanted && piece.bytes() == *bytes
         }
-        (Ok(WireEvent::Bytes(found, piece)), Step::Pieces(_, _, wanted)) => {
-            found == *wanted && piece.bytes() == b"x".as_slice()
-        }
+        (
+            Ok(WireEvent::Bytes(found, piece)),
+            Step::Pieces(_, _, wanted) | Step::TakeAside(_, _, _, _, wanted),
+        ) => { found == *wanted && piece.bytes() == b"x".as_slice() }
         (Ok(WireEvent::Ended(found)), Step::Ended(wanted)) => found == *wanted,
         (Ok(WireEvent::Lost(found)), Step::Lost(wanted)) => found == *wanted,
         (Ok(WireEvent::Change(text)), Step::Change(wanted)) => text.bytes() == *wanted,
@@ -190,8 +229,13 @@ fn goes<R: Net + Clock>(
             acts(alloc, clients, step)
         }
         Step::Pieces(..) => acts(alloc, clients, step) && is_next(alloc, wire, step),
-        Step::Listen(_) | Step::Watch(_) | Step::Close(_) => serves(alloc, wire, path, step),
-        Step::Reply(..) | Step::ReplyFails(..) | Step::LongReplyFails(..) => {
+        Step::TakeAside(_, reader, count, writer, _) => {
+            takes_aside(alloc, clients, *reader, *count, *writer) && is_next(alloc, wire, step)
+        }
+        Step::Listen(_) | Step::Watch(_) | Step::Close(_) | Step::Finish => {
+            serves(alloc, wire, path, step)
+        }
+        Step::Reply(..) | Step::ReplyFails(..) | Step::LongReply(..) => {
             serves(alloc, wire, path, step)
         }
         _ => is_next(alloc, wire, step),
@@ -223,7 +267,7 @@ pub fn take_talk<R: Net + Clock>(
     talk: &Talk,
 ) -> Result<(), Fail> {
     let alloc = rt.alloc();
-    let mut wire = TcpWire::new(alloc, system, RealFiles::new(rt, 0), talk.waits);
+    let mut wire = TcpWire::new(alloc, system, RealFiles::new(rt, 0), talk.waits, OPEN);
     let mut clients = Vec::new(alloc);
     for (place, step) in talk.steps.iter().enumerate() {
         if !goes_each_time(rt, system, path, &mut wire, &mut clients, step) {

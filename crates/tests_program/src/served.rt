@@ -44,10 +44,13 @@ const WAITS: Waits = Waits {
     stall: 10_000,
 };
 
+// How many connections are open at once.
+const OPEN: usize = 100;
+
 // A port at which nothing listens.
 fn free_port<R: Net + Clock>(alloc: Global, net: &R) -> Result<u16, Fail> {
     let files = files_of(alloc, &[], &[])?;
-    let mut wire = TcpWire::new(alloc, net, files, WAITS);
+    let mut wire = TcpWire::new(alloc, net, files, WAITS, OPEN);
     if wire.listen(0, 1).is_err() {
         return Err(Fail::new("no socket"));
     }
@@ -91,7 +94,7 @@ fn check_reply<R: AllocGlobal + Abort, S: Read>(
 fn the_worked_page_is_served_at_the_port_that_was_asked_for(rt: HostRuntime) -> Result<(), Fail> {
     let alloc = rt.alloc();
     let port = free_port(alloc, &rt)?;
-    let sockets = TcpWire::new(alloc, &rt, files_of(alloc, &[], &[])?, WAITS);
+    let sockets = TcpWire::new(alloc, &rt, files_of(alloc, &[], &[])?, WAITS, OPEN);
     let mut wire = Visited::new(alloc, sockets, &rt, None, &[BIB]);
     let words = format!(in alloc;
         "serve\n--port\n{port}\n--connections\n1\nq.struql\nt.tmpl\nbib.ddl\n"
@@ -133,7 +136,7 @@ fn an_edited_file_shows_in_the_next_reply(rt: HostRuntime) -> Result<(), Fail> {
     let path = fresh_path(&rt)?;
     let watched = fresh_path(&rt)?;
     let port = free_port(alloc, &rt)?;
-    let sockets = TcpWire::new(alloc, &rt, RealFiles::new(&rt, 0), WAITS);
+    let sockets = TcpWire::new(alloc, &rt, RealFiles::new(&rt, 0), WAITS, OPEN);
     let mut wire = Visited::new(alloc, sockets, &rt, Some(path), TEXTS);
     let words = format!(in alloc;
         "serve\n--port\n{port}\n--connections\n3\n--watch\n{watched}\nq.struql\nt.tmpl\nbib.ddl\n"

@@ -45,7 +45,7 @@ fn asking<R: Net + Clock + Files>(
 #[test]
 fn a_request_over_a_socket_has_its_reply(rt: HostRuntime) -> Result<(), Fail> {
     let alloc = rt.alloc();
-    let mut wire = TcpWire::new(alloc, &rt, RealFiles::new(&rt, 0), WAITS);
+    let mut wire = TcpWire::new(alloc, &rt, RealFiles::new(&rt, 0), WAITS, 1);
     let mut client = asking(&rt, &mut wire).ok_or("no socket")?;
     let mut hub = Hub::of(alloc, Still { pages: NoPages }, 1, None);
     let end = serve(alloc, &mut hub, &mut wire, 1000);
