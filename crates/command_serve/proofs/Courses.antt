@@ -26,7 +26,7 @@ use Rattle.run_report.specs.Told.{IsOnePut}
 use Rattle.serve_run.specs.Puts.{EndHappens}
 use Rattle.serve_run.specs.Texts.{tally_text}
 use Rattle.serve_run.proofs.Added.{Added, added_then, added_behind, added_none}
-use Rattle.site_serving.specs.Served.{ServesSiteInSteps}
+use Rattle.site_serving.specs.Served.{ServesSite, ServesSiteInSteps}
 use Rattle.command_serve.specs.Ends.{serving_text, no_tally, Watching, WatchesIf, Listening}
 use Rattle.command_serve.specs.Course.{listen_of, watch_of, CountsHappen, ServesThenCounts, TellsThenServes, ListensThenTells, OverCourse, ServeCourse}
 
@@ -47,6 +47,11 @@ steps_lent s limits before lent done after served old given taken new is_before 
       subst (λ (r : WireReport). ServesSiteInSteps s limits r after served [] x.0) is_before
           (subst (λ (r : WireReport). ServesSiteInSteps s limits lent r served [] x.0) (sym is_after) x.2),
     )
+
+pub serves_lent : (s : Inputs) (limits : RunLimits) (before lent done after : WireReport) (served : Served) → lent ≡ before → after ≡ done → ServesSite s limits lent done served
+    → ServesSite s limits before after served
+serves_lent s limits before lent done after served is_before is_after serves =
+    subst (λ (r : WireReport). ServesSite s limits r after served) is_before (subst (λ (r : WireReport). ServesSite s limits lent r served) (sym is_after) serves)
 
 -- the counts
 pub counts_added : (stream : Stream) (watches : Bool) (served : Served) (text : List ℕ) (reached : Status) (a b : List Happening) → text ≡ tally_text watches served.tally
