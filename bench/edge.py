@@ -50,14 +50,14 @@ def reply(client, kept=b""):
     while (end := kept.find(b"\r\n\r\n")) < 0:
         piece = client.recv(65_536)
         if not piece:
-            sys.exit(f"a connection ended within a head: {kept!r}")
+            raise EOFError(f"a connection ended within a head: {kept!r}")
         kept += piece
     head = kept[:end].decode().split("\r\n")
     size = next(int(line.split(":")[1]) for line in head if line.lower().startswith("content-length:"))
     while len(kept) < end + 4 + size:
         piece = client.recv(65_536)
         if not piece:
-            sys.exit("a connection ended within a body")
+            raise EOFError("a connection ended within a body")
         kept += piece
     return head[0], kept[end + 4 :]
 
@@ -140,14 +140,14 @@ def after(seconds):
     return f"{seconds:.2f} s" if seconds is not None else f"not within {PATIENCE} s"
 
 
-def waited(port):
-    """Seconds until a page is there, or None where it isn't within the time that is waited."""
+def waited(port, address="/Paper/np7.html"):
+    """Seconds until a page is there, or None where it isn't within the time that is waited, or never."""
     begun = time.monotonic()
     try:
         with connected(port) as client:
-            client.sendall(request("/Paper/np7.html", "1.0"))
+            client.sendall(request(address, "1.0"))
             reply(client)
-    except (TimeoutError, ConnectionResetError):
+    except (OSError, EOFError):
         return None
     return time.monotonic() - begun
 

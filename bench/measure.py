@@ -6,6 +6,7 @@ import subprocess
 import sys
 import tempfile
 from math import log
+from typing import NamedTuple
 
 TOP = os.path.dirname(os.path.dirname(os.path.abspath(__file__)))
 STRUDEL = os.environ.get("STRUDEL") or os.path.join(TOP, "strudel")
@@ -78,8 +79,21 @@ def spent(pid):
     return (int(fields[11]) + int(fields[12])) / os.sysconf("SC_CLK_TCK")
 
 
+class Compared(NamedTuple):
+    """A row of the server next to nginx. What misses its target is in bold."""
+
+    what: str
+    target: str
+    nginx: str
+    strudel: str
+
+
 def table(rows):
-    """The rows of a benchmark (what, processor seconds, megabytes, a note) as a table."""
+    """The rows of a benchmark (what, processor seconds, megabytes, a note; or all of them next to nginx) as a table."""
+    if isinstance(rows[0], Compared):
+        yield "| What | target | nginx | strudel |\n|---|---|---|---|\n"
+        yield from (f"| {' | '.join(row)} |\n" for row in rows)
+        return
     yield "| What | processor seconds | MB | |\n|---|---|---|---|\n"
     for what, seconds, memory, note in rows:
         yield f"| {what} | {'' if seconds is None else f'{seconds:.2f}' if seconds >= 0.01 else f'{round(seconds, 10):.2g}'} | {'' if memory is None else f'{memory:.0f}'} | {note} |\n"

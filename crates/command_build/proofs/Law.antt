@@ -1,10 +1,10 @@
 -- How a build ends that nothing outside fails.
-use Rattle.std.proofs.Common.{◌≡◌, ◌⊎◌, ℕ, List, ◌∷◌, ◌++◌, ◌<◌, length, inl, inr, refl, sym, subst, ap, arith}
+use Rattle.std.proofs.Common.{◌≡◌, ◌⊎◌, ℕ, List, ◌∷◌, ◌++◌, inl, inr, refl, sym, subst, arith}
 use Rattle.std.specs.Prelude.{Option, None, Some, Result, Ok, Err, Contains}
 use Rattle.sd_value.specs.declared.Term.{Term}
 use Rattle.sd_value.specs.Order.{term_cmp}
 use Rattle.sd_value.specs.Ascending.{ListsExactly}
-use Rattle.page_spec.specs.Page.{IsPresent, IsOutcome}
+use Rattle.page_spec.specs.Page.{IsPresent}
 use Rattle.page_spec.specs.declared.Outcome.{Outcome}
 use Rattle.page_spec.specs.declared.Outcome.TheVariants as outcome
 use Rattle.std.proofs.lemmas.List.Elements.{Contains-append_right}
@@ -18,7 +18,7 @@ use Rattle.command_spec.specs.declared.BuildCommand.{BuildCommand}
 use Rattle.site_spec.specs.Root.{root_function}
 use Rattle.files_spec.specs.declared.stop.Stop.{Stop}
 use Rattle.files_spec.specs.declared.stop.Stop.TheVariants as stop
-use Rattle.files_spec.specs.Files.{IsPageText, IsFaulty, StopsIn, SiteEnds, RootEnds}
+use Rattle.files_spec.specs.Files.{IsFaulty, SiteEnds, RootEnds}
 use Rattle.site_inputs.specs.declared.fault.Fault.{Fault}
 use Rattle.site_inputs.specs.declared.fault.Fault.TheVariants as fault
 use Rattle.site_inputs.specs.Runs.{IsDecidedFault, Decides}
@@ -28,8 +28,8 @@ use Rattle.site_inputs.specs.Statuses.{ReadRose, status_of}
 use Rattle.site_inputs.proofs.DecidedInputs.{inputs_decide}
 use Rattle.command_build.specs.Ends.{IsBuilt, Builds, BuildEnds, IsUnwritten, SiteRose}
 use Rattle.site_inputs.specs.Outside.{Host, PutsRose, AllRead, HasStatus}
-use Rattle.command_build.specs.Law.{AllCanBeWritten, BuildIsDecided, BuildEndsWell}
-use Rattle.site_inputs.proofs.Endings.{ok_same, not_both, by_reason, not_refused}
+use Rattle.command_build.specs.Law.{AllCanBeWritten, BuildEndsWell}
+use Rattle.site_inputs.proofs.Endings.{ok_same, not_both, by_reason}
 
 module _ (s : Inputs) (writable : AllCanBeWritten s) where
   -- a page that has a text and a short name has no fault

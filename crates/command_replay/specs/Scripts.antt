@@ -12,7 +12,8 @@ use Rattle.site_inputs.specs.declared.fault.Fault.{Fault}
 use Rattle.site_inputs.specs.declared.fault.Fault.TheVariants.{Refused, NoMemory}
 use Rattle.data_source.specs.declared.numbered.NumberedFault.{NumberedFault}
 use Rattle.site_inputs.specs.Runs.{Then, EndsWith, FileEnds}
-use Rattle.site_inputs.specs.Sites.{Inputs, InputsEnd, text_told}
+use Rattle.data_source.specs.Numbered.{text_told}
+use Rattle.site_inputs.specs.Sites.{Inputs, InputsEnd}
 use Rattle.site_inputs.specs.Values.{inputs_of}
 use Rattle.command_replay.specs.declared.replaying.Script.{Script}
 

@@ -1,45 +1,25 @@
 -- How all that happens in a run is put together.
-use Rattle.std.proofs.Common.{◌≡◌, ◌⊎◌, ℕ, List, [], ◌∷◌, ◌++◌, inl, inr, refl, sym, ap, subst, ◌∙◌, append_assoc}
+use Rattle.std.proofs.Common.{◌≡◌, ◌⊎◌, ℕ, List, [], ◌++◌, refl, sym, ap, subst, ◌∙◌, append_assoc}
 use Rattle.std.proofs.lemmas.List.{append-nil}
-use Rattle.std.specs.Prelude.{Option, None, Some, Result, MatchResult}
+use Rattle.std.specs.Prelude.{Option, None, Some, Result}
 use Rattle.std.specs.Prelude as prelude
 use Rattle.edge_io.specs.Files.{FileMap}
-use Rattle.happenings.specs.Happening.{Happening, Put, PutFailed}
+use Rattle.happenings.specs.Happening.{Happening}
 use Rattle.happenings.specs.declared.stream.Stream.{Stream}
 use Rattle.wire.specs.Told.{WireReport}
 use Rattle.run_report.specs.Report.{code, IsFixed}
 use Rattle.run_report.specs.Told.{IsTold}
 use Rattle.run_report.specs.declared.reports.Report.{Report}
 use Rattle.run_report.specs.declared.status.Status.{Status}
-use Rattle.run_report.specs.declared.status.Status.TheVariants.{Usage, WriteFault, NoMemory}
+use Rattle.run_report.specs.declared.status.Status.TheVariants.{Usage, NoMemory}
 use Rattle.run_report.proofs.ToldLines.{Grew}
 use Rattle.command_spec.specs.Words.{command}
 use Rattle.command_spec.specs.declared.Command.{Command}
 use Rattle.site_inputs.specs.declared.fault.Fault.{Fault}
 use Rattle.site_inputs.specs.Reads.{Reads}
-use Rattle.site_inputs.specs.Statuses.{status_of}
 use Rattle.command_run.specs.declared.no_words.NoWords.{NoWords}
-use Rattle.command_run.specs.Top.{answer_status}
 use Rattle.command_run.specs.Main.{Words, status_without}
 use Rattle.command_run.specs.IsRun.{AnswerPuts, AnswerCourse, CommandCourse, Course, CourseThenLine, RunCourse, IsRun}
-
-module _ {A : Type 0} (report_of : A → Report) (output : Stream) (answer : Result A Fault) (before : List Happening) (status : Status) where
-  abbrev pub Answered : (now : List Happening) → Type 0
-  Answered now = Grew (λ puts. AnswerPuts report_of output answer puts status) before now
-
-  of_answer : (given : Result A Fault) (now : List Happening) → answer ≡ given → Grew (λ puts. AnswerPuts report_of output given puts status) before now → Answered now
-  of_answer given now is h = subst (λ (r : Result A Fault). Grew (λ puts. AnswerPuts report_of output r puts status) before now) (sym is) h
-
-  -- the text of the answer was put, whole or cut
-  pub text_put : {T E : Type 0} (a : A) (now : List Happening) (result : Result T E) → answer ≡ prelude.Ok a
-      → MatchResult result (λ _. now ≡ before ++ Put output (report_of a).text ∷ []) (λ _. (taken : ℕ) × (now ≡ before ++ PutFailed output (report_of a).text taken ∷ []))
-      → MatchResult result (λ _. status ≡ answer_status report_of (prelude.Ok a)) (λ _. status ≡ WriteFault) → Answered now
-  text_put a now (prelude.Ok x) is put its = of_answer (prelude.Ok a) now is (Put output (report_of a).text ∷ [], put, inl (refl, its))
-  text_put a now (prelude.Err e) is put its = of_answer (prelude.Ok a) now is (PutFailed output (report_of a).text put.0 ∷ [], put.1, inr (put.0, refl, its))
-
-  -- nothing was put of a fault
-  pub no_text_put : (stop : Fault) → answer ≡ prelude.Err stop → status ≡ status_of stop → Answered before
-  no_text_put stop is its = of_answer (prelude.Err stop) before is ([], sym (append-nil before), (refl, its))
 
 -- the reads, and then the put
 pub answer_course : {A : Type 0} (report_of : A → Report) (output : Stream) (Answers : FileMap → Result A Fault → Type 0) (paths : List (List ℕ)) (contents : Option FileMap)

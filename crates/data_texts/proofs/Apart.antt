@@ -1,5 +1,5 @@
 -- No text is both a data text and an edit: the first token of an edit begins no statement.
-use Rattle.std.proofs.Common.{◌≡◌, ◌≢◌, ◌⊎◌, inl, inr, ◌≤◌, ◌<◌, ℕ, Bool, true, false, List, [], ◌∷◌, ◌++◌, length, refl, sym, ap, subst, ◌∙◌, arith, true≢false, Result, Ok, Err}
+use Rattle.std.proofs.Common.{◌≡◌, ◌≢◌, inl, inr, ℕ, Bool, true, false, List, [], ◌∷◌, ◌++◌, refl, sym, ap, subst, ◌∙◌, arith, true≢false, Result, Ok, Err}
 use Rattle.std.specs.Prelude.{codes, Option, Some, None}
 use Rattle.std.proofs.lemmas.List.{append-nil}
 use Rattle.sd_lex.specs.declared.refusal.LexRefusal.{LexRefusal}
@@ -7,7 +7,7 @@ use Rattle.sd_lex.specs.declared.refusal.LexRefusal.TheVariants.{NoMemory}
 use Rattle.sd_lex.specs.declared.closing.Rest.{Rest}
 use Rattle.sd_lex.specs.declared.token.Token.{Token}
 use Rattle.sd_lex.specs.Lexing.{Lexes, IsFirstFault, IsTokensOrFault, IsTextOrFault, behind_mark, mark_len, UnlessNoMemory}
-use Rattle.sd_lex.specs.Closing.{is_close, IsStart, IsClosed, IsClosedOrFault}
+use Rattle.sd_lex.specs.Closing.{IsStart, IsClosed, IsClosedOrFault}
 use Rattle.sd_lex.proofs.Gaps.{joined, un_end}
 use Rattle.grammar.specs.Reading.{starts}
 use Rattle.grammar.proofs.Parts.{Opens, opens_then, opens_either, first_is}

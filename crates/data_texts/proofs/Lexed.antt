@@ -1,5 +1,5 @@
 -- The tokens of a text, or its first fault, as a function.
-use Rattle.std.proofs.Common.{◌≡◌, ◌⊎◌, inl, inr, ℕ, zero, suc, ◌+◌, ◌-◌, ◌<◌, ◌≤◌, Bool, true, false, List, [], ◌∷◌, ◌++◌, length, drop, refl, sym, ap, subst, ◌∙◌, arith, length-append, Result, Ok, Err}
+use Rattle.std.proofs.Common.{◌≡◌, ℕ, zero, suc, ◌+◌, ◌-◌, ◌<◌, ◌≤◌, Bool, true, false, List, [], ◌∷◌, ◌++◌, length, drop, refl, sym, ap, subst, ◌∙◌, arith, length-append, Result, Ok, Err}
 use Rattle.std.specs.Prelude.{nat_le}
 use Rattle.std.proofs.lemmas.Bool.Decides.{nat_tests}
 use Rattle.std.proofs.lemmas.List.{length-drop}
@@ -7,7 +7,7 @@ use Rattle.sd_lex.specs.declared.refusal.LexRefusal.{LexRefusal}
 use Rattle.sd_lex.specs.declared.refusal.LexRefusal.TheVariants.{TooLong, BadByte, OpenString, IntOutOfRange, NoMemory}
 use Rattle.sd_lex.specs.declared.token.Token.{Token}
 use Rattle.sd_lex.specs.Reading.{gap, lexeme}
-use Rattle.sd_lex.specs.Lexing.{IsTokenAt, IsFaultAt, IsTokenOrFault, IsTokensOrFault, IsTextOrFault, behind_mark, mark_len, starts_gap, GivesTokens, UnlessNoMemory}
+use Rattle.sd_lex.specs.Lexing.{IsFaultAt, IsTokenOrFault, IsTokensOrFault, IsTextOrFault, behind_mark, mark_len, starts_gap, GivesTokens, UnlessNoMemory}
 use Rattle.sd_lex.proofs.Gaps.{Behind, behind_itself, behind_gap, gap_says, spelled_some}
 use Rattle.sd_lex.proofs.Lexemes.{lexeme_found, lexeme_only}
 use Rattle.sd_lex.proofs.WholeText.{Reached, first_reached, next_reached, all_says, refusal_says, text_says}

@@ -1,10 +1,9 @@
 -- The reader of data texts, and what reading a text gives.
-use Rattle.std.proofs.Common.{◌≡◌, ◌≢◌, ◌⊎◌, inl, inr, ℕ, Bool, true, false, List, [], refl, sym, ap, subst, ◌∙◌, Result, Ok, Err}
-use Rattle.std.specs.Prelude.{⊤}
+use Rattle.std.proofs.Common.{◌≡◌, ◌≢◌, inl, inr, ℕ, Bool, true, false, List, refl, sym, ap, subst, ◌∙◌, Ok, Err}
 use Rattle.graph_spec.specs.DataGraph.{DataGraph}
 use Rattle.command_spec.specs.Limits.{data_limit}
 use Rattle.sd_graph.specs.Statement.{Building, IsEmpty}
-use Rattle.sd_ddl.specs.Reads.{Reads, Follows}
+use Rattle.sd_ddl.specs.Reads.{Reads}
 use Rattle.sd_ddl.specs.declared.refusal.DdlRefusal.{DdlRefusal}
 use Rattle.token_reader.specs.declared.refusal.TextRefusal.TheVariants.{TooLong, BadByte, OpenString, IntOutOfRange, Expected, NoMemory}
 use Rattle.sd_ddl.specs.declared.refusal.DdlRefusal.TheVariants.{Text, KindConflict, TooManyEdges, TooManyNodes}

@@ -1,6 +1,6 @@
 -- What an edit makes of a site's data, and which pages stay.
 use Rattle.std.proofs.Common.{◌≡◌, ℕ, Bool, true, false, List, [], refl, sym, ap, subst, if◌then◌else◌}
-use Rattle.std.specs.Prelude.{◌&&◌, Option, Some, None}
+use Rattle.std.specs.Prelude.{◌&&◌, Option, Some, None, IfSome}
 use Rattle.sd_value.specs.declared.Term.{Term}
 use Rattle.graph_spec.specs.DataGraph.{DataGraph, IsWellFormed}
 use Rattle.query_spec.specs.Query as plain
@@ -40,6 +40,11 @@ of_data_under None text e is =
     let P : Option Edit → Type 0 = IsSpelled text in
     let spelled : IsSpelled text (Some e) = subst P (sym is) (the_edits.spells text) in spelled.1
 of_data_under (Some q) text e is = let never : ⊥ = cc in absurd never
+
+-- the same of the edit, if there is one
+pub some_of_data : (first : Option plain.Query) (text : List ℕ) (o : Option Edit) → o ≡ edit_under the_edits first text → IfSome o IsOfData
+some_of_data first text None is = tt
+some_of_data first text (Some e) is = of_data_under first text e is
 
 first_of : (a b : Bool) → (a && b) ≡ true → a ≡ true
 first_of true b is = refl

@@ -1,5 +1,5 @@
 -- What a text makes of a site's data.
-use Rattle.std.proofs.Common.{◌≡◌, ◌↔◌, ℕ, Bool, true, false, List, Option, map, refl, sym, ap, ◌∙◌, true≢false, if◌then◌else◌}
+use Rattle.std.proofs.Common.{◌≡◌, ℕ, Bool, true, false, List, Option, map, refl, sym, ap, ◌∙◌, if◌then◌else◌}
 use Rattle.std.specs.Prelude.{◌&&◌, ◌||◌, not, Some}
 use Rattle.sd_value.specs.declared.Term.{Term}
 use Rattle.graph_spec.specs.DataGraph.{DataGraph}
@@ -86,6 +86,13 @@ module _ (before : Current) (text : List ℕ) where
 
     pub edit_stays_is : (t : Term) → stays before text t ≡ edit_stays the_rules before found t
     edit_stays_is t = ap (λ (b : Bool). if b then false else edit_stays the_rules before found t) not_data
+
+    module _ (o : Option Edit) (is : o ≡ found) where
+      pub edit_stays_by : (t : Term) → stays before text t ≡ edit_stays the_rules before o t
+      edit_stays_by t = edit_stays_is t ∙ ap (λ (x : Option Edit). edit_stays the_rules before x t) (sym is)
+
+      pub edit_flags : ◌≡◌ {A = Term → Bool} (edit_stays the_rules before o) (stays before text)
+      edit_flags = ap (λ (x : Option Edit). edit_stays the_rules before x) is ∙ stays_so
 
 -- ---- an edit of the pages' own store
 

@@ -1,5 +1,5 @@
 use Rattle.std.proofs.Common.{ℕ, List, [], ◌∙◌, inr, refl, ap, subst}
-use Rattle.std.specs.Prelude.{Ok, Err}
+use Rattle.std.specs.Prelude.{Err}
 use Rattle.edge_io.specs.Sink.{Gains, GainsPart}
 use Rattle.site_inputs.specs.Values.{inputs_of}
 use Rattle.files_spec.specs.declared.stop.Stop.{Stop}

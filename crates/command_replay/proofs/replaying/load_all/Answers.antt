@@ -1,4 +1,4 @@
-use Rattle.std.proofs.Common.{◌∷◌, [], inl, inr, refl}
+use Rattle.std.proofs.Common.{◌∙◌, ◌∷◌, [], inl, inr, refl}
 use Rattle.std.specs.Prelude.{Ok, Err}
 use Rattle.std.proofs.lemmas.Result.{err_from_is_err_and}
 use Rattle.site_inputs.proofs.Causes.{cause_within}
@@ -37,3 +37,20 @@ returns-clause-traced g c =
     (reads_done (c.args.command.now.script ∷ []) _ _ _ c.in_ok-events.events (Ok _) _ (λ map. ScriptEnds map c.args.command.now.script (Ok c.in_ok-events.events.items)) c.in_ok-events.ensures.traced tt (λ map h. h))
     c.in_ok-site.ensures.same
     (λ map f n. record { value = inputs_of c.in_ok-site.site; first = f; next = record { value = c.in_ok-events.events.items; first = n; next = inl refl } })
+
+pub returns-in_err-events-clause-ends : goal.returns-in_err-events-clause-ends
+returns-in_err-events-clause-ends g c = λ map told.
+    let p = err_from_is_err_and c.from_residual-in_err-events.result c.from_residual-in_err-events.ensures.1 in
+    rw (p.1, p.2)
+    (inr (record {
+      value = inputs_of c.in_ok-site.site;
+      first = c.in_ok-site.ensures.ends map told;
+      next = inl (c.in_err-events.ensures.ends map (c.in_ok-site.ensures.same ∙ told));
+    }))
+
+pub returns-clause-ends : goal.returns-clause-ends
+returns-clause-ends g c = λ map told. record {
+  value = inputs_of c.in_ok-site.site;
+  first = c.in_ok-site.ensures.ends map told;
+  next = record { value = c.in_ok-events.events.items; first = c.in_ok-events.ensures.ends map (c.in_ok-site.ensures.same ∙ told); next = inl refl };
+}
