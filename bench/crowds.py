@@ -8,7 +8,6 @@ import os
 import random
 import re
 import resource
-import statistics
 import subprocess
 import sys
 import tempfile
@@ -17,7 +16,7 @@ import time
 from typing import NamedTuple
 
 from edge import PATIENCE, connected, free_port, request, serving, waited
-from measure import TOP, Compared, resident, strudel, written
+from measure import TOP, Compared, resident, spent, strudel, written
 from queries import PAPERS, PAPERS_PAGES
 import shapes
 
@@ -273,34 +272,51 @@ def bench_held(folder):
 
 
 class Wrk(NamedTuple):
-    """What wrk tells of a run: requests a second, the 99th percentile's wait, and what went wrong."""
+    """What wrk tells of a run: requests a second, the 99th percentile's wait, and what went wrong; and the processor seconds of the server for each."""
 
     rate: float
     late: str
     faults: str
+    each: float
 
 
-def wrk(port, clients, close):
-    """Three seconds of so many clients that ask for one page, over connections that are kept or a new one for each."""
+def worker(process):
+    """The process that answers: the server itself, or the worker that it has started."""
+    with open(f"/proc/{process.pid}/task/{process.pid}/children") as children:
+        return int((children.read().split() or [process.pid])[0])
+
+
+def wrk(server, clients, close):
+    """Three seconds of so many clients that ask a server for one page, over connections that are kept or a new one for each."""
+    process, port = server
     header = ["-H", "Connection: close"] if close else []
     words = ["wrk", f"-t{min(clients, 2)}", f"-c{clients}", "-d3s", "--latency", "--timeout", "20s", *header, f"http://127.0.0.1:{port}{PAGE}"]
+    begun = spent(worker(process))
     text = subprocess.run(words, capture_output=True, text=True, check=True).stdout
+    seconds = spent(worker(process)) - begun
     found = lambda pattern: next(iter(re.findall(pattern, text, re.M)), "")
     faults = [found(r"Socket errors: (.*)"), found(r"Non-2xx or 3xx responses: \d+")]
-    return Wrk(float(found(r"^Requests/sec: +(\S+)")), found(r"^ +99% +(\S+)"), "; ".join(it for it in faults if it))
+    answered = int(found(r"^ +(\d+) requests in"))
+    return Wrk(float(found(r"^Requests/sec: +(\S+)")), found(r"^ +99% +(\S+)"), "; ".join(it for it in faults if it), seconds / max(answered, 1))
 
 
-def speed(clients, close, ports):
-    """The row of so many clients: three runs of each server in turns, of which the middle rates are compared."""
-    runs = [[wrk(port, clients, close) for port in ports] for _ in range(3)]
-    files, ours = ([each[n] for each in runs] for n in (0, 1))
-    rates = [statistics.median(it.rate for it in them) for them in (files, ours)]
-    share, wanted = rates[1] / rates[0], 1 if clients == 1 else 1.2
-    texts = [f"{rate:,.0f}, 99 % within {them[-1].late}" for rate, them in zip(rates, (files, ours))]
-    faults = ["; ".join(it.faults for it in them if it.faults) for them in (files, ours)]
-    theirs, own = (f"{text}; {fault}" if fault else text for text, fault in zip(texts, faults))
+def middle(runs):
+    """The run of the middle rate, with all that went wrong in any."""
+    return sorted(runs)[len(runs) // 2]._replace(faults="; ".join(it.faults for it in runs if it.faults))
+
+
+def rate_of(run):
+    return "; ".join([f"{run.rate:,.0f}, 99 % within {run.late}, {run.each * 1e6:.1f} us", *([run.faults] if run.faults else [])])
+
+
+def speed(clients, close, servers):
+    """The row of so many clients: three runs of each server in turns, of which the middle ones are compared."""
+    runs = [[wrk(server, clients, close) for server in servers] for _ in range(3)]
+    files, ours = (middle([each[n] for each in runs]) for n in (0, 1))
+    share, wanted = ours.rate / files.rate, 1 if clients == 1 else 1.2
     what = f"{clients} client{'s' * (clients > 1)}, {'a connection for each' if close else 'kept connections'}"
-    return Compared(what, f"{wanted} of nginx's, none lost", theirs, marked(f"{own}; {share:.2f} of it", share >= wanted and not faults[1]))
+    own = f"{rate_of(ours)}; {share:.2f} of it, {ours.each / max(files.each, 1e-9):.2f} of its processor time"
+    return Compared(what, f"{wanted} of nginx's, none lost", rate_of(files), marked(own, share >= wanted and not ours.faults))
 
 
 def first_clicks(port, count):
@@ -317,16 +333,17 @@ def first_clicks(port, count):
 
 
 def bench_serve(folder):
-    """Requests of a kept page a second, as wrk counts them with so many clients at once, the middle of three runs of three seconds in turns; what wrk has lost is named. Seconds are by the clock."""
+    """Requests of a kept page a second, as wrk counts them with so many clients at once, the middle of three runs of three seconds in turns, and the server's processor time for each; what wrk has lost is named. Seconds are by the clock."""
     site(folder, 2_000)
-    with nginx(folder) as (_, theirs), serving(folder, *KEPT) as (server, ours):
+    with nginx(folder) as them, serving(folder, *KEPT) as us:
+        theirs, ours = them[1], us[1]
         # The store is made at the first event.
         first_clicks(ours, 1)
         files, clicked = first_clicks(theirs, 1_000), first_clicks(ours, 1_000)
         rows = [Compared("a first click", "", f"{files * 1e6:.0f} us", f"{clicked * 1e6:.0f} us; {clicked / files:.1f} times as long")]
         for close in (False, True):
-            rows += [speed(clients, close, (theirs, ours)) for clients in (1, 50, 100, 200, 400)]
-        rows.append(Compared("memory after these", "", "", f"{resident(server.pid):.0f} MB"))
+            rows += [speed(clients, close, (them, us)) for clients in (1, 50, 100, 200, 400)]
+        rows.append(Compared("memory after these", "", "", f"{resident(us[0].pid):.0f} MB"))
     return rows
 
 
@@ -340,18 +357,18 @@ def deployed():
 
 
 def visited(visits, folder):
-    """How the visits end with nginx in front, as `examples/deploy` sets it up, of a server that has made no page yet."""
-    with serving(folder, "--cache", "4096") as (server, behind), tempfile.TemporaryDirectory() as own:
+    """How the visits end with nginx in front, as `examples/deploy` sets it up, of two servers that have made no page yet."""
+    with serving(folder, "--cache", "4096") as (one, first), serving(folder, "--cache", "4096") as (other, second), tempfile.TemporaryDirectory() as own:
         os.chmod(own, 0o755)
         port = free_port()
-        front = deployed().start_nginx(own, port, behind)
+        front = deployed().start_nginx(own, port, (first, second))
         try:
             answers(port)
             text, met = told(asyncio.run(crowd(port, visits, None)))
         finally:
             front.terminate()
             front.wait()
-        return marked(f"{text}; {resident(server.pid):.0f} MB", met and server.poll() is None)
+        return marked(f"{text}; {resident(one.pid) + resident(other.pid):.0f} MB", met and one.poll() is other.poll() is None)
 
 
 def bench_visitors(folder):
