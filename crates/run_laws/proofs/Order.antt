@@ -17,44 +17,44 @@ use Rattle.run_laws.specs.Order.{IsNoRead, ReadsFirst, HasListened}
 use Rattle.run_laws.proofs.Quiet.{IsQuiet, IsNoEvent, Each, both, all_of, each_is, each_to, map_each, quiet_reads, quiet_events, cut, no_event}
 use Rattle.run_laws.proofs.Splits.{Split, Later, Behind, First, run_split, line_split}
 
-later_read : (output : Stream) (given : Option Command) (others : List Happening) → Later output given others → Each IsNoRead others
-later_read output given others (inl h) = each_to IsQuiet IsNoRead quiet_reads others h
-later_read output given others (inr h) =
-    each_is IsNoRead others (h.first ++ Listened h.c.options.port h.c.options.connections ∷ Put output (serving_text h.c.options.port) ∷ h.turns) h.others_is
-    (both IsNoRead h.first (Listened h.c.options.port h.c.options.connections ∷ Put output (serving_text h.c.options.port) ∷ h.turns)
-    (each_to IsQuiet IsNoRead quiet_reads h.first h.quiet) (tt, tt, h.read))
+later_read : (out : Stream) (given : Option Command) (others : List Happening) → Later out given others → Each IsNoRead others
+later_read out given others (inl h) = each_to IsQuiet IsNoRead quiet_reads others h
+later_read out given others (inr h) =
+    each_is IsNoRead others (h.first ++ Listened h.c.options.port h.c.options.connections ∷ Put out (serving_text h.c.options.port) ∷ h.turns) h.others_is
+    (both IsNoRead h.first (Listened h.c.options.port h.c.options.connections ∷ Put out (serving_text h.c.options.port) ∷ h.turns)
+    (each_to IsQuiet IsNoRead quiet_reads h.first h.quiet) (tt, (tt, h.read)))
 
 first_no_event : (paths : List (List ℕ)) (part : List Happening) → First paths part → Each IsNoEvent part
 first_no_event paths part h =
     each_is IsNoEvent part (map read_of h.some.gots ++ map ReadFailed h.missed) h.some.part_is
     (both IsNoEvent (map read_of h.some.gots) (map ReadFailed h.missed) (map_each read_of IsNoEvent (λ got. tt) h.some.gots) (map_each ReadFailed IsNoEvent (λ path. tt) h.missed))
 
-behind_line : (output : Stream) (given : Option Command) (front : List Happening) (c : _) → given ≡ Some (command.Serve c) → (first between : List Happening)
-    → front ≡ first ++ Listened c.options.port c.options.connections ∷ Put output (serving_text c.options.port) ∷ between → HasListened output given front
-behind_line output given front c is first between front_is =
-    subst (λ (g : Option Command). HasListened output g front) (sym is) (first, between, front_is)
+behind_line : (out : Stream) (given : Option Command) (front : List Happening) (c : _) → given ≡ Some (command.Serve c) → (first between : List Happening)
+    → front ≡ first ++ Listened c.options.port c.options.connections ∷ Put out (serving_text c.options.port) ∷ between → HasListened out given front
+behind_line out given front c is first between front_is =
+    subst (λ (g : Option Command). HasListened out g front) (sym is) (first, between, front_is)
 
-split_event : (output : Stream) (given : Option Command) (trace front later : List Happening) (event : WireEvent) → Split output given trace → trace ≡ front ++ Given event ∷ later
-    → HasListened output given front
-split_event output given trace front later event h is = elim h.later [
+split_event : (out : Stream) (given : Option Command) (trace front later : List Happening) (event : WireEvent) → Split out given trace → trace ≡ front ++ Given event ∷ later
+    → HasListened out given front
+split_event out given trace front later event h is = elim h.later [
   | inl quiet ↦ absurd (no_event (h.reads ++ h.others) front later event
       (both IsNoEvent h.reads h.others (first_no_event (given_inputs given) h.reads h.first) (each_to IsQuiet IsNoEvent quiet_events h.others quiet)) (sym h.trace_is ∙ is))
   | inr b ↦
-      (let line : List Happening = Listened b.c.options.port b.c.options.connections ∷ Put output (serving_text b.c.options.port) ∷ [] in
+      (let line : List Happening = Listened b.c.options.port b.c.options.connections ∷ Put out (serving_text b.c.options.port) ∷ [] in
       let head : List Happening = h.reads ++ b.first in
       let none : Each IsNoEvent (head ++ line) =
-      both IsNoEvent head line (both IsNoEvent h.reads b.first (first_no_event (given_inputs given) h.reads h.first) (each_to IsQuiet IsNoEvent quiet_events b.first b.quiet)) (tt, tt, tt) in
+      both IsNoEvent head line (both IsNoEvent h.reads b.first (first_no_event (given_inputs given) h.reads h.first) (each_to IsQuiet IsNoEvent quiet_events b.first b.quiet)) (tt, (tt, tt)) in
       let whole : (head ++ line) ++ b.turns ≡ front ++ Given event ∷ later =
       append_assoc head line b.turns ∙ append_assoc h.reads b.first (line ++ b.turns) ∙ ap (λ r. h.reads ++ r) (sym b.others_is) ∙ sym h.trace_is ∙ is in
       let found = cut (head ++ line) b.turns front later event none whole in
-      behind_line output given front b.c b.given_is head found.0 (found.1 ∙ append_assoc head line found.0))
+      behind_line out given front b.c b.given_is head found.0 (found.1 ∙ append_assoc head line found.0))
 ]
 
-module _ (output errors : Stream) (contents : Option FileMap) (before after : WireReport) (words : Words) (trace : List Happening) (exit : ℕ) (run : IsRun output errors contents before after words trace exit) where
-  whole_split : Split output (command_given words) trace
+module _ (out err : Stream) (contents : Option FileMap) (before after : WireReport) (words : Words) (trace : List Happening) (exit : ℕ) (run : IsRun out err contents before after words trace exit) where
+  whole_split : Split out (command_given words) trace
   whole_split =
-      line_split output errors (command_given words) trace run.happens.course run.happens.last run.reached run.happens.trace_is
-      (run_split output contents before after words run.happens.course run.happens.ended run.happens.course_ends) run.happens.told
+      line_split out err (command_given words) trace run.happens.course run.happens.last run.reached run.happens.trace_is
+      (run_split out contents before after words run.happens.course run.happens.ended run.happens.course_ends) run.happens.told
 
   pub reads_first : ReadsFirst (given_inputs (command_given words)) trace
   reads_first =
@@ -66,8 +66,8 @@ module _ (output errors : Stream) (contents : Option FileMap) (before after : Wi
         trace_is = h.trace_is;
         first = h.first.some;
         at_most_one = h.first.at_most_one;
-        none_later = all_of IsNoRead h.others (later_read output (command_given words) h.others h.later);
+        none_later = all_of IsNoRead h.others (later_read out (command_given words) h.others h.later);
       }
 
-  pub event_after_line : (front later : List Happening) (event : WireEvent) → trace ≡ front ++ Given event ∷ later → HasListened output (command_given words) front
-  event_after_line front later event is = split_event output (command_given words) trace front later event whole_split is
+  pub event_after_line : (front later : List Happening) (event : WireEvent) → trace ≡ front ++ Given event ∷ later → HasListened out (command_given words) front
+  event_after_line front later event is = split_event out (command_given words) trace front later event whole_split is

@@ -108,11 +108,11 @@ end_quiet ended stream text part TurnsSpent h = one_put_quiet stream text part h
 end_quiet ended stream text part NoMemory h = none_quiet part h.1
 end_quiet ended stream text part s h = absurd h
 
-answer_quiet : {A : Type 0} (report_of : A → Report) (output : Stream) (answer : Result A Fault) (part : List Happening) (s : Status)
-    → AnswerPuts report_of output answer part s → Each IsQuiet part
-answer_quiet report_of output (prelude.Ok a) part s (inl h) = put_quiet output _ part h.0
-answer_quiet report_of output (prelude.Ok a) part s (inr h) = cut_quiet output _ h.0 part h.1
-answer_quiet report_of output (prelude.Err stop) part s h = none_quiet part h.0
+answer_quiet : {A : Type 0} (report_of : A → Report) (out : Stream) (answer : Result A Fault) (part : List Happening) (s : Status)
+    → AnswerPuts report_of out answer part s → Each IsQuiet part
+answer_quiet report_of out (prelude.Ok a) part s (inl h) = put_quiet out _ part h.0
+answer_quiet report_of out (prelude.Ok a) part s (inr h) = cut_quiet out _ h.0 part h.1
+answer_quiet report_of out (prelude.Err stop) part s h = none_quiet part h.0
 
 -- ---- writes
 
@@ -182,42 +182,42 @@ turns_read s limits before after served turns h =
 
 -- ---- what comes behind the reads
 
-abbrev line_of : (output : Stream) → ServeCommand → (turns : List Happening) → List Happening
-line_of output c turns = Listened c.options.port c.options.connections ∷ Put output (serving_text c.options.port) ∷ turns
+abbrev line_of : (out : Stream) → ServeCommand → (turns : List Happening) → List Happening
+line_of out c turns = Listened c.options.port c.options.connections ∷ Put out (serving_text c.options.port) ∷ turns
 
 -- events came, behind the line of `serve`
-pub record Behind (output : Stream) (given : Option Command) (others : List Happening) : Type 0 where
+pub record Behind (out : Stream) (given : Option Command) (others : List Happening) : Type 0 where
   pub c : ServeCommand
   pub given_is : given ≡ Some (command.Serve c)
   pub first : List Happening
   pub turns : List Happening
-  pub others_is : others ≡ first ++ line_of output c turns
+  pub others_is : others ≡ first ++ line_of out c turns
   pub quiet : Each IsQuiet first
   pub read : Each IsNoRead turns
 
-abbrev pub Later : (output : Stream) (given : Option Command) (others : List Happening) → Type 0
-Later output given others = Each IsQuiet others ⊎ Behind output given others
+abbrev pub Later : (out : Stream) (given : Option Command) (others : List Happening) → Type 0
+Later out given others = Each IsQuiet others ⊎ Behind out given others
 
-later_is : (output : Stream) (given : Option Command) (xs ys : List Happening) → xs ≡ ys → Later output given ys → Later output given xs
-later_is output given xs ys is h = subst (Later output given) (sym is) h
+later_is : (out : Stream) (given : Option Command) (xs ys : List Happening) → xs ≡ ys → Later out given ys → Later out given xs
+later_is out given xs ys is h = subst (Later out given) (sym is) h
 
 -- something more that is quiet
-later_more : (output : Stream) (given : Option Command) (xs ys : List Happening) → Later output given xs → Each IsQuiet ys → Later output given (xs ++ ys)
-later_more output given xs ys (inl h) k = inl (both IsQuiet xs ys h k)
-later_more output given xs ys (inr h) k = inr (record {
+later_more : (out : Stream) (given : Option Command) (xs ys : List Happening) → Later out given xs → Each IsQuiet ys → Later out given (xs ++ ys)
+later_more out given xs ys (inl h) k = inl (both IsQuiet xs ys h k)
+later_more out given xs ys (inr h) k = inr (record {
   c = h.c;
   given_is = h.given_is;
   first = h.first;
   turns = h.turns ++ ys;
-  others_is = ap (λ r. r ++ ys) h.others_is ∙ append_assoc h.first (line_of output h.c h.turns) ys;
+  others_is = ap (λ r. r ++ ys) h.others_is ∙ append_assoc h.first (line_of out h.c h.turns) ys;
   quiet = h.quiet;
   read = both IsNoRead h.turns ys h.read (each_to IsQuiet IsNoRead quiet_reads ys k);
 })
 
 -- something quiet before
-later_after : (output : Stream) (given : Option Command) (x : Happening) (xs : List Happening) → IsQuiet x → Later output given xs → Later output given (x ∷ xs)
-later_after output given x xs q (inl h) = inl (q, h)
-later_after output given x xs q (inr h) = inr (record {
+later_after : (out : Stream) (given : Option Command) (x : Happening) (xs : List Happening) → IsQuiet x → Later out given xs → Later out given (x ∷ xs)
+later_after out given x xs q (inl h) = inl (q, h)
+later_after out given x xs q (inr h) = inr (record {
   c = h.c;
   given_is = h.given_is;
   first = x ∷ h.first;
@@ -227,29 +227,29 @@ later_after output given x xs q (inr h) = inr (record {
   read = h.read;
 })
 
-module _ (output : Stream) (c : ServeCommand) (s : Inputs) where
+module _ (out : Stream) (c : ServeCommand) (s : Inputs) where
   abbrev Now : List Happening → Type 0
-  Now = Later output (Some (command.Serve c))
+  Now = Later out (Some (command.Serve c))
 
-  counts_quiet : (watches : Bool) (served : _) (part : List Happening) (reached : Status) → serve.CountsHappen output watches served part reached → Each IsQuiet part
-  counts_quiet watches served part reached (inl h) = end_quiet served.end output _ part reached h
+  counts_quiet : (watches : Bool) (served : _) (part : List Happening) (reached : Status) → serve.CountsHappen out watches served part reached → Each IsQuiet part
+  counts_quiet watches served part reached (inl h) = end_quiet served.end out _ part reached h
   counts_quiet watches served part reached (inr h) = none_quiet part h.1
 
-  serves_read : (watches : Bool) (before after : WireReport) (part : List Happening) (reached : Status) → serve.ServesThenCounts s output watches c.options before after part reached → Each IsNoRead part
+  serves_read : (watches : Bool) (before after : WireReport) (part : List Happening) (reached : Status) → serve.ServesThenCounts s out watches c.options before after part reached → Each IsNoRead part
   serves_read watches before after part reached h =
       each_is IsNoRead part (h.turns ++ h.counts) h.part_is
       (both IsNoRead h.turns h.counts (turns_read s c.options.limits before after h.served h.turns h.serves)
       (each_to IsQuiet IsNoRead quiet_reads h.counts (counts_quiet watches h.served h.counts reached h.puts)))
 
-  no_counts_quiet : (watches : Bool) (part : List Happening) (reached : Status) → serve.NoCountsHappen s output watches c.options part reached → Each IsQuiet part
-  no_counts_quiet watches part reached h = one_put_quiet output _ part h.1
+  no_counts_quiet : (watches : Bool) (part : List Happening) (reached : Status) → serve.NoCountsHappen s out watches c.options part reached → Each IsQuiet part
+  no_counts_quiet watches part reached h = one_put_quiet out _ part h.1
 
-  listens_later : (watches : Bool) (before after : WireReport) (part : List Happening) (reached : Status) → serve.ListensThenTells s output watches c.options before after part reached → Now part
+  listens_later : (watches : Bool) (before after : WireReport) (part : List Happening) (reached : Status) → serve.ListensThenTells s out watches c.options before after part reached → Now part
   listens_later watches before after part reached (inl h) = inl (each_is IsQuiet part (ListenFailed c.options.port c.options.connections ∷ h.0) h.2 (tt, no_counts_quiet watches h.0 reached h.1))
-  listens_later watches before after part reached (inr h) = later_is output (Some (command.Serve c)) part (Listened c.options.port c.options.connections ∷ h.0) h.4 (telling h.0 h.3)
+  listens_later watches before after part reached (inr h) = later_is out (Some (command.Serve c)) part (Listened c.options.port c.options.connections ∷ h.0) h.4 (telling h.0 h.3)
     where
-      telling : (others : List Happening) → serve.TellsThenServes s output watches c.options h.1 after others reached → Now (Listened c.options.port c.options.connections ∷ others)
-      telling others (inl t) = inl (tt, cut_quiet output _ t.1 others t.2)
+      telling : (others : List Happening) → serve.TellsThenServes s out watches c.options h.1 after others reached → Now (Listened c.options.port c.options.connections ∷ others)
+      telling others (inl t) = inl (tt, cut_quiet out _ t.1 others t.2)
       telling others (inr t) = inr (record {
         c = c;
         given_is = refl;
@@ -260,29 +260,29 @@ module _ (output : Stream) (c : ServeCommand) (s : Inputs) where
         read = serves_read watches h.1 after t.0 reached t.1;
       })
 
-  ready_later : (watch : Option WatchOptions) (before after : WireReport) (part : List Happening) (reached : Status) → serve.ReadyCourse s output watch c.options before after part reached → Now part
+  ready_later : (watch : Option WatchOptions) (before after : WireReport) (part : List Happening) (reached : Status) → serve.ReadyCourse s out watch c.options before after part reached → Now part
   ready_later None before after part reached h = listens_later prelude.false before after part reached h
   ready_later (Some watch) before after part reached (inl h) =
       inl (each_is IsQuiet part (WatchFailed watch.path watch.every ∷ h.0) h.2 (tt, elim h.1 [ inl n ↦ no_counts_quiet prelude.true h.0 reached n | inr n ↦ none_quiet h.0 n.1 ]))
   ready_later (Some watch) before after part reached (inr h) =
-      later_is output (Some (command.Serve c)) part (Watched watch.path watch.every ∷ h.0) h.4
-      (later_after output (Some (command.Serve c)) (Watched watch.path watch.every) h.0 tt (listens_later prelude.true h.1 after h.0 reached h.3))
+      later_is out (Some (command.Serve c)) part (Watched watch.path watch.every ∷ h.0) h.4
+      (later_after out (Some (command.Serve c)) (Watched watch.path watch.every) h.0 tt (listens_later prelude.true h.1 after h.0 reached h.3))
 
-  over_later : (before after : WireReport) (part : List Happening) (reached : Status) → serve.OverCourse s output c.watch c.options before after part reached → Now part
+  over_later : (before after : WireReport) (part : List Happening) (reached : Status) → serve.OverCourse s out c.watch c.options before after part reached → Now part
   over_later before after part reached (inl h) = ready_later c.watch before after part reached h
   over_later before after part reached (inr h) = inl (none_quiet part h.1)
 
 -- ---- the whole
 
-pub record Split (output : Stream) (given : Option Command) (trace : List Happening) : Type 0 where
+pub record Split (out : Stream) (given : Option Command) (trace : List Happening) : Type 0 where
   pub reads : List Happening
   pub others : List Happening
   pub trace_is : trace ≡ reads ++ others
   pub first : First (given_inputs given) reads
-  pub later : Later output given others
+  pub later : Later out given others
 
-nothing : (output : Stream) (given : Option Command) (trace : List Happening) → trace ≡ [] → Split output given trace
-nothing output given trace is = record {
+nothing : (out : Stream) (given : Option Command) (trace : List Happening) → trace ≡ [] → Split out given trace
+nothing out given trace is = record {
   reads = [];
   others = [];
   trace_is = is;
@@ -290,81 +290,81 @@ nothing output given trace is = record {
   later = inl tt;
 }
 
-answer_split : {A : Type 0} (report_of : A → Report) (output : Stream) (Answers : FileMap → Result A Fault → Type 0) (given : Option Command) (contents : Option FileMap)
-    (course : List Happening) (s : Status) → AnswerCourse report_of output Answers (given_inputs given) contents course s → Split output given course
-answer_split report_of output Answers given contents course s h = record {
+answer_split : {A : Type 0} (report_of : A → Report) (out : Stream) (Answers : FileMap → Result A Fault → Type 0) (given : Option Command) (contents : Option FileMap)
+    (course : List Happening) (s : Status) → AnswerCourse report_of out Answers (given_inputs given) contents course s → Split out given course
+answer_split report_of out Answers given contents course s h = record {
   reads = h.reads;
   others = h.puts;
   trace_is = h.course_is;
   first = first_of (given_inputs given) h.reads contents h.answer (λ map. Answers map h.answer) h.read;
-  later = inl (answer_quiet report_of output h.answer h.puts s h.puts_answer);
+  later = inl (answer_quiet report_of out h.answer h.puts s h.puts_answer);
 }
 
-build_quiet : (c : _) (output : Stream) (contents : Option FileMap) (inputs : Result Inputs Fault) (part : List Happening) (s : Status) → build.DoesWith c output contents inputs part s → Each IsQuiet part
-build_quiet c output contents (prelude.Ok given) part s h =
+build_quiet : (c : _) (out : Stream) (contents : Option FileMap) (inputs : Result Inputs Fault) (part : List Happening) (s : Status) → build.DoesWith c out contents inputs part s → Each IsQuiet part
+build_quiet c out contents (prelude.Ok given) part s h =
     each_is IsQuiet part (h.writes ++ h.last) h.part_is (both IsQuiet h.writes h.last (built h.end h.writes h.built) (put h.end h.last h.put))
   where
     built : (end : Result (List ℕ) Stop) (part : List Happening) → build.WritesBuilt given c.folder end part → Each IsQuiet part
     built end part (inl w) = writes_quiet _ given.templates c.folder w.pages _ part _ w.writes
     built end part (inr w) = none_quiet part w.1
 
-    put : (end : Result (List ℕ) Stop) (part : List Happening) → build.LinePut output end part s → Each IsQuiet part
-    put (prelude.Ok line) part (inl p) = put_quiet output line part p.1
-    put (prelude.Ok line) part (inr p) = cut_quiet output line p.1 part p.2
+    put : (end : Result (List ℕ) Stop) (part : List Happening) → build.LinePut out end part s → Each IsQuiet part
+    put (prelude.Ok line) part (inl p) = put_quiet out line part p.1
+    put (prelude.Ok line) part (inr p) = cut_quiet out line p.1 part p.2
     put (prelude.Err reason) part p = none_quiet part p.1
-build_quiet c output contents (prelude.Err reason) part s h = none_quiet part h.1
+build_quiet c out contents (prelude.Err reason) part s h = none_quiet part h.1
 
-replay_quiet : (c : _) (output : Stream) (contents : Option FileMap) (inputs : Result _ Fault) (part : List Happening) (s : Status) → replay.DoesWith c output contents inputs part s → Each IsQuiet part
-replay_quiet c output contents (prelude.Ok given) part s (inl h) = end_quiet h.ended output h.text part s h.puts
-replay_quiet c output contents (prelude.Ok given) part s (inr h) = none_quiet part h.1
-replay_quiet c output contents (prelude.Err reason) part s h = none_quiet part h.1
+replay_quiet : (c : _) (out : Stream) (contents : Option FileMap) (inputs : Result _ Fault) (part : List Happening) (s : Status) → replay.DoesWith c out contents inputs part s → Each IsQuiet part
+replay_quiet c out contents (prelude.Ok given) part s (inl h) = end_quiet h.ended out h.text part s h.puts
+replay_quiet c out contents (prelude.Ok given) part s (inr h) = none_quiet part h.1
+replay_quiet c out contents (prelude.Err reason) part s h = none_quiet part h.1
 
-serve_later : (c : ServeCommand) (output : Stream) (contents : Option FileMap) (before after : WireReport) (inputs : Result Inputs Fault) (part : List Happening) (s : Status)
-    → serve.DoesWith c output contents before after inputs part s → Later output (Some (command.Serve c)) part
-serve_later c output contents before after (prelude.Ok given) part s h = over_later output c given before after part s h
-serve_later c output contents before after (prelude.Err reason) part s h = inl (none_quiet part h.1)
+serve_later : (c : ServeCommand) (out : Stream) (contents : Option FileMap) (before after : WireReport) (inputs : Result Inputs Fault) (part : List Happening) (s : Status)
+    → serve.DoesWith c out contents before after inputs part s → Later out (Some (command.Serve c)) part
+serve_later c out contents before after (prelude.Ok given) part s h = over_later out c given before after part s h
+serve_later c out contents before after (prelude.Err reason) part s h = inl (none_quiet part h.1)
 
-module _ (output : Stream) (contents : Option FileMap) (before after : WireReport) where
-  command_split : (given : Command) (course : List Happening) (s : Status) → CommandCourse output contents before after given course s → Split output (Some given) course
-  command_split (command.Text c) course s h = answer_split _ output _ (Some (command.Text c)) contents course s h
-  command_split (command.Report c) course s h = answer_split _ output _ (Some (command.Report c)) contents course s h
+module _ (out : Stream) (contents : Option FileMap) (before after : WireReport) where
+  command_split : (given : Command) (course : List Happening) (s : Status) → CommandCourse out contents before after given course s → Split out (Some given) course
+  command_split (command.Text c) course s h = answer_split _ out _ (Some (command.Text c)) contents course s h
+  command_split (command.Report c) course s h = answer_split _ out _ (Some (command.Report c)) contents course s h
   command_split (command.Build c) course s h = record {
     reads = h.reads;
     others = h.others;
     trace_is = h.part_is;
     first = first_of (given_inputs (Some (command.Build c))) h.reads contents h.inputs _ h.read;
-    later = inl (build_quiet c output contents h.inputs h.others s h.does);
+    later = inl (build_quiet c out contents h.inputs h.others s h.does);
   }
   command_split (command.Serve c) course s h = record {
     reads = h.reads;
     others = h.others;
     trace_is = h.part_is;
     first = first_of (given_inputs (Some (command.Serve c))) h.reads contents h.inputs _ h.read;
-    later = serve_later c output contents before after h.inputs h.others s h.does;
+    later = serve_later c out contents before after h.inputs h.others s h.does;
   }
   command_split (command.Replay c) course s h = record {
     reads = h.reads;
     others = h.others;
     trace_is = h.part_is;
     first = first_of (given_inputs (Some (command.Replay c))) h.reads contents h.inputs _ h.read;
-    later = inl (replay_quiet c output contents h.inputs h.others s h.does);
+    later = inl (replay_quiet c out contents h.inputs h.others s h.does);
   }
 
-  course_split : (given : Option Command) (course : List Happening) (s : Status) → Course output contents before after given course s → Split output given course
-  course_split None course s h = nothing output None course h.1
+  course_split : (given : Option Command) (course : List Happening) (s : Status) → Course out contents before after given course s → Split out given course
+  course_split None course s h = nothing out None course h.1
   course_split (Some given) course s h = command_split given course s h
 
-  pub run_split : (words : Words) (course : List Happening) (s : Status) → RunCourse output contents before after words course s → Split output (command_given words) course
+  pub run_split : (words : Words) (course : List Happening) (s : Status) → RunCourse out contents before after words course s → Split out (command_given words) course
   run_split (prelude.Ok words) course s h = course_split (command_given (prelude.Ok words)) course s h
-  run_split (prelude.Err reason) course s h = nothing output None course h.1
+  run_split (prelude.Err reason) course s h = nothing out None course h.1
 
 -- the line of the status comes last
-pub line_split : (output errors : Stream) (given : Option Command) (trace course last : List Happening) (s : Status) → trace ≡ course ++ last → Split output given course → IsTold errors s last
-    → Split output given trace
-line_split output errors given trace course last s is h told = record {
+pub line_split : (out err : Stream) (given : Option Command) (trace course last : List Happening) (s : Status) → trace ≡ course ++ last → Split out given course → IsTold err s last
+    → Split out given trace
+line_split out err given trace course last s is h told = record {
   reads = h.reads;
   others = h.others ++ last;
   trace_is = is ∙ ap (λ r. r ++ last) h.trace_is ∙ append_assoc h.reads h.others last;
   first = h.first;
-  later = later_more output given h.others last h.later (told_quiet errors s last told);
+  later = later_more out given h.others last h.later (told_quiet err s last told);
 }

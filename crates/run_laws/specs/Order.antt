@@ -25,9 +25,9 @@ pub record ReadsFirst (paths : List (List ℕ)) (trace : List Happening) : Type 
   pub none_later : All IsNoRead others
 
 -- the command is a `serve` for which the wire was let listen, and then the line that reports the port was put
-abbrev pub HasListened : (output : Stream) → Option Command → List Happening → Type 0
-HasListened output (Some (Serve c)) front =
+abbrev pub HasListened : (out : Stream) → Option Command → List Happening → Type 0
+HasListened out (Some (Serve c)) front =
     (first between : List Happening)
     × (front ≡ first ++ Listened c.options.port c.options.connections
-    ∷ Put output (serving_text c.options.port) ∷ between)
-HasListened output given front = ⊥
+    ∷ Put out (serving_text c.options.port) ∷ between)
+HasListened out given front = ⊥
