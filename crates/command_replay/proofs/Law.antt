@@ -1,6 +1,6 @@
 -- How a replay ends that nothing outside fails.
-use Rattle.std.proofs.Common.{◌≡◌, ◌⊎◌, ◌<◌, ℕ, List, length, inl, inr, refl, sym, subst, ap, ◌∙◌}
-use Rattle.std.specs.Prelude.{Option, Some, Result, Ok, Err}
+use Rattle.std.proofs.Common.{◌≡◌, ◌<◌, ℕ, List, length, inl, inr, refl, sym, subst, ap, ◌∙◌}
+use Rattle.std.specs.Prelude.{Some, Result, Ok, Err}
 use Rattle.edge_io.specs.Files.{FileMap}
 use Rattle.happenings.specs.declared.event.WireEvent.{WireEvent}
 use Rattle.serving_spec.specs.declared.HubEnd.{HubEnd}
@@ -11,23 +11,23 @@ use Rattle.run_report.specs.declared.status.Status.TheVariants as status
 use Rattle.command_spec.specs.declared.ReplayCommand.{ReplayCommand}
 use Rattle.token_reader.specs.declared.refusal.TextRefusal.{TextRefusal}
 use Rattle.token_reader.specs.declared.refusal.TextRefusal.TheVariants as script
-use Rattle.script_reader.specs.Script.{Reads, IsSettled}
+use Rattle.script_reader.specs.Script.{IsSettled}
 use Rattle.script_reader.proofs.Once.{one_answer}
 use Rattle.site_inputs.specs.declared.fault.Fault.{Fault}
 use Rattle.site_inputs.specs.declared.fault.Fault.TheVariants.{Refused, Unread, Faulty, NotFound, NoMemory}
 use Rattle.site_inputs.specs.declared.fault.Refusal.{Refusal}
 use Rattle.data_source.specs.declared.numbered.NumberedFault.{NumberedFault}
 use Rattle.site_inputs.specs.Runs.{Then, EndsWith, FileEnds, IsDecided, IsDecidedFault, Decides}
-use Rattle.site_inputs.specs.Sites.{Inputs, InputsEnd}
+use Rattle.site_inputs.specs.Sites.{InputsEnd}
 use Rattle.site_inputs.specs.Statuses.{ReadRose, status_of}
 use Rattle.site_inputs.proofs.Decided.{then_decides, gives_decides}
 use Rattle.site_inputs.proofs.DecidedInputs.{file_decides, inputs_decide}
 use Rattle.command_spec.specs.Inputs.{replay_paths}
 use Rattle.command_spec.specs.Limits.{script_limit}
 use Rattle.command_replay.specs.Scripts.{script_told, ScriptTaken, ScriptEnds, Scripted, ScriptedEnd}
-use Rattle.command_replay.specs.Ends.{run_end, IsReplayed, RunEnds, IsRun, IsUnread, ReplayEnds}
+use Rattle.command_replay.specs.Ends.{run_end, RunEnds, ReplayEnds}
 use Rattle.site_inputs.specs.Outside.{Host, PutsRose, AllRead, HasStatus}
-use Rattle.command_replay.specs.Law.{ReplayIsDecided, ReplayEndsWell}
+use Rattle.command_replay.specs.Law.{ReplayEndsWell}
 use Rattle.site_inputs.proofs.Endings.{ok_same, not_both, by_reason, not_refused}
 use Rattle.site_serving.proofs.TurnsLeft.{turns_left}
 

@@ -1,5 +1,5 @@
 -- The script of a run, read after the inputs of its site.
-use Rattle.std.specs.Prelude.{◌≡◌, ℕ, List, Result, Ok, Err, Option, Some, None, ⊤}
+use Rattle.std.specs.Prelude.{◌≡◌, ℕ, List, Result, Ok, Err, Option, Some, ⊤}
 use Rattle.std.specs.Global.{Vec}
 use Rattle.edge_io.specs.Files.{FileMap}
 use Rattle.command_spec.specs.Limits.{script_limit}
