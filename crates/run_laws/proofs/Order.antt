@@ -1,6 +1,6 @@
 -- What comes first in a run.
-use Rattle.std.proofs.Common.{◌≡◌, ◌⊎◌, ℕ, List, [], ◌∷◌, ◌++◌, map, inl, inr, refl, sym, ap, subst, ◌∙◌, append_assoc}
-use Rattle.std.specs.Prelude.{All, Option, Some}
+use Rattle.std.proofs.Common.{◌≡◌, ℕ, List, [], ◌∷◌, ◌++◌, map, inl, inr, sym, ap, subst, ◌∙◌, append_assoc}
+use Rattle.std.specs.Prelude.{Option, Some}
 use Rattle.edge_io.specs.Files.{FileMap}
 use Rattle.happenings.specs.Happening.{Happening, ReadFailed, Listened, Put, Given}
 use Rattle.happenings.specs.declared.event.WireEvent.{WireEvent}
@@ -10,12 +10,12 @@ use Rattle.command_spec.specs.Inputs.{given_inputs}
 use Rattle.command_spec.specs.declared.Command.{Command}
 use Rattle.command_spec.specs.declared.Command.TheVariants as command
 use Rattle.command_serve.specs.Ends.{serving_text}
-use Rattle.site_inputs.specs.Reads.{read_of, ReadsSome}
+use Rattle.site_inputs.specs.Reads.{read_of}
 use Rattle.command_run.specs.Main.{Words, command_given}
 use Rattle.command_run.specs.IsRun.{IsRun}
 use Rattle.run_laws.specs.Order.{IsNoRead, ReadsFirst, HasListened}
 use Rattle.run_laws.proofs.Quiet.{IsQuiet, IsNoEvent, Each, both, all_of, each_is, each_to, map_each, quiet_reads, quiet_events, cut, no_event}
-use Rattle.run_laws.proofs.Splits.{Split, Later, Behind, First, run_split, line_split}
+use Rattle.run_laws.proofs.Splits.{Split, Later, First, run_split, line_split}
 
 later_read : (out : Stream) (given : Option Command) (others : List Happening) → Later out given others → Each IsNoRead others
 later_read out given others (inl h) = each_to IsQuiet IsNoRead quiet_reads others h

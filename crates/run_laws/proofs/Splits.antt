@@ -5,7 +5,7 @@ use Rattle.std.specs.Prelude.{Option, None, Some, Result, ⊤}
 use Rattle.std.specs.Prelude as prelude
 use Rattle.std.specs.List.{AllZip}
 use Rattle.edge_io.specs.Files.{FileMap}
-use Rattle.happenings.specs.Happening.{Happening, ReadFailed, Wrote, WriteFailed, Put, PutFailed, Watched, WatchFailed, Listened, ListenFailed, Given, NextFailed}
+use Rattle.happenings.specs.Happening.{Happening, WriteFailed, Put, PutFailed, Watched, WatchFailed, Listened, ListenFailed, Given, NextFailed}
 use Rattle.happenings.specs.declared.event.WireEvent.{WireEvent}
 use Rattle.happenings.specs.declared.event.WireEvent.TheVariants.{Change}
 use Rattle.happenings.specs.declared.stream.Stream.{Stream}
@@ -23,13 +23,12 @@ use Rattle.files_spec.specs.Paths.{page_path}
 use Rattle.run_report.specs.Told.{IsOnePut, IsTold}
 use Rattle.run_report.specs.declared.reports.Report.{Report}
 use Rattle.run_report.specs.declared.status.Status.{Status}
-use Rattle.run_report.specs.declared.status.Status.TheVariants.{Ok, NotAllYes, Usage, Refused, ReadFault, WriteFault, WireFault, PageFault, NoMemory, NotFound, TurnsSpent}
-use Rattle.command_spec.specs.Inputs.{given_inputs, inputs_of_command}
+use Rattle.run_report.specs.declared.status.Status.TheVariants.{Ok, NotAllYes, WriteFault, WireFault, NoMemory, TurnsSpent}
+use Rattle.command_spec.specs.Inputs.{given_inputs}
 use Rattle.command_spec.specs.declared.Command.{Command}
 use Rattle.command_spec.specs.declared.Command.TheVariants as command
 use Rattle.command_spec.specs.declared.RunLimits.{RunLimits}
 use Rattle.command_spec.specs.declared.ServeCommand.{ServeCommand}
-use Rattle.command_spec.specs.declared.ServeOptions.{ServeOptions}
 use Rattle.command_spec.specs.declared.WatchOptions.{WatchOptions}
 use Rattle.site_inputs.specs.declared.fault.Fault.{Fault}
 use Rattle.site_inputs.specs.declared.fault.Fault.TheVariants as fault
@@ -41,7 +40,7 @@ use Rattle.command_build.specs.Course as build
 use Rattle.command_serve.specs.Course as serve
 use Rattle.command_replay.specs.Course as replay
 use Rattle.command_serve.specs.Ends.{serving_text}
-use Rattle.command_run.specs.Main.{Words, command_given, status_without}
+use Rattle.command_run.specs.Main.{Words, command_given}
 use Rattle.command_run.specs.IsRun.{AnswerPuts, AnswerCourse, CommandCourse, Course, RunCourse}
 use Rattle.run_laws.specs.Order.{IsNoRead}
 use Rattle.run_laws.proofs.Quiet.{IsQuiet, Each, both, each_is, zip_each, map_each, deeds_read, quiet_reads, each_to}
