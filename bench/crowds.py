@@ -15,14 +15,12 @@ import threading
 import time
 from typing import NamedTuple
 
-from edge import PATIENCE, connected, free_port, request, serving, waited
+from edge import PATIENCE, SOON, connected, free_port, request, serving, waited
 from measure import TOP, Compared, resident, spent, strudel, written
 from queries import PAPERS, PAPERS_PAGES
 import shapes
 
 PAGE = "/Paper/np7.html"
-# What a page may take beside those that hold their connections, in seconds.
-SOON = 0.05
 KEPT = ("--requests", "4294967296", "--cache", "4096")
 
 NGINX = """daemon off; {user}worker_processes 1; worker_rlimit_nofile 20000; pid {own}/pid; error_log /dev/null; events {{ worker_connections 9000; }}

@@ -11,8 +11,10 @@ from measure import STRUDEL, resident, spent, written
 import shapes
 from queries import COUNTRIES, COUNTRIES_PAGES, GROUPS, GROUPS_PAGES, JOURNAL, JOURNAL_PAGES, PAPERS, PAPERS_PAGES
 
-# How long a silent client may hold the server, in milliseconds, and how long a page is waited for, in seconds.
+# How long a silent client is waited for, in milliseconds, and how long a page is waited for, in seconds.
 IDLE = 500
+# What a page may take beside those that hold their connections, in seconds.
+SOON = 0.05
 PATIENCE = 60
 
 
@@ -168,10 +170,10 @@ def bench_silent(folder):
                 seconds = waited(found[1])
                 for it in clients:
                     it.close()
-            rows.append((f"fifty clients, {kind}, `{' '.join(options)}`: a page after {after(seconds)}", None, None, f"target: at most {IDLE / 1000} s"))
+            rows.append((f"fifty clients, {kind}, `{' '.join(options)}`: a page after {after(seconds)}", None, None, f"target: at most {SOON} s"))
     with serving(folder, "--idle", str(IDLE)) as (_, port), dripping(port):
         time.sleep(0.2)
-        rows.append((f"a client that sends a byte of a head each tenth of a second: a page after {after(waited(port))}", None, None, f"target: a few times {IDLE / 1000} s"))
+        rows.append((f"a client that sends a byte of a head each tenth of a second: a page after {after(waited(port))}", None, None, f"target: at most {SOON} s"))
     return rows
 
 
