@@ -160,6 +160,10 @@ const COMMANDS: &[CommandRow] = &[
         command: "serve q t d e 1 4294967296 1 4294967296 2 5000 10000 16384",
     },
     CommandRow {
+        words: &["serve", "--open", "2", "q", "t", "d"],
+        command: "serve q t d 8080 4294967296 1 4294967296 256 5000 10000 2",
+    },
+    CommandRow {
         words: &["serve", "--idle", "1", "q", "t", "d", "--stall=4294967295"],
         command: "serve q t d 8080 4294967296 1 4294967296 256 1 4294967295 16384",
     },
@@ -203,7 +207,7 @@ const COMMANDS: &[CommandRow] = &[
         words: &[
             "serve", "q", "t", "--over", "f", "--watch", "w", "d", "--whole",
         ],
-        command: "serve whole q t w d 8080 4294967296 1 4294967296 256 5000 10000 1 over f",
+        command: "serve whole q t w d 8080 4294967296 1 4294967296 256 5000 10000 16384 1 over f",
     },
     CommandRow {
         words: &["replay", "q", "t", "s", "d", "--cache=2", "--over", "f"],
@@ -368,11 +372,11 @@ const WITH_LENIENT: &[CommandRow] = &[
     },
     CommandRow {
         words: &["serve", "--lenient", "--whole", "q", "t", "d"],
-        command: "serve whole q t d 8080 4294967296 1 4294967296 256 5000 10000 leniently",
+        command: "serve whole q t d 8080 4294967296 1 4294967296 256 5000 10000 16384 leniently",
     },
     CommandRow {
         words: &["serve", "--port", "--lenient", "1", "q", "t", "d"],
-        command: "serve q t d 1 4294967296 1 4294967296 256 5000 10000 leniently",
+        command: "serve q t d 1 4294967296 1 4294967296 256 5000 10000 16384 leniently",
     },
     CommandRow {
         words: &["replay", "--cache=2", "q", "t", "s", "d", "--lenient"],
