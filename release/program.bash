@@ -50,7 +50,7 @@ sources_are_newer() {
   since=$stamp
   [ -e "$stamp" ] || since=$top/release/built-from
   # (a release that came after the answer is asked about again)
-  if [ -z "$(cd "$top" && find release/built-from crates.txt crates/*/src -cnewer "$since" -print -quit 2>&1)" ]; then
+  if [ -z "$(exec find "$top"/{release/built-from,crates.txt,crates/*/src} -cnewer "$since" -print -quit 2>&1)" ]; then
     [ "$since" != "$stamp" ] || read -r answer <"$stamp"
   else
     # (its time is before all that is read for it)
