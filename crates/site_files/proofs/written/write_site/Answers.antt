@@ -32,9 +32,9 @@ returns-in-None-clause-ends g c = λ old told.
 pub returns-in-Some-clause-cause : goal.returns-in-Some-clause-cause
 returns-in-Some-clause-cause g c = record {
   later = fell_not c.in-Ok.ensures.cause.later c.write_index.ensures.cause.later;
-  failed = λ e.
-      let r = c.write_index.ensures.cause.failed e in
-      (r.0, inr (c.in-Some.root.now, ap root_name c.in-Some.is, r.1.0, r.1.1), still_rose (g.F.Files.failed_writes c.args.files.now) (g.F.Files.failed_writes c.write_pages.new.files) (g.F.Files.failed_writes c.write_index.new.files) c.in-Ok.ensures.cause.later r.0 r.2);
+  failed = λ path e.
+      let r = c.write_index.ensures.cause.failed path e in
+      (inr (c.in-Some.root.now, ap root_name c.in-Some.is, r.0.0, r.0.1), still_rose (g.F.Files.failed_writes c.args.files.now) (g.F.Files.failed_writes c.write_pages.new.files) (g.F.Files.failed_writes c.write_index.new.files) c.in-Ok.ensures.cause.later path r.1);
 }
 
 pub returns-in-Err-clause-traced : goal.returns-in-Err-clause-traced
