@@ -8,3 +8,4 @@ pub mod TouchedLaws
 pub mod Edits
 pub mod Questions
 pub mod Names
+pub mod Small

@@ -1,5 +1,5 @@
 -- A graph as the graph that was indexed, with what came and without what went since.
-use Rattle.std.specs.Prelude.{◌≡◌, ◌⊎◌, ◌≤◌, ◌↔◌, Bool, true, false, not, List, length, Contains, Result, Ok, Err, ⊤}
+use Rattle.std.specs.Prelude.{◌≡◌, ◌⊎◌, ◌≤◌, ◌<◌, ◌^◌, ◌↔◌, Bool, true, false, not, List, length, Contains, Result, Ok, Err, ⊤}
 use Rattle.std.specs.List.Sorted.{IsStrictlySortedBy}
 use Rattle.sd_value.specs.declared.Datum.TheVariants.{Node}
 use Rattle.sd_value.specs.declared.Value.{Value}
@@ -68,6 +68,14 @@ pub record GraphIsTold (L : DataGraph) (told : Told) : Type 0 where
   pub value_count : IsCountOf value_cmp (IsValueOf L) told.sizes.values
   pub label_count : IsCountOf bytes_cmp (IsLabelOf L) told.sizes.labels
   pub member_count : told.members ≡ length L.members
+
+-- numbers far from the greatest one, to which a few may be added
+pub record AreSmall (told : Told) : Type 0 where
+  pub nodes : told.sizes.nodes < 2 ^ 32
+  pub edges : told.sizes.edges < 2 ^ 32
+  pub values : told.sizes.values < 2 ^ 32
+  pub labels : told.sizes.labels < 2 ^ 32
+  pub members : told.members < 2 ^ 32
 
 -- the store's parts fit together
 pub record IsLive (b : Building) (B C D : DataGraph) (nodes : List Name) (told : Told) : Type 0 where

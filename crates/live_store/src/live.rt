@@ -1,7 +1,8 @@
 // The store, and edits of it.
 ghost use Rattle.std.specs.Prelude.{◌≡◌, ◌↔◌, ◌+◌, IfOk, OnOk, IsTrue, length, Contains};
 ghost use Rattle.graph_spec.specs.DataGraph.{DataGraph, IsWellFormed};
-ghost use Rattle.sd_graph.specs.Statement.{IsWithin, Fits};
+ghost use Rattle.sd_graph.specs.ProgramLimits.{program_limits};
+ghost use Rattle.sd_graph.specs.Statement.{Fits};
 ghost use Rattle.edit_spec.specs.Edited.{Edited, IsOfData};
 ghost use Rattle.index_store.specs.Indexed.{IsNodeOf as IsOneOf};
 ghost use Rattle.live_layers.specs.Items.{HasItem};
@@ -14,17 +15,16 @@ use crate::told::Told;
 use edit_spec::Edit;
 use index_store::IndexStore;
 use live_layers::Layer;
-use sd_graph::{Graph, GraphRefusal, Limits, Store};
+use sd_graph::{Graph, GraphRefusal, Limits, PROGRAM_LIMITS, Store};
 use sd_value::{NoMemory, Str, Value};
 use std::alloc::Global;
 use std::collections::BTreeSet;
 use std::marker::Model;
 
-/// A graph that takes edits, within limits: the index of the graph at some time, what came and what went since, the
+/// A graph that takes edits, within the program's limits: the index of the graph at some time, what came and what went since, the
 /// nodes that were declared since, and how large the graph is.
 #[derive(Debug)]
 pub struct LiveStore {
-    pub(crate) limits: Limits,
     pub(crate) base: IndexStore,
     pub(crate) came: Layer,
     pub(crate) gone: Layer,
@@ -36,7 +36,6 @@ pub struct LiveStore {
 impl Drop for LiveStore {
     fn drop(self) {
         let LiveStore {
-            limits: _,
             base: _base,
             came: _came,
             gone: _gone,
@@ -47,18 +46,19 @@ impl Drop for LiveStore {
 }
 
 impl Model for LiveStore {
+    ghost use Rattle.sd_graph.specs.ProgramLimits.{program_limits};
     ghost use Rattle.sd_graph.specs.Statement.{Building};
     ghost use Rattle.live_store.specs.Live.{changed, IsLive};
 
     ghost Value = { Building };
 
     ghost view = { λ s. record {
-      limits = s.limits;
+      limits = program_limits;
       graph = changed s.base s.came s.gone s.nodes.keys;
     } };
 
     ghost invariant = { λ s. IsLive (record {
-      limits = s.limits;
+      limits = program_limits;
       graph = changed s.base s.came s.gone s.nodes.keys;
     }) s.base s.came s.gone s.nodes.keys s.told };
 }
@@ -82,18 +82,18 @@ fn check_room(limits: Limits, told: &Told) -> Result<(), GraphRefusal>
 }
 
 impl LiveStore {
-    /// The store of the graph, which is within the limits.
-    pub fn of(alloc: Global, graph: Graph, limits: Limits) -> Result<LiveStore, NoMemory>
-        requires { IsWithin (record { limits = limits; graph = graph }) }
-        ensures { IfOk result (λ store. store ≡ record { limits = limits; graph = graph }) }
+    /// The store of the graph.
+    pub fn of(alloc: Global, graph: Graph) -> Result<LiveStore, NoMemory>
+        ensures { IfOk result
+            (λ store. store ≡ record { limits = program_limits; graph = graph }) }
     {
-        // With its edges a graph says that it is well formed, which the store's answers rest on.
+        // With its edges a graph says that it is well formed, which the store's answers rest on, and with its members
+        // that it is within the program's limits.
         let _edges = graph.edges();
         let members = graph.member_pairs().len() as u64;
         let base = IndexStore::of(alloc, graph)?;
         let sizes = base.sizes();
         Ok(LiveStore {
-            limits,
             base,
             came: Layer::new(alloc),
             gone: Layer::new(alloc),
@@ -102,18 +102,12 @@ impl LiveStore {
         })
     }
 
-    /// How large the graph may become.
+    /// How large the graph may become: up to the program's limits.
     pub fn limits(&self) -> Limits
-        ensures { result ≡ self.now.limits }
+        ensures value { result ≡ self.now.limits }
+        ensures program { result ≡ program_limits }
     {
-        self.limits
-    }
-
-    /// How many members the graph has.
-    pub(crate) fn member_count(&self) -> u64
-        ensures { result ≡ length self.now.graph.members }
-    {
-        self.told.members
+        PROGRAM_LIMITS
     }
 
     /// Whether the graph declares this node.
@@ -158,8 +152,8 @@ impl LiveStore {
         ensures applies { Applies edit.now self.old self.new result }
         ensures edited { OnOk result (Edited self.old.graph edit.now self.new.graph) }
     {
-        let told = self.told_after(edit)?;
-        check_room(self.limits, &told)?;
+        let told = self.told_after(edit);
+        check_room(PROGRAM_LIMITS, &told)?;
         let declared = declare(alloc, &self.base, &mut self.nodes, edit)?;
         match change(alloc, &self.base, &mut self.came, &mut self.gone, edit) {
             Ok(()) => {

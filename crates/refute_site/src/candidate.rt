@@ -8,7 +8,7 @@ ghost use Rattle.refute_site.specs.Patterns.{copy_of};
 ghost use Rattle.refute_site.specs.Candidates.{candidate_graph, HasItsVariables, in_copy, stated_beside};
 
 use crate::freezing::{ChainCopy, LabelSet, Pattern, freeze};
-use sd_graph::{GraphBuilder, PROGRAM_LIMITS};
+use sd_graph::{GraphBuilder, GraphRefusal, PROGRAM_LIMITS};
 use sd_value::NoMemory;
 use std::alloc::Global;
 use struql_ast::{Chain, Operand, Target};
@@ -41,7 +41,7 @@ impl Candidate<'_> {
         alloc: Global,
         copy: ChainCopy,
         builder: &mut GraphBuilder,
-    ) -> Result<(), NoMemory>
+    ) -> Result<(), GraphRefusal>
         requires { HasItsVariables self.now }
         ensures { OnOk result (builder.new.graph
             ≡ with_all builder.old.graph (stated (in_copy self.now (copy_of copy.entry)))) }
@@ -61,7 +61,7 @@ impl Candidate<'_> {
         alloc: Global,
         source: &Target,
         builder: &mut GraphBuilder,
-    ) -> Result<(), NoMemory>
+    ) -> Result<(), GraphRefusal>
         requires { HasItsVariables self.now }
         ensures { OnOk result (builder.new.graph ≡ with_all builder.old.graph
             (stated (in_copy self.now (second_copy (arguments_of (target_of source.now)))))) }
@@ -70,7 +70,7 @@ impl Candidate<'_> {
     }
 
     // Adds the second copy, if there is one.
-    fn add_beside(&self, alloc: Global, builder: &mut GraphBuilder) -> Result<(), NoMemory>
+    fn add_beside(&self, alloc: Global, builder: &mut GraphBuilder) -> Result<(), GraphRefusal>
         requires { HasItsVariables self.now }
         ensures { OnOk result (builder.new.graph
             ≡ with_all builder.old.graph (stated_beside self.now self.now.source)) }
@@ -81,10 +81,8 @@ impl Candidate<'_> {
         }
     }
 
-    /// The candidate's graph.
-    /// # Errors
-    /// Out of memory.
-    pub(crate) fn graph(&self, alloc: Global) -> Result<GraphBuilder, NoMemory>
+    // The candidate's graph, where it is within the program's limits.
+    fn built(&self, alloc: Global) -> Result<GraphBuilder, GraphRefusal>
         requires { HasItsVariables self.now }
         ensures { IfOk result (λ builder. builder.graph ≡ candidate_graph self.now) }
     {
@@ -92,5 +90,19 @@ impl Candidate<'_> {
         self.add(alloc, ChainCopy::First, &mut builder)?;
         self.add_beside(alloc, &mut builder)?;
         Ok(builder)
+    }
+
+    /// The candidate's graph.
+    /// # Errors
+    /// Out of memory. Queries are too short for a candidate past the program's limits, which is out of memory too.
+    pub(crate) fn graph(&self, alloc: Global) -> Result<GraphBuilder, NoMemory>
+        requires { HasItsVariables self.now }
+        ensures { IfOk result (λ builder. builder.graph ≡ candidate_graph self.now) }
+    {
+        match self.built(alloc) {
+            Ok(builder) => Ok(builder),
+            Err(GraphRefusal::TooManyNodes | GraphRefusal::TooManyEdges) => Err(NoMemory),
+            Err(GraphRefusal::NoMemory) => Err(NoMemory),
+        }
     }
 }

@@ -9,8 +9,8 @@ ghost use Rattle.refute_site.specs.Patterns.{copy_of};
 use crate::freezing::Pattern;
 use crate::statements::{add_along, add_edge_by, add_member};
 use crate::words::add_word;
-use sd_graph::GraphBuilder;
-use sd_value::{NoMemory, Value};
+use sd_graph::{GraphBuilder, GraphRefusal};
+use sd_value::Value;
 use skolem::{operand_value, value_of};
 use std::alloc::Global;
 use struql_ast::{Condition, Operand, PathStep};
@@ -24,7 +24,7 @@ fn add_path(
     k: usize,
     ends: (&Operand, &Operand),
     step: &PathStep,
-) -> Result<(), NoMemory>
+) -> Result<(), GraphRefusal>
     ensures { OnOk result (builder.new.graph ≡ with_all builder.old.graph
         (asked (value_in pattern.now.chain.now.variables values.now) (copy_of pattern.now.copy)
         pattern.now.repeats k
@@ -58,7 +58,7 @@ fn add_condition(
     values: &[Value],
     k: usize,
     condition: &Condition,
-) -> Result<(), NoMemory>
+) -> Result<(), GraphRefusal>
     ensures { OnOk result (builder.new.graph ≡ with_all builder.old.graph
         (asked (value_in pattern.now.chain.now.variables values.now) (copy_of pattern.now.copy)
         pattern.now.repeats k (condition_of condition.now))) }
@@ -88,7 +88,7 @@ pub(crate) fn add_conditions(
     builder: &mut GraphBuilder,
     pattern: &Pattern,
     values: &[Value],
-) -> Result<(), NoMemory>
+) -> Result<(), GraphRefusal>
     ensures { OnOk result (builder.new.graph ≡ with_all builder.old.graph
         (all_asked (value_in pattern.now.chain.now.variables values.now) (copy_of pattern.now.copy)
         pattern.now.repeats 0 pattern.now.chain.now.conditions)) }

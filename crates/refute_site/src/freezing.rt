@@ -7,8 +7,8 @@ ghost use Rattle.refute_site.specs.Patterns.{pattern_of, HasItsVariables};
 use crate::conditions::add_conditions;
 use crate::statements::add_values;
 use crate::values::values_of;
-use sd_graph::GraphBuilder;
-use sd_value::{NoMemory, Str};
+use sd_graph::{GraphBuilder, GraphRefusal};
+use sd_value::Str;
 use std::alloc::Global;
 use struql_ast::{Chain, Operand};
 
@@ -41,12 +41,12 @@ pub(crate) struct Pattern<'a> {
 
 /// Adds what the chain asks for to the graph that is built.
 /// # Errors
-/// Out of memory, also where the builder's limits leave no room. The graph then has some part of it.
+/// Those of the builder. The graph then has some part of it.
 pub(crate) fn freeze(
     alloc: Global,
     builder: &mut GraphBuilder,
     pattern: &Pattern,
-) -> Result<(), NoMemory>
+) -> Result<(), GraphRefusal>
     requires { HasItsVariables pattern.now }
     ensures { OnOk result
         (builder.new.graph ≡ with_all builder.old.graph (stated (pattern_of pattern.now))) }

@@ -1,5 +1,5 @@
 // Names and numbers of variables in a copy.
-ghost use Rattle.std.specs.Prelude.{◌≡◌, ◌+◌, ◌++◌, codes, pos, IfOk};
+ghost use Rattle.std.specs.Prelude.{◌≡◌, ◌<◌, ◌^◌, ◌++◌, codes, pos, IfOk};
 ghost use Rattle.std.specs.List.{list_any};
 ghost use Rattle.struql_ast.specs.Reading.{operand_of};
 ghost use Rattle.counterexample_spec.specs.Values.{is_variable as names_variable, name_in as named};
@@ -50,36 +50,18 @@ pub(crate) fn name_in(alloc: Global, copy: ChainCopy, name: &Str) -> Result<Str,
     }
 }
 
-// The number as a value's. A chain has at most 32 variables, so the number always fits.
-fn as_int(number: usize) -> Result<i64, NoMemory>
-    ensures { IfOk result (λ n. n ≡ pos number) }
-{
-    match i64::try_from(number) {
-        Ok(n) => Ok(n),
-        Err(_) => Err(NoMemory),
-    }
-}
-
-fn as_later_int(number: usize) -> Result<i64, NoMemory>
-    ensures { IfOk result (λ n. n ≡ pos (number + 32)) }
-{
-    match number.checked_add(32) {
-        Some(later) => as_int(later),
-        None => Err(NoMemory),
-    }
-}
-
 /// The variable's number in the copy.
-pub(crate) fn number_in(copy: ChainCopy, name: &Str, number: usize) -> Result<i64, NoMemory>
-    ensures { IfOk result (λ n. n ≡ pos (numbered (copy_of copy.entry) name.now number)) }
+pub(crate) fn number_in(copy: ChainCopy, name: &Str, number: usize) -> i64
+    requires { number < 2 ^ 62 }
+    ensures { result ≡ pos (numbered (copy_of copy.entry) name.now number) }
 {
     match copy {
-        ChainCopy::First => as_int(number),
+        ChainCopy::First => number as i64,
         ChainCopy::Second(shared) => {
             if is_among(name, shared) {
-                as_int(number)
+                number as i64
             } else {
-                as_later_int(number)
+                (number + 32) as i64
             }
         }
     }

@@ -6,21 +6,21 @@ ghost use Rattle.counterexample_spec.specs.Frozen.{ending as ending_of, step as 
 ghost use Rattle.refute_site.specs.Patterns.{copy_of};
 
 use crate::freezing::ChainCopy;
-use sd_graph::GraphBuilder;
+use sd_graph::{GraphBuilder, GraphRefusal};
 use sd_value::{Datum, NoMemory, Str, Value, copy};
 use std::alloc::Global;
 use token_writer::{put, put_number};
 
 // Declares the value, if it is a node.
-fn add_value(alloc: Global, builder: &mut GraphBuilder, value: &Value) -> Result<(), NoMemory>
+fn add_value(alloc: Global, builder: &mut GraphBuilder, value: &Value) -> Result<(), GraphRefusal>
     ensures { OnOk result
         (builder.new.graph ≡ with_all builder.old.graph (declared value.now)) }
 {
     match value {
-        Value::Data(Datum::Node(name)) => match builder.add_node(alloc, name) {
-            Ok(()) => Ok(()),
-            Err(_) => Err(NoMemory),
-        },
+        Value::Data(Datum::Node(name)) => {
+            builder.add_node(alloc, name)?;
+            Ok(())
+        }
         _ => Ok(()),
     }
 }
@@ -30,7 +30,7 @@ pub(crate) fn add_values(
     alloc: Global,
     builder: &mut GraphBuilder,
     values: &[Value],
-) -> Result<(), NoMemory>
+) -> Result<(), GraphRefusal>
     ensures { OnOk result
         (builder.new.graph ≡ with_all builder.old.graph (flat_map declared values.now)) }
 {
@@ -46,15 +46,15 @@ pub(crate) fn add_member(
     builder: &mut GraphBuilder,
     collection: &Str,
     value: &Value,
-) -> Result<(), NoMemory>
+) -> Result<(), GraphRefusal>
     ensures { OnOk result
         (builder.new.graph ≡ with_all builder.old.graph (joined collection.now value.now)) }
 {
     match value {
-        Value::Data(Datum::Node(name)) => match builder.add_member(alloc, collection, name) {
-            Ok(()) => Ok(()),
-            Err(_) => Err(NoMemory),
-        },
+        Value::Data(Datum::Node(name)) => {
+            builder.add_member(alloc, collection, name)?;
+            Ok(())
+        }
         _ => Ok(()),
     }
 }
@@ -66,7 +66,7 @@ fn add_edge(
     from: &Value,
     label: &Str,
     to: &Value,
-) -> Result<(), NoMemory>
+) -> Result<(), GraphRefusal>
     ensures { OnOk result
         (builder.new.graph ≡ with_all builder.old.graph (edge from.now label.now to.now)) }
 {
@@ -74,10 +74,10 @@ fn add_edge(
         return Ok(());
     };
     match to {
-        Value::Data(_) => match builder.add_edge(alloc, name, label, to) {
-            Ok(()) => Ok(()),
-            Err(_) => Err(NoMemory),
-        },
+        Value::Data(_) => {
+            builder.add_edge(alloc, name, label, to)?;
+            Ok(())
+        }
         Value::Page(_) => Ok(()),
     }
 }
@@ -89,7 +89,7 @@ pub(crate) fn add_edge_by(
     from: &Value,
     label: &Value,
     to: &Value,
-) -> Result<(), NoMemory>
+) -> Result<(), GraphRefusal>
     ensures { OnOk result
         (builder.new.graph ≡ with_all builder.old.graph (edge_by from.now label.now to.now)) }
 {
@@ -129,7 +129,7 @@ pub(crate) fn add_along(
     from: &Value,
     word: &[Str],
     to: &Value,
-) -> Result<(), NoMemory>
+) -> Result<(), GraphRefusal>
     ensures { OnOk result (builder.new.graph ≡ with_all builder.old.graph
         (along (step_of (copy_of chain_copy.entry) k) 1 from.now word.now to.now)) }
 {

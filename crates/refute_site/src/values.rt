@@ -1,5 +1,5 @@
 // A value for each variable of a chain.
-ghost use Rattle.std.specs.Prelude.{◌≡◌, IfOk, length, option_map};
+ghost use Rattle.std.specs.Prelude.{◌≡◌, ◌<◌, ◌^◌, IfOk, length, option_map};
 ghost use Rattle.query_spec.specs.Rows.{value_in};
 ghost use Rattle.counterexample_spec.specs.Values.{set_to, value_of_kind as kind_value};
 ghost use Rattle.counterexample_spec.specs.Values.{name_in as named, number_in as numbered};
@@ -56,11 +56,12 @@ fn value_of_kind(
     number: usize,
     test: Test,
 ) -> Result<Value, NoMemory>
+    requires { number < 2 ^ 62 }
     ensures { IfOk result (λ v. v ≡ kind_value (numbered (copy_of chain_copy.entry) name.now number)
         (named (copy_of chain_copy.entry) name.now) test) }
 {
     match test {
-        Test::IsInt => Ok(Value::Data(Datum::Int(number_in(chain_copy, name, number)?))),
+        Test::IsInt => Ok(Value::Data(Datum::Int(number_in(chain_copy, name, number)))),
         Test::IsText => Ok(Value::Data(Datum::Text(name_in(alloc, chain_copy, name)?))),
         Test::IsUrl => Ok(Value::Data(Datum::Url(name_in(alloc, chain_copy, name)?))),
         Test::IsFile => Ok(Value::Data(Datum::File(name_in(alloc, chain_copy, name)?))),
@@ -75,6 +76,7 @@ fn tested(
     number: usize,
     variable: &Variable,
 ) -> Result<Option<Value>, NoMemory>
+    requires { number < 2 ^ 62 }
     ensures { IfOk result
         (λ v. v ≡ all_tested (pattern_of pattern.now) number variable.now) }
 {

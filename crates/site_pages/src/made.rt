@@ -9,7 +9,7 @@ ghost use Rattle.click_time.specs.Page.{PageFixed, page_site};
 ghost use Rattle.site_pages.specs.Made.{fixed_of, store_in};
 ghost use Rattle.site_pages.specs.declared.made.MadePages.TheVariants.{Demanded, FromWhole};
 
-use crate::live::{apply, live};
+use crate::live::apply;
 use bindings::StoreAsker;
 use click_time::Click;
 use edit_spec::Edit;
@@ -105,7 +105,7 @@ pub fn pages_over<'q>(
     }) }
     ensures own { IfOk result (λ pages. ⟦<MadePages<'q> as Pages>⟧.Own pages) }
 {
-    let store = live(alloc, graph)?;
+    let store = LiveStore::of(alloc, graph)?;
     let asker = StoreAsker::of(store);
     let pages = pages_of(alloc, asker, scopes, templates, source)?;
     Ok(pages)

@@ -11,7 +11,7 @@ use edit_reader::read_edit;
 use edit_spec::Edit;
 use graph_spec::{Edge, Member};
 use live_store::LiveStore;
-use sd_graph::{GraphBuilder, GraphRefusal, Limits, Store};
+use sd_graph::{GraphBuilder, GraphRefusal, MAX_NODES, PROGRAM_LIMITS, Store};
 use sd_value::{Datum, NoMemory, Str, Value};
 use std::alloc::Global;
 use std::test::Fail;
@@ -120,10 +120,8 @@ fn apply(
 
 // A hundred edits of the graph.
 fn check_edits(alloc: Global, mirror: &mut Mirror, seed: u64) -> Result<(), Fail> {
-    let builder = mirror.builder(alloc)?;
-    let limits = builder.limits();
-    let graph = builder.finish(alloc)?;
-    let mut store = LiveStore::of(alloc, graph, limits)?;
+    let graph = mirror.builder(alloc)?.finish(alloc)?;
+    let mut store = LiveStore::of(alloc, graph)?;
     let asked = asked(alloc)?;
     let mut numbers = Numbers { state: seed };
     for _ in 0..100 {
@@ -174,7 +172,7 @@ fn the_sixth_hundred_edits_give_the_edited_graph(rt: HostRuntime) -> Result<(), 
     check_seeds(rt.alloc(), 11, 12)
 }
 
-// An edit of a store with room for two nodes and one edge or member, and its answer.
+// An edit of a store of as many nodes as there may be, and its answer.
 struct LimitRow {
     edit: &'static str,
     answer: Result<(), GraphRefusal>,
@@ -182,51 +180,48 @@ struct LimitRow {
 
 const LIMITED: &[LimitRow] = &[
     LimitRow {
-        edit: "edit add a p &b",
+        edit: "edit add n0 p &n1",
         answer: Ok(()),
     },
     LimitRow {
-        edit: "edit add a p &c",
+        edit: "edit add n0 p &more",
         answer: Err(GraphRefusal::TooManyNodes),
     },
     LimitRow {
-        edit: "edit add a q &b",
-        answer: Err(GraphRefusal::TooManyEdges),
-    },
-    LimitRow {
-        edit: "edit enter b A",
-        answer: Err(GraphRefusal::TooManyEdges),
-    },
-    LimitRow {
-        edit: "edit add a p &b",
-        answer: Ok(()),
-    },
-    LimitRow {
-        edit: "edit remove a p &b",
-        answer: Ok(()),
-    },
-    LimitRow {
-        edit: "edit enter c A",
+        edit: "edit enter more A",
         answer: Err(GraphRefusal::TooManyNodes),
     },
     LimitRow {
-        edit: "edit enter b A",
+        edit: "edit enter n1 A",
+        answer: Ok(()),
+    },
+    LimitRow {
+        edit: "edit remove n0 p &n1",
         answer: Ok(()),
     },
 ];
 
+// A store of this many nodes.
+fn store_of_nodes(alloc: Global, count: u64) -> Result<LiveStore, Fail> {
+    let mut builder = GraphBuilder::new(alloc, PROGRAM_LIMITS);
+    for number in 0..count {
+        let name = format!(in alloc; "n{number}")?;
+        builder.add_node(alloc, &Str::new(alloc, name.as_bytes())?)?;
+    }
+    Ok(LiveStore::of(alloc, builder.finish(alloc)?)?)
+}
+
 #[test]
 fn edits_beyond_the_limits_are_refused(rt: HostRuntime) -> Result<(), Fail> {
     let alloc = rt.alloc();
-    let limits = Limits { nodes: 2, edges: 1 };
-    let graph = GraphBuilder::new(alloc, limits).finish(alloc)?;
-    let mut store = LiveStore::of(alloc, graph, limits)?;
+    let mut store = store_of_nodes(alloc, MAX_NODES)?;
+    assert_eq!(rt; store.limits(), PROGRAM_LIMITS);
     for row in LIMITED {
         let edit = read_edit(alloc, row.edit.as_bytes(), 65_536)?;
         let answer = apply(alloc, &mut store, &edit)?;
         assert_eq!(rt; answer, row.answer, "{}", row.edit);
     }
-    assert_eq!(rt; store.sizes().nodes, 2);
+    assert_eq!(rt; store.sizes().nodes, MAX_NODES);
     assert_eq!(rt; store.sizes().edges, 0);
     Ok(())
 }

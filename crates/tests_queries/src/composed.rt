@@ -6,7 +6,7 @@ use bindings::StoreAsker;
 use composed_data::composed_data;
 use index_store::IndexStore;
 use sd_ddl::write_ddl;
-use sd_graph::{Graph, GraphRefusal, Limits, PROGRAM_LIMITS};
+use sd_graph::{Graph, GraphRefusal, Limits, MAX_EDGES, MAX_NODES, PROGRAM_LIMITS};
 use std::alloc::Global;
 use std::process::Abort;
 use std::test::Fail;
@@ -82,6 +82,10 @@ fn composed(
 ) -> Result<Result<Graph, GraphRefusal>, Fail> {
     let gathered = builder_of(alloc, data)?;
     let query = query_of(alloc, FIRST)?;
+    let limits = Limits {
+        nodes: limits.nodes.min(MAX_NODES),
+        edges: limits.edges.min(MAX_EDGES),
+    };
     Ok(composed_data(alloc, gathered, &query, limits))
 }
 

@@ -3,6 +3,7 @@ use Rattle.sd_value.specs.Order.{bytes_cmp, value_cmp}
 use Rattle.graph_spec.specs.DataGraph.{DataGraph, Name, IsWellFormed, IsValueOf, IsLabelOf}
 use Rattle.graph_spec.specs.Statement.{empty_graph}
 use Rattle.graph_spec.specs.Steps.{IsCountOf}
+use Rattle.sd_graph.specs.ProgramLimits.{program_limits}
 use Rattle.live_store.specs.Live.{changed, Layers, IsLive}
 use Rattle.live_store.proofs.Edits.{layers_first}
 use Rattle.live_store.proofs.live.LiveStore.of.Goals as goal
@@ -20,7 +21,7 @@ pub invariant_of-result : goal.invariant_of-result
 invariant_of-result c =
     let same : changed c.in_ok-base.base c.new.result c.new-2.result c.new-3.result.keys ≡ c.args.graph =
     λ i. changed (c.in_ok-base.ensures i) (c.new.ensures i) (c.new-2.ensures i) (c.new-3.ensures.empty i) in
-    subst (λ G. IsLive (record { limits = c.args.limits; graph = G }) c.in_ok-base.base c.new.result c.new-2.result
+    subst (λ G. IsLive (record { limits = program_limits; graph = G }) c.in_ok-base.base c.new.result c.new-2.result
     c.new-3.result.keys (record { sizes = c.sizes-sizes.result; members = length c.member_pairs.result.now })) (sym same)
     (record {
       layers = first c.args.graph c.in_ok-base.base c.new.result c.new-2.result c.new-3.result.keys
@@ -34,5 +35,5 @@ invariant_of-result c =
             c.in_ok-base.ensures c.sizes-sizes.ensures.labels;
         member_count = ap length c.member_pairs.ensures.value;
       };
-      within = c.requires;
+      within = c.member_pairs.ensures.within;
     })

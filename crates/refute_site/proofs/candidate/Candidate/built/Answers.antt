@@ -1,5 +1,5 @@
 use Rattle.refute_site.proofs.Tried.{both_stated}
-use Rattle.refute_site.proofs.candidate.Candidate.graph.Goals as goal
+use Rattle.refute_site.proofs.candidate.Candidate.built.Goals as goal
 
 pub returns : goal.returns
 returns c =
