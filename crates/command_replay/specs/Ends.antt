@@ -83,6 +83,7 @@ module _ (s : Scripted) (limits : RunLimits) (old new : Option (List ℕ)) (Puts
   RunEnds (status.ReadFault path) = ⊥
   RunEnds status.Usage = ⊥
   RunEnds status.NotAllYes = ⊥
+  RunEnds (status.FileFault path) = ⊥
   RunEnds (status.PageFault term kind) = ⊥
   RunEnds status.NotFound = ⊥
 

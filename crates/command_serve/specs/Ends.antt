@@ -126,6 +126,7 @@ module _ (s : Inputs) (watch : Option WatchOptions) (options : ServeOptions)
   OverEnds (status.ReadFault path) = ⊥
   OverEnds status.Usage = ⊥
   OverEnds status.NotAllYes = ⊥
+  OverEnds (status.FileFault path) = ⊥
   OverEnds (status.PageFault term kind) = ⊥
   OverEnds status.NotFound = ⊥
 
@@ -196,6 +197,7 @@ module _ (s : Inputs) (watches : Bool) (options : ServeOptions) (before after : 
   TellingEnds (status.ReadFault path) = ⊥
   TellingEnds status.Usage = ⊥
   TellingEnds status.NotAllYes = ⊥
+  TellingEnds (status.FileFault path) = ⊥
   TellingEnds (status.PageFault term kind) = ⊥
   TellingEnds status.NotFound = ⊥
 
