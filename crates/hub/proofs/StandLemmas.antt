@@ -394,7 +394,7 @@ module _ {D : Type 0} (page : D → OutcomeAt) (Names : List ℕ → Term → Ty
   }
 
   -- what a step sent, after what was sent before
-  account_on : (replies : List (List ℕ)) → gain now.account replies ≡ gain first.account (open_at.replies ++ replies)
+  pub account_on : (replies : List (List ℕ)) → gain now.account replies ≡ gain first.account (open_at.replies ++ replies)
   account_on replies = ap (λ a. gain a replies) open_at.account ∙ sym (gain_append first.account open_at.replies replies)
 
   abbrev pub all_on : (Is : Standing → List (List ℕ) → Type 0) (standing : Standing) (replies : List (List ℕ)) (account : Option Account) (after : At) → Is standing (open_at.replies ++ replies)

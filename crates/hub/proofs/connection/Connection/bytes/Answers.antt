@@ -1,4 +1,4 @@
-use Rattle.std.proofs.Common.{◌≡◌, ◌<◌, ◌≤◌, ◌==◌, ◌-◌, ◌+◌, ◌++◌, ℕ, List, length, refl, sym, subst, ◌∙◌, arith, Some, None, take, drop, [], append-nil, Ok, Err}
+use Rattle.std.proofs.Common.{◌≡◌, ◌<◌, ◌≤◌, ◌==◌, ◌-◌, ◌+◌, ◌++◌, ℕ, List, length, refl, sym, ap, subst, ◌∙◌, arith, Some, None, take, drop, [], append-nil, Ok, Err}
 use Rattle.std.proofs.lemmas.List.{take_rest, length-take-le, take_all}
 use Rattle.page_spec.specs.Address.{TermOf}
 use Rattle.wire.proofs.Noting.{noted_none, noted_then}
@@ -64,9 +64,9 @@ loop-from-preserved g c =
     let fed = fed_case c.loop-from.self-inside.reading.rest p c.feed-fed.result (Some c.in-Some.ask) c.feed-fed.new.self c.in-Some.is c.feed-fed.ensures.fed in
     let inv = c.loop-from.invariant.2 in
     let sent = c.in-Ok-Open.ensures.sent in
-    let answered = answered_now (shown_in c.args.root.now g.P.Versions.site g.P.Versions.templates) (TermOf c.args.root.now) sent.0 (Ok Open) (g.P.Versions.state c.loop-from.pages) (g.P.Versions.state c.args.pages.now) c.in-Some.ask c.target.result.now c.feed-fed.new.self.target c.loop-from.self-inside.left
+    let answered = answered_now (shown_in c.args.root.now g.P.Versions.site g.P.Versions.templates) (TermOf c.args.root.now) sent.0 (Ok c.in-Ok-Open.field-0) (Ok Open) (g.P.Versions.state c.loop-from.pages) (g.P.Versions.state c.args.pages.now) c.in-Some.ask c.target.result.now c.feed-fed.new.self.target c.loop-from.self-inside.left
     ((g.W.Wire.told c.loop-from.wire).account c.args.number) ((g.W.Wire.told c.answer.new.wire).account c.args.number) ((g.W.Wire.told c.loop-from.wire).faults c.args.number)
-    ((g.W.Wire.told c.answer.new.wire).faults c.args.number) c.loop-from.invariant.1 c.target.ensures sent.1 in
+    ((g.W.Wire.told c.answer.new.wire).faults c.args.number) (ap Ok c.in-Ok-Open.field-0-is) c.loop-from.invariant.1 c.target.ensures sent.1 in
     let opened = serve_open (shown_in c.args.root.now g.P.Versions.site g.P.Versions.templates (g.P.Versions.state c.args.pages.now)) (TermOf c.args.root.now) c.args.self.now piece p from c.feed-fed.result.taken
     (record { rest = c.loop-from.self-inside.reading.rest; left = c.loop-from.self-inside.left }) c.feed-fed.new.self inv.0
     (take_rest piece from) inv.1 c.in-Some.ask fed
@@ -131,9 +131,9 @@ returns-in-Ok-Closed-clause-served g c =
     let fed = fed_case c.loop-from.self-inside.reading.rest p c.feed-fed.result (Some c.in-Some.ask) c.feed-fed.new.self c.in-Some.is c.feed-fed.ensures.fed in
     let inv = c.loop-from.invariant.2 in
     let sent = c.in-Ok-Closed.ensures.sent in
-    let answered = answered_now (shown_in c.args.root.now g.P.Versions.site g.P.Versions.templates) (TermOf c.args.root.now) sent.0 (Ok Closed) (g.P.Versions.state c.loop-from.pages) (g.P.Versions.state c.args.pages.now) c.in-Some.ask c.target.result.now c.feed-fed.new.self.target c.loop-from.self-inside.left
+    let answered = answered_now (shown_in c.args.root.now g.P.Versions.site g.P.Versions.templates) (TermOf c.args.root.now) sent.0 (Ok c.in-Ok-Closed.field-0) (Ok Closed) (g.P.Versions.state c.loop-from.pages) (g.P.Versions.state c.args.pages.now) c.in-Some.ask c.target.result.now c.feed-fed.new.self.target c.loop-from.self-inside.left
     ((g.W.Wire.told c.loop-from.wire).account c.args.number) ((g.W.Wire.told c.answer.new.wire).account c.args.number) ((g.W.Wire.told c.loop-from.wire).faults c.args.number)
-    ((g.W.Wire.told c.answer.new.wire).faults c.args.number) c.loop-from.invariant.1 c.target.ensures sent.1 in (
+    ((g.W.Wire.told c.answer.new.wire).faults c.args.number) (ap Ok c.in-Ok-Closed.field-0-is) c.loop-from.invariant.1 c.target.ensures sent.1 in (
       record { replies = length inv.0 + sent.0.replies; terms = inv.3 ++ sent.0.terms },
       serve_over (shown_in c.args.root.now g.P.Versions.site g.P.Versions.templates (g.P.Versions.state c.args.pages.now)) (TermOf c.args.root.now) c.args.self.now piece p from c.feed-fed.result.taken
           (record { rest = c.loop-from.self-inside.reading.rest; left = c.loop-from.self-inside.left }) c.feed-fed.new.self inv.0
@@ -154,9 +154,9 @@ returns-in-Ok-Short-clause-served g c =
     let fed = fed_case c.loop-from.self-inside.reading.rest p c.feed-fed.result (Some c.in-Some.ask) c.feed-fed.new.self c.in-Some.is c.feed-fed.ensures.fed in
     let inv = c.loop-from.invariant.2 in
     let sent = c.in-Ok-Short.ensures.sent in
-    let answered = answered_now (shown_in c.args.root.now g.P.Versions.site g.P.Versions.templates) (TermOf c.args.root.now) sent.0 (Ok Short) (g.P.Versions.state c.loop-from.pages) (g.P.Versions.state c.args.pages.now) c.in-Some.ask c.target.result.now c.feed-fed.new.self.target c.loop-from.self-inside.left
+    let answered = answered_now (shown_in c.args.root.now g.P.Versions.site g.P.Versions.templates) (TermOf c.args.root.now) sent.0 (Ok c.in-Ok-Short.field-0) (Ok Short) (g.P.Versions.state c.loop-from.pages) (g.P.Versions.state c.args.pages.now) c.in-Some.ask c.target.result.now c.feed-fed.new.self.target c.loop-from.self-inside.left
     ((g.W.Wire.told c.loop-from.wire).account c.args.number) ((g.W.Wire.told c.answer.new.wire).account c.args.number) ((g.W.Wire.told c.loop-from.wire).faults c.args.number)
-    ((g.W.Wire.told c.answer.new.wire).faults c.args.number) c.loop-from.invariant.1 c.target.ensures sent.1 in (
+    ((g.W.Wire.told c.answer.new.wire).faults c.args.number) (ap Ok c.in-Ok-Short.field-0-is) c.loop-from.invariant.1 c.target.ensures sent.1 in (
       record { replies = length inv.0 + sent.0.replies; terms = inv.3 ++ sent.0.terms },
       serve_over (shown_in c.args.root.now g.P.Versions.site g.P.Versions.templates (g.P.Versions.state c.args.pages.now)) (TermOf c.args.root.now) c.args.self.now piece p from c.feed-fed.result.taken
           (record { rest = c.loop-from.self-inside.reading.rest; left = c.loop-from.self-inside.left }) c.feed-fed.new.self inv.0
@@ -177,9 +177,9 @@ returns-in-Err-clause-served g c =
     let fed = fed_case c.loop-from.self-inside.reading.rest p c.feed-fed.result (Some c.in-Some.ask) c.feed-fed.new.self c.in-Some.is c.feed-fed.ensures.fed in
     let inv = c.loop-from.invariant.2 in
     let sent = c.in-Err.ensures.sent in
-    let answered = answered_now (shown_in c.args.root.now g.P.Versions.site g.P.Versions.templates) (TermOf c.args.root.now) sent.0 (Err c.in-Err.failed) (g.P.Versions.state c.loop-from.pages) (g.P.Versions.state c.args.pages.now) c.in-Some.ask c.target.result.now c.feed-fed.new.self.target c.loop-from.self-inside.left
+    let answered = answered_now (shown_in c.args.root.now g.P.Versions.site g.P.Versions.templates) (TermOf c.args.root.now) sent.0 (Err c.in-Err.failed) (Err c.in-Err.failed) (g.P.Versions.state c.loop-from.pages) (g.P.Versions.state c.args.pages.now) c.in-Some.ask c.target.result.now c.feed-fed.new.self.target c.loop-from.self-inside.left
     ((g.W.Wire.told c.loop-from.wire).account c.args.number) ((g.W.Wire.told c.answer.new.wire).account c.args.number) ((g.W.Wire.told c.loop-from.wire).faults c.args.number)
-    ((g.W.Wire.told c.answer.new.wire).faults c.args.number) c.loop-from.invariant.1 c.target.ensures sent.1 in (
+    ((g.W.Wire.told c.answer.new.wire).faults c.args.number) refl c.loop-from.invariant.1 c.target.ensures sent.1 in (
       record { replies = length inv.0 + sent.0.replies; terms = inv.3 ++ sent.0.terms },
       serve_over (shown_in c.args.root.now g.P.Versions.site g.P.Versions.templates (g.P.Versions.state c.args.pages.now)) (TermOf c.args.root.now) c.args.self.now piece p from c.feed-fed.result.taken
           (record { rest = c.loop-from.self-inside.reading.rest; left = c.loop-from.self-inside.left }) c.feed-fed.new.self inv.0
