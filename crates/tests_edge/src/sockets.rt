@@ -618,17 +618,17 @@ const FLAKY_TALKS: &[FlakyTalk] = &[
     },
     FlakyTalk {
         taking: 2,
-        failing: 120,
+        failing: 30,
         talk: Talk {
-            name: "opened after 120 failures, while others are open",
+            name: "opened after 30 failures, while others are open",
             waits: LONG,
             steps: OPENED_LATER,
         },
     },
 ];
 
-// How long a failing try is followed by none at least. The wire waits ten.
-const PAUSE: Duration = Duration::from_millis(5);
+// How long a failing try is followed by none at least, in milliseconds. The wire waits ten.
+const PAUSE: u64 = 5;
 
 // Between two tries the loop waits: so many failures take their time.
 #[test]
@@ -642,14 +642,14 @@ fn a_failing_accept_is_repeated_after_a_pause(rt: HostRuntime) -> Result<(), Fai
         };
         let begun = Instant::now(&rt)?;
         take_talk(&rt, &flaky, "", &row.talk)?;
-        let least = PAUSE.saturating_mul(row.failing);
+        let least = Duration::from_millis(PAUSE * u64::from(row.failing));
         assert!(rt; begun.elapsed(&rt)? >= least, "{}: it spins", row.talk.name);
     }
     Ok(())
 }
 
-// By this clock each file was changed long ago.
-const LATER: Duration = Duration::from_secs(3_600);
+// By this clock each file was changed so many seconds ago at least.
+const LATER: u64 = 3_600;
 
 const CUT: Talk = Talk {
     name: "a watched file that stays cut gives a change",
@@ -680,7 +680,7 @@ fn a_file_that_stays_cut_gives_a_change(rt: HostRuntime) -> Result<(), Fail> {
         system: &rt,
         taking: 0,
         failing: 0,
-        ahead: LATER,
+        ahead: Duration::from_secs(LATER),
     };
     take_talk(&rt, &flaky, path.as_str(), &CUT)?;
     folder.remove(&rt)

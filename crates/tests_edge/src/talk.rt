@@ -126,10 +126,16 @@ fn passes<W: Wire, S: Drop>(
     clients: &mut Vec<S>,
     number: u64,
 ) -> bool {
-    let has_come = is_next(alloc, wire, &Step::Opened(number))
-        && is_next(alloc, wire, &Step::Piece(number, b"x"));
+    let is_opened = match wire.next(alloc) {
+        Ok(WireEvent::Opened(found)) => found == number,
+        _ => false,
+    };
+    let has_come = match wire.next(alloc) {
+        Ok(WireEvent::Bytes(found, piece)) => found == number && piece.bytes() == b"x".as_slice(),
+        _ => false,
+    };
     wire.close(number);
-    has_come && clients.pop().is_some()
+    is_opened && has_come && clients.pop().is_some()
 }
 
 // Renames another file with these bytes over the path. Does it?
