@@ -141,8 +141,8 @@ impl<S: Read + Write + OpenStream + AsRawFd + Drop> Peer<S> {
         self.output = ByteQueue::new(alloc);
     }
 
-    /// Its turn. It is lost where its time is over and nothing came of it, and where its time was over at its last turn too:
-    /// so one whose bytes waited while the server was busy gives them, and one that sends a byte now and then doesn't stay.
+    /// Its turn. It is lost where its time is over and nothing came of it, and where its time was over at its last turn too.
+    /// So one whose bytes waited while the server was busy gives them, and one that sends a byte now and then doesn't stay.
     pub fn take_turn(
         &mut self,
         alloc: Global,
