@@ -21,7 +21,7 @@ const BUFFER: usize = 16384;
 const MOST_QUEUED: usize = 67_108_864;
 
 /// How long a connection is waited for where others wait for its place, in milliseconds.
-const CROWDED: u32 = 2_000;
+const CROWDED: u32 = 3_000;
 
 /// News of a connection: of its token, under its number, which is 0 where it is not opened yet.
 #[derive(Drop)]

@@ -264,7 +264,7 @@ const TALKS: &[Talk] = &[
             Step::Piece(2, b"a late one"),
         ],
     },
-    // At most 128 are open at once: two more wait until those that have sent nothing for a second are let go.
+    // At most 128 are open at once: two more wait until those that have sent nothing for three seconds are let go.
     Talk {
         name: "silent clients make room for those that wait",
         waits: LONG,
