@@ -6,10 +6,7 @@ ghost use Rattle.std.specs.Option.{ForSome, IsSomeAnd};
 ghost use Rattle.edge_io.specs.Counts.{Rose};
 ghost use Rattle.happenings.specs.Happening.{Happening};
 ghost use Rattle.files_spec.specs.Causes.{WritesHaveCause};
-ghost use Rattle.site_inputs.specs.Reads.{Reads};
-ghost use Rattle.site_inputs.specs.Runs.{ReadsHaveCause};
-ghost use Rattle.site_inputs.specs.Sites.{InputsEnd};
-ghost use Rattle.site_inputs.specs.Values.{inputs_of, inputs_result};
+ghost use Rattle.site_inputs.specs.Values.{inputs_of};
 ghost use Rattle.command_spec.specs.Inputs.{data_paths, input_paths};
 ghost use Rattle.site_inputs.specs.Statuses.{ReadRose, IsSilent};
 ghost use Rattle.site_inputs.specs.Outside.{host};
@@ -32,7 +29,7 @@ use run_report::{Status, put_noted};
 use sd_value::{NoMemory, Str};
 use site_build::Whole;
 use site_files::write_site;
-use site_inputs::{Fault, SiteInputs, load_inputs};
+use site_inputs::{SiteInputs, load_noted};
 use std::alloc::Global;
 use token_writer::{put, put_number};
 
@@ -76,43 +73,6 @@ fn write_built<F: Files>(
     }
 }
 
-// Reads the inputs, while the log is lent to the files.
-fn load_noted<L: Trace, F: Files<Log = L>>(
-    alloc: Global,
-    log: &mut L,
-    files: &mut F,
-    command: &BuildCommand,
-) -> Result<SiteInputs, Fault>
-    ensures ends { ForSome (F.contents files.old) (λ map.
-        InputsEnd map command.now.sources command.now.over command.now.query
-        command.now.templates (inputs_result result)) }
-    ensures same { F.contents files.new ≡ F.contents files.old }
-    ensures cause { ReadsHaveCause
-        (input_paths (data_paths command.now.sources command.now.over)
-        command.now.query command.now.templates)
-        (F.failed_reads files.old) (F.failed_reads files.new) result }
-    ensures writes { F.failed_writes files.new ≡ F.failed_writes files.old }
-    ensures course { Reads
-        (input_paths (data_paths command.now.sources command.now.over)
-        command.now.query command.now.templates)
-        (L.events log.old) (L.events log.new) (F.contents files.old) result
-        (λ map. InputsEnd map command.now.sources command.now.over command.now.query
-        command.now.templates (inputs_result result)) }
-    ensures lent { F.trace files.new ≡ F.trace files.old }
-{
-    files.lend(log);
-    let result = load_inputs(
-        alloc,
-        files,
-        &command.sources,
-        &command.over,
-        &command.query,
-        &command.templates,
-    );
-    files.lend(log);
-    result
-}
-
 // Writes the site of the inputs, while the log is lent to the files.
 fn write_noted<L: Trace, F: Files<Log = L>>(
     alloc: Global,
@@ -141,7 +101,7 @@ fn status_of_stop(stop: Stop) -> Status
 {
     match stop {
         Stop::Faulty { term, kind } => Status::PageFault { term, kind },
-        Stop::Unwritten => Status::WriteFault,
+        Stop::Unwritten { path } => Status::FileFault { path },
         Stop::NoMemory => Status::NoMemory,
     }
 }
@@ -169,15 +129,23 @@ pub fn build<L: Trace, F: Files<Log = L>, O: Sink<Log = L>>(
         (input_paths (data_paths command.now.sources command.now.over)
         command.now.query command.now.templates)
         (F.failed_reads files.old) (F.failed_reads files.new) result }
-    ensures write_cause { result ≡ Status.WriteFault
-        → Rose (O.failed out.old) (O.failed out.new)
-        ⊎ FileRose (F.contents files.old) command.now
-        (F.failed_writes files.old) (F.failed_writes files.new) }
+    ensures write_cause { result ≡ Status.WriteFault → Rose (O.failed out.old) (O.failed out.new) }
+    ensures file_cause { (path : List ℕ) → result ≡ Status.FileFault path
+        → FileRose (F.contents files.old) command.now
+        (F.failed_writes files.old) (F.failed_writes files.new) path }
     ensures course { (part : List Happening) × (L.events log.new ≡ L.events log.old ++ part)
         × BuildCourse command.now (O.stream out.old) (F.contents files.old) part result }
     ensures lent { (F.trace files.new ≡ F.trace files.old) × (O.trace out.new ≡ O.trace out.old) }
 {
-    let inputs = match load_noted(alloc, log, files, command) {
+    let inputs = match load_noted(
+        alloc,
+        log,
+        files,
+        &command.sources,
+        &command.over,
+        &command.query,
+        &command.templates,
+    ) {
         Ok(inputs) => inputs,
         Err(fault) => return Status::from(fault),
     };

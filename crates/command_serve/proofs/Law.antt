@@ -41,6 +41,7 @@ module _ (command : ServeCommand) (before after : Outside) where
   over s (status.ReadFault path) ends write wire turns no_put no_event = absurd ends
   over s status.Usage ends write wire turns no_put no_event = absurd ends
   over s status.NotAllYes ends write wire turns no_put no_event = absurd ends
+  over s (status.FileFault path) ends write wire turns no_put no_event = absurd ends
   over s (status.PageFault term kind) ends write wire turns no_put no_event = absurd ends
   over s status.NotFound ends write wire turns no_put no_event = absurd ends
 

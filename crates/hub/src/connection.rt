@@ -1,5 +1,5 @@
 // One connection: its bytes come in pieces, and its replies go out one by one.
-ghost use Rattle.std.specs.Prelude.{◌≡◌, ◌≢◌, ℕ, ◌<◌, ◌⊎◌, List, [], ◌∷◌, ◌++◌, ◌||◌, length, IfOk, true};
+ghost use Rattle.std.specs.Prelude.{◌≡◌, ℕ, ◌<◌, ◌⊎◌, List, [], ◌∷◌, ◌++◌, ◌||◌, length, IfOk, true};
 ghost use Rattle.sd_value.specs.declared.Term.{Term};
 ghost use Rattle.page_spec.specs.declared.Outcome.{Outcome};
 ghost use Rattle.page_spec.specs.Address.{TermOf};
@@ -13,6 +13,7 @@ ghost use Rattle.serving_spec.specs.Shown.{shown_in};
 ghost use Rattle.hub.specs.Turns.{IsPieceServed, IsFinished, IsUnopened, IsAnswered, IsSent};
 
 use address::term_of;
+use edge_io::Failed;
 use http_reply::{Reading, no_memory_reply, reply};
 use http_spec::{ParsedRequest, RequestKind, Standing};
 use page_spec::Outcome;
@@ -66,7 +67,7 @@ impl Connection {
         made: &mut u64,
         number: u64,
         wire: &mut W,
-    ) -> Standing
+    ) -> Result<Standing, Failed>
         requires own { P.Own pages.old }
         ensures own { P.Own pages.new }
         ensures state { P.state pages.new ≡ P.state pages.old }
@@ -89,7 +90,7 @@ impl Connection {
             let fed = self.reading.feed(&piece[from..]);
             from += fed.taken;
             let Some(ask) = fed.ask else {
-                return Standing::Open;
+                return Ok(Standing::Open);
             };
             let last = self.left == 1;
             match answer(
@@ -103,13 +104,13 @@ impl Connection {
                 number,
                 wire,
             ) {
-                Standing::Open => self.left -= 1,
-                Standing::Closed => return Standing::Closed,
-                Standing::Short => return Standing::Short,
-                Standing::Lost => return Standing::Lost,
+                Ok(Standing::Open) => self.left -= 1,
+                Ok(Standing::Closed) => return Ok(Standing::Closed),
+                Ok(Standing::Short) => return Ok(Standing::Short),
+                Err(failed) => return Err(failed),
             }
         }
-        Standing::Open
+        Ok(Standing::Open)
     }
 
     /// Takes the end of the bytes, and sends a 400 where the rest is more than line ends.
@@ -122,7 +123,7 @@ impl Connection {
         made: &mut u64,
         number: u64,
         wire: &mut W,
-    ) -> Standing
+    ) -> Result<Standing, Failed>
         requires own { P.Own pages.old }
         ensures own { P.Own pages.new }
         ensures state { P.state pages.new ≡ P.state pages.old }
@@ -140,7 +141,7 @@ impl Connection {
             (W.told wire.new).account }
     {
         let Some(ask) = self.reading.end() else {
-            return Standing::Closed;
+            return Ok(Standing::Closed);
         };
         answer(alloc, &ask, &[], true, root, pages, made, number, wire)
     }
@@ -158,7 +159,7 @@ pub(crate) fn answer<P: Versions, W: Wire>(
     made: &mut u64,
     number: u64,
     wire: &mut W,
-) -> Standing
+) -> Result<Standing, Failed>
     requires own { P.Own pages.old }
     ensures own { P.Own pages.new }
     ensures state { P.state pages.new ≡ P.state pages.old }
@@ -195,7 +196,7 @@ fn closes(ask: &ParsedRequest, last: bool) -> bool
 
 /// Sends a reply.
 #[tactic(auto, using(crate::proofs::NotedLemmas::noted_sent, crate::proofs::NotedLemmas::noted_cut))]
-fn send<W: Wire>(reply: &[u8], close: bool, number: u64, wire: &mut W) -> Standing
+fn send<W: Wire>(reply: &[u8], close: bool, number: u64, wire: &mut W) -> Result<Standing, Failed>
     ensures others { OtherAccountsStay number (W.told wire.old) (W.told wire.new) }
     ensures others_fine { OtherFaultsStay number (W.told wire.old) (W.told wire.new) }
     ensures sent { IsSent close reply.now result ((W.told wire.old).account number)
@@ -205,18 +206,18 @@ fn send<W: Wire>(reply: &[u8], close: bool, number: u64, wire: &mut W) -> Standi
     ensures noted { Noted (W.trace wire.old) (W.trace wire.new) (W.told wire.old).account
         (W.told wire.new).account }
 {
-    match wire.send(number, reply) {
-        Err(_) => Standing::Lost,
-        Ok(()) if close => Standing::Closed,
-        Ok(()) => Standing::Open,
+    wire.send(number, reply)?;
+    if close {
+        Ok(Standing::Closed)
+    } else {
+        Ok(Standing::Open)
     }
 }
 
 /// Sends the reply that reports out of memory.
-pub(crate) fn cut_short<W: Wire>(number: u64, wire: &mut W) -> Standing
+pub(crate) fn cut_short<W: Wire>(number: u64, wire: &mut W) -> Result<Standing, Failed>
     ensures others { OtherAccountsStay number (W.told wire.old) (W.told wire.new) }
     ensures others_fine { OtherFaultsStay number (W.told wire.old) (W.told wire.new) }
-    ensures over { result ≢ Standing.Open }
     ensures sent { IsUnopened result ((W.told wire.old).account number)
         ((W.told wire.new).account number) ((W.told wire.old).faults number)
         ((W.told wire.new).faults number) }
@@ -224,10 +225,8 @@ pub(crate) fn cut_short<W: Wire>(number: u64, wire: &mut W) -> Standing
     ensures noted { Noted (W.trace wire.old) (W.trace wire.new) (W.told wire.old).account
         (W.told wire.new).account }
 {
-    match wire.send(number, no_memory_reply()) {
-        Ok(()) => Standing::Short,
-        Err(_) => Standing::Lost,
-    }
+    wire.send(number, no_memory_reply())?;
+    Ok(Standing::Short)
 }
 
 /// The reply to one ask.

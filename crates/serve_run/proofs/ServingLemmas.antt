@@ -1,20 +1,21 @@
 -- A run over pages that stand still, in words that name no hub.
-use Rattle.std.proofs.Common.{◌≡◌, ◌<◌, ◌≤◌, ◌+◌, ◌⊎◌, ◌||◌, All, take, get_or, flat_map, arith, ℕ, Bool, true, false, List, [], ◌∷◌, ◌++◌, length, refl, sym, ap, ◌∙◌, subst, inl, inr, Option, Some, None, append-nil, if◌then◌else◌}
+use Rattle.std.proofs.Common.{◌≡◌, ◌<◌, ◌≤◌, ◌+◌, ◌⊎◌, ◌||◌, take, get_or, flat_map, arith, ℕ, Bool, true, false, List, [], ◌∷◌, ◌++◌, length, refl, sym, ap, ◌∙◌, subst, inl, inr, Option, Some, None, append-nil, if◌then◌else◌}
 use Rattle.std.specs.List.{fold, list_any}
 use Rattle.std.proofs.lemmas.Grind.{flat_map-append}
 use Rattle.std.proofs.lemmas.List.{take_more}
-use Rattle.std.proofs.lemmas.List.Elements.{All-push}
 use Rattle.sd_value.specs.declared.Term.{Term}
 use Rattle.tmpl.specs.Body.{TemplateFile}
 use Rattle.page_spec.specs.Site.{Site}
 use Rattle.page_spec.specs.Address.{TermOf}
+use Rattle.mem_wire.specs.Sent.{Sent}
+use Rattle.mem_wire.specs.WireInMemory.{account_of, taken_of}
 use Rattle.wire.specs.Accounts.{up, up_by}
 use Rattle.wire.specs.Events.{add_event, is_done, IsDrawn}
 use Rattle.wire.specs.Told.{WireReport}
 use Rattle.happenings.specs.Happening.{Happening}
 use Rattle.happenings.specs.declared.event.WireEvent.{WireEvent}
 use Rattle.happenings.specs.declared.event.WireEvent.TheVariants.{Opened, Bytes, Ended, Lost, Change, Done}
-use Rattle.serving_spec.specs.Changes.{Changes, data_at, texts_in, refused_in, AllKept}
+use Rattle.serving_spec.specs.Changes.{Changes, state_after, texts_in, refused_in, AllKept}
 use Rattle.serving_spec.specs.Looks.{Kept}
 use Rattle.hub.specs.Course.{Scene, Rules, PassesAll, IsCourse, Happens}
 use Rattle.hub.specs.HubState.{scene, HubState, line_of}
@@ -23,14 +24,16 @@ use Rattle.serving_spec.specs.Inputs.{Input, Unopened, moment_after, input_of}
 use Rattle.hub.specs.Moments.{Stands}
 use Rattle.serving_spec.specs.RunEnds.{EndsRun}
 use Rattle.serving_spec.specs.Shown.{shown_in}
+use Rattle.http_spec.specs.Sessions.{OutcomeAt}
 use Rattle.hub.specs.Turns.{seen_of, at_in}
 use Rattle.serving_spec.specs.Openings.{counts, greatest_after, opened_after, opens, opened_from, opened_in}
 use Rattle.serving_spec.specs.declared.Tally.{Tally}
 use Rattle.serving_spec.specs.declared.HubEnd.{HubEnd}
 use Rattle.serving_spec.specs.declared.HubEnd.TheVariants.{Done as Finished, WireFailed, TurnsSpent, NoMemory}
 use Rattle.serving_spec.specs.Sent.{seen, IsServed}
-use Rattle.serving_spec.specs.Counted.{no_counts, IsCounted, counts_from}
-use Rattle.serving_spec.specs.Serving.{none_kept, placed_input, Tallied, Serves}
+use Rattle.serving_spec.specs.Counted.{Counts, no_counts, IsCounted, made_of}
+use Rattle.serving_spec.specs.Serving.{When, after_when, first_when, none_kept, Tallied, Serves}
+use Rattle.serve_run.specs.Texts.{bytes_taken}
 use Rattle.serve_run.specs.Steps.{at, run_rules, TalliedInSteps, ServesInSteps, HappensInSteps}
 use Rattle.serve_run.proofs.CountLemmas.{served_of, counted_of, plain_served, After, steps_of, Whole, whole}
 
@@ -64,21 +67,21 @@ module _ {P D : Type 0} (old new : HubState P) (root : Option (List ℕ)) (site 
     (course : IsCourse (run_rules old.root site templates texts) old.limit end (scene state cache old before.account before.faults) events (scene state cache new after.account after.faults) trace)
     (stands : (number : ℕ) → line_of old number ≡ None
     → Stands (shown_in old.root site templates) (TermOf old.root) old.limit number
-    (moment_after texts.changed number (record { current = state old.pages; greatest = old.greatest; input = Unopened }) events)
+    (moment_after (state_after texts.changed) number (record { current = state old.pages; greatest = old.greatest; input = Unopened }) events)
     (at_in (line_of old) before.account before.faults number) (at_in (line_of new) after.account after.faults number))
     (none : (number : ℕ) → line_of old number ≡ None) (root_is : old.root ≡ root) (limit_is : old.limit ≡ requests) (state_is : state old.pages ≡ start)
     (greatest_is : old.greatest ≡ None) (opened_is : old.opened ≡ 0) (replies_is : old.replies ≡ 0) (changes_is : old.changes ≡ 0) (refused_is : old.refused ≡ 0)
     (cache_is : cache old.pages ≡ record { capacity = capacity; terms = []; hits = 0 })
     (tally_is : tally ≡ record { connections = new.opened; replies = new.replies; hits = (cache new.pages).hits; changes = new.changes; refused = new.refused }) where
-  each : (number : ℕ) → IsServed (shown_in root site templates) requests (input_of texts.changed start number events) (seen before number) (seen after number)
+  each : (number : ℕ) → IsServed (shown_in root site templates) requests (input_of (state_after texts.changed) start number events) (seen before number) (seen after number)
   each number =
-      let from : D → Option ℕ → Input D = λ current greatest. (moment_after texts.changed number (record { current = current; greatest = greatest; input = Unopened }) events).input in
+      let from : D → Option ℕ → Input D = λ current greatest. (moment_after (state_after texts.changed) number (record { current = current; greatest = greatest; input = Unopened }) events).input in
       let here = stands number (none number) in
       let there = plain_served (shown_in old.root site templates) (TermOf old.root) old.limit here.counted (from (state old.pages) old.greatest) (seen before number) (seen after number)
       (served_of (shown_in old.root site templates) (TermOf old.root) start old.limit here.counted (at_in (line_of old) before.account before.faults number)
       (at_in (line_of new) after.account after.faults number) (from (state old.pages) old.greatest) here.is.stands) in
-      subst (λ r. IsServed (shown_in r site templates) requests (input_of texts.changed start number events) (seen before number) (seen after number)) root_is
-      (subst (λ n. IsServed (shown_in old.root site templates) n (input_of texts.changed start number events) (seen before number) (seen after number)) limit_is
+      subst (λ r. IsServed (shown_in r site templates) requests (input_of (state_after texts.changed) start number events) (seen before number) (seen after number)) root_is
+      (subst (λ n. IsServed (shown_in old.root site templates) n (input_of (state_after texts.changed) start number events) (seen before number) (seen after number)) limit_is
       (subst (λ i. IsServed (shown_in old.root site templates) old.limit i (seen before number) (seen after number))
       (ap (λ d. from d old.greatest) state_is ∙ ap (λ g. from start g) greatest_is) there))
 
@@ -112,21 +115,25 @@ module _ {P D : Type 0} (old new : HubState P) (root : Option (List ℕ)) (site 
   all : Whole (run_rules root site templates texts) requests end first events last
   all = whole (run_rules root site templates texts) requests end first events last trace course_is
 
-  abbrev at_place : List WireEvent → ℕ → D
-  at_place taken = data_at texts.changed start taken
+  made : After root site templates texts requests some first.ats (λ k. record { current = first_when start; greatest = None; input = Unopened }) (λ k. no_counts) (first_when start) all.taken first all.end
+  made = steps_of root site templates texts requests some start all.taken first all.end state_is greatest_is none all.trace all.passes
 
-  made : After root site templates texts requests some (at_place all.taken) first.ats (λ k. record { current = 0; greatest = None; input = Unopened }) (λ k. no_counts) 0 all.taken first all.end
-  made = steps_of root site templates texts requests some (at_place all.taken) all.taken first all.end (λ n. ap (λ d. data_at texts.changed d all.taken n) (sym state_is)) greatest_is none all.trace all.passes
+  abbrev shown : When D → OutcomeAt
+  shown when = shown_in root site templates when.current
+
+  abbrev makes_of : ℕ → Counts (When D)
+  makes_of number = made_of (after_when texts.changed) (first_when start) number all.taken made.makes
+
+  abbrev comes_of : ℕ → Input (When D)
+  comes_of number = input_of (after_when texts.changed) (first_when start) number all.taken
 
   tallied : Tallied root site templates texts start requests capacity before after all.taken tally
   tallied = record {
     makes = made.makes;
     one_each = made.one_each;
     each = λ number.
-        subst (λ a. IsCounted (λ (place : ℕ). shown_in root site templates (at_place all.taken place)) (TermOf root) requests (counts_from number 0 no_counts all.taken made.makes) (placed_input number all.taken) (seen before number) (seen_of a))
-        (sym (all.ats number))
-        (counted_of (λ (place : ℕ). shown_in root site templates (at_place all.taken place)) (TermOf root) 0 requests (counts_from number 0 no_counts all.taken made.makes) (first.ats number) (all.end.ats number) (placed_input number all.taken)
-        (made.stands number).stands);
+        subst (λ a. IsCounted shown (TermOf root) requests (makes_of number) (comes_of number) (seen before number) (seen_of a)) (sym (all.ats number))
+        (counted_of shown (TermOf root) (first_when start) requests (makes_of number) (first.ats number) (all.end.ats number) (comes_of number) (made.stands number).stands);
     connections = ap (λ (t : Tally). t.connections) tally_is ∙ all.opened
         ∙ opened_count (run_rules root site templates texts) requests first all.taken all.end all.trace all.passes
         ∙ ap (λ g. up_by (length (opened_from g all.taken)) old.opened) greatest_is ∙ ap (up_by (length (opened_in all.taken))) opened_is;
@@ -167,7 +174,7 @@ serves_nothing {D} root site templates texts start requests turns capacity wire 
   all_taken = inl refl;
   tally = record {
     makes = [];
-    one_each = refl;
+    one_each = tt;
     each = λ number. (refl, λ is. refl);
     connections = refl;
     replies = refl;
@@ -243,14 +250,16 @@ whole_run turns events drawn left after TurnsSpent told drew (all, none) room fi
     let done = drawn_done events drawn after (subst (λ o. IsDrawn o drawn after) told drew) (omega (arith, all, room)) in
     absurd (let never : true ≡ false = sym done ∙ none in cc)
 
+-- the bytes that a connection took, as they are read and as they are told
+pub taken_is : (entry : Option Sent) → taken_of entry ≡ bytes_taken (account_of entry)
+taken_is None = refl
+taken_is (Some e) = refl
+
 -- the text of one connection more
-pub more_texts : (text_of : ℕ → List ℕ) (Fine : ℕ → Type 0) (opened : List ℕ) (i : ℕ) (old new : List ℕ) → i < length opened
-    → (old ≡ flat_map text_of (take i opened)) × All Fine (take i opened) → new ≡ old ++ text_of (get_or opened i 0) → Fine (get_or opened i 0)
-    → (new ≡ flat_map text_of (take (i + 1) opened)) × All Fine (take (i + 1) opened)
-more_texts text_of Fine opened i old new below (before, each) grows fine =
-    let more = take_more opened i 0 below in (
-      grows ∙ ap (λ t. t ++ text_of (get_or opened i 0)) before
-          ∙ ap (λ t. flat_map text_of (take i opened) ++ t) (sym (append-nil (text_of (get_or opened i 0))))
-          ∙ sym (flat_map-append text_of (take i opened) (get_or opened i 0 ∷ [])) ∙ ap (flat_map text_of) (sym more),
-      subst (All Fine) (sym more) (All-push Fine (take i opened) (get_or opened i 0) each fine),
-    )
+pub more_texts : (text_of : ℕ → List ℕ) (opened : List ℕ) (i : ℕ) (old new : List ℕ) → i < length opened
+    → old ≡ flat_map text_of (take i opened) → new ≡ old ++ text_of (get_or opened i 0) → new ≡ flat_map text_of (take (i + 1) opened)
+more_texts text_of opened i old new below before grows =
+    let more = take_more opened i 0 below in
+    grows ∙ ap (λ t. t ++ text_of (get_or opened i 0)) before
+    ∙ ap (λ t. flat_map text_of (take i opened) ++ t) (sym (append-nil (text_of (get_or opened i 0))))
+    ∙ sym (flat_map-append text_of (take i opened) (get_or opened i 0 ∷ [])) ∙ ap (flat_map text_of) (sym more)
