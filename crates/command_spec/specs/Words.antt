@@ -1,13 +1,13 @@
 -- Which words give a command.
-use Rattle.std.specs.Prelude.{ℕ, suc, ◌+◌, List, [], ◌∷◌, ◌++◌, take, drop, Bool, true, false, ◌&&◌, ◌||◌, not}
+use Rattle.std.specs.Prelude.{ℕ, suc, ◌+◌, ◌==◌, List, [], ◌∷◌, ◌++◌, take, drop, Bool, true, false, ◌&&◌, ◌||◌, not}
 use Rattle.std.specs.Prelude.{Option, None, Some, option_map, option_and_then, if◌then◌else◌, codes}
-use Rattle.std.specs.List.{list_all}
+use Rattle.std.specs.List.{list_all, list_any, slice_split}
 use Rattle.std.specs.Str.{bytes_eq, is_utf8}
 use Rattle.command_spec.specs.Limits.{entry_limit}
 use Rattle.command_spec.specs.declared.numbers.NumberOption.TheVariants.{Port, Connections, Requests}
-use Rattle.command_spec.specs.declared.numbers.NumberOption.TheVariants.{Turns, Cache, Idle, Stall, OpenAtOnce, Every}
-use Rattle.command_spec.specs.declared.options.PathOption.TheVariants.{Watch, Over}
-use Rattle.command_spec.specs.declared.options.ValueOption.TheVariants.{Number, Path}
+use Rattle.command_spec.specs.declared.numbers.NumberOption.TheVariants.{Turns, Cache, CacheBytes, Idle, Stall, OpenAtOnce, Every}
+use Rattle.command_spec.specs.declared.options.TextOption.TheVariants.{Host, Watch, Over}
+use Rattle.command_spec.specs.declared.options.ValueOption.TheVariants as values
 use Rattle.command_spec.specs.declared.rows.CommandName.{CommandName}
 use Rattle.command_spec.specs.declared.rows.CommandName.TheVariants as names
 use Rattle.command_spec.specs.declared.rows.Flags.{Flags}
@@ -134,22 +134,25 @@ version_command words = None
 
 -- the words of `serve`, its options aside
 abbrev pub serve_command
-    : ServeOptions → Option WatchOptions → Bool → Option (List ℕ) → List (List ℕ) → Option Command
-serve_command options watch lenient over (query ∷ templates ∷ source ∷ sources) =
+    : ServeOptions → (hosts : Option (List ℕ)) → Option WatchOptions → Bool
+    → (over : Option (List ℕ)) → List (List ℕ) → Option Command
+serve_command options hosts watch lenient over (query ∷ templates ∷ source ∷ sources) =
     Some (Serve (record {
       query = query;
       templates = templates;
       sources = data_files lenient (source ∷ sources);
       over = over;
       options = options;
+      hosts = hosts;
       watch = watch;
     }))
-serve_command options watch lenient over words = None
+serve_command options hosts watch lenient over words = None
 
 -- the words of `replay`, its options aside
 abbrev pub replay_command
-    : RunLimits → Bool → Option (List ℕ) → List (List ℕ) → Option Command
-replay_command limits lenient over (query ∷ templates ∷ script ∷ source ∷ sources) =
+    : RunLimits → (hosts : Option (List ℕ)) → Bool → (over : Option (List ℕ)) → List (List ℕ)
+    → Option Command
+replay_command limits hosts lenient over (query ∷ templates ∷ script ∷ source ∷ sources) =
     Some (Replay (record {
       query = query;
       templates = templates;
@@ -157,8 +160,9 @@ replay_command limits lenient over (query ∷ templates ∷ script ∷ source �
       sources = data_files lenient (source ∷ sources);
       over = over;
       limits = limits;
+      hosts = hosts;
     }))
-replay_command limits lenient over words = None
+replay_command limits hosts lenient over words = None
 
 -- ---- options
 
@@ -168,7 +172,8 @@ run_limits given = do
   requests ← number_of Requests given
   turns ← number_of Turns given
   cache ← number_of Cache given
-  Some (record { requests = requests; turns = turns; cache = cache })
+  cache_bytes ← number_of CacheBytes given
+  Some (record { requests = requests; turns = turns; cache = cache; cache_bytes = cache_bytes })
 
 -- how long `serve` waits for a connection, and for how many at once
 abbrev pub serve_waits : Given → Option ServeWaits
@@ -203,24 +208,40 @@ watch_by (Some path) text =
 
 -- the file that `serve` watches
 abbrev pub serve_watch : Given → Option (Option WatchOptions)
-serve_watch given = watch_by (given (Path Watch)) (given (Number Every))
+serve_watch given = watch_by (given (values.Text Watch)) (given (values.Number Every))
+
+-- whether the byte is a comma
+abbrev pub is_comma : ℕ → Bool
+is_comma byte = byte == 44
+
+-- the hosts of the text of `--host`, none of which is empty between the commas, if it is given
+abbrev pub hosts_by : Option (List ℕ) → Option (Option (List ℕ))
+hosts_by None = Some None
+hosts_by (Some text) =
+    if list_any is_empty (slice_split is_comma text) then None else Some (Some text)
+
+-- the hosts whose requests are answered, if not all
+abbrev pub given_hosts : Given → Option (Option (List ℕ))
+given_hosts given = hosts_by (given (values.Text Host))
 
 -- the file of the first query, if there is one
 abbrev pub first_query : Given → Option (List ℕ)
-first_query given = given (Path Over)
+first_query given = given (values.Text Over)
 
 -- `serve` with these options and words
 abbrev pub serve_with_words : Flags → Given → List (List ℕ) → Option Command
 serve_with_words flags given words = do
   options ← serve_options flags.own given
+  hosts ← given_hosts given
   watch ← serve_watch given
-  serve_command options watch flags.lenient (first_query given) words
+  serve_command options hosts watch flags.lenient (first_query given) words
 
 -- `replay` with these options and words
 abbrev pub replay_with_words : Flags → Given → List (List ℕ) → Option Command
 replay_with_words flags given words = do
   limits ← run_limits given
-  replay_command limits flags.lenient (first_query given) words
+  hosts ← given_hosts given
+  replay_command limits hosts flags.lenient (first_query given) words
 
 -- the command of this name with these flags, options and words
 abbrev pub command_of : CommandName → Flags → Given → List (List ℕ) → Option Command

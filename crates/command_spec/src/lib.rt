@@ -12,7 +12,7 @@ mod rows;
 
 pub use limits::{DATA_LIMIT, SCRIPT_LIMIT, TEXT_LIMIT};
 pub use numbers::NumberOption;
-pub use options::{PathOption, ValueOption};
+pub use options::{TextOption, ValueOption};
 pub use rows::{CommandName, CommandRow, Flags};
 use sd_value::{NoMemory, Str};
 use std::alloc::Global;
@@ -152,6 +152,8 @@ pub struct RunLimits {
     pub turns: u64,
     /// Pages that are kept, 1 to 4,096.
     pub cache: u32,
+    /// Their bytes together, 1 to 4,294,967,296.
+    pub cache_bytes: u64,
 }
 
 /// How long `serve` waits for a connection, in milliseconds, and for how many at once.
@@ -195,6 +197,8 @@ pub struct ServeCommand {
     /// The file of the first query, as for `page`.
     pub over: Option<Str>,
     pub options: ServeOptions,
+    /// The hosts whose requests are answered, with commas between them; without them all are.
+    pub hosts: Option<Str>,
     /// The file that is watched, if one is.
     pub watch: Option<WatchOptions>,
 }
@@ -209,6 +213,8 @@ pub struct ReplayCommand {
     /// The file of the first query, as for `page`.
     pub over: Option<Str>,
     pub limits: RunLimits,
+    /// The hosts, as for `serve`.
+    pub hosts: Option<Str>,
 }
 
 /// `trial N`: requests for the pages of a site of made data are served, and counted.

@@ -1,7 +1,7 @@
 -- What a connection is sent for what came of it.
 use Rattle.std.specs.Prelude.{◌≡◌, ℕ, Bool, true, false, List, [], ◌++◌, Option}
 use Rattle.http_spec.specs.declared.Standing.{Standing}
-use Rattle.http_spec.specs.Sessions.{OutcomeAt, HasAnswer}
+use Rattle.http_spec.specs.Sessions.{Showing, HasAnswer}
 use Rattle.http_spec.specs.Streams.{Timed}
 use Rattle.wire.specs.Accounts.{Account}
 use Rattle.wire.specs.Told.{WireReport}
@@ -46,5 +46,5 @@ module _ {D : Type 0} (IsAnswer : List (Timed D) → Bool → Standing → List 
   IsServedBy (Over ended stream) first now = SettledBy stream ended first now
 
 -- the same for pages whose data may change, where a connection has at most limit replies
-abbrev pub IsServed : {D : Type 0} → (D → OutcomeAt) → ℕ → Input D → Seen → Seen → Type 0
+abbrev pub IsServed : {D : Type 0} → (D → Showing) → ℕ → Input D → Seen → Seen → Type 0
 IsServed page limit = IsServedBy (HasAnswer page limit)
