@@ -12,7 +12,7 @@ use Rattle.http_spec.specs.declared.Standing.TheVariants.{Open, Closed, Short, L
 use Rattle.http_spec.specs.Asks.{ask_of}
 use Rattle.http_spec.specs.Heads.{IsHead, HasNoHead, Cuts, print_heads}
 use Rattle.http_spec.specs.Replies.{no_memory_bytes, reply_bytes}
-use Rattle.http_spec.specs.Sessions.{OutcomeAt, IsLookedUp, IsReply, IsRefused}
+use Rattle.http_spec.specs.Sessions.{Showing, IsLookedUp, IsReply, IsRefused}
 use Rattle.http_spec.proofs.HeadLemmas.{cuts_unique, cuts_longest}
 use Rattle.wire.specs.Accounts.{Account, gain, close_to}
 use Rattle.hub.specs.Line.{Line}
@@ -66,13 +66,13 @@ opening before after is (inr (Lost, account, not_open, (would, sent, next, some,
     inr (none, λ fine. risen after.faults (subst (λ (a : At). Rose a.faults after.faults) is rose) fine.0)
 
 -- what the connection was sent, and the term that was looked up for it
-pub record Replied (page : OutcomeAt) (Names : List ℕ → Term → Type 0) (target : List ℕ) (made : Made) (account : Option Account) : Type 0 where
+pub record Replied (page : Showing) (Names : List ℕ → Term → Type 0) (target : List ℕ) (made : Made) (account : Option Account) : Type 0 where
   pub outcome : Outcome
   pub is : page target outcome
   pub reply : bytes_taken account ≡ reply_to outcome
   pub named : NamedBy Names target made.terms
 
-module _ (page : OutcomeAt) (Names : List ℕ → Term → Type 0) (target : List ℕ) (askable : IsAskable target) where
+module _ (page : Showing) (Names : List ℕ → Term → Type 0) (target : List ℕ) (askable : IsAskable target) where
   -- where one reply closes a connection, no head is answered by replies that leave it open
   none_answered : (heads : List RequestHead) (replies : List (List ℕ)) → AreReplies page 1 heads replies false → (heads ≡ []) × (replies ≡ [])
   none_answered [] [] h = (refl, refl)
@@ -159,7 +159,7 @@ module _ (page : OutcomeAt) (Names : List ℕ → Term → Type 0) (target : Lis
       served made told.0 told.1 told.2 new told.3 told.4 told.5
 
 -- nothing more is done to a connection that is over
-pub passed_over : (page : OutcomeAt) (Names : List ℕ → Term → Type 0) (bytes : List ℕ) (made : Made) (old new : At) → old.line ≡ None → TakesPiece page Names bytes made old.line old new → (new ≡ old) × (made ≡ nothing)
+pub passed_over : (page : Showing) (Names : List ℕ → Term → Type 0) (bytes : List ℕ) (made : Made) (old new : At) → old.line ≡ None → TakesPiece page Names bytes made old.line old new → (new ≡ old) × (made ≡ nothing)
 passed_over page Names bytes made old new over takes = subst (λ line. TakesPiece page Names bytes made line old new) over takes
 
 pub finished : (made : Made) (old new : At) → old.line ≡ None → Finishes made old.line old new → (new ≡ old) × (made ≡ nothing)

@@ -6,7 +6,7 @@ use Rattle.sd_value.specs.declared.Term.{Term}
 use Rattle.http_spec.specs.declared.Standing.{Standing}
 use Rattle.http_spec.specs.declared.Standing.TheVariants.{Open, Closed, Short, Lost}
 use Rattle.http_spec.specs.Replies.{no_memory_bytes}
-use Rattle.http_spec.specs.Sessions.{OutcomeAt}
+use Rattle.http_spec.specs.Sessions.{Showing}
 use Rattle.http_spec.specs.Streams.{Timed, timed}
 use Rattle.http_spec.proofs.HeadLemmas.{no_head_nil}
 use Rattle.wire.specs.Accounts.{Account, up_by}
@@ -24,7 +24,7 @@ use Rattle.serving_spec.specs.Openings.{counts}
 use Rattle.hub.proofs.StandLemmas.{settled_later, settled_over, delivered_map, delivered_on, open_more, answer_more, front_more, end_more, front_end, so_far}
 
 -- memory was missing for the connection
-settled_unopened : {D : Type 0} (page : D → OutcomeAt) (Names : List ℕ → Term → Type 0) (limit : ℕ) (standing : Standing) (account : Option Account) (first now : At) → IsUnopened standing first.account account first.faults now.faults
+settled_unopened : {D : Type 0} (page : D → Showing) (Names : List ℕ → Term → Type 0) (limit : ℕ) (standing : Standing) (account : Option Account) (first now : At) → IsUnopened standing first.account account first.faults now.faults
     → now.account ≡ closing standing account → (standing ≢ Open) → (s : SettledAt page Names limit no_counts [] false first now) × (s.standing ≢ Open)
 settled_unopened page Names limit standing account first now sent closed over = (
   record {
@@ -41,7 +41,7 @@ settled_unopened page Names limit standing account first now sent closed over = 
 )
 
 -- the connection is opened
-turn_opens : {D : Type 0} (page : D → OutcomeAt) (Names : List ℕ → Term → Type 0) (limit : ℕ) (first before after : At) → 0 < limit → before ≡ first → Opens limit before after → StandsComing page Names limit no_counts [] after.line first after
+turn_opens : {D : Type 0} (page : D → Showing) (Names : List ℕ → Term → Type 0) (limit : ℕ) (first before after : At) → 0 < limit → before ≡ first → Opens limit before after → StandsComing page Names limit no_counts [] after.line first after
 turn_opens page Names limit first before after some same (inl opened) =
     subst (λ (a : At). StandsComing page Names limit no_counts [] a.line first a) (sym opened) record {
       requests = [];
@@ -71,7 +71,7 @@ counts_same {D} counted d made none =
     ap (λ (m : Made). counts_with counted d m) none ∙ still
 
 -- a piece of an open connection
-piece_open : {D : Type 0} (page : D → OutcomeAt) (Names : List ℕ → Term → Type 0) (made : Made) (d : D) (limit : ℕ) (counted : Counts D) (stream : List (Timed D)) (piece : List ℕ) (line : Line) (first before after : At) (standing : Standing) (held : Line)
+piece_open : {D : Type 0} (page : D → Showing) (Names : List ℕ → Term → Type 0) (made : Made) (d : D) (limit : ℕ) (counted : Counts D) (stream : List (Timed D)) (piece : List ℕ) (line : Line) (first before after : At) (standing : Standing) (held : Line)
     (account : Option Account) → IsOpenAt page Names limit counted stream line first before
     → IsPieceServed (page d) Names line piece made standing held before.account account before.faults after.faults
     → after.account ≡ closing standing account → after.line ≡ kept_after standing held
@@ -120,7 +120,7 @@ piece_open page Names made d limit counted stream piece line first before after 
     )
 
 -- a piece
-turn_piece : {D : Type 0} (page : D → OutcomeAt) (Names : List ℕ → Term → Type 0) (made : Made) (d : D) (limit : ℕ) (counted : Counts D) (piece : List ℕ) (input : Input D) (line : Option Line) (first before after : At) → before.line ≡ line
+turn_piece : {D : Type 0} (page : D → Showing) (Names : List ℕ → Term → Type 0) (made : Made) (d : D) (limit : ℕ) (counted : Counts D) (piece : List ℕ) (input : Input D) (line : Option Line) (first before after : At) → before.line ≡ line
     → StandsFor page Names limit counted input first before → TakesPiece (page d) Names piece made line before after
     → StandsFor page Names limit (counts_with counted d made) (more_of (timed d piece) input) first after
 turn_piece {D} page Names made d limit counted piece input None first before after is stands (same, none) =
@@ -143,7 +143,7 @@ turn_piece {D} page Names made d limit counted piece (Over ended stream) (Some l
     absurd (let never : None ≡ Some line = sym stands.0 ∙ is in cc)
 
 -- the end of an open connection's input
-finish_open : {D : Type 0} (page : D → OutcomeAt) (Names : List ℕ → Term → Type 0) (made : Made) (d : D) (limit : ℕ) (counted : Counts D) (stream : List (Timed D)) (line : Line) (first before after : At) (standing : Standing) (account : Option Account)
+finish_open : {D : Type 0} (page : D → Showing) (Names : List ℕ → Term → Type 0) (made : Made) (d : D) (limit : ℕ) (counted : Counts D) (stream : List (Timed D)) (line : Line) (first before after : At) (standing : Standing) (account : Option Account)
     → IsOpenAt page Names limit counted stream line first before → IsFinished line.rest made standing before.account account before.faults after.faults
     → after.account ≡ closing standing account → SettledAt page Names limit (counts_with counted d made) stream true first after
 finish_open page Names made d limit counted stream line first before after standing account open_at sent closed = record {
@@ -156,7 +156,7 @@ finish_open page Names made d limit counted stream line first before after stand
   closed = closed;
 }
 
-turn_end : {D : Type 0} (page : D → OutcomeAt) (Names : List ℕ → Term → Type 0) (made : Made) (d : D) (limit : ℕ) (counted : Counts D) (input : Input D) (line : Option Line) (first before after : At) → before.line ≡ line
+turn_end : {D : Type 0} (page : D → Showing) (Names : List ℕ → Term → Type 0) (made : Made) (d : D) (limit : ℕ) (counted : Counts D) (input : Input D) (line : Option Line) (first before after : At) → before.line ≡ line
     → StandsFor page Names limit counted input first before → Finishes made line before after → StandsFor page Names limit (counts_with counted d made) (over_of true input) first after
 turn_end {D} page Names made d limit counted input None first before after is stands (same, none) =
     subst (λ c. StandsFor page Names limit c (over_of true input) first after) (sym (counts_same counted d made none))
@@ -179,7 +179,7 @@ turn_end {D} page Names made d limit counted (Over ended stream) (Some line) fir
 abbrev gone_from : At → At
 gone_from a = record { line = None; account = a.account; faults = a.faults }
 
-turn_lost : {D : Type 0} (page : D → OutcomeAt) (Names : List ℕ → Term → Type 0) (d : D) (limit : ℕ) (counted : Counts D) (input : Input D) (line : Option Line) (first before after : At) → before.line ≡ line
+turn_lost : {D : Type 0} (page : D → Showing) (Names : List ℕ → Term → Type 0) (d : D) (limit : ℕ) (counted : Counts D) (input : Input D) (line : Option Line) (first before after : At) → before.line ≡ line
     → StandsFor page Names limit counted input first before → after ≡ gone_from before → StandsFor page Names limit counted (over_of false input) first after
 turn_lost {D} page Names d limit counted input line first before after is stands same =
     subst (λ a. StandsFor page Names limit counted (over_of false input) first a) (sym same) (by_input input line is stands)
@@ -230,7 +230,7 @@ not_below number None counted below = below
 not_below number (Some greatest) counted below = grind (arith, nat_tests)
 
 -- a number that counts was not opened before
-first_time : {D : Type 0} (page : D → OutcomeAt) (Names : List ℕ → Term → Type 0) (limit number : ℕ) (counted : Counts D) (greatest : Option ℕ) (input : Input D) (first before : At) → counts greatest number ≡ true → WasOpened number greatest input
+first_time : {D : Type 0} (page : D → Showing) (Names : List ℕ → Term → Type 0) (limit number : ℕ) (counted : Counts D) (greatest : Option ℕ) (input : Input D) (first before : At) → counts greatest number ≡ true → WasOpened number greatest input
     → StandsFor page Names limit counted input first before → (before ≡ first) × (counted ≡ no_counts)
 first_time page Names limit number counted greatest Unopened first before fresh was stands = (stands.1, stands.2)
 first_time page Names limit number counted greatest (Coming stream) first before fresh was stands = absurd (not_below number greatest fresh was)
@@ -257,7 +257,7 @@ other true X Y e x = cc
 other false X Y e y = y
 
 -- One event more.
-module _ {D : Type 0} (page : D → OutcomeAt) (Names : List ℕ → Term → Type 0) (changed : D → List ℕ → D) (limit k : ℕ) (m : Moment D) (counted : Counts D) (first : At) (made : Made) (before after : ℕ → At) (some : 0 < limit)
+module _ {D : Type 0} (page : D → Showing) (Names : List ℕ → Term → Type 0) (changed : D → List ℕ → D) (limit k : ℕ) (m : Moment D) (counted : Counts D) (first : At) (made : Made) (before after : ℕ → At) (some : 0 < limit)
     (stands : CountedStands page Names limit k m counted first (before k)) where
   abbrev counted_then : Counts D
   counted_then = counts_with counted m.current made
@@ -345,7 +345,7 @@ module _ {D : Type 0} (page : D → OutcomeAt) (Names : List ℕ → Term → Ty
   stands_turn Done (turned, none) = stays_so m refl refl (turned k)
 
 -- what an event does and makes, told of the event as it is written
-pub told_at : {C : Type 0} (page : OutcomeAt) (Names : List ℕ → Term → Type 0) (limit : ℕ) (greatest : Option ℕ) (e x : WireEvent) (made : Made) (before after : ℕ → At) (replies later : ℕ)
+pub told_at : {C : Type 0} (page : Showing) (Names : List ℕ → Term → Type 0) (limit : ℕ) (greatest : Option ℕ) (e x : WireEvent) (made : Made) (before after : ℕ → At) (replies later : ℕ)
     (Looks : C → Term → C → Type 0) (Renews : List ℕ → C → C → Type 0) (cache now : C) (A : Type 0) → e ≡ x
     → Turned page Names limit greatest x made before after → later ≡ up_by made.replies replies → (A → Keeps Looks Renews x made cache now)
     → (m : Made) × Turned page Names limit greatest e m before after × (later ≡ up_by m.replies replies) × (A → Keeps Looks Renews e m cache now)

@@ -13,7 +13,7 @@ use Rattle.http_spec.specs.declared.Standing.TheVariants.{Open, Closed, Short}
 use Rattle.http_spec.specs.Asks.{ask_of}
 use Rattle.http_spec.specs.Heads.{max_head, IsHead, HasNoHead}
 use Rattle.http_spec.specs.Replies.{reply_bytes}
-use Rattle.http_spec.specs.Sessions.{OutcomeAt, IsLookedUp, IsReply, closes_after, HasReplies, refusal, Ends}
+use Rattle.http_spec.specs.Sessions.{Showing, IsLookedUp, IsReply, closes_after, HasReplies, refusal, Ends}
 use Rattle.http_spec.specs.Sessions.{AnswersStream}
 use Rattle.http_spec.specs.Streams.{Timed, Request, bytes_in, IsCutTo}
 use Rattle.site_graphs.proofs.Decide.{yes, no}
@@ -91,7 +91,7 @@ end_of ended rest closed (inr h) =
       | no many ↦ too_long ended rest closed h.0 h.1 (let long : max_head ≤ length rest = omega (arith, many) in long)
     ]
 
-module _ {D : Type 0} (page : D → OutcomeAt)
+module _ {D : Type 0} (page : D → Showing)
     (some : (current : D) (target : List ℕ) → (o : Outcome) × page current target o) where
   -- ---- the replies to heads
 

@@ -4,7 +4,7 @@
 ghost use Rattle.std.specs.Prelude.{◌≡◌, ◌<◌, ◌⊎◌, ℕ, List, [], length, Some, None, false, IfOk};
 ghost use Rattle.edge_io.specs.Counts.{Rose};
 ghost use Rattle.page_spec.specs.Page.{IsOutcome};
-ghost use Rattle.page_cache.specs.Entries.{AreKept};
+ghost use Rattle.page_cache.specs.Entries.{AreSound};
 ghost use Rattle.happenings.specs.declared.event.WireEvent.{WireEvent};
 ghost use Rattle.hub.specs.HubState.{line_of};
 ghost use Rattle.serving_spec.specs.Serving.{Serves};
@@ -18,8 +18,9 @@ use hub::{Hub, serve};
 pub use opened::opened_in;
 use page_cache::Cached;
 pub use puts::{put_anyway, put_end};
-use sd_value::{NoMemory, Str};
+use sd_value::NoMemory;
 pub use serving_spec::Served;
+pub use serving_spec::{CacheRoom, Origin};
 use serving_spec::{HubEnd, Tally};
 use std::alloc::Global;
 use std::num::NonZeroUsize;
@@ -36,30 +37,30 @@ pub const NO_TALLY: Tally = Tally {
     refused: 0,
 };
 
-/// Serves pages to the connections of a wire, at most `turns` events, and at most `requests` replies to each connection. `root` is
-/// the function of the term for `/`. At most `cache` pages are kept. It never calls `listen` and `watch`. Where the wire
+/// Serves pages to the connections of a wire, at most `turns` events, and at most `requests` replies to each connection. The
+/// run answers for the origin. There is this room for pages that are kept. It never calls `listen` and `watch`. Where the wire
 /// reports the events that it will give, and there is a turn for each and one for `Done`, nothing but a fault of the wire or
 /// out of memory ends the run before.
 pub fn serve_pages<P: Versions + Drop, W: Wire>(
     alloc: Global,
     pages: P,
-    root: Option<Str>,
+    origin: Origin,
     requests: u64,
     turns: u64,
-    cache: u64,
+    room: CacheRoom,
     wire: &mut W,
 ) -> Served
     requires own { P.Own pages }
     requires requests { 0 < requests }
-    requires cache { 0 < cache }
-    ensures serves { Serves root P.site P.templates
+    requires room { 0 < room.pages }
+    ensures serves { Serves origin P.site P.templates
         (record { changed = P.changed; accepts = P.accepts; stays = P.stays }) (P.state pages)
-        requests turns cache (W.told wire.old) (W.told wire.new) result }
+        requests turns room (W.told wire.old) (W.told wire.new) result }
     // The hub's own steps give more for a run whose events are known. Nothing happens but the events, and what is sent and
     // closed for each before the next is asked for.
-    ensures steps { HappensInSteps root P.site P.templates
+    ensures steps { HappensInSteps origin P.site P.templates
         (record { changed = P.changed; accepts = P.accepts; stays = P.stays }) (P.state pages)
-        requests turns cache (W.told wire.old) (W.told wire.new) result (W.trace wire.old)
+        requests turns room (W.told wire.old) (W.told wire.new) result (W.trace wire.old)
         (W.trace wire.new) }
     ensures listens { (W.told wire.new).listens ≡ (W.told wire.old).listens }
     ensures watches { (W.told wire.new).watches ≡ (W.told wire.old).watches }
@@ -72,7 +73,7 @@ pub fn serve_pages<P: Versions + Drop, W: Wire>(
     ensures fine { (result.end ≡ HubEnd.Done) ⊎ (result.end ≡ HubEnd.TurnsSpent)
         → (W.told wire.new).next_faults ≡ (W.told wire.old).next_faults }
 {
-    match hub_over(alloc, pages, root, requests, cache) {
+    match hub_over(alloc, pages, origin, requests, room) {
         Ok(mut hub) => {
             let end = serve(alloc, &mut hub, wire, turns);
             Served {
@@ -91,29 +92,30 @@ pub fn serve_pages<P: Versions + Drop, W: Wire>(
 fn hub_over<P: Versions + Drop>(
     alloc: Global,
     pages: P,
-    root: Option<Str>,
+    origin: Origin,
     requests: u64,
-    cache: u64,
+    room: CacheRoom,
 ) -> Result<Hub<Cached<P>>, NoMemory>
     requires own { P.Own pages }
     requires requests { 0 < requests }
-    requires cache { 0 < cache }
+    requires room { 0 < room.pages }
     ensures own { IfOk result (λ hub. P.Own hub.pages.pages) }
-    ensures sound { IfOk result (λ hub. AreKept
+    ensures sound { IfOk result (λ hub. AreSound
         (IsOutcome (P.site (P.state hub.pages.pages)) (P.templates (P.state hub.pages.pages)))
-        hub.pages.kept.entries) }
+        hub.pages.kept.entries hub.pages.bytes hub.pages.most) }
     ensures pages { IfOk result (λ hub. hub.pages.pages ≡ pages) }
-    ensures kept { IfOk result (λ hub. (hub.pages.kept.cap ≡ cache) × (hub.pages.kept.entries ≡ [])
+    ensures kept { IfOk result (λ hub. (hub.pages.kept.cap ≡ room.pages)
+        × (hub.pages.most ≡ room.bytes) × (hub.pages.kept.entries ≡ [])
         × (hub.pages.hits ≡ 0)) }
     ensures none { IfOk result (λ hub. (number : ℕ) → line_of hub number ≡ None) }
-    ensures new { IfOk result (λ hub. (hub.root ≡ root) × (hub.limit ≡ requests)
+    ensures new { IfOk result (λ hub. (hub.origin ≡ origin) × (hub.limit ≡ requests)
         × (hub.greatest ≡ None) × (hub.opened ≡ 0) × (hub.replies ≡ 0)
         × (hub.changes ≡ 0) × (hub.refused ≡ 0)) }
     ensures alive { IfOk result (λ hub. hub.spent ≡ false) }
 {
-    let Some(capacity) = NonZeroUsize::new(cache as usize) else {
+    let Some(capacity) = NonZeroUsize::new(room.pages as usize) else {
         return Err(NoMemory);
     };
-    let kept = Cached::of(alloc, pages, capacity)?;
-    Ok(Hub::of(alloc, kept, requests, root))
+    let kept = Cached::of(alloc, pages, capacity, room.bytes)?;
+    Ok(Hub::of(alloc, kept, requests, origin))
 }
