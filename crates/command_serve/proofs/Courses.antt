@@ -3,7 +3,7 @@ use Rattle.std.proofs.Common.{◌≡◌, ◌∙◌, ℕ, Bool, true, false, List
 use Rattle.std.proofs.lemmas.List.{append-nil}
 use Rattle.std.specs.Prelude.{Option, Some, None, Result, Ok, Err, IsSome, is_some, ⊤}
 use Rattle.edge_io.specs.Files.{FileMap}
-use Rattle.happenings.specs.Happening.{Happening, Put, PutFailed, Watched, WatchFailed, Listened, ListenFailed}
+use Rattle.happenings.specs.Happening.{Happening, Put, PutFailed, Watched, WatchFailed, Listened, ListenFailed, Finished}
 use Rattle.happenings.specs.declared.stream.Stream.{Stream}
 use Rattle.wire.specs.Told.{WireReport}
 use Rattle.serving_spec.specs.declared.Served.{Served}
@@ -35,14 +35,18 @@ steps_added : (s : Inputs) (limits : RunLimits) (before after : WireReport) (ser
 steps_added s limits before after served old new (rules, (steps, (last, ending, is))) =
     (steps.tally.trace ++ last, is, (rules, (steps, (last, ending, refl))))
 
+-- turns that are so were added, and then the wire was let finish
+abbrev AddedThenFinished : (before after : List Happening) → (List Happening → Type 0) → Type 0
+AddedThenFinished before after Are = (turns : List Happening) × (after ≡ before ++ (turns ++ Finished ∷ [])) × Are turns
+
 -- the same over a wire to which the log was lent for them
 pub steps_lent : (s : Inputs) (limits : RunLimits) (before lent done after : WireReport) (served : Served) (old given taken new : List Happening)
-    → lent ≡ before → after ≡ done → given ≡ old → new ≡ taken → ServesSiteInSteps s limits lent done served given taken
-    → Added old new (ServesSiteInSteps s limits before after served [])
+    → lent ≡ before → after ≡ done → given ≡ old → new ≡ taken ++ Finished ∷ [] → ServesSiteInSteps s limits lent done served given taken
+    → AddedThenFinished old new (ServesSiteInSteps s limits before after served [])
 steps_lent s limits before lent done after served old given taken new is_before is_after is_given is_taken steps =
     let x = steps_added s limits lent done served given taken steps in (
       x.0,
-      is_taken ∙ x.1 ∙ ap (λ t. t ++ x.0) is_given,
+      is_taken ∙ ap (λ t. t ++ Finished ∷ []) (x.1 ∙ ap (λ t. t ++ x.0) is_given) ∙ append_assoc old x.0 (Finished ∷ []),
       subst (λ (r : WireReport). ServesSiteInSteps s limits r after served [] x.0) is_before
           (subst (λ (r : WireReport). ServesSiteInSteps s limits lent r served [] x.0) (sym is_after) x.2),
     )
@@ -62,11 +66,13 @@ pub counts_short : (stream : Stream) (watches : Bool) (served : Served) (a : Lis
 counts_short stream watches served a = added_none a a (λ p. CountsHappen stream watches served p status.NoMemory) refl (inr (refl, refl))
 
 module _ (s : Inputs) (stream : Stream) (watches : Bool) (options : ServeOptions) (reached : Status) (a b c : List Happening) where
-  pub serves_then : (before after : WireReport) (served : Served) → Added a b (ServesSiteInSteps s options.limits before after served []) → Added b c (λ p. CountsHappen stream watches served p reached)
-      → Added a c (λ p. ServesThenCounts s stream watches options before after p reached)
-  serves_then before after served x y =
-      added_then a b c (ServesSiteInSteps s options.limits before after served []) (λ p. CountsHappen stream watches served p reached) (λ p. ServesThenCounts s stream watches options before after p reached) x y
-      (λ p q steps counts. record { served = served; turns = p; counts = q; part_is = refl; serves = steps; puts = counts })
+  pub serves_then : (before after : WireReport) (served : Served) → AddedThenFinished a b (ServesSiteInSteps s options.limits before after served [])
+      → Added b c (λ p. CountsHappen stream watches served p reached) → Added a c (λ p. ServesThenCounts s stream watches options before after p reached)
+  serves_then before after served x y = (
+    x.0 ++ Finished ∷ y.0,
+    y.1 ∙ ap (λ t. t ++ y.0) x.1 ∙ append_assoc a (x.0 ++ Finished ∷ []) y.0 ∙ ap (λ t. a ++ t) (append_assoc x.0 (Finished ∷ []) y.0),
+    record { served = served; turns = x.0; counts = y.0; part_is = refl; serves = x.2; puts = y.2 },
+  )
 
   -- the port was reported, or not
   pub tells_then : (before after : WireReport) (text : List ℕ) → text ≡ serving_text options.port → b ≡ a ++ Put stream text ∷ []

@@ -1,9 +1,9 @@
 -- What happens in a run of `serve`, in its order: the inputs are read; the wire is let watch, if a file is to be watched, and
--- listen; the port is reported; each event is taken, with what is sent and closed for it before the next; and the counts
--- are put. Each of these only where the one before was done.
+-- listen; the port is reported; each event is taken, with what is sent and closed for it before the next; the wire is let
+-- finish; and the counts are put. Each of these only if the one before was done.
 use Rattle.std.specs.Prelude.{◌≡◌, ◌⊎◌, ℕ, Bool, true, false, List, [], ◌∷◌, ◌++◌, Option, Some, None, Result, Ok, Err, ⊤}
 use Rattle.edge_io.specs.Files.{FileMap}
-use Rattle.happenings.specs.Happening.{Happening, Put, PutFailed, Watched, WatchFailed, Listened, ListenFailed}
+use Rattle.happenings.specs.Happening.{Happening, Put, PutFailed, Watched, WatchFailed, Listened, ListenFailed, Finished}
 use Rattle.happenings.specs.declared.stream.Stream.{Stream}
 use Rattle.wire.specs.Told.{WireReport}
 use Rattle.serving_spec.specs.declared.Served.{Served}
@@ -43,13 +43,13 @@ CountsHappen stream watches served part reached =
 
 -- Over these inputs and options, where the output is this one, and the wire reports this before and after.
 module _ (s : Inputs) (stream : Stream) (watches : Bool) (options : ServeOptions) where
-  -- the site was served, event after event, and then its counts were put
+  -- the site was served, event after event, the wire was let finish, and then the counts were put
   pub record ServesThenCounts (before after : WireReport) (part : List Happening)
       (reached : Status) : Type 0 where
     pub served : Served
     pub turns : List Happening
     pub counts : List Happening
-    pub part_is : part ≡ turns ++ counts
+    pub part_is : part ≡ turns ++ Finished ∷ counts
     pub serves : ServesSiteInSteps s options.limits before after served [] turns
     pub puts : CountsHappen stream watches served counts reached
 

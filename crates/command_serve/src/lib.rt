@@ -6,7 +6,7 @@ ghost use Rattle.std.specs.Prelude.{if◌then◌else◌};
 ghost use Rattle.std.specs.Option.{ForSome};
 ghost use Rattle.edge_io.specs.Counts.{Rose};
 ghost use Rattle.edge_io.specs.Files.{FileMap};
-ghost use Rattle.happenings.specs.Happening.{Happening};
+ghost use Rattle.happenings.specs.Happening.{Happening, Finished};
 ghost use Rattle.serving_spec.specs.declared.HubEnd.TheVariants as end;
 ghost use Rattle.command_spec.specs.Ranges.{AreServeOptions, AreLimits};
 ghost use Rattle.command_spec.specs.Inputs.{data_paths, input_paths};
@@ -119,9 +119,10 @@ fn serve_noted<L: Trace, W: Wire<Log = L>>(
     ensures watches { (W.told wire.new).watches ≡ (W.told wire.old).watches }
     ensures failed { result.end ≡ end.WireFailed
         → Rose (W.told wire.old).next_faults (W.told wire.new).next_faults }
-    ensures course { (part : List Happening) × (L.events log.new ≡ L.events log.old ++ part)
+    ensures course { (turns : List Happening)
+        × (L.events log.new ≡ L.events log.old ++ (turns ++ Finished ∷ []))
         × ServesSiteInSteps (inputs_of inputs) limits.now (W.told wire.old) (W.told wire.new)
-        result [] part }
+        result [] turns }
     ensures lent { W.trace wire.new ≡ W.trace wire.old }
 {
     wire.lend(log);

@@ -28,3 +28,5 @@ pub data Happening : Type 0 where
   SendFailed : (connection : ℕ) (bytes : List ℕ) (taken : ℕ) → Happening
   -- the connection was closed
   Closed : (connection : ℕ) → Happening
+  -- the wire was let send what connections had still to take, and let go of them all
+  Finished : Happening

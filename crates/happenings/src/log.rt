@@ -4,7 +4,7 @@ ghost use Rattle.std.specs.Coded.{coded_list};
 ghost use Rattle.happenings.specs.Coding.{coded_happening, happening_of};
 ghost use Rattle.happenings.specs.Happening.{Happening, Read, ReadFailed, Wrote, WriteFailed, Put, PutFailed};
 ghost use Rattle.happenings.specs.Happening.{Watched, WatchFailed, Listened, ListenFailed, Given, NextFailed};
-ghost use Rattle.happenings.specs.Happening.{Sent, SendFailed, Closed};
+ghost use Rattle.happenings.specs.Happening.{Sent, SendFailed, Closed, Finished};
 
 use crate::event::WireEvent;
 use crate::stream::Stream;
@@ -155,5 +155,12 @@ impl Log {
         ensures { self.new.events ≡ self.old.events ++ Closed connection ∷ [] }
     {
         self.note(&[21, connection], &[], &[]);
+    }
+
+    /// The wire was let send what connections had still to take.
+    pub fn finished(&mut self)
+        ensures { self.new.events ≡ self.old.events ++ Finished ∷ [] }
+    {
+        self.note(&[22], &[], &[]);
     }
 }

@@ -8,7 +8,7 @@ use Rattle.page_spec.specs.declared.Outcome.TheVariants.{Missing}
 use Rattle.http_spec.specs.declared.RequestKind.{RequestKind}
 use Rattle.http_spec.specs.declared.RequestKind.TheVariants.{Get, Head, BadRequest, Misdirected, WrongMethod}
 use Rattle.http_spec.specs.declared.Standing.{Standing}
-use Rattle.http_spec.specs.declared.Standing.TheVariants.{Open, Closed, Short, Lost}
+use Rattle.http_spec.specs.declared.Standing.TheVariants.{Open, Closed, Short}
 use Rattle.http_spec.specs.Asks.{ask_of, bad_request}
 use Rattle.http_spec.specs.Heads.{max_head, ReadsHead, HasNoHead, AreLineEnds, CannotBecomeHead}
 use Rattle.http_spec.specs.Replies.{reply_bytes, no_memory_bytes}
@@ -87,7 +87,6 @@ Ends ended Closed rest closed last =
     ⊎ ((closed ≡ false) × (ended ≡ true) × IsWaiting rest × AreLineEnds rest × (last ≡ []))
 Ends ended Short rest closed last =
     (closed ≡ false) × IsDue ended rest × (last ≡ no_memory_bytes ∷ [])
-Ends ended Lost rest closed last = ⊥
 
 -- over pages whose data may change, and with a limit on the replies of one connection
 module _ {D : Type 0} (page : D → Showing) (limit : ℕ) where

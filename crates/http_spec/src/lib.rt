@@ -33,7 +33,7 @@ pub struct ParsedRequest {
     pub close: bool,
 }
 
-/// The state of a connection.
+/// How an answer leaves its connection.
 #[derive(Clone, Copy, Debug, PartialEq, Eq)]
 pub enum Standing {
     /// More may be sent.
@@ -42,6 +42,4 @@ pub enum Standing {
     Closed,
     /// Memory was missing for a reply, and a 503 is in its place.
     Short,
-    /// A send has failed, or the connection was lost.
-    Lost,
 }

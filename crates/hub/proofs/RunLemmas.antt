@@ -12,6 +12,7 @@ use Rattle.wire.specs.Events.{add_event, is_done, IsNextOf, IsDrawn}
 use Rattle.happenings.specs.Happening.{Happening, Given}
 use Rattle.happenings.specs.declared.event.WireEvent.{WireEvent}
 use Rattle.happenings.specs.declared.event.WireEvent.TheVariants.{Opened, Bytes, Ended, Lost as LostEvent, Change, Done}
+use Rattle.serving_spec.specs.declared.Origin.{Origin}
 use Rattle.hub.specs.Course.{Scene, Rules, Passes, PassesAll, IsCourse, accounts_of}
 use Rattle.hub.specs.HubState.{scene, HubState}
 use Rattle.hub.specs.Line.{Line}
@@ -26,74 +27,50 @@ use Rattle.hub.proofs.TurnLemmas.{stands_turn}
 
 -- where a connection stands after these events, with the current and the greatest number as they are then
 pub record Runs {D : Type 0} (page : D → Showing) (Names : List ℕ → Term → Type 0) (changed : D → List ℕ → D) (limit number : ℕ) (start : Moment D) (events : List WireEvent) (first now : At) (current : D) (greatest : Option ℕ) : Type 0 where
-  pub stands : Stands page Names limit number (moment_after changed number start events) first now
-  pub current_is : (moment_after changed number start events).current ≡ current
-  pub greatest_is : (moment_after changed number start events).greatest ≡ greatest
+  pub stands : Stands page Names limit number (moment_after (state_after changed) number start events) first now
+  pub current_is : (moment_after (state_after changed) number start events).current ≡ current
+  pub greatest_is : (moment_after (state_after changed) number start events).greatest ≡ greatest
 
 pub runs_start : {D : Type 0} (page : D → Showing) (Names : List ℕ → Term → Type 0) (changed : D → List ℕ → D) (limit number : ℕ) (first : At) (current : D) (greatest : Option ℕ) → first.line ≡ None
     → Runs page Names changed limit number (record { current = current; greatest = greatest; input = Unopened }) [] first first current greatest
 runs_start page Names changed limit number first current greatest none =
     record { stands = record { counted = no_counts; is = record { stands = (none, refl, refl); opened = tt } }; current_is = refl; greatest_is = refl }
 
-data_of_event : {D : Type 0} (changed : D → List ℕ → D) (k : ℕ) (m : Moment D) (e : WireEvent) → (after_event changed k m e).current ≡ state_after changed e m.current
-data_of_event changed k m (Opened number) = by_test (counts m.greatest number)
-  where
-    by_test : (t : Bool) → (if t then record { current = m.current; greatest = Some number; input = if number == k then Coming [] else m.input } else m).current ≡ m.current
-    by_test true = refl
-    by_test false = refl
-data_of_event changed k m (Bytes number piece) = refl
-data_of_event changed k m (Ended number) = refl
-data_of_event changed k m (LostEvent number) = refl
-data_of_event changed k m (Change text) = refl
-data_of_event changed k m Done = refl
-
-pub greatest_of_event : {D : Type 0} (changed : D → List ℕ → D) (k : ℕ) (m : Moment D) (e : WireEvent) → (after_event changed k m e).greatest ≡ greatest_after e m.greatest
-greatest_of_event changed k m (Opened number) = by_test (counts m.greatest number)
-  where
-    by_test : (t : Bool) → (if t then record { current = m.current; greatest = Some number; input = if number == k then Coming [] else m.input } else m).greatest ≡ (if t then Some number else m.greatest)
-    by_test true = refl
-    by_test false = refl
-greatest_of_event changed k m (Bytes number piece) = refl
-greatest_of_event changed k m (Ended number) = refl
-greatest_of_event changed k m (LostEvent number) = refl
-greatest_of_event changed k m (Change text) = refl
-greatest_of_event changed k m Done = refl
-
 module _ {D : Type 0} (page : D → Showing) (Names : List ℕ → Term → Type 0) (changed : D → List ℕ → D) (limit k : ℕ) (start : Moment D) (events : List WireEvent) (e : WireEvent) (first : At) (made : Made) where
-  moment_more : moment_after changed k start (events ++ e ∷ []) ≡ after_event changed k (moment_after changed k start events) e
-  moment_more = fold-append (after_event changed k) start events (e ∷ [])
+  moment_more : moment_after (state_after changed) k start (events ++ e ∷ []) ≡ after_event (state_after changed) k (moment_after (state_after changed) k start events) e
+  moment_more = fold-append (after_event (state_after changed) k) start events (e ∷ [])
 
   -- where the event stands for all connections
   pub stands_more : (before after : ℕ → At) (current : D) (greatest : Option ℕ) → 0 < limit → Runs page Names changed limit k start events first (before k) current greatest
-      → Turned (page current) Names limit greatest e made before after → Stands page Names limit k (moment_after changed k start (events ++ e ∷ [])) first (after k)
+      → Turned (page current) Names limit greatest e made before after → Stands page Names limit k (moment_after (state_after changed) k start (events ++ e ∷ [])) first (after k)
   stands_more before after current greatest some runs turned =
-      let m = moment_after changed k start events in
+      let m = moment_after (state_after changed) k start events in
       let here : Turned (page m.current) Names limit m.greatest e made before after =
       subst (λ s. Turned (page s) Names limit m.greatest e made before after) (sym runs.current_is)
       (subst (λ g. Turned (page current) Names limit g e made before after) (sym runs.greatest_is) turned) in
       subst (λ n. Stands page Names limit k n first (after k)) (sym moment_more) record {
         counted = if is_of k e then counts_with runs.stands.counted m.current made else runs.stands.counted;
-        is = stands_turn page Names changed limit k m runs.stands.counted first made before after some runs.stands.is e here;
+        is = stands_turn page Names (state_after changed) limit k m runs.stands.counted first made before after some runs.stands.is e here;
       }
 
   pub runs_more : (before after : ℕ → At) (current now : D) (greatest later : Option ℕ) → 0 < limit → Runs page Names changed limit k start events first (before k) current greatest
       → Turned (page current) Names limit greatest e made before after → now ≡ state_after changed e current → later ≡ greatest_after e greatest
       → Runs page Names changed limit k start (events ++ e ∷ []) first (after k) now later
   runs_more before after current now greatest later some runs turned current_is greatest_is =
-      let m = moment_after changed k start events in
+      let m = moment_after (state_after changed) k start events in
       record {
         stands = stands_more before after current greatest some runs turned;
-        current_is = ap (λ (x : Moment D). x.current) moment_more ∙ data_of_event changed k m e ∙ ap (state_after changed e) runs.current_is ∙ sym current_is;
-        greatest_is = ap (λ (x : Moment D). x.greatest) moment_more ∙ greatest_of_event changed k m e ∙ ap (greatest_after e) runs.greatest_is ∙ sym greatest_is;
+        current_is = ap (λ (x : Moment D). x.current) moment_more ∙ ap (state_after changed e) runs.current_is ∙ sym current_is;
+        greatest_is = ap (λ (x : Moment D). x.greatest) moment_more ∙ ap (greatest_after e) runs.greatest_is ∙ sym greatest_is;
       }
 
   -- the last event changes nothing
   pub stands_done : (now : At) (current : D) (greatest : Option ℕ) → e ≡ Done → Runs page Names changed limit k start events first now current greatest
-      → Stands page Names limit k (moment_after changed k start (events ++ e ∷ [])) first now
+      → Stands page Names limit k (moment_after (state_after changed) k start (events ++ e ∷ [])) first now
   stands_done now current greatest is runs =
-      let m = moment_after changed k start events in
+      let m = moment_after (state_after changed) k start events in
       subst (λ n. Stands page Names limit k n first now) (sym moment_more)
-      (subst (λ x. Stands page Names limit k (after_event changed k m x) first now) (sym is) runs.stands)
+      (subst (λ x. Stands page Names limit k (after_event (state_after changed) k m x) first now) (sym is) runs.stands)
 
 -- one more event was given
 pub given_more : (given now next : Option (List WireEvent)) (events : List WireEvent) (e : WireEvent) → now ≡ fold add_event given events

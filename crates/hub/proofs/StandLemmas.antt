@@ -1,11 +1,11 @@
 -- One event more, for one connection.
-use Rattle.std.proofs.Common.{◌≡◌, ◌≢◌, ℕ, ◌+◌, ◌-◌, ◌<◌, ◌≤◌, Bool, true, false, List, [], ◌∷◌, ◌++◌, length, refl, sym, ap, ◌∙◌, subst, arith, append_assoc, take, inl, inr, Option, length-append, lit≤}
+use Rattle.std.proofs.Common.{◌≡◌, ◌≢◌, ℕ, ◌+◌, ◌-◌, ◌<◌, ◌≤◌, Bool, true, false, List, [], ◌∷◌, ◌++◌, length, refl, sym, ap, ◌∙◌, subst, arith, append_assoc, take, ◌⊎◌, inl, inr, Option, Ok, Err, length-append, lit≤}
 use Rattle.std.proofs.lemmas.List.{append-nil, map-append, length-map}
 use Rattle.edge_io.specs.Counts.{Rose}
 use Rattle.httparse.specs.Grammar.{RequestHead}
 use Rattle.sd_value.specs.declared.Term.{Term}
 use Rattle.http_spec.specs.declared.Standing.{Standing}
-use Rattle.http_spec.specs.declared.Standing.TheVariants.{Open, Closed, Short, Lost}
+use Rattle.http_spec.specs.declared.Standing.TheVariants.{Open, Closed, Short}
 use Rattle.http_spec.specs.Heads.{max_head, HasNoHead}
 use Rattle.http_spec.specs.Replies.{no_memory_bytes}
 use Rattle.http_spec.specs.Sessions.{Showing, refusal, IsRefused, IsDue, Ends, AnswersStream}
@@ -14,14 +14,14 @@ use Rattle.http_spec.proofs.StreamLemmas.{cut_later, bytes-append}
 use Rattle.http_spec.proofs.LaterLemmas.{due_later, closed_ends_later}
 use Rattle.wire.specs.Accounts.{Account, gain, send_to}
 use Rattle.serving_spec.specs.Counted.{LookUp, look_up, look_ups, Counts, counts_with, LooksUpFor, CountedAnswer, HasCounts}
-use Rattle.serving_spec.specs.Delivered.{IsDelivered}
+use Rattle.serving_spec.specs.Delivered.{Seen, closing, AllSent, CutOff}
 use Rattle.hub.specs.Line.{Line}
 use Rattle.serving_spec.specs.Made.{Made, replies_in, MayLookUp}
 use Rattle.hub.specs.Makes.{LooksUpAll, Makes}
 use Rattle.serving_spec.specs.Sent.{FrontOf}
-use Rattle.hub.specs.Moments.{SettledAt, IsOpenAt}
+use Rattle.hub.specs.Moments.{SettledAt, IsOpenAt, IsOverAt}
 use Rattle.hub.specs.Pieces.{AtEnd, Steps}
-use Rattle.hub.specs.Turns.{At, FrontSteps, EndSteps}
+use Rattle.hub.specs.Turns.{At, seen_of, StepEnd, account_after, IsDelivered, FrontSteps, EndSteps}
 use Rattle.hub.proofs.DateLemmas.{timed-append, requests_of, requests-length, session_more}
 use Rattle.hub.proofs.ServeLemmas.{gain_append}
 
@@ -29,7 +29,6 @@ ends_later : (ended closed : Bool) (standing : Standing) (rest more : List ℕ) 
 ends_later ended closed Open rest more last over ends = absurd (over refl)
 ends_later ended closed Closed rest more last over ends = closed_ends_later ended closed rest more last ends
 ends_later ended closed Short rest more last over (goes, due, one) = (goes, due_later ended rest more due, one)
-ends_later ended closed Lost rest more last over never = absurd never
 
 -- bytes that come later change nothing of a session that is shut, nor does the end of the input
 answer_ends : {D : Type 0} (page : D → Showing) (Names : List ℕ → Term → Type 0) (limit : ℕ) (counted : Counts D) (stream later : List (Timed D)) (ended : Bool) (standing : Standing) (replies : List (List ℕ)) → (standing ≢ Open)
@@ -87,41 +86,45 @@ front_over page Names limit counted stream standing replies a = record {
   answer = a.answer;
 }
 
--- other words for what was delivered
-pub delivered_map : (Whole Front Others Fronts : Standing → List (List ℕ) → Type 0) (standing : Standing) (old new : Option Account) (f g : ℕ)
-    → ((replies : List (List ℕ)) → Whole standing replies → Others standing replies)
-    → ((s : Standing) (replies : List (List ℕ)) → Front s replies → Fronts s replies)
-    → IsDelivered Whole Front standing old new f g → IsDelivered Others Fronts standing old new f g
-delivered_map Whole Front Others Fronts Open old new f g w h (replies, is, account, faults) = (replies, w replies is, account, faults)
-delivered_map Whole Front Others Fronts Closed old new f g w h (replies, is, account, faults) = (replies, w replies is, account, faults)
-delivered_map Whole Front Others Fronts Short old new f g w h (replies, is, account, faults) = (replies, w replies is, account, faults)
-delivered_map Whole Front Others Fronts Lost old new f g w h (would, before, next, some, is, account, rose) =
-    (would, before, next, some, h would (before ++ next ∷ []) is, account, rose)
+-- the same sends, for other answers
+module _ (P Q : Standing → List (List ℕ) → Type 0) (first now : Seen) where
+  pub all_sent_map : (all : AllSent P first now) → (P all.standing all.replies → Q all.standing all.replies) → AllSent Q first now
+  all_sent_map all to = record { standing = all.standing; replies = all.replies; answer = to all.answer; account = all.account; faults = all.faults }
 
-pub settled_later : {D : Type 0} (page : D → Showing) (Names : List ℕ → Term → Type 0) (limit : ℕ) (counted : Counts D) (stream later : List (Timed D)) (first now : At) (s : SettledAt page Names limit counted stream false first now) → (s.standing ≢ Open)
-    → (t : SettledAt page Names limit counted (stream ++ later) false first now) × (t.standing ≢ Open)
-settled_later page Names limit counted stream later first now s over = (
-  record {
-    standing = s.standing;
-    account = s.account;
-    sent = delivered_map (HasCounts page Names limit counted stream false) (FrontOf (HasCounts page Names limit counted) stream false) (HasCounts page Names limit counted (stream ++ later) false) (FrontOf (HasCounts page Names limit counted) (stream ++ later) false)
-        s.standing first.account s.account first.faults now.faults
-        (λ replies is. answer_later page Names limit counted stream later s.standing replies over is) (λ would replies is. front_later page Names limit counted stream later would replies is) s.sent;
-    closed = s.closed;
-  },
-  over,
-)
+  pub cut_off_map : ((standing : Standing) (replies : List (List ℕ)) → P standing replies → Q standing replies) → CutOff P first now → CutOff Q first now
+  cut_off_map to c = record {
+    standing = c.standing;
+    sent = c.sent;
+    next = c.next;
+    some = c.some;
+    answer = to c.standing (c.sent ++ c.next ∷ []) c.answer;
+    account = c.account;
+    faults = c.faults;
+  }
 
-pub settled_over : {D : Type 0} (page : D → Showing) (Names : List ℕ → Term → Type 0) (limit : ℕ) (counted : Counts D) (stream : List (Timed D)) (first now : At) (s : SettledAt page Names limit counted stream false first now) → (s.standing ≢ Open)
-    → SettledAt page Names limit counted stream true first now
-settled_over page Names limit counted stream first now s over = record {
-  standing = s.standing;
-  account = s.account;
-  sent = delivered_map (HasCounts page Names limit counted stream false) (FrontOf (HasCounts page Names limit counted) stream false) (HasCounts page Names limit counted stream true) (FrontOf (HasCounts page Names limit counted) stream true)
-      s.standing first.account s.account first.faults now.faults
-      (λ replies is. answer_over page Names limit counted stream s.standing replies over is) (λ would replies is. front_over page Names limit counted stream would replies is) s.sent;
-  closed = s.closed;
-}
+-- Over a connection to which nothing more is sent.
+module _ {D : Type 0} (page : D → Showing) (Names : List ℕ → Term → Type 0) (limit : ℕ) (counted : Counts D) (stream : List (Timed D)) (first now : At) where
+  abbrev Whole : List (Timed D) → Bool → Standing → List (List ℕ) → Type 0
+  Whole = HasCounts page Names limit counted
+
+  abbrev Front : List (Timed D) → Bool → Standing → List (List ℕ) → Type 0
+  Front = FrontOf (HasCounts page Names limit counted)
+
+  pub over_later : (later : List (Timed D)) → IsOverAt page Names limit counted stream first now → IsOverAt page Names limit counted (stream ++ later) first now
+  over_later later (inl (all, over)) =
+      inl (all_sent_map (Whole stream false) (Whole (stream ++ later) false) (seen_of first) (seen_of now) all (answer_later page Names limit counted stream later all.standing all.replies over), over)
+  over_later later (inr cut) =
+      inr (cut_off_map (Front stream false) (Front (stream ++ later) false) (seen_of first) (seen_of now) (λ standing replies is. front_later page Names limit counted stream later standing replies is) cut)
+
+  pub over_ended : IsOverAt page Names limit counted stream first now → SettledAt page Names limit counted stream true first now
+  over_ended (inl (all, over)) =
+      inl (all_sent_map (Whole stream false) (Whole stream true) (seen_of first) (seen_of now) all (answer_over page Names limit counted stream all.standing all.replies over))
+  over_ended (inr cut) =
+      inr (cut_off_map (Front stream false) (Front stream true) (seen_of first) (seen_of now) (λ standing replies is. front_over page Names limit counted stream standing replies is) cut)
+
+  pub over_settled : IsOverAt page Names limit counted stream first now → SettledAt page Names limit counted stream false first now
+  over_settled (inl (all, over)) = inl all
+  over_settled (inr cut) = inr cut
 
 look_ups_append : {D : Type 0} (d : D) (a b : List Term) → look_ups d (a ++ b) ≡ look_ups d a ++ look_ups d b
 look_ups_append d a b = map-append (look_up d) a b
@@ -144,13 +147,11 @@ may_look : {D : Type 0} (d : D) (would : Standing) (extra : List Term) → MayLo
 may_look d Open extra none = ap (look_ups d) none
 may_look d Closed extra none = ap (look_ups d) none
 may_look d Short extra few = subst (λ n. n ≤ 1) (sym (length-map extra (look_up d))) few
-may_look d Lost extra never = absurd never
 
-may_none : (A : Type 0) (would : Standing) → (would ≢ Lost) → MayLookUp {A = A} would []
-may_none A Open fails = refl
-may_none A Closed fails = refl
-may_none A Short fails = lit≤ tt
-may_none A Lost fails = absurd (fails refl)
+may_none : (A : Type 0) (would : Standing) → MayLookUp {A = A} would []
+may_none A Open = refl
+may_none A Closed = refl
+may_none A Short = lit≤ tt
 
 -- where it is out of memory, a 503 is sent
 some_short : (page : Showing) (line : Line) (piece : List ℕ) (heads : List RequestHead) (would : Standing) (held : Line) (replies : List (List ℕ)) → Steps page line piece heads would held [] replies
@@ -160,7 +161,6 @@ some_short page line piece heads Closed held replies step e = absurd (let never 
 some_short page line piece heads Short held replies (sent, is, (tail, answered, short)) e =
     let count : length replies ≡ length answered + 1 = ap (λ (r : List (List ℕ)). length r) (is ∙ short.then_short) ∙ length-append answered (no_memory_bytes ∷ []) in
     omega (arith, count)
-some_short page line piece heads Lost held replies step e = absurd (let never : Lost ≡ Short = e in cc)
 
 some_at_end : (rest : List ℕ) (would : Standing) (replies : List (List ℕ)) → AtEnd rest would replies → would ≡ Short → 0 < length replies
 some_at_end rest Open replies never e = absurd never
@@ -168,7 +168,6 @@ some_at_end rest Closed replies end e = absurd (let never : Closed ≡ Short = e
 some_at_end rest Short replies (within, is) e =
     let count : length replies ≡ 1 = ap (λ (r : List (List ℕ)). length r) is in
     omega (arith, count)
-some_at_end rest Lost replies end e = absurd (let never : Lost ≡ Short = e in cc)
 
 -- What an open connection's step adds to its session.
 module _ {D : Type 0} (page : D → Showing) (Names : List ℕ → Term → Type 0) (d : D) (limit : ℕ) (counted : Counts D) (stream : List (Timed D)) (line : Line) (first now : At) (open_at : IsOpenAt page Names limit counted stream line first now) where
@@ -178,7 +177,6 @@ module _ {D : Type 0} (page : D → Showing) (Names : List ℕ → Term → Type
   count_more Open replies one e some = let so_far = open_at.count in let is : one ≡ length replies = e in omega (arith, so_far, is, length-append open_at.replies replies)
   count_more Closed replies one e some = let so_far = open_at.count in let is : one ≡ length replies = e in omega (arith, so_far, is, length-append open_at.replies replies)
   count_more Short replies one e some = let so_far = open_at.count in let is : one ≡ length replies - 1 = e in let has : 0 < length replies = some refl in omega (arith, so_far, is, has, length-append open_at.replies replies)
-  count_more Lost replies one e some = let so_far = open_at.count in let is : one ≡ length replies = e in omega (arith, so_far, is, length-append open_at.replies replies)
 
   -- the look-ups, with those of a step
   looks_more : (heads : List RequestHead) (looked : List Term) → LooksUpAll (page d).hosts Names heads looked → LooksUpFor page Names (open_at.requests ++ requests_of d heads) (counted.looked ++ look_ups d looked)
@@ -256,8 +254,8 @@ module _ {D : Type 0} (page : D → Showing) (Names : List ℕ → Term → Type
       nil_on r = sym (append-nil r)
 
   replies_more : (piece : List ℕ) (heads : List RequestHead) (would : Standing) (held : Line) (replies : List (List ℕ)) → Steps (page d) line piece heads would held [] replies
-      → (would ≢ Lost) → (a : AnswersStream page limit (stream ++ timed d piece) false would (open_at.replies ++ replies)) × (a.requests ≡ open_at.requests ++ requests_of d heads)
-  replies_more piece heads Open held replies (step, same) fails =
+      → (a : AnswersStream page limit (stream ++ timed d piece) false would (open_at.replies ++ replies)) × (a.requests ≡ open_at.requests ++ requests_of d heads)
+  replies_more piece heads Open held replies (step, same) =
       let more = session_more page d limit line.left stream open_at.rest open_at.requests open_at.replies step.replies piece held.rest step.heads false
       open_at.session open_at.left open_at.none step.stays.cut.each (rest_on piece _ step.stays.cut.whole) step.stays.answered in (
         record {
@@ -280,7 +278,7 @@ module _ {D : Type 0} (page : D → Showing) (Names : List ℕ → Term → Type
         },
         ap (λ hs. open_at.requests ++ requests_of d hs) same,
       )
-  replies_more piece heads Closed held replies (sent, is, inl (tail, closed)) fails =
+  replies_more piece heads Closed held replies (sent, is, inl (tail, closed)) =
       let more = session_more page d limit line.left stream open_at.rest open_at.requests open_at.replies sent piece tail heads true
       open_at.session open_at.left open_at.none closed.each (rest_on piece _ closed.whole) closed.answered in (
         record {
@@ -295,7 +293,7 @@ module _ {D : Type 0} (page : D → Showing) (Names : List ℕ → Term → Type
         },
         refl,
       )
-  replies_more piece heads Closed held replies (sent, is, inr (rest, answered, refused)) fails =
+  replies_more piece heads Closed held replies (sent, is, inr (rest, answered, refused)) =
       let more = session_more page d limit line.left stream open_at.rest open_at.requests open_at.replies answered piece rest heads false
       open_at.session open_at.left open_at.none refused.each (rest_on piece _ refused.whole) refused.answers in (
         record {
@@ -310,7 +308,7 @@ module _ {D : Type 0} (page : D → Showing) (Names : List ℕ → Term → Type
         },
         refl,
       )
-  replies_more piece heads Short held replies (sent, is, (tail, answered, short)) fails =
+  replies_more piece heads Short held replies (sent, is, (tail, answered, short)) =
       let more = session_more page d limit line.left stream open_at.rest open_at.requests open_at.replies answered piece tail heads false
       open_at.session open_at.left open_at.none short.each (rest_on piece _ short.whole) short.answers in (
         record {
@@ -325,12 +323,11 @@ module _ {D : Type 0} (page : D → Showing) (Names : List ℕ → Term → Type
         },
         refl,
       )
-  replies_more piece heads Lost held replies step fails = absurd (fails refl)
 
   pub answer_more : (piece : List ℕ) (heads : List RequestHead) (would : Standing) (held : Line) (replies : List (List ℕ)) (one : Made) → Steps (page d) line piece heads would held [] replies
-      → Makes (page d).hosts Names would heads replies one → (would ≢ Lost) → HasCounts page Names limit (counts_with counted d one) (stream ++ timed d piece) false would (open_at.replies ++ replies)
-  answer_more piece heads would held replies one step makes fails =
-      let more = replies_more piece heads would held replies step fails in
+      → Makes (page d).hosts Names would heads replies one → HasCounts page Names limit (counts_with counted d one) (stream ++ timed d piece) false would (open_at.replies ++ replies)
+  answer_more piece heads would held replies one step makes =
+      let more = replies_more piece heads would held replies step in
       inl (counts_more heads would replies one (stream ++ timed d piece) false more.0 more.1 makes (some_short (page d) line piece heads would held replies step))
 
   pub front_more : (piece : List ℕ) (heads : List RequestHead) (would : Standing) (replies : List (List ℕ)) (one : Made) → FrontSteps (page d) line piece heads would replies
@@ -342,11 +339,11 @@ module _ {D : Type 0} (page : D → Showing) (Names : List ℕ → Term → Type
     cut = ap (λ p. stream ++ timed d p) step.cut ∙ ap (λ s. stream ++ s) (timed-append d step.front step.more)
         ∙ sym (append_assoc stream (timed d step.front) (timed d step.more));
     ends_so = λ e. absurd (let never : false ≡ true = e in cc);
-    answer = answer_more step.front heads would step.held replies one step.steps makes step.fails;
+    answer = answer_more step.front heads would step.held replies one step.steps makes;
   }
 
   -- the end of its input
-  replies_end : (would : Standing) (replies : List (List ℕ)) → (would ≢ Lost) → AtEnd (bytes_in open_at.rest) would replies
+  replies_end : (would : Standing) (replies : List (List ℕ)) → AtEnd (bytes_in open_at.rest) would replies
       → (a : AnswersStream page limit stream true would (open_at.replies ++ replies)) × (a.requests ≡ open_at.requests)
   replies_end would replies = by_would would
     where
@@ -365,24 +362,23 @@ module _ {D : Type 0} (page : D → Showing) (Names : List ℕ → Term → Type
         refl,
       )
 
-      by_would : (would : Standing) → (would ≢ Lost) → AtEnd (bytes_in open_at.rest) would replies → (a : AnswersStream page limit stream true would (open_at.replies ++ replies)) × (a.requests ≡ open_at.requests)
-      by_would Open fails never = absurd never
-      by_would Closed fails (inl (clean, is)) = answer Closed (inr (inr (refl, refl, (open_at.none, open_at.room), clean, is)))
-      by_would Closed fails (inr (within, is)) = answer Closed (inr (inl (refl, (open_at.none, inr (inr (refl, within))), is)))
-      by_would Short fails (within, is) = answer Short (refl, inr (open_at.none, inr (inr (refl, within))), is)
-      by_would Lost fails never = absurd (fails refl)
+      by_would : (would : Standing) → AtEnd (bytes_in open_at.rest) would replies → (a : AnswersStream page limit stream true would (open_at.replies ++ replies)) × (a.requests ≡ open_at.requests)
+      by_would Open never = absurd never
+      by_would Closed (inl (clean, is)) = answer Closed (inr (inr (refl, refl, (open_at.none, open_at.room), clean, is)))
+      by_would Closed (inr (within, is)) = answer Closed (inr (inl (refl, (open_at.none, inr (inr (refl, within))), is)))
+      by_would Short (within, is) = answer Short (refl, inr (open_at.none, inr (inr (refl, within))), is)
 
   pub end_more : (made : Made) (would : Standing) (replies : List (List ℕ)) → EndSteps line.rest made would replies → HasCounts page Names limit (counts_with counted d made) stream true would (open_at.replies ++ replies)
   end_more made would replies step =
       let at_end : AtEnd (bytes_in open_at.rest) would replies = subst (λ r. AtEnd r would replies) (sym open_at.rest_is) step.steps in
-      let a = replies_end would replies step.fails at_end in
+      let a = replies_end would replies at_end in
       inl record {
         answer = a.0;
         looked = counted.looked;
         extra = [];
         count = count_more would replies made.replies step.count (some_at_end (bytes_in open_at.rest) would replies at_end);
         looks = subst (λ rs. LooksUpFor page Names rs counted.looked) (sym a.1) open_at.looks;
-        may = may_none (LookUp D) would step.fails;
+        may = may_none (LookUp D) would;
         whole = ap (λ ts. counted.looked ++ look_ups d ts) step.none;
       }
 
@@ -397,27 +393,38 @@ module _ {D : Type 0} (page : D → Showing) (Names : List ℕ → Term → Type
     answer = end_more made would replies step;
   }
 
-  -- what a step delivered, after what was delivered before
-  pub delivered_on : (Whole Front Others Fronts : Standing → List (List ℕ) → Type 0) (standing : Standing) (new : Option Account) (g : ℕ)
-      → ((replies : List (List ℕ)) → Whole standing replies → Others standing (open_at.replies ++ replies))
-      → ((s : Standing) (replies : List (List ℕ)) → Front s replies → Fronts s (open_at.replies ++ replies))
-      → IsDelivered Whole Front standing now.account new now.faults g → IsDelivered Others Fronts standing first.account new first.faults g
-  delivered_on Whole Front Others Fronts standing new g w h = by_standing standing w
-    where
-      account_on : (replies : List (List ℕ)) → gain now.account replies ≡ gain first.account (open_at.replies ++ replies)
-      account_on replies = ap (λ a. gain a replies) open_at.account ∙ sym (gain_append first.account open_at.replies replies)
+  -- what a step sent, after what was sent before
+  account_on : (replies : List (List ℕ)) → gain now.account replies ≡ gain first.account (open_at.replies ++ replies)
+  account_on replies = ap (λ a. gain a replies) open_at.account ∙ sym (gain_append first.account open_at.replies replies)
 
-      by_standing : (s : Standing) → ((replies : List (List ℕ)) → Whole s replies → Others s (open_at.replies ++ replies))
-          → IsDelivered Whole Front s now.account new now.faults g → IsDelivered Others Fronts s first.account new first.faults g
-      by_standing Open w (replies, is, account, faults) = (open_at.replies ++ replies, w replies is, account ∙ account_on replies, faults ∙ open_at.faults)
-      by_standing Closed w (replies, is, account, faults) = (open_at.replies ++ replies, w replies is, account ∙ account_on replies, faults ∙ open_at.faults)
-      by_standing Short w (replies, is, account, faults) = (open_at.replies ++ replies, w replies is, account ∙ account_on replies, faults ∙ open_at.faults)
-      by_standing Lost w (would, before, next, some, is, account, rose) = (
-        would,
-        open_at.replies ++ before,
-        next,
-        some,
-        subst (Fronts would) (sym (append_assoc open_at.replies before (next ∷ []))) (h would (before ++ next ∷ []) is),
-        account ∙ ap (λ a. send_to a (take some next)) (account_on before),
-        subst (λ x. Rose x g) open_at.faults rose,
-      )
+  pub all_on : (Is : Standing → List (List ℕ) → Type 0) (standing : Standing) (replies : List (List ℕ)) (account : Option Account) (after : At) → Is standing (open_at.replies ++ replies)
+      → account ≡ gain now.account replies → after.faults ≡ now.faults → after.account ≡ closing standing account → AllSent Is (seen_of first) (seen_of after)
+  all_on Is standing replies account after is sent faults closed = record {
+    standing = standing;
+    replies = open_at.replies ++ replies;
+    answer = is;
+    account = closed ∙ ap (closing standing) (sent ∙ account_on replies);
+    faults = faults ∙ open_at.faults;
+  }
+
+  pub cut_on : (Is : Standing → List (List ℕ) → Type 0) (would : Standing) (before : List (List ℕ)) (next : List ℕ) (some : ℕ) (after : At) → Is would (open_at.replies ++ (before ++ next ∷ []))
+      → after.account ≡ send_to (gain now.account before) (take some next) → Rose now.faults after.faults → CutOff Is (seen_of first) (seen_of after)
+  cut_on Is would before next some after is account rose = record {
+    standing = would;
+    sent = open_at.replies ++ before;
+    next = next;
+    some = some;
+    answer = subst (Is would) (sym (append_assoc open_at.replies before (next ∷ []))) is;
+    account = account ∙ ap (λ a. send_to a (take some next)) (account_on before);
+    faults = subst (λ x. Rose x after.faults) open_at.faults rose;
+  }
+
+  pub settled_on : (Whole Front Is Fronts : Standing → List (List ℕ) → Type 0) (end : StepEnd) (account : Option Account) (after : At)
+      → ((s : Standing) (replies : List (List ℕ)) → Whole s replies → Is s (open_at.replies ++ replies))
+      → ((s : Standing) (replies : List (List ℕ)) → Front s replies → Fronts s (open_at.replies ++ replies))
+      → IsDelivered Whole Front end now.account account now.faults after.faults → after.account ≡ account_after end account
+      → AllSent Is (seen_of first) (seen_of after) ⊎ CutOff Fronts (seen_of first) (seen_of after)
+  settled_on Whole Front Is Fronts (Ok standing) account after w h (replies, is, sent, faults) closed =
+      inl (all_on Is standing replies account after (w standing replies is) sent faults closed)
+  settled_on Whole Front Is Fronts (Err failed) account after w h (would, before, next, some, is, sent, rose) same =
+      inr (cut_on Fronts would before next some after (h would (before ++ next ∷ []) is) (same ∙ sent) rose)

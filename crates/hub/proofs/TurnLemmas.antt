@@ -1,10 +1,10 @@
 -- One event more, for every connection.
-use Rattle.std.proofs.Common.{◌≡◌, ◌≢◌, ℕ, ◌+◌, ◌<◌, ◌≤◌, Bool, true, false, ◌==◌, List, [], ◌∷◌, ◌++◌, refl, sym, ap, ◌∙◌, subst, arith, ◌⊎◌, inl, inr, append-nil, Option, Some, None, lit<, if◌then◌else◌}
+use Rattle.std.proofs.Common.{◌≡◌, ◌≢◌, ℕ, ◌+◌, ◌<◌, ◌≤◌, Bool, true, false, ◌==◌, ◌&&◌, List, [], ◌∷◌, ◌++◌, refl, sym, ap, ◌∙◌, subst, arith, ◌⊎◌, inl, inr, append-nil, Option, Some, None, Ok, Err, lit<, if◌then◌else◌}
 use Rattle.std.specs.Prelude.{MatchBool}
 use Rattle.std.proofs.lemmas.Bool.Decides.{nat_tests}
 use Rattle.sd_value.specs.declared.Term.{Term}
 use Rattle.http_spec.specs.declared.Standing.{Standing}
-use Rattle.http_spec.specs.declared.Standing.TheVariants.{Open, Closed, Short, Lost}
+use Rattle.http_spec.specs.declared.Standing.TheVariants.{Open, Closed, Short}
 use Rattle.http_spec.specs.Replies.{no_memory_bytes}
 use Rattle.http_spec.specs.Sessions.{Showing}
 use Rattle.http_spec.specs.Streams.{Timed, timed}
@@ -12,33 +12,41 @@ use Rattle.http_spec.proofs.HeadLemmas.{no_head_nil}
 use Rattle.wire.specs.Accounts.{Account, up_by}
 use Rattle.happenings.specs.declared.event.WireEvent.{WireEvent}
 use Rattle.happenings.specs.declared.event.WireEvent.TheVariants.{Opened, Bytes, Ended, Lost as LostEvent, Change, Done}
-use Rattle.serving_spec.specs.Delivered.{closing}
+use Rattle.serving_spec.specs.Delivered.{closing, AllSent, CutOff}
 use Rattle.hub.specs.Line.{Line}
 use Rattle.serving_spec.specs.Inputs.{Input, Unopened, Coming, Over, Moment, more_of, over_of, after_event}
 use Rattle.serving_spec.specs.Sent.{FrontOf}
 use Rattle.serving_spec.specs.Counted.{Counts, no_counts, counts_with, HasCounts, is_of}
-use Rattle.hub.specs.Moments.{SettledAt, IsOpenAt, StandsComing, StandsFor, IsBelow, WasOpened, CountedStands}
+use Rattle.hub.specs.Moments.{SettledAt, IsOpenAt, IsOverAt, StandsComing, StandsFor, IsBelow, WasOpened, CountedStands}
 use Rattle.serving_spec.specs.Made.{Made, nothing}
-use Rattle.hub.specs.Turns.{At, EndSteps, PieceReplies, FrontReplies, IsPieceServed, IsFinished, IsUnopened, Opens, TakesPiece, Finishes, OthersStay, Turned, kept_after, Keeps}
+use Rattle.hub.specs.Turns.{At, seen_of, StepEnd, account_after, EndSteps, PieceReplies, FrontReplies, IsPieceServed, IsFinished, IsUnopened, Opens, TakesPiece, Finishes, OthersStay, Turned, kept_after, Keeps}
 use Rattle.serving_spec.specs.Openings.{counts}
-use Rattle.hub.proofs.StandLemmas.{settled_later, settled_over, delivered_map, delivered_on, open_more, answer_more, front_more, end_more, front_end, so_far}
+use Rattle.hub.proofs.StandLemmas.{over_later, over_ended, over_settled, all_on, cut_on, settled_on, open_more, answer_more, front_more, end_more, front_end, so_far}
 
 -- memory was missing for the connection
-settled_unopened : {D : Type 0} (page : D → Showing) (Names : List ℕ → Term → Type 0) (limit : ℕ) (standing : Standing) (account : Option Account) (first now : At) → IsUnopened standing first.account account first.faults now.faults
-    → now.account ≡ closing standing account → (standing ≢ Open) → (s : SettledAt page Names limit no_counts [] false first now) × (s.standing ≢ Open)
-settled_unopened page Names limit standing account first now sent closed over = (
-  record {
-    standing = standing;
-    account = account;
-    sent = delivered_map (λ s replies. (s ≡ Short) × (replies ≡ no_memory_bytes ∷ [])) (λ s replies. (s ≡ Short) × (replies ≡ no_memory_bytes ∷ []))
-        (HasCounts page Names limit no_counts [] false) (FrontOf (HasCounts page Names limit no_counts) [] false) standing first.account account first.faults now.faults
-        (λ replies is. inr (is.0, is.1, refl))
-        (λ would replies is. record { front = []; more = []; at_end = false; cut = refl; ends_so = λ e. absurd (let never : false ≡ true = e in cc); answer = inr (is.0, is.1, refl) })
-        sent;
-    closed = closed;
-  },
-  over,
-)
+over_unopened : {D : Type 0} (page : D → Showing) (Names : List ℕ → Term → Type 0) (limit : ℕ) (end : StepEnd) (account : Option Account) (first now : At) → IsUnopened end first.account account first.faults now.faults
+    → now.account ≡ account_after end account → IsOverAt page Names limit no_counts [] first now
+over_unopened page Names limit (Ok standing) account first now (replies, (short, is), sent, faults) closed =
+    inl (
+      record {
+        standing = standing;
+        replies = replies;
+        answer = inr (short, is, refl);
+        account = closed ∙ ap (closing standing) sent;
+        faults = faults;
+      },
+      λ e. (let never : Short ≡ Open = sym short ∙ e in cc),
+    )
+over_unopened page Names limit (Err failed) account first now (would, before, next, some, (short, is), sent, rose) same =
+    inr record {
+      standing = would;
+      sent = before;
+      next = next;
+      some = some;
+      answer = record { front = []; more = []; at_end = false; cut = refl; ends_so = λ e. absurd (let never : false ≡ true = e in cc); answer = inr (short, is, refl) };
+      account = same ∙ sent;
+      faults = rose;
+    }
 
 -- the connection is opened
 turn_opens : {D : Type 0} (page : D → Showing) (Names : List ℕ → Term → Type 0) (limit : ℕ) (first before after : At) → 0 < limit → before ≡ first → Opens limit before after → StandsComing page Names limit no_counts [] after.line first after
@@ -58,9 +66,9 @@ turn_opens page Names limit first before after some same (inl opened) =
       count = refl;
       looks = refl;
     }
-turn_opens page Names limit first before after some same (inr (standing, account, over, sent, closed, gone)) =
+turn_opens page Names limit first before after some same (inr (end, account, sent, closed, gone)) =
     subst (λ l. StandsComing page Names limit no_counts [] l first after) (sym gone)
-    (settled_unopened page Names limit standing account first after (subst (λ (b : At). IsUnopened standing b.account account b.faults after.faults) same sent) closed over)
+    (over_unopened page Names limit end account first after (subst (λ (b : At). IsUnopened end b.account account b.faults after.faults) same sent) closed)
 
 -- nothing more is counted
 counts_same : {D : Type 0} (counted : Counts D) (d : D) (made : Made) → made ≡ nothing → counts_with counted d made ≡ counted
@@ -71,53 +79,37 @@ counts_same {D} counted d made none =
     ap (λ (m : Made). counts_with counted d m) none ∙ still
 
 -- a piece of an open connection
-piece_open : {D : Type 0} (page : D → Showing) (Names : List ℕ → Term → Type 0) (made : Made) (d : D) (limit : ℕ) (counted : Counts D) (stream : List (Timed D)) (piece : List ℕ) (line : Line) (first before after : At) (standing : Standing) (held : Line)
-    (account : Option Account) → IsOpenAt page Names limit counted stream line first before
-    → IsPieceServed (page d) Names line piece made standing held before.account account before.faults after.faults
-    → after.account ≡ closing standing account → after.line ≡ kept_after standing held
-    → StandsComing page Names limit (counts_with counted d made) (stream ++ timed d piece) after.line first after
-piece_open page Names made d limit counted stream piece line first before after Open held account open_at (replies, (heads, step, makes), sent, faults) closed kept =
-    subst (λ l. StandsComing page Names limit (counts_with counted d made) (stream ++ timed d piece) l first after) (sym kept)
-    (open_more page Names d limit counted stream line first before open_at piece heads held replies made after step makes (closed ∙ sent) faults)
-piece_open page Names made d limit counted stream piece line first before after Closed held account open_at served closed kept =
-    subst (λ l. StandsComing page Names limit (counts_with counted d made) (stream ++ timed d piece) l first after) (sym kept) (
-      record {
-        standing = Closed;
-        account = account;
-        sent = delivered_on page Names d limit counted stream line first before open_at (PieceReplies (page d) Names line piece made held) (FrontReplies (page d) Names line piece made)
-            (HasCounts page Names limit (counts_with counted d made) (stream ++ timed d piece) false) (FrontOf (HasCounts page Names limit (counts_with counted d made)) (stream ++ timed d piece) false) Closed account after.faults
-            (λ replies is. answer_more page Names d limit counted stream line first before open_at piece is.0 Closed held replies made is.1 is.2 (λ e. cc))
-            (λ would replies is. front_more page Names d limit counted stream line first before open_at piece is.0 would replies made is.1 is.2) served;
-        closed = closed;
-      },
-      λ e. cc,
-    )
-piece_open page Names made d limit counted stream piece line first before after Short held account open_at served closed kept =
-    subst (λ l. StandsComing page Names limit (counts_with counted d made) (stream ++ timed d piece) l first after) (sym kept) (
-      record {
-        standing = Short;
-        account = account;
-        sent = delivered_on page Names d limit counted stream line first before open_at (PieceReplies (page d) Names line piece made held) (FrontReplies (page d) Names line piece made)
-            (HasCounts page Names limit (counts_with counted d made) (stream ++ timed d piece) false) (FrontOf (HasCounts page Names limit (counts_with counted d made)) (stream ++ timed d piece) false) Short account after.faults
-            (λ replies is. answer_more page Names d limit counted stream line first before open_at piece is.0 Short held replies made is.1 is.2 (λ e. cc))
-            (λ would replies is. front_more page Names d limit counted stream line first before open_at piece is.0 would replies made is.1 is.2) served;
-        closed = closed;
-      },
-      λ e. cc,
-    )
-piece_open page Names made d limit counted stream piece line first before after Lost held account open_at served closed kept =
-    subst (λ l. StandsComing page Names limit (counts_with counted d made) (stream ++ timed d piece) l first after) (sym kept) (
-      record {
-        standing = Lost;
-        account = account;
-        sent = delivered_on page Names d limit counted stream line first before open_at (FrontReplies (page d) Names line piece made) (FrontReplies (page d) Names line piece made)
-            (FrontOf (HasCounts page Names limit (counts_with counted d made)) (stream ++ timed d piece) false) (FrontOf (HasCounts page Names limit (counts_with counted d made)) (stream ++ timed d piece) false) Lost account after.faults
-            (λ replies is. front_more page Names d limit counted stream line first before open_at piece is.0 Lost replies made is.1 is.2)
-            (λ would replies is. front_more page Names d limit counted stream line first before open_at piece is.0 would replies made is.1 is.2) served;
-        closed = closed;
-      },
-      λ e. cc,
-    )
+module _ {D : Type 0} (page : D → Showing) (Names : List ℕ → Term → Type 0) (made : Made) (d : D) (limit : ℕ) (counted : Counts D) (stream : List (Timed D)) (piece : List ℕ) (line : Line) (first before after : At) (held : Line)
+    (account : Option Account) (open_at : IsOpenAt page Names limit counted stream line first before) where
+  abbrev Answer : Standing → List (List ℕ) → Type 0
+  Answer = HasCounts page Names limit (counts_with counted d made) (stream ++ timed d piece) false
+
+  abbrev Front : Standing → List (List ℕ) → Type 0
+  Front = FrontOf (HasCounts page Names limit (counts_with counted d made)) (stream ++ timed d piece) false
+
+  piece_over : (standing : Standing) → (standing ≢ Open) → IsPieceServed (page d) Names line piece made (Ok standing) held before.account account before.faults after.faults
+      → after.account ≡ closing standing account → IsOverAt page Names limit (counts_with counted d made) (stream ++ timed d piece) first after
+  piece_over standing over (replies, is, sent, faults) closed =
+      inl (
+        all_on page Names d limit counted stream line first before open_at Answer standing replies account after
+            (answer_more page Names d limit counted stream line first before open_at piece is.0 standing held replies made is.1 is.2) sent faults closed,
+        over,
+      )
+
+  piece_open : (end : StepEnd) → IsPieceServed (page d) Names line piece made end held before.account account before.faults after.faults
+      → after.account ≡ account_after end account → after.line ≡ kept_after end held
+      → StandsComing page Names limit (counts_with counted d made) (stream ++ timed d piece) after.line first after
+  piece_open (Ok Open) (replies, (heads, step, makes), sent, faults) closed kept =
+      subst (λ l. StandsComing page Names limit (counts_with counted d made) (stream ++ timed d piece) l first after) (sym kept)
+      (open_more page Names d limit counted stream line first before open_at piece heads held replies made after step makes (closed ∙ sent) faults)
+  piece_open (Ok Closed) served closed kept =
+      subst (λ l. StandsComing page Names limit (counts_with counted d made) (stream ++ timed d piece) l first after) (sym kept) (piece_over Closed (λ e. cc) served closed)
+  piece_open (Ok Short) served closed kept =
+      subst (λ l. StandsComing page Names limit (counts_with counted d made) (stream ++ timed d piece) l first after) (sym kept) (piece_over Short (λ e. cc) served closed)
+  piece_open (Err failed) (would, sent, next, some, is, account_is, rose) same kept =
+      subst (λ l. StandsComing page Names limit (counts_with counted d made) (stream ++ timed d piece) l first after) (sym kept)
+      (inr (cut_on page Names d limit counted stream line first before open_at Front would sent next some after
+      (front_more page Names d limit counted stream line first before open_at piece is.0 would (sent ++ next ∷ []) made is.1 is.2) (same ∙ account_is) rose))
 
 -- a piece
 turn_piece : {D : Type 0} (page : D → Showing) (Names : List ℕ → Term → Type 0) (made : Made) (d : D) (limit : ℕ) (counted : Counts D) (piece : List ℕ) (input : Input D) (line : Option Line) (first before after : At) → before.line ≡ line
@@ -132,29 +124,25 @@ turn_piece {D} page Names made d limit counted piece input None first before aft
     by_input (Coming stream) stands =
         let over = subst (λ l. StandsComing page Names limit counted stream l first before) is stands in
         subst (λ l. StandsComing page Names limit counted (stream ++ timed d piece) l first before) (sym is)
-        (settled_later page Names limit counted stream (timed d piece) first before over.0 over.1)
+        (over_later page Names limit counted stream first before (timed d piece) over)
     by_input (Over ended stream) stands = stands
 turn_piece {D} page Names made d limit counted piece Unopened (Some line) first before after is stands step =
     absurd (let never : None ≡ Some line = sym stands.0 ∙ sym (ap (λ (a : At). a.line) stands.1) ∙ is in cc)
-turn_piece {D} page Names made d limit counted piece (Coming stream) (Some line) first before after is stands (standing, held, account, served, closed, kept) =
-    piece_open page Names made d limit counted stream piece line first before after standing held account
-    (subst (λ l. StandsComing page Names limit counted stream l first before) is stands) served closed kept
+turn_piece {D} page Names made d limit counted piece (Coming stream) (Some line) first before after is stands (end, held, account, served, closed, kept) =
+    piece_open page Names made d limit counted stream piece line first before after held account
+    (subst (λ l. StandsComing page Names limit counted stream l first before) is stands) end served closed kept
 turn_piece {D} page Names made d limit counted piece (Over ended stream) (Some line) first before after is stands step =
     absurd (let never : None ≡ Some line = sym stands.0 ∙ is in cc)
 
 -- the end of an open connection's input
-finish_open : {D : Type 0} (page : D → Showing) (Names : List ℕ → Term → Type 0) (made : Made) (d : D) (limit : ℕ) (counted : Counts D) (stream : List (Timed D)) (line : Line) (first before after : At) (standing : Standing) (account : Option Account)
-    → IsOpenAt page Names limit counted stream line first before → IsFinished line.rest made standing before.account account before.faults after.faults
-    → after.account ≡ closing standing account → SettledAt page Names limit (counts_with counted d made) stream true first after
-finish_open page Names made d limit counted stream line first before after standing account open_at sent closed = record {
-  standing = standing;
-  account = account;
-  sent = delivered_on page Names d limit counted stream line first before open_at (EndSteps line.rest made) (EndSteps line.rest made) (HasCounts page Names limit (counts_with counted d made) stream true) (FrontOf (HasCounts page Names limit (counts_with counted d made)) stream true)
-      standing account after.faults
-      (λ replies is. end_more page Names d limit counted stream line first before open_at made standing replies is)
-      (λ would replies is. front_end page Names d limit counted stream line first before open_at made would replies is) sent;
-  closed = closed;
-}
+finish_open : {D : Type 0} (page : D → Showing) (Names : List ℕ → Term → Type 0) (made : Made) (d : D) (limit : ℕ) (counted : Counts D) (stream : List (Timed D)) (line : Line) (first before after : At) (end : StepEnd) (account : Option Account)
+    → IsOpenAt page Names limit counted stream line first before → IsFinished line.rest made end before.account account before.faults after.faults
+    → after.account ≡ account_after end account → SettledAt page Names limit (counts_with counted d made) stream true first after
+finish_open page Names made d limit counted stream line first before after end account open_at sent closed =
+    settled_on page Names d limit counted stream line first before open_at (EndSteps line.rest made) (EndSteps line.rest made)
+    (HasCounts page Names limit (counts_with counted d made) stream true) (FrontOf (HasCounts page Names limit (counts_with counted d made)) stream true) end account after
+    (λ standing replies is. end_more page Names d limit counted stream line first before open_at made standing replies is)
+    (λ would replies is. front_end page Names d limit counted stream line first before open_at made would replies is) sent closed
 
 turn_end : {D : Type 0} (page : D → Showing) (Names : List ℕ → Term → Type 0) (made : Made) (d : D) (limit : ℕ) (counted : Counts D) (input : Input D) (line : Option Line) (first before after : At) → before.line ≡ line
     → StandsFor page Names limit counted input first before → Finishes made line before after → StandsFor page Names limit (counts_with counted d made) (over_of true input) first after
@@ -166,12 +154,12 @@ turn_end {D} page Names made d limit counted input None first before after is st
     by_input Unopened stands = stands
     by_input (Coming stream) stands =
         let over = subst (λ l. StandsComing page Names limit counted stream l first before) is stands in
-        (is, settled_over page Names limit counted stream first before over.0 over.1)
+        (is, over_ended page Names limit counted stream first before over)
     by_input (Over ended stream) stands = stands
 turn_end {D} page Names made d limit counted Unopened (Some line) first before after is stands step =
     absurd (let never : None ≡ Some line = sym stands.0 ∙ sym (ap (λ (a : At). a.line) stands.1) ∙ is in cc)
-turn_end {D} page Names made d limit counted (Coming stream) (Some line) first before after is stands (standing, account, sent, closed, gone) =
-    (gone, finish_open page Names made d limit counted stream line first before after standing account (subst (λ l. StandsComing page Names limit counted stream l first before) is stands) sent closed)
+turn_end {D} page Names made d limit counted (Coming stream) (Some line) first before after is stands (end, account, sent, closed, gone) =
+    (gone, finish_open page Names made d limit counted stream line first before after end account (subst (λ l. StandsComing page Names limit counted stream l first before) is stands) sent closed)
 turn_end {D} page Names made d limit counted (Over ended stream) (Some line) first before after is stands step =
     absurd (let never : None ≡ Some line = sym stands.0 ∙ is in cc)
 
@@ -184,26 +172,27 @@ turn_lost : {D : Type 0} (page : D → Showing) (Names : List ℕ → Term → T
 turn_lost {D} page Names d limit counted input line first before after is stands same =
     subst (λ a. StandsFor page Names limit counted (over_of false input) first a) (sym same) (by_input input line is stands)
   where
+    moved : (stream : List (Timed D)) (ended : Bool) → SettledAt page Names limit counted stream ended first before → SettledAt page Names limit counted stream ended first (gone_from before)
+    moved stream ended settled = settled
+
     by_input : (input : Input D) (line : Option Line) → before.line ≡ line → StandsFor page Names limit counted input first before → StandsFor page Names limit counted (over_of false input) first (gone_from before)
     by_input Unopened line is stands =
         (stands.0, ap gone_from stands.1 ∙ ap (λ (l : Option Line). record { line = l; account = first.account; faults = first.faults }) (sym stands.0), stands.2)
     by_input (Coming stream) None is stands =
         let over = subst (λ l. StandsComing page Names limit counted stream l first before) is stands in
-        let settled = over.0 in
-        (refl, record { standing = settled.standing; account = settled.account; sent = settled.sent; closed = settled.closed })
+        (refl, moved stream false (over_settled page Names limit counted stream first before over))
     by_input (Coming stream) (Some line) is stands =
         let open_at : IsOpenAt page Names limit counted stream line first before = subst (λ l. StandsComing page Names limit counted stream l first before) is stands in (
           refl,
-          record {
+          inl record {
             standing = Open;
-            account = before.account;
-            sent = (open_at.replies, so_far page Names d limit counted stream line first before open_at, open_at.account, open_at.faults);
-            closed = refl;
+            replies = open_at.replies;
+            answer = so_far page Names d limit counted stream line first before open_at;
+            account = open_at.account;
+            faults = open_at.faults;
           },
         )
-    by_input (Over ended stream) line is stands =
-        let settled = stands.1 in
-        (refl, record { standing = settled.standing; account = settled.account; sent = settled.sent; closed = settled.closed })
+    by_input (Over ended stream) line is stands = (refl, moved stream ended stands.1)
 
 opened_more : {D : Type 0} (k : ℕ) (greatest : Option ℕ) (bytes : List (Timed D)) (input : Input D) → WasOpened k greatest input → WasOpened k greatest (more_of bytes input)
 opened_more k greatest bytes Unopened was = was
@@ -257,7 +246,7 @@ other true X Y e x = cc
 other false X Y e y = y
 
 -- One event more.
-module _ {D : Type 0} (page : D → Showing) (Names : List ℕ → Term → Type 0) (changed : D → List ℕ → D) (limit k : ℕ) (m : Moment D) (counted : Counts D) (first : At) (made : Made) (before after : ℕ → At) (some : 0 < limit)
+module _ {D : Type 0} (page : D → Showing) (Names : List ℕ → Term → Type 0) (next : WireEvent → D → D) (limit k : ℕ) (m : Moment D) (counted : Counts D) (first : At) (made : Made) (before after : ℕ → At) (some : 0 < limit)
     (stands : CountedStands page Names limit k m counted first (before k)) where
   abbrev counted_then : Counts D
   counted_then = counts_with counted m.current made
@@ -274,26 +263,29 @@ module _ {D : Type 0} (page : D → Showing) (Names : List ℕ → Term → Type
   either true moment none there = subst (λ c. CountedStands page Names limit k moment c first (after k)) (sym (counts_same counted m.current made none)) there
   either false moment none there = there
 
-  -- an event of one connection
-  of_number : (number : ℕ) (now : Input D) → (number ≡ k → StandsFor page Names limit counted_then now first (after k)) → WasOpened k m.greatest now → OthersStay number before after
-      → CountedStands page Names limit k (record { current = m.current; greatest = m.greatest; input = if number == k then now else m.input }) (if number == k then counted_then else counted) first (after k)
-  of_number number now own was others = by_case (test_cases number k)
+  -- an event of one connection, after which this is current
+  of_number : (later : D) (number : ℕ) (now : Input D) → (number ≡ k → StandsFor page Names limit counted_then now first (after k)) → WasOpened k m.greatest now → OthersStay number before after
+      → CountedStands page Names limit k (record { current = later; greatest = m.greatest; input = if number == k then now else m.input }) (if number == k then counted_then else counted) first (after k)
+  of_number later number now own was others = by_case (test_cases number k)
     where
       Goal : Bool → Type 0
-      Goal t = CountedStands page Names limit k (record { current = m.current; greatest = m.greatest; input = if t then now else m.input }) (if t then counted_then else counted) first (after k)
+      Goal t = CountedStands page Names limit k (record { current = later; greatest = m.greatest; input = if t then now else m.input }) (if t then counted_then else counted) first (after k)
 
       by_case : (((number == k) ≡ true) × (number ≡ k)) ⊎ (((number == k) ≡ false) × (k ≢ number)) → Goal (number == k)
       by_case (inl (is, same)) = subst Goal (sym is) record { stands = own same; opened = was }
-      by_case (inr (is, apart)) = subst Goal (sym is) (stays_so (record { current = m.current; greatest = m.greatest; input = m.input }) refl refl (others k apart))
+      by_case (inr (is, apart)) = subst Goal (sym is) (stays_so (record { current = later; greatest = m.greatest; input = m.input }) refl refl (others k apart))
 
-  opened_turn : (number : ℕ) → Turned (page m.current) Names limit m.greatest (Opened number) made before after → CountedStands page Names limit k (after_event changed k m (Opened number)) counted first (after k)
+  opened_turn : (number : ℕ) → Turned (page m.current) Names limit m.greatest (Opened number) made before after → CountedStands page Names limit k (after_event next k m (Opened number)) counted first (after k)
   opened_turn number (own, others, none) = by_count (bool_cases (counts m.greatest number))
     where
+      later : D
+      later = next (Opened number) m.current
+
       Counted : Bool → Type 0
-      Counted t = CountedStands page Names limit k (if t then record { current = m.current; greatest = Some number; input = if number == k then Coming [] else m.input } else m) counted first (after k)
+      Counted t = CountedStands page Names limit k (record { current = later; greatest = if t then Some number else m.greatest; input = if t && (number == k) then Coming [] else m.input }) counted first (after k)
 
       Numbered : Bool → Type 0
-      Numbered t = CountedStands page Names limit k (record { current = m.current; greatest = Some number; input = if t then Coming [] else m.input }) counted first (after k)
+      Numbered t = CountedStands page Names limit k (record { current = later; greatest = Some number; input = if t then Coming [] else m.input }) counted first (after k)
 
       by_number : counts m.greatest number ≡ true → (((number == k) ≡ true) × (number ≡ k)) ⊎ (((number == k) ≡ false) × (k ≢ number)) → Numbered (number == k)
       by_number fresh (inl (is, same)) =
@@ -319,30 +311,30 @@ module _ {D : Type 0} (page : D → Showing) (Names : List ℕ → Term → Type
 
       by_count : (counts m.greatest number ≡ true) ⊎ (counts m.greatest number ≡ false) → Counted (counts m.greatest number)
       by_count (inl fresh) = subst Counted (sym fresh) (by_number fresh (test_cases number k))
-      by_count (inr passed) = subst Counted (sym passed) (stays_so m refl refl (same_at (other (counts m.greatest number) _ _ passed own)))
+      by_count (inr passed) = subst Counted (sym passed) (stays_so (record { current = later; greatest = m.greatest; input = m.input }) refl refl (same_at (other (counts m.greatest number) _ _ passed own)))
 
   pub stands_turn : (event : WireEvent) → Turned (page m.current) Names limit m.greatest event made before after
-      → CountedStands page Names limit k (after_event changed k m event) (if is_of k event then counted_then else counted) first (after k)
+      → CountedStands page Names limit k (after_event next k m event) (if is_of k event then counted_then else counted) first (after k)
   stands_turn (Opened number) (own, others, none) =
-      either (number == k) (after_event changed k m (Opened number)) none (opened_turn number (own, others, none))
+      either (number == k) (after_event next k m (Opened number)) none (opened_turn number (own, others, none))
   stands_turn (Bytes number piece) (own, others) =
-      of_number number (more_of (timed m.current piece) m.input)
+      of_number (next (Bytes number piece) m.current) number (more_of (timed m.current piece) m.input)
       (λ same. turn_piece page Names made m.current limit counted piece m.input (before k).line first (before k) (after k) refl stands.stands
       (subst (λ n. TakesPiece (page m.current) Names piece made (before n).line (before n) (after n)) same own))
       (opened_more k m.greatest (timed m.current piece) m.input stands.opened) others
   stands_turn (Ended number) (own, others) =
-      of_number number (over_of true m.input)
+      of_number (next (Ended number) m.current) number (over_of true m.input)
       (λ same. turn_end page Names made m.current limit counted m.input (before k).line first (before k) (after k) refl stands.stands
       (subst (λ n. Finishes made (before n).line (before n) (after n)) same own))
       (opened_over k m.greatest true m.input stands.opened) others
   stands_turn (LostEvent number) (own, others, none) =
-      of_number number (over_of false m.input)
+      of_number (next (LostEvent number) m.current) number (over_of false m.input)
       (λ same. subst (λ c. StandsFor page Names limit c (over_of false m.input) first (after k)) (sym (counts_same counted m.current made none))
       (turn_lost page Names m.current limit counted m.input (before k).line first (before k) (after k) refl stands.stands
       (subst (λ n. after n ≡ gone_from (before n)) same own)))
       (opened_over k m.greatest false m.input stands.opened) others
-  stands_turn (Change text) (turned, none) = stays_so (record { current = changed m.current text; greatest = m.greatest; input = m.input }) refl refl (turned k)
-  stands_turn Done (turned, none) = stays_so m refl refl (turned k)
+  stands_turn (Change text) (turned, none) = stays_so (record { current = next (Change text) m.current; greatest = m.greatest; input = m.input }) refl refl (turned k)
+  stands_turn Done (turned, none) = stays_so (record { current = next Done m.current; greatest = m.greatest; input = m.input }) refl refl (turned k)
 
 -- what an event does and makes, told of the event as it is written
 pub told_at : {C : Type 0} (page : Showing) (Names : List ℕ → Term → Type 0) (limit : ℕ) (greatest : Option ℕ) (e x : WireEvent) (made : Made) (before after : ℕ → At) (replies later : ℕ)

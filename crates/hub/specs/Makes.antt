@@ -4,7 +4,7 @@ use Rattle.httparse.specs.Grammar.{RequestHead}
 use Rattle.sd_value.specs.declared.Term.{Term}
 use Rattle.http_spec.specs.declared.RequestKind.{RequestKind}
 use Rattle.http_spec.specs.declared.Standing.{Standing}
-use Rattle.http_spec.specs.declared.Standing.TheVariants.{Open, Closed, Short, Lost}
+use Rattle.http_spec.specs.declared.Standing.TheVariants.{Open, Closed, Short}
 use Rattle.http_spec.specs.Asks.{ask_of}
 use Rattle.serving_spec.specs.Made.{Made, replies_in, LooksUp, MayLookUp}
 
@@ -14,7 +14,6 @@ abbrev pub LooksFor : (List ℕ → Term → Type 0) → Standing → RequestKin
 LooksFor Names Open kind target terms = LooksUp Names kind target terms
 LooksFor Names Closed kind target terms = LooksUp Names kind target terms
 LooksFor Names Short kind target terms = (terms ≡ []) ⊎ LooksUp Names kind target terms
-LooksFor Names Lost kind target terms = ⊥
 
 -- what is looked up for these heads, one after another, where requests for these hosts are answered
 abbrev pub LooksUpAll : Option (List ℕ) → (List ℕ → Term → Type 0) → List RequestHead → List Term

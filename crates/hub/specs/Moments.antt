@@ -1,5 +1,5 @@
 -- Where a connection is in a run of the hub: what holds of it after each list of events.
-use Rattle.std.specs.Prelude.{◌≡◌, ◌≢◌, ◌+◌, ◌<◌, ◌≤◌, ℕ, Bool, false, List, length, Option, Some, None, ⊤}
+use Rattle.std.specs.Prelude.{◌≡◌, ◌≢◌, ◌+◌, ◌<◌, ◌≤◌, ◌⊎◌, ℕ, Bool, false, List, length, Option, Some, None, ⊤}
 use Rattle.sd_value.specs.declared.Term.{Term}
 use Rattle.http_spec.specs.declared.Standing.TheVariants.{Open}
 use Rattle.http_spec.specs.Heads.{HasNoHead, max_head}
@@ -9,7 +9,8 @@ use Rattle.wire.specs.Accounts.{gain}
 use Rattle.serving_spec.specs.Counted.{Counts, no_counts, LooksUpFor, HasCounts}
 use Rattle.serving_spec.specs.Inputs.{Input, Unopened, Coming, Over, Moment}
 use Rattle.hub.specs.Line.{Line}
-use Rattle.serving_spec.specs.Sent.{SettledBy}
+use Rattle.serving_spec.specs.Delivered.{AllSent, CutOff}
+use Rattle.serving_spec.specs.Sent.{FrontOf, SettledBy}
 use Rattle.hub.specs.Turns.{At, seen_of}
 
 -- what the wire reports of a connection is settled by what came of it, and this is counted of it
@@ -17,6 +18,14 @@ abbrev pub SettledAt : {D : Type 0} → (D → Showing) → (List ℕ → Term �
     → List (Timed D) → Bool → At → At → Type 0
 SettledAt page Names limit counted stream ended first now =
     SettledBy (HasCounts page Names limit counted) stream ended (seen_of first) (seen_of now)
+
+-- the same, and nothing more is sent: an answer shut it, or a send failed
+abbrev pub IsOverAt : {D : Type 0} → (D → OutcomeAt) → (List ℕ → Term → Type 0) → ℕ → Counts D
+    → List (Timed D) → At → At → Type 0
+IsOverAt page Names limit counted stream first now =
+    ((all : AllSent (HasCounts page Names limit counted stream false) (seen_of first) (seen_of now))
+    × (all.standing ≢ Open))
+    ⊎ CutOff (FrontOf (HasCounts page Names limit counted) stream false) (seen_of first) (seen_of now)
 
 -- the connection is open: the replies to its whole heads were sent, and none closed it
 pub record IsOpenAt {D : Type 0} (page : D → Showing) (Names : List ℕ → Term → Type 0) (limit : ℕ)
@@ -41,8 +50,7 @@ abbrev pub StandsComing : {D : Type 0} → (D → Showing) → (List ℕ → Ter
 StandsComing page Names limit counted stream (Some line) first now =
     IsOpenAt page Names limit counted stream line first now
 StandsComing page Names limit counted stream None first now =
-    (settled : SettledAt page Names limit counted stream false first now)
-    × (settled.standing ≢ Open)
+    IsOverAt page Names limit counted stream first now
 
 -- the number is not above the greatest that was opened
 abbrev pub IsBelow : ℕ → Option ℕ → Type 0

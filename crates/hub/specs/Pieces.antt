@@ -4,7 +4,7 @@ use Rattle.httparse.specs.Grammar.{RequestHead}
 use Rattle.page_spec.specs.declared.Outcome.{Outcome}
 use Rattle.http_spec.specs.declared.ParsedRequest.{ParsedRequest}
 use Rattle.http_spec.specs.declared.Standing.{Standing}
-use Rattle.http_spec.specs.declared.Standing.TheVariants.{Open, Closed, Short, Lost}
+use Rattle.http_spec.specs.declared.Standing.TheVariants.{Open, Closed, Short}
 use Rattle.http_spec.specs.Heads.{max_head, IsHead, AreLineEnds, Cuts, print_heads}
 use Rattle.http_spec.specs.Replies.{reply_bytes, no_memory_bytes}
 use Rattle.http_spec.specs.Sessions.{Showing, IsLookedUp, IsReply, closes_after, refusal, IsRefused, IsDue}
@@ -64,7 +64,6 @@ Answered page ask target last Closed old new =
     (outcome : Outcome) × IsLookedUp page ask.kind target outcome × ((last || ask.close) ≡ true)
     × (new ≡ old ++ reply_bytes ask outcome (last || ask.close) ∷ [])
 Answered page ask target last Short old new = new ≡ old ++ no_memory_bytes ∷ []
-Answered page ask target last Lost old new = new ≡ old
 
 -- the connection stays open
 pub record StaysOpen (page : Showing) (before : Line) (piece : List ℕ) (after : Line)
@@ -90,9 +89,6 @@ Steps page before piece heads Short after old new =
     (replies : List (List ℕ)) × (new ≡ old ++ replies)
     × ((more : List ℕ) × (answered : List (List ℕ))
     × ShortAfter page before.left (before.rest ++ piece) replies heads more answered)
-Steps page before piece heads Lost after old new =
-    (between : List ℕ) × (more : List ℕ) × (piece ≡ between ++ more)
-    × ((held : Line) × (stays : StaysOpen page before between held old new) × (stays.heads ≡ heads))
 
 -- what is sent at the end of the input of an open connection, of which this rest is left
 abbrev pub AtEnd : List ℕ → Standing → List (List ℕ) → Type 0
@@ -100,4 +96,3 @@ AtEnd rest Open sent = ⊥
 AtEnd rest Closed sent =
     (AreLineEnds rest × (sent ≡ [])) ⊎ (¬ (AreLineEnds rest) × (sent ≡ refusal ∷ []))
 AtEnd rest Short sent = ¬ (AreLineEnds rest) × (sent ≡ no_memory_bytes ∷ [])
-AtEnd rest Lost sent = ¬ (AreLineEnds rest) × (sent ≡ [])

@@ -1,24 +1,24 @@
 -- What one event does to the connections.
-use Rattle.std.specs.Prelude.{◌≡◌, ◌≢◌, ℕ, Bool, true, false, ◌⊎◌, List, [], ◌∷◌, ◌++◌, take, Option, Some, None, MatchBool}
+use Rattle.std.specs.Prelude.{◌≡◌, ◌≢◌, ℕ, Bool, true, false, ◌⊎◌, List, [], ◌∷◌, ◌++◌, take, Option, Some, None, Result, Ok, Err, MatchBool}
 use Rattle.edge_io.specs.Counts.{Rose}
+use Rattle.edge_io.specs.declared.sink.Failed.{Failed}
 use Rattle.httparse.specs.Grammar.{RequestHead}
 use Rattle.sd_value.specs.declared.Term.{Term}
 use Rattle.http_spec.specs.declared.ParsedRequest.{ParsedRequest}
 use Rattle.http_spec.specs.declared.Standing.{Standing}
-use Rattle.http_spec.specs.declared.Standing.TheVariants.{Open, Closed, Short, Lost}
+use Rattle.http_spec.specs.declared.Standing.TheVariants.{Open, Closed, Short}
 use Rattle.http_spec.specs.Replies.{no_memory_bytes}
 use Rattle.http_spec.specs.Sessions.{Showing}
-use Rattle.wire.specs.Accounts.{Account, send_to}
+use Rattle.wire.specs.Accounts.{Account, send_to, gain}
 use Rattle.happenings.specs.declared.event.WireEvent.{WireEvent}
 use Rattle.happenings.specs.declared.event.WireEvent.TheVariants.{Opened, Bytes, Ended, Lost as LostEvent, Change, Done}
-use Rattle.serving_spec.specs.Delivered.{IsDelivered, closing}
+use Rattle.serving_spec.specs.Delivered.{Seen, closing}
 pub use Rattle.serving_spec.specs.Changes.{state_after, Keeps}
 use Rattle.hub.specs.Line.{Line}
 use Rattle.serving_spec.specs.Made.{Made, nothing, replies_in}
 use Rattle.hub.specs.Makes.{LooksFor, Makes}
 use Rattle.serving_spec.specs.Openings.{counts}
 use Rattle.hub.specs.Pieces.{Steps, Answered, AtEnd}
-use Rattle.serving_spec.specs.Sent.{Seen}
 
 -- where a connection is, and what the wire reports of it
 pub record At : Type 0 where
@@ -39,12 +39,33 @@ seen_of at = record { account = at.account; faults = at.faults }
 abbrev pub ats : (ℕ → Option Line) → (ℕ → Option Account) → (ℕ → ℕ) → ℕ → At
 ats lines accounts faults = λ number. at_in lines accounts faults number
 
+-- how a step leaves its connection, or a send of it failed
+abbrev pub StepEnd : Type 0
+StepEnd = Result Standing Failed
+
 -- the connection as it is after a step: one that is no longer open is forgotten
-abbrev pub kept_after : Standing → Line → Option Line
-kept_after Open after = Some after
-kept_after Closed after = None
-kept_after Short after = None
-kept_after Lost after = None
+abbrev pub kept_after : StepEnd → Line → Option Line
+kept_after (Ok Open) after = Some after
+kept_after (Ok Closed) after = None
+kept_after (Ok Short) after = None
+kept_after (Err failed) after = None
+
+-- its account after the step: an answer that shuts it closes it
+abbrev pub account_after : StepEnd → Option Account → Option Account
+account_after (Ok standing) account = closing standing account
+account_after (Err failed) account = account
+
+-- How the replies of a step were sent, before the connection is closed: all, each whole in one send; or a send failed, and
+-- then those before it were sent, and some first bytes of its own.
+abbrev pub IsDelivered : (Whole Front : Standing → List (List ℕ) → Type 0) → StepEnd
+    → (old new : Option Account) → (faults later : ℕ) → Type 0
+IsDelivered Whole Front (Ok standing) old new faults later =
+    (replies : List (List ℕ)) × Whole standing replies × (new ≡ gain old replies)
+    × (later ≡ faults)
+IsDelivered Whole Front (Err failed) old new faults later =
+    (would : Standing) × (before : List (List ℕ)) × (next : List ℕ) × (some : ℕ)
+    × Front would (before ++ next ∷ []) × (new ≡ send_to (gain old before) (take some next))
+    × Rose faults later
 
 -- a piece whose replies are made up to some byte of it
 pub record FrontSteps (page : Showing) (line : Line) (piece : List ℕ) (heads : List RequestHead)
@@ -52,7 +73,6 @@ pub record FrontSteps (page : Showing) (line : Line) (piece : List ℕ) (heads :
   pub front : List ℕ
   pub more : List ℕ
   pub held : Line
-  pub fails : would ≢ Lost
   pub cut : piece ≡ front ++ more
   pub steps : Steps page line front heads would held [] replies
 
@@ -71,84 +91,82 @@ FrontReplies page Names line piece made would replies =
     × Makes page.hosts Names would heads replies made
 
 -- a piece of an open connection's bytes came: its replies were sent
-abbrev pub IsPieceServed : Showing → (List ℕ → Term → Type 0) → Line → List ℕ → Made → Standing
+abbrev pub IsPieceServed : Showing → (List ℕ → Term → Type 0) → Line → List ℕ → Made → StepEnd
     → Line → Option Account → Option Account → ℕ → ℕ → Type 0
-IsPieceServed page Names line piece made standing held old new faults later =
+IsPieceServed page Names line piece made end held old new faults later =
     IsDelivered (PieceReplies page Names line piece made held)
-    (FrontReplies page Names line piece made) standing old new faults later
+    (FrontReplies page Names line piece made) end old new faults later
 
 -- one reply to an ask, and what it makes
 pub record Reply (page : Showing) (Names : List ℕ → Term → Type 0) (ask : ParsedRequest)
     (target : List ℕ)
     (last : Bool) (made : Made) (would : Standing) (replies : List (List ℕ)) : Type 0 where
   pub reply : List ℕ
-  pub fails : would ≢ Lost
   pub one : replies ≡ reply ∷ []
   pub answers : Answered page ask target last would [] (reply ∷ [])
   pub count : made.replies ≡ replies_in would (reply ∷ [])
   pub looks : LooksFor Names would ask.kind target made.terms
 
 -- one send of a reply, after which the connection closes or stays open
-abbrev pub IsSent : Bool → List ℕ → Standing → Option Account → Option Account → ℕ → ℕ → Type 0
-IsSent close reply Open old new faults later =
+abbrev pub IsSent : Bool → List ℕ → StepEnd → Option Account → Option Account → ℕ → ℕ → Type 0
+IsSent close reply (Ok Open) old new faults later =
     (close ≡ false) × (new ≡ send_to old reply) × (later ≡ faults)
-IsSent close reply Closed old new faults later =
+IsSent close reply (Ok Closed) old new faults later =
     (close ≡ true) × (new ≡ send_to old reply) × (later ≡ faults)
-IsSent close reply Short old new faults later = ⊥
-IsSent close reply Lost old new faults later =
+IsSent close reply (Ok Short) old new faults later = ⊥
+IsSent close reply (Err failed) old new faults later =
     (some : ℕ) × (new ≡ send_to old (take some reply)) × Rose faults later
 
 -- a reply to an ask was sent
 abbrev pub IsAnswered : Showing → (List ℕ → Term → Type 0) → ParsedRequest → List ℕ → Bool → Made
-    → Standing → Option Account → Option Account → ℕ → ℕ → Type 0
-IsAnswered page Names ask target last made standing old new faults later =
+    → StepEnd → Option Account → Option Account → ℕ → ℕ → Type 0
+IsAnswered page Names ask target last made end old new faults later =
     IsDelivered (Reply page Names ask target last made) (Reply page Names ask target last made)
-    standing old new faults later
+    end old new faults later
 
 -- what is sent at the end of the input, where nothing is looked up
 pub record EndSteps (rest : List ℕ) (made : Made) (would : Standing)
     (replies : List (List ℕ)) : Type 0 where
-  pub fails : would ≢ Lost
   pub steps : AtEnd rest would replies
   pub count : made.replies ≡ replies_in would replies
   pub none : made.terms ≡ []
 
 -- the end of an open connection's input came: what is due then was sent
-abbrev pub IsFinished : List ℕ → Made → Standing → Option Account → Option Account → ℕ → ℕ → Type 0
-IsFinished rest made standing old new faults later =
-    IsDelivered (EndSteps rest made) (EndSteps rest made) standing old new faults later
+abbrev pub IsFinished : List ℕ → Made → StepEnd → Option Account → Option Account → ℕ → ℕ → Type 0
+IsFinished rest made end old new faults later =
+    IsDelivered (EndSteps rest made) (EndSteps rest made) end old new faults later
 
 -- out of memory for the connection
-abbrev pub IsUnopened : Standing → Option Account → Option Account → ℕ → ℕ → Type 0
-IsUnopened standing old new faults later =
+abbrev pub IsUnopened : StepEnd → Option Account → Option Account → ℕ → ℕ → Type 0
+IsUnopened end old new faults later =
     IsDelivered (λ s replies. (s ≡ Short) × (replies ≡ no_memory_bytes ∷ []))
-    (λ s replies. (s ≡ Short) × (replies ≡ no_memory_bytes ∷ [])) standing old new faults later
+    (λ s replies. (s ≡ Short) × (replies ≡ no_memory_bytes ∷ [])) end old new faults later
 
 -- the connection was opened, or it was out of memory for it
 abbrev pub Opens : ℕ → At → At → Type 0
 Opens limit before after =
     (after ≡ record before { line = Some (record { rest = []; left = limit }) })
-    ⊎ ((standing : Standing) × (account : Option Account) × (standing ≢ Open)
-    × IsUnopened standing before.account account before.faults after.faults
-    × (after.account ≡ closing standing account) × (after.line ≡ None))
+    ⊎ ((end : StepEnd) × (account : Option Account)
+    × IsUnopened end before.account account before.faults after.faults
+    × (after.account ≡ account_after end account) × (after.line ≡ None))
 
 -- a piece came of a connection, which is open or not
 abbrev pub TakesPiece : Showing → (List ℕ → Term → Type 0) → List ℕ → Made → Option Line → At
     → At → Type 0
 TakesPiece page Names piece made None before after = (after ≡ before) × (made ≡ nothing)
 TakesPiece page Names piece made (Some line) before after =
-    (standing : Standing) × (held : Line) × (account : Option Account)
-    × IsPieceServed page Names line piece made standing held before.account account before.faults
+    (end : StepEnd) × (held : Line) × (account : Option Account)
+    × IsPieceServed page Names line piece made end held before.account account before.faults
     after.faults
-    × (after.account ≡ closing standing account) × (after.line ≡ kept_after standing held)
+    × (after.account ≡ account_after end account) × (after.line ≡ kept_after end held)
 
 -- the end of the input came of a connection, which is open or not
 abbrev pub Finishes : Made → Option Line → At → At → Type 0
 Finishes made None before after = (after ≡ before) × (made ≡ nothing)
 Finishes made (Some line) before after =
-    (standing : Standing) × (account : Option Account)
-    × IsFinished line.rest made standing before.account account before.faults after.faults
-    × (after.account ≡ closing standing account) × (after.line ≡ None)
+    (end : StepEnd) × (account : Option Account)
+    × IsFinished line.rest made end before.account account before.faults after.faults
+    × (after.account ≡ account_after end account) × (after.line ≡ None)
 
 -- every connection is as before, but that of this number
 abbrev pub OthersStay : ℕ → (ℕ → At) → (ℕ → At) → Type 0

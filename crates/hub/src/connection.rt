@@ -1,5 +1,5 @@
 // One connection: its bytes come in pieces, and its replies go out one by one.
-ghost use Rattle.std.specs.Prelude.{◌≡◌, ◌≢◌, ℕ, ◌<◌, ◌⊎◌, List, [], ◌∷◌, ◌++◌, ◌||◌, length, IfOk, true};
+ghost use Rattle.std.specs.Prelude.{◌≡◌, ℕ, ◌<◌, ◌⊎◌, List, [], ◌∷◌, ◌++◌, ◌||◌, length, IfOk, true};
 ghost use Rattle.sd_value.specs.declared.Term.{Term};
 ghost use Rattle.page_spec.specs.declared.Outcome.{Outcome};
 ghost use Rattle.page_spec.specs.Address.{TermOf};
@@ -13,6 +13,7 @@ ghost use Rattle.serving_spec.specs.Shown.{shown_in};
 ghost use Rattle.hub.specs.Turns.{IsPieceServed, IsFinished, IsUnopened, IsAnswered, IsSent};
 
 use address::term_of;
+use edge_io::Failed;
 use http_reply::{Reading, no_memory_reply, reply};
 use http_spec::{ParsedRequest, RequestKind, Standing};
 use page_spec::Outcome;
@@ -67,7 +68,7 @@ impl Connection {
         made: &mut u64,
         number: u64,
         wire: &mut W,
-    ) -> Standing
+    ) -> Result<Standing, Failed>
         requires own { P.Own pages.old }
         ensures own { P.Own pages.new }
         ensures state { P.state pages.new ≡ P.state pages.old }
@@ -90,7 +91,7 @@ impl Connection {
             let fed = self.reading.feed(&piece[from..], &origin.hosts);
             from += fed.taken;
             let Some(ask) = fed.ask else {
-                return Standing::Open;
+                return Ok(Standing::Open);
             };
             let last = self.left == 1;
             match answer(
@@ -104,13 +105,11 @@ impl Connection {
                 number,
                 wire,
             ) {
-                Standing::Open => self.left -= 1,
-                Standing::Closed => return Standing::Closed,
-                Standing::Short => return Standing::Short,
-                Standing::Lost => return Standing::Lost,
+                Ok(Standing::Open) => self.left -= 1,
+                end => return end,
             }
         }
-        Standing::Open
+        Ok(Standing::Open)
     }
 
     /// Takes the end of the bytes, and sends a 400 where the rest is more than line ends.
@@ -123,7 +122,7 @@ impl Connection {
         made: &mut u64,
         number: u64,
         wire: &mut W,
-    ) -> Standing
+    ) -> Result<Standing, Failed>
         requires own { P.Own pages.old }
         ensures own { P.Own pages.new }
         ensures state { P.state pages.new ≡ P.state pages.old }
@@ -141,7 +140,7 @@ impl Connection {
             (W.told wire.new).account }
     {
         let Some(ask) = self.reading.end() else {
-            return Standing::Closed;
+            return Ok(Standing::Closed);
         };
         answer(alloc, &ask, &[], true, origin, pages, made, number, wire)
     }
@@ -159,7 +158,7 @@ pub(crate) fn answer<P: Versions, W: Wire>(
     made: &mut u64,
     number: u64,
     wire: &mut W,
-) -> Standing
+) -> Result<Standing, Failed>
     requires own { P.Own pages.old }
     ensures own { P.Own pages.new }
     ensures state { P.state pages.new ≡ P.state pages.old }
@@ -196,7 +195,7 @@ fn closes(ask: &ParsedRequest, last: bool) -> bool
 
 /// Sends a reply.
 #[tactic(auto, using(crate::proofs::NotedLemmas::noted_sent, crate::proofs::NotedLemmas::noted_cut))]
-fn send<W: Wire>(reply: &[u8], close: bool, number: u64, wire: &mut W) -> Standing
+fn send<W: Wire>(reply: &[u8], close: bool, number: u64, wire: &mut W) -> Result<Standing, Failed>
     ensures others { OtherAccountsStay number (W.told wire.old) (W.told wire.new) }
     ensures others_fine { OtherFaultsStay number (W.told wire.old) (W.told wire.new) }
     ensures sent { IsSent close reply.now result ((W.told wire.old).account number)
@@ -206,18 +205,18 @@ fn send<W: Wire>(reply: &[u8], close: bool, number: u64, wire: &mut W) -> Standi
     ensures noted { Noted (W.trace wire.old) (W.trace wire.new) (W.told wire.old).account
         (W.told wire.new).account }
 {
-    match wire.send(number, reply) {
-        Err(_) => Standing::Lost,
-        Ok(()) if close => Standing::Closed,
-        Ok(()) => Standing::Open,
+    wire.send(number, reply)?;
+    if close {
+        Ok(Standing::Closed)
+    } else {
+        Ok(Standing::Open)
     }
 }
 
 /// Sends the reply that reports out of memory.
-pub(crate) fn cut_short<W: Wire>(number: u64, wire: &mut W) -> Standing
+pub(crate) fn cut_short<W: Wire>(number: u64, wire: &mut W) -> Result<Standing, Failed>
     ensures others { OtherAccountsStay number (W.told wire.old) (W.told wire.new) }
     ensures others_fine { OtherFaultsStay number (W.told wire.old) (W.told wire.new) }
-    ensures over { result ≢ Standing.Open }
     ensures sent { IsUnopened result ((W.told wire.old).account number)
         ((W.told wire.new).account number) ((W.told wire.old).faults number)
         ((W.told wire.new).faults number) }
@@ -225,10 +224,8 @@ pub(crate) fn cut_short<W: Wire>(number: u64, wire: &mut W) -> Standing
     ensures noted { Noted (W.trace wire.old) (W.trace wire.new) (W.told wire.old).account
         (W.told wire.new).account }
 {
-    match wire.send(number, no_memory_reply()) {
-        Ok(()) => Standing::Short,
-        Err(_) => Standing::Lost,
-    }
+    wire.send(number, no_memory_reply())?;
+    Ok(Standing::Short)
 }
 
 /// The reply to one ask.

@@ -8,6 +8,7 @@ ghost use Rattle.happenings.specs.Happening.{Happening};
 ghost use Rattle.happenings.specs.declared.event.WireEvent.{WireEvent};
 ghost use Rattle.hub.specs.HubState.{scene, line_of};
 ghost use Rattle.hub.specs.Course.{rules_under, IsCourse, Happens};
+ghost use Rattle.serving_spec.specs.Changes.{state_after};
 ghost use Rattle.serving_spec.specs.Inputs.{moment_after, Unopened};
 ghost use Rattle.hub.specs.Moments.{Stands};
 ghost use Rattle.serving_spec.specs.RunEnds.{EndsRun};
@@ -44,7 +45,7 @@ pub fn serve<P: Versions, W: Wire>(
         × ((number : ℕ) → line_of hub.old number ≡ None
         → Stands (shown_in hub.old.origin P.site P.templates) (TermOf hub.old.origin.root)
         hub.old.limit number
-        (moment_after P.changed number (record {
+        (moment_after (state_after P.changed) number (record {
           current = P.state hub.old.pages;
           greatest = hub.old.greatest;
           input = Unopened;

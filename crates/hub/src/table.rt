@@ -6,12 +6,12 @@ ghost use Rattle.page_spec.specs.Address.{TermOf};
 ghost use Rattle.wire.specs.Accounts.{up_by};
 ghost use Rattle.wire.specs.Noted.{Noted};
 ghost use Rattle.wire.specs.Told.{EventsStay, OtherAccountsStay};
-ghost use Rattle.serving_spec.specs.Delivered.{closing};
 ghost use Rattle.serving_spec.specs.Made.{Made, AllLooked};
 ghost use Rattle.serving_spec.specs.Shown.{shown_in};
-ghost use Rattle.hub.specs.Turns.{At, ats, at_in, Opens, TakesPiece, Finishes, OthersStay};
+ghost use Rattle.hub.specs.Turns.{At, ats, at_in, account_after, Opens, TakesPiece, Finishes, OthersStay};
 
 use crate::connection::{Connection, cut_short};
+use edge_io::Failed;
 use http_spec::Standing;
 use serving_spec::Origin;
 use std::alloc::Global;
@@ -49,8 +49,8 @@ pub(crate) fn open<W: Wire>(
         return;
     }
     forget(connections, number);
-    let standing = cut_short(number, wire);
-    settle(standing, number, wire);
+    let end = cut_short(number, wire);
+    settle(&end, number, wire);
 }
 
 /// Takes a piece of one connection's bytes. A number that is not open is passed over. `made` counts the replies.
@@ -85,17 +85,17 @@ pub(crate) fn take_piece<P: Versions, W: Wire>(
     ensures noted { Noted (W.trace wire.old) (W.trace wire.new) (W.told wire.old).account
         (W.told wire.new).account }
 {
-    let standing = match connections.get_mut(&number) {
+    let end = match connections.get_mut(&number) {
         None => return,
         Some(connection) => connection.bytes(alloc, piece, origin, pages, made, number, wire),
     };
-    match standing {
-        Standing::Open => {}
-        Standing::Closed => forget(connections, number),
-        Standing::Short => forget(connections, number),
-        Standing::Lost => forget(connections, number),
+    match &end {
+        Ok(Standing::Open) => {}
+        Ok(Standing::Closed) => forget(connections, number),
+        Ok(Standing::Short) => forget(connections, number),
+        Err(_) => forget(connections, number),
     }
-    settle(standing, number, wire);
+    settle(&end, number, wire);
 }
 
 /// Takes the end of one connection's input. A number that is not open is passed over. `made` counts the replies.
@@ -128,30 +128,30 @@ pub(crate) fn finish<P: Versions, W: Wire>(
     ensures noted { Noted (W.trace wire.old) (W.trace wire.new) (W.told wire.old).account
         (W.told wire.new).account }
 {
-    let standing = match connections.get_mut(&number) {
+    let end = match connections.get_mut(&number) {
         None => return,
         Some(connection) => connection.end(alloc, origin, pages, made, number, wire),
     };
     forget(connections, number);
-    settle(standing, number, wire);
+    settle(&end, number, wire);
 }
 
 /// Closes the connection where a reply has closed it.
 #[tactic(auto, using(crate::proofs::NotedLemmas::noted_none, crate::proofs::NotedLemmas::noted_closed))]
-fn settle<W: Wire>(standing: Standing, number: u64, wire: &mut W)
+fn settle<W: Wire>(end: &Result<Standing, Failed>, number: u64, wire: &mut W)
     ensures closed { (W.told wire.new).account number
-        ≡ closing standing ((W.told wire.old).account number) }
+        ≡ account_after end.now ((W.told wire.old).account number) }
     ensures others { OtherAccountsStay number (W.told wire.old) (W.told wire.new) }
     ensures faults { (other : ℕ) → (W.told wire.new).faults other ≡ (W.told wire.old).faults other }
     ensures stays { EventsStay (W.told wire.old) (W.told wire.new) }
     ensures noted { Noted (W.trace wire.old) (W.trace wire.new) (W.told wire.old).account
         (W.told wire.new).account }
 {
-    match standing {
-        Standing::Open => {}
-        Standing::Closed => wire.close(number),
-        Standing::Short => wire.close(number),
-        Standing::Lost => {}
+    match end {
+        Ok(Standing::Open) => {}
+        Ok(Standing::Closed) => wire.close(number),
+        Ok(Standing::Short) => wire.close(number),
+        Err(_) => {}
     }
 }
 

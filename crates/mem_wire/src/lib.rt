@@ -5,7 +5,7 @@ ghost use Rattle.std.specs.Prelude.{◌≡◌, ◌≢◌, ◌≤◌, ◌⊎◌, 
 ghost use Rattle.std.specs.Prelude.{IfSome, IsSome, OnOk, OnErr, Err, is_err, IsErrOf, if◌then◌else◌};
 ghost use Rattle.std.specs.Prelude.{MatchResult, ◌++◌, ◌∷◌, length};
 ghost use Rattle.happenings.specs.Happening.{Watched, WatchFailed, Listened, ListenFailed, Given, NextFailed};
-ghost use Rattle.happenings.specs.Happening.{Sent, SendFailed, Closed};
+ghost use Rattle.happenings.specs.Happening.{Sent, SendFailed, Closed, Finished};
 ghost use Rattle.std.specs.Ordering.{nat_cmp};
 ghost use Rattle.std.specs.BTreeMap.{get};
 ghost use Rattle.edge_io.specs.Counts.{Rose};
@@ -488,10 +488,12 @@ impl Wire for MemWire {
         self.log.closed(connection);
     }
 
-    /// Does nothing.
+    /// Nothing is queued, so nothing is left to send.
     fn finish(&mut self)
-        ensures traced { self.new.trace ≡ self.old.trace }
+        ensures traced { self.new.trace ≡ self.old.trace ++ Finished ∷ [] }
         ensures stays { told_of self.new ≡ told_of self.old }
-        ensures nothing { self.new ≡ self.old }
-    {}
+        ensures only { self.new ≡ record self.old { trace = self.new.trace } }
+    {
+        self.log.finished();
+    }
 }

@@ -5,7 +5,7 @@ use Rattle.std.specs.Prelude.{Option, None, Some, Result, ⊤}
 use Rattle.std.specs.Prelude as prelude
 use Rattle.std.specs.List.{AllZip}
 use Rattle.edge_io.specs.Files.{FileMap}
-use Rattle.happenings.specs.Happening.{Happening, WriteFailed, Put, PutFailed, Watched, WatchFailed, Listened, ListenFailed, Given, NextFailed}
+use Rattle.happenings.specs.Happening.{Happening, WriteFailed, Put, PutFailed, Watched, WatchFailed, Listened, ListenFailed, Given, NextFailed, Finished}
 use Rattle.happenings.specs.declared.event.WireEvent.{WireEvent}
 use Rattle.happenings.specs.declared.event.WireEvent.TheVariants.{Change}
 use Rattle.happenings.specs.declared.stream.Stream.{Stream}
@@ -236,9 +236,9 @@ module _ (out : Stream) (c : ServeCommand) (s : Inputs) where
 
   serves_read : (watches : Bool) (before after : WireReport) (part : List Happening) (reached : Status) → serve.ServesThenCounts s out watches c.options before after part reached → Each IsNoRead part
   serves_read watches before after part reached h =
-      each_is IsNoRead part (h.turns ++ h.counts) h.part_is
-      (both IsNoRead h.turns h.counts (turns_read s c.options.limits before after h.served h.turns h.serves)
-      (each_to IsQuiet IsNoRead quiet_reads h.counts (counts_quiet watches h.served h.counts reached h.puts)))
+      each_is IsNoRead part (h.turns ++ Finished ∷ h.counts) h.part_is
+      (both IsNoRead h.turns (Finished ∷ h.counts) (turns_read s c.options.limits before after h.served h.turns h.serves)
+      (tt, each_to IsQuiet IsNoRead quiet_reads h.counts (counts_quiet watches h.served h.counts reached h.puts)))
 
   no_counts_quiet : (watches : Bool) (part : List Happening) (reached : Status) → serve.NoCountsHappen s out watches c.options part reached → Each IsQuiet part
   no_counts_quiet watches part reached h = one_put_quiet out _ part h.1

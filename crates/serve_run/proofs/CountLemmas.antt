@@ -1,6 +1,6 @@
 -- What is counted of a run, from its steps.
-use Rattle.std.proofs.Common.{◌≡◌, ℕ, suc, ◌+◌, ◌<◌, Bool, false, List, [], ◌∷◌, ◌++◌, length, length-append, refl, sym, ap, ◌∙◌, subst, inl, inr, arith, Option, Some, None, if◌then◌else◌}
-use Rattle.std.specs.List.{fold}
+use Rattle.std.proofs.Common.{◌≡◌, ℕ, ◌<◌, Bool, false, List, [], ◌∷◌, ◌++◌, length, length-append, refl, sym, ap, ◌∙◌, subst, inl, inr, Option, Some, None, if◌then◌else◌}
+use Rattle.std.specs.List.{fold, AllZip}
 use Rattle.sd_value.specs.declared.Term.{Term}
 use Rattle.tmpl.specs.Body.{TemplateFile}
 use Rattle.page_spec.specs.Address.{TermOf}
@@ -13,13 +13,15 @@ use Rattle.wire.specs.Accounts.{up_by}
 use Rattle.happenings.specs.Happening.{Happening}
 use Rattle.happenings.specs.declared.event.WireEvent.{WireEvent}
 use Rattle.happenings.specs.declared.event.WireEvent.TheVariants.{Opened, Bytes, Ended, Lost, Change, Done}
-use Rattle.serving_spec.specs.Changes.{Changes, state_after, data_at, text_of, refused_of, texts_in, refused_in, AllKept, AreTaken}
-use Rattle.serving_spec.specs.Counted.{Counts, no_counts, counts_with, HasCounts, IsCounted, is_of, MakeFor, counts_from, after_place, placed_from}
-use Rattle.serving_spec.specs.Inputs.{Input, Unopened, Coming, Over, Moment}
+use Rattle.serving_spec.specs.Changes.{Changes, state_after, text_of, refused_of, texts_in, refused_in, AllKept, AreTaken}
+use Rattle.serving_spec.specs.Counted.{Counts, no_counts, counts_with, HasCounts, IsCounted, is_of, MayMake, counts_after}
+use Rattle.serving_spec.specs.Delivered.{Seen}
+use Rattle.serving_spec.specs.Inputs.{Input, Unopened, Coming, Over, Moment, after_event, moment_after}
 use Rattle.serving_spec.specs.Looks.{Kept}
 use Rattle.serving_spec.specs.Made.{Made}
 use Rattle.serving_spec.specs.Openings.{greatest_after}
-use Rattle.serving_spec.specs.Sent.{Seen, FrontOf, SettledBy, IsServedBy, IsServed}
+use Rattle.serving_spec.specs.Sent.{FrontOf, SettledBy, IsServedBy, IsServed}
+use Rattle.serving_spec.specs.Serving.{When, after_when, first_when}
 use Rattle.serving_spec.specs.Shown.{shown_in}
 use Rattle.serving_spec.specs.declared.HubEnd.{HubEnd}
 use Rattle.serving_spec.specs.declared.Origin.{Origin}
@@ -28,8 +30,7 @@ use Rattle.hub.specs.Line.{Line}
 use Rattle.hub.specs.Moments.{SettledAt, StandsComing, StandsFor, CountedStands}
 use Rattle.hub.specs.Turns.{At, seen_of, Turned}
 use Rattle.hub.proofs.MadeLemmas.{up_by_more}
-use Rattle.hub.proofs.RunLemmas.{greatest_of_event}
-use Rattle.hub.proofs.StandLemmas.{delivered_map, so_far}
+use Rattle.hub.proofs.StandLemmas.{all_sent_map, cut_off_map, over_settled, so_far}
 use Rattle.hub.proofs.TurnLemmas.{stands_turn}
 use Rattle.serve_run.specs.Steps.{run_rules}
 
@@ -37,9 +38,9 @@ use Rattle.serve_run.specs.Steps.{run_rules}
 module _ {D : Type 0} (page : D → Showing) (Names : List ℕ → Term → Type 0) (d : D) (limit : ℕ) (counted : Counts D) (first now : At) where
   coming_served : (stream : List (Timed D)) (line : Option Line) → StandsComing page Names limit counted stream line first now
       → SettledAt page Names limit counted stream false first now
-  coming_served stream None (settled, over) = settled
+  coming_served stream None over = over_settled page Names limit counted stream first now over
   coming_served stream (Some line) o =
-      record { standing = Open; account = now.account; sent = (o.replies, so_far page Names d limit counted stream line first now o, o.account, o.faults); closed = refl }
+      inl record { standing = Open; replies = o.replies; answer = so_far page Names d limit counted stream line first now o; account = o.account; faults = o.faults }
 
   pub served_of : (input : Input D) → StandsFor page Names limit counted input first now
       → IsServedBy (HasCounts page Names limit counted) input (seen_of first) (seen_of now)
@@ -74,14 +75,11 @@ module _ {D : Type 0} (page : D → Showing) (Names : List ℕ → Term → Type
   }
 
   plain_settled : (stream : List (Timed D)) (ended : Bool) (first now : Seen) → SettledBy (HasCounts page Names limit counted) stream ended first now → SettledBy (HasAnswer page limit) stream ended first now
-  plain_settled stream ended first now s = record {
-    standing = s.standing;
-    account = s.account;
-    sent = delivered_map (HasCounts page Names limit counted stream ended) (FrontOf (HasCounts page Names limit counted) stream ended) (HasAnswer page limit stream ended) (FrontOf (HasAnswer page limit) stream ended)
-        s.standing first.account s.account first.faults now.faults
-        (λ replies is. plain stream ended s.standing replies is) (λ would replies is. plain_front stream ended would replies is) s.sent;
-    closed = s.closed;
-  }
+  plain_settled stream ended first now (inl all) =
+      inl (all_sent_map (HasCounts page Names limit counted stream ended) (HasAnswer page limit stream ended) first now all (plain stream ended all.standing all.replies))
+  plain_settled stream ended first now (inr cut) =
+      inr (cut_off_map (FrontOf (HasCounts page Names limit counted) stream ended) (FrontOf (HasAnswer page limit) stream ended) first now
+      (λ standing replies is. plain_front stream ended standing replies is) cut)
 
   pub plain_served : (input : Input D) (first now : Seen) → IsServedBy (HasCounts page Names limit counted) input first now → IsServed page limit input first now
   plain_served Unopened first now same = same
@@ -89,94 +87,93 @@ module _ {D : Type 0} (page : D → Showing) (Names : List ℕ → Term → Type
   plain_served (Over ended stream) first now settled = plain_settled stream ended first now settled
 
 -- an event of no connection makes nothing
-make_for : (page : Showing) (Names : List ℕ → Term → Type 0) (limit : ℕ) (greatest : Option ℕ) (e : WireEvent) (made : Made) (before after : ℕ → At) (events : List WireEvent) (makes : List Made)
-    → Turned page Names limit greatest e made before after → MakeFor events makes → MakeFor (e ∷ events) (made ∷ makes)
-make_for page Names limit greatest (Opened number) made before after events makes turned rest = rest
-make_for page Names limit greatest (Bytes number piece) made before after events makes turned rest = rest
-make_for page Names limit greatest (Ended number) made before after events makes turned rest = rest
-make_for page Names limit greatest (Lost number) made before after events makes turned rest = rest
-make_for page Names limit greatest (Change text) made before after events makes turned rest = (turned.1, rest)
-make_for page Names limit greatest Done made before after events makes turned rest = (turned.1, rest)
+may_make : (page : Showing) (Names : List ℕ → Term → Type 0) (limit : ℕ) (greatest : Option ℕ) (e : WireEvent) (made : Made) (before after : ℕ → At) → Turned page Names limit greatest e made before after
+    → MayMake e made
+may_make page Names limit greatest (Opened number) made before after turned = tt
+may_make page Names limit greatest (Bytes number piece) made before after turned = tt
+may_make page Names limit greatest (Ended number) made before after turned = tt
+may_make page Names limit greatest (Lost number) made before after turned = tt
+may_make page Names limit greatest (Change text) made before after turned = turned.1
+may_make page Names limit greatest Done made before after turned = turned.1
 
 -- one list behind another is counted
 counted_more : {A : Type 0} (xs ys : List A) (n : ℕ) → up_by (length ys) (up_by (length xs) n) ≡ up_by (length (xs ++ ys)) n
 counted_more xs ys n = sym (ap (λ k. up_by k n) (length-append xs ys) ∙ up_by_more (length xs) (length ys) n)
 
--- Over pages whose data texts may change, where at has what is current at each place of the run.
-module _ {D : Type 0} (origin : Origin) (site : D → Site) (templates : D → TemplateFile) (texts : Changes D) (limit : ℕ) (some : 0 < limit) (at : ℕ → D) where
-  abbrev page : ℕ → Showing
-  page place = shown_in origin site templates (at place)
+-- Over pages whose data texts may change.
+module _ {D : Type 0} (origin : Origin) (site : D → Site) (templates : D → TemplateFile) (texts : Changes D) (limit : ℕ) (some : 0 < limit) where
+  abbrev page : When D → Showing
+  page when = shown_in origin site templates when.current
+
+  abbrev next : WireEvent → When D → When D
+  next = after_when texts.changed
 
   abbrev rules : Rules D Kept
   rules = run_rules origin site templates texts
 
-  abbrev Here : ℕ → Moment ℕ → Counts ℕ → At → At → Type 0
+  abbrev Here : ℕ → Moment (When D) → Counts (When D) → At → At → Type 0
   Here k moment counted first now = CountedStands page (TermOf origin.root) limit k moment counted first now
 
   -- one step, for one connection
-  one_step : (k place : ℕ) (e : WireEvent) (moment : Moment ℕ) (counted : Counts ℕ) (first : At) (before after : Scene D Kept) → before.current ≡ at place
-      → moment.current ≡ place → moment.greatest ≡ before.greatest → Here k moment counted first (before.ats k) → (step : Passes rules limit e before after)
-      → Here k (after_place k moment e) (if is_of k e then counts_with counted place step.made else counted) first (after.ats k)
-  one_step k place e moment counted first before after current at_place greatest here step =
+  one_step : (k : ℕ) (when : When D) (e : WireEvent) (moment : Moment (When D)) (counted : Counts (When D)) (first : At) (before after : Scene D Kept) → when.current ≡ before.current
+      → moment.current ≡ when → moment.greatest ≡ before.greatest → Here k moment counted first (before.ats k) → (step : Passes rules limit e before after)
+      → Here k (after_event next k moment e) (if is_of k e then counts_with counted when step.made else counted) first (after.ats k)
+  one_step k when e moment counted first before after current is_when greatest here step =
       let turned : Turned (page moment.current) (TermOf origin.root) limit moment.greatest e step.made before.ats after.ats =
       subst (λ g. Turned (page moment.current) (TermOf origin.root) limit g e step.made before.ats after.ats) (sym greatest)
-      (subst (λ d. Turned (shown_in origin site templates d) (TermOf origin.root) limit before.greatest e step.made before.ats after.ats) (current ∙ ap at (sym at_place)) step.turned) in
-      let there = stands_turn page (TermOf origin.root) (λ current text. current) limit k moment counted first step.made before.ats after.ats some here e turned in
-      subst (λ n. Here k (after_place k moment e) (if is_of k e then counts_with counted n step.made else counted) first (after.ats k)) at_place
-      record { stands = there.stands; opened = there.opened }
+      (subst (λ d. Turned (shown_in origin site templates d) (TermOf origin.root) limit before.greatest e step.made before.ats after.ats) (sym current ∙ ap (λ (w : When D). w.current) (sym is_when)) step.turned) in
+      subst (λ w. Here k (after_event next k moment e) (if is_of k e then counts_with counted w step.made else counted) first (after.ats k)) is_when
+      (stands_turn page (TermOf origin.root) next limit k moment counted first step.made before.ats after.ats some here e turned)
 
   -- what is counted after the events
-  pub record After (firsts : ℕ → At) (moments : ℕ → Moment ℕ) (counted : ℕ → Counts ℕ) (place : ℕ) (events : List WireEvent) (before after : Scene D Kept) : Type 0 where
+  pub record After (firsts : ℕ → At) (moments : ℕ → Moment (When D)) (counted : ℕ → Counts (When D)) (when : When D) (events : List WireEvent) (before after : Scene D Kept) : Type 0 where
     pub makes : List Made
-    pub one_each : MakeFor events makes
-    pub stands : (k : ℕ) → Here k (placed_from k (moments k) events) (counts_from k place (counted k) events makes) (firsts k) (after.ats k)
+    pub one_each : AllZip MayMake events makes
+    pub stands : (k : ℕ) → Here k (moment_after next k (moments k) events) (counts_after next k when (counted k) events makes) (firsts k) (after.ats k)
     pub replies : after.replies ≡ fold (λ n made. up_by made.replies n) before.replies makes
     pub changes : after.changes ≡ up_by (length (texts_in events)) before.changes
     pub refused : after.refused ≡ up_by (length (refused_in texts before.current events)) before.refused
     pub keeps : AllKept site templates texts before.current events makes before.cache after.cache
 
-  all_steps : (firsts : ℕ → At) (events : List WireEvent) (moments : ℕ → Moment ℕ) (counted : ℕ → Counts ℕ) (place : ℕ) (before after : Scene D Kept)
-      → ((n : ℕ) → at (place + n) ≡ data_at texts.changed before.current events n)
-      → ((k : ℕ) → (moments k).current ≡ place) → ((k : ℕ) → (moments k).greatest ≡ before.greatest)
+  all_steps : (firsts : ℕ → At) (events : List WireEvent) (moments : ℕ → Moment (When D)) (counted : ℕ → Counts (When D)) (when : When D) (before after : Scene D Kept)
+      → when.current ≡ before.current → ((k : ℕ) → (moments k).current ≡ when) → ((k : ℕ) → (moments k).greatest ≡ before.greatest)
       → ((k : ℕ) → Here k (moments k) (counted k) (firsts k) (before.ats k))
-      → (trace : List Happening) → PassesAll rules limit before events after trace → After firsts moments counted place events before after
-  all_steps firsts [] moments counted place before after at_is places greatest here trace (same, none) = record {
+      → (trace : List Happening) → PassesAll rules limit before events after trace → After firsts moments counted when events before after
+  all_steps firsts [] moments counted when before after current whens greatest here trace (same, none) = record {
     makes = [];
-    one_each = refl;
+    one_each = tt;
     stands = λ k. subst (λ (s : Scene D Kept). Here k (moments k) (counted k) (firsts k) (s.ats k)) (sym same) (here k);
     replies = ap (λ (s : Scene D Kept). s.replies) same;
     changes = ap (λ (s : Scene D Kept). s.changes) same;
     refused = ap (λ (s : Scene D Kept). s.refused) same;
     keeps = ap (λ (s : Scene D Kept). s.cache) same;
   }
-  all_steps firsts (e ∷ events) moments counted place before after at_is places greatest here trace (between, step, others, rest, is) =
-      let here_is : before.current ≡ at place = sym (at_is 0) ∙ ap at (let none : place + 0 ≡ place = omega arith in none) in
-      let next = all_steps firsts events (λ k. after_place k (moments k) e) (λ k. if is_of k e then counts_with (counted k) place step.made else counted k) (place + 1) between after
-      (λ n. ap at (let later : place + 1 + n ≡ place + suc n = omega arith in later) ∙ at_is (suc n) ∙ ap (λ d. data_at texts.changed d events n) (sym step.current))
-      (λ k. ap (λ n. n + 1) (places k))
-      (λ k. greatest_of_event (λ current text. current) k (moments k) e ∙ ap (greatest_after e) (greatest k) ∙ sym step.greatest)
-      (λ k. one_step k place e (moments k) (counted k) (firsts k) before between here_is (places k) (greatest k) (here k) step)
+  all_steps firsts (e ∷ events) moments counted when before after current whens greatest here trace (between, step, others, rest, is) =
+      let later = all_steps firsts events (λ k. after_event next k (moments k) e) (λ k. if is_of k e then counts_with (counted k) when step.made else counted k) (next e when) between after
+      (ap (state_after texts.changed e) current ∙ sym step.current)
+      (λ k. ap (next e) (whens k))
+      (λ k. ap (greatest_after e) (greatest k) ∙ sym step.greatest)
+      (λ k. one_step k when e (moments k) (counted k) (firsts k) before between current (whens k) (greatest k) (here k) step)
       others rest in
       record {
-        makes = step.made ∷ next.makes;
-        one_each = make_for (rules.Page before.current) rules.Names limit before.greatest e step.made before.ats between.ats events next.makes step.turned next.one_each;
-        stands = next.stands;
-        replies = next.replies ∙ ap (λ n. fold (λ m made. up_by made.replies m) n next.makes) step.replies;
-        changes = next.changes ∙ ap (up_by (length (texts_in events))) step.changes ∙ counted_more (text_of e) (texts_in events) before.changes;
-        refused = next.refused ∙ ap (up_by (length (refused_in texts between.current events))) step.refused
+        makes = step.made ∷ later.makes;
+        one_each = (may_make (rules.Page before.current) rules.Names limit before.greatest e step.made before.ats between.ats step.turned, later.one_each);
+        stands = later.stands;
+        replies = later.replies ∙ ap (λ n. fold (λ m made. up_by made.replies m) n later.makes) step.replies;
+        changes = later.changes ∙ ap (up_by (length (texts_in events))) step.changes ∙ counted_more (text_of e) (texts_in events) before.changes;
+        refused = later.refused ∙ ap (up_by (length (refused_in texts between.current events))) step.refused
             ∙ ap (λ d. up_by (length (refused_in texts d events)) (up_by (length (refused_of (texts.accepts before.current) e)) before.refused)) step.current
             ∙ counted_more (refused_of (texts.accepts before.current) e) (refused_in texts (state_after texts.changed e before.current) events) before.refused;
-        keeps = (between.cache, step.cache, subst (λ d. AllKept site templates texts d events next.makes between.cache after.cache) step.current next.keeps);
+        keeps = (between.cache, step.cache, subst (λ d. AllKept site templates texts d events later.makes between.cache after.cache) step.current later.keeps);
       }
 
   -- from the first event on
-  pub steps_of : (events : List WireEvent) (first last : Scene D Kept) → ((n : ℕ) → at n ≡ data_at texts.changed first.current events n) → first.greatest ≡ None → ((k : ℕ) → (first.ats k).line ≡ None)
+  pub steps_of : (start : D) (events : List WireEvent) (first last : Scene D Kept) → first.current ≡ start → first.greatest ≡ None → ((k : ℕ) → (first.ats k).line ≡ None)
       → (trace : List Happening) → PassesAll rules limit first events last trace
-      → After first.ats (λ k. record { current = 0; greatest = None; input = Unopened }) (λ k. no_counts) 0 events first last
-  steps_of events first last at_is none_open closed trace passes =
-      all_steps first.ats events (λ k. record { current = 0; greatest = None; input = Unopened }) (λ k. no_counts) 0 first last
-      (λ n. ap at (let same : 0 + n ≡ n = omega arith in same) ∙ at_is n)
-      (λ k. refl) (λ k. sym none_open) (λ k. record { stands = (closed k, refl, refl); opened = tt }) trace passes
+      → After first.ats (λ k. record { current = first_when start; greatest = None; input = Unopened }) (λ k. no_counts) (first_when start) events first last
+  steps_of start events first last current none_open closed trace passes =
+      all_steps first.ats events (λ k. record { current = first_when start; greatest = None; input = Unopened }) (λ k. no_counts) (first_when start) first last
+      (sym current) (λ k. refl) (λ k. sym none_open) (λ k. record { stands = (closed k, refl, refl); opened = tt }) trace passes
 
 -- the events that were taken, and the run as it is after them: out of memory for a change, nothing is made of it
 pub record Whole {D : Type 0} (made_by : Rules D Kept) (limit : ℕ) (ended : HubEnd) (first : Scene D Kept) (events : List WireEvent) (last : Scene D Kept) : Type 0 where

@@ -14,7 +14,7 @@ use Rattle.wire.specs.Told.{WireReport}
 use Rattle.happenings.specs.Happening.{Happening}
 use Rattle.happenings.specs.declared.event.WireEvent.{WireEvent}
 use Rattle.happenings.specs.declared.event.WireEvent.TheVariants.{Opened, Bytes, Ended, Lost, Change, Done}
-use Rattle.serving_spec.specs.Changes.{Changes, data_at, texts_in, refused_in, AllKept}
+use Rattle.serving_spec.specs.Changes.{Changes, state_after, texts_in, refused_in, AllKept}
 use Rattle.serving_spec.specs.Looks.{Kept, KeptPage}
 use Rattle.hub.specs.Course.{Scene, Rules, PassesAll, IsCourse, Happens}
 use Rattle.hub.specs.HubState.{scene, HubState, line_of}
@@ -23,6 +23,7 @@ use Rattle.serving_spec.specs.Inputs.{Input, Unopened, moment_after, input_of}
 use Rattle.hub.specs.Moments.{Stands}
 use Rattle.serving_spec.specs.RunEnds.{EndsRun}
 use Rattle.serving_spec.specs.Shown.{shown_in}
+use Rattle.http_spec.specs.Sessions.{Showing}
 use Rattle.hub.specs.Turns.{seen_of, at_in}
 use Rattle.serving_spec.specs.Openings.{counts, greatest_after, opened_after, opens, opened_from, opened_in}
 use Rattle.serving_spec.specs.declared.Tally.{Tally}
@@ -31,8 +32,8 @@ use Rattle.serving_spec.specs.declared.Origin.{Origin}
 use Rattle.serving_spec.specs.declared.CacheRoom.{CacheRoom}
 use Rattle.serving_spec.specs.declared.HubEnd.TheVariants.{Done as Finished, WireFailed, TurnsSpent, NoMemory}
 use Rattle.serving_spec.specs.Sent.{seen, IsServed}
-use Rattle.serving_spec.specs.Counted.{no_counts, IsCounted, counts_from}
-use Rattle.serving_spec.specs.Serving.{none_kept, placed_input, Tallied, Serves}
+use Rattle.serving_spec.specs.Counted.{Counts, no_counts, IsCounted, made_of}
+use Rattle.serving_spec.specs.Serving.{When, after_when, first_when, none_kept, Tallied, Serves}
 use Rattle.serve_run.specs.Steps.{at, run_rules, TalliedInSteps, ServesInSteps, HappensInSteps}
 use Rattle.serve_run.proofs.CountLemmas.{served_of, counted_of, plain_served, After, steps_of, Whole, whole}
 
@@ -66,21 +67,21 @@ module _ {P D : Type 0} (old new : HubState P) (origin : Origin) (site : D → S
     (course : IsCourse (run_rules old.origin site templates texts) old.limit end (scene state cache old before.account before.faults) events (scene state cache new after.account after.faults) trace)
     (stands : (number : ℕ) → line_of old number ≡ None
     → Stands (shown_in old.origin site templates) (TermOf old.origin.root) old.limit number
-    (moment_after texts.changed number (record { current = state old.pages; greatest = old.greatest; input = Unopened }) events)
+    (moment_after (state_after texts.changed) number (record { current = state old.pages; greatest = old.greatest; input = Unopened }) events)
     (at_in (line_of old) before.account before.faults number) (at_in (line_of new) after.account after.faults number))
     (none : (number : ℕ) → line_of old number ≡ None) (origin_is : old.origin ≡ origin) (limit_is : old.limit ≡ requests) (state_is : state old.pages ≡ start)
     (greatest_is : old.greatest ≡ None) (opened_is : old.opened ≡ 0) (replies_is : old.replies ≡ 0) (changes_is : old.changes ≡ 0) (refused_is : old.refused ≡ 0)
     (cache_is : cache old.pages ≡ none_kept room)
     (tally_is : tally ≡ record { connections = new.opened; replies = new.replies; hits = (cache new.pages).hits; changes = new.changes; refused = new.refused }) where
-  each : (number : ℕ) → IsServed (shown_in origin site templates) requests (input_of texts.changed start number events) (seen before number) (seen after number)
+  each : (number : ℕ) → IsServed (shown_in origin site templates) requests (input_of (state_after texts.changed) start number events) (seen before number) (seen after number)
   each number =
-      let from : D → Option ℕ → Input D = λ current greatest. (moment_after texts.changed number (record { current = current; greatest = greatest; input = Unopened }) events).input in
+      let from : D → Option ℕ → Input D = λ current greatest. (moment_after (state_after texts.changed) number (record { current = current; greatest = greatest; input = Unopened }) events).input in
       let here = stands number (none number) in
       let there = plain_served (shown_in old.origin site templates) (TermOf old.origin.root) old.limit here.counted (from (state old.pages) old.greatest) (seen before number) (seen after number)
       (served_of (shown_in old.origin site templates) (TermOf old.origin.root) start old.limit here.counted (at_in (line_of old) before.account before.faults number)
       (at_in (line_of new) after.account after.faults number) (from (state old.pages) old.greatest) here.is.stands) in
-      subst (λ r. IsServed (shown_in r site templates) requests (input_of texts.changed start number events) (seen before number) (seen after number)) origin_is
-      (subst (λ n. IsServed (shown_in old.origin site templates) n (input_of texts.changed start number events) (seen before number) (seen after number)) limit_is
+      subst (λ r. IsServed (shown_in r site templates) requests (input_of (state_after texts.changed) start number events) (seen before number) (seen after number)) origin_is
+      (subst (λ n. IsServed (shown_in old.origin site templates) n (input_of (state_after texts.changed) start number events) (seen before number) (seen after number)) limit_is
       (subst (λ i. IsServed (shown_in old.origin site templates) old.limit i (seen before number) (seen after number))
       (ap (λ d. from d old.greatest) state_is ∙ ap (λ g. from start g) greatest_is) there))
 
@@ -114,21 +115,25 @@ module _ {P D : Type 0} (old new : HubState P) (origin : Origin) (site : D → S
   all : Whole (run_rules origin site templates texts) requests end first events last
   all = whole (run_rules origin site templates texts) requests end first events last trace course_is
 
-  abbrev at_place : List WireEvent → ℕ → D
-  at_place taken = data_at texts.changed start taken
+  made : After origin site templates texts requests some first.ats (λ k. record { current = first_when start; greatest = None; input = Unopened }) (λ k. no_counts) (first_when start) all.taken first all.end
+  made = steps_of origin site templates texts requests some start all.taken first all.end state_is greatest_is none all.trace all.passes
 
-  made : After origin site templates texts requests some (at_place all.taken) first.ats (λ k. record { current = 0; greatest = None; input = Unopened }) (λ k. no_counts) 0 all.taken first all.end
-  made = steps_of origin site templates texts requests some (at_place all.taken) all.taken first all.end (λ n. ap (λ d. data_at texts.changed d all.taken n) (sym state_is)) greatest_is none all.trace all.passes
+  abbrev shown : When D → Showing
+  shown when = shown_in origin site templates when.current
+
+  abbrev makes_of : ℕ → Counts (When D)
+  makes_of number = made_of (after_when texts.changed) (first_when start) number all.taken made.makes
+
+  abbrev comes_of : ℕ → Input (When D)
+  comes_of number = input_of (after_when texts.changed) (first_when start) number all.taken
 
   tallied : Tallied origin site templates texts start requests room before after all.taken tally
   tallied = record {
     makes = made.makes;
     one_each = made.one_each;
     each = λ number.
-        subst (λ a. IsCounted (λ (place : ℕ). shown_in origin site templates (at_place all.taken place)) (TermOf origin.root) requests (counts_from number 0 no_counts all.taken made.makes) (placed_input number all.taken) (seen before number) (seen_of a))
-        (sym (all.ats number))
-        (counted_of (λ (place : ℕ). shown_in origin site templates (at_place all.taken place)) (TermOf origin.root) 0 requests (counts_from number 0 no_counts all.taken made.makes) (first.ats number) (all.end.ats number) (placed_input number all.taken)
-        (made.stands number).stands);
+        subst (λ a. IsCounted shown (TermOf origin.root) requests (makes_of number) (comes_of number) (seen before number) (seen_of a)) (sym (all.ats number))
+        (counted_of shown (TermOf origin.root) (first_when start) requests (makes_of number) (first.ats number) (all.end.ats number) (comes_of number) (made.stands number).stands);
     connections = ap (λ (t : Tally). t.connections) tally_is ∙ all.opened
         ∙ opened_count (run_rules origin site templates texts) requests first all.taken all.end all.trace all.passes
         ∙ ap (λ g. up_by (length (opened_from g all.taken)) old.opened) greatest_is ∙ ap (up_by (length (opened_in all.taken))) opened_is;
@@ -169,7 +174,7 @@ serves_nothing {D} origin site templates texts start requests turns room wire = 
   all_taken = inl refl;
   tally = record {
     makes = [];
-    one_each = refl;
+    one_each = tt;
     each = λ number. (refl, λ is. refl);
     connections = refl;
     replies = refl;

@@ -1,6 +1,6 @@
 -- What texts do to the data of a run, which of them came, and what they leave of the pages that are kept.
-use Rattle.std.specs.Prelude.{◌≡◌, ◌⊎◌, ℕ, Bool, List, [], ◌∷◌, ◌++◌, take, if◌then◌else◌}
-use Rattle.std.specs.List.{fold, flat_map}
+use Rattle.std.specs.Prelude.{◌≡◌, ◌⊎◌, ℕ, Bool, List, [], ◌∷◌, ◌++◌, if◌then◌else◌}
+use Rattle.std.specs.List.{flat_map}
 use Rattle.sd_value.specs.declared.Term.{Term}
 use Rattle.tmpl.specs.Body.{TemplateFile}
 use Rattle.page_spec.specs.Page.{IsOutcome}
@@ -26,11 +26,6 @@ state_after changed (Ended number) current = current
 state_after changed (Lost number) current = current
 state_after changed (Change text) current = changed current text
 state_after changed Done current = current
-
--- what is current after the first n of the events: each text among them has changed it, in their order
-abbrev pub data_at : {D : Type 0} → (D → List ℕ → D) → D → List WireEvent → ℕ → D
-data_at changed start events n =
-    fold (λ current event. state_after changed event current) start (take n events)
 
 -- the text of the event, if it has one
 abbrev pub text_of : WireEvent → List (List ℕ)

@@ -1,6 +1,5 @@
 -- What is counted in a run, told by its events and by what each connection is sent.
-use Rattle.std.specs.Prelude.{◌≡◌, ◌+◌, ◌==◌, ◌⊎◌, ℕ, Bool, false, List, [], ◌∷◌, ◌++◌, map, if◌then◌else◌}
-use Rattle.std.specs.List.{fold}
+use Rattle.std.specs.Prelude.{◌≡◌, ◌+◌, ◌==◌, ◌⊎◌, ℕ, Bool, false, List, [], ◌∷◌, ◌++◌, map, ⊤, if◌then◌else◌}
 use Rattle.sd_value.specs.declared.Term.{Term}
 use Rattle.http_spec.specs.declared.Standing.{Standing}
 use Rattle.http_spec.specs.declared.Standing.TheVariants.{Short}
@@ -10,9 +9,10 @@ use Rattle.http_spec.specs.Sessions.{Showing, AnswersStream}
 use Rattle.http_spec.specs.Streams.{Timed, Request}
 use Rattle.happenings.specs.declared.event.WireEvent.{WireEvent}
 use Rattle.happenings.specs.declared.event.WireEvent.TheVariants.{Opened, Bytes, Ended, Lost, Change, Done}
-use Rattle.serving_spec.specs.Inputs.{Input, Unopened, Moment, after_event}
+use Rattle.serving_spec.specs.Delivered.{Seen}
+use Rattle.serving_spec.specs.Inputs.{Input, Unopened}
 use Rattle.serving_spec.specs.Made.{Made, nothing, replies_in, LooksUp, MayLookUp}
-use Rattle.serving_spec.specs.Sent.{Seen, IsServedBy}
+use Rattle.serving_spec.specs.Sent.{IsServedBy}
 
 -- a term that was looked up, and what was current then
 pub record LookUp (D : Type 0) : Type 0 where
@@ -43,7 +43,7 @@ counts_with counts current made = record {
   looked = counts.looked ++ look_ups current made.terms;
 }
 
--- What is looked up for these requests, one after another: for each its term, if it has one, when its head is whole.
+-- What is looked up for these requests, one after another: for each its term, if it has one, when its last byte comes.
 abbrev pub LooksUpFor : {D : Type 0} → (D → Showing) → (List ℕ → Term → Type 0) → List (Request D)
     → List (LookUp D) → Type 0
 LooksUpFor page Names [] looked = looked ≡ []
@@ -55,8 +55,8 @@ LooksUpFor page Names (r ∷ requests) looked =
 
 -- Over pages whose data may change, where Names says which term a target names.
 module _ {D : Type 0} (page : D → Showing) (Names : List ℕ → Term → Type 0) (limit : ℕ) where
-  -- These are the replies to a connection's bytes, and this is counted of them. One term more may be looked up, where
-  -- it was out of memory for its reply.
+  -- These are the replies to a connection's bytes, and this is counted of them. One term more may be looked up if it was
+  -- out of memory for its reply.
   pub record CountedAnswer (counts : Counts D) (stream : List (Timed D)) (ended : Bool)
       (standing : Standing) (replies : List (List ℕ)) : Type 0 where
     pub answer : AnswersStream page limit stream ended standing replies
@@ -73,7 +73,7 @@ module _ {D : Type 0} (page : D → Showing) (Names : List ℕ → Term → Type
       CountedAnswer counts stream ended standing replies
       ⊎ ((standing ≡ Short) × (replies ≡ no_memory_bytes ∷ []) × (counts ≡ no_counts))
 
-  -- What a connection is sent, and what is counted of it: nothing, where it was never opened.
+  -- What a connection is sent, and what is counted of it: nothing, if it was never opened.
   abbrev pub IsCounted : Counts D → Input D → Seen → Seen → Type 0
   IsCounted counts input first now =
       IsServedBy (HasCounts counts) input first now × (input ≡ Unopened → counts ≡ no_counts)
@@ -87,34 +87,26 @@ is_of k (Lost number) = number == k
 is_of k (Change text) = false
 is_of k Done = false
 
--- One list entry for each event: what it makes. An event of no connection makes nothing.
-abbrev pub MakeFor : List WireEvent → List Made → Type 0
-MakeFor [] makes = makes ≡ []
-MakeFor (event ∷ events) [] = ⊥
-MakeFor (Opened number ∷ events) (made ∷ makes) = MakeFor events makes
-MakeFor (Bytes number piece ∷ events) (made ∷ makes) = MakeFor events makes
-MakeFor (Ended number ∷ events) (made ∷ makes) = MakeFor events makes
-MakeFor (Lost number ∷ events) (made ∷ makes) = MakeFor events makes
-MakeFor (Change text ∷ events) (made ∷ makes) = (made ≡ nothing) × MakeFor events makes
-MakeFor (Done ∷ events) (made ∷ makes) = (made ≡ nothing) × MakeFor events makes
+-- what the event may make: one of no connection makes nothing
+abbrev pub MayMake : WireEvent → Made → Type 0
+MayMake (Opened number) made = ⊤
+MayMake (Bytes number piece) made = ⊤
+MayMake (Ended number) made = ⊤
+MayMake (Lost number) made = ⊤
+MayMake (Change text) made = made ≡ nothing
+MayMake Done made = made ≡ nothing
 
--- What the events of a connection make in all, where these counts were before, and the first event has this place in
--- the run. Each look-up is at the place of its event.
-abbrev pub counts_from : ℕ → ℕ → Counts ℕ → List WireEvent → List Made → Counts ℕ
-counts_from k place counts [] makes = counts
-counts_from k place counts (event ∷ events) [] = counts
-counts_from k place counts (event ∷ events) (made ∷ makes) =
-    counts_from k (place + 1) (if is_of k event then counts_with counts place made else counts)
-    events makes
+-- The counts with what the events of the connection k make, each of its own. next is what an event makes of what is
+-- current.
+abbrev pub counts_after : {D : Type 0} → (WireEvent → D → D) → ℕ → D → Counts D → List WireEvent
+    → List Made → Counts D
+counts_after next k current counts [] makes = counts
+counts_after next k current counts (event ∷ events) [] = counts
+counts_after next k current counts (event ∷ events) (made ∷ makes) =
+    counts_after next k (next event current)
+    (if is_of k event then counts_with counts current made else counts) events makes
 
--- one event more, where the place in the run is what is current: no text changes it, and every event does
-abbrev pub after_place : ℕ → Moment ℕ → WireEvent → Moment ℕ
-after_place k moment event = record {
-  current = moment.current + 1;
-  greatest = (after_event (λ place text. place) k moment event).greatest;
-  input = (after_event (λ place text. place) k moment event).input;
-}
-
--- what came of a connection after these events, each byte with the place of its event
-abbrev pub placed_from : ℕ → Moment ℕ → List WireEvent → Moment ℕ
-placed_from k moment events = fold (after_place k) moment events
+-- what the events of a connection make in all, if this was current at first
+abbrev pub made_of : {D : Type 0} → (WireEvent → D → D) → D → ℕ → List WireEvent → List Made
+    → Counts D
+made_of next start number = counts_after next number start no_counts

@@ -1,28 +1,38 @@
--- How the replies that were made were sent.
+-- How the replies of an answer were sent.
 use Rattle.std.specs.Prelude.{◌≡◌, ℕ, List, [], ◌∷◌, ◌++◌, take, Option}
 use Rattle.edge_io.specs.Counts.{Rose}
 use Rattle.http_spec.specs.declared.Standing.{Standing}
-use Rattle.http_spec.specs.declared.Standing.TheVariants.{Open, Closed, Short, Lost}
+use Rattle.http_spec.specs.declared.Standing.TheVariants.{Open, Closed, Short}
 use Rattle.wire.specs.Accounts.{Account, send_to, gain, close_to}
 
--- a connection that a reply closed is closed on the wire too
-abbrev pub closing : Standing → Option Account → Option Account
-closing Open a = a
-closing Closed a = close_to a
-closing Short a = close_to a
-closing Lost a = a
+-- what a wire reports of one connection: what it was sent, and how often a send failed
+pub record Seen : Type 0 where
+  pub account : Option Account
+  pub faults : ℕ
 
--- The replies that were made were all sent, each whole in one send. Or a send failed, the only one: then those before
--- it were sent, and some first bytes of its own.
-abbrev pub IsDelivered : (Whole Front : Standing → List (List ℕ) → Type 0) → Standing
-    → Option Account → Option Account → ℕ → ℕ → Type 0
-IsDelivered Whole Front Open old new faults later =
-    (replies : List (List ℕ)) × Whole Open replies × (new ≡ gain old replies) × (later ≡ faults)
-IsDelivered Whole Front Closed old new faults later =
-    (replies : List (List ℕ)) × Whole Closed replies × (new ≡ gain old replies) × (later ≡ faults)
-IsDelivered Whole Front Short old new faults later =
-    (replies : List (List ℕ)) × Whole Short replies × (new ≡ gain old replies) × (later ≡ faults)
-IsDelivered Whole Front Lost old new faults later =
-    (would : Standing) × (before : List (List ℕ)) × (next : List ℕ) × (some : ℕ)
-    × Front would (before ++ next ∷ []) × (new ≡ send_to (gain old before) (take some next))
-    × Rose faults later
+-- the account after an answer that left the connection so: one that shuts it closes it
+abbrev pub closing : Standing → Option Account → Option Account
+closing Open account = account
+closing Closed account = close_to account
+closing Short account = close_to account
+
+-- All replies of an answer were sent, each whole in one send, and the connection was closed exactly if the answer shuts it.
+pub record AllSent (IsAnswer : Standing → List (List ℕ) → Type 0) (before after : Seen)
+    : Type 0 where
+  pub standing : Standing
+  pub replies : List (List ℕ)
+  pub answer : IsAnswer standing replies
+  pub account : after.account ≡ closing standing (gain before.account replies)
+  pub faults : after.faults ≡ before.faults
+
+-- A send failed. The replies before its own were sent, each whole in one send, then some first bytes of its own, and
+-- nothing more; the connection was not closed.
+pub record CutOff (IsAnswer : Standing → List (List ℕ) → Type 0) (before after : Seen)
+    : Type 0 where
+  pub standing : Standing
+  pub sent : List (List ℕ)
+  pub next : List ℕ
+  pub some : ℕ
+  pub answer : IsAnswer standing (sent ++ next ∷ [])
+  pub account : after.account ≡ send_to (gain before.account sent) (take some next)
+  pub faults : Rose before.faults after.faults

@@ -593,5 +593,6 @@ impl<R: Net + Clock, F: Files> Wire for TcpWire<'_, R, F> {
 
     fn finish(&mut self) {
         self.sockets.finish();
+        self.log.finished();
     }
 }

@@ -3,6 +3,7 @@ use Rattle.std.specs.Prelude.{◌==◌, ◌+◌, ◌-◌, ◌^◌, ℕ, zero, su
 use Rattle.std.specs.List.{flat_map}
 use Rattle.happenings.specs.Happening.{Happening, Read, ReadFailed, Wrote, WriteFailed, Put, PutFailed, Watched}
 use Rattle.happenings.specs.Happening.{WatchFailed, Listened, ListenFailed, Given, NextFailed, Sent, SendFailed, Closed}
+use Rattle.happenings.specs.Happening.{Finished}
 
 -- what was done to a connection: these bytes of one send were taken, or it was closed
 pub data Deed : Type 0 where
@@ -58,6 +59,7 @@ deed_to number (Sent k bytes) = if k == number then Took bytes ∷ [] else []
 deed_to number (SendFailed k bytes taken) =
     if k == number then Took (take taken bytes) ∷ [] else []
 deed_to number (Closed k) = if k == number then Shut ∷ [] else []
+deed_to number Finished = []
 
 -- what was done to a connection, of all that happened
 abbrev pub account_in : List Happening → ℕ → Account

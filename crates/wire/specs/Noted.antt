@@ -2,6 +2,7 @@
 use Rattle.std.specs.Prelude.{◌≡◌, ℕ, List, ◌++◌, All, Option, ⊤}
 use Rattle.happenings.specs.Happening.{Happening, Read, ReadFailed, Wrote, WriteFailed, Put, PutFailed, Watched}
 use Rattle.happenings.specs.Happening.{WatchFailed, Listened, ListenFailed, Given, NextFailed, Sent, SendFailed, Closed}
+use Rattle.happenings.specs.Happening.{Finished}
 use Rattle.wire.specs.Accounts.{Account, after_deeds, account_in}
 
 -- it is a send or a close
@@ -21,6 +22,7 @@ IsDeed NextFailed = ⊥
 IsDeed (Sent k bytes) = ⊤
 IsDeed (SendFailed k bytes taken) = ⊤
 IsDeed (Closed k) = ⊤
+IsDeed Finished = ⊥
 
 -- These sends and closes are what the accounts tell: that of each connection grew by those of them that are its own.
 pub record AreAccountedFor (part : List Happening) (old new : ℕ → Option Account) : Type 0 where

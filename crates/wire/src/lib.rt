@@ -4,7 +4,7 @@
 ghost use Rattle.std.specs.Prelude.{◌≡◌, ◌+◌, ℕ, List, [], ◌∷◌, ◌++◌, take, length, Option, Some, IfOk, OnOk, OnErr, IsErrOf, map};
 ghost use Rattle.std.specs.Prelude.{MatchResult};
 ghost use Rattle.happenings.specs.Happening.{Happening, Watched, WatchFailed, Listened, ListenFailed, Given};
-ghost use Rattle.happenings.specs.Happening.{NextFailed, Sent, SendFailed, Closed};
+ghost use Rattle.happenings.specs.Happening.{NextFailed, Sent, SendFailed, Closed, Finished};
 ghost use Rattle.edge_io.specs.Counts.{Rose};
 ghost use Rattle.wire.specs.Accounts.{Account, Took, send_to, gain, close_to};
 ghost use Rattle.wire.specs.Noted.{Noted};
@@ -129,7 +129,7 @@ pub trait Wire {
 
     /// Lets out what connections have still to take, as long as they are waited for, and lets all of them go.
     fn finish(&mut self)
-        ensures traced { trace self.new ≡ trace self.old }
+        ensures traced { trace self.new ≡ trace self.old ++ Finished ∷ [] }
         ensures stays { told self.new ≡ told self.old };
 }
 

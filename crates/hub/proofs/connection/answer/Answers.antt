@@ -9,7 +9,7 @@ returns-in-Err-clause-sent g c =
     let looked = c.in-Err.ensures.looked in (
       record { replies = 0; terms = looked.0 },
       short_answer (shown_in c.args.origin.now g.P.Versions.site g.P.Versions.templates (g.P.Versions.state c.args.pages.now)) (TermOf c.args.origin.now.root) c.args.ask.now c.args.target.now c.args.last
-          looked.0 c.cut_short.result _ _ _ _ c.cut_short.ensures.over looked.1 c.cut_short.ensures.sent,
+          looked.0 c.cut_short.result _ _ _ _ looked.1 c.cut_short.ensures.sent,
       refl,
       looked.3,
     )

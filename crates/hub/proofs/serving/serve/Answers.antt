@@ -1,6 +1,7 @@
 use Rattle.std.proofs.Common.{◌≡◌, ◌<◌, false, ℕ, refl, sym, ◌∙◌, subst, arith, List, Option, ◌++◌, ◌∷◌, [], length-append, length, inl, append-nil}
 use Rattle.page_spec.specs.Address.{TermOf}
 use Rattle.wire.specs.Events.{IsNextOf}
+use Rattle.serving_spec.specs.declared.Origin.{Origin}
 use Rattle.hub.specs.HubState.{scene, line_of}
 use Rattle.hub.specs.Course.{rules_under}
 use Rattle.serving_spec.specs.Inputs.{Moment, Unopened}
