@@ -134,25 +134,22 @@ version_command words = None
 
 -- the words of `serve`, its options aside
 abbrev pub serve_command
-    : ServeOptions → (hosts : Option (List ℕ)) → Option WatchOptions → Bool
-    → (over : Option (List ℕ)) → List (List ℕ) → Option Command
-serve_command options hosts watch lenient over (query ∷ templates ∷ source ∷ sources) =
+    : ServeOptions → Option WatchOptions → Bool → Option (List ℕ) → List (List ℕ) → Option Command
+serve_command options watch lenient over (query ∷ templates ∷ source ∷ sources) =
     Some (Serve (record {
       query = query;
       templates = templates;
       sources = data_files lenient (source ∷ sources);
       over = over;
       options = options;
-      hosts = hosts;
       watch = watch;
     }))
-serve_command options hosts watch lenient over words = None
+serve_command options watch lenient over words = None
 
 -- the words of `replay`, its options aside
 abbrev pub replay_command
-    : RunLimits → (hosts : Option (List ℕ)) → Bool → (over : Option (List ℕ)) → List (List ℕ)
-    → Option Command
-replay_command limits hosts lenient over (query ∷ templates ∷ script ∷ source ∷ sources) =
+    : RunLimits → Bool → Option (List ℕ) → List (List ℕ) → Option Command
+replay_command limits lenient over (query ∷ templates ∷ script ∷ source ∷ sources) =
     Some (Replay (record {
       query = query;
       templates = templates;
@@ -160,55 +157,10 @@ replay_command limits hosts lenient over (query ∷ templates ∷ script ∷ sou
       sources = data_files lenient (source ∷ sources);
       over = over;
       limits = limits;
-      hosts = hosts;
     }))
-replay_command limits hosts lenient over words = None
+replay_command limits lenient over words = None
 
 -- ---- options
-
--- the limits of a run
-abbrev pub run_limits : Given → Option RunLimits
-run_limits given = do
-  requests ← number_of Requests given
-  turns ← number_of Turns given
-  cache ← number_of Cache given
-  cache_bytes ← number_of CacheBytes given
-  Some (record { requests = requests; turns = turns; cache = cache; cache_bytes = cache_bytes })
-
--- how long `serve` waits for a connection, and for how many at once
-abbrev pub serve_waits : Given → Option ServeWaits
-serve_waits given = do
-  idle ← number_of Idle given
-  stall ← number_of Stall given
-  at_once ← number_of OpenAtOnce given
-  Some (record { idle = idle; stall = stall; at_once = at_once })
-
--- the options of `serve`, with or without its flag
-abbrev pub serve_options : Bool → Given → Option ServeOptions
-serve_options whole given = do
-  port ← number_of Port given
-  connections ← number_of Connections given
-  limits ← run_limits given
-  waits ← serve_waits given
-  Some (record {
-    port = port;
-    connections = connections;
-    limits = limits;
-    waits = waits;
-    whole = whole;
-  })
-
--- the file that is watched, if one is, by the texts of `--watch` and of `--every`, which doesn't stand alone
-abbrev pub watch_by : Option (List ℕ) → Option (List ℕ) → Option (Option WatchOptions)
-watch_by None None = Some None
-watch_by None (Some text) = None
-watch_by (Some path) text =
-    option_map (λ every. Some (record { path = path; every = every }))
-    (number_or_default Every text)
-
--- the file that `serve` watches
-abbrev pub serve_watch : Given → Option (Option WatchOptions)
-serve_watch given = watch_by (given (values.Text Watch)) (given (values.Number Every))
 
 -- whether the byte is a comma
 abbrev pub is_comma : ℕ → Bool
@@ -224,6 +176,67 @@ hosts_by (Some text) =
 abbrev pub given_hosts : Given → Option (Option (List ℕ))
 given_hosts given = hosts_by (given (values.Text Host))
 
+-- the limits of a run in which requests for these hosts are answered
+abbrev pub limits_with : Option (List ℕ) → Given → Option RunLimits
+limits_with hosts given = do
+  requests ← number_of Requests given
+  turns ← number_of Turns given
+  cache ← number_of Cache given
+  cache_bytes ← number_of CacheBytes given
+  Some (record {
+    hosts = hosts;
+    requests = requests;
+    turns = turns;
+    cache = cache;
+    cache_bytes = cache_bytes;
+  })
+
+-- the limits of a run
+abbrev pub run_limits : Given → Option RunLimits
+run_limits given = do
+  hosts ← given_hosts given
+  limits_with hosts given
+
+-- how long `serve` waits for a connection, and for how many at once
+abbrev pub serve_waits : Given → Option ServeWaits
+serve_waits given = do
+  idle ← number_of Idle given
+  stall ← number_of Stall given
+  at_once ← number_of OpenAtOnce given
+  Some (record { idle = idle; stall = stall; at_once = at_once })
+
+-- the options of `serve` with these limits, with or without its flag
+abbrev pub options_with : Bool → RunLimits → Given → Option ServeOptions
+options_with whole limits given = do
+  port ← number_of Port given
+  connections ← number_of Connections given
+  waits ← serve_waits given
+  Some (record {
+    port = port;
+    connections = connections;
+    limits = limits;
+    waits = waits;
+    whole = whole;
+  })
+
+-- the options of `serve`, with or without its flag
+abbrev pub serve_options : Bool → Given → Option ServeOptions
+serve_options whole given = do
+  limits ← run_limits given
+  options_with whole limits given
+
+-- the file that is watched, if one is, by the texts of `--watch` and of `--every`, which doesn't stand alone
+abbrev pub watch_by : Option (List ℕ) → Option (List ℕ) → Option (Option WatchOptions)
+watch_by None None = Some None
+watch_by None (Some text) = None
+watch_by (Some path) text =
+    option_map (λ every. Some (record { path = path; every = every }))
+    (number_or_default Every text)
+
+-- the file that `serve` watches
+abbrev pub serve_watch : Given → Option (Option WatchOptions)
+serve_watch given = watch_by (given (values.Text Watch)) (given (values.Number Every))
+
 -- the file of the first query, if there is one
 abbrev pub first_query : Given → Option (List ℕ)
 first_query given = given (values.Text Over)
@@ -232,16 +245,14 @@ first_query given = given (values.Text Over)
 abbrev pub serve_with_words : Flags → Given → List (List ℕ) → Option Command
 serve_with_words flags given words = do
   options ← serve_options flags.own given
-  hosts ← given_hosts given
   watch ← serve_watch given
-  serve_command options hosts watch flags.lenient (first_query given) words
+  serve_command options watch flags.lenient (first_query given) words
 
 -- `replay` with these options and words
 abbrev pub replay_with_words : Flags → Given → List (List ℕ) → Option Command
 replay_with_words flags given words = do
   limits ← run_limits given
-  hosts ← given_hosts given
-  replay_command limits hosts flags.lenient (first_query given) words
+  replay_command limits flags.lenient (first_query given) words
 
 -- the command of this name with these flags, options and words
 abbrev pub command_of : CommandName → Flags → Given → List (List ℕ) → Option Command

@@ -144,8 +144,10 @@ pub struct LintCommand {
 }
 
 /// The limits of a run over connections.
-#[derive(Clone, Copy, Debug, PartialEq, Eq)]
+#[derive(Debug, Drop)]
 pub struct RunLimits {
+    /// The hosts whose requests are answered, with commas between them; without them all are.
+    pub hosts: Option<Str>,
     /// Replies per connection, 1 to 4,294,967,296.
     pub requests: u64,
     /// Events that are taken, 1 to 4,294,967,296.
@@ -168,7 +170,7 @@ pub struct ServeWaits {
 }
 
 /// The options of `serve`.
-#[derive(Clone, Copy, Debug, PartialEq, Eq)]
+#[derive(Debug, Drop)]
 pub struct ServeOptions {
     /// The port that is listened at, 1 to 65,535.
     pub port: u16,
@@ -197,8 +199,6 @@ pub struct ServeCommand {
     /// The file of the first query, as for `page`.
     pub over: Option<Str>,
     pub options: ServeOptions,
-    /// The hosts whose requests are answered, with commas between them; without them all are.
-    pub hosts: Option<Str>,
     /// The file that is watched, if one is.
     pub watch: Option<WatchOptions>,
 }
@@ -213,8 +213,6 @@ pub struct ReplayCommand {
     /// The file of the first query, as for `page`.
     pub over: Option<Str>,
     pub limits: RunLimits,
-    /// The hosts, as for `serve`.
-    pub hosts: Option<Str>,
 }
 
 /// `trial N`: requests for the pages of a site of made data are served, and counted.

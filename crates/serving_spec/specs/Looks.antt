@@ -1,5 +1,5 @@
 -- What a look-up does to the pages that are kept, the newest first.
-use Rattle.std.specs.Prelude.{◌≡◌, ℕ, ◌+◌, ◌-◌, ◌≤◌, ◌^◌, min, nat_le, Bool, List, [], ◌∷◌, length, map, sum, take, filter, find}
+use Rattle.std.specs.Prelude.{◌≡◌, ℕ, ◌+◌, ◌-◌, ◌≤◌, ◌^◌, min, nat_le, Bool, List, [], ◌∷◌, length, sum_by, take, filter, find}
 use Rattle.std.specs.Prelude.{Option, Some, None, if◌then◌else◌}
 use Rattle.std.specs.Ordering.{is_eq}
 use Rattle.sd_value.specs.declared.Term.{Term}
@@ -31,7 +31,7 @@ without term (page ∷ pages) =
 
 -- how many bytes the pages have together
 abbrev pub bytes_of : List KeptPage → ℕ
-bytes_of pages = sum (map (λ page. page.bytes) pages)
+bytes_of pages = sum_by (λ page. page.bytes) pages
 
 -- the newest of the pages: as many as have at most so many bytes together
 abbrev pub newest_within : ℕ → List KeptPage → List KeptPage

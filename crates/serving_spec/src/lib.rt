@@ -2,6 +2,9 @@
 //! Definitions, no engine.
 #![tactic(auto)]
 
+mod laws;
+
+pub use laws::{ChangingPages, kept_pages_have_room};
 use sd_value::Str;
 
 /// Why a run has ended.
