@@ -33,9 +33,9 @@ pub(crate) fn ask_at(
 {
     let headers = &headers[..spans.headers];
     let method = spans.method.of(bytes);
-    let hosts = count_hosts(bytes, headers);
+    let host_lines = count_hosts(bytes, headers);
     let is_head = method == b"HEAD".as_slice();
-    let kind = if hosts > 1 || (spans.version == 1 && hosts == 0) {
+    let kind = if host_lines > 1 || (spans.version == 1 && host_lines == 0) {
         RequestKind::BadRequest
     } else if is_misdirected(bytes, headers, hosts) {
         RequestKind::Misdirected

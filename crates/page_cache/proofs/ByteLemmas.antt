@@ -76,11 +76,8 @@ turned_goes es after cap gone popped first size_is is =
 
 -- the entry at a place after which there is at most itself
 pub last_bytes : (n : ℕ) (es : List (Term × List ℕ)) → length es ≤ suc n → size_of (slice_get es n) + bytes_in (take n es) ≡ bytes_in es
-last_bytes n [] few = by n
-  where
-    by : (n : ℕ) → size_of (slice_get [] n) + bytes_in (take n []) ≡ 0
-    by zero = refl
-    by (suc n) = refl
+last_bytes zero [] few = refl
+last_bytes (suc n) [] few = refl
 last_bytes zero (e ∷ []) few = let one = bytes_cons e [] in omega (arith, one)
 last_bytes zero (e ∷ f ∷ es) few = absurd (omega (arith, few))
 last_bytes (suc n) (e ∷ es) few =
@@ -104,16 +101,17 @@ within_front most e [] more =
     let one = bytes_cons e [] in
     let test : nat_le (length e.1) most ≡ false = grind (arith, nat_tests) in
     sym (ap (λ (b : Bool). if b then e ∷ entries_within (most - length e.1) [] else []) test)
-within_front most e (f ∷ es) more = by_test (nat_le (length e.1) most) refl
+within_front most e (f ∷ es) more = by_test (nat_le (length e.1) most) refl (λ later. within_front (most - length e.1) f es later)
   where
     by_test : (t : Bool) → nat_le (length e.1) most ≡ t
+        → (most - length e.1 < bytes_in (f ∷ es) → entries_within (most - length e.1) (take (length es) (f ∷ es)) ≡ entries_within (most - length e.1) (f ∷ es))
         → (if t then e ∷ entries_within (most - length e.1) (take (length es) (f ∷ es)) else [])
         ≡ (if t then e ∷ entries_within (most - length e.1) (f ∷ es) else [])
-    by_test true is =
+    by_test true is rest =
         let all = bytes_cons e (f ∷ es) in
         let below : length e.1 ≤ most = grind (arith, nat_tests) in
-        ap (λ xs. e ∷ xs) (within_front (most - length e.1) f es (omega (arith, all, more, below)))
-    by_test false is = refl
+        ap (λ xs. e ∷ xs) (rest (omega (arith, all, more, below)))
+    by_test false is rest = refl
 
 -- Of entries after the first, which have too many bytes, the last went.
 pub record Dropped (es : List (Term × List ℕ)) (cap bytes most gone : ℕ) (after : LruCache Term (List ℕ)) : Type 0 where
@@ -124,6 +122,11 @@ pub record Dropped (es : List (Term × List ℕ)) (cap bytes most gone : ℕ) (a
   pub others : entries_within most (drop 1 after.entries) ≡ entries_within most (drop 1 es)
   pub room : after.cap ≡ cap
   pub shorter : length after.entries < length es
+
+taken : (n : ℕ) (xs : List (Term × List ℕ)) → length (take n xs) ≤ n
+taken zero xs = omega arith
+taken (suc n) [] = omega arith
+taken (suc n) (x ∷ xs) = let less = taken n xs in omega (arith, less)
 
 pub drops : (es : List (Term × List ℕ)) (cap bytes most gone : ℕ) (popped : Option (Term × List ℕ)) (after : LruCache Term (List ℕ)) → bytes ≡ bytes_in (drop 1 es)
     → most < bytes → popped ≡ last_entry es → gone ≡ size_of popped → after ≡ lru_cache (take (length es - 1) es) cap → Dropped es cap bytes most gone after
@@ -143,11 +146,6 @@ drops (e ∷ f ∷ es) cap bytes most gone popped after count more last size_is 
       shorter = omega (arith, taken (length es) rest);
     } in
     subst (λ (c : LruCache Term (List ℕ)). Dropped (e ∷ rest) cap bytes most gone c) (sym is) here
-  where
-    taken : (n : ℕ) (xs : List (Term × List ℕ)) → length (take n xs) ≤ n
-    taken zero xs = omega arith
-    taken (suc n) [] = omega arith
-    taken (suc n) (x ∷ xs) = let less = taken n xs in omega (arith, less)
 
 -- the first and the others
 pub whole : (es : List (Term × List ℕ)) → take 1 es ++ drop 1 es ≡ es

@@ -1,5 +1,5 @@
 -- No more pages are kept than there is room for, and no more bytes.
-use Rattle.std.proofs.Common.{◌≡◌, ℕ, zero, suc, ◌+◌, ◌-◌, ◌<◌, ◌≤◌, Bool, true, false, cond, List, [], ◌∷◌, length, take, filter, refl, sym, ap, subst, arith, Option, Some, None, if◌then◌else◌, nat_le}
+use Rattle.std.proofs.Common.{◌≡◌, ℕ, zero, suc, ◌+◌, ◌-◌, ◌<◌, ◌≤◌, Bool, true, false, cond, List, [], ◌∷◌, length, take, filter, refl, sym, ap, ◌∙◌, subst, arith, Option, Some, None, if◌then◌else◌, nat_le}
 use Rattle.std.specs.Prelude.{find}
 use Rattle.std.specs.Option.{option_map_or}
 use Rattle.std.proofs.lemmas.Bool.Decides.{nat_tests}
@@ -28,15 +28,14 @@ Fits count bytes ps = (length ps ≤ count) × (bytes_of ps ≤ bytes)
 
 newest_fit : (bytes : ℕ) (ps : List KeptPage) → Fits (length ps) bytes (newest_within bytes ps)
 newest_fit bytes [] = (omega arith, omega arith)
-newest_fit bytes (p ∷ ps) = by_test (nat_le p.bytes bytes) refl
+newest_fit bytes (p ∷ ps) = by_test (nat_le p.bytes bytes) refl (newest_fit (bytes - p.bytes) ps)
   where
-    by_test : (t : Bool) → nat_le p.bytes bytes ≡ t → Fits (suc (length ps)) bytes (if t then p ∷ newest_within (bytes - p.bytes) ps else [])
-    by_test true is =
+    by_test : (t : Bool) → nat_le p.bytes bytes ≡ t → Fits (length ps) (bytes - p.bytes) (newest_within (bytes - p.bytes) ps) → Fits (suc (length ps)) bytes (if t then p ∷ newest_within (bytes - p.bytes) ps else [])
+    by_test true is rest =
         let below : p.bytes ≤ bytes = grind (arith, nat_tests) in
-        let rest = newest_fit (bytes - p.bytes) ps in
         let all = bytes_cons p (newest_within (bytes - p.bytes) ps) in
         (omega (arith, rest.0), omega (arith, rest.1, all, below))
-    by_test false is = (omega arith, omega arith)
+    by_test false is rest = (omega arith, omega arith)
 
 taken : (n : ℕ) (ps : List KeptPage) → length (take n ps) ≤ n
 taken zero ps = omega arith
