@@ -1,6 +1,7 @@
 //! Addresses of pages, written and read.
 #![tactic(auto)]
 
+mod active;
 mod argument;
 mod laws;
 mod named;
@@ -8,6 +9,7 @@ mod places;
 mod target;
 mod written;
 
+pub use active::is_active;
 pub use laws::addresses_differ;
 pub use named::term_of;
 pub use places::{FileRefusal, file_of};

@@ -19,6 +19,7 @@ use Rattle.files_spec.specs.declared.stop.Stop.TheVariants as stop
 use Rattle.files_spec.specs.Writes.{Adds, SiteWrites}
 use Rattle.run_report.specs.declared.status.Status.{Status}
 use Rattle.run_report.specs.declared.status.Status.TheVariants as status
+use Rattle.run_report.proofs.Added.{Added}
 use Rattle.command_spec.specs.Inputs.{data_paths, input_paths}
 use Rattle.command_spec.specs.declared.BuildCommand.{BuildCommand}
 use Rattle.site_inputs.specs.declared.fault.Fault.{Fault}
@@ -30,10 +31,6 @@ use Rattle.site_inputs.specs.Values.{inputs_of}
 use Rattle.site_inputs.proofs.ReadLemmas.{reads_fault}
 use Rattle.command_build.specs.Ends.{build_text, written_end, stop_status}
 use Rattle.command_build.specs.Course.{WritesBuilt, WritesThenPuts, BuildCourse}
-
--- a part that is so was added
-abbrev pub Added : (before after : List Happening) → (List Happening → Type 0) → Type 0
-Added before after Is = (part : List Happening) × (after ≡ before ++ part) × Is part
 
 -- the writes of a site over equal parts
 writes_over : (graph graph2 : DataGraph) (scope scope2 : Scope) (file file2 : TemplateFile) (root root2 : Option (List ℕ)) (folder : List ℕ) (terms : List Term) (part : List Happening) (end : Result ⊤ Stop)

@@ -20,7 +20,7 @@ use Rattle.run_report.specs.declared.status.Status.TheVariants as status
 use Rattle.command_spec.specs.declared.BuildCommand.{BuildCommand}
 use Rattle.site_inputs.specs.declared.fault.Fault.{Fault}
 use Rattle.site_inputs.specs.declared.fault.Fault.TheVariants as fault
-use Rattle.site_inputs.specs.Sites.{Inputs, InputsEnd, site_at}
+use Rattle.site_inputs.specs.Sites.{Inputs, site_at, Spell, Refuse}
 use Rattle.site_inputs.specs.Outside.{Host, PutsRose}
 
 -- what is printed of a site of n pages
@@ -51,13 +51,13 @@ BuiltEnds s folder old new end =
 pub record Builds (old new : FileMap) (command : BuildCommand)
     (end : Result (List ℕ) Stop) : Type 0 where
   pub inputs : Inputs
-  pub taken : InputsEnd old command.sources command.over command.query command.templates (Ok inputs)
+  pub taken : Spell old command.sources command.over command.query command.templates inputs
   pub built : BuiltEnds inputs command.folder old new end
 
 -- an input was refused or unread, and nothing was written
 abbrev pub IsRefused : (old new : FileMap) → BuildCommand → Fault → Type 0
 IsRefused old new command reason =
-    InputsEnd old command.sources command.over command.query command.templates (Err reason)
+    Refuse old command.sources command.over command.query command.templates reason
     × (new ≡ old)
 
 -- the path is that of one of the files, under the folder, of the site of these inputs
@@ -77,8 +77,7 @@ pub record FileRose (contents : Option FileMap) (command : BuildCommand)
     (before now : List ℕ → ℕ) : Type 0 where
   pub inputs : Inputs
   pub taken : ForSome contents
-      (λ map. InputsEnd map command.sources command.over command.query command.templates
-      (Ok inputs))
+      (λ map. Spell map command.sources command.over command.query command.templates inputs)
   pub rose : SiteRose inputs command.folder before now
 
 -- one of the site's files could not be written, which was counted, and nothing was put

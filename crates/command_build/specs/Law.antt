@@ -9,7 +9,7 @@ use Rattle.command_spec.specs.declared.BuildCommand.{BuildCommand}
 use Rattle.command_spec.specs.Inputs.{data_paths, input_paths}
 use Rattle.site_inputs.specs.declared.fault.Fault.{Fault}
 use Rattle.site_inputs.specs.Runs.{IsDecidedFault}
-use Rattle.site_inputs.specs.Sites.{Inputs, InputsEnd, site_at}
+use Rattle.site_inputs.specs.Sites.{Inputs, site_at, Spell, Refuse}
 use Rattle.site_inputs.specs.Statuses.{ReadRose, status_of}
 use Rattle.site_inputs.specs.Outside.{Host, PutsRose, AllRead, HasStatus}
 use Rattle.command_build.specs.Ends.{BuildEnds, SiteRose}
@@ -22,16 +22,14 @@ AllCanBeWritten s =
 
 module _ (command : BuildCommand) (before after : Host) (reached : Status) where
   -- Where the inputs are read, they decide how a build ends that nothing outside fails.
-  pub record BuildIsDecided : Type 0 where
+  pub record BuildFollows : Type 0 where
     pub accepted : (s : Inputs)
-        → InputsEnd before.files command.sources command.over command.query command.templates
-        (Ok s)
+        → Spell before.files command.sources command.over command.query command.templates s
         → AllCanBeWritten s → ¬ PutsRose before after
         → ¬ SiteRose s command.folder before.failed_writes after.failed_writes
         → HasStatus status.Ok reached
     pub refused : (reason : Fault)
-        → InputsEnd before.files command.sources command.over command.query command.templates
-        (Err reason)
+        → Refuse before.files command.sources command.over command.query command.templates reason
         → IsDecidedFault reason → HasStatus (status_of reason) reached
 
   -- the law of the command
@@ -44,4 +42,4 @@ module _ (command : BuildCommand) (before after : Host) (reached : Status) where
       → AllRead
       (input_paths (data_paths command.sources command.over) command.query command.templates)
       before after
-      → BuildIsDecided
+      → BuildFollows

@@ -6,10 +6,7 @@ ghost use Rattle.std.specs.Option.{ForSome, IsSomeAnd};
 ghost use Rattle.edge_io.specs.Counts.{Rose};
 ghost use Rattle.happenings.specs.Happening.{Happening};
 ghost use Rattle.files_spec.specs.Causes.{WritesHaveCause};
-ghost use Rattle.site_inputs.specs.Reads.{Reads};
-ghost use Rattle.site_inputs.specs.Runs.{ReadsHaveCause};
-ghost use Rattle.site_inputs.specs.Sites.{InputsEnd};
-ghost use Rattle.site_inputs.specs.Values.{inputs_of, inputs_result};
+ghost use Rattle.site_inputs.specs.Values.{inputs_of};
 ghost use Rattle.command_spec.specs.Inputs.{data_paths, input_paths};
 ghost use Rattle.site_inputs.specs.Statuses.{ReadRose, IsSilent};
 ghost use Rattle.site_inputs.specs.Outside.{host};
@@ -32,7 +29,7 @@ use run_report::{Status, put_noted};
 use sd_value::{NoMemory, Str};
 use site_build::Whole;
 use site_files::write_site;
-use site_inputs::{Fault, SiteInputs, load_inputs};
+use site_inputs::{SiteInputs, load_noted};
 use std::alloc::Global;
 use token_writer::{put, put_number};
 
@@ -74,43 +71,6 @@ fn write_built<F: Files>(
         Ok(()) => Ok(line),
         Err(stop) => Err(stop),
     }
-}
-
-// Reads the inputs, while the log is lent to the files.
-fn load_noted<L: Trace, F: Files<Log = L>>(
-    alloc: Global,
-    log: &mut L,
-    files: &mut F,
-    command: &BuildCommand,
-) -> Result<SiteInputs, Fault>
-    ensures ends { ForSome (F.contents files.old) (λ map.
-        InputsEnd map command.now.sources command.now.over command.now.query
-        command.now.templates (inputs_result result)) }
-    ensures same { F.contents files.new ≡ F.contents files.old }
-    ensures cause { ReadsHaveCause
-        (input_paths (data_paths command.now.sources command.now.over)
-        command.now.query command.now.templates)
-        (F.failed_reads files.old) (F.failed_reads files.new) result }
-    ensures writes { F.failed_writes files.new ≡ F.failed_writes files.old }
-    ensures course { Reads
-        (input_paths (data_paths command.now.sources command.now.over)
-        command.now.query command.now.templates)
-        (L.events log.old) (L.events log.new) (F.contents files.old) result
-        (λ map. InputsEnd map command.now.sources command.now.over command.now.query
-        command.now.templates (inputs_result result)) }
-    ensures lent { F.trace files.new ≡ F.trace files.old }
-{
-    files.lend(log);
-    let result = load_inputs(
-        alloc,
-        files,
-        &command.sources,
-        &command.over,
-        &command.query,
-        &command.templates,
-    );
-    files.lend(log);
-    result
 }
 
 // Writes the site of the inputs, while the log is lent to the files.
@@ -177,7 +137,15 @@ pub fn build<L: Trace, F: Files<Log = L>, O: Sink<Log = L>>(
         × BuildCourse command.now (O.stream out.old) (F.contents files.old) part result }
     ensures lent { (F.trace files.new ≡ F.trace files.old) × (O.trace out.new ≡ O.trace out.old) }
 {
-    let inputs = match load_noted(alloc, log, files, command) {
+    let inputs = match load_noted(
+        alloc,
+        log,
+        files,
+        &command.sources,
+        &command.over,
+        &command.query,
+        &command.templates,
+    ) {
         Ok(inputs) => inputs,
         Err(fault) => return Status::from(fault),
     };

@@ -26,7 +26,7 @@ module _ (map : FileMap) (query_path constraints_path : List ℕ) where
 
   -- Where the inputs are read, they decide how the run ends that no failed put ends: with status 0 where
   -- each constraint has a certificate, with 1 where some constraint has none, or with their refusal.
-  pub record CheckIsDecided (reached : Status) : Type 0 where
+  pub record CheckFollows (reached : Status) : Type 0 where
     pub all_shown : (query : plain.Query) (constraints : List Constraint)
         → AreInputs query constraints → All (HasCertificate query) constraints
         → HasStatus status.Ok reached

@@ -85,12 +85,6 @@ scripted_decides map command =
 
 -- ---- how the run ends
 
-spent_before : (ended : HubEnd) → end.TurnsSpent ≡ run_end ended → ended ≡ end.TurnsSpent
-spent_before end.Done h = (let same = h in cc)
-spent_before end.WireFailed h = (let same = h in cc)
-spent_before end.TurnsSpent h = refl
-spent_before end.NoMemory h = (let same = h in cc)
-
 module _ (command : ReplayCommand) (before after : Host) where
   abbrev Ended : Result Scripted Fault → Type 0
   Ended = ScriptedEnd before.files command
@@ -104,7 +98,7 @@ module _ (command : ReplayCommand) (before after : Host) where
   run s status.WriteFault ends write room no_put = absurd (no_put (write refl))
   run s status.TurnsSpent ends write room no_put =
       let r = ends.1 in
-      absurd (turns_left s.site command.limits r.before r.after r.served s.events r.fresh.left room r.serves (spent_before r.served.end r.its_end))
+      absurd (turns_left s.site command.limits r.before r.after (record { end = end.TurnsSpent; tally = r.tally }) s.events r.fresh.left room r.serves refl)
   run s status.WireFault ends write room no_put = absurd ends
   run s (status.Refused file number place) ends write room no_put = absurd ends
   run s (status.ReadFault path) ends write room no_put = absurd ends

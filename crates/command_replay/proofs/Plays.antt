@@ -1,22 +1,25 @@
 -- A site that was served over the events of a script.
-use Rattle.std.proofs.Common.{◌≡◌, ℕ, Bool, List, [], ◌∷◌, take, drop, refl, ap, subst, ◌∙◌}
+use Rattle.std.proofs.Common.{◌≡◌, ℕ, Bool, List, [], ◌∷◌, take, drop, refl, ap, ◌∙◌, arith}
 use Rattle.std.proofs.lemmas.List.Elements.{All-weaker, Contains-append_right}
 use Rattle.std.specs.List.{list_any}
 use Rattle.std.specs.Prelude.{All, Contains, Option, Some, None, IfSome, IsSome}
 use Rattle.happenings.specs.declared.event.WireEvent.{WireEvent}
 use Rattle.happenings.specs.declared.event.WireEvent.TheVariants.{Opened, Bytes, Ended, Lost, Change, Done}
+use Rattle.edge_io.specs.Counts.{Rose}
 use Rattle.mem_wire.specs.Sent.{Sent}
-use Rattle.mem_wire.specs.WireInMemory.{WireInMemory, entry_of, account_of, faults_of, accounts_of, faults_in, given_of, told_of, HasEntry, IsNew}
+use Rattle.mem_wire.specs.WireInMemory.{WireInMemory, entry_of, account_of, faults_of, accounts_of, faults_in, given_of, HasEntry, IsNew}
+use Rattle.mem_wire.specs.Steady.{steady_told}
 use Rattle.serving_spec.specs.declared.HubEnd.{HubEnd}
 use Rattle.command_spec.specs.declared.RunLimits.{RunLimits}
 use Rattle.command_spec.specs.declared.ReplayCommand.{ReplayCommand}
-use Rattle.serving_spec.specs.declared.Served.{Served}
+use Rattle.serving_spec.specs.declared.HubEnd.TheVariants as end
+use Rattle.serving_spec.specs.declared.Tally.{Tally}
 use Rattle.serving_spec.specs.Openings.{opened_in}
 use Rattle.serve_run.specs.Texts.{replay_text}
 use Rattle.site_serving.specs.Served.{ServesSite}
 use Rattle.command_spec.specs.Inputs.{data_paths, input_paths, replay_paths}
 use Rattle.command_replay.specs.Scripts.{Scripted}
-use Rattle.command_replay.specs.Ends.{nothing_sent, ReportsOpened, IsFresh, is_change, run_end, IsReplayed}
+use Rattle.command_replay.specs.Ends.{nothing_sent, ReportsOpened, IsFresh, is_change, IsReplayed}
 
 pub of_script : (command : ReplayCommand) (path : List ℕ) → Contains (command.script ∷ []) path → Contains (replay_paths command) path
 of_script command path h = Contains-append_right (input_paths (data_paths command.sources command.over) command.query command.templates) (command.script ∷ []) path h
@@ -41,9 +44,13 @@ told_opened w (Lost number) h = tt
 told_opened w (Change text) h = tt
 told_opened w Done h = tt
 
+-- a count that is nothing hasn't risen
+never_rose : Rose 0 0 → ⊥
+never_rose rose = omega (arith, rose)
+
 module _ (events : List WireEvent) (w : WireInMemory) (its : w.events ≡ events) (first : w.count ≡ 0)
     (new : (number : ℕ) → IfSome (entry_of w number) IsNew) (opened : All (HasEntry (entry_of w)) events) where
-  pub is_fresh : IsFresh events (told_of w)
+  pub is_fresh : IsFresh events (steady_told w)
   is_fresh = record {
     given = ap (λ n. given_of w.events n) first;
     left = ap (λ n. Some (drop n w.events)) first ∙ ap (λ (es : List WireEvent). Some es) its;
@@ -52,19 +59,19 @@ module _ (events : List WireEvent) (w : WireInMemory) (its : w.events ≡ events
     none_failed = λ number. new_faults (entry_of w number) (new number);
   }
 
-module _ (s : Scripted) (limits : RunLimits) (w after : WireInMemory) (served : Served) (ended : HubEnd) (text opened : List ℕ) (with_changes : Bool) where
-  pub is_replayed : IsFresh s.events (told_of w)
-      → ServesSite s.site limits (told_of w) (told_of after) served
-      → ended ≡ run_end served.end → opened ≡ opened_in (take limits.turns s.events) → All (λ number. faults_in after number ≡ 0) opened
-      → with_changes ≡ list_any is_change s.events → text ≡ replay_text (accounts_of after) opened with_changes served.tally → IsReplayed s limits ended text
-  is_replayed fresh serves its_end is_opened whole with_is is = record {
-    before = told_of w;
-    after = told_of after;
-    served = served;
-    its_end = its_end;
+module _ (s : Scripted) (limits : RunLimits) (w after : WireInMemory) (ended : HubEnd) (tally : Tally) (text opened : List ℕ) (with_changes : Bool) where
+  pub is_replayed : IsFresh s.events (steady_told w)
+      → ServesSite s.site limits (steady_told w) (steady_told after) (record { end = ended; tally = tally })
+      → (ended ≡ end.WireFailed → Rose 0 0) → opened ≡ opened_in (take limits.turns s.events) → ((number : ℕ) → faults_in after number ≡ 0)
+      → with_changes ≡ list_any is_change s.events → text ≡ replay_text (accounts_of after) opened with_changes tally → IsReplayed s limits ended text
+  is_replayed fresh serves failed is_opened whole with_is is = record {
+    before = steady_told w;
+    after = steady_told after;
+    tally = tally;
     fresh = fresh;
     serves = serves;
-    none_failed = subst (All (λ number. faults_in after number ≡ 0)) is_opened whole;
-    is = is ∙ ap (λ (numbers : List ℕ). replay_text (accounts_of after) numbers with_changes served.tally) is_opened
-        ∙ ap (λ (told : Bool). replay_text (accounts_of after) (opened_in (take limits.turns s.events)) told served.tally) with_is;
+    no_wire = λ e. never_rose (failed e);
+    none_failed = whole;
+    is = is ∙ ap (λ (numbers : List ℕ). replay_text (accounts_of after) numbers with_changes tally) is_opened
+        ∙ ap (λ (told : Bool). replay_text (accounts_of after) (opened_in (take limits.turns s.events)) told tally) with_is;
   }

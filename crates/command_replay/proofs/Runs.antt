@@ -9,13 +9,7 @@ use Rattle.command_spec.specs.declared.RunLimits.{RunLimits}
 use Rattle.site_inputs.specs.Statuses.{IsSilent}
 use Rattle.serve_run.specs.Puts.{EndPuts}
 use Rattle.command_replay.specs.Scripts.{Scripted}
-use Rattle.command_replay.specs.Ends.{run_end, IsReplayed, RunEnds}
-
-no_wire_failed : (ended : HubEnd) → end.WireFailed ≡ run_end ended → ⊥
-no_wire_failed end.Done is = cc
-no_wire_failed end.WireFailed is = cc
-no_wire_failed end.TurnsSpent is = cc
-no_wire_failed end.NoMemory is = cc
+use Rattle.command_replay.specs.Ends.{IsReplayed, RunEnds}
 
 module _ (s : Scripted) (limits : RunLimits) (ended : HubEnd) (text : List ℕ) (replayed : IsReplayed s limits ended text) (old new : Option (List ℕ)) (P : Type 0) where
   as_ended : (other : HubEnd) → ended ≡ other → IsReplayed s limits other text
@@ -24,7 +18,7 @@ module _ (s : Scripted) (limits : RunLimits) (ended : HubEnd) (text : List ℕ) 
   pub run_ends : (reached : Status) → EndPuts ended text old new P reached → RunEnds s limits old new P reached
   run_ends status.Ok h = (text, as_ended end.Done h.0, h.1)
   run_ends status.WriteFault h = (text, as_ended end.Done h.0, h.1)
-  run_ends status.WireFault h = let failed = as_ended end.WireFailed h.0 in no_wire_failed failed.served.end failed.its_end
+  run_ends status.WireFault h = replayed.no_wire h.0
   run_ends status.TurnsSpent h = (text, as_ended end.TurnsSpent h.0, h.1)
   run_ends status.NoMemory h = h.1
   run_ends status.Usage h = h

@@ -1,5 +1,5 @@
 -- The command `replay`: the pages of a site over the events of a script.
-use Rattle.std.specs.Prelude.{◌≡◌, ◌⊎◌, ℕ, Bool, true, false, List, [], take, All, IfSome, IsSome, ⊤}
+use Rattle.std.specs.Prelude.{◌≡◌, ◌≢◌, ◌⊎◌, ℕ, Bool, true, false, List, [], take, All, IfSome, IsSome, ⊤}
 use Rattle.std.specs.Prelude.{Option, Some, Ok, Err}
 use Rattle.std.specs.List.{list_any}
 use Rattle.edge_io.specs.Sink.{Gains, GainsPart}
@@ -16,7 +16,7 @@ use Rattle.command_spec.specs.declared.ReplayCommand.{ReplayCommand}
 use Rattle.site_inputs.specs.declared.fault.Fault.{Fault}
 use Rattle.site_inputs.specs.Statuses.{status_of}
 use Rattle.site_inputs.specs.Outside.{Host, PutsRose}
-use Rattle.serving_spec.specs.declared.Served.{Served}
+use Rattle.serving_spec.specs.declared.Tally.{Tally}
 use Rattle.serving_spec.specs.Openings.{opened_in}
 use Rattle.serve_run.specs.Texts.{replay_text}
 use Rattle.site_serving.specs.Served.{ServesSite}
@@ -44,11 +44,6 @@ pub record IsFresh (events : List WireEvent) (wire : WireReport) : Type 0 where
   pub nothing : (number : ℕ) → IfSome (wire.account number) (λ account. account ≡ nothing_sent)
   pub none_failed : (number : ℕ) → wire.faults number ≡ 0
 
--- a call that fails of a wire in memory means out of memory
-abbrev pub run_end : HubEnd → HubEnd
-run_end end.WireFailed = end.NoMemory
-run_end ended = ended
-
 -- the event is a text that is to change the data
 abbrev pub is_change : WireEvent → Bool
 is_change (Opened number) = false
@@ -58,19 +53,19 @@ is_change (Lost number) = false
 is_change (Change text) = true
 is_change Done = false
 
--- The site was served over a wire in memory of the script's events, and the text reports what each connection that was
--- opened has taken, ascending, and then the counts, those of texts only where the script has one. No send to them failed.
+-- The site was served over a wire in memory of the script's events, of which no call failed, and the text reports what each
+-- connection that was opened has taken, ascending, and then the counts, those of texts only if the script has one.
 pub record IsReplayed (s : Scripted) (limits : RunLimits) (ended : HubEnd)
     (text : List ℕ) : Type 0 where
   pub before : WireReport
   pub after : WireReport
-  pub served : Served
-  pub its_end : ended ≡ run_end served.end
+  pub tally : Tally
   pub fresh : IsFresh s.events before
-  pub serves : ServesSite s.site limits before after served
-  pub none_failed : All (λ number. after.faults number ≡ 0) (opened_in (take limits.turns s.events))
+  pub serves : ServesSite s.site limits before after (record { end = ended; tally = tally })
+  pub no_wire : ended ≢ end.WireFailed
+  pub none_failed : (number : ℕ) → after.faults number ≡ 0
   pub is : text ≡ replay_text after.account (opened_in (take limits.turns s.events))
-      (list_any is_change s.events) served.tally
+      (list_any is_change s.events) tally
 
 -- What a run over a script has put, and why it has this status. A fault of the output doesn't change the status of a run
 -- that was cut off. Where it was out of memory nothing was put.

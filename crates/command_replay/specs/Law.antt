@@ -13,7 +13,7 @@ use Rattle.command_replay.specs.Ends.{ReplayEnds}
 
 module _ (command : ReplayCommand) (before after : Host) (reached : Status) where
   -- Where the inputs and the script are read, they decide how a replay ends that nothing outside fails.
-  pub record ReplayIsDecided : Type 0 where
+  pub record ReplayFollows : Type 0 where
     pub accepted : (s : Scripted)
         → ScriptedEnd before.files command (Ok s) → length s.events < command.limits.turns
         → ¬ PutsRose before after → HasStatus status.Ok reached
@@ -28,4 +28,4 @@ module _ (command : ReplayCommand) (before after : Host) (reached : Status) wher
       → ReadRose (replay_paths command) before.failed_reads after.failed_reads reached
       → (reached ≡ status.WriteFault → PutsRose before after)
       → AllRead (replay_paths command) before after
-      → ReplayIsDecided
+      → ReplayFollows

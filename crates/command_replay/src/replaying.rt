@@ -11,7 +11,7 @@ ghost use Rattle.site_inputs.specs.Statuses.{ReadRose, IsSilent};
 ghost use Rattle.site_inputs.specs.Outside.{host};
 ghost use Rattle.command_spec.specs.Inputs.{replay_paths};
 ghost use Rattle.command_replay.specs.Scripts.{scripted_of, scripted_result, ScriptedEnd};
-ghost use Rattle.command_replay.specs.Ends.{is_change, run_end, IsReplayed, ReplayEnds};
+ghost use Rattle.command_replay.specs.Ends.{is_change, IsReplayed, ReplayEnds};
 ghost use Rattle.command_replay.specs.Course.{ReplayCourse};
 
 use crate::script::load_script;
@@ -19,7 +19,7 @@ use command_spec::{ReplayCommand, RunLimits};
 use edge_io::{Files, Sink};
 use happenings::Trace;
 use hub::HubEnd;
-use mem_wire::MemWire;
+use mem_wire::SteadyWire;
 use run_report::Status;
 use sd_value::NoMemory;
 use serve_run::{opened_in, put_end, replay_text};
@@ -103,16 +103,6 @@ fn first_events(events: &[WireEvent], turns: u64) -> &[WireEvent]
     }
 }
 
-// How a run over a wire in memory ended: no call of that wire is to fail, so one that does means out of memory.
-fn run_end(end: HubEnd) -> HubEnd
-    ensures { result ≡ run_end end }
-{
-    match end {
-        HubEnd::WireFailed => HubEnd::NoMemory,
-        HubEnd::Done | HubEnd::TurnsSpent | HubEnd::NoMemory => end,
-    }
-}
-
 // Whether the event is a text that is to change the data.
 fn is_change(event: &WireEvent) -> bool
     ensures { result ≡ is_change event.now }
@@ -137,11 +127,11 @@ fn play(alloc: Global, script: Script, limits: &RunLimits) -> Result<Finished, N
 {
     let opened = opened_in(alloc, first_events(&script.events, limits.turns))?;
     let with_changes = have_change(&script.events);
-    let mut wire = MemWire::new(alloc, script.events, Vec::new(alloc), Vec::new(alloc))?;
+    let mut wire = SteadyWire::new(alloc, script.events)?;
     let served = serve_site(alloc, script.site, limits, PageSource::Demand, &mut wire);
     let text = replay_text(alloc, &wire, &opened, with_changes, &served.tally)?;
     Ok(Finished {
-        end: run_end(served.end),
+        end: served.end,
         text,
     })
 }

@@ -19,7 +19,7 @@ use Rattle.command_spec.specs.declared.Command.TheVariants as command
 use Rattle.command_spec.specs.declared.ReportCommand.TheVariants.{CheckAll}
 use Rattle.command_spec.specs.Inputs.{check_paths}
 use Rattle.command_check.specs.CheckEnds.{CheckEnds}
-use Rattle.command_check.specs.Law.{CheckIsDecided, FindingsHold}
+use Rattle.command_check.specs.Law.{CheckFollows, FindingsHold}
 use Rattle.command_check.proofs.Answers.{AnswerEnds as VerdictEnds, answer_ends, answers_decide, inputs_answer, findings_hold}
 use Rattle.command_run.specs.Top.{AnswerEnds, Ends, RunEnds, HasTold, AnswersHold}
 
@@ -88,7 +88,7 @@ module _ (map : FileMap) (query_path constraints_path : List ℕ) where
     refused reason its d NotFound ends read write all no_put = by_fault fault.NotFound reason ends tt all its d
 
     pub exact_check : (status : Status) → Ended status → Read status → (status ≡ WriteFault → PutsRose before after)
-        → All → ¬ PutsRose before after → CheckIsDecided map query_path constraints_path status
+        → All → ¬ PutsRose before after → CheckFollows map query_path constraints_path status
     exact_check status ends read write = λ all no_put. record {
       all_shown = λ query constraints inputs shown.
           accepted true (inputs_answer map query_path constraints_path query constraints true inputs (λ wanted. shown, λ s. refl)) status ends read write all no_put;

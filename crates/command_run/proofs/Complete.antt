@@ -16,7 +16,7 @@ use Rattle.command_serve.proofs.Law.{serving_ends_well}
 use Rattle.command_replay.proofs.Law.{replay_ends_well}
 use Rattle.command_spec.specs.Inputs.{inputs_of_command, given_inputs}
 use Rattle.command_run.specs.Top.{Ends, RunEnds, WriteRose}
-use Rattle.command_run.specs.Complete.{IsDecidedRun, IsComplete}
+use Rattle.command_run.specs.Complete.{Follows, IsComplete}
 
 module _ (contents : Option FileMap) (before after : Outside) where
   abbrev Wrote : Option Command → Type 0
@@ -43,7 +43,7 @@ module _ (contents : Option FileMap) (before after : Outside) where
       (λ e. subst (λ (g : Option Command). Wrote g) is_given (write e)) wire
 
   -- out of memory for the report
-  short_run : (given : Command) (reached : Status) → reached ≡ status.NoMemory → IsDecidedRun given before after reached
+  short_run : (given : Command) (reached : Status) → reached ≡ status.NoMemory → Follows given before after reached
   short_run (command.Build c) reached memory = record { accepted = λ s taken can no_put no_write. inr memory; refused = λ reason ended decided. inr memory }
   short_run (command.Serve c) reached memory = record { accepted = λ s taken turns no_put no_event. inr memory; refused = λ reason ended decided. inr memory }
   short_run (command.Replay c) reached memory = record { accepted = λ s taken room no_put. inr memory; refused = λ reason ended decided. inr memory }

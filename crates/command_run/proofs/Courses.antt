@@ -18,7 +18,7 @@ use Rattle.command_spec.specs.declared.Command.{Command}
 use Rattle.site_inputs.specs.declared.fault.Fault.{Fault}
 use Rattle.site_inputs.specs.Reads.{Reads}
 use Rattle.command_run.specs.declared.no_words.NoWords.{NoWords}
-use Rattle.command_run.specs.Main.{Words, status_without}
+use Rattle.command_run.specs.Main.{Words, Seen, status_without, HasEnded}
 use Rattle.command_run.specs.IsRun.{AnswerPuts, AnswerCourse, CommandCourse, Course, CourseThenLine, RunCourse, IsRun}
 
 -- the reads, and then the put
@@ -67,18 +67,18 @@ line_course err Ends before mid now ended reached course told either fixed = (
   },
 )
 
-module _ (out err : Stream) (contents : Option FileMap) (wire wire_now : WireReport) (words : Words) (before now : List Happening) (exit : ℕ) (reached : Status) (its_code : exit ≡ code reached) where
+module _ (out err : Stream) (words : Words) (first last : Seen) (before now : List Happening) (exit : ℕ) (reached : Status) (its_code : exit ≡ code reached) where
   abbrev pub Ran : Words → Type 0
-  Ran given = Grew (λ trace. IsRun out err contents wire wire_now given trace exit) before now
+  Ran given = Grew (λ trace. IsRun out err given first last trace exit) before now
 
-  pub run_with : (given : List (List ℕ)) → words ≡ prelude.Ok given
-      → Grew (λ trace. CourseThenLine err (Course out contents wire wire_now (command given)) trace reached) before now → Ran words
-  run_with given is h = subst Ran (sym is) (h.0, h.1, record { reached = reached; its_code = its_code; happens = h.2 })
+  pub run_with : (given : List (List ℕ)) → words ≡ prelude.Ok given → HasEnded (command given) first last reached
+      → Grew (λ trace. CourseThenLine err (Course out first.contents first.wire last.wire (command given)) trace reached) before now → Ran words
+  run_with given is ended h = subst Ran (sym is) (h.0, h.1, record { reached = reached; its_code = its_code; happens = h.2; ended = ended })
 
   -- without words nothing happens but that the line is put
-  pub run_without : (reason : NoWords) (ended : Status) → words ≡ prelude.Err reason → ended ≡ status_without reason → Grew (IsTold err reached) before now
-      → (reached ≡ ended) ⊎ (reached ≡ NoMemory) → (IsFixed ended → reached ≡ ended) → Ran words
-  run_without reason ended is its told either fixed =
-      let all : Grew (λ trace. CourseThenLine err (RunCourse out contents wire wire_now (prelude.Err reason)) trace reached) before now =
-      line_course err (RunCourse out contents wire wire_now (prelude.Err reason)) before before now ended reached ([], sym (append-nil before), (its, refl)) told either fixed in
-      subst Ran (sym is) (all.0, all.1, record { reached = reached; its_code = its_code; happens = all.2 })
+  pub run_without : (reason : NoWords) (status : Status) → words ≡ prelude.Err reason → status ≡ status_without reason → HasEnded None first last reached
+      → Grew (IsTold err reached) before now → (reached ≡ status) ⊎ (reached ≡ NoMemory) → (IsFixed status → reached ≡ status) → Ran words
+  run_without reason status is its ended told either fixed =
+      let all : Grew (λ trace. CourseThenLine err (RunCourse out first.contents first.wire last.wire (prelude.Err reason)) trace reached) before now =
+      line_course err (RunCourse out first.contents first.wire last.wire (prelude.Err reason)) before before now status reached ([], sym (append-nil before), (its, refl)) told either fixed in
+      subst Ran (sym is) (all.0, all.1, record { reached = reached; its_code = its_code; happens = all.2; ended = ended })

@@ -1,27 +1,20 @@
 -- A run without words.
 use Rattle.std.proofs.Common.{◌≡◌, ◌⊎◌, ℕ, List, [], inl, inr, refl, sym, subst}
-use Rattle.std.specs.Prelude.{Option, None, Some, Ok, Err}
+use Rattle.std.specs.Prelude.{Option, None, Some}
 use Rattle.std.specs.Option.{IsSomeAnd}
 use Rattle.edge_io.specs.Counts.{Rose}
 use Rattle.edge_io.specs.Files.{FileMap}
 use Rattle.edge_io.specs.Sink.{Gains, GainsPart}
 use Rattle.wire.specs.Told.{WireReport}
-use Rattle.run_report.specs.Report.{code, line, IsFixed}
+use Rattle.run_report.specs.Report.{line, IsFixed}
 use Rattle.run_report.specs.declared.status.Status.{Status}
 use Rattle.run_report.specs.declared.status.Status.TheVariants.{Usage, WriteFault, WireFault}
 use Rattle.run_report.specs.declared.status.Status.TheVariants as status
-use Rattle.command_spec.specs.Words.{command}
 use Rattle.command_spec.specs.declared.Command.{Command}
 use Rattle.site_inputs.specs.Statuses.{ReadRose}
-use Rattle.command_run.specs.Main.{Words, Seen, seen, status_without, Exits, HasEnded}
+use Rattle.command_run.specs.Main.{Seen, seen, status_without, HasEnded}
 use Rattle.command_run.specs.declared.no_words.NoWords.{NoWords}
 use Rattle.command_run.specs.declared.no_words.NoWords.TheVariants.{Unreadable, NoMemory}
-
--- a run with words
-pub with_words : (words : Words) (given : List (List ℕ)) (before after : Seen) (exit : ℕ) (reached : Status) → words ≡ Ok given → exit ≡ code reached
-    → HasEnded (command given) before after reached → Exits words before after exit
-with_words words given before after exit reached is its_code ended =
-    subst (λ (w : Words). Exits w before after exit) (sym is) (record { reached = reached; its_code = its_code; without = tt; ended = ended })
 
 one_of_two : (reason : NoWords) → (status_without reason ≡ Usage) ⊎ (status_without reason ≡ status.NoMemory)
 one_of_two Unreadable = inl refl
@@ -57,13 +50,11 @@ module _ (contents : Option FileMap) (reads writes : List ℕ → ℕ) (output :
       → HasEnded None Before After (status_without reason)
   ended_without reason whole part = record {
     usage = λ e. refl;
-    no_command = λ e. one_of_two reason;
-    no_words = λ e. refl;
+    no_command = λ e. (one_of_two reason, refl);
     ends = λ map told. subst (λ (o : Option FileMap). IsSomeAnd o (λ now. (status_without reason ≡ Usage) ⊎ (status_without reason ≡ status.NoMemory))) (sym told) (one_of_two reason);
-    silent = λ e. refl;
+    silent = λ e. (refl, refl);
     files = λ e. refl;
     wire = λ e. refl;
-    quiet = λ e. refl;
     wire_cause = λ e. absurd (no_wire_fault reason e);
     exact = λ map told c is. absurd (not_given Command c is);
     holds = λ map told c is. absurd (not_given Command c is);
@@ -76,15 +67,9 @@ module _ (contents : Option FileMap) (reads writes : List ℕ → ℕ) (output :
   }
 
   -- a run without words has only told why
-  pub without_words : (words : Words) (reason : NoWords) (exit : ℕ) (reached : Status) → words ≡ Err reason → exit ≡ code reached → reached ≡ status_without reason
-      → ((Rose lines lines_now → ⊥) → Gains error error_now (line reached)) → GainsPart error error_now (line reached) → Exits words Before After exit
-  without_words words reason exit reached is its_code its whole part =
-      subst (λ (w : Words). Exits w Before After exit) (sym is)
-      (record {
-        reached = reached;
-        its_code = its_code;
-        without = its;
-        ended = subst (HasEnded None Before After) (sym its) (ended_without reason
-            (subst (λ (s : Status). (Rose lines lines_now → ⊥) → Gains error error_now (line s)) its whole)
-            (subst (λ (s : Status). GainsPart error error_now (line s)) its part));
-      })
+  pub without_words : (reason : NoWords) (reached : Status) → reached ≡ status_without reason
+      → ((Rose lines lines_now → ⊥) → Gains error error_now (line reached)) → GainsPart error error_now (line reached) → HasEnded None Before After reached
+  without_words reason reached its whole part =
+      subst (HasEnded None Before After) (sym its) (ended_without reason
+      (subst (λ (s : Status). (Rose lines lines_now → ⊥) → Gains error error_now (line s)) its whole)
+      (subst (λ (s : Status). GainsPart error error_now (line s)) its part))

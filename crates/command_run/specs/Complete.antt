@@ -5,22 +5,22 @@ use Rattle.command_spec.specs.Inputs.{inputs_of_command}
 use Rattle.command_spec.specs.declared.Command.{Command}
 use Rattle.command_spec.specs.declared.Command.TheVariants.{Build, Serve, Replay}
 use Rattle.site_inputs.specs.Outside.{Outside, AllRead}
-use Rattle.command_build.specs.Law.{BuildIsDecided}
-use Rattle.command_serve.specs.Law.{ServingIsDecided}
-use Rattle.command_replay.specs.Law.{ReplayIsDecided}
+use Rattle.command_build.specs.Law.{BuildFollows}
+use Rattle.command_serve.specs.Law.{ServingFollows}
+use Rattle.command_replay.specs.Law.{ReplayFollows}
 
 -- what the inputs decide of a command that is answered by files or by replies
-abbrev pub IsDecidedRun : Command → (before after : Outside) → Status → Type 0
-IsDecidedRun (Build command) before after reached =
-    BuildIsDecided command before.host after.host reached
-IsDecidedRun (Serve command) before after reached =
-    ServingIsDecided command before after reached
-IsDecidedRun (Replay command) before after reached =
-    ReplayIsDecided command before.host after.host reached
-IsDecidedRun command before after reached = ⊤
+abbrev pub Follows : Command → (before after : Outside) → Status → Type 0
+Follows (Build command) before after reached =
+    BuildFollows command before.host after.host reached
+Follows (Serve command) before after reached =
+    ServingFollows command before after reached
+Follows (Replay command) before after reached =
+    ReplayFollows command before.host after.host reached
+Follows command before after reached = ⊤
 
 -- Where each of the command's files could be read, its inputs decide how the run ends that nothing outside fails.
 abbrev pub IsComplete : Command → (before after : Outside) → Status → Type 0
 IsComplete command before after reached =
     AllRead (inputs_of_command command) before.host after.host
-    → IsDecidedRun command before after reached
+    → Follows command before after reached

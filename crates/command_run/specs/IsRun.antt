@@ -1,4 +1,4 @@
--- A whole run: all that happens outside of it, in its order.
+-- A whole run: all that happens outside of it, in its order, and what it leaves.
 use Rattle.std.specs.Prelude.{◌≡◌, ◌⊎◌, ℕ, List, [], ◌∷◌, ◌++◌, Option, Result}
 use Rattle.std.specs.Prelude as prelude
 use Rattle.edge_io.specs.Files.{FileMap}
@@ -22,7 +22,7 @@ use Rattle.command_build.specs.Course.{BuildCourse}
 use Rattle.command_serve.specs.Course.{ServeCourse}
 use Rattle.command_replay.specs.Course.{ReplayCourse}
 use Rattle.command_run.specs.Top.{text_report, answer_status}
-use Rattle.command_run.specs.Main.{Words, command_given, status_without}
+use Rattle.command_run.specs.Main.{Words, command_given, status_without, Seen, HasEnded}
 
 module _ {A : Type 0} (report_of : A → Report) (output : Stream) where
   -- What was put of an answer, and the status after it: its text, whole or cut, and of a fault nothing.
@@ -88,9 +88,11 @@ module _ (output : Stream) (contents : Option FileMap) (before after : WireRepor
   RunCourse (prelude.Err reason) course ended =
       (ended ≡ status_without reason) × (course ≡ [])
 
--- All that happens in a run of these words, in its order, and its exit code.
-pub record IsRun (output errors : Stream) (contents : Option FileMap) (before after : WireReport)
-    (words : Words) (trace : List Happening) (exit : ℕ) : Type 0 where
+-- A run of these words: all that happens in it, in its order, what it leaves, and its exit code, of one status.
+pub record IsRun (output errors : Stream) (words : Words) (before after : Seen)
+    (trace : List Happening) (exit : ℕ) : Type 0 where
   pub reached : Status
   pub its_code : exit ≡ code reached
-  pub happens : CourseThenLine errors (RunCourse output contents before after words) trace reached
+  pub happens : CourseThenLine errors
+      (RunCourse output before.contents before.wire after.wire words) trace reached
+  pub ended : HasEnded (command_given words) before after reached

@@ -1,11 +1,11 @@
--- A whole run from its words to its exit code.
-use Rattle.std.specs.Prelude.{◌≡◌, ◌⊎◌, ℕ, List, Option, None, Result, Ok, Err, IfErr}
+-- What a whole run is given, and what it leaves.
+use Rattle.std.specs.Prelude.{◌≡◌, ◌⊎◌, ℕ, List, Option, None, Result, Ok, Err}
 use Rattle.std.specs.Option.{ForSome, IsSomeAnd}
 use Rattle.edge_io.specs.Counts.{Rose}
 use Rattle.edge_io.specs.Files.{FileMap}
 use Rattle.edge_io.specs.Sink.{Gains, GainsPart}
 use Rattle.wire.specs.Told.{WireReport}
-use Rattle.run_report.specs.Report.{code, line}
+use Rattle.run_report.specs.Report.{line}
 use Rattle.run_report.specs.declared.status.Status.{Status}
 use Rattle.run_report.specs.declared.status.Status.TheVariants.{Usage, WriteFault, WireFault}
 use Rattle.run_report.specs.declared.status.Status.TheVariants as status
@@ -81,17 +81,17 @@ module _ (given : Option Command) (before after : Seen) where
   OfCommand Holds = ForSome before.contents (λ map. ForSome given (λ command.
       IsSomeAnd after.contents (λ now. Holds command map now)))
 
-  -- All that is known of a run with this status: each clause of `strudel`.
+  -- What a run with this status leaves.
   pub record HasEnded (reached : Status) : Type 0 where
     pub usage : reached ≡ Usage → given ≡ None
-    pub no_command : given ≡ None → (reached ≡ Usage) ⊎ (reached ≡ status.NoMemory)
-    pub no_words : given ≡ None → after.output ≡ before.output
+    pub no_command : given ≡ None
+        → ((reached ≡ Usage) ⊎ (reached ≡ status.NoMemory)) × (after.output ≡ before.output)
     pub ends : ForSome before.contents (λ map. IsSomeAnd after.contents (λ now.
         RunEnds given (outside_seen before map) (outside_seen after now) reached))
-    pub silent : IsSilent reached → after.output ≡ before.output
+    pub silent : IsSilent reached
+        → (after.output ≡ before.output) × (after.wire ≡ before.wire)
     pub files : WritesNoFile given → after.contents ≡ before.contents
     pub wire : UsesNoWire given → after.wire ≡ before.wire
-    pub quiet : IsSilent reached → after.wire ≡ before.wire
     pub wire_cause : reached ≡ WireFault → EventsRose before.wire after.wire
     pub exact : OfCommand (λ command map now.
         IsExact command (host_seen before map) (host_seen after now) reached)
@@ -108,10 +108,3 @@ module _ (given : Option Command) (before after : Seen) where
     pub whole_line : ¬ Rose before.failed_lines after.failed_lines
         → Gains before.error after.error (line reached)
     pub part_line : GainsPart before.error after.error (line reached)
-
--- The exit code is that of the status that the run has. Words that can't be had decide it.
-pub record Exits (words : Words) (before after : Seen) (exit : ℕ) : Type 0 where
-  pub reached : Status
-  pub its_code : exit ≡ code reached
-  pub without : IfErr words (λ reason. reached ≡ status_without reason)
-  pub ended : HasEnded (command_given words) before after reached

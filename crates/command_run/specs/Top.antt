@@ -17,7 +17,7 @@ use Rattle.site_inputs.specs.Statuses.{status_of}
 use Rattle.command_answers.specs.Texts.{TextAnswers}
 use Rattle.command_answers.specs.Reports.{ReportAnswers}
 use Rattle.command_build.specs.Ends.{BuildEnds, FileRose}
-use Rattle.command_check.specs.Law.{CheckIsDecided, FindingsHold}
+use Rattle.command_check.specs.Law.{CheckFollows, FindingsHold}
 use Rattle.command_lint.specs.Law.{TellsFindings}
 use Rattle.command_serve.specs.Ends.{ServeEnds}
 use Rattle.command_replay.specs.Ends.{ReplayEnds}
@@ -117,7 +117,7 @@ IsExactEnd {A} report_of Answer paths before after reached =
 abbrev pub IsExactReport : ReportCommand → (before after : Host) → Status → Type 0
 IsExactReport (CheckAll c) before after = λ reached.
     AllRead (inputs_of_report (CheckAll c)) before after → ¬ PutsRose before after
-    → CheckIsDecided before.files c.query c.constraints reached
+    → CheckFollows before.files c.query c.constraints reached
 IsExactReport c before after =
     IsExactEnd (λ report. report) (ReportAnswers before.files c) (inputs_of_report c) before after
 

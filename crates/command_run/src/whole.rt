@@ -2,7 +2,7 @@
 ghost use Rattle.std.specs.Prelude.{◌≡◌, ◌++◌, List};
 ghost use Rattle.happenings.specs.Happening.{Happening};
 ghost use Rattle.command_run.specs.IsRun.{IsRun};
-ghost use Rattle.command_run.specs.Main.{status_without, waits_given, Exits, seen};
+ghost use Rattle.command_run.specs.Main.{status_without, waits_given, seen};
 
 use crate::given::{GivenWords, default_waits};
 use crate::lent::line_lent;
@@ -48,15 +48,13 @@ pub fn run_main<L: Trace, F: Files<Log = L>, O: Sink<Log = L>, E: Sink<Log = L>,
     err: &mut E,
     wire: &mut W,
 ) -> u8
-    ensures exits { Exits words.now
+    ensures run { (trace : List Happening) × (L.events log.new ≡ L.events log.old ++ trace)
+        × IsRun (O.stream out.old) (E.stream err.old) words.now
         (seen (F.contents files.old) (F.failed_reads files.old) (F.failed_writes files.old)
         (O.text out.old) (O.failed out.old) (E.text err.old) (E.failed err.old) (W.told wire.old))
         (seen (F.contents files.new) (F.failed_reads files.new) (F.failed_writes files.new)
         (O.text out.new) (O.failed out.new) (E.text err.new) (E.failed err.new) (W.told wire.new))
-        result }
-    ensures run { (trace : List Happening) × (L.events log.new ≡ L.events log.old ++ trace)
-        × IsRun (O.stream out.old) (E.stream err.old) (F.contents files.old) (W.told wire.old)
-        (W.told wire.new) words.now trace result }
+        trace result }
     ensures lent { (F.trace files.new ≡ F.trace files.old) × (O.trace out.new ≡ O.trace out.old)
         × (E.trace err.new ≡ E.trace err.old) × (W.trace wire.new ≡ W.trace wire.old) }
 {

@@ -16,7 +16,7 @@ use Rattle.command_spec.specs.declared.ServeOptions.{ServeOptions}
 use Rattle.command_spec.specs.declared.ServeCommand.{ServeCommand}
 use Rattle.command_spec.specs.declared.WatchOptions.{WatchOptions}
 use Rattle.site_inputs.specs.declared.fault.Fault.{Fault}
-use Rattle.site_inputs.specs.Sites.{Inputs, InputsEnd}
+use Rattle.site_inputs.specs.Sites.{Inputs, Spell, Refuse}
 use Rattle.site_inputs.specs.Statuses.{status_of}
 use Rattle.site_inputs.specs.Outside.{Outside, PutsRose}
 use Rattle.serve_run.specs.Texts.{tally_text}
@@ -133,15 +133,15 @@ module _ (command : ServeCommand) (before after : Outside) (reached : Status) wh
   -- the inputs were read, and the run over them ended so
   pub record IsOver : Type 0 where
     pub inputs : Inputs
-    pub taken : InputsEnd before.host.files command.sources command.over command.query
-        command.templates (Ok inputs)
+    pub taken : Spell before.host.files command.sources command.over command.query
+        command.templates inputs
     pub ends : OverEnds inputs command.watch command.options before after reached
 
   -- an input was refused or unread, or it was out of memory for one, and nothing was done
   pub record IsUnread : Type 0 where
     pub reason : Fault
-    pub taken : InputsEnd before.host.files command.sources command.over command.query
-        command.templates (Err reason)
+    pub taken : Refuse before.host.files command.sources command.over command.query
+        command.templates reason
     pub its : reached ≡ status_of reason
     pub wire : after.wire ≡ before.wire
     pub out : after.host.output ≡ before.host.output

@@ -8,7 +8,7 @@ use Rattle.command_spec.specs.declared.ServeCommand.{ServeCommand}
 use Rattle.command_spec.specs.Inputs.{data_paths, input_paths}
 use Rattle.site_inputs.specs.declared.fault.Fault.{Fault}
 use Rattle.site_inputs.specs.Runs.{IsDecidedFault}
-use Rattle.site_inputs.specs.Sites.{Inputs, InputsEnd}
+use Rattle.site_inputs.specs.Sites.{Inputs, Spell, Refuse}
 use Rattle.site_inputs.specs.Statuses.{ReadRose, status_of}
 use Rattle.site_inputs.specs.Outside.{Outside, PutsRose, EventsRose, AllRead, HasStatus}
 use Rattle.command_serve.specs.Ends.{ServeEnds}
@@ -20,16 +20,14 @@ HasTurns before turns =
 
 module _ (command : ServeCommand) (before after : Outside) (reached : Status) where
   -- Where the inputs are read, they decide how a run over connections ends that nothing outside fails.
-  pub record ServingIsDecided : Type 0 where
+  pub record ServingFollows : Type 0 where
     pub accepted : (s : Inputs)
-        → InputsEnd before.host.files command.sources command.over command.query command.templates
-        (Ok s)
+        → Spell before.host.files command.sources command.over command.query command.templates s
         → HasTurns before.wire command.options.limits.turns
         → ¬ PutsRose before.host after.host → ¬ EventsRose before.wire after.wire
         → HasStatus status.Ok reached
     pub refused : (reason : Fault)
-        → InputsEnd before.host.files command.sources command.over command.query command.templates
-        (Err reason)
+        → Refuse before.host.files command.sources command.over command.query command.templates reason
         → IsDecidedFault reason → HasStatus (status_of reason) reached
 
   -- the law of the command
@@ -44,4 +42,4 @@ module _ (command : ServeCommand) (before after : Outside) (reached : Status) wh
       → AllRead
       (input_paths (data_paths command.sources command.over) command.query command.templates)
       before.host after.host
-      → ServingIsDecided
+      → ServingFollows

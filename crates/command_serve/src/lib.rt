@@ -10,12 +10,9 @@ ghost use Rattle.happenings.specs.Happening.{Happening, Finished};
 ghost use Rattle.serving_spec.specs.declared.HubEnd.TheVariants as end;
 ghost use Rattle.command_spec.specs.Ranges.{AreServeOptions, AreLimits};
 ghost use Rattle.command_spec.specs.Inputs.{data_paths, input_paths};
-ghost use Rattle.site_inputs.specs.Reads.{Reads};
-ghost use Rattle.site_inputs.specs.Runs.{ReadsHaveCause};
-ghost use Rattle.site_inputs.specs.Sites.{InputsEnd};
 ghost use Rattle.site_inputs.specs.Statuses.{ReadRose, IsSilent};
 ghost use Rattle.site_inputs.specs.Outside.{host, outside};
-ghost use Rattle.site_inputs.specs.Values.{inputs_of, inputs_result};
+ghost use Rattle.site_inputs.specs.Values.{inputs_of};
 ghost use Rattle.serve_run.specs.Texts.{tally_text};
 ghost use Rattle.site_serving.specs.Served.{ServesSite, ServesSiteInSteps};
 ghost use Rattle.command_serve.specs.Course.{listen_of, watch_of, CountsHappen, ServesThenCounts};
@@ -33,7 +30,7 @@ pub use laws::serving_ends_well;
 use run_report::{Status, put_noted};
 use sd_value::{NoMemory, Str};
 use serve_run::{Served, put_anyway, put_end, tally_text};
-use site_inputs::{Fault, SiteInputs, load_inputs};
+use site_inputs::{SiteInputs, load_noted};
 use site_serving::{PageSource, serve_site};
 use std::alloc::Global;
 use token_writer::{put, put_number};
@@ -65,42 +62,6 @@ fn no_counts(watches: bool) -> &'static [u8]
     } else {
         NO_COUNTS
     }
-}
-
-// Reads the inputs, while the log is lent to the files.
-fn load_noted<L: Trace, F: Files<Log = L>>(
-    alloc: Global,
-    log: &mut L,
-    files: &mut F,
-    command: &ServeCommand,
-) -> Result<SiteInputs, Fault>
-    ensures ends { ForSome (F.contents files.old) (λ map.
-        InputsEnd map command.now.sources command.now.over command.now.query
-        command.now.templates (inputs_result result)) }
-    ensures same { F.contents files.new ≡ F.contents files.old }
-    ensures cause { ReadsHaveCause
-        (input_paths (data_paths command.now.sources command.now.over)
-        command.now.query command.now.templates)
-        (F.failed_reads files.old) (F.failed_reads files.new) result }
-    ensures course { Reads
-        (input_paths (data_paths command.now.sources command.now.over)
-        command.now.query command.now.templates)
-        (L.events log.old) (L.events log.new) (F.contents files.old) result
-        (λ map. InputsEnd map command.now.sources command.now.over command.now.query
-        command.now.templates (inputs_result result)) }
-    ensures lent { F.trace files.new ≡ F.trace files.old }
-{
-    files.lend(log);
-    let result = load_inputs(
-        alloc,
-        files,
-        &command.sources,
-        &command.over,
-        &command.query,
-        &command.templates,
-    );
-    files.lend(log);
-    result
 }
 
 // Serves the site, while the log is lent to the wire, and lets out what connections have still to take.
@@ -179,8 +140,8 @@ fn put_counts<L: Trace, O: Sink<Log = L>>(
     served: &Served,
     out: &mut O,
 ) -> Status
-    ensures ends { CountsPut served.now.end watches served.now.tally (O.text out.old) (O.text out.new)
-        (Rose (O.failed out.old) (O.failed out.new)) result }
+    ensures ends { CountsPut served.now.end watches served.now.tally
+        (O.text out.old) (O.text out.new) (Rose (O.failed out.old) (O.failed out.new)) result }
     ensures cause { result ≡ Status.WriteFault → Rose (O.failed out.old) (O.failed out.new) }
     ensures course { (part : List Happening) × (L.events log.new ≡ L.events log.old ++ part)
         × CountsHappen (O.stream out.old) watches served.now part result }
@@ -245,8 +206,9 @@ fn serve_told<L: Trace, O: Sink<Log = L>, W: Wire<Log = L>>(
 ) -> Status
     requires options { AreServeOptions options.now }
     requires line { line.now ≡ serving_text options.now.port }
-    ensures ends { TellingEnds (inputs_of inputs) watches options.now (W.told wire.old) (W.told wire.new)
-        (O.text out.old) (O.text out.new) (Rose (O.failed out.old) (O.failed out.new)) result }
+    ensures ends { TellingEnds (inputs_of inputs) watches options.now
+        (W.told wire.old) (W.told wire.new) (O.text out.old) (O.text out.new)
+        (Rose (O.failed out.old) (O.failed out.new)) result }
     ensures listens { (W.told wire.new).listens ≡ (W.told wire.old).listens }
     ensures watches { (W.told wire.new).watches ≡ (W.told wire.old).watches }
     ensures put_cause { result ≡ Status.WriteFault → Rose (O.failed out.old) (O.failed out.new) }
@@ -401,7 +363,15 @@ pub fn serve<L: Trace, F: Files<Log = L>, O: Sink<Log = L>, W: Wire<Log = L>>(
     ensures lent { (F.trace files.new ≡ F.trace files.old) × (O.trace out.new ≡ O.trace out.old)
         × (W.trace wire.new ≡ W.trace wire.old) }
 {
-    match load_noted(alloc, log, files, command) {
+    match load_noted(
+        alloc,
+        log,
+        files,
+        &command.sources,
+        &command.over,
+        &command.query,
+        &command.templates,
+    ) {
         Ok(inputs) => serve_over(
             alloc,
             log,

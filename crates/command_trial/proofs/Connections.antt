@@ -1,5 +1,5 @@
 -- One connection that asks for one target.
-use Rattle.std.proofs.Common.{◌≡◌, ◌≢◌, ℕ, zero, suc, ◌+◌, ◌<◌, ◌≤◌, ◌⊎◌, ◌||◌, Bool, true, false, List, [], ◌∷◌, ◌++◌, length, All, refl, sym, ap, ◌∙◌, subst, inl, inr, arith, append-nil, Option, Some, None}
+use Rattle.std.proofs.Common.{◌≡◌, ◌≢◌, ℕ, zero, suc, ◌+◌, ◌<◌, ◌≤◌, ◌⊎◌, ◌||◌, Bool, true, false, List, [], ◌∷◌, ◌++◌, length, All, refl, sym, ap, ◌∙◌, subst, inl, inr, arith, append-nil, Option, Some, None, Ok, Err}
 use Rattle.edge_io.specs.Counts.{Rose}
 use Rattle.std.proofs.lemmas.List.Elements.{All-head}
 use Rattle.httparse.specs.Grammar.{RequestHead, print_request}
@@ -8,7 +8,7 @@ use Rattle.page_spec.specs.declared.Outcome.{Outcome}
 use Rattle.http_spec.specs.declared.RequestKind.{RequestKind}
 use Rattle.http_spec.specs.declared.ParsedRequest.{ParsedRequest}
 use Rattle.http_spec.specs.declared.Standing.{Standing}
-use Rattle.http_spec.specs.declared.Standing.TheVariants.{Open, Closed, Short, Lost}
+use Rattle.http_spec.specs.declared.Standing.TheVariants.{Open, Closed, Short}
 use Rattle.http_spec.specs.Asks.{ask_of}
 use Rattle.http_spec.specs.Heads.{IsHead, HasNoHead, Cuts, print_heads}
 use Rattle.http_spec.specs.Replies.{no_memory_bytes, reply_bytes}
@@ -16,11 +16,11 @@ use Rattle.http_spec.specs.Sessions.{Showing, IsLookedUp, IsReply, IsRefused}
 use Rattle.http_spec.proofs.HeadLemmas.{cuts_unique, cuts_longest}
 use Rattle.wire.specs.Accounts.{Account, gain, close_to}
 use Rattle.hub.specs.Line.{Line}
+use Rattle.serving_spec.specs.Delivered.{closing}
 use Rattle.serving_spec.specs.Made.{Made, nothing, NamedBy, LooksUp}
 use Rattle.hub.specs.Makes.{LooksUpAll, Makes}
 use Rattle.hub.specs.Pieces.{AreReplies, OpenAfter, ClosedAfter, RefusedAfter, ShortAfter, StaysOpen, Steps}
-use Rattle.serving_spec.specs.Delivered.{closing}
-use Rattle.hub.specs.Turns.{At, Opens, TakesPiece, Finishes, IsPieceServed, kept_after}
+use Rattle.hub.specs.Turns.{At, StepEnd, account_after, Opens, TakesPiece, Finishes, IsPieceServed, kept_after}
 use Rattle.serve_run.specs.Texts.{bytes_taken}
 use Rattle.command_trial.specs.Askable.{IsAskable}
 use Rattle.command_trial.specs.Replies.{page_ask, reply_to}
@@ -58,11 +58,10 @@ sent_short account replies is sent = rw (sent, is) refl
 -- the connection is opened, or memory was missing for it
 pub opening : (before after : At) → before ≡ unopened → Opens 1 before after → (after ≡ opened) ⊎ IsTroubled after
 opening before after is (inl e) = inl (e ∙ ap (λ (a : At). record a { line = Some first_line }) is)
-opening before after is (inr (Open, account, not_open, unsent_to, is_account, none)) = absurd (not_open refl)
-opening before after is (inr (Closed, account, not_open, (replies, (wrong, short), gained, faults), is_account, none)) = absurd cc
-opening before after is (inr (Short, account, not_open, (replies, (_, short), gained, faults), is_account, none)) =
-    inr (none, λ fine. fine.1 (ap bytes_taken is_account ∙ sent_short account replies short (gained ∙ ap (λ (a : At). gain a.account replies) is)))
-opening before after is (inr (Lost, account, not_open, (would, sent, next, some, front, gained, rose), is_account, none)) =
+opening before after is (inr (Ok standing, account, (replies, (short_one, short), gained, faults), is_account, none)) =
+    let closed : after.account ≡ close_to account = is_account ∙ ap (λ (s : Standing). closing s account) short_one in
+    inr (none, λ fine. fine.1 (ap bytes_taken closed ∙ sent_short account replies short (gained ∙ ap (λ (a : At). gain a.account replies) is)))
+opening before after is (inr (Err failed, account, (would, sent, next, some, front, gained, rose), is_account, none)) =
     inr (none, λ fine. risen after.faults (subst (λ (a : At). Rose a.faults after.faults) is rose) fine.0)
 
 -- what the connection was sent, and the term that was looked up for it
@@ -140,20 +139,20 @@ module _ (page : Showing) (any : page.hosts ≡ None) (Names : List ℕ → Term
   abbrev Ended : Made → At → Type 0
   Ended made now = (now.line ≡ None) × (Fine now → Replied page Names target made now.account)
 
-  served : (made : Made) (standing : Standing) (held : Line) (account : Option Account) (now : At)
-      → IsPieceServed page Names first_line (request target) made standing held (Some unsent) account 0 now.faults → now.account ≡ closing standing account → now.line ≡ kept_after standing held → Ended made now
-  served made Open held account now (replies, (heads, (stays, is), makes), sent, faults) is_account is_line =
+  served : (made : Made) (end : StepEnd) (held : Line) (account : Option Account) (now : At)
+      → IsPieceServed page Names first_line (request target) made end held (Some unsent) account 0 now.faults → now.account ≡ account_after end account → now.line ≡ kept_after end held → Ended made now
+  served made (Ok Open) held account now (replies, (heads, (stays, is), makes), sent, faults) is_account is_line =
       absurd (never_open stays.heads held.rest stays.replies stays.stays.cut stays.stays.answered)
-  served made Closed held account now (replies, (heads, (sent_now, new, inl (more, closed)), makes), sent, faults) is_account is_line = (
+  served made (Ok Closed) held account now (replies, (heads, (sent_now, new, inl (more, closed)), makes), sent, faults) is_account is_line = (
     is_line,
     λ fine. subst (Replied page Names target made) (sym is_account)
         (closed_by made account heads sent_now more closed (subst (λ rs. Makes page.hosts Names Closed heads rs made) new makes) (sent ∙ ap (gain (Some unsent)) new)),
   )
-  served made Closed held account now (replies, (heads, (sent_now, new, inr (rest, answered, refused)), makes), sent, faults) is_account is_line =
+  served made (Ok Closed) held account now (replies, (heads, (sent_now, new, inr (rest, answered, refused)), makes), sent, faults) is_account is_line =
       absurd (never_refused heads rest answered refused.whole refused.answers refused.why)
-  served made Short held account now (replies, (heads, (sent_now, new, (more, answered, short)), makes), sent, faults) is_account is_line =
+  served made (Ok Short) held account now (replies, (heads, (sent_now, new, (more, answered, short)), makes), sent, faults) is_account is_line =
       (is_line, λ fine. absurd (fine.1 (ap bytes_taken is_account ∙ sent_short account sent_now (short_replies heads answered sent_now short.answers short.then_short) (sent ∙ ap (gain (Some unsent)) new))))
-  served made Lost held account now (would, before, next, some, front, gained, rose) is_account is_line =
+  served made (Err failed) held account now (would, before, next, some, front, gained, rose) is_account is_line =
       (is_line, λ fine. absurd (risen now.faults rose fine.0))
 
   pub piece : (made : Made) (old new : At) → old ≡ opened → TakesPiece page Names (request target) made old.line old new → Ended made new

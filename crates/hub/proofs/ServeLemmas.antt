@@ -39,13 +39,14 @@ shifted page ask target last Closed mid reply (outcome, up, close, e) = (outcome
 shifted page ask target last Short mid reply e = ap (λ x. mid ++ x) e
 
 -- the answer of the reader's ask, with the outcomes as they were at first
-pub answered_now : {D : Type 0} (page : D → Showing) (Names : List ℕ → Term → Type 0) (made : Made) (end : StepEnd) (now first : D) (ask : ParsedRequest) (given target : List ℕ) (left : ℕ)
-    (old new : Option Account) (f h : ℕ) → now ≡ first → given ≡ target → IsAnswered (page now) Names ask given (left == 1) made end old new f h
+pub answered_now : {D : Type 0} (page : D → Showing) (Names : List ℕ → Term → Type 0) (made : Made) (told end : StepEnd) (now first : D) (ask : ParsedRequest) (given target : List ℕ) (left : ℕ)
+    (old new : Option Account) (f h : ℕ) → told ≡ end → now ≡ first → given ≡ target → IsAnswered (page now) Names ask given (left == 1) made told old new f h
     → IsAnswered (page first) Names ask target (left == 1) made end old new f h
-answered_now {D} page Names made end now first ask given target left old new f h current same answered =
+answered_now {D} page Names made told end now first ask given target left old new f h so current same answered =
+    let Told : StepEnd → Type 0 = λ e. IsAnswered (page now) Names ask given (left == 1) made e old new f h in
     let Of : D → Type 0 = λ d. IsAnswered (page d) Names ask given (left == 1) made end old new f h in
     let At : List ℕ → Type 0 = λ t. IsAnswered (page first) Names ask t (left == 1) made end old new f h in
-    subst At same (subst Of current answered)
+    subst At same (subst Of current (subst Told so answered))
 
 module _ (page : Showing) (Names : List ℕ → Term → Type 0) (before : Line) (piece p : List ℕ) (from taken : ℕ) (held : Line) (after : Held) (mid : List (List ℕ))
     (is : p ≡ drop from piece) (stays : StaysOpen page before (take from piece) held [] mid)

@@ -88,7 +88,7 @@ front_over page Names limit counted stream standing replies a = record {
 
 -- the same sends, for other answers
 module _ (P Q : Standing → List (List ℕ) → Type 0) (first now : Seen) where
-  pub all_sent_map : (all : AllSent P first now) → (P all.standing all.replies → Q all.standing all.replies) → AllSent Q first now
+  abbrev pub all_sent_map : (all : AllSent P first now) → (P all.standing all.replies → Q all.standing all.replies) → AllSent Q first now
   all_sent_map all to = record { standing = all.standing; replies = all.replies; answer = to all.answer; account = all.account; faults = all.faults }
 
   pub cut_off_map : ((standing : Standing) (replies : List (List ℕ)) → P standing replies → Q standing replies) → CutOff P first now → CutOff Q first now
@@ -394,10 +394,10 @@ module _ {D : Type 0} (page : D → Showing) (Names : List ℕ → Term → Type
   }
 
   -- what a step sent, after what was sent before
-  account_on : (replies : List (List ℕ)) → gain now.account replies ≡ gain first.account (open_at.replies ++ replies)
+  pub account_on : (replies : List (List ℕ)) → gain now.account replies ≡ gain first.account (open_at.replies ++ replies)
   account_on replies = ap (λ a. gain a replies) open_at.account ∙ sym (gain_append first.account open_at.replies replies)
 
-  pub all_on : (Is : Standing → List (List ℕ) → Type 0) (standing : Standing) (replies : List (List ℕ)) (account : Option Account) (after : At) → Is standing (open_at.replies ++ replies)
+  abbrev pub all_on : (Is : Standing → List (List ℕ) → Type 0) (standing : Standing) (replies : List (List ℕ)) (account : Option Account) (after : At) → Is standing (open_at.replies ++ replies)
       → account ≡ gain now.account replies → after.faults ≡ now.faults → after.account ≡ closing standing account → AllSent Is (seen_of first) (seen_of after)
   all_on Is standing replies account after is sent faults closed = record {
     standing = standing;

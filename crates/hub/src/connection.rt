@@ -106,7 +106,9 @@ impl Connection {
                 wire,
             ) {
                 Ok(Standing::Open) => self.left -= 1,
-                end => return end,
+                Ok(Standing::Closed) => return Ok(Standing::Closed),
+                Ok(Standing::Short) => return Ok(Standing::Short),
+                Err(failed) => return Err(failed),
             }
         }
         Ok(Standing::Open)

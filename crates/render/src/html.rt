@@ -1,8 +1,8 @@
 // Values in HTML: escaped, and as links.
-ghost use Rattle.std.specs.Prelude.{◌≡◌, [], ◌∷◌, ◌++◌, MatchOption, OnOk};
+ghost use Rattle.std.specs.Prelude.{◌≡◌, [], ◌∷◌, ◌++◌, IfOk, MatchOption, None, OnOk, Some, if◌then◌else◌};
 ghost use Rattle.page_spec.specs.Show as spec;
 
-use address::push_shown;
+use address::{is_active, push_shown};
 use sd_value::{Datum, NoMemory, Value};
 use std::alloc::Global;
 
@@ -47,7 +47,21 @@ pub fn push_escaped_value(alloc: Global, out: &mut Vec<u8>, value: &Value) -> Re
     push_escaped(out, text.as_slice())
 }
 
-/// A link to the value with the label, or the label alone where nothing can lead there.
+// Whether a link can lead to the value: it is a page, or a Url or a File that isn't active.
+fn is_target(alloc: Global, value: &Value) -> Result<bool, NoMemory>
+    ensures { IfOk result
+        (λ leads. spec.target value.now ≡ (if leads then Some (spec.show value.now) else None)) }
+{
+    match value {
+        Value::Page(_) => Ok(true),
+        Value::Data(Datum::Url(text)) | Value::Data(Datum::File(text)) => {
+            Ok(!is_active(alloc, text.bytes())?)
+        }
+        _ => Ok(false),
+    }
+}
+
+/// A link to the value with the label, or the label alone if nothing can lead there.
 pub fn push_link(
     alloc: Global,
     out: &mut Vec<u8>,
@@ -56,15 +70,14 @@ pub fn push_link(
 ) -> Result<(), NoMemory>
     ensures { OnOk result (out.new.items ≡ out.old.items ++ spec.link value.now label.now) }
 {
-    match value {
-        Value::Page(_) | Value::Data(Datum::Url(_)) | Value::Data(Datum::File(_)) => {
-            push(out, b"<a href=\"")?;
-            push_escaped_value(alloc, out, value)?;
-            push(out, b"\">")?;
-            push_escaped_value(alloc, out, label)?;
-            push(out, b"</a>")
-        }
-        _ => push_escaped_value(alloc, out, label),
+    if is_target(alloc, value)? {
+        push(out, b"<a href=\"")?;
+        push_escaped_value(alloc, out, value)?;
+        push(out, b"\">")?;
+        push_escaped_value(alloc, out, label)?;
+        push(out, b"</a>")
+    } else {
+        push_escaped_value(alloc, out, label)
     }
 }
 

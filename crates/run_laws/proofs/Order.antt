@@ -1,17 +1,20 @@
 -- What comes first in a run.
 use Rattle.std.proofs.Common.{◌≡◌, ℕ, List, [], ◌∷◌, ◌++◌, map, inl, inr, sym, ap, subst, ◌∙◌, append_assoc}
-use Rattle.std.specs.Prelude.{Option, Some}
-use Rattle.edge_io.specs.Files.{FileMap}
+use Rattle.std.specs.Prelude.{Option, Some, IfErr}
+use Rattle.std.specs.Prelude as prelude
 use Rattle.happenings.specs.Happening.{Happening, ReadFailed, Listened, Put, Given}
 use Rattle.happenings.specs.declared.event.WireEvent.{WireEvent}
 use Rattle.happenings.specs.declared.stream.Stream.{Stream}
-use Rattle.wire.specs.Told.{WireReport}
 use Rattle.command_spec.specs.Inputs.{given_inputs}
 use Rattle.command_spec.specs.declared.Command.{Command}
 use Rattle.command_spec.specs.declared.Command.TheVariants as command
 use Rattle.command_serve.specs.Ends.{serving_text}
 use Rattle.site_inputs.specs.Reads.{read_of}
-use Rattle.command_run.specs.Main.{Words, command_given}
+use Rattle.run_report.specs.Report.{code, IsFixed}
+use Rattle.run_report.specs.declared.status.Status.{Status}
+use Rattle.command_run.specs.declared.no_words.NoWords.{NoWords}
+use Rattle.command_run.specs.declared.no_words.NoWords.TheVariants.{Unreadable, NoMemory}
+use Rattle.command_run.specs.Main.{Words, Seen, command_given, status_without}
 use Rattle.command_run.specs.IsRun.{IsRun}
 use Rattle.run_laws.specs.Order.{IsNoRead, ReadsFirst, HasListened}
 use Rattle.run_laws.proofs.Quiet.{IsQuiet, IsNoEvent, Each, both, all_of, each_is, each_to, map_each, quiet_reads, quiet_events, cut, no_event}
@@ -50,11 +53,11 @@ split_event out given trace front later event h is = elim h.later [
       behind_line out given front b.c b.given_is head found.0 (found.1 ∙ append_assoc head line found.0))
 ]
 
-module _ (out err : Stream) (contents : Option FileMap) (before after : WireReport) (words : Words) (trace : List Happening) (exit : ℕ) (run : IsRun out err contents before after words trace exit) where
+module _ (out err : Stream) (words : Words) (before after : Seen) (trace : List Happening) (exit : ℕ) (run : IsRun out err words before after trace exit) where
   whole_split : Split out (command_given words) trace
   whole_split =
       line_split out err (command_given words) trace run.happens.course run.happens.last run.reached run.happens.trace_is
-      (run_split out contents before after words run.happens.course run.happens.ended run.happens.course_ends) run.happens.told
+      (run_split out before.contents before.wire after.wire words run.happens.course run.happens.ended run.happens.course_ends) run.happens.told
 
   pub reads_first : ReadsFirst (given_inputs (command_given words)) trace
   reads_first =
@@ -71,3 +74,17 @@ module _ (out err : Stream) (contents : Option FileMap) (before after : WireRepo
 
   pub event_after_line : (front later : List Happening) (event : WireEvent) → trace ≡ front ++ Given event ∷ later → HasListened out (command_given words) front
   event_after_line front later event is = split_event out (command_given words) trace front later event whole_split is
+
+-- the line of each of these statuses is fixed
+fixed_without : (reason : NoWords) → IsFixed (status_without reason)
+fixed_without Unreadable = tt
+fixed_without NoMemory = tt
+
+-- without words the course is empty, and the status that is reported is that of their reason
+pub reason_told : (out err : Stream) (words : Words) (before after : Seen) (trace : List Happening) (exit : ℕ) → IsRun out err words before after trace exit
+    → IfErr words (λ reason. exit ≡ code (status_without reason))
+reason_told out err (prelude.Ok words) before after trace exit run = tt
+reason_told out err (prelude.Err reason) before after trace exit run =
+    let its = run.happens.course_ends.0 in
+    let fixed = run.happens.reported.fixed (subst IsFixed (sym its) (fixed_without reason)) in
+    run.its_code ∙ ap code (fixed ∙ its)

@@ -1,4 +1,5 @@
 pub mod Statement
+pub mod ProgramLimits
 pub mod Inserted
 pub mod Undone
 pub mod Built

@@ -5,6 +5,7 @@ ghost use Rattle.sd_graph.specs.declared.GraphRefusal.{GraphRefusal as Refusal};
 ghost use Rattle.sd_graph.specs.declared.GraphRefusal.TheVariants.{NoMemory as OutOfMemory};
 ghost use Rattle.sd_graph.specs.Statement.{Statement, Building, a_node, a_member, an_edge, Adds, IsData, IsStatedIn};
 ghost use Rattle.sd_graph.specs.Statement.{with_name, with_end, IsEmpty, IsBuilt};
+ghost use Rattle.sd_graph.specs.ProgramLimits.{AreWithinProgram};
 ghost use Rattle.sd_graph.specs.Undone.{without, without_end};
 
 use crate::gathered::Gathered;
@@ -29,6 +30,7 @@ pub struct GraphBuilder {
 impl Model for GraphBuilder {
     ghost use Rattle.graph_spec.specs.Orders.{edge_cmp, member_cmp};
     ghost use Rattle.sd_graph.specs.Gathered.{elements};
+    ghost use Rattle.sd_graph.specs.ProgramLimits.{AreWithinProgram};
     ghost use Rattle.sd_graph.specs.Statement.{Building, IsBuilt};
 
     ghost Value = { Building };
@@ -49,7 +51,7 @@ impl Model for GraphBuilder {
         edges = elements edge_cmp b.edges;
         members = elements member_cmp b.members;
       };
-    }) };
+    }) × AreWithinProgram b.limits };
 }
 
 // Which of an edge's ends were declared with it.
@@ -123,8 +125,9 @@ fn member_of(alloc: Global, collection: &Str, node: &Str) -> Result<Member, NoMe
 }
 
 impl GraphBuilder {
-    /// The empty graph, which may grow up to the limits.
+    /// The empty graph, which may grow up to the limits. They are no greater than those of the program.
     pub fn new(alloc: Global, limits: Limits) -> GraphBuilder
+        requires { AreWithinProgram limits }
         ensures limits { result.limits ≡ limits }
         ensures empty { IsEmpty result.graph }
     {
@@ -136,10 +139,12 @@ impl GraphBuilder {
         }
     }
 
-    /// How large the graph may become. This call also reports that the graph is well formed and within the limits.
+    /// How large the graph may become. This call also reports that the graph is well formed and within the limits, and
+    /// that these are no greater than those of the program.
     pub fn limits(&self) -> Limits
         ensures value { result ≡ self.now.limits }
         ensures built { IsBuilt self.now }
+        ensures program { AreWithinProgram result }
     {
         self.limits
     }

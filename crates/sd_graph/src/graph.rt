@@ -1,12 +1,13 @@
 // A data graph that is built.
 ghost use Rattle.std.specs.Prelude.{◌≡◌};
 ghost use Rattle.graph_spec.specs.DataGraph.{IsWellFormed};
+ghost use Rattle.sd_graph.specs.ProgramLimits.{IsWithinProgram};
 
 use graph_spec::{Edge, Member};
 use sd_value::Str;
 use std::marker::Model;
 
-/// A data graph.
+/// A data graph, within the limits of the program.
 #[derive(Debug)]
 pub struct Graph {
     nodes: Vec<Str>,
@@ -27,6 +28,7 @@ impl Drop for Graph {
 
 impl Model for Graph {
     ghost use Rattle.graph_spec.specs.DataGraph.{DataGraph, IsWellFormed};
+    ghost use Rattle.sd_graph.specs.ProgramLimits.{IsWithinProgram};
 
     ghost Value = { DataGraph };
 
@@ -40,13 +42,22 @@ impl Model for Graph {
       nodes = g.nodes.items;
       edges = g.edges.items;
       members = g.members.items;
+    }) × IsWithinProgram (record {
+      nodes = g.nodes.items;
+      edges = g.edges.items;
+      members = g.members.items;
     }) };
 }
 
 impl Graph {
     // The graph of these lists.
     pub(crate) fn of(nodes: Vec<Str>, edges: Vec<Edge>, members: Vec<Member>) -> Graph
-        requires { IsWellFormed (record {
+        requires well_formed { IsWellFormed (record {
+          nodes = nodes.items;
+          edges = edges.items;
+          members = members.items;
+        }) }
+        requires within { IsWithinProgram (record {
           nodes = nodes.items;
           edges = edges.items;
           members = members.items;
@@ -80,10 +91,12 @@ impl Graph {
         self.nodes.as_slice()
     }
 
-    /// The members of collections, by collection and then node.
+    /// The members of collections, by collection and then node. This call also reports that the graph is within the limits
+    /// of the program.
     pub fn member_pairs(&self) -> &[Member]
         ensures value { result.now ≡ self.now.members }
         ensures well_formed { IsWellFormed self.now }
+        ensures within { IsWithinProgram self.now }
     {
         self.members.as_slice()
     }

@@ -2,4 +2,3 @@ pub mod ServingLemmas
 pub mod PutLemmas
 pub mod Gained
 pub mod CountLemmas
-pub mod Added

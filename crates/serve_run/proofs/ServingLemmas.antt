@@ -1,13 +1,14 @@
 -- A run over pages that stand still, in words that name no hub.
-use Rattle.std.proofs.Common.{◌≡◌, ◌<◌, ◌≤◌, ◌+◌, ◌⊎◌, ◌||◌, All, take, get_or, flat_map, arith, ℕ, Bool, true, false, List, [], ◌∷◌, ◌++◌, length, refl, sym, ap, ◌∙◌, subst, inl, inr, Option, Some, None, append-nil, if◌then◌else◌}
+use Rattle.std.proofs.Common.{◌≡◌, ◌<◌, ◌≤◌, ◌+◌, ◌⊎◌, ◌||◌, take, get_or, flat_map, arith, ℕ, Bool, true, false, List, [], ◌∷◌, ◌++◌, length, refl, sym, ap, ◌∙◌, subst, inl, inr, Option, Some, None, append-nil, if◌then◌else◌}
 use Rattle.std.specs.List.{fold, list_any}
 use Rattle.std.proofs.lemmas.Grind.{flat_map-append}
 use Rattle.std.proofs.lemmas.List.{take_more}
-use Rattle.std.proofs.lemmas.List.Elements.{All-push}
 use Rattle.sd_value.specs.declared.Term.{Term}
 use Rattle.tmpl.specs.Body.{TemplateFile}
 use Rattle.page_spec.specs.Site.{Site}
 use Rattle.page_spec.specs.Address.{TermOf}
+use Rattle.mem_wire.specs.Sent.{Sent}
+use Rattle.mem_wire.specs.WireInMemory.{account_of, taken_of}
 use Rattle.wire.specs.Accounts.{up, up_by}
 use Rattle.wire.specs.Events.{add_event, is_done, IsDrawn}
 use Rattle.wire.specs.Told.{WireReport}
@@ -34,6 +35,7 @@ use Rattle.serving_spec.specs.declared.HubEnd.TheVariants.{Done as Finished, Wir
 use Rattle.serving_spec.specs.Sent.{seen, IsServed}
 use Rattle.serving_spec.specs.Counted.{Counts, no_counts, IsCounted, made_of}
 use Rattle.serving_spec.specs.Serving.{When, after_when, first_when, none_kept, Tallied, Serves}
+use Rattle.serve_run.specs.Texts.{bytes_taken}
 use Rattle.serve_run.specs.Steps.{at, run_rules, TalliedInSteps, ServesInSteps, HappensInSteps}
 use Rattle.serve_run.proofs.CountLemmas.{served_of, counted_of, plain_served, After, steps_of, Whole, whole}
 
@@ -252,14 +254,16 @@ whole_run turns events drawn left after TurnsSpent told drew (all, none) room fi
     let done = drawn_done events drawn after (subst (λ o. IsDrawn o drawn after) told drew) (omega (arith, all, room)) in
     absurd (let never : true ≡ false = sym done ∙ none in cc)
 
+-- the bytes that a connection took, as they are read and as they are told
+pub taken_is : (entry : Option Sent) → taken_of entry ≡ bytes_taken (account_of entry)
+taken_is None = refl
+taken_is (Some e) = refl
+
 -- the text of one connection more
-pub more_texts : (text_of : ℕ → List ℕ) (Fine : ℕ → Type 0) (opened : List ℕ) (i : ℕ) (old new : List ℕ) → i < length opened
-    → (old ≡ flat_map text_of (take i opened)) × All Fine (take i opened) → new ≡ old ++ text_of (get_or opened i 0) → Fine (get_or opened i 0)
-    → (new ≡ flat_map text_of (take (i + 1) opened)) × All Fine (take (i + 1) opened)
-more_texts text_of Fine opened i old new below (before, each) grows fine =
-    let more = take_more opened i 0 below in (
-      grows ∙ ap (λ t. t ++ text_of (get_or opened i 0)) before
-          ∙ ap (λ t. flat_map text_of (take i opened) ++ t) (sym (append-nil (text_of (get_or opened i 0))))
-          ∙ sym (flat_map-append text_of (take i opened) (get_or opened i 0 ∷ [])) ∙ ap (flat_map text_of) (sym more),
-      subst (All Fine) (sym more) (All-push Fine (take i opened) (get_or opened i 0) each fine),
-    )
+pub more_texts : (text_of : ℕ → List ℕ) (opened : List ℕ) (i : ℕ) (old new : List ℕ) → i < length opened
+    → old ≡ flat_map text_of (take i opened) → new ≡ old ++ text_of (get_or opened i 0) → new ≡ flat_map text_of (take (i + 1) opened)
+more_texts text_of opened i old new below before grows =
+    let more = take_more opened i 0 below in
+    grows ∙ ap (λ t. t ++ text_of (get_or opened i 0)) before
+    ∙ ap (λ t. flat_map text_of (take i opened) ++ t) (sym (append-nil (text_of (get_or opened i 0))))
+    ∙ sym (flat_map-append text_of (take i opened) (get_or opened i 0 ∷ [])) ∙ ap (flat_map text_of) (sym more)

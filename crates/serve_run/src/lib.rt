@@ -2,6 +2,7 @@
 #![tactic(auto)]
 
 ghost use Rattle.std.specs.Prelude.{◌≡◌, ◌<◌, ◌⊎◌, ℕ, List, [], length, Some, None, false, IfOk};
+ghost use Rattle.std.specs.NonZero.{non_zero_usize_get};
 ghost use Rattle.edge_io.specs.Counts.{Rose};
 ghost use Rattle.page_spec.specs.Page.{IsOutcome};
 ghost use Rattle.page_cache.specs.Entries.{AreSound};
@@ -73,7 +74,8 @@ pub fn serve_pages<P: Versions + Drop, W: Wire>(
     ensures fine { (result.end ≡ HubEnd.Done) ⊎ (result.end ≡ HubEnd.TurnsSpent)
         → (W.told wire.new).next_faults ≡ (W.told wire.old).next_faults }
 {
-    match hub_over(alloc, pages, origin, requests, room) {
+    let capacity = capacity_of(room.pages);
+    match hub_over(alloc, pages, origin, requests, capacity, room.bytes) {
         Ok(mut hub) => {
             let end = serve(alloc, &mut hub, wire, turns);
             Served {
@@ -88,24 +90,35 @@ pub fn serve_pages<P: Versions + Drop, W: Wire>(
     }
 }
 
+/// How many pages are kept: not none.
+fn capacity_of(cache: u64) -> NonZeroUsize
+    requires { 0 < cache }
+    ensures { non_zero_usize_get result ≡ cache }
+{
+    match NonZeroUsize::new(cache as usize) {
+        Some(capacity) => capacity,
+        None => unreachable!(),
+    }
+}
+
 /// A hub over the pages, of which some are kept.
 fn hub_over<P: Versions + Drop>(
     alloc: Global,
     pages: P,
     origin: Origin,
     requests: u64,
-    room: CacheRoom,
+    capacity: NonZeroUsize,
+    bytes: u64,
 ) -> Result<Hub<Cached<P>>, NoMemory>
     requires own { P.Own pages }
     requires requests { 0 < requests }
-    requires room { 0 < room.pages }
     ensures own { IfOk result (λ hub. P.Own hub.pages.pages) }
     ensures sound { IfOk result (λ hub. AreSound
         (IsOutcome (P.site (P.state hub.pages.pages)) (P.templates (P.state hub.pages.pages)))
         hub.pages.kept.entries hub.pages.bytes hub.pages.most) }
     ensures pages { IfOk result (λ hub. hub.pages.pages ≡ pages) }
-    ensures kept { IfOk result (λ hub. (hub.pages.kept.cap ≡ room.pages)
-        × (hub.pages.most ≡ room.bytes) × (hub.pages.kept.entries ≡ [])
+    ensures kept { IfOk result (λ hub. (hub.pages.kept.cap ≡ non_zero_usize_get capacity)
+        × (hub.pages.most ≡ bytes) × (hub.pages.kept.entries ≡ [])
         × (hub.pages.hits ≡ 0)) }
     ensures none { IfOk result (λ hub. (number : ℕ) → line_of hub number ≡ None) }
     ensures new { IfOk result (λ hub. (hub.origin ≡ origin) × (hub.limit ≡ requests)
@@ -113,9 +126,6 @@ fn hub_over<P: Versions + Drop>(
         × (hub.changes ≡ 0) × (hub.refused ≡ 0)) }
     ensures alive { IfOk result (λ hub. hub.spent ≡ false) }
 {
-    let Some(capacity) = NonZeroUsize::new(room.pages as usize) else {
-        return Err(NoMemory);
-    };
-    let kept = Cached::of(alloc, pages, capacity, room.bytes)?;
+    let kept = Cached::of(alloc, pages, capacity, bytes)?;
     Ok(Hub::of(alloc, kept, requests, origin))
 }

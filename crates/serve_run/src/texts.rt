@@ -1,9 +1,9 @@
 // What a run prints.
-ghost use Rattle.std.specs.Prelude.{◌≡◌, ◌++◌, All, IfOk, OnOk, decimal};
+ghost use Rattle.std.specs.Prelude.{◌≡◌, ◌++◌, ℕ, IfOk, OnOk, decimal};
 ghost use Rattle.mem_wire.specs.WireInMemory.{accounts_of, faults_in};
-ghost use Rattle.serve_run.specs.Texts.{tally_text, change_lines, bytes_taken, connection_line, connection_text, replay_text};
+ghost use Rattle.serve_run.specs.Texts.{tally_text, change_lines, connection_line, connection_text, replay_text};
 
-use mem_wire::MemWire;
+use mem_wire::SteadyWire;
 use sd_value::NoMemory;
 use serving_spec::Tally;
 use std::alloc::Global;
@@ -18,39 +18,32 @@ pub fn tally_text(alloc: Global, with_changes: bool, tally: &Tally) -> Result<Ve
     Ok(text)
 }
 
-/// The text of a run over a wire in memory: each connection that was opened with the bytes that it took, and the counts. A
-/// send that failed was refused memory, where the wire has no sends that are to fail: then there is no text.
+/// The text of a run over a wire in memory: each connection that was opened with the bytes that it took, and the counts. If
+/// a send was refused memory there is no text.
 pub fn replay_text(
     alloc: Global,
-    wire: &MemWire,
+    wire: &SteadyWire,
     opened: &[u64],
     with_changes: bool,
     tally: &Tally,
 ) -> Result<Vec<u8>, NoMemory>
     ensures text { IfOk result (λ text. text.items
         ≡ replay_text (accounts_of wire.now) opened.now with_changes tally.now) }
-    ensures whole { IfOk result (λ text. All (λ number. faults_in wire.now number ≡ 0) opened.now) }
+    ensures whole { IfOk result (λ text. (number : ℕ) → faults_in wire.now number ≡ 0) }
 {
+    if wire.short() {
+        return Err(NoMemory);
+    }
     let mut text = Vec::new(alloc);
     for number in opened {
-        push_connection(&mut text, wire, *number)?;
+        push_connection(&mut text, *number, wire.taken(*number))?;
     }
     push_tally(&mut text, with_changes, tally)?;
     Ok(text)
 }
 
-fn push_connection(text: &mut Vec<u8>, wire: &MemWire, number: u64) -> Result<(), NoMemory>
-    ensures text { OnOk result (text.new.items
-        ≡ text.old.items ++ connection_text number (bytes_taken (accounts_of wire.now number))) }
-    ensures whole { OnOk result (faults_in wire.now number ≡ 0) }
-{
-    if wire.send_faults(number) > 0 {
-        return Err(NoMemory);
-    }
-    push_bytes(text, number, wire.taken(number))
-}
-
-fn push_bytes(text: &mut Vec<u8>, number: u64, bytes: &[u8]) -> Result<(), NoMemory>
+/// The line of a connection, and the bytes that it took.
+fn push_connection(text: &mut Vec<u8>, number: u64, bytes: &[u8]) -> Result<(), NoMemory>
     ensures { OnOk result (text.new.items ≡ text.old.items ++ connection_text number bytes.now) }
 {
     push_line(text, number, bytes.len() as u64)?;

@@ -32,9 +32,10 @@ use Rattle.command_spec.specs.Limits.{data_limit}
 use Rattle.command_spec.specs.declared.DataFiles.{DataFiles}
 use Rattle.site_inputs.specs.Sources.{empty_building, IsRefusedFor, TextTaken, SourceEnds, FilesEnd, GraphEnds}
 use Rattle.command_spec.specs.Limits.{text_limit}
-use Rattle.site_inputs.specs.Sites.{query_told, QueryTaken, QueryEnds, DataInputsEnd, TemplatesTaken, TemplatesEnd, InputsEnd, inputs_with, templates_told}
+use Rattle.site_inputs.specs.Sites.{query_told, QueryTaken, QueryEnds, DataInputsEnd, TemplatesTaken, TemplatesEnd, InputsEnd, templates_told}
 use Rattle.site_inputs.proofs.Decided.{then_decides, gives_decides}
 use Rattle.site_inputs.proofs.SiteData.{site_decides}
+use Rattle.site_inputs.proofs.Sites.{inputs_with, InTurn, in_turn}
 
 -- ---- equal answers have equal parts
 
@@ -222,9 +223,14 @@ data_decides map sources (Some path) =
     then_decides (GraphEnds map empty_building sources) _ (graph_decides map empty_building sources) (λ raw.
     then_decides (QueryEnds map path) _ (query_decides map path) (λ first. site_decides path raw first))
 
-pub inputs_decide : (map : FileMap) (sources : DataFiles) (over : Option (List ℕ)) (query_path templates_path : List ℕ) → Decides (InputsEnd map sources over query_path templates_path)
-inputs_decide map sources over query_path templates_path =
-    then_decides (DataInputsEnd map sources over) _ (data_decides map sources over) (λ found.
-    then_decides (QueryEnds map query_path) _ (query_decides map query_path) (λ query.
-    then_decides (TemplatesEnd map templates_path) _ (templates_decides map templates_path) (λ templates.
-    gives_decides (inputs_with found query templates))))
+-- one input after another
+module _ (map : FileMap) (sources : DataFiles) (over : Option (List ℕ)) (query_path templates_path : List ℕ) where
+  pub inputs_decide : Decides (InputsEnd map sources over query_path templates_path)
+  inputs_decide = record { once = λ one other s t d e. in_turn_decides.once one other (in_turn map sources over query_path templates_path one s) (in_turn map sources over query_path templates_path other t) d e }
+    where
+      in_turn_decides : Decides (InTurn map sources over query_path templates_path)
+      in_turn_decides =
+          then_decides (DataInputsEnd map sources over) _ (data_decides map sources over) (λ found.
+          then_decides (QueryEnds map query_path) _ (query_decides map query_path) (λ query.
+          then_decides (TemplatesEnd map templates_path) _ (templates_decides map templates_path) (λ templates.
+          gives_decides (inputs_with found query templates))))

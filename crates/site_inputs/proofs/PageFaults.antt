@@ -14,7 +14,8 @@ use Rattle.command_spec.specs.Limits.{data_limit}
 use Rattle.command_spec.specs.declared.DataFiles.{DataFiles}
 use Rattle.site_inputs.specs.Sources.{TextTaken, SourceEnds, FilesEnd, GraphEnds, empty_building}
 use Rattle.command_spec.specs.Limits.{text_limit}
-use Rattle.site_inputs.specs.Sites.{DataInputsEnd, InputsEnd, QueryTaken, QueryEnds, SiteTaken, TemplatesTaken, TemplatesEnd, inputs_with}
+use Rattle.site_inputs.specs.Sites.{DataInputsEnd, InputsEnd, QueryTaken, QueryEnds, SiteTaken, TemplatesTaken, TemplatesEnd}
+use Rattle.site_inputs.proofs.Sites.{inputs_with, InTurn, in_turn}
 
 -- a fault of a page, and not of an input
 abbrev pub IsOfPage : Fault → Type 0
@@ -115,14 +116,18 @@ data_none map sources (Some path) =
     (graph_none map empty_building sources)
     (λ raw. then_none (QueryEnds map path) (λ first. SiteTaken path raw first) (query_file_none map path) (λ first. site_none path raw first))
 
-pub inputs_none : (map : FileMap) (sources : DataFiles) (over : Option (List ℕ)) (query_path templates_path : List ℕ) → NoPageFault (InputsEnd map sources over query_path templates_path)
-inputs_none map sources over query_path templates_path =
-    then_none (DataInputsEnd map sources over)
-    (λ found. Then (QueryEnds map query_path) (λ query. Then (TemplatesEnd map templates_path) (λ templates. EndsWith (inputs_with found query templates))))
-    (data_none map sources over)
-    (λ found. then_none (QueryEnds map query_path)
-    (λ query. Then (TemplatesEnd map templates_path) (λ templates. EndsWith (inputs_with found query templates)))
-    (query_file_none map query_path)
-    (λ query. then_none (TemplatesEnd map templates_path) (λ templates. EndsWith (inputs_with found query templates))
-    (then_none (FileEnds text_limit map templates_path) (TemplatesTaken templates_path) (file_none text_limit map templates_path) (λ bytes. templates_none templates_path bytes))
-    (λ templates. gives_none (inputs_with found query templates))))
+module _ (map : FileMap) (sources : DataFiles) (over : Option (List ℕ)) (query_path templates_path : List ℕ) where
+  pub inputs_none : NoPageFault (InputsEnd map sources over query_path templates_path)
+  inputs_none = record { none = λ fault p ended. in_turn_none.none fault p (in_turn map sources over query_path templates_path (Err fault) ended) }
+    where
+      in_turn_none : NoPageFault (InTurn map sources over query_path templates_path)
+      in_turn_none =
+          then_none (DataInputsEnd map sources over)
+          (λ found. Then (QueryEnds map query_path) (λ query. Then (TemplatesEnd map templates_path) (λ templates. EndsWith (inputs_with found query templates))))
+          (data_none map sources over)
+          (λ found. then_none (QueryEnds map query_path)
+          (λ query. Then (TemplatesEnd map templates_path) (λ templates. EndsWith (inputs_with found query templates)))
+          (query_file_none map query_path)
+          (λ query. then_none (TemplatesEnd map templates_path) (λ templates. EndsWith (inputs_with found query templates))
+          (then_none (FileEnds text_limit map templates_path) (TemplatesTaken templates_path) (file_none text_limit map templates_path) (λ bytes. templates_none templates_path bytes))
+          (λ templates. gives_none (inputs_with found query templates))))

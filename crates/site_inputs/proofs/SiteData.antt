@@ -16,7 +16,7 @@ use Rattle.site_inputs.specs.declared.fault.Fault.TheVariants.{Refused, Unread, 
 use Rattle.site_inputs.specs.declared.fault.Refusal.{Refusal}
 use Rattle.site_inputs.specs.Runs.{UnreadRose, Decides, IsDecided as Settled}
 use Rattle.site_inputs.specs.Sources.{empty_building}
-use Rattle.site_inputs.specs.Sites.{SiteIsDecided, graph_number, IsTooLarge, SiteTaken}
+use Rattle.site_inputs.specs.Sites.{IsSiteGraph, graph_number, IsTooLarge, SiteTaken}
 
 no_memory : (G : DataGraph) → ◌≡◌ {A = Result DataGraph GraphRefusal} (Ok G) (Err graph.NoMemory) → ⊥
 no_memory G e = cc
@@ -35,7 +35,7 @@ site_taken path raw first whole found (inl d) is =
 site_taken path raw first whole found (inr e) is = absurd (no_memory whole e)
 
 decided_by : (raw : DataGraph) (first : plain.Query) (reason : GraphRefusal) (number : ℕ) → graph_number reason ≡ Some number
-    → SiteDataEnds empty_building.limits raw (scope_of first) (Err reason) → SiteIsDecided raw first (Err reason)
+    → SiteDataEnds empty_building.limits raw (scope_of first) (Err reason) → IsSiteGraph raw first (Err reason)
 decided_by raw first reason number told (inl d) = d
 decided_by raw first reason number told (inr e) = absurd (no_number reason number (reason_is reason graph.NoMemory e) told)
 
@@ -64,7 +64,7 @@ module _ (path : List ℕ) (raw : DataGraph) (first : plain.Query) where
   one_reason whole graph.NoMemory f m n a b s t = absurd cc
   one_reason whole e graph.NoMemory m n a b s t = absurd cc
 
-  mixed : (G : DataGraph) (refusal : Refusal) → SiteIsDecided raw first (Ok G) → IsTooLarge path raw first refusal → ⊥
+  mixed : (G : DataGraph) (refusal : Refusal) → IsSiteGraph raw first (Ok G) → IsTooLarge path raw first refusal → ⊥
   mixed G refusal d large =
       not_over d.whole G large.reason refusal.number large.told d.answers
       (subst (λ (x : DataGraph). AnswersWithin empty_building.limits x (Err large.reason))

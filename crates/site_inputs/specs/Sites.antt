@@ -1,6 +1,6 @@
 -- The inputs of a site, taken in this order: the data, the query and the templates. The data are what the data files state
 -- or, where there is a first query, that query's site over it, seen as data.
-use Rattle.std.specs.Prelude.{◌≡◌, ℕ, List, Result, Ok, Err, Option, Some, None, ⊤}
+use Rattle.std.specs.Prelude.{◌≡◌, ◌⊎◌, ℕ, List, Result, Ok, Err, Option, Some, None, ⊤}
 use Rattle.edge_io.specs.Files.{FileMap}
 use Rattle.command_spec.specs.Limits.{text_limit}
 use Rattle.command_spec.specs.declared.DataFiles.{DataFiles}
@@ -98,8 +98,8 @@ QueryEnds map path = Then (FileEnds text_limit map path) (QueryTaken path)
 
 -- The graph of the first query's site over what the files state: there is one such graph, and the end says whether it is
 -- within the program's limits.
-abbrev pub SiteIsDecided : DataGraph → plain.Query → Result DataGraph GraphRefusal → Type 0
-SiteIsDecided raw first end = DecidesSiteData empty_building.limits raw (scope_of first) end
+abbrev pub IsSiteGraph : DataGraph → plain.Query → Result DataGraph GraphRefusal → Type 0
+IsSiteGraph raw first end = DecidesSiteData empty_building.limits raw (scope_of first) end
 
 -- the number of a graph that is over the limits; none where it was out of memory
 abbrev pub graph_number : GraphRefusal → Option ℕ
@@ -111,14 +111,14 @@ graph_number over.NoMemory = None
 pub record IsTooLarge (path : List ℕ) (raw : DataGraph) (first : plain.Query)
     (refusal : Refusal) : Type 0 where
   pub reason : GraphRefusal
-  pub decided : SiteIsDecided raw first (Err reason)
+  pub decided : IsSiteGraph raw first (Err reason)
   pub its : refusal.file ≡ path
   pub told : graph_number reason ≡ Some refusal.number
   pub place : refusal.place ≡ At 0
 
 -- the data are the site of this first query over what the files state
 pub record AreOfSite (raw : DataGraph) (first : plain.Query) (found : DataInputs) : Type 0 where
-  pub decided : SiteIsDecided raw first (Ok found.graph)
+  pub decided : IsSiteGraph raw first (Ok found.graph)
   pub its : found.first ≡ Some first
 
 -- How a first query ends that was read and checked: with its site as the data, or refused.
@@ -172,24 +172,34 @@ pub record Inputs : Type 0 where
   pub query : plain.Query
   pub templates : TemplateFile
 
--- the inputs with these data
-abbrev pub inputs_with : DataInputs → plain.Query → TemplateFile → Inputs
-inputs_with found query templates = record {
-  graph = found.graph;
-  first = found.first;
-  query = query;
-  templates = templates;
-}
+-- their data
+abbrev pub data_of : Inputs → DataInputs
+data_of s = record { graph = s.graph; first = s.first }
 
--- How the inputs end: each is taken behind those before it.
-abbrev pub InputsEnd
-    : FileMap → DataFiles → (first : Option (List ℕ)) → (query templates : List ℕ)
-    → Result Inputs Fault → Type 0
-InputsEnd map sources first query_path templates_path =
-    Then (DataInputsEnd map sources first)
-    (λ found. Then (QueryEnds map query_path)
-    (λ query. Then (TemplatesEnd map templates_path)
-    (λ templates. EndsWith (inputs_with found query templates))))
+module _ (map : FileMap) (sources : DataFiles) (first : Option (List ℕ))
+    (query_path templates_path : List ℕ) where
+  -- The files spell these inputs: the data files, with the first query, if there is one, their data, and the other two
+  -- files the query and the templates.
+  pub record Spell (s : Inputs) : Type 0 where
+    pub data_are : DataInputsEnd map sources first (Ok (data_of s))
+    pub query_is : QueryEnds map query_path (Ok s.query)
+    pub templates_are : TemplatesEnd map templates_path (Ok s.templates)
+
+  -- The files spell no inputs, and this is the first fault in them: that of the data, or after data of the query, or after
+  -- both of the templates.
+  abbrev pub Refuse : Fault → Type 0
+  Refuse fault =
+      DataInputsEnd map sources first (Err fault)
+      ⊎ ((found : DataInputs) × DataInputsEnd map sources first (Ok found)
+      × QueryEnds map query_path (Err fault))
+      ⊎ ((found : DataInputs) × (query : plain.Query)
+      × DataInputsEnd map sources first (Ok found) × QueryEnds map query_path (Ok query)
+      × TemplatesEnd map templates_path (Err fault))
+
+  -- the one or the other
+  abbrev pub InputsEnd : Result Inputs Fault → Type 0
+  InputsEnd (Ok s) = Spell s
+  InputsEnd (Err fault) = Refuse fault
 
 -- the whole site of the query over the data
 abbrev pub site_at : Inputs → Site

@@ -16,6 +16,7 @@ use crate::inputs::read_file;
 use crate::told::{told_of_query, told_of_templates};
 use command_spec::{DataFiles, TEXT_LIMIT};
 use edge_io::Files;
+use happenings::Trace;
 use query_reader::{QueryRefusal, check_written, read_written};
 use run_report::Place;
 use sd_graph::Graph;
@@ -164,4 +165,34 @@ pub fn load_inputs<F: Files>(
         query,
         templates,
     })
+}
+
+/// The same, while the log is lent to the files.
+/// # Errors
+/// As `load_inputs`.
+pub fn load_noted<L: Trace, F: Files<Log = L>>(
+    alloc: Global,
+    log: &mut L,
+    files: &mut F,
+    sources: &DataFiles,
+    over: &Option<Str>,
+    query: &Str,
+    templates: &Str,
+) -> Result<SiteInputs, Fault>
+    ensures course { Reads (input_paths (data_paths sources.now over.now) query.now templates.now)
+        (L.events log.old) (L.events log.new) (F.contents files.old) result
+        (λ map. InputsEnd map sources.now over.now query.now templates.now (inputs_result result)) }
+    ensures ends { ForSome (F.contents files.old) (λ map.
+        InputsEnd map sources.now over.now query.now templates.now (inputs_result result)) }
+    ensures same { F.contents files.new ≡ F.contents files.old }
+    ensures cause { ReadsHaveCause
+        (input_paths (data_paths sources.now over.now) query.now templates.now)
+        (F.failed_reads files.old) (F.failed_reads files.new) result }
+    ensures writes { F.failed_writes files.new ≡ F.failed_writes files.old }
+    ensures lent { F.trace files.new ≡ F.trace files.old }
+{
+    files.lend(log);
+    let result = load_inputs(alloc, files, sources, over, query, templates);
+    files.lend(log);
+    result
 }

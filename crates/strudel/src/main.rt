@@ -3,11 +3,12 @@
 #![tactic(auto)]
 
 use command_run::{GivenWords, NoWords, run_main, waits_of};
-use edge_io::{RealFiles, RealOut};
+use edge_io::{LockFile, RealFiles, RealOut};
 use happenings::{Log, Stream};
 use sd_value::Str;
 use std::net::Net;
 use std::process::ExitCode;
+use std::random::RandomSource;
 use std::rt::{Env, Files};
 use std::time::Clock;
 use std::{env, process};
@@ -24,17 +25,29 @@ fn given_words<R: Env + AllocGlobal>(rt: &R) -> Result<GivenWords, NoWords> {
     Ok(given)
 }
 
+// A number that mostly no other run has: a random one, or that of the process if the system has none.
+fn number_of_run(rt: &HostRuntime) -> u64 {
+    let mut bytes = [0u8; 8];
+    match rt.fill_bytes(&mut bytes) {
+        Ok(()) => u64::from_le_bytes(bytes),
+        Err(_) => u64::from(process::id(rt.process())),
+    }
+}
+
 // A wire over the system's sockets that waits, and for as many connections at once, as the words say.
 fn given_wire<'r, R: Net + Clock + Files + AllocGlobal>(
     rt: &'r R,
-    process: u32,
+    run: u64,
     words: &Result<GivenWords, NoWords>,
-) -> TcpWire<'r, R, RealFiles<'r, R>> {
+) -> TcpWire<'r, R, RealFiles<'r, R>>
+where
+    R::File: LockFile,
+{
     let waits = waits_of(words);
     TcpWire::new(
         rt.alloc(),
         rt,
-        RealFiles::new(rt, process),
+        RealFiles::new(rt, run),
         Waits {
             idle: waits.idle,
             stall: waits.stall,
@@ -45,12 +58,12 @@ fn given_wire<'r, R: Net + Clock + Files + AllocGlobal>(
 
 fn main(rt: HostRuntime) -> ExitCode {
     let words = given_words(&rt);
-    let process = process::id(rt.process());
+    let run = number_of_run(&rt);
     let mut log = Log::new();
-    let mut files = RealFiles::new(&rt, process);
+    let mut files = RealFiles::new(&rt, run);
     let mut out = RealOut::new(rt.stdout(), Stream::Output);
     let mut err = RealOut::new(rt.stderr(), Stream::Errors);
-    let mut wire = given_wire(&rt, process, &words);
+    let mut wire = given_wire(&rt, run, &words);
     let code = run_main(
         rt.alloc(),
         &words,

@@ -4,15 +4,19 @@ use crate::full::FullDisk;
 use edge_io::{Failed, Files, ReadEnd, RealFiles};
 use sd_value::{NoMemory, Str};
 use std::alloc::Global;
-use std::os::unix::fs::symlink;
+use std::fs::Permissions;
+use std::os::unix::fs::{PermissionsExt, symlink};
 use std::test::Fail;
 use std::{fs, io};
 
 // A length of more than two of the buffers that a file is read by, and of no whole number of them.
 const LONG: usize = 20_000;
 
-// The number that the files of the system have, which is in the name of what they leave when they are killed.
-const NUMBER: u32 = 7;
+// The number of the run, which is in the names of its temporary files.
+const NUMBER: u64 = 7;
+
+// What another run has written in part.
+const PART: &str = ".strudel-part-0000000000000009-1";
 
 // A full disk takes so many bytes of a file.
 const ROOM: usize = 4;
@@ -29,6 +33,12 @@ enum Step {
     Holds(&'static str, &'static [u8]),
     // It is a file and no link.
     IsFile(&'static str),
+    // std gives the file this mode.
+    SetsMode(&'static str, u32),
+    // The file has this mode.
+    HasMode(&'static str, u32),
+    // The bytes are written while std has locked what another run has written in part.
+    WritesBesideLocked(&'static str, &'static [u8]),
     // The folder has files of these names alone.
     Names(&'static [&'static str]),
     // The bytes are written, and std reads them.
@@ -114,14 +124,43 @@ const STORIES: &[Story] = &[
             Step::Holds("folder/file", b"a file"),
         ],
     },
-    // A process of the same number was killed while it wrote.
+    // Another run was killed while it wrote.
     Story {
-        name: "a file that was left is taken over",
-        folder: "taken",
+        name: "what a run has left is removed",
+        folder: "removed",
         steps: &[
-            Step::Put(".strudel-7", b"a part that is longer than the file"),
+            Step::Put(PART, b"a part"),
+            Step::Put(".strudel-files", b"no part"),
+            Step::Writes("folder/file", b"a file"),
+            Step::Names(&[PART, ".strudel-files", "folder"]),
+            Step::Holds(PART, b"a part"),
             Step::Writes("file", b"a file"),
-            Step::Names(&["file"]),
+            Step::Names(&[".strudel-files", "file", "folder"]),
+            Step::Holds(".strudel-files", b"no part"),
+        ],
+    },
+    // Another run is writing.
+    Story {
+        name: "what is locked stays",
+        folder: "locked",
+        steps: &[
+            Step::Put(PART, b"a part"),
+            Step::WritesBesideLocked("file", b"a file"),
+            Step::Holds(PART, b"a part"),
+        ],
+    },
+    // It was written for some alone, and stays so.
+    Story {
+        name: "the mode of the old file stays",
+        folder: "modes",
+        steps: &[
+            Step::Writes("file", b"an old file"),
+            Step::SetsMode("file", 0o640),
+            Step::Writes("file", b"a new file"),
+            Step::HasMode("file", 0o640),
+            Step::SetsMode("file", 0o604),
+            Step::WritesLong("file"),
+            Step::HasMode("file", 0o604),
         ],
     },
     // What a link names stays as it is, and the link goes.
@@ -166,6 +205,8 @@ fn name_of(step: &Step) -> &'static str {
     match step {
         Step::Put(name, _) | Step::PutLong(name) | Step::Link(name, _) => *name,
         Step::Holds(name, _) | Step::IsFile(name) | Step::Writes(name, _) => *name,
+        Step::SetsMode(name, _) | Step::HasMode(name, _) => *name,
+        Step::WritesBesideLocked(name, _) => *name,
         Step::WritesLong(name) | Step::WriteFails(name) | Step::ReadsLong(name, _, _) => *name,
         Step::ReadFails(name) | Step::WritesFull(name, _) | Step::WriteFullFails(name, _) => *name,
         Step::Names(_) => ".",
@@ -213,6 +254,27 @@ fn writes<F: Files>(files: &mut F, path: &Str, bytes: &[u8], faults: u64) -> boo
     files.write(path, bytes) == Ok(()) && files.write_faults(path) == faults
 }
 
+// The bytes are written while the file that another run has written in part is locked. Is it so?
+fn writes_beside_locked<F: Files>(
+    rt: &HostRuntime,
+    files: &mut F,
+    folder: &Folder,
+    path: &Str,
+    bytes: &[u8],
+) -> bool {
+    let Ok(part) = folder.path(rt.alloc(), PART) else {
+        return false;
+    };
+    match fs::open(rt, part.as_str()) {
+        Ok(file) => file.try_lock().is_ok() && writes(files, path, bytes, 0),
+        Err(_) => false,
+    }
+}
+
+fn has_mode(rt: &HostRuntime, path: &str, mode: u32) -> bool {
+    matches!(&fs::metadata(rt, path), Ok(data) if data.permissions().mode() & 0o777 == mode)
+}
+
 // The first write fails, and is counted. Is it so?
 fn write_fails<F: Files>(files: &mut F, path: &Str, bytes: &[u8]) -> bool {
     let end = files.write(path, bytes);
@@ -251,6 +313,13 @@ fn goes(
         Step::Link(_, other) => links(rt, folder, at, other),
         Step::Holds(_, bytes) => holds(rt, at, bytes),
         Step::IsFile(_) => matches!(&fs::symlink_metadata(rt, at), Ok(data) if data.is_file()),
+        Step::SetsMode(_, mode) => {
+            fs::set_permissions(rt, at, Permissions::from_mode(*mode)).is_ok()
+        }
+        Step::HasMode(_, mode) => has_mode(rt, at, *mode),
+        Step::WritesBesideLocked(_, bytes) => {
+            writes_beside_locked(rt, files, folder, path, bytes) && holds(rt, at, bytes)
+        }
         Step::Names(names) => matches!(&has_only(rt, at, names), Ok(true)),
         Step::Writes(_, bytes) => writes(files, path, bytes, 0) && holds(rt, at, bytes),
         Step::WritesLong(_) => writes(files, path, long, 0) && holds(rt, at, long),

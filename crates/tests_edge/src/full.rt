@@ -1,6 +1,7 @@
 // A system whose disk is full.
+use edge_io::LockFile;
 use std::alloc::Allocator;
-use std::fs::{Metadata, OpenFile, OpenOptions};
+use std::fs::{Metadata, OpenFile, OpenOptions, TryLockError};
 use std::io;
 use std::io::{Read, Seek, SeekFrom, Write};
 use std::rt::Files;
@@ -55,6 +56,12 @@ impl<F: OpenFile> OpenFile for FullFile<F> {
 
     fn sync_data(&self) -> io::Result<()> {
         self.file.sync_data()
+    }
+}
+
+impl<F: LockFile> LockFile for FullFile<F> {
+    fn try_lock(&self) -> Result<(), TryLockError> {
+        self.file.try_lock()
     }
 }
 

@@ -1,4 +1,4 @@
-use Rattle.std.proofs.Common.{ap}
+use Rattle.std.proofs.Common.{ap, ◌∙◌}
 use Rattle.page_cache.specs.Entries.{pages_of}
 use Rattle.serving_spec.specs.Changes.{Changes}
 use Rattle.serve_run.proofs.ServingLemmas.{serves, happens_in_steps, serves_nothing, no_steps_happen, new_kept, whole_run}
@@ -16,7 +16,7 @@ returns-in-Ok-clause-serves g c =
     (g.W.Wire.told c.args.wire.now)
     (g.W.Wire.told c.serve-end.new.wire)
     c.serve-end.result c.tally.result run.0 c.requires.requests run.2 run.3 run.4 run.1 run.5 run.6 c.in-Ok.ensures.none new.0 new.1 (ap g.P.Versions.state c.in-Ok.ensures.pages) new.2 new.3 new.4 new.5 new.6
-    (new_kept hub.pages.kept.cap hub.pages.most c.args.room hub.pages.hits (pages_of hub.pages.kept.entries) kept.0 kept.1 (ap pages_of kept.2) kept.3) c.tally.ensures
+    (new_kept hub.pages.kept.cap hub.pages.most c.args.room hub.pages.hits (pages_of hub.pages.kept.entries) (kept.0 ∙ c.capacity_of-capacity.ensures) kept.1 (ap pages_of kept.2) kept.3) c.tally.ensures
 
 pub returns-in-Ok-clause-steps : goal.returns-in-Ok-clause-steps
 returns-in-Ok-clause-steps g c =
@@ -30,7 +30,7 @@ returns-in-Ok-clause-steps g c =
     (g.W.Wire.told c.args.wire.now)
     (g.W.Wire.told c.serve-end.new.wire)
     c.serve-end.result c.tally.result run.0 c.requires.requests run.2 run.3 run.4 run.1 run.5 run.6 c.in-Ok.ensures.none new.0 new.1 (ap g.P.Versions.state c.in-Ok.ensures.pages) new.2 new.3 new.4 new.5 new.6
-    (new_kept hub.pages.kept.cap hub.pages.most c.args.room hub.pages.hits (pages_of hub.pages.kept.entries) kept.0 kept.1 (ap pages_of kept.2) kept.3) c.tally.ensures
+    (new_kept hub.pages.kept.cap hub.pages.most c.args.room hub.pages.hits (pages_of hub.pages.kept.entries) (kept.0 ∙ c.capacity_of-capacity.ensures) kept.1 (ap pages_of kept.2) kept.3) c.tally.ensures
     (g.W.Wire.trace c.args.wire.now) (g.W.Wire.trace c.serve-end.new.wire) run.7
 
 pub returns-in-Err-clause-serves : goal.returns-in-Err-clause-serves

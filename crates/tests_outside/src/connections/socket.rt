@@ -1,7 +1,7 @@
 // A request over a socket.
 use super::no_pages::NoPages;
 use crate::inputs::check;
-use edge_io::RealFiles;
+use edge_io::{LockFile, RealFiles};
 use hub::{Hub, HubEnd, serve};
 use std::io::{Read, Write};
 use std::net::{Ipv4Addr, Net, SocketAddr, SocketAddrV4, TcpStream};
@@ -28,7 +28,10 @@ const WAITS: Waits = Waits {
 fn asking<R: Net + Clock + Files>(
     system: &R,
     wire: &mut TcpWire<'_, R, RealFiles<'_, R>>,
-) -> Option<R::Stream> {
+) -> Option<R::Stream>
+where
+    R::File: LockFile,
+{
     if wire.listen(0, 1).is_err() {
         return None;
     }

@@ -1,5 +1,5 @@
 use Rattle.serve_run.proofs.PutLemmas.{put_is}
-use Rattle.serve_run.proofs.Added.{one_put}
+use Rattle.run_report.proofs.Added.{one_put}
 use Rattle.serve_run.proofs.puts.put_anyway.Goals as goal
 
 pub returns-clause-ends : goal.returns-clause-ends

@@ -6,7 +6,6 @@ use Rattle.site_inputs.specs.Sites.{QueryEnds, TemplatesEnd}
 use Rattle.site_inputs.specs.Values.{file_result}
 use Rattle.site_inputs.proofs.Runs.{none_fell}
 use Rattle.site_inputs.proofs.ReadLemmas.{reads_then, reads_stop, reads_fault, reads_done}
-use Rattle.site_inputs.proofs.Sites.{templates_fault}
 use Rattle.site_inputs.proofs.Causes.{cause_within, of_sources, of_query, of_templates}
 use Rattle.site_inputs.proofs.site.load_inputs.Goals as goal
 
@@ -14,10 +13,26 @@ pub returns-in_err-templates-clause-ends : goal.returns-in_err-templates-clause-
 returns-in_err-templates-clause-ends g c = λ map told.
     let p = err_from_is_err_and c.from_residual-in_err-templates.result c.from_residual-in_err-templates.ensures.1 in
     rw (p.1, p.2)
-    (templates_fault map _ _ _ _ c.in_ok-data.data c.in_ok-query.query c.in_err-templates.field-0.0
-    (c.in_ok-data.ensures.ends map told)
-    (c.in_ok-query.ensures.ends map (c.in_ok-data.ensures.same ∙ told))
-    (c.in_err-templates.ensures.ends map (c.in_ok-query.ensures.same ∙ c.in_ok-data.ensures.same ∙ told)))
+    (inr (inr (
+      c.in_ok-data.data,
+      c.in_ok-query.query,
+      c.in_ok-data.ensures.ends map told,
+      c.in_ok-query.ensures.ends map (c.in_ok-data.ensures.same ∙ told),
+      c.in_err-templates.ensures.ends map (c.in_ok-query.ensures.same ∙ c.in_ok-data.ensures.same ∙ told),
+    )))
+
+pub returns-in_err-query-clause-ends : goal.returns-in_err-query-clause-ends
+returns-in_err-query-clause-ends g c = λ map told.
+    let p = err_from_is_err_and c.from_residual-in_err-query.result c.from_residual-in_err-query.ensures.1 in
+    rw (p.1, p.2)
+    (inr (inl (c.in_ok-data.data, c.in_ok-data.ensures.ends map told, c.in_err-query.ensures.ends map (c.in_ok-data.ensures.same ∙ told))))
+
+pub returns-clause-ends : goal.returns-clause-ends
+returns-clause-ends g c = λ map told. record {
+  data_are = c.in_ok-data.ensures.ends map told;
+  query_is = c.in_ok-query.ensures.ends map (c.in_ok-data.ensures.same ∙ told);
+  templates_are = c.in_ok-templates.ensures.ends map (c.in_ok-query.ensures.same ∙ c.in_ok-data.ensures.same ∙ told);
+}
 
 pub returns-in_err-data-clause-cause : goal.returns-in_err-data-clause-cause
 returns-in_err-data-clause-cause g c =
@@ -53,7 +68,7 @@ returns-in_err-query-clause-traced g c =
     (reads_then (data_paths c.args.sources.now c.args.over.now) (c.args.query.now ∷ c.args.templates.now ∷ []) _ _ _ _ _ c.in_ok-data.data (Err c.in_err-query.field-0.0) _ _ _ c.in_ok-data.ensures.traced
     (reads_stop _ _ (c.args.query.now ∷ []) (c.args.templates.now ∷ []) _ _ _ c.in_err-query.field-0.0 _ (λ map. QueryEnds map c.args.query.now (Err c.in_err-query.field-0.0)) c.in_err-query.ensures.traced (λ map h. h))
     c.in_ok-data.ensures.same
-    (λ map f n. inr (record { value = c.in_ok-data.data; first = f; next = inl n })))
+    (λ map f n. inr (inl (c.in_ok-data.data, f, n))))
 
 pub returns-in_err-templates-clause-traced : goal.returns-in_err-templates-clause-traced
 returns-in_err-templates-clause-traced g c =
@@ -66,7 +81,7 @@ returns-in_err-templates-clause-traced g c =
     (reads_fault _ _ (c.args.templates.now ∷ []) _ _ _ c.in_err-templates.field-0.0 _ (λ map. TemplatesEnd map c.args.templates.now (Err c.in_err-templates.field-0.0)) c.in_err-templates.ensures.traced (λ map h. h))
     c.in_ok-query.ensures.same (λ map f n. (f, n)))
     c.in_ok-data.ensures.same
-    (λ map f n. templates_fault map _ _ _ _ c.in_ok-data.data c.in_ok-query.query c.in_err-templates.field-0.0 f n.0 n.1))
+    (λ map f n. inr (inr (c.in_ok-data.data, c.in_ok-query.query, f, n.0, n.1))))
 
 pub returns-clause-traced : goal.returns-clause-traced
 returns-clause-traced g c =
@@ -77,4 +92,4 @@ returns-clause-traced g c =
     (reads_done (c.args.templates.now ∷ []) _ _ _ c.in_ok-templates.templates (Ok _) _ (λ map. TemplatesEnd map c.args.templates.now (file_result (Ok c.in_ok-templates.templates))) c.in_ok-templates.ensures.traced tt (λ map h. h))
     c.in_ok-query.ensures.same (λ map f n. (f, n)))
     c.in_ok-data.ensures.same
-    (λ map f n. record { value = c.in_ok-data.data; first = f; next = record { value = c.in_ok-query.query; first = n.0; next = record { value = _; first = n.1; next = inl refl } } })
+    (λ map f n. record { data_are = f; query_is = n.0; templates_are = n.1 })

@@ -1,13 +1,13 @@
-use Rattle.std.proofs.Common.{◌≡◌, ◌<◌, ◌≤◌, ◌==◌, ◌-◌, ◌+◌, ◌++◌, ℕ, List, length, refl, sym, subst, ◌∙◌, arith, Some, None, take, drop, [], append-nil}
+use Rattle.std.proofs.Common.{◌≡◌, ◌<◌, ◌≤◌, ◌==◌, ◌-◌, ◌+◌, ◌++◌, ℕ, List, length, refl, sym, ap, subst, ◌∙◌, arith, Some, None, take, drop, [], append-nil, Ok, Err}
 use Rattle.std.proofs.lemmas.List.{take_rest, length-take-le, take_all}
 use Rattle.page_spec.specs.Address.{TermOf}
 use Rattle.wire.proofs.Noting.{noted_none, noted_then}
 use Rattle.hub.specs.Pieces.{StaysOpen}
 use Rattle.serving_spec.specs.Shown.{shown_in}
 use Rattle.hub.proofs.MadeLemmas.{made_more, made_so_far, looked_on}
-use Rattle.http_spec.specs.declared.Standing.TheVariants.{Open, Closed, Short, Lost}
+use Rattle.http_spec.specs.declared.Standing.TheVariants.{Open, Closed, Short}
 use Rattle.hub.proofs.StepLemmas.{waits, asked_rest, no_head_asked, starts, fed_case}
-use Rattle.hub.proofs.ServeLemmas.{answered_now, faults_open, serve_open, serve_closed, serve_short, serve_lost}
+use Rattle.hub.proofs.ServeLemmas.{answered_now, faults_open, serve_open, serve_over}
 use Rattle.hub.proofs.connection.Connection.bytes.Goals as goal
 
 pub loop-from-init : goal.loop-from-init
@@ -63,10 +63,10 @@ loop-from-preserved g c =
     let p = take (length piece - from) (drop from piece) in
     let fed = fed_case c.args.origin.now.hosts c.loop-from.self-inside.reading.rest p c.feed-fed.result (Some c.in-Some.ask) c.feed-fed.new.self c.in-Some.is c.feed-fed.ensures.fed in
     let inv = c.loop-from.invariant.2 in
-    let sent = c.in-Open.ensures.sent in
-    let answered = answered_now (shown_in c.args.origin.now g.P.Versions.site g.P.Versions.templates) (TermOf c.args.origin.now.root) sent.0 Open (g.P.Versions.state c.loop-from.pages) (g.P.Versions.state c.args.pages.now) c.in-Some.ask c.target.result.now c.feed-fed.new.self.target c.loop-from.self-inside.left
+    let sent = c.in-Ok-Open.ensures.sent in
+    let answered = answered_now (shown_in c.args.origin.now g.P.Versions.site g.P.Versions.templates) (TermOf c.args.origin.now.root) sent.0 (Ok c.in-Ok-Open.field-0) (Ok Open) (g.P.Versions.state c.loop-from.pages) (g.P.Versions.state c.args.pages.now) c.in-Some.ask c.target.result.now c.feed-fed.new.self.target c.loop-from.self-inside.left
     ((g.W.Wire.told c.loop-from.wire).account c.args.number) ((g.W.Wire.told c.answer.new.wire).account c.args.number) ((g.W.Wire.told c.loop-from.wire).faults c.args.number)
-    ((g.W.Wire.told c.answer.new.wire).faults c.args.number) c.loop-from.invariant.1 c.target.ensures sent.1 in
+    ((g.W.Wire.told c.answer.new.wire).faults c.args.number) (ap Ok c.in-Ok-Open.field-0-is) c.loop-from.invariant.1 c.target.ensures sent.1 in
     let opened = serve_open (shown_in c.args.origin.now g.P.Versions.site g.P.Versions.templates (g.P.Versions.state c.args.pages.now)) (TermOf c.args.origin.now.root) c.args.self.now piece p from c.feed-fed.result.taken
     (record { rest = c.loop-from.self-inside.reading.rest; left = c.loop-from.self-inside.left }) c.feed-fed.new.self inv.0
     (take_rest piece from) inv.1 c.in-Some.ask fed
@@ -74,7 +74,7 @@ loop-from-preserved g c =
     ((g.W.Wire.told c.args.wire.now).faults c.args.number) ((g.W.Wire.told c.loop-from.wire).faults c.args.number) ((g.W.Wire.told c.answer.new.wire).faults c.args.number)
     inv.2 c.loop-from.invariant.4 inv.3 inv.4 sent.0 answered in (
       omega (arith, c.feed-fed.ensures.taken, length-take-le (length piece - from) (drop from piece)),
-      c.in-Open.ensures.state ∙ c.loop-from.invariant.1,
+      c.in-Ok-Open.ensures.state ∙ c.loop-from.invariant.1,
       (
         opened.0,
         opened.1,
@@ -85,16 +85,16 @@ loop-from-preserved g c =
         looked_on g.P.Versions.looks (g.P.Versions.state c.loop-from.pages) (g.P.Versions.state c.args.pages.now) inv.3 sent.0.terms
             (g.P.Versions.cache c.args.pages.now) (g.P.Versions.cache c.loop-from.pages) (g.P.Versions.cache c.answer.new.pages) c.loop-from.invariant.1 inv.6 sent.3,
       ),
-      λ other apart. c.in-Open.ensures.others other apart ∙ c.loop-from.invariant.3 other apart,
+      λ other apart. c.in-Ok-Open.ensures.others other apart ∙ c.loop-from.invariant.3 other apart,
       faults_open (shown_in c.args.origin.now g.P.Versions.site g.P.Versions.templates (g.P.Versions.state c.args.pages.now)) (TermOf c.args.origin.now.root) c.in-Some.ask c.feed-fed.new.self.target (c.loop-from.self-inside.left == 1) sent.0 _ _ _ _ answered ∙ c.loop-from.invariant.4,
-      λ other apart. c.in-Open.ensures.others_fine other apart ∙ c.loop-from.invariant.5 other apart,
-      (c.in-Open.ensures.stays.0 ∙ c.loop-from.invariant.6.0, c.in-Open.ensures.stays.1 ∙ c.loop-from.invariant.6.1, c.in-Open.ensures.stays.2 ∙ c.loop-from.invariant.6.2, c.in-Open.ensures.stays.3 ∙ c.loop-from.invariant.6.3, c.in-Open.ensures.stays.4 ∙ c.loop-from.invariant.6.4),
-      c.in-Open.ensures.own,
-      noted_then _ _ _ _ _ _ c.loop-from.invariant.8 c.in-Open.ensures.noted,
+      λ other apart. c.in-Ok-Open.ensures.others_fine other apart ∙ c.loop-from.invariant.5 other apart,
+      (c.in-Ok-Open.ensures.stays.0 ∙ c.loop-from.invariant.6.0, c.in-Ok-Open.ensures.stays.1 ∙ c.loop-from.invariant.6.1, c.in-Ok-Open.ensures.stays.2 ∙ c.loop-from.invariant.6.2, c.in-Ok-Open.ensures.stays.3 ∙ c.loop-from.invariant.6.3, c.in-Ok-Open.ensures.stays.4 ∙ c.loop-from.invariant.6.4),
+      c.in-Ok-Open.ensures.own,
+      noted_then _ _ _ _ _ _ c.loop-from.invariant.8 c.in-Ok-Open.ensures.noted,
     )
 
-pub invariant_of-self-in-Closed : goal.invariant_of-self-in-Closed
-invariant_of-self-in-Closed g c =
+pub invariant_of-self-in-Ok-Closed : goal.invariant_of-self-in-Ok-Closed
+invariant_of-self-in-Ok-Closed g c =
     let piece = c.args.piece.now in
     let from = c.loop-from.from in
     let p = take (length piece - from) (drop from piece) in
@@ -103,8 +103,8 @@ invariant_of-self-in-Closed g c =
     let some = c.loop-from.invariant.2.1.some in
     (empty.0, empty.1, some)
 
-pub invariant_of-self-in-Short : goal.invariant_of-self-in-Short
-invariant_of-self-in-Short g c =
+pub invariant_of-self-in-Ok-Short : goal.invariant_of-self-in-Ok-Short
+invariant_of-self-in-Ok-Short g c =
     let piece = c.args.piece.now in
     let from = c.loop-from.from in
     let p = take (length piece - from) (drop from piece) in
@@ -113,8 +113,8 @@ invariant_of-self-in-Short g c =
     let some = c.loop-from.invariant.2.1.some in
     (empty.0, empty.1, some)
 
-pub invariant_of-self-in-Lost : goal.invariant_of-self-in-Lost
-invariant_of-self-in-Lost g c =
+pub invariant_of-self-in-Err : goal.invariant_of-self-in-Err
+invariant_of-self-in-Err g c =
     let piece = c.args.piece.now in
     let from = c.loop-from.from in
     let p = take (length piece - from) (drop from piece) in
@@ -123,70 +123,70 @@ invariant_of-self-in-Lost g c =
     let some = c.loop-from.invariant.2.1.some in
     (empty.0, empty.1, some)
 
-pub returns-in-Closed-clause-served : goal.returns-in-Closed-clause-served
-returns-in-Closed-clause-served g c =
+pub returns-in-Ok-Closed-clause-served : goal.returns-in-Ok-Closed-clause-served
+returns-in-Ok-Closed-clause-served g c =
     let piece = c.args.piece.now in
     let from = c.loop-from.from in
     let p = take (length piece - from) (drop from piece) in
     let fed = fed_case c.args.origin.now.hosts c.loop-from.self-inside.reading.rest p c.feed-fed.result (Some c.in-Some.ask) c.feed-fed.new.self c.in-Some.is c.feed-fed.ensures.fed in
     let inv = c.loop-from.invariant.2 in
-    let sent = c.in-Closed.ensures.sent in
-    let answered = answered_now (shown_in c.args.origin.now g.P.Versions.site g.P.Versions.templates) (TermOf c.args.origin.now.root) sent.0 Closed (g.P.Versions.state c.loop-from.pages) (g.P.Versions.state c.args.pages.now) c.in-Some.ask c.target.result.now c.feed-fed.new.self.target c.loop-from.self-inside.left
+    let sent = c.in-Ok-Closed.ensures.sent in
+    let answered = answered_now (shown_in c.args.origin.now g.P.Versions.site g.P.Versions.templates) (TermOf c.args.origin.now.root) sent.0 (Ok c.in-Ok-Closed.field-0) (Ok Closed) (g.P.Versions.state c.loop-from.pages) (g.P.Versions.state c.args.pages.now) c.in-Some.ask c.target.result.now c.feed-fed.new.self.target c.loop-from.self-inside.left
     ((g.W.Wire.told c.loop-from.wire).account c.args.number) ((g.W.Wire.told c.answer.new.wire).account c.args.number) ((g.W.Wire.told c.loop-from.wire).faults c.args.number)
-    ((g.W.Wire.told c.answer.new.wire).faults c.args.number) c.loop-from.invariant.1 c.target.ensures sent.1 in (
+    ((g.W.Wire.told c.answer.new.wire).faults c.args.number) (ap Ok c.in-Ok-Closed.field-0-is) c.loop-from.invariant.1 c.target.ensures sent.1 in (
       record { replies = length inv.0 + sent.0.replies; terms = inv.3 ++ sent.0.terms },
-      serve_closed (shown_in c.args.origin.now g.P.Versions.site g.P.Versions.templates (g.P.Versions.state c.args.pages.now)) (TermOf c.args.origin.now.root) c.args.self.now piece p from c.feed-fed.result.taken
+      serve_over (shown_in c.args.origin.now g.P.Versions.site g.P.Versions.templates (g.P.Versions.state c.args.pages.now)) (TermOf c.args.origin.now.root) c.args.self.now piece p from c.feed-fed.result.taken
           (record { rest = c.loop-from.self-inside.reading.rest; left = c.loop-from.self-inside.left }) c.feed-fed.new.self inv.0
           (take_rest piece from) inv.1 c.in-Some.ask fed
           ((g.W.Wire.told c.args.wire.now).account c.args.number) ((g.W.Wire.told c.loop-from.wire).account c.args.number) ((g.W.Wire.told c.answer.new.wire).account c.args.number)
           ((g.W.Wire.told c.args.wire.now).faults c.args.number) ((g.W.Wire.told c.loop-from.wire).faults c.args.number) ((g.W.Wire.told c.answer.new.wire).faults c.args.number)
-          inv.2 c.loop-from.invariant.4 inv.3 inv.4 sent.0 c.args.self.now answered,
+          inv.2 c.loop-from.invariant.4 inv.3 inv.4 sent.0 (Ok Closed) c.args.self.now (λ e. cc) answered,
       made_so_far c.args.made.now c.loop-from.made c.answer.new.made (length inv.0) sent.0.replies inv.5 sent.2,
       looked_on g.P.Versions.looks (g.P.Versions.state c.loop-from.pages) (g.P.Versions.state c.args.pages.now) inv.3 sent.0.terms
           (g.P.Versions.cache c.args.pages.now) (g.P.Versions.cache c.loop-from.pages) (g.P.Versions.cache c.answer.new.pages) c.loop-from.invariant.1 inv.6 sent.3,
     )
 
-pub returns-in-Short-clause-served : goal.returns-in-Short-clause-served
-returns-in-Short-clause-served g c =
+pub returns-in-Ok-Short-clause-served : goal.returns-in-Ok-Short-clause-served
+returns-in-Ok-Short-clause-served g c =
     let piece = c.args.piece.now in
     let from = c.loop-from.from in
     let p = take (length piece - from) (drop from piece) in
     let fed = fed_case c.args.origin.now.hosts c.loop-from.self-inside.reading.rest p c.feed-fed.result (Some c.in-Some.ask) c.feed-fed.new.self c.in-Some.is c.feed-fed.ensures.fed in
     let inv = c.loop-from.invariant.2 in
-    let sent = c.in-Short.ensures.sent in
-    let answered = answered_now (shown_in c.args.origin.now g.P.Versions.site g.P.Versions.templates) (TermOf c.args.origin.now.root) sent.0 Short (g.P.Versions.state c.loop-from.pages) (g.P.Versions.state c.args.pages.now) c.in-Some.ask c.target.result.now c.feed-fed.new.self.target c.loop-from.self-inside.left
+    let sent = c.in-Ok-Short.ensures.sent in
+    let answered = answered_now (shown_in c.args.origin.now g.P.Versions.site g.P.Versions.templates) (TermOf c.args.origin.now.root) sent.0 (Ok c.in-Ok-Short.field-0) (Ok Short) (g.P.Versions.state c.loop-from.pages) (g.P.Versions.state c.args.pages.now) c.in-Some.ask c.target.result.now c.feed-fed.new.self.target c.loop-from.self-inside.left
     ((g.W.Wire.told c.loop-from.wire).account c.args.number) ((g.W.Wire.told c.answer.new.wire).account c.args.number) ((g.W.Wire.told c.loop-from.wire).faults c.args.number)
-    ((g.W.Wire.told c.answer.new.wire).faults c.args.number) c.loop-from.invariant.1 c.target.ensures sent.1 in (
+    ((g.W.Wire.told c.answer.new.wire).faults c.args.number) (ap Ok c.in-Ok-Short.field-0-is) c.loop-from.invariant.1 c.target.ensures sent.1 in (
       record { replies = length inv.0 + sent.0.replies; terms = inv.3 ++ sent.0.terms },
-      serve_short (shown_in c.args.origin.now g.P.Versions.site g.P.Versions.templates (g.P.Versions.state c.args.pages.now)) (TermOf c.args.origin.now.root) c.args.self.now piece p from c.feed-fed.result.taken
+      serve_over (shown_in c.args.origin.now g.P.Versions.site g.P.Versions.templates (g.P.Versions.state c.args.pages.now)) (TermOf c.args.origin.now.root) c.args.self.now piece p from c.feed-fed.result.taken
           (record { rest = c.loop-from.self-inside.reading.rest; left = c.loop-from.self-inside.left }) c.feed-fed.new.self inv.0
           (take_rest piece from) inv.1 c.in-Some.ask fed
           ((g.W.Wire.told c.args.wire.now).account c.args.number) ((g.W.Wire.told c.loop-from.wire).account c.args.number) ((g.W.Wire.told c.answer.new.wire).account c.args.number)
           ((g.W.Wire.told c.args.wire.now).faults c.args.number) ((g.W.Wire.told c.loop-from.wire).faults c.args.number) ((g.W.Wire.told c.answer.new.wire).faults c.args.number)
-          inv.2 c.loop-from.invariant.4 inv.3 inv.4 sent.0 c.args.self.now answered,
+          inv.2 c.loop-from.invariant.4 inv.3 inv.4 sent.0 (Ok Short) c.args.self.now (λ e. cc) answered,
       made_so_far c.args.made.now c.loop-from.made c.answer.new.made (length inv.0) sent.0.replies inv.5 sent.2,
       looked_on g.P.Versions.looks (g.P.Versions.state c.loop-from.pages) (g.P.Versions.state c.args.pages.now) inv.3 sent.0.terms
           (g.P.Versions.cache c.args.pages.now) (g.P.Versions.cache c.loop-from.pages) (g.P.Versions.cache c.answer.new.pages) c.loop-from.invariant.1 inv.6 sent.3,
     )
 
-pub returns-in-Lost-clause-served : goal.returns-in-Lost-clause-served
-returns-in-Lost-clause-served g c =
+pub returns-in-Err-clause-served : goal.returns-in-Err-clause-served
+returns-in-Err-clause-served g c =
     let piece = c.args.piece.now in
     let from = c.loop-from.from in
     let p = take (length piece - from) (drop from piece) in
     let fed = fed_case c.args.origin.now.hosts c.loop-from.self-inside.reading.rest p c.feed-fed.result (Some c.in-Some.ask) c.feed-fed.new.self c.in-Some.is c.feed-fed.ensures.fed in
     let inv = c.loop-from.invariant.2 in
-    let sent = c.in-Lost.ensures.sent in
-    let answered = answered_now (shown_in c.args.origin.now g.P.Versions.site g.P.Versions.templates) (TermOf c.args.origin.now.root) sent.0 Lost (g.P.Versions.state c.loop-from.pages) (g.P.Versions.state c.args.pages.now) c.in-Some.ask c.target.result.now c.feed-fed.new.self.target c.loop-from.self-inside.left
+    let sent = c.in-Err.ensures.sent in
+    let answered = answered_now (shown_in c.args.origin.now g.P.Versions.site g.P.Versions.templates) (TermOf c.args.origin.now.root) sent.0 (Err c.in-Err.failed) (Err c.in-Err.failed) (g.P.Versions.state c.loop-from.pages) (g.P.Versions.state c.args.pages.now) c.in-Some.ask c.target.result.now c.feed-fed.new.self.target c.loop-from.self-inside.left
     ((g.W.Wire.told c.loop-from.wire).account c.args.number) ((g.W.Wire.told c.answer.new.wire).account c.args.number) ((g.W.Wire.told c.loop-from.wire).faults c.args.number)
-    ((g.W.Wire.told c.answer.new.wire).faults c.args.number) c.loop-from.invariant.1 c.target.ensures sent.1 in (
+    ((g.W.Wire.told c.answer.new.wire).faults c.args.number) refl c.loop-from.invariant.1 c.target.ensures sent.1 in (
       record { replies = length inv.0 + sent.0.replies; terms = inv.3 ++ sent.0.terms },
-      serve_lost (shown_in c.args.origin.now g.P.Versions.site g.P.Versions.templates (g.P.Versions.state c.args.pages.now)) (TermOf c.args.origin.now.root) c.args.self.now piece p from c.feed-fed.result.taken
+      serve_over (shown_in c.args.origin.now g.P.Versions.site g.P.Versions.templates (g.P.Versions.state c.args.pages.now)) (TermOf c.args.origin.now.root) c.args.self.now piece p from c.feed-fed.result.taken
           (record { rest = c.loop-from.self-inside.reading.rest; left = c.loop-from.self-inside.left }) c.feed-fed.new.self inv.0
           (take_rest piece from) inv.1 c.in-Some.ask fed
           ((g.W.Wire.told c.args.wire.now).account c.args.number) ((g.W.Wire.told c.loop-from.wire).account c.args.number) ((g.W.Wire.told c.answer.new.wire).account c.args.number)
           ((g.W.Wire.told c.args.wire.now).faults c.args.number) ((g.W.Wire.told c.loop-from.wire).faults c.args.number) ((g.W.Wire.told c.answer.new.wire).faults c.args.number)
-          inv.2 c.loop-from.invariant.4 inv.3 inv.4 sent.0 c.args.self.now answered,
+          inv.2 c.loop-from.invariant.4 inv.3 inv.4 sent.0 (Err c.in-Err.failed) c.args.self.now (λ e. cc) answered,
       made_so_far c.args.made.now c.loop-from.made c.answer.new.made (length inv.0) sent.0.replies inv.5 sent.2,
       looked_on g.P.Versions.looks (g.P.Versions.state c.loop-from.pages) (g.P.Versions.state c.args.pages.now) inv.3 sent.0.terms
           (g.P.Versions.cache c.args.pages.now) (g.P.Versions.cache c.loop-from.pages) (g.P.Versions.cache c.answer.new.pages) c.loop-from.invariant.1 inv.6 sent.3,
@@ -195,14 +195,14 @@ returns-in-Lost-clause-served g c =
 pub returns-in_default-clause-noted : goal.returns-in_default-clause-noted
 returns-in_default-clause-noted g c = c.loop-from.invariant.8
 
-pub returns-in-Closed-clause-noted : goal.returns-in-Closed-clause-noted
-returns-in-Closed-clause-noted g c = noted_then _ _ _ _ _ _ c.loop-from.invariant.8 c.in-Closed.ensures.noted
+pub returns-in-Ok-Closed-clause-noted : goal.returns-in-Ok-Closed-clause-noted
+returns-in-Ok-Closed-clause-noted g c = noted_then _ _ _ _ _ _ c.loop-from.invariant.8 c.in-Ok-Closed.ensures.noted
 
-pub returns-in-Short-clause-noted : goal.returns-in-Short-clause-noted
-returns-in-Short-clause-noted g c = noted_then _ _ _ _ _ _ c.loop-from.invariant.8 c.in-Short.ensures.noted
+pub returns-in-Ok-Short-clause-noted : goal.returns-in-Ok-Short-clause-noted
+returns-in-Ok-Short-clause-noted g c = noted_then _ _ _ _ _ _ c.loop-from.invariant.8 c.in-Ok-Short.ensures.noted
 
-pub returns-in-Lost-clause-noted : goal.returns-in-Lost-clause-noted
-returns-in-Lost-clause-noted g c = noted_then _ _ _ _ _ _ c.loop-from.invariant.8 c.in-Lost.ensures.noted
+pub returns-in-Err-clause-noted : goal.returns-in-Err-clause-noted
+returns-in-Err-clause-noted g c = noted_then _ _ _ _ _ _ c.loop-from.invariant.8 c.in-Err.ensures.noted
 
 pub returns-clause-noted : goal.returns-clause-noted
 returns-clause-noted g c = c.loop-from.invariant.8

@@ -17,4 +17,4 @@ invariant_of-self-else-is_err c =
     let room : (c.len.result ≤ c.self.inside.limits.nodes) × (length (with_edge c.in_ok-edge.edge (elements edge_cmp c.self.inside.edges)) + length (elements member_cmp c.self.inside.members) ≤ c.self.inside.limits.edges) = fits_at_ok _ _ _ c.put-result.result ok fits in
     let within : IsWithin (building_with (an_edge c.args.from.now c.args.label.now c.args.to.now) before) =
     (omega (arith, ap length names, c.len.ensures.len, room.0), omega (arith, ap length put, ap length keys, room.1)) in
-    IsBuilt-from_added (an_edge c.args.from.now c.args.label.now c.args.to.now) before _ (Ok tt) c.requires (same_building _ _ refl names keys c.put-result.ensures.others, within) c.self.invariant
+    (IsBuilt-from_added (an_edge c.args.from.now c.args.label.now c.args.to.now) before _ (Ok tt) c.requires (same_building _ _ refl names keys c.put-result.ensures.others, within) c.self.invariant.0, c.self.invariant.1)

@@ -17,4 +17,4 @@ invariant_of-self-else-is_err c =
     let room : (c.len.result ≤ c.self.inside.limits.nodes) × (length (with_member c.in_ok-member.member (elements member_cmp c.self.inside.members)) + length (elements edge_cmp c.self.inside.edges) ≤ c.self.inside.limits.edges) = fits_at_ok _ _ _ c.put-result.result ok fits in
     let within : IsWithin (building_with (a_member c.args.collection.now c.args.node.now) before) =
     (omega (arith, ap length names, c.len.ensures.len, room.0), omega (arith, ap length put, ap length keys, room.1)) in
-    IsBuilt-from_added (a_member c.args.collection.now c.args.node.now) before _ (Ok tt) tt (same_building _ _ refl names c.put-result.ensures.others keys, within) c.self.invariant
+    (IsBuilt-from_added (a_member c.args.collection.now c.args.node.now) before _ (Ok tt) tt (same_building _ _ refl names c.put-result.ensures.others keys, within) c.self.invariant.0, c.self.invariant.1)

@@ -1,4 +1,4 @@
-use Rattle.command_build.proofs.load_noted.Goals as goal
+use Rattle.site_inputs.proofs.site.load_noted.Goals as goal
 
 pub returns-clause-course : goal.returns-clause-course
 returns-clause-course g c =
