@@ -131,9 +131,11 @@ fn is_among_hosts(hosts: &[u8], value: &[u8]) -> bool
 fn is_host(value: &[u8], name: &[u8]) -> bool
     ensures { result ≡ is_host value.now name.now }
 {
-    name.len() <= value.len()
-        && value[..name.len()].eq_ignore_ascii_case(name)
-        && is_port_end(&value[name.len()..])
+    if value.len() < name.len() {
+        return false;
+    }
+    let (front, end) = value.split_at(name.len());
+    front.eq_ignore_ascii_case(name) && is_port_end(end)
 }
 
 /// Whether these bytes are nothing, or a colon and digits, perhaps none.

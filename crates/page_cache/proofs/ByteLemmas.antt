@@ -114,13 +114,13 @@ within_front most e (f ∷ es) more = by_test (nat_le (length e.1) most) refl (�
     by_test false is rest = refl
 
 -- Of entries after the first, which have too many bytes, the last went.
-pub record Dropped (es : List (Term × List ℕ)) (cap bytes most gone : ℕ) (after : LruCache Term (List ℕ)) : Type 0 where
+pub record Dropped (es : List (Term × List ℕ)) (count_max bytes most gone : ℕ) (after : LruCache Term (List ℕ)) : Type 0 where
   pub less : gone ≤ bytes
   pub some : 0 < length after.entries
   pub count : bytes - gone ≡ bytes_in (drop 1 after.entries)
   pub first : take 1 after.entries ≡ take 1 es
   pub others : entries_within most (drop 1 after.entries) ≡ entries_within most (drop 1 es)
-  pub room : after.cap ≡ cap
+  pub room : after.cap ≡ count_max
   pub shorter : length after.entries < length es
 
 taken : (n : ℕ) (xs : List (Term × List ℕ)) → length (take n xs) ≤ n
@@ -128,15 +128,16 @@ taken zero xs = omega arith
 taken (suc n) [] = omega arith
 taken (suc n) (x ∷ xs) = let less = taken n xs in omega (arith, less)
 
-pub drops : (es : List (Term × List ℕ)) (cap bytes most gone : ℕ) (popped : Option (Term × List ℕ)) (after : LruCache Term (List ℕ)) → bytes ≡ bytes_in (drop 1 es)
-    → most < bytes → popped ≡ last_entry es → gone ≡ size_of popped → after ≡ lru_cache (take (length es - 1) es) cap → Dropped es cap bytes most gone after
-drops [] cap bytes most gone popped after count more last size_is is = absurd (let none : bytes ≡ 0 = count in omega (arith, none, more))
-drops (e ∷ []) cap bytes most gone popped after count more last size_is is = absurd (let none : bytes ≡ 0 = count in omega (arith, none, more))
-drops (e ∷ f ∷ es) cap bytes most gone popped after count more last size_is is =
+pub drops : (es : List (Term × List ℕ)) (count_max bytes most gone : ℕ) (popped : Option (Term × List ℕ)) (after : LruCache Term (List ℕ)) → bytes ≡ bytes_in (drop 1 es)
+    → most < bytes → popped ≡ last_entry es → gone ≡ size_of popped → after ≡ lru_cache (take (length es - 1) es) count_max → Dropped es count_max bytes most gone after
+drops [] count_max bytes most gone popped after count more last size_is is = absurd (let none : bytes ≡ 0 = count in omega (arith, none, more))
+drops (e ∷ []) count_max bytes most gone popped after count more last size_is is = absurd (let none : bytes ≡ 0 = count in omega (arith, none, more))
+drops (e ∷ f ∷ es) count_max bytes most gone popped after count more last size_is is =
     let rest = f ∷ es in
-    let size_same : gone ≡ size_of (slice_get rest (length es)) = size_is ∙ ap size_of last in
+    let place : suc (suc (length es)) - 1 ≡ suc (length es) = omega arith in
+    let size_same : gone ≡ size_of (slice_get rest (length es)) = size_is ∙ ap size_of last ∙ ap (λ n. size_of (slice_get (e ∷ rest) n)) place in
     let all = last_bytes (length es) rest (let even : length rest ≤ suc (length es) = omega arith in even) in
-    let here : Dropped (e ∷ rest) cap bytes most gone (lru_cache (e ∷ take (length es) rest) cap) = record {
+    let here : Dropped (e ∷ rest) count_max bytes most gone (lru_cache (e ∷ take (length es) rest) count_max) = record {
       less = omega (arith, size_same, all, count);
       some = omega arith;
       count = omega (arith, size_same, all, count);
@@ -145,7 +146,7 @@ drops (e ∷ f ∷ es) cap bytes most gone popped after count more last size_is 
       room = refl;
       shorter = omega (arith, taken (length es) rest);
     } in
-    subst (λ (c : LruCache Term (List ℕ)). Dropped (e ∷ rest) cap bytes most gone c) (sym is) here
+    subst (λ (c : LruCache Term (List ℕ)). Dropped (e ∷ rest) count_max bytes most gone c) (sym (is ∙ ap (λ n. lru_cache (take n (e ∷ rest)) count_max) place)) here
 
 -- the first and the others
 pub whole : (es : List (Term × List ℕ)) → take 1 es ++ drop 1 es ≡ es

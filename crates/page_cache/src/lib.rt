@@ -91,7 +91,8 @@ impl<P: Versions + Drop> Cached<P> {
             return Ok((Outcome::Page(text), Hit::Found));
         }
         let outcome = self.pages.page(alloc, term)?;
-        self.bytes = keep(&mut self.kept, alloc, term, &outcome, self.bytes, self.most)?;
+        let bytes = keep(&mut self.kept, alloc, term, &outcome, self.bytes, self.most)?;
+        self.bytes = bytes;
         Ok((outcome, Hit::Miss))
     }
 

@@ -19,21 +19,21 @@ returns-in-Some-clause-sound g c =
 
 pub returns-clause-sound : goal.returns-clause-sound
 returns-clause-sound g c =
-    subst (λ s. AreSound (IsOutcome (g.P.Versions.site s) (g.P.Versions.templates s)) c.keep.new.kept.entries c.in_ok-keep.value c.args.self.now.most) (sym c.in_ok-outcome.ensures.state)
+    subst (λ s. AreSound (IsOutcome (g.P.Versions.site s) (g.P.Versions.templates s)) c.keep.new.kept.entries c.in_ok-bytes.bytes c.args.self.now.most) (sym c.in_ok-outcome.ensures.state)
     (missed_sound (IsOutcome (g.P.Versions.site (g.P.Versions.state c.args.self.now.pages)) (g.P.Versions.templates (g.P.Versions.state c.args.self.now.pages))) c.args.self.now.kept c.args.self.now.most c.args.term.now c.requires.sound.each (sym c.in_ok-text.ensures ∙ c.in_default.is)
-    c.in_ok-outcome.outcome c.in_ok-keep.value c.keep.new.kept c.in_ok-outcome.ensures.outcome c.in_ok-keep.ensures.entries c.in_ok-keep.ensures.bytes.0 c.in_ok-keep.ensures.bytes.1)
+    c.in_ok-outcome.outcome c.in_ok-bytes.bytes c.keep.new.kept c.in_ok-outcome.ensures.outcome c.in_ok-bytes.ensures.entries c.in_ok-bytes.ensures.bytes.0 c.in_ok-bytes.ensures.bytes.1)
 
 pub returns-clause-looks : goal.returns-clause-looks
 returns-clause-looks g c =
     missed_looks (IsOutcome (g.P.Versions.site (g.P.Versions.state c.args.self.now.pages)) (g.P.Versions.templates (g.P.Versions.state c.args.self.now.pages))) c.args.self.now.kept c.args.self.now.most c.args.term.now c.requires.sound.each (sym c.in_ok-text.ensures ∙ c.in_default.is)
-    c.in_ok-outcome.outcome c.keep.new.kept c.in_ok-keep.ensures.entries
+    c.in_ok-outcome.outcome c.keep.new.kept c.in_ok-bytes.ensures.entries
 
 pub returns-in_err-outcome-clause-sound : goal.returns-in_err-outcome-clause-sound
 returns-in_err-outcome-clause-sound g c =
     same_sound (λ s. IsOutcome (g.P.Versions.site s) (g.P.Versions.templates s)) (g.P.Versions.state c.page.new.self) (g.P.Versions.state c.args.self.now.pages)
     c.args.self.now.kept c.args.self.now.kept c.args.self.now.bytes c.args.self.now.most c.page.ensures.state refl c.requires.sound
 
-pub returns-in_err-keep-clause-sound : goal.returns-in_err-keep-clause-sound
-returns-in_err-keep-clause-sound g c =
+pub returns-in_err-bytes-clause-sound : goal.returns-in_err-bytes-clause-sound
+returns-in_err-bytes-clause-sound g c =
     same_sound (λ s. IsOutcome (g.P.Versions.site s) (g.P.Versions.templates s)) (g.P.Versions.state c.page.new.self) (g.P.Versions.state c.args.self.now.pages)
-    c.keep.new.kept c.args.self.now.kept c.args.self.now.bytes c.args.self.now.most c.page.ensures.state c.in_err-keep.ensures.err c.requires.sound
+    c.keep.new.kept c.args.self.now.kept c.args.self.now.bytes c.args.self.now.most c.page.ensures.state c.in_err-bytes.ensures.err c.requires.sound
