@@ -18,7 +18,7 @@ use Rattle.site_inputs.specs.Reads.{Reads}
 use Rattle.site_inputs.specs.Statuses.{status_of}
 use Rattle.site_inputs.proofs.ReadLemmas.{IsRead, reads_fault}
 use Rattle.serve_run.specs.Puts.{EndHappens}
-use Rattle.serve_run.proofs.Added.{Added, added_none}
+use Rattle.run_report.proofs.Added.{Added, added_none}
 use Rattle.command_replay.specs.declared.replaying.Script.{Script}
 use Rattle.command_replay.specs.Scripts.{Scripted, ScriptedEnd, ScriptTaken, script_result, scripted_of}
 use Rattle.command_replay.specs.Ends.{IsReplayed}

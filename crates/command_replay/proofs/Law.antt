@@ -25,7 +25,7 @@ use Rattle.site_inputs.proofs.DecidedInputs.{file_decides, inputs_decide}
 use Rattle.command_spec.specs.Inputs.{replay_paths}
 use Rattle.command_spec.specs.Limits.{script_limit}
 use Rattle.command_replay.specs.Scripts.{script_told, ScriptTaken, ScriptEnds, Scripted, ScriptedEnd}
-use Rattle.command_replay.specs.Ends.{run_end, RunEnds, ReplayEnds}
+use Rattle.command_replay.specs.Ends.{RunEnds, ReplayEnds}
 use Rattle.site_inputs.specs.Outside.{Host, PutsRose, AllRead, HasStatus}
 use Rattle.command_replay.specs.Law.{ReplayEndsWell}
 use Rattle.site_inputs.proofs.Endings.{ok_same, not_both, by_reason, not_refused}
@@ -105,6 +105,7 @@ module _ (command : ReplayCommand) (before after : Host) where
   run s status.Usage ends write room no_put = absurd ends
   run s status.NotAllYes ends write room no_put = absurd ends
   run s (status.PageFault term kind) ends write room no_put = absurd ends
+  run s (status.FileFault path) ends write room no_put = absurd ends
   run s status.NotFound ends write room no_put = absurd ends
 
   accepted : (reached : Status) → ReplayEnds command before after reached → ReadRose Paths before.failed_reads after.failed_reads reached → (reached ≡ status.WriteFault → PutsRose before after)

@@ -84,6 +84,7 @@ module _ (s : Scripted) (limits : RunLimits) (old new : Option (List ℕ)) (Puts
   RunEnds status.Usage = ⊥
   RunEnds status.NotAllYes = ⊥
   RunEnds (status.PageFault term kind) = ⊥
+  RunEnds (status.FileFault path) = ⊥
   RunEnds status.NotFound = ⊥
 
 module _ (command : ReplayCommand) (before after : Host) (reached : Status) where

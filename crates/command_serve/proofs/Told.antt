@@ -84,7 +84,9 @@ module _ (s : Inputs) (watches : Bool) (options : ServeOptions) (before after : 
   by_status ended tally serves (status.ReadFault path) (inl h) = h
   by_status ended tally serves (status.ReadFault path) (inr h) = absurd cc
   by_status ended tally serves (status.PageFault term kind) (inl h) = h
+  by_status ended tally serves (status.FileFault path) (inl h) = h
   by_status ended tally serves (status.PageFault term kind) (inr h) = absurd cc
+  by_status ended tally serves (status.FileFault path) (inr h) = absurd cc
 
   pub told_listening : (reached : Status) → ListeningEnds s watches options.limits before after b c P reached → TellingEnds s watches options before after a c Q reached
   told_listening reached h = by_status h.ended h.tally h.serves reached h.puts
@@ -121,6 +123,7 @@ module _ (s : Inputs) (watch : Option WatchOptions) (options : ServeOptions) (be
   by_told (status.Refused file number place) h tells = tells
   by_told (status.ReadFault path) h tells = tells
   by_told (status.PageFault term kind) h tells = tells
+  by_told (status.FileFault path) h tells = tells
 
   pub over_of : (reached : Status) → WatchedEnds s (is_some watch) options between after old new (Rose puts puts_now) reached → OverEnds s watch options Before After reached
   over_of reached (inl h) = by_told reached h h.tells
@@ -141,6 +144,7 @@ module _ (s : Inputs) (watch : Option WatchOptions) (options : ServeOptions) (be
   never_silent (status.Refused file number place) h quiet = h
   never_silent (status.ReadFault path) h quiet = h
   never_silent (status.PageFault term kind) h quiet = h
+  never_silent (status.FileFault path) h quiet = h
 
   pub never_usage : (reached : Status) → OverEnds s watch options before after reached → reached ≡ status.Usage → ⊥
   never_usage reached h is = subst (OverEnds s watch options before after) is h
@@ -157,3 +161,4 @@ module _ (s : Inputs) (watch : Option WatchOptions) (options : ServeOptions) (be
   over_read_rose paths reads now (status.Refused file number place) h = tt
   over_read_rose paths reads now (status.ReadFault path) h = absurd h
   over_read_rose paths reads now (status.PageFault term kind) h = tt
+  over_read_rose paths reads now (status.FileFault path) h = tt

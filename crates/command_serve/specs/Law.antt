@@ -27,7 +27,8 @@ module _ (command : ServeCommand) (before after : Outside) (reached : Status) wh
         → ¬ PutsRose before.host after.host → ¬ EventsRose before.wire after.wire
         → HasStatus status.Ok reached
     pub refused : (reason : Fault)
-        → Refuse before.host.files command.sources command.over command.query command.templates reason
+        → Refuse before.host.files command.sources command.over command.query command.templates
+        reason
         → IsDecidedFault reason → HasStatus (status_of reason) reached
 
   -- the law of the command

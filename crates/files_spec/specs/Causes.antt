@@ -7,12 +7,12 @@ use Rattle.files_spec.specs.declared.stop.Stop.TheVariants.{Unwritten}
 use Rattle.files_spec.specs.Paths.{page_path, index_path}
 use Rattle.files_spec.specs.Files.{root_term}
 
--- no count fell, and where writing failed the count of some path with P rose
+-- no count fell, and that of a path at which writing failed rose; the path has P
 pub record WritesHaveCause {T : Type 0} (P : List ℕ → Type 0) (before now : List ℕ → ℕ)
     (result : Result T Stop) : Type 0 where
   pub later : NoneFell before now
-  pub failed : IsErrOf result Unwritten
-      → (path : List ℕ) × P path × Rose (before path) (now path)
+  pub failed : (path : List ℕ) → IsErrOf result (Unwritten path)
+      → P path × Rose (before path) (now path)
 
 -- the path of the page of one of the terms
 abbrev pub IsPagePath : List ℕ → List Term → List ℕ → Type 0

@@ -44,8 +44,9 @@ module _ (site : Site) (templates : TemplateFile) where
     -- and where it is out of memory nothing is written.
     abbrev pub StopsAt : Term → FileMap → FileMap → Stop → Type 0
     StopsAt t old new (Faulty term kind) = (term ≡ t) × IsFaulty t kind × (new ≡ old)
-    StopsAt t old new Unwritten =
-        ((text : List ℕ) × IsPageText t text) × ChangesOnly old new (page_path folder t)
+    StopsAt t old new (Unwritten path) =
+        ((text : List ℕ) × IsPageText t text) × (path ≡ page_path folder t)
+        × ChangesOnly old new path
     StopsAt t old new NoMemory = new ≡ old
 
     -- how writing one page ends
@@ -79,7 +80,8 @@ module _ (site : Site) (templates : TemplateFile) where
     abbrev pub IndexPut : Term → FileMap → FileMap → Result ⊤ Stop → Type 0
     IndexPut t old new (Ok u) = IndexWritten t old new
     IndexPut t old new (Err (Faulty term kind)) = ⊥
-    IndexPut t old new (Err Unwritten) = ChangesOnly old new (index_path folder)
+    IndexPut t old new (Err (Unwritten path)) =
+        (path ≡ index_path folder) × ChangesOnly old new path
     IndexPut t old new (Err NoMemory) = new ≡ old
 
     -- How writing `index.html` ends: the root page is written so where it is one of the terms, and only there.
@@ -88,8 +90,8 @@ module _ (site : Site) (templates : TemplateFile) where
         (Contains terms (root_term root) × IndexPut (root_term root) old new (Ok u))
         ⊎ ((Contains terms (root_term root) → ⊥) × (new ≡ old))
     IndexEnds terms root old new (Err (Faulty term kind)) = ⊥
-    IndexEnds terms root old new (Err Unwritten) =
-        Contains terms (root_term root) × IndexPut (root_term root) old new (Err Unwritten)
+    IndexEnds terms root old new (Err (Unwritten path)) =
+        Contains terms (root_term root) × IndexPut (root_term root) old new (Err (Unwritten path))
     IndexEnds terms root old new (Err NoMemory) = new ≡ old
 
     -- without a root there is no `index.html`

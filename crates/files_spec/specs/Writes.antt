@@ -37,7 +37,8 @@ module _ (site : Site) (templates : TemplateFile) (folder : List ℕ) where
   -- more.
   abbrev pub PagesWrite : List Term → List Happening → Result ⊤ Stop → Type 0
   PagesWrite terms part (Ok u) = AllZip IsPageWritten terms part
-  PagesWrite terms part (Err Unwritten) = (t : Term) × WritesSome terms (t ∷ []) part
+  PagesWrite terms part (Err (Unwritten path)) =
+      (t : Term) × (path ≡ page_path folder t) × WritesSome terms (t ∷ []) part
   PagesWrite terms part (Err stop) = WritesSome terms [] part
 
   -- what was written of `index.html`, where there is a root and its page is one of these
@@ -49,8 +50,9 @@ module _ (site : Site) (templates : TemplateFile) (folder : List ℕ) where
       × IsOutcome site templates (root_term root) (outcome.Page text)
       × (part ≡ Wrote (index_path folder) text ∷ []))
       ⊎ ((Contains terms (root_term root) → ⊥) × (part ≡ []))
-  IndexWrites terms (Some root) part (Err Unwritten) =
-      Contains terms (root_term root) × (part ≡ WriteFailed (index_path folder) ∷ [])
+  IndexWrites terms (Some root) part (Err (Unwritten path)) =
+      Contains terms (root_term root) × (path ≡ index_path folder)
+      × (part ≡ WriteFailed path ∷ [])
   IndexWrites terms (Some root) part (Err stop) = part ≡ []
 
   -- all pages were written, and then the root page so

@@ -1,12 +1,12 @@
 // Why writing a site stops before its end.
 use run_report::PageKind;
-use sd_value::{NoMemory, Term};
+use sd_value::{NoMemory, Str, Term};
 
-/// Why writing a site stops: a page has no text or no file, a file can't be written, or it was out of memory.
+/// Why writing a site stops: a page has no text or no file, the file of a path can't be written, or it was out of memory.
 #[derive(Debug, Drop)]
 pub enum Stop {
     Faulty { term: Term, kind: PageKind },
-    Unwritten,
+    Unwritten { path: Str },
     NoMemory,
 }
 

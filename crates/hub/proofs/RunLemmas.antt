@@ -1,5 +1,5 @@
 -- A run takes one event more.
-use Rattle.std.proofs.Common.{◌≡◌, inr, ℕ, ◌<◌, Bool, true, false, ◌||◌, ◌==◌, List, [], ◌∷◌, ◌++◌, refl, sym, ap, ◌∙◌, subst, append_assoc, append-nil, Option, Some, None, if◌then◌else◌}
+use Rattle.std.proofs.Common.{◌≡◌, inr, ℕ, ◌<◌, true, false, ◌||◌, List, [], ◌∷◌, ◌++◌, refl, sym, ap, ◌∙◌, subst, append_assoc, append-nil, Option, None, if◌then◌else◌}
 use Rattle.std.specs.List.{fold, list_any}
 use Rattle.std.proofs.lemmas.Grind.{fold-append}
 use Rattle.std.proofs.lemmas.List.Folds.{list_any-append}
@@ -18,10 +18,10 @@ use Rattle.hub.specs.HubState.{scene, HubState}
 use Rattle.hub.specs.Line.{Line}
 use Rattle.serving_spec.specs.Counted.{no_counts, counts_with, is_of}
 use Rattle.serving_spec.specs.Made.{Made, nothing}
-use Rattle.serving_spec.specs.Inputs.{Moment, Unopened, Coming, after_event, moment_after}
+use Rattle.serving_spec.specs.Inputs.{Moment, Unopened, after_event, moment_after}
 use Rattle.hub.specs.Moments.{Stands}
 use Rattle.hub.specs.Turns.{At, at_in, Turned, state_after}
-use Rattle.serving_spec.specs.Openings.{counts, greatest_after, opened_after}
+use Rattle.serving_spec.specs.Openings.{greatest_after, opened_after}
 use Rattle.serving_spec.specs.declared.HubEnd.TheVariants.{NoMemory}
 use Rattle.hub.proofs.TurnLemmas.{stands_turn}
 

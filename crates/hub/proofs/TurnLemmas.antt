@@ -5,21 +5,20 @@ use Rattle.std.proofs.lemmas.Bool.Decides.{nat_tests}
 use Rattle.sd_value.specs.declared.Term.{Term}
 use Rattle.http_spec.specs.declared.Standing.{Standing}
 use Rattle.http_spec.specs.declared.Standing.TheVariants.{Open, Closed, Short}
-use Rattle.http_spec.specs.Replies.{no_memory_bytes}
 use Rattle.http_spec.specs.Sessions.{Showing}
 use Rattle.http_spec.specs.Streams.{Timed, timed}
 use Rattle.http_spec.proofs.HeadLemmas.{no_head_nil}
 use Rattle.wire.specs.Accounts.{Account, up_by}
 use Rattle.happenings.specs.declared.event.WireEvent.{WireEvent}
 use Rattle.happenings.specs.declared.event.WireEvent.TheVariants.{Opened, Bytes, Ended, Lost as LostEvent, Change, Done}
-use Rattle.serving_spec.specs.Delivered.{closing, AllSent, CutOff}
+use Rattle.serving_spec.specs.Delivered.{closing}
 use Rattle.hub.specs.Line.{Line}
 use Rattle.serving_spec.specs.Inputs.{Input, Unopened, Coming, Over, Moment, more_of, over_of, after_event}
 use Rattle.serving_spec.specs.Sent.{FrontOf}
 use Rattle.serving_spec.specs.Counted.{Counts, no_counts, counts_with, HasCounts, is_of}
 use Rattle.hub.specs.Moments.{SettledAt, IsOpenAt, IsOverAt, StandsComing, StandsFor, IsBelow, WasOpened, CountedStands}
 use Rattle.serving_spec.specs.Made.{Made, nothing}
-use Rattle.hub.specs.Turns.{At, seen_of, StepEnd, account_after, EndSteps, PieceReplies, FrontReplies, IsPieceServed, IsFinished, IsUnopened, Opens, TakesPiece, Finishes, OthersStay, Turned, kept_after, Keeps}
+use Rattle.hub.specs.Turns.{At, StepEnd, account_after, EndSteps, IsPieceServed, IsFinished, IsUnopened, Opens, TakesPiece, Finishes, OthersStay, Turned, kept_after, Keeps}
 use Rattle.serving_spec.specs.Openings.{counts}
 use Rattle.hub.proofs.StandLemmas.{over_later, over_ended, over_settled, all_on, cut_on, settled_on, open_more, answer_more, front_more, end_more, front_end, so_far}
 

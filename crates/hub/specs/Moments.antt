@@ -25,7 +25,8 @@ abbrev pub IsOverAt : {D : Type 0} → (D → OutcomeAt) → (List ℕ → Term 
 IsOverAt page Names limit counted stream first now =
     ((all : AllSent (HasCounts page Names limit counted stream false) (seen_of first) (seen_of now))
     × (all.standing ≢ Open))
-    ⊎ CutOff (FrontOf (HasCounts page Names limit counted) stream false) (seen_of first) (seen_of now)
+    ⊎ CutOff (FrontOf (HasCounts page Names limit counted) stream false) (seen_of first)
+    (seen_of now)
 
 -- the connection is open: the replies to its whole heads were sent, and none closed it
 pub record IsOpenAt {D : Type 0} (page : D → Showing) (Names : List ℕ → Term → Type 0) (limit : ℕ)

@@ -4,7 +4,7 @@ use Rattle.std.proofs.Common.{refl, sym, false, true}
 use mathlib.Core.Bool.{true≢false}
 use Rattle.run_report.specs.declared.status.Status.{Status}
 use Rattle.run_report.specs.declared.status.Status.TheVariants as status
-use Rattle.run_report.specs.declared.status.Status.TheVariants.{NotAllYes, Usage, Refused, ReadFault, WriteFault, WireFault, PageFault, NoMemory, NotFound, TurnsSpent}
+use Rattle.run_report.specs.declared.status.Status.TheVariants.{NotAllYes, Usage, Refused, ReadFault, WriteFault, FileFault, WireFault, PageFault, NoMemory, NotFound, TurnsSpent}
 use Rattle.run_report.specs.Report.{line, message, IsFixed}
 
 pub own_line : (s : Status) → (IsFixed s → false ≡ true) → line s ≡ codes "strudel: " ++ message s ++ codes "\n"

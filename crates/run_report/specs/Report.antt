@@ -3,7 +3,7 @@ use Rattle.std.specs.Prelude.{◌==◌, ℕ, List, [], ◌++◌, codes, if◌the
 use Rattle.std.specs.Fmt.{decimal}
 use Rattle.page_spec.specs.Show.{show, address}
 use Rattle.run_report.specs.declared.status.Status.{Status}
-use Rattle.run_report.specs.declared.status.Status.TheVariants.{Ok, NotAllYes, Usage, Refused, ReadFault, WriteFault}
+use Rattle.run_report.specs.declared.status.Status.TheVariants.{Ok, NotAllYes, Usage, Refused, ReadFault, WriteFault, FileFault}
 use Rattle.run_report.specs.declared.status.Status.TheVariants.{WireFault, PageFault, NoMemory, NotFound, TurnsSpent}
 use Rattle.run_report.specs.declared.status.Place.{Place}
 use Rattle.run_report.specs.declared.status.Place.TheVariants.{At, Row, Column, Path}
@@ -18,6 +18,7 @@ code Usage = 2
 code (Refused file number place) = 3
 code (ReadFault path) = 4
 code WriteFault = 5
+code (FileFault path) = 5
 code WireFault = 6
 code (PageFault term kind) = 7
 code NoMemory = 8
@@ -99,6 +100,7 @@ message (Refused file number place) =
     ++ codes " at " ++ shown place
 message (ReadFault path) = codes "cannot read " ++ path
 message WriteFault = codes "cannot write"
+message (FileFault path) = codes "cannot write " ++ path
 message WireFault = codes "connection source failed"
 message (PageFault term kind) = codes "page " ++ address term ++ codes ": " ++ page_fault kind
 message NoMemory = codes "out of memory"
@@ -115,5 +117,6 @@ line status = codes "strudel: " ++ message status ++ codes "\n"
 abbrev pub IsFixed : Status → Type 0
 IsFixed (Refused file number place) = ⊥
 IsFixed (ReadFault path) = ⊥
+IsFixed (FileFault path) = ⊥
 IsFixed (PageFault term kind) = ⊥
 IsFixed status = ⊤

@@ -111,10 +111,10 @@ fn add_page_fault(alloc: Global, text: &mut Vec<u8>, kind: &PageKind) -> Result<
     }
 }
 
-fn add_unread(text: &mut Vec<u8>, path: &Str) -> Result<(), NoMemory>
-    ensures { OnOk result (text.new.items ≡ text.old.items ++ (codes "cannot read " ++ path.now)) }
+fn add_path(text: &mut Vec<u8>, what: &[u8], path: &Str) -> Result<(), NoMemory>
+    ensures { OnOk result (text.new.items ≡ text.old.items ++ (what.now ++ path.now)) }
 {
-    add(text, b"cannot read ")?;
+    add(text, what)?;
     add(text, path.bytes())?;
     Ok(())
 }
@@ -152,8 +152,9 @@ fn add_message(alloc: Global, text: &mut Vec<u8>, status: &Status) -> Result<(),
             number,
             place,
         } => add_refusal(text, file, *number, place),
-        Status::ReadFault { path } => add_unread(text, path),
+        Status::ReadFault { path } => add_path(text, b"cannot read ", path),
         Status::WriteFault => add(text, b"cannot write"),
+        Status::FileFault { path } => add_path(text, b"cannot write ", path),
         Status::WireFault => add(text, b"connection source failed"),
         Status::PageFault { term, kind } => {
             add(text, b"page ")?;
@@ -193,7 +194,10 @@ fn fixed_line(status: &Status) -> Option<&'static [u8]>
         Status::NoMemory => Some(OUT_OF_MEMORY),
         Status::NotFound => Some(b"strudel: not found\n"),
         Status::TurnsSpent => Some(b"strudel: turns spent\n"),
-        Status::Refused { .. } | Status::ReadFault { .. } | Status::PageFault { .. } => None,
+        Status::Refused { .. }
+        | Status::ReadFault { .. }
+        | Status::FileFault { .. }
+        | Status::PageFault { .. } => None,
     }
 }
 

@@ -23,6 +23,7 @@ pub enum PageKind {
 }
 
 /// How a run ended. `Refused` names the first input that isn't accepted, `ReadFault` an input that could not be read,
+/// `WriteFault` says that an output took less than was put, `FileFault` names a file that could not be written, and
 /// `PageFault` the page that has no text or no file.
 #[derive(Debug, Drop)]
 pub enum Status {
@@ -38,6 +39,9 @@ pub enum Status {
         path: Str,
     },
     WriteFault,
+    FileFault {
+        path: Str,
+    },
     WireFault,
     PageFault {
         term: Term,
@@ -59,7 +63,7 @@ impl Status {
             Status::Usage => 2,
             Status::Refused { .. } => 3,
             Status::ReadFault { .. } => 4,
-            Status::WriteFault => 5,
+            Status::WriteFault | Status::FileFault { .. } => 5,
             Status::WireFault => 6,
             Status::PageFault { .. } => 7,
             Status::NoMemory => 8,

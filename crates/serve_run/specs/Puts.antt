@@ -7,7 +7,7 @@ use Rattle.serving_spec.specs.declared.HubEnd.{HubEnd}
 use Rattle.serving_spec.specs.declared.HubEnd.TheVariants as end
 use Rattle.run_report.specs.Told.{IsOnePut}
 use Rattle.run_report.specs.declared.status.Status.{Status}
-use Rattle.run_report.specs.declared.status.Status.TheVariants.{Ok, NotAllYes, Usage, Refused, ReadFault, WriteFault}
+use Rattle.run_report.specs.declared.status.Status.TheVariants.{Ok, NotAllYes, Usage, Refused, ReadFault, WriteFault, FileFault}
 use Rattle.run_report.specs.declared.status.Status.TheVariants.{WireFault, PageFault, NoMemory, NotFound, TurnsSpent}
 
 -- the text was put whole, or the output failed in it
@@ -29,6 +29,7 @@ EndPuts ended text old new PutsRose Usage = ⊥
 EndPuts ended text old new PutsRose (Refused file number place) = ⊥
 EndPuts ended text old new PutsRose (ReadFault path) = ⊥
 EndPuts ended text old new PutsRose (PageFault term kind) = ⊥
+EndPuts ended text old new PutsRose (FileFault path) = ⊥
 EndPuts ended text old new PutsRose NotFound = ⊥
 
 -- ---- what happened
@@ -48,4 +49,5 @@ EndHappens ended stream text part Usage = ⊥
 EndHappens ended stream text part (Refused file number place) = ⊥
 EndHappens ended stream text part (ReadFault path) = ⊥
 EndHappens ended stream text part (PageFault term kind) = ⊥
+EndHappens ended stream text part (FileFault path) = ⊥
 EndHappens ended stream text part NotFound = ⊥

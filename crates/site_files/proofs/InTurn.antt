@@ -21,7 +21,7 @@ module _ (s : Site) (f : TemplateFile) (folder : List ℕ) where
   pub put_page_ends : (t : Term) (text : List ℕ) (old new : FileMap) (end : Result ⊤ Stop) → IsOutcome s f t (outcome.Page text) → PutEnds folder t text old new end → PageEnds s f folder t old new end
   put_page_ends t text old new (Ok u) o p = (text, record { is_outcome = o; has_file = p.0 }, p.1)
   put_page_ends t text old new (Err (Faulty term kind)) o p = (p.0, subst (IsFaulty s f t) (sym p.1) ((text, o), p.2), p.3)
-  put_page_ends t text old new (Err Unwritten) o p = ((text, record { is_outcome = o; has_file = p.0 }), p.1)
+  put_page_ends t text old new (Err (Unwritten path)) o p = ((text, record { is_outcome = o; has_file = p.0 }), p.1, p.2)
   put_page_ends t text old new (Err NoMemory) o p = p
 
   written_more : (ts : List Term) (t : Term) (old now new : FileMap) (text : List ℕ) → PagesWritten s f folder ts old now → IsPageText s f t text → new ≡ put_file now (page_path folder t) text → PagesWritten s f folder (ts ++ t ∷ []) old new
@@ -87,14 +87,14 @@ module _ (s : Site) (f : TemplateFile) (folder : List ℕ) where
       subst (λ (x : Option FileMap). IsSomeAnd x (λ new. IndexPut s f folder t old new (Ok tt))) (sym told)
       (text, o, ap (λ p. put_file old p bytes) e ∙ ap (put_file old (index_path folder)) b)
 
-  pub no_index_told : (n : Option FileMap) (t : Term) (path : List ℕ) (old : FileMap) → path ≡ index_path folder → IsSomeAnd n (λ new. ChangesOnly old new path) → IsSomeAnd n (λ new. IndexPut s f folder t old new (Err Unwritten))
+  pub no_index_told : (n : Option FileMap) (t : Term) (path : List ℕ) (old : FileMap) → path ≡ index_path folder → IsSomeAnd n (λ new. ChangesOnly old new path) → IsSomeAnd n (λ new. IndexPut s f folder t old new (Err (Unwritten path)))
   no_index_told None t path old e h = h
-  no_index_told (Some new) t path old e h = subst (ChangesOnly old new) e h
+  no_index_told (Some new) t path old e h = (e, h)
 
   among_ends : (terms : List Term) (root : List ℕ) (old new : FileMap) (end : Result ⊤ Stop) → Contains terms (root_term root) → IndexPut s f folder (root_term root) old new end → IndexEnds s f folder terms root old new end
   among_ends terms root old new (Ok u) h p = inl (h, p)
   among_ends terms root old new (Err (Faulty term kind)) h p = p
-  among_ends terms root old new (Err Unwritten) h p = (h, p)
+  among_ends terms root old new (Err (Unwritten path)) h p = (h, p)
   among_ends terms root old new (Err NoMemory) h p = p
 
   pub among_told : (n : Option FileMap) (terms : List Term) (root : List ℕ) (page : Term) (old : FileMap) (end : Result ⊤ Stop) → page ≡ root_term root → Contains terms page → IsSomeAnd n (λ new. IndexPut s f folder page old new end) → IsSomeAnd n (λ new. IndexEnds s f folder terms root old new end)

@@ -10,6 +10,6 @@ use Rattle.files_spec.specs.Paths.{file_name, page_path}
 use Rattle.site_files.specs.Puts.{PutEnds}
 
 pub unwritten_told : (folder : List ℕ) (n : Option FileMap) (t : Term) (path text : List ℕ) (old : FileMap) → path ≡ page_path folder t → (HasLongSegment (file_name t) → ⊥) → IsSomeAnd n (λ new. ChangesOnly old new path)
-    → IsSomeAnd n (λ new. PutEnds folder t text old new (Err Unwritten))
+    → IsSomeAnd n (λ new. PutEnds folder t text old new (Err (Unwritten path)))
 unwritten_told folder None t path text old e short h = h
-unwritten_told folder (Some new) t path text old e short h = (short, subst (ChangesOnly old new) e h)
+unwritten_told folder (Some new) t path text old e short h = (short, e, h)

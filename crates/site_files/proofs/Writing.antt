@@ -26,7 +26,7 @@ module _ (s : Site) (f : TemplateFile) (folder : List ℕ) where
       → OnOk end (HasLongSegment (file_name t) → ⊥) → PutAdds (page_path folder t) text before now end → PageAdds s f folder t before now end
   put_adds t text before now (Ok u) o short h = (Wrote (page_path folder t) text, record { text = text; is_text = record { is_outcome = o; has_file = short }; its = refl }, h)
   put_adds t text before now (Err (Faulty term kind)) o short h = h
-  put_adds t text before now (Err Unwritten) o short h = h
+  put_adds t text before now (Err (Unwritten path)) o short h = h
   put_adds t text before now (Err NoMemory) o short h = h
 
   -- the put of a text as `index.html`, and its failed write
@@ -34,8 +34,8 @@ module _ (s : Site) (f : TemplateFile) (folder : List ℕ) where
       → now ≡ before ++ Wrote path bytes ∷ [] → IndexAdds s f folder page before now (Ok tt)
   index_put page path bytes text before now is same o h = (text, o, h ∙ ap (λ p. before ++ Wrote p bytes ∷ []) is ∙ ap (λ b. before ++ Wrote (index_path folder) b ∷ []) same)
 
-  pub index_failed : (page : Term) (path : List ℕ) (before now : List Happening) → path ≡ index_path folder → now ≡ before ++ WriteFailed path ∷ [] → IndexAdds s f folder page before now (Err Unwritten)
-  index_failed page path before now is h = h ∙ ap (λ p. before ++ WriteFailed p ∷ []) is
+  pub index_failed : (page : Term) (path : List ℕ) (before now : List Happening) → path ≡ index_path folder → now ≡ before ++ WriteFailed path ∷ [] → IndexAdds s f folder page before now (Err (Unwritten path))
+  index_failed page path before now is h = (is, h)
 
   zip_push : (ts : List Term) (part : List Happening) (t : Term) (h : Happening) → AllZip IsDone ts part → IsDone t h → AllZip IsDone (ts ++ t ∷ []) (part ++ h ∷ [])
   zip_push [] [] t h a r = (r, tt)
@@ -72,11 +72,12 @@ module _ (s : Site) (f : TemplateFile) (folder : List ℕ) where
     added = p ∙ a.added;
     its = record { front = take i terms; left = drop i terms; done = a.part; terms_are = take-append-drop i terms; written = a.its; part_is = sym (append-nil a.part) };
   }
-  stop_written terms i t before now later Unwritten l is a p = record {
+  stop_written terms i t before now later (Unwritten path) l is a p = record {
     part = a.part ++ failed_write s f folder t ∷ [];
-    added = p ∙ ap (λ r. r ++ failed_write s f folder t ∷ []) a.added ∙ append_assoc before a.part (failed_write s f folder t ∷ []);
+    added = p.1 ∙ ap (λ r. r ++ failed_write s f folder t ∷ []) a.added ∙ append_assoc before a.part (failed_write s f folder t ∷ []);
     its = (
       t,
+      p.0,
       record {
         front = take i terms;
         left = drop (i + 1) terms;
@@ -96,10 +97,10 @@ module _ (s : Site) (f : TemplateFile) (folder : List ℕ) where
     added = p.2;
     its = inl (subst (Contains terms) is among, p.0, subst (λ (t : Term). IsOutcome s f t (outcome.Page p.0)) is p.1, refl);
   }
-  index_among terms root page before now (Err Unwritten) is among p = record {
-    part = WriteFailed (index_path folder) ∷ [];
-    added = p;
-    its = (subst (Contains terms) is among, refl);
+  index_among terms root page before now (Err (Unwritten path)) is among p = record {
+    part = WriteFailed path ∷ [];
+    added = p.1;
+    its = (subst (Contains terms) is among, p.0, refl);
   }
   index_among terms root page before now (Err (Faulty term kind)) is among p = record { part = []; added = p ∙ sym (append-nil before); its = refl }
   index_among terms root page before now (Err NoMemory) is among p = record { part = []; added = p ∙ sym (append-nil before); its = refl }

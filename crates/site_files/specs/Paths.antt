@@ -10,7 +10,7 @@ use Rattle.files_spec.specs.declared.stop.Stop.TheVariants.{Faulty, Unwritten, N
 -- the page has no file, or it was out of memory
 abbrev pub IsNameless : Term → Stop → Type 0
 IsNameless t (Faulty term kind) = (term ≡ t) × (kind ≡ LongName) × HasLongSegment (file_name t)
-IsNameless t Unwritten = ⊥
+IsNameless t (Unwritten path) = ⊥
 IsNameless t NoMemory = Unit {0}
 
 -- How looking for a page's path ends: with the path, or because a name on the way would be too long.

@@ -14,6 +14,6 @@ PutEnds folder t text old new (Ok u) =
     (HasLongSegment (file_name t) → ⊥) × (new ≡ put_file old (page_path folder t) text)
 PutEnds folder t text old new (Err (Faulty term kind)) =
     (term ≡ t) × (kind ≡ LongName) × HasLongSegment (file_name t) × (new ≡ old)
-PutEnds folder t text old new (Err Unwritten) =
-    (HasLongSegment (file_name t) → ⊥) × ChangesOnly old new (page_path folder t)
+PutEnds folder t text old new (Err (Unwritten path)) =
+    (HasLongSegment (file_name t) → ⊥) × (path ≡ page_path folder t) × ChangesOnly old new path
 PutEnds folder t text old new (Err NoMemory) = new ≡ old

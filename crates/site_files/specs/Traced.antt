@@ -8,14 +8,15 @@ use Rattle.page_spec.specs.Page.{IsOutcome}
 use Rattle.page_spec.specs.declared.Outcome.TheVariants as outcome
 use Rattle.files_spec.specs.declared.stop.Stop.{Stop}
 use Rattle.files_spec.specs.declared.stop.Stop.TheVariants.{Unwritten}
-use Rattle.files_spec.specs.Paths.{index_path}
+use Rattle.files_spec.specs.Paths.{page_path, index_path}
 use Rattle.files_spec.specs.Writes.{IsPageWritten, failed_write}
 
 -- the file at the path was given this text, or its write failed, or nothing was done
 abbrev pub PutAdds
     : (path text : List ℕ) → (before now : List Happening) → Result ⊤ Stop → Type 0
 PutAdds path text before now (Ok u) = now ≡ before ++ Wrote path text ∷ []
-PutAdds path text before now (Err Unwritten) = now ≡ before ++ WriteFailed path ∷ []
+PutAdds path text before now (Err (Unwritten missed)) =
+    (missed ≡ path) × (now ≡ before ++ WriteFailed path ∷ [])
 PutAdds path text before now (Err stop) = now ≡ before
 
 module _ (site : Site) (templates : TemplateFile) (folder : List ℕ) where
@@ -23,8 +24,8 @@ module _ (site : Site) (templates : TemplateFile) (folder : List ℕ) where
   abbrev pub PageAdds : Term → (before now : List Happening) → Result ⊤ Stop → Type 0
   PageAdds t before now (Ok u) =
       (h : Happening) × IsPageWritten site templates folder t h × (now ≡ before ++ h ∷ [])
-  PageAdds t before now (Err Unwritten) =
-      now ≡ before ++ failed_write site templates folder t ∷ []
+  PageAdds t before now (Err (Unwritten path)) =
+      (path ≡ page_path folder t) × (now ≡ before ++ failed_write site templates folder t ∷ [])
   PageAdds t before now (Err stop) = now ≡ before
 
   -- the same of the term's page as `index.html`
@@ -32,5 +33,6 @@ module _ (site : Site) (templates : TemplateFile) (folder : List ℕ) where
   IndexAdds t before now (Ok u) =
       (text : List ℕ) × IsOutcome site templates t (outcome.Page text)
       × (now ≡ before ++ Wrote (index_path folder) text ∷ [])
-  IndexAdds t before now (Err Unwritten) = now ≡ before ++ WriteFailed (index_path folder) ∷ []
+  IndexAdds t before now (Err (Unwritten path)) =
+      (path ≡ index_path folder) × (now ≡ before ++ WriteFailed path ∷ [])
   IndexAdds t before now (Err stop) = now ≡ before

@@ -66,7 +66,7 @@ fn put_index<F: Files, P: Pages>(
     let path = index_path(alloc, folder)?;
     match files.write(&path, text.bytes()) {
         Ok(()) => Ok(()),
-        Err(_) => Err(Stop::Unwritten),
+        Err(_) => Err(Stop::Unwritten { path }),
     }
 }
 

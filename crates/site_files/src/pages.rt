@@ -50,7 +50,7 @@ fn put_page<F: Files>(
     let path = page_path(alloc, folder, term)?;
     match files.write(&path, text.bytes()) {
         Ok(()) => Ok(()),
-        Err(_) => Err(Stop::Unwritten),
+        Err(_) => Err(Stop::Unwritten { path }),
     }
 }
 

@@ -18,9 +18,9 @@ returns-clause-ends g c = λ old told.
 pub returns-then-is_among-clause-cause : goal.returns-then-is_among-clause-cause
 returns-then-is_among-clause-cause g c = record {
   later = c.put_index.ensures.cause.later;
-  failed = λ e.
-      let r = c.put_index.ensures.cause.failed e in
-      (r.0, (subst (Contains c.args.terms.now) c.in_ok-page.ensures (c.is_among.ensures.0 c.if-is_among.true), r.1), r.2);
+  failed = λ path e.
+      let r = c.put_index.ensures.cause.failed path e in
+      ((subst (Contains c.args.terms.now) c.in_ok-page.ensures (c.is_among.ensures.0 c.if-is_among.true), r.0), r.1);
 }
 
 pub returns-then-is_among-clause-traced : goal.returns-then-is_among-clause-traced

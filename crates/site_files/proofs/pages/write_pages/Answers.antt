@@ -50,9 +50,9 @@ returns-in-Err-clause-reads g c = c.in-Err.ensures.reads ∙ c.loop-term.invaria
 pub returns-in-Err-clause-cause : goal.returns-in-Err-clause-cause
 returns-in-Err-clause-cause g c = record {
   later = fell_not c.loop-term.invariant.later c.in-Err.ensures.cause.later;
-  failed = λ e.
-      let r = c.in-Err.ensures.cause.failed e in
-      (r.0, (c.term-item.result, one_of c.args.terms.now c.loop-term.term-index c.term-item.result c.loop-term-test.true c.term-item.is, r.1), still_rose (g.F.Files.failed_writes c.args.files.now) (g.F.Files.failed_writes c.loop-term.files) (g.F.Files.failed_writes c.write_page.new.files) c.loop-term.invariant.later r.0 r.2);
+  failed = λ path e.
+      let r = c.in-Err.ensures.cause.failed path e in
+      ((c.term-item.result, one_of c.args.terms.now c.loop-term.term-index c.term-item.result c.loop-term-test.true c.term-item.is, r.0), still_rose (g.F.Files.failed_writes c.args.files.now) (g.F.Files.failed_writes c.loop-term.files) (g.F.Files.failed_writes c.write_page.new.files) c.loop-term.invariant.later path r.1);
 }
 
 pub returns-clause-texts : goal.returns-clause-texts

@@ -1,4 +1,4 @@
-use Rattle.std.proofs.Common.{List, inr, sym, ap, subst}
+use Rattle.std.proofs.Common.{List, inl, inr, sym, ap, subst}
 use Rattle.std.specs.Option.{IsSomeAnd}
 use Rattle.page_spec.specs.Page.{IsOutcome}
 use Rattle.page_spec.specs.declared.Outcome.TheVariants as outcome
@@ -29,12 +29,20 @@ pub returns-in-None-clause-ends : goal.returns-in-None-clause-ends
 returns-in-None-clause-ends g c = λ old told.
     no_root_then (g.P.Pages.site (g.P.Pages.fixed c.args.pages.now)) (g.P.Pages.templates (g.P.Pages.fixed c.args.pages.now)) c.args.folder.now (g.F.Files.contents c.write_pages.new.files) c.args.terms.now (root_name c.args.root) old (ap root_name c.in-None.is) (c.in-Ok.ensures.ends old told)
 
+pub returns-in-Err-clause-cause : goal.returns-in-Err-clause-cause
+returns-in-Err-clause-cause g c = record {
+  later = c.in-Err.ensures.cause.later;
+  failed = λ path e.
+      let r = c.in-Err.ensures.cause.failed path e in
+      (inl r.0, r.1);
+}
+
 pub returns-in-Some-clause-cause : goal.returns-in-Some-clause-cause
 returns-in-Some-clause-cause g c = record {
   later = fell_not c.in-Ok.ensures.cause.later c.write_index.ensures.cause.later;
-  failed = λ e.
-      let r = c.write_index.ensures.cause.failed e in
-      (r.0, inr (c.in-Some.root.now, ap root_name c.in-Some.is, r.1.0, r.1.1), still_rose (g.F.Files.failed_writes c.args.files.now) (g.F.Files.failed_writes c.write_pages.new.files) (g.F.Files.failed_writes c.write_index.new.files) c.in-Ok.ensures.cause.later r.0 r.2);
+  failed = λ path e.
+      let r = c.write_index.ensures.cause.failed path e in
+      (inr (c.in-Some.root.now, ap root_name c.in-Some.is, r.0.0, r.0.1), still_rose (g.F.Files.failed_writes c.args.files.now) (g.F.Files.failed_writes c.write_pages.new.files) (g.F.Files.failed_writes c.write_index.new.files) c.in-Ok.ensures.cause.later path r.1);
 }
 
 pub returns-in-Err-clause-traced : goal.returns-in-Err-clause-traced
