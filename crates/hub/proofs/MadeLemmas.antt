@@ -1,5 +1,5 @@
 -- What a run makes: counts of replies, and look-ups one after another.
-use Rattle.std.proofs.Common.{◌≡◌, ℕ, ◌+◌, ◌-◌, ◌≤◌, ◌⊎◌, List, [], ◌∷◌, ◌++◌, length, zero, suc, refl, sym, ap, ◌∙◌, subst, arith, append_assoc, append-nil, inl, inr, Some, length-append, lit≤}
+use Rattle.std.proofs.Common.{◌≡◌, ℕ, ◌+◌, ◌-◌, ◌≤◌, ◌⊎◌, List, [], ◌∷◌, ◌++◌, length, zero, suc, Option, refl, sym, ap, ◌∙◌, subst, arith, append_assoc, append-nil, inl, inr, Some, length-append, lit≤}
 use Rattle.httparse.specs.Grammar.{RequestHead}
 use Rattle.sd_value.specs.declared.Term.{Term}
 use Rattle.http_spec.specs.declared.ParsedRequest.{ParsedRequest}

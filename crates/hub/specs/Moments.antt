@@ -20,7 +20,7 @@ SettledAt page Names limit counted stream ended first now =
     SettledBy (HasCounts page Names limit counted) stream ended (seen_of first) (seen_of now)
 
 -- the same, and nothing more is sent: an answer shut it, or a send failed
-abbrev pub IsOverAt : {D : Type 0} → (D → OutcomeAt) → (List ℕ → Term → Type 0) → ℕ → Counts D
+abbrev pub IsOverAt : {D : Type 0} → (D → Showing) → (List ℕ → Term → Type 0) → ℕ → Counts D
     → List (Timed D) → At → At → Type 0
 IsOverAt page Names limit counted stream first now =
     ((all : AllSent (HasCounts page Names limit counted stream false) (seen_of first) (seen_of now))

@@ -294,8 +294,8 @@ fn page_at<P: Versions>(
     requires own { P.Own pages.old }
     ensures own { P.Own pages.new }
     ensures state { P.state pages.new ≡ P.state pages.old }
-    ensures found { IfOk result (shown_in origin.now P.site P.templates (P.state pages.old)
-        target.now) }
+    ensures found { IfOk result
+        ((shown_in origin.now P.site P.templates (P.state pages.old)).outcome target.now) }
     ensures looked { (terms : List Term)
         × ((terms ≡ []) ⊎ NamedBy (TermOf origin.now.root) target.now terms)
         × IfOk result (λ outcome. NamedBy (TermOf origin.now.root) target.now terms)
