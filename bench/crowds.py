@@ -8,6 +8,7 @@ import os
 import random
 import re
 import resource
+import select
 import subprocess
 import sys
 import tempfile
@@ -230,6 +231,29 @@ def pipelined(port):
     return told_of
 
 
+def is_closed(client):
+    """Whether the server has closed the connection, of which nothing was read."""
+    with contextlib.suppress(OSError):
+        return bool(select.select([client], [], [], 0)[0]) and client.recv(1) == b""
+    return True
+
+
+def dripped(port):
+    """Twenty clients that send a byte of a head each 40 milliseconds: how long the last of them is held, at most 30 seconds."""
+    with contextlib.ExitStack() as stack:
+        clients, begun = [stack.enter_context(connected(port)) for _ in range(20)], time.monotonic()
+        for it in clients:
+            it.sendall(b"GET / HTTP/1.1\r\nHost: a\r\nX-A: ")
+        while clients and time.monotonic() - begun < 30:
+            time.sleep(0.04)
+            clients = [it for it in clients if not is_closed(it)]
+            for it in clients:
+                with contextlib.suppress(OSError):
+                    it.sendall(b"x")
+        seconds = time.monotonic() - begun
+    return (f"{seconds:.1f} s", seconds <= 6) if not clients else ("over 30 s", False)
+
+
 POST = b"POST / HTTP/1.1\r\nHost: a\r\nContent-Length: 8000000\r\n\r\n"
 
 
@@ -260,6 +284,7 @@ def bench_held(folder):
         rows.append(compared(f"{count:,} half heads", target, beside(count, b"GET / HTTP/1.1\r\nHost: a\r\nX-"), folder))
     for count in (1, 50, 200, 1_000):
         rows.append(compared(f"{count:,} refused (405) that stay", target, beside(count, POST), folder))
+    rows.append(compared("20 that send a byte of a head each 40 ms: how long they are held", "6 s", dripped, folder))
     rows.append(compared("50 kept connections that ask without end", target, greedy, folder))
     rows.append(compared("one that sends requests without end, reading no reply before the next", target, pipelined, folder))
     rows.append(compared("clients that send 8 MB, are refused, and read the refusal", "all", refused, folder))

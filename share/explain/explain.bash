@@ -16,7 +16,7 @@ explain() {
   case $line in
     "strudel: bad command line") explain_words "$@" ;;
     "strudel: cannot read "*) explain_unread "${line#strudel: cannot read }" ;;
-    "strudel: cannot write") explain_unwritten "$@" ;;
+    "strudel: cannot write" | "strudel: cannot write "*) explain_unwritten "$@" ;;
     *"strudel: connection source failed") explain_port "$@" ;;
     "strudel: not found")
       echo "No page of the site has this address. A page's address is /F.html for F(), and /F/tSome~20text.html or /F/nname.html"
@@ -221,7 +221,7 @@ explain_unwritten() {
     elif [ "$(df -P "$above" 2>/dev/null | awk 'NR == 2 { print $4 }')" = 0 ]; then
       echo "There is no room left on the disk of $above."
     else
-      echo "A file or folder under $folder stands in the way of a page's file or folder, or the output was closed."
+      echo "A file or folder stands in the way of the page's file or folder, or the output was closed, or a limit (\`ulimit -f\`) was reached."
     fi
   else
     echo "The output was closed before its end (by \`head\`, say), or its disk has no room left."

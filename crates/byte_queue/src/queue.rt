@@ -1,11 +1,8 @@
 // A queue of bytes.
-ghost use Rattle.std.specs.Prelude.{◌≡◌, ◌≤◌, ◌++◌, [], take, length, IfOk, OnOk, OnErr, IsTrue, ◌↔◌};
+ghost use Rattle.std.specs.Prelude.{◌≡◌, ◌≤◌, ◌++◌, [], length, OnOk, OnErr, IsTrue, ◌↔◌};
 ghost use Rattle.std.proofs.Math.ListN.{drop};
-ghost use Rattle.std.specs.Io.KnownBytes.{Appends, Keeps};
 
 use std::alloc::{AllocError, Global};
-use std::io;
-use std::io::Write;
 use std::marker::Model;
 
 /// Bytes that are put in after the others and taken out at the front.
@@ -79,17 +76,5 @@ impl ByteQueue {
             self.bytes = Vec::new(self.alloc);
             self.taken = 0;
         }
-    }
-
-    /// One write: what the writer takes is taken out at the front.
-    pub fn write_once<W: Write>(&mut self, writer: &mut W) -> io::Result<usize>
-        ensures taken { IfOk result (λ count. Appends (W.contents writer.old) (W.contents writer.new)
-            (take count self.old) × (self.new ≡ drop count self.old)) }
-        ensures err { OnErr result (Keeps (W.contents writer.old) (W.contents writer.new)
-            × (self.new ≡ self.old)) }
-    {
-        let count = writer.write(self.rest())?;
-        self.advance(count);
-        Ok(count)
     }
 }

@@ -104,10 +104,10 @@ stopped_ends : (command : BuildCommand) (before after : Host) (s : Inputs) (reas
     → after.output ≡ before.output
     → InputsEnd before.files command.sources command.over command.query command.templates (Ok s)
     → BuiltEnds s command.folder before.files after.files (Err reason)
-    → (reason ≡ stop.Unwritten → SiteRose s command.folder before.failed_writes after.failed_writes)
+    → ((path : List ℕ) → reason ≡ stop.Unwritten path → SiteRose s command.folder before.failed_writes after.failed_writes path)
     → BuildEnds command before after (stop_status reason)
 stopped_ends command before after s (stop.Faulty term kind) out taken built rose = record { inputs = s; taken = taken; built = built }
-stopped_ends command before after s stop.Unwritten out taken built rose = inl (record { builds = record { inputs = s; taken = taken; built = built }; rose = rose refl; quiet = out })
+stopped_ends command before after s (stop.Unwritten path) out taken built rose = record { builds = record { inputs = s; taken = taken; built = built }; rose = rose path refl; quiet = out }
 stopped_ends command before after s stop.NoMemory out taken built rose = (inr (record { inputs = s; taken = taken; built = built }), out)
 
 -- the counts and the output before and after
@@ -131,7 +131,7 @@ module _ (reads reads_now writes writes_now : List ℕ → ℕ) (output output_n
       → output_now ≡ output → ended ≡ stop_status reason
       → InputsEnd old command.sources command.over command.query command.templates (Ok s)
       → IsSomeAnd n (λ new. BuiltEnds s command.folder old new (Err reason))
-      → (reason ≡ stop.Unwritten → SiteRose s command.folder writes writes_now)
+      → ((path : List ℕ) → reason ≡ stop.Unwritten path → SiteRose s command.folder writes writes_now path)
       → IsSomeAnd n (λ new. BuildEnds command (Before old) (After new) ended)
   stopped_told None old command s reason ended out is taken h rose = h
   stopped_told (Some new) old command s reason ended out is taken h rose =
@@ -149,20 +149,26 @@ module _ (reads reads_now writes writes_now : List ℕ → ℕ) (output output_n
       → IsSomeAnd n (λ new. BuiltEnds s command.folder old new (Ok line)) → GainsPart output output_now line → Rose puts puts_now
       → IsSomeAnd n (λ new. BuildEnds command (Before old) (After new) status.WriteFault)
   part_told None old command s line taken h gained rose = h
-  part_told (Some new) old command s line taken h gained rose = inr (record { text = line; builds = record { inputs = s; taken = taken; built = h }; gained = gained; rose = rose })
+  part_told (Some new) old command s line taken h gained rose = record { text = line; builds = record { inputs = s; taken = taken; built = h }; gained = gained; rose = rose }
 
-pub unwritten_of : (reason : Stop) (ended : Status) → ended ≡ stop_status reason → ended ≡ status.WriteFault → reason ≡ stop.Unwritten
-unwritten_of (stop.Faulty term kind) ended e u = let both = sym e ∙ u in cc
-unwritten_of stop.Unwritten ended e u = refl
-unwritten_of stop.NoMemory ended e u = let both = sym e ∙ u in cc
+pub unwritten_of : (reason : Stop) (ended : Status) (path : List ℕ) → ended ≡ stop_status reason → ended ≡ status.FileFault path → reason ≡ stop.Unwritten path
+unwritten_of (stop.Faulty term kind) ended path e u = let both = sym e ∙ u in cc
+unwritten_of (stop.Unwritten other) ended path e u = let both = sym e ∙ u in cc
+unwritten_of stop.NoMemory ended path e u = let both = sym e ∙ u in cc
 
-stop_is : (reason : Stop) → ◌≡◌ {A = Result (List ℕ) Stop} (Err reason) (Err stop.Unwritten) → reason ≡ stop.Unwritten
-stop_is reason e = cc
+-- a build that stops has no output that failed
+pub no_put_failed : (reason : Stop) (ended : Status) → ended ≡ stop_status reason → ended ≡ status.WriteFault → ⊥
+no_put_failed (stop.Faulty term kind) ended e u = let both = sym e ∙ u in cc
+no_put_failed (stop.Unwritten path) ended e u = let both = sym e ∙ u in cc
+no_put_failed stop.NoMemory ended e u = let both = sym e ∙ u in cc
+
+stop_is : (reason : Stop) (path : List ℕ) → ◌≡◌ {A = Result (List ℕ) Stop} (Err reason) (Err (stop.Unwritten path)) → reason ≡ stop.Unwritten path
+stop_is reason path e = cc
 
 -- a fault, whatever it is a fault of
-pub unwritten_again : (reason : Stop) → ◌≡◌ {A = Result (List ℕ) Stop} (Err reason) (Err stop.Unwritten) → ◌≡◌ {A = Result ⊤ Stop} (Err reason) (Err stop.Unwritten)
-unwritten_again reason e = ap (λ (r : Stop). Err r) (stop_is reason e)
+pub unwritten_again : (reason : Stop) (path : List ℕ) → ◌≡◌ {A = Result (List ℕ) Stop} (Err reason) (Err (stop.Unwritten path)) → ◌≡◌ {A = Result ⊤ Stop} (Err reason) (Err (stop.Unwritten path))
+unwritten_again reason path e = ap (λ (r : Stop). Err r) (stop_is reason path e)
 
 -- where it was out of memory before anything was written, no count rose
 pub no_write : (P : List ℕ → Type 0) (counts : List ℕ → ℕ) (end : Result (List ℕ) Stop) → end ≡ Err stop.NoMemory → WritesHaveCause P counts counts end
-no_write P counts end is = record { later = λ path. omega arith; failed = λ e. absurd cc }
+no_write P counts end is = record { later = λ path. omega arith; failed = λ path e. absurd cc }

@@ -79,17 +79,17 @@ module _ (command : BuildCommand) (before after : Host) where
       by_built t can (inr h) = (let same = h.0 in cc)
 
   -- a file of the one site of the inputs could not be written
-  no_unwritten : (s : Inputs) → Ended (Ok s) → ¬ SiteRose s command.folder before.failed_writes after.failed_writes → IsUnwritten command before after → ⊥
-  no_unwritten s taken no_write unwritten =
+  no_unwritten : (s : Inputs) (path : List ℕ) → Ended (Ok s) → ¬ SiteRose s command.folder before.failed_writes after.failed_writes path → IsUnwritten command before after path → ⊥
+  no_unwritten s path taken no_write unwritten =
       let same : unwritten.builds.inputs ≡ s = ok_same unwritten.builds.inputs s (decides.once (Ok unwritten.builds.inputs) (Ok s) unwritten.builds.taken taken tt tt) in
-      no_write (subst (λ (t : Inputs). SiteRose t command.folder before.failed_writes after.failed_writes) same unwritten.rose)
+      no_write (subst (λ (t : Inputs). SiteRose t command.folder before.failed_writes after.failed_writes path) same unwritten.rose)
 
   accepted : (reached : Status) → BuildEnds command before after reached → ReadRose Paths before.failed_reads after.failed_reads reached → AllRead Paths before after
-      → (s : Inputs) → Ended (Ok s) → AllCanBeWritten s → ¬ PutsRose before after → ¬ SiteRose s command.folder before.failed_writes after.failed_writes → HasStatus status.Ok reached
+      → (s : Inputs) → Ended (Ok s) → AllCanBeWritten s → ¬ PutsRose before after → ((path : List ℕ) → ¬ SiteRose s command.folder before.failed_writes after.failed_writes path) → HasStatus status.Ok reached
   accepted status.Ok ends read all s taken writable no_put no_write = inl refl
   accepted status.NoMemory ends read all s taken writable no_put no_write = inr refl
-  accepted status.WriteFault (inl ends) read all s taken writable no_put no_write = absurd (no_unwritten s taken no_write ends)
-  accepted status.WriteFault (inr ends) read all s taken writable no_put no_write = absurd (no_put ends.rose)
+  accepted (status.FileFault path) ends read all s taken writable no_put no_write = absurd (no_unwritten s path taken (no_write path) ends)
+  accepted status.WriteFault ends read all s taken writable no_put no_write = absurd (no_put ends.rose)
   accepted (status.PageFault term kind) ends read all s taken writable no_put no_write = absurd (no_fault s taken writable term kind ends)
   accepted (status.Refused file number place) ends read all s taken writable no_put no_write =
       absurd (not_both Ended decides s (fault.Refused (record { file = file; number = number; place = place })) taken ends.0 tt)
@@ -108,8 +108,8 @@ module _ (command : BuildCommand) (before after : Host) where
       → (reason : Fault) → Ended (Err reason) → IsDecidedFault reason → HasStatus (status_of reason) reached
   refused status.Ok ends read all reason ended decided = absurd (not_built reason ended decided ends.1)
   refused status.NoMemory ends read all reason ended decided = inr refl
-  refused status.WriteFault (inl ends) read all reason ended decided = absurd (not_built reason ended decided ends.builds)
-  refused status.WriteFault (inr ends) read all reason ended decided = absurd (not_built reason ended decided ends.builds)
+  refused (status.FileFault path) ends read all reason ended decided = absurd (not_built reason ended decided ends.builds)
+  refused status.WriteFault ends read all reason ended decided = absurd (not_built reason ended decided ends.builds)
   refused (status.PageFault term kind) ends read all reason ended decided = absurd (not_built reason ended decided ends)
   refused (status.Refused file number place) ends read all reason ended decided =
       by_reason Ended decides Paths before after all (fault.Refused (record { file = file; number = number; place = place })) tt ends.0 reason ended decided

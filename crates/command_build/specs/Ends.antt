@@ -66,24 +66,24 @@ pub record IsSiteFile (s : Inputs) (folder path : List ℕ) : Type 0 where
   pub are_pages : ListsExactly term_cmp (IsPresent (site_at s) s.templates) pages
   pub is_path : IsSitePath folder pages (root_function s.query) path
 
--- the count of failed writes of one of the files of the site of these inputs rose
-abbrev pub SiteRose : Inputs → (folder : List ℕ) → (before now : List ℕ → ℕ) → Type 0
-SiteRose s folder before now =
-    (path : List ℕ) × IsSiteFile s folder path × Rose (before path) (now path)
+-- the path is that of one of the files of the site of these inputs, and its count of failed writes rose
+abbrev pub SiteRose
+    : Inputs → (folder : List ℕ) → (before now : List ℕ → ℕ) → (path : List ℕ) → Type 0
+SiteRose s folder before now path = IsSiteFile s folder path × Rose (before path) (now path)
 
--- The count of failed writes of one of a site's files rose. Where the contents of the files are reported, the site is
--- that of the command's inputs, which were accepted.
+-- The path is that of one of a site's files, and its count of failed writes rose. Where the contents of the files are
+-- reported, the site is that of the command's inputs, which were accepted.
 pub record FileRose (contents : Option FileMap) (command : BuildCommand)
-    (before now : List ℕ → ℕ) : Type 0 where
+    (before now : List ℕ → ℕ) (path : List ℕ) : Type 0 where
   pub inputs : Inputs
   pub taken : ForSome contents
       (λ map. Spell map command.sources command.over command.query command.templates inputs)
-  pub rose : SiteRose inputs command.folder before now
+  pub rose : SiteRose inputs command.folder before now path
 
--- one of the site's files could not be written, which was counted, and nothing was put
-pub record IsUnwritten (command : BuildCommand) (before after : Host) : Type 0 where
-  pub builds : Builds before.files after.files command (Err stop.Unwritten)
-  pub rose : SiteRose builds.inputs command.folder before.failed_writes after.failed_writes
+-- the site's file of the path could not be written, which was counted, and nothing was put
+pub record IsUnwritten (command : BuildCommand) (before after : Host) (path : List ℕ) : Type 0 where
+  pub builds : Builds before.files after.files command (Err (stop.Unwritten path))
+  pub rose : SiteRose builds.inputs command.folder before.failed_writes after.failed_writes path
   pub quiet : after.output ≡ before.output
 
 -- the site was written, and the output failed, which was counted, after a part of the text
@@ -98,8 +98,8 @@ abbrev pub BuildEnds : BuildCommand → (before after : Host) → Status → Typ
 BuildEnds command before after status.Ok =
     (text : List ℕ) × Builds before.files after.files command (Ok text)
     × Gains before.output after.output text
-BuildEnds command before after status.WriteFault =
-    IsUnwritten command before after ⊎ IsPartlyPut command before after
+BuildEnds command before after status.WriteFault = IsPartlyPut command before after
+BuildEnds command before after (status.FileFault path) = IsUnwritten command before after path
 BuildEnds command before after (status.PageFault term kind) =
     Builds before.files after.files command (Err (stop.Faulty term kind))
 BuildEnds command before after status.NoMemory =
@@ -119,5 +119,5 @@ BuildEnds command before after status.TurnsSpent = ⊥
 -- the status of a build that stops so
 abbrev pub stop_status : Stop → Status
 stop_status (stop.Faulty term kind) = status.PageFault term kind
-stop_status stop.Unwritten = status.WriteFault
+stop_status (stop.Unwritten path) = status.FileFault path
 stop_status stop.NoMemory = status.NoMemory

@@ -26,7 +26,8 @@ module _ (command : BuildCommand) (before after : Host) (reached : Status) where
     pub accepted : (s : Inputs)
         → Spell before.files command.sources command.over command.query command.templates s
         → AllCanBeWritten s → ¬ PutsRose before after
-        → ¬ SiteRose s command.folder before.failed_writes after.failed_writes
+        → ((path : List ℕ)
+        → ¬ SiteRose s command.folder before.failed_writes after.failed_writes path)
         → HasStatus status.Ok reached
     pub refused : (reason : Fault)
         → Refuse before.files command.sources command.over command.query command.templates reason

@@ -101,7 +101,7 @@ fn status_of_stop(stop: Stop) -> Status
 {
     match stop {
         Stop::Faulty { term, kind } => Status::PageFault { term, kind },
-        Stop::Unwritten => Status::WriteFault,
+        Stop::Unwritten { path } => Status::FileFault { path },
         Stop::NoMemory => Status::NoMemory,
     }
 }
@@ -129,10 +129,10 @@ pub fn build<L: Trace, F: Files<Log = L>, O: Sink<Log = L>>(
         (input_paths (data_paths command.now.sources command.now.over)
         command.now.query command.now.templates)
         (F.failed_reads files.old) (F.failed_reads files.new) result }
-    ensures write_cause { result ≡ Status.WriteFault
-        → Rose (O.failed out.old) (O.failed out.new)
-        ⊎ FileRose (F.contents files.old) command.now
-        (F.failed_writes files.old) (F.failed_writes files.new) }
+    ensures write_cause { result ≡ Status.WriteFault → Rose (O.failed out.old) (O.failed out.new) }
+    ensures file_cause { (path : List ℕ) → result ≡ Status.FileFault path
+        → FileRose (F.contents files.old) command.now
+        (F.failed_writes files.old) (F.failed_writes files.new) path }
     ensures course { (part : List Happening) × (L.events log.new ≡ L.events log.old ++ part)
         × BuildCourse command.now (O.stream out.old) (F.contents files.old) part result }
     ensures lent { (F.trace files.new ≡ F.trace files.old) × (O.trace out.new ≡ O.trace out.old) }

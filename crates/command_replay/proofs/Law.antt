@@ -104,8 +104,8 @@ module _ (command : ReplayCommand) (before after : Host) where
   run s (status.ReadFault path) ends write room no_put = absurd ends
   run s status.Usage ends write room no_put = absurd ends
   run s status.NotAllYes ends write room no_put = absurd ends
-  run s (status.PageFault term kind) ends write room no_put = absurd ends
   run s (status.FileFault path) ends write room no_put = absurd ends
+  run s (status.PageFault term kind) ends write room no_put = absurd ends
   run s status.NotFound ends write room no_put = absurd ends
 
   accepted : (reached : Status) → ReplayEnds command before after reached → ReadRose Paths before.failed_reads after.failed_reads reached → (reached ≡ status.WriteFault → PutsRose before after)

@@ -26,8 +26,8 @@ module _ (s : Scripted) (limits : RunLimits) (ended : HubEnd) (text : List ℕ) 
   run_ends status.NotFound h = h
   run_ends (status.Refused file number place) h = h
   run_ends (status.ReadFault path) h = h
-  run_ends (status.PageFault term kind) h = h
   run_ends (status.FileFault path) h = h
+  run_ends (status.PageFault term kind) h = h
 
 -- a run that was begun ends with none of the statuses of an input, nor with that of wrong words
 module _ (s : Scripted) (limits : RunLimits) (old new : Option (List ℕ)) (P : Type 0) where
@@ -42,8 +42,8 @@ module _ (s : Scripted) (limits : RunLimits) (old new : Option (List ℕ)) (P : 
   never_silent status.NotFound h quiet = h
   never_silent (status.Refused file number place) h quiet = h
   never_silent (status.ReadFault path) h quiet = h
-  never_silent (status.PageFault term kind) h quiet = h
   never_silent (status.FileFault path) h quiet = h
+  never_silent (status.PageFault term kind) h quiet = h
 
   pub never_usage : (reached : Status) → RunEnds s limits old new P reached → reached ≡ status.Usage → ⊥
   never_usage reached h is = subst (RunEnds s limits old new P) is h

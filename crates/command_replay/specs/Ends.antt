@@ -83,8 +83,8 @@ module _ (s : Scripted) (limits : RunLimits) (old new : Option (List ℕ)) (Puts
   RunEnds (status.ReadFault path) = ⊥
   RunEnds status.Usage = ⊥
   RunEnds status.NotAllYes = ⊥
-  RunEnds (status.PageFault term kind) = ⊥
   RunEnds (status.FileFault path) = ⊥
+  RunEnds (status.PageFault term kind) = ⊥
   RunEnds status.NotFound = ⊥
 
 module _ (command : ReplayCommand) (before after : Host) (reached : Status) where

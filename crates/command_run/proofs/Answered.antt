@@ -7,7 +7,7 @@ use Rattle.run_report.specs.declared.reports.Report.{Report}
 use Rattle.site_inputs.specs.declared.fault.Fault.{Fault}
 use Rattle.site_inputs.specs.declared.fault.Fault.TheVariants as fault
 use Rattle.run_report.specs.declared.status.Status.{Status}
-use Rattle.run_report.specs.declared.status.Status.TheVariants.{Ok, NotAllYes, Usage, Refused, ReadFault, WriteFault, WireFault, PageFault, NoMemory, NotFound, TurnsSpent}
+use Rattle.run_report.specs.declared.status.Status.TheVariants.{Ok, NotAllYes, Usage, Refused, ReadFault, WriteFault, FileFault, WireFault, PageFault, NoMemory, NotFound, TurnsSpent}
 use Rattle.run_report.specs.Report.{IsFixed}
 use Rattle.site_inputs.specs.Outside.{Host, PutsRose}
 use Rattle.site_inputs.specs.Runs.{IsDecided, Decides, ReadsHaveCause, UnreadRose}
@@ -35,6 +35,7 @@ module _ {A : Type 0} (report_of : A → Report) where
   answer_as P Q old new TurnsSpent to h = h
   answer_as P Q old new (Refused file number place) to h = to _ h
   answer_as P Q old new (ReadFault path) to h = to _ h
+  answer_as P Q old new (FileFault path) to h = h
   answer_as P Q old new (PageFault term kind) to h = to _ h
   answer_as P Q old new NotFound to h = to _ h
 
@@ -97,6 +98,7 @@ module _ {A : Type 0} (report_of : A → Report) where
         inl (by_answer (prelude.Err (fault.Refused (record { file = file; number = number; place = place }))) answer _ refl ends tt tt its d)
     exact_answer paths (ReadFault path) ends read write = λ answer its d no_read no_write. absurd (no_read path read.0 read.1)
     exact_answer paths WriteFault ends read write = λ answer its d no_read no_write. absurd (no_write (write refl))
+    exact_answer paths (FileFault path) ends read write = absurd ends
     exact_answer paths (PageFault term kind) ends read write = λ answer its d no_read no_write. inl (by_answer (prelude.Err (fault.Faulty term kind)) answer _ refl ends tt tt its d)
     exact_answer paths NoMemory ends read write = λ answer its d no_read no_write. inr refl
     exact_answer paths NotFound ends read write = λ answer its d no_read no_write. inl (by_answer (prelude.Err fault.NotFound) answer _ refl ends tt tt its d)

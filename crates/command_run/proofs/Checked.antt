@@ -8,7 +8,7 @@ use Rattle.run_report.specs.declared.reports.Report.{Report}
 use Rattle.site_inputs.specs.declared.fault.Fault.{Fault}
 use Rattle.site_inputs.specs.declared.fault.Fault.TheVariants as fault
 use Rattle.run_report.specs.declared.status.Status.{Status}
-use Rattle.run_report.specs.declared.status.Status.TheVariants.{Ok, NotAllYes, Usage, Refused, ReadFault, WriteFault, WireFault, PageFault, NoMemory, NotFound, TurnsSpent}
+use Rattle.run_report.specs.declared.status.Status.TheVariants.{Ok, NotAllYes, Usage, Refused, ReadFault, WriteFault, FileFault, WireFault, PageFault, NoMemory, NotFound, TurnsSpent}
 use Rattle.site_inputs.specs.Outside.{Host, Outside, PutsRose, AllRead, HasStatus, outside}
 use Rattle.site_inputs.specs.Runs.{IsDecidedFault, Decides}
 use Rattle.site_inputs.specs.Statuses.{ReadRose, status_of}
@@ -61,6 +61,7 @@ module _ (map : FileMap) (query_path constraints_path : List ℕ) where
     accepted wanted its (Refused file number place) ends read write all no_put = absurd (no_fault (fault.Refused (record { file = file; number = number; place = place })) wanted ends its tt)
     accepted wanted its (ReadFault path) ends read write all no_put = absurd (all path read.0 read.1)
     accepted wanted its WriteFault ends read write all no_put = absurd (no_put (write refl))
+    accepted wanted its (FileFault path) ends read write all no_put = absurd ends
     accepted wanted its (PageFault term kind) ends read write all no_put = absurd (no_fault (fault.Faulty term kind) wanted ends its tt)
     accepted wanted its NoMemory ends read write all no_put = inr refl
     accepted wanted its NotFound ends read write all no_put = absurd (no_fault fault.NotFound wanted ends its tt)
@@ -83,6 +84,7 @@ module _ (map : FileMap) (query_path constraints_path : List ℕ) where
     refused reason its d (Refused file number place) ends read write all no_put = by_fault (fault.Refused (record { file = file; number = number; place = place })) reason ends tt all its d
     refused reason its d (ReadFault path) ends read write all no_put = absurd (all path read.0 read.1)
     refused reason its d WriteFault ends read write all no_put = absurd (no_put (write refl))
+    refused reason its d (FileFault path) ends read write all no_put = absurd ends
     refused reason its d (PageFault term kind) ends read write all no_put = by_fault (fault.Faulty term kind) reason ends tt all its d
     refused reason its d NoMemory ends read write all no_put = inr refl
     refused reason its d NotFound ends read write all no_put = by_fault fault.NotFound reason ends tt all its d

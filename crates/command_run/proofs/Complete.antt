@@ -15,18 +15,18 @@ use Rattle.command_build.proofs.Law.{build_ends_well}
 use Rattle.command_serve.proofs.Law.{serving_ends_well}
 use Rattle.command_replay.proofs.Law.{replay_ends_well}
 use Rattle.command_spec.specs.Inputs.{inputs_of_command, given_inputs}
-use Rattle.command_run.specs.Top.{Ends, RunEnds, WriteRose}
+use Rattle.command_run.specs.Top.{Ends, RunEnds}
 use Rattle.command_run.specs.Complete.{Follows, IsComplete}
 
 module _ (contents : Option FileMap) (before after : Outside) where
-  abbrev Wrote : Option Command → Type 0
-  Wrote given = WriteRose given contents before.host.failed_writes after.host.failed_writes (PutsRose before.host after.host)
+  abbrev Wrote : Type 0
+  Wrote = PutsRose before.host after.host
 
   abbrev Read : List (List ℕ) → Status → Type 0
   Read paths = ReadRose paths before.host.failed_reads after.host.failed_reads
 
   complete_end : (given : Command) (reached : Status)
-      → Ends given before after reached → Read (inputs_of_command given) reached → (reached ≡ status.WriteFault → Wrote (Some given)) → (reached ≡ status.WireFault → EventsRose before.wire after.wire)
+      → Ends given before after reached → Read (inputs_of_command given) reached → (reached ≡ status.WriteFault → Wrote) → (reached ≡ status.WireFault → EventsRose before.wire after.wire)
       → IsComplete given before after reached
   complete_end (command.Build c) reached ends read write wire = λ all. build_ends_well c before.host after.host reached ends read all
   complete_end (command.Serve c) reached ends read write wire = λ all. serving_ends_well c before after reached ends read write wire all
@@ -35,12 +35,12 @@ module _ (contents : Option FileMap) (before after : Outside) where
   complete_end (command.Report c) reached ends read write wire = λ all. tt
 
   complete_run : (given : Option Command) (command : Command) (reached : Status)
-      → given ≡ Some command → RunEnds given before after reached → Read (given_inputs given) reached → (reached ≡ status.WriteFault → Wrote given) → (reached ≡ status.WireFault → EventsRose before.wire after.wire)
+      → given ≡ Some command → RunEnds given before after reached → Read (given_inputs given) reached → (reached ≡ status.WriteFault → Wrote) → (reached ≡ status.WireFault → EventsRose before.wire after.wire)
       → IsComplete command before after reached
   complete_run given command reached is_given ends read write wire =
       complete_end command reached (subst (λ (g : Option Command). RunEnds g before after reached) is_given ends)
       (subst (λ (g : Option Command). Read (given_inputs g) reached) is_given read)
-      (λ e. subst (λ (g : Option Command). Wrote g) is_given (write e)) wire
+      write wire
 
   -- out of memory for the report
   short_run : (given : Command) (reached : Status) → reached ≡ status.NoMemory → Follows given before after reached
@@ -63,7 +63,7 @@ module _ (reads reads_now writes writes_now : List ℕ → ℕ) (output output_n
 
   pub complete_told : (o n : Option FileMap) (map : FileMap) (given : Option Command) (command : Command) (reached reported : Status)
       → given ≡ Some command → IsSomeAnd n (λ now. RunEnds given (Before map) (After now) reached) → ReadRose (given_inputs given) reads reads_now reached
-      → (reached ≡ status.WriteFault → WriteRose given o writes writes_now (Rose puts puts_now)) → (reached ≡ status.WireFault → Rose wire.next_faults wire_now.next_faults)
+      → (reached ≡ status.WriteFault → Rose puts puts_now) → (reached ≡ status.WireFault → Rose wire.next_faults wire_now.next_faults)
       → (reported ≡ reached) ⊎ (reported ≡ status.NoMemory) → IsSomeAnd n (λ now. IsComplete command (Before map) (After now) reported)
   complete_told o None map given command reached reported is_given ends read write wire_rose is = ends
   complete_told o (Some now) map given command reached reported is_given ends read write wire_rose is =

@@ -6,7 +6,7 @@ use Rattle.edge_io.specs.Files.{FileMap}
 use Rattle.site_inputs.specs.declared.fault.Fault.{Fault}
 use Rattle.site_inputs.specs.declared.fault.Fault.TheVariants as fault
 use Rattle.run_report.specs.declared.status.Status.{Status}
-use Rattle.run_report.specs.declared.status.Status.TheVariants.{Usage, NoMemory}
+use Rattle.run_report.specs.declared.status.Status.TheVariants.{Usage, NoMemory, FileFault}
 use Rattle.command_spec.specs.declared.Command.{Command}
 use Rattle.command_spec.specs.declared.Command.TheVariants as command
 use Rattle.command_spec.specs.declared.TextCommand.{TextCommand}
@@ -28,7 +28,7 @@ use Rattle.command_build.specs.Ends.{BuildEnds, FileRose}
 use Rattle.command_spec.specs.Inputs.{inputs_of_command, inputs_of_report, inputs_of_text, given_inputs}
 use Rattle.command_answers.specs.Texts.{TextAnswers}
 use Rattle.command_answers.specs.Reports.{ReportAnswers}
-use Rattle.command_run.specs.Top.{AnswerEnds, text_report, Ends, RunEnds, WriteRose, WritesNoFile, UsesNoWire}
+use Rattle.command_run.specs.Top.{AnswerEnds, text_report, Ends, RunEnds, FileFaultRose, WritesNoFile, UsesNoWire}
 use Rattle.command_run.proofs.Answered.{answer_as, answer_read_rose, memory_answer_ends}
 use Rattle.command_run.proofs.Memory.{memory_build_ends, memory_replay_ends, memory_serve_ends}
 
@@ -157,22 +157,35 @@ serve_uses given c is h = subst (λ (d : Command). UsesNoWire (Some d)) is h
 pub build_writes : (given : Command) (c : BuildCommand) → given ≡ command.Build c → WritesNoFile (Some given) → ⊥
 build_writes given c is h = subst (λ (d : Command). WritesNoFile (Some d)) is h
 
--- ---- a fault of writing
+-- ---- a fault of writing a file
 
-pub text_write_rose : (given : Command) (c : TextCommand) (contents : Option FileMap) (before now : List ℕ → ℕ) (P : Type 0) → given ≡ command.Text c → P → WriteRose (Some given) contents before now P
-text_write_rose given c contents before now P is p = subst (λ (d : Command). WriteRose (Some d) contents before now P) (sym is) p
+pub build_file_rose : (given : Command) (c : BuildCommand) (contents : Option FileMap) (before now : List ℕ → ℕ) (status : Status) → given ≡ command.Build c
+    → ((path : List ℕ) → status ≡ FileFault path → FileRose contents c before now path) → FileFaultRose (Some given) contents before now status
+build_file_rose given c contents before now status is rose = subst (λ (d : Command). FileFaultRose (Some d) contents before now status) (sym is) (of_build status rose)
+  where
+    of_build : (s : Status) → ((path : List ℕ) → s ≡ FileFault path → FileRose contents c before now path) → FileFaultRose (Some (command.Build c)) contents before now s
+    of_build (FileFault path) rose = rose path refl
+    of_build s rose = tt
 
-pub report_write_rose : (given : Command) (c : ReportCommand) (contents : Option FileMap) (before now : List ℕ → ℕ) (P : Type 0) → given ≡ command.Report c → P → WriteRose (Some given) contents before now P
-report_write_rose given c contents before now P is p = subst (λ (d : Command). WriteRose (Some d) contents before now P) (sym is) p
+pub given_file_rose : (given : Option Command) (c : Command) (contents : Option FileMap) (before now : List ℕ → ℕ) (status : Status) → given ≡ Some c
+    → FileFaultRose (Some c) contents before now status → FileFaultRose given contents before now status
+given_file_rose given c contents before now status is h = subst (λ (g : Option Command). FileFaultRose g contents before now status) (sym is) h
 
-pub serve_write_rose : (given : Command) (c : ServeCommand) (contents : Option FileMap) (before now : List ℕ → ℕ) (P : Type 0) → given ≡ command.Serve c → P → WriteRose (Some given) contents before now P
-serve_write_rose given c contents before now P is p = subst (λ (d : Command). WriteRose (Some d) contents before now P) (sym is) p
+-- a command that is no build
+pub no_file_rose : (given other : Command) (contents : Option FileMap) (before now : List ℕ → ℕ) (status : Status) → given ≡ other
+    → FileFaultRose (Some other) contents before now status → FileFaultRose (Some given) contents before now status
+no_file_rose given other contents before now status is h = subst (λ (d : Command). FileFaultRose (Some d) contents before now status) (sym is) h
 
-pub replay_write_rose : (given : Command) (c : ReplayCommand) (contents : Option FileMap) (before now : List ℕ → ℕ) (P : Type 0) → given ≡ command.Replay c → P → WriteRose (Some given) contents before now P
-replay_write_rose given c contents before now P is p = subst (λ (d : Command). WriteRose (Some d) contents before now P) (sym is) p
-
-pub build_write_rose : (given : Command) (c : BuildCommand) (contents : Option FileMap) (before now : List ℕ → ℕ) (P : Type 0) → given ≡ command.Build c → P ⊎ FileRose contents c before now → WriteRose (Some given) contents before now P
-build_write_rose given c contents before now P is p = subst (λ (d : Command). WriteRose (Some d) contents before now P) (sym is) p
-
-pub given_write_rose : (given : Option Command) (c : Command) (contents : Option FileMap) (before now : List ℕ → ℕ) (P : Type 0) → given ≡ Some c → WriteRose (Some c) contents before now P → WriteRose given contents before now P
-given_write_rose given c contents before now P is p = subst (λ (g : Option Command). WriteRose g contents before now P) (sym is) p
+-- the status after its line
+pub reported_file_rose : (given : Option Command) (contents : Option FileMap) (before now : List ℕ → ℕ) (status reported : Status)
+    → FileFaultRose given contents before now status → (reported ≡ status) ⊎ (reported ≡ NoMemory) → FileFaultRose given contents before now reported
+reported_file_rose given contents before now status reported h (inl same) = subst (FileFaultRose given contents before now) (sym same) h
+reported_file_rose given contents before now status reported h (inr memory) = subst (FileFaultRose given contents before now) (sym memory) (of given)
+  where
+    of : (g : Option Command) → FileFaultRose g contents before now NoMemory
+    of None = tt
+    of (Some (command.Text c)) = tt
+    of (Some (command.Report c)) = tt
+    of (Some (command.Build c)) = tt
+    of (Some (command.Serve c)) = tt
+    of (Some (command.Replay c)) = tt

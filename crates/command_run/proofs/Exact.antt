@@ -18,12 +18,9 @@ use Rattle.command_spec.specs.Inputs.{inputs_of_command, inputs_of_report, input
 use Rattle.command_answers.specs.Texts.{TextAnswers}
 use Rattle.command_answers.specs.Reports.{HasOneReport, ReportAnswers}
 use Rattle.command_answers.proofs.Law.{text_answer_decides, report_answer_decides}
-use Rattle.command_run.specs.Top.{AnswerEnds, text_report, Ends, RunEnds, WriteRose, IsExact, IsExactEnd}
+use Rattle.command_run.specs.Top.{AnswerEnds, text_report, Ends, RunEnds, IsExact, IsExactEnd}
 use Rattle.command_run.proofs.Answered.{exact_answer}
 use Rattle.command_run.proofs.Checked.{exact_check}
-
-abbrev Wrote : Option FileMap → Option Command → Host → Host → Type 0
-Wrote contents given before after = WriteRose given contents before.failed_writes after.failed_writes (PutsRose before after)
 
 module _ (contents : Option FileMap) (before after : Outside) where
   exact_report : (c : ReportCommand) → HasOneReport c → (status : Status) → AnswerEnds (λ report. report) (ReportAnswers before.host.files c) before.host.output after.host.output status
@@ -31,7 +28,7 @@ module _ (contents : Option FileMap) (before after : Outside) where
   exact_report c one status ends read write = exact_answer (λ (r : Report). r) (ReportAnswers before.host.files c) (report_answer_decides before.host.files c one) before.host after.host (inputs_of_report c) status ends read write
 
   exact_end : (given : Command) (status : Status)
-      → Ends given before after status → ReadRose (inputs_of_command given) before.host.failed_reads after.host.failed_reads status → (status ≡ WriteFault → Wrote contents (Some given) before.host after.host) → IsExact given before.host after.host status
+      → Ends given before after status → ReadRose (inputs_of_command given) before.host.failed_reads after.host.failed_reads status → (status ≡ WriteFault → PutsRose before.host after.host) → IsExact given before.host after.host status
   exact_end (command.Text c) status ends read write = exact_answer text_report (TextAnswers before.host.files c) (text_answer_decides before.host.files c) before.host after.host (inputs_of_text c) status ends read write
   exact_end (command.Report (CheckAll c)) status ends read write = exact_check before.host.files c.query c.constraints before.host after.host status ends read write
   exact_end (command.Report (Check c)) status ends read write = exact_report (Check c) tt status ends read write
@@ -41,11 +38,10 @@ module _ (contents : Option FileMap) (before after : Outside) where
   exact_end (command.Replay c) status ends read write = tt
 
   exact_run : (given : Option Command) (command : Command) (status : Status)
-      → given ≡ Some command → RunEnds given before after status → ReadRose (given_inputs given) before.host.failed_reads after.host.failed_reads status → (status ≡ WriteFault → Wrote contents given before.host after.host) → IsExact command before.host after.host status
+      → given ≡ Some command → RunEnds given before after status → ReadRose (given_inputs given) before.host.failed_reads after.host.failed_reads status → (status ≡ WriteFault → PutsRose before.host after.host) → IsExact command before.host after.host status
   exact_run given command status is_given ends read write =
       exact_end command status (subst (λ (g : Option Command). RunEnds g before after status) is_given ends)
-      (subst (λ (g : Option Command). ReadRose (given_inputs g) before.host.failed_reads after.host.failed_reads status) is_given read)
-      (λ e. subst (λ (g : Option Command). Wrote contents g before.host after.host) is_given (write e))
+      (subst (λ (g : Option Command). ReadRose (given_inputs g) before.host.failed_reads after.host.failed_reads status) is_given read) write
 
   memory_exact : (given : Command) (reported : Status) → reported ≡ NoMemory → IsExact given before.host after.host reported
   memory_exact (command.Text c) reported memory = λ answer its d no_read no_write. inr memory
@@ -74,7 +70,7 @@ module _ (reads reads_now writes writes_now : List ℕ → ℕ) (output output_n
 
   pub exact_told : (o n : Option FileMap) (map : FileMap) (given : Option Command) (command : Command) (status reported : Status)
       → given ≡ Some command → IsSomeAnd n (λ now. RunEnds given (Before map) (After now) status) → ReadRose (given_inputs given) reads reads_now status
-      → (status ≡ WriteFault → WriteRose given o writes writes_now (Rose puts puts_now)) → (reported ≡ status) ⊎ (reported ≡ NoMemory)
+      → (status ≡ WriteFault → Rose puts puts_now) → (reported ≡ status) ⊎ (reported ≡ NoMemory)
       → IsSomeAnd n (λ now. IsExact command (host map reads writes output puts) (host now reads_now writes_now output_now puts_now) reported)
   exact_told o None map given command status reported is_given ends read write is = ends
   exact_told o (Some now) map given command status reported is_given ends read write is =

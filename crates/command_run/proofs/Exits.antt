@@ -62,6 +62,7 @@ module _ (contents : Option FileMap) (reads writes : List ℕ → ℕ) (output :
     complete = λ map told c is. absurd (not_given Command c is);
     read_cause = none_read reason reads reads;
     write_cause = λ e. absurd (no_write_fault reason e);
+    file_cause = tt;
     whole_line = whole;
     part_line = part;
   }

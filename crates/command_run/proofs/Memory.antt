@@ -5,7 +5,7 @@ use Rattle.std.specs.Prelude as prelude
 use Rattle.edge_io.specs.Files.{FileMap}
 use Rattle.site_inputs.specs.declared.fault.Fault.TheVariants as fault
 use Rattle.run_report.specs.declared.status.Status.{Status}
-use Rattle.run_report.specs.declared.status.Status.TheVariants.{Ok, NotAllYes, Usage, Refused, ReadFault, WriteFault, WireFault, PageFault, NoMemory, NotFound, TurnsSpent}
+use Rattle.run_report.specs.declared.status.Status.TheVariants.{Ok, NotAllYes, Usage, Refused, ReadFault, WriteFault, FileFault, WireFault, PageFault, NoMemory, NotFound, TurnsSpent}
 use Rattle.command_spec.specs.declared.DataFiles.{DataFiles}
 use Rattle.command_spec.specs.declared.BuildCommand.{BuildCommand}
 use Rattle.command_spec.specs.declared.ServeCommand.{ServeCommand}
@@ -46,12 +46,16 @@ ok_no_memory reported ok memory = cc
 write_no_memory : (reported : Status) → reported ≡ WriteFault → reported ≡ NoMemory → ⊥
 write_no_memory reported write memory = cc
 
+file_no_memory : (path : List ℕ) (reported : Status) → reported ≡ FileFault path → reported ≡ NoMemory → ⊥
+file_no_memory path reported file memory = cc
+
 module _ (command : BuildCommand) (before after : Host) where
   pub memory_build_ends : (status reported : Status)
       → BuildEnds command before after status → (IsSilent status → after.output ≡ before.output) → (IsFixed status → reported ≡ status) → reported ≡ NoMemory → BuildEnds command before after NoMemory
   memory_build_ends Ok reported ends silent fixed memory = absurd (ok_no_memory reported (fixed tt) memory)
   memory_build_ends WriteFault reported ends silent fixed memory = absurd (write_no_memory reported (fixed tt) memory)
   memory_build_ends NoMemory reported ends silent fixed memory = ends
+  memory_build_ends (FileFault path) reported ends silent fixed memory = absurd (file_no_memory path reported (fixed tt) memory)
   memory_build_ends (PageFault term kind) reported ends silent fixed memory = (inr (faulty_is_no_memory before.files after.files command term kind ends), silent tt)
   memory_build_ends (Refused file number place) reported ends silent fixed memory = (inl ends.1, silent tt)
   memory_build_ends (ReadFault path) reported ends silent fixed memory = (inl ends.1, silent tt)
@@ -77,6 +81,7 @@ module _ (command : ReplayCommand) (before after : Host) (reported : Status) whe
   memory_replay_ends NotFound ends silent fixed memory = subst (ReplayEnds command before after) (fixed_memory NotFound reported tt fixed memory) ends
   memory_replay_ends (Refused file number place) ends silent fixed memory = replay_no_memory command before after (silent tt)
   memory_replay_ends (ReadFault path) ends silent fixed memory = replay_no_memory command before after (silent tt)
+  memory_replay_ends (FileFault path) ends silent fixed memory = subst (ReplayEnds command before after) (fixed_memory (FileFault path) reported tt fixed memory) ends
   memory_replay_ends (PageFault term kind) ends silent fixed memory = replay_no_memory command before after (silent tt)
 
 module _ (command : ServeCommand) (before after : Outside) (reported : Status) where
@@ -96,4 +101,5 @@ module _ (command : ServeCommand) (before after : Outside) (reported : Status) w
   memory_serve_ends NotFound ends fixed memory = subst (ServeEnds command before after) (fixed_memory NotFound reported tt fixed memory) ends
   memory_serve_ends (Refused file number place) ends fixed memory = unread_serve (Refused file number place) tt ends
   memory_serve_ends (ReadFault path) ends fixed memory = unread_serve (ReadFault path) tt ends
+  memory_serve_ends (FileFault path) ends fixed memory = subst (ServeEnds command before after) (fixed_memory (FileFault path) reported tt fixed memory) ends
   memory_serve_ends (PageFault term kind) ends fixed memory = unread_serve (PageFault term kind) tt ends

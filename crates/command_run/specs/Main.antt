@@ -18,7 +18,7 @@ use Rattle.site_inputs.specs.Outside.{Host, Outside, host, outside, EventsRose}
 use Rattle.site_inputs.specs.Statuses.{ReadRose, IsSilent}
 use Rattle.command_run.specs.Complete.{IsComplete}
 use Rattle.command_run.specs.Top.{RunEnds, IsExact, AnswersHold, FindingsAreTold}
-use Rattle.command_run.specs.Top.{WriteRose, WritesNoFile, UsesNoWire}
+use Rattle.command_run.specs.Top.{FileFaultRose, WritesNoFile, UsesNoWire}
 use Rattle.command_run.specs.declared.no_words.NoWords.{NoWords}
 use Rattle.command_run.specs.declared.no_words.NoWords.TheVariants.{Unreadable, NoMemory}
 
@@ -102,9 +102,9 @@ module _ (given : Option Command) (before after : Seen) where
     pub complete : OfCommand (λ command map now.
         IsComplete command (outside_seen before map) (outside_seen after now) reached)
     pub read_cause : ReadRose (given_inputs given) before.failed_reads after.failed_reads reached
-    pub write_cause : reached ≡ WriteFault
-        → WriteRose given before.contents before.failed_writes after.failed_writes
-        (Rose before.failed_puts after.failed_puts)
+    pub write_cause : reached ≡ WriteFault → Rose before.failed_puts after.failed_puts
+    pub file_cause
+        : FileFaultRose given before.contents before.failed_writes after.failed_writes reached
     pub whole_line : ¬ Rose before.failed_lines after.failed_lines
         → Gains before.error after.error (line reached)
     pub part_line : GainsPart before.error after.error (line reached)

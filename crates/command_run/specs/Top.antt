@@ -22,7 +22,7 @@ use Rattle.command_lint.specs.Law.{TellsFindings}
 use Rattle.command_serve.specs.Ends.{ServeEnds}
 use Rattle.command_replay.specs.Ends.{ReplayEnds}
 use Rattle.run_report.specs.declared.status.Status.{Status}
-use Rattle.run_report.specs.declared.status.Status.TheVariants.{Ok, NotAllYes, Usage, Refused, ReadFault, WriteFault}
+use Rattle.run_report.specs.declared.status.Status.TheVariants.{Ok, NotAllYes, Usage, Refused, ReadFault, WriteFault, FileFault}
 use Rattle.run_report.specs.declared.status.Status.TheVariants.{WireFault, PageFault, NoMemory, NotFound, TurnsSpent}
 
 -- a text as a report: all is well
@@ -57,6 +57,7 @@ module _ {A : Type 0} (report_of : A → Report) (Answer : Result A Fault → Ty
   AnswerEnds (Refused file number place) =
       Answer (prelude.Err (fault.Refused (record { file = file; number = number; place = place })))
   AnswerEnds (ReadFault path) = Answer (prelude.Err (fault.Unread path))
+  AnswerEnds (FileFault path) = ⊥
   AnswerEnds (PageFault term kind) = Answer (prelude.Err (fault.Faulty term kind))
   AnswerEnds NotFound = Answer (prelude.Err fault.NotFound)
 
@@ -86,14 +87,13 @@ abbrev pub WritesNoFile : Option Command → Type 0
 WritesNoFile (prelude.Some (command.Build c)) = ⊥
 WritesNoFile given = ⊤
 
--- A fault of writing comes only where the count of the output rose, or that of one of the files of a build's site. The
--- contents are those of the files before the run, where they are reported.
-abbrev pub WriteRose
-    : Option Command → (contents : Option FileMap) → (before now : List ℕ → ℕ)
-    → (PutsRose : Type 0) → Type 0
-WriteRose (prelude.Some (command.Build c)) contents before now PutsRose =
-    PutsRose ⊎ FileRose contents c before now
-WriteRose given contents before now PutsRose = PutsRose
+-- The fault of a file that a build can't write is one of a file of its site, whose count rose. The contents are those of
+-- the files before the run, where they are reported.
+abbrev pub FileFaultRose
+    : Option Command → (contents : Option FileMap) → (before now : List ℕ → ℕ) → Status → Type 0
+FileFaultRose (prelude.Some (command.Build c)) contents before now (FileFault path) =
+    FileRose contents c before now path
+FileFaultRose given contents before now status = ⊤
 
 -- the status of an answer whose text is put whole, with which all is well or not
 abbrev pub answer_status : {A : Type 0} → (report_of : A → Report) → Result A Fault → Status

@@ -12,7 +12,7 @@ ghost use Rattle.site_inputs.specs.Outside.{host, outside};
 ghost use Rattle.command_run.specs.Complete.{IsComplete};
 ghost use Rattle.command_spec.specs.Inputs.{inputs_of_command, given_inputs};
 ghost use Rattle.command_run.specs.Top.{Ends, AnswerEnds, text_report, RunEnds, IsExact, AnswersHold};
-ghost use Rattle.command_run.specs.Top.{FindingsAreTold, WriteRose, WritesNoFile, UsesNoWire};
+ghost use Rattle.command_run.specs.Top.{FindingsAreTold, FileFaultRose, WritesNoFile, UsesNoWire};
 ghost use Rattle.command_run.specs.IsRun.{AnswerPuts, CommandCourse, Course, CourseThenLine};
 
 use crate::given::GivenWords;
@@ -109,10 +109,9 @@ fn run_command<L: Trace, F: Files<Log = L>, O: Sink<Log = L>, W: Wire<Log = L>>(
         → Rose (W.told wire.old).next_faults (W.told wire.new).next_faults }
     ensures read_cause { ReadRose (inputs_of_command command.now)
         (F.failed_reads files.old) (F.failed_reads files.new) result }
-    ensures write_cause { result ≡ Status.WriteFault
-        → WriteRose (Some command.now) (F.contents files.old)
-        (F.failed_writes files.old) (F.failed_writes files.new)
-        (Rose (O.failed out.old) (O.failed out.new)) }
+    ensures write_cause { result ≡ Status.WriteFault → Rose (O.failed out.old) (O.failed out.new) }
+    ensures file_cause { FileFaultRose (Some command.now) (F.contents files.old)
+        (F.failed_writes files.old) (F.failed_writes files.new) result }
     ensures course { (course : List Happening) × (L.events log.new ≡ L.events log.old ++ course)
         × CommandCourse (O.stream out.old) (F.contents files.old) (W.told wire.old)
         (W.told wire.new) command.now course result }
@@ -162,10 +161,9 @@ fn run<L: Trace, F: Files<Log = L>, O: Sink<Log = L>, W: Wire<Log = L>>(
         → Rose (W.told wire.old).next_faults (W.told wire.new).next_faults }
     ensures read_cause { ReadRose (given_inputs (command words.now))
         (F.failed_reads files.old) (F.failed_reads files.new) result }
-    ensures write_cause { result ≡ Status.WriteFault
-        → WriteRose (command words.now) (F.contents files.old)
-        (F.failed_writes files.old) (F.failed_writes files.new)
-        (Rose (O.failed out.old) (O.failed out.new)) }
+    ensures write_cause { result ≡ Status.WriteFault → Rose (O.failed out.old) (O.failed out.new) }
+    ensures file_cause { FileFaultRose (command words.now) (F.contents files.old)
+        (F.failed_writes files.old) (F.failed_writes files.new) result }
     ensures course { (course : List Happening) × (L.events log.new ≡ L.events log.old ++ course)
         × Course (O.stream out.old) (F.contents files.old) (W.told wire.old) (W.told wire.new)
         (command words.now) course result }
@@ -242,13 +240,13 @@ pub fn strudel<L: Trace, F: Files<Log = L>, O: Sink<Log = L>, E: Sink<Log = L>, 
         (O.text out.new) (O.failed out.new) (W.told wire.new))
         result))) }
 
-    // A fault of the outside comes only where its count rose, and one of reading only of a file of the command.
+    // A fault of the outside comes only if its count rose, one of reading only of a file of the command, and one of writing
+    // only of the output, or of a file of a build's site.
     ensures read_cause { ReadRose (given_inputs (command words.now))
         (F.failed_reads files.old) (F.failed_reads files.new) result }
-    ensures write_cause { result ≡ Status.WriteFault
-        → WriteRose (command words.now) (F.contents files.old)
-        (F.failed_writes files.old) (F.failed_writes files.new)
-        (Rose (O.failed out.old) (O.failed out.new)) }
+    ensures write_cause { result ≡ Status.WriteFault → Rose (O.failed out.old) (O.failed out.new) }
+    ensures file_cause { FileFaultRose (command words.now) (F.contents files.old)
+        (F.failed_writes files.old) (F.failed_writes files.new) result }
 
     // The line on `err`.
     ensures line { ¬ Rose (E.failed err.old) (E.failed err.new)

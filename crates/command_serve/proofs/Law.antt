@@ -41,8 +41,8 @@ module _ (command : ServeCommand) (before after : Outside) where
   over s (status.ReadFault path) ends write wire turns no_put no_event = absurd ends
   over s status.Usage ends write wire turns no_put no_event = absurd ends
   over s status.NotAllYes ends write wire turns no_put no_event = absurd ends
-  over s (status.PageFault term kind) ends write wire turns no_put no_event = absurd ends
   over s (status.FileFault path) ends write wire turns no_put no_event = absurd ends
+  over s (status.PageFault term kind) ends write wire turns no_put no_event = absurd ends
   over s status.NotFound ends write wire turns no_put no_event = absurd ends
 
   accepted : (reached : Status) → ServeEnds command before after reached → ReadRose Paths before.host.failed_reads after.host.failed_reads reached → (reached ≡ status.WriteFault → PutsRose before.host after.host) → (reached ≡ status.WireFault → EventsRose before.wire after.wire)

@@ -126,8 +126,8 @@ module _ (s : Inputs) (watch : Option WatchOptions) (options : ServeOptions)
   OverEnds (status.ReadFault path) = ⊥
   OverEnds status.Usage = ⊥
   OverEnds status.NotAllYes = ⊥
-  OverEnds (status.PageFault term kind) = ⊥
   OverEnds (status.FileFault path) = ⊥
+  OverEnds (status.PageFault term kind) = ⊥
   OverEnds status.NotFound = ⊥
 
 module _ (command : ServeCommand) (before after : Outside) (reached : Status) where
@@ -197,8 +197,8 @@ module _ (s : Inputs) (watches : Bool) (options : ServeOptions) (before after : 
   TellingEnds (status.ReadFault path) = ⊥
   TellingEnds status.Usage = ⊥
   TellingEnds status.NotAllYes = ⊥
-  TellingEnds (status.PageFault term kind) = ⊥
   TellingEnds (status.FileFault path) = ⊥
+  TellingEnds (status.PageFault term kind) = ⊥
   TellingEnds status.NotFound = ⊥
 
 -- the wire was let listen, and then what is put over it was put; where listen fails the counts of a run without

@@ -1,6 +1,7 @@
 // The graph of a site.
 ghost use Rattle.std.specs.Prelude.{◌≡◌, IfOk};
 ghost use Rattle.graph_spec.specs.DataGraph.{DataGraph};
+ghost use Rattle.sd_graph.specs.ProgramLimits.{AreWithinProgram};
 ghost use Rattle.compose_spec.specs.Composed.{IsSiteGraph};
 ghost use Rattle.compose.specs.Adding.{AddsAll};
 ghost use Rattle.compose.specs.Listed.{IsListed, AnswersWithin};
@@ -56,7 +57,7 @@ fn add_edges<V: SiteView>(
     add_site(alloc, view, builder, pages, labels, collections)
 }
 
-/// The graph of the view's site over the data graph, within the limits. `terms` are the site's terms, `labels` have all
+/// The graph of the view's site over the data graph, within the limits, which are no greater than the program's. `terms` are the site's terms, `labels` have all
 /// labels of the pages' links, and `collections` the names under which anything else than the data's members is
 /// collected. Each page is asked once for each label, and each collection once.
 /// # Errors
@@ -72,6 +73,7 @@ pub fn site_graph<V: SiteView>(
     limits: Limits,
 ) -> Result<Graph, GraphRefusal>
     requires own { V.Own view.old }
+    requires limits { AreWithinProgram limits }
     requires listed { IsListed (V.site (V.fixed view.old)) graph.now terms.now labels.now
         collections.now }
     ensures own { V.Own view.new }

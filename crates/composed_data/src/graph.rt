@@ -1,6 +1,7 @@
 // The site of a query's blocks over an asker's data, as a graph.
 ghost use Rattle.std.specs.Prelude.{◌≡◌};
 ghost use Rattle.query_blocks.specs.Blocks.{AreCheckedBlocks, scope_of};
+ghost use Rattle.sd_graph.specs.ProgramLimits.{AreWithinProgram};
 ghost use Rattle.composed_data.specs.SiteData.{SiteDataEnds};
 
 use crate::names::collect_names;
@@ -25,6 +26,7 @@ pub fn site_data<A: Asker + Drop>(
     limits: Limits,
 ) -> Result<Graph, GraphRefusal>
     requires asked { A.graph asker ≡ graph.now }
+    requires limits { AreWithinProgram limits }
     requires scoped { AreCheckedBlocks scopes.now.version scopes.now.blocks.items }
     ensures { SiteDataEnds limits graph.now (scope_of scopes.now) result }
 {

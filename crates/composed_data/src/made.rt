@@ -1,5 +1,6 @@
 // The same of data that were just gathered.
 ghost use Rattle.site_spec.specs.Site.{scope_of};
+ghost use Rattle.sd_graph.specs.ProgramLimits.{AreWithinProgram};
 ghost use Rattle.composed_data.specs.SiteData.{SiteDataEnds};
 
 use crate::graph::site_data;
@@ -20,6 +21,7 @@ pub fn composed_data(
     query: &Checked,
     limits: Limits,
 ) -> Result<Graph, GraphRefusal>
+    requires { AreWithinProgram limits }
     ensures { SiteDataEnds limits gathered.graph (scope_of query.now) result }
 {
     let scopes = scopes(alloc, query)?;

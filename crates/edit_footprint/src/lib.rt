@@ -1,7 +1,7 @@
 //! What the pages of a function rest on, and whether an edit of the data can touch them.
 #![tactic(auto)]
 
-ghost use Rattle.std.specs.Prelude.{◌≡◌, ◌<◌, ◌^◌, IfOk, length, map};
+ghost use Rattle.std.specs.Prelude.{◌≡◌, IfOk, map};
 ghost use Rattle.tmpl.specs.Reading.{file_of, named_of};
 ghost use Rattle.query_blocks.specs.Blocks.{body_of, scope_of};
 ghost use Rattle.edit_footprint.specs.Rests as tests;
@@ -20,9 +20,6 @@ use reads::{Reads, gather};
 use sd_value::{NoMemory, Str, sort_and_dedup};
 use std::alloc::Global;
 use tmpl::{NamedTemplate, Templates, uses_of};
-
-// Numbers of blocks have 32 bits.
-const MOST_BLOCKS: usize = 4_294_967_296;
 
 // The number of the function's template.
 fn number_of(names: &[NamedTemplate], function: &Str) -> Option<u32>
@@ -62,8 +59,7 @@ fn blocks_of(
     function: &Str,
     reads: &Reads,
     scopes: &QueryBlocks,
-) -> Result<Vec<u32>, NoMemory>
-    requires { length scopes.now.blocks.items < 2 ^ 32 }
+) -> Result<Vec<usize>, NoMemory>
     ensures { IfOk result (λ ns. ns.items ≡ numbers_from
         (tests.rests_on function.now reads.now.own.items reads.now.others.items
         reads.now.collections.items) 0 (scope_of scopes.now).bodies) }
@@ -85,7 +81,6 @@ fn parts_of(
     function: &Str,
     reads: Reads,
 ) -> Result<FootprintParts, NoMemory>
-    requires { length scopes.now.blocks.items < 2 ^ 32 }
     ensures { IfOk result (λ p. (f : TemplateFile) → AreReads f function.now reads
         → AreParts f (scope_of scopes.now) function.now p) }
 {
@@ -114,7 +109,7 @@ fn parts_of(
     })
 }
 
-/// What the pages of the function rest on. A query of 2^32 blocks or more is out of memory.
+/// What the pages of the function rest on.
 pub fn footprint(
     alloc: Global,
     scopes: &QueryBlocks,
@@ -123,9 +118,6 @@ pub fn footprint(
 ) -> Result<FootprintParts, NoMemory>
     ensures { IfOk result (AreParts (file_of templates.now) (scope_of scopes.now) function.now) }
 {
-    if scopes.blocks.len() >= MOST_BLOCKS {
-        return Err(NoMemory);
-    }
     let reads = reads_of(alloc, templates, function)?;
     parts_of(alloc, scopes, function, reads)
 }

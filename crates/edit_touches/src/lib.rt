@@ -24,7 +24,7 @@ use struql_ast::{Chain, Condition, Operand, PathStep};
 #[derive(Debug, Drop)]
 pub struct FootprintParts {
     pub every: bool,
-    pub blocks: Vec<u32>,
+    pub blocks: Vec<usize>,
     pub labels: Vec<Str>,
     pub collections: Vec<Str>,
 }
@@ -250,15 +250,15 @@ fn some_collection(edit: &Edit, names: &[Str]) -> bool
     false
 }
 
-fn touches_block(scopes: &QueryBlocks, number: u32, edit: &Edit) -> bool
+fn touches_block(scopes: &QueryBlocks, number: usize, edit: &Edit) -> bool
     requires within { number < length scopes.now.blocks.items }
     requires scoped { AreCheckedBlocks scopes.now.version scopes.now.blocks.items }
     ensures { IsTrue result ↔ TouchesBlock edit.now (scope_of scopes.now) number }
 {
-    touches_chain(&scopes.blocks[number as usize].chain, edit)
+    touches_chain(&scopes.blocks[number].chain, edit)
 }
 
-fn some_block(scopes: &QueryBlocks, numbers: &[u32], edit: &Edit) -> bool
+fn some_block(scopes: &QueryBlocks, numbers: &[usize], edit: &Edit) -> bool
     requires within { All (λ i. i < length scopes.now.blocks.items) numbers.now }
     requires scoped { AreCheckedBlocks scopes.now.version scopes.now.blocks.items }
     ensures { IsTrue result ↔ SomeOf (TouchesBlock edit.now (scope_of scopes.now)) numbers.now }

@@ -34,9 +34,6 @@ use sd_value::{Datum, NoMemory, Str, Value, copied_list, copy};
 use std::alloc::Global;
 use std::marker::Model;
 
-// From so many nodes or edges on a store is refused, as its positions are numbers of 32 bits.
-const MOST: usize = 0x8000_0000;
-
 /// A graph with the positions of its edges in two more orders, its labels, and where each of its values is: below the
 /// number of nodes a node, and from there on an edge's end. Names are shared and not copied.
 #[derive(Debug)]
@@ -93,16 +90,13 @@ impl Model for IndexStore {
 }
 
 impl IndexStore {
-    /// The store of the graph.
+    /// The store of the graph. Positions in a graph, which is within the program's limits, are numbers of 32 bits.
     pub fn of(alloc: Global, graph: Graph) -> Result<IndexStore, NoMemory>
         ensures { IfOk result (λ store. store ≡ graph) }
     {
         let nodes = graph.nodes();
         let edges = graph.edges();
         let members = graph.member_pairs();
-        if nodes.len() >= MOST || edges.len() >= MOST || members.len() >= MOST {
-            return Err(NoMemory);
-        }
         let label_ranks = label_ranks(alloc, edges)?;
         let labels = labels_at(alloc, edges, label_ranks.firsts.as_slice())?;
         let by_label = by_rank(alloc, label_ranks.ranks.as_slice())?;

@@ -8,16 +8,10 @@ ghost use Rattle.refute_site.specs.Patterns.{copy_of};
 ghost use Rattle.refute_site.specs.Candidates.{candidate_graph, HasItsVariables, in_copy, stated_beside};
 
 use crate::freezing::{ChainCopy, LabelSet, Pattern, freeze};
-use sd_graph::{GraphBuilder, Limits};
+use sd_graph::{GraphBuilder, PROGRAM_LIMITS};
 use sd_value::NoMemory;
 use std::alloc::Global;
 use struql_ast::{Chain, Operand, Target};
-
-/// No limits of a graph. What is frozen of a query is far within those of the program.
-pub(crate) const UNBOUNDED: Limits = Limits {
-    nodes: u64::MAX,
-    edges: u64::MAX,
-};
 
 /// A graph that may be a counterexample, as what is to be frozen in it.
 #[derive(Clone, Copy)]
@@ -94,7 +88,7 @@ impl Candidate<'_> {
         requires { HasItsVariables self.now }
         ensures { IfOk result (λ builder. builder.graph ≡ candidate_graph self.now) }
     {
-        let mut builder = GraphBuilder::new(alloc, UNBOUNDED);
+        let mut builder = GraphBuilder::new(alloc, PROGRAM_LIMITS);
         self.add(alloc, ChainCopy::First, &mut builder)?;
         self.add_beside(alloc, &mut builder)?;
         Ok(builder)

@@ -21,13 +21,12 @@ mod statements;
 mod values;
 mod words;
 
-use candidate::UNBOUNDED;
 use candidates::candidates_of;
 use constraint_spec::Constraint;
 pub use oracle::Oracle;
 use query_scoping::ScopedQuery;
 use refuting::{first_refuting, refuting};
-use sd_graph::{Graph, GraphBuilder};
+use sd_graph::{Graph, GraphBuilder, PROGRAM_LIMITS};
 use sd_value::NoMemory;
 use std::alloc::Global;
 
@@ -48,7 +47,7 @@ pub fn first_broken<T: Oracle>(
     ensures first { IfOk result (IsFirstBroken (scope_of query.now) constraint.now) }
 {
     let candidates = candidates_of(alloc, query.blocks(), constraint)?;
-    let empty = GraphBuilder::new(alloc, UNBOUNDED);
+    let empty = GraphBuilder::new(alloc, PROGRAM_LIMITS);
     if let Some(refuted) = refuting(alloc, empty, constraint, trial)? {
         return Ok(Some(refuted));
     }

@@ -20,10 +20,10 @@ use Rattle.files_spec.specs.declared.stop.Stop.{Stop}
 use Rattle.files_spec.specs.declared.stop.Stop.TheVariants as stop
 use Rattle.files_spec.specs.Writes.{IsPageWritten, WritesSome, IndexWrites, PagesThenIndex, PagesWrite, SiteWrites}
 use Rattle.files_spec.specs.Paths.{page_path}
-use Rattle.run_report.specs.Told.{IsOnePut, IsTold}
+use Rattle.run_report.specs.Told.{IsOnePut, IsTold, ArePut, file_line}
 use Rattle.run_report.specs.declared.reports.Report.{Report}
 use Rattle.run_report.specs.declared.status.Status.{Status}
-use Rattle.run_report.specs.declared.status.Status.TheVariants.{Ok, NotAllYes, WriteFault, WireFault, NoMemory, TurnsSpent}
+use Rattle.run_report.specs.declared.status.Status.TheVariants.{Ok, NotAllYes, WriteFault, FileFault, WireFault, NoMemory, TurnsSpent}
 use Rattle.command_spec.specs.Inputs.{given_inputs}
 use Rattle.command_spec.specs.declared.Command.{Command}
 use Rattle.command_spec.specs.declared.Command.TheVariants as command
@@ -94,9 +94,15 @@ one_put_quiet : (stream : Stream) (text : List ℕ) (part : List Happening) → 
 one_put_quiet stream text part (inl is) = put_quiet stream text part is
 one_put_quiet stream text part (inr is) = cut_quiet stream text is.0 part is.1
 
+puts_quiet : (stream : Stream) (texts : List (List ℕ)) (part : List Happening) → ArePut stream texts part → Each IsQuiet part
+puts_quiet stream [] part is = none_quiet part is
+puts_quiet stream (text ∷ texts) part (inl h) = each_is IsQuiet part (Put stream text ∷ h.0) h.1 (tt, puts_quiet stream texts h.0 h.2)
+puts_quiet stream (text ∷ texts) part (inr h) = cut_quiet stream text h.0 part h.1
+
 pub told_quiet : (stream : Stream) (s : Status) (part : List Happening) → IsTold stream s part → Each IsQuiet part
 told_quiet stream Ok part is = none_quiet part is
 told_quiet stream NotAllYes part is = none_quiet part is
+told_quiet stream (FileFault path) part is = puts_quiet stream (file_line path) part is
 told_quiet stream s part is = one_put_quiet stream _ part is
 
 end_quiet : (ended : HubEnd) (stream : Stream) (text : List ℕ) (part : List Happening) (s : Status) → EndHappens ended stream text part s → Each IsQuiet part
@@ -132,7 +138,7 @@ module _ (site : Site) (templates : TemplateFile) (folder : List ℕ) where
   index_quiet terms None part ended h = none_quiet part h
   index_quiet terms (Some root) part (prelude.Ok u) (inl h) = subst (Each IsQuiet) (sym h.3) (tt, tt)
   index_quiet terms (Some root) part (prelude.Ok u) (inr h) = none_quiet part h.1
-  index_quiet terms (Some root) part (prelude.Err stop.Unwritten) h = subst (Each IsQuiet) (sym h.1) (tt, tt)
+  index_quiet terms (Some root) part (prelude.Err (stop.Unwritten path)) h = subst (Each IsQuiet) (sym h.2) (tt, tt)
   index_quiet terms (Some root) part (prelude.Err reason) h = none_quiet part h
 
   then_quiet : (terms : List Term) (root : Option (List ℕ)) (part : List Happening) (ended : Result ⊤ Stop) → PagesThenIndex site templates folder terms root part ended → Each IsQuiet part
@@ -141,7 +147,7 @@ module _ (site : Site) (templates : TemplateFile) (folder : List ℕ) where
       (both IsQuiet h.pages h.index (pages_quiet terms h.pages h.written) (index_quiet terms root h.index ended h.then_index))
 
   stopped_quiet : (terms : List Term) (part : List Happening) (reason : Stop) → PagesWrite site templates folder terms part (prelude.Err reason) → Each IsQuiet part
-  stopped_quiet terms part stop.Unwritten h = some_quiet terms (h.0 ∷ []) part h.1
+  stopped_quiet terms part (stop.Unwritten path) h = some_quiet terms (h.0 ∷ []) part h.2
   stopped_quiet terms part reason h = some_quiet terms [] part h
 
   writes_quiet : (terms : List Term) (root : Option (List ℕ)) (part : List Happening) (ended : Result ⊤ Stop) → SiteWrites site templates folder terms root part ended → Each IsQuiet part

@@ -1,3 +1,4 @@
 pub mod OwnLines
 pub mod ToldLines
 pub mod Added
+pub mod FileLine

@@ -5,7 +5,7 @@ use Rattle.happenings.specs.Happening.{Happening, Put, PutFailed}
 use Rattle.happenings.specs.declared.stream.Stream.{Stream}
 use Rattle.run_report.specs.declared.status.Status.{Status}
 use Rattle.run_report.specs.declared.status.Status.TheVariants as status
-use Rattle.run_report.specs.declared.status.Status.TheVariants.{NotAllYes}
+use Rattle.run_report.specs.declared.status.Status.TheVariants.{NotAllYes, FileFault}
 use Rattle.run_report.specs.Report.{line, message}
 use Rattle.run_report.specs.Told.{IsOnePut, TellsText, IsTold}
 
@@ -30,22 +30,23 @@ not_empty : (rest : List ℕ) → codes "strudel: " ++ rest ≡ [] → ⊥
 not_empty rest e = cc
 
 -- the line of a status is its text
-told_of : (s : Status) (stream : Stream) (part : List Happening) → TellsText stream (line s) part → IsTold stream s part
-told_of status.Ok stream part (inl h) = h.1
-told_of status.Ok stream part (inr h) = absurd (h.0 refl)
-told_of NotAllYes stream part (inl h) = h.1
-told_of NotAllYes stream part (inr h) = absurd (h.0 refl)
-told_of s stream part (inl h) = absurd (not_empty (message s ++ codes "\n") h.0)
-told_of s stream part (inr h) = h.1
+told_of : (s : Status) (stream : Stream) (part : List Happening) → ((path : List ℕ) → s ≡ FileFault path → ⊥) → TellsText stream (line s) part → IsTold stream s part
+told_of (FileFault path) stream part other h = absurd (other path refl)
+told_of status.Ok stream part other (inl h) = h.1
+told_of status.Ok stream part other (inr h) = absurd (h.0 refl)
+told_of NotAllYes stream part other (inl h) = h.1
+told_of NotAllYes stream part other (inr h) = absurd (h.0 refl)
+told_of s stream part other (inl h) = absurd (not_empty (message s ++ codes "\n") h.0)
+told_of s stream part other (inr h) = h.1
 
 -- this text was told, and it is the line of the status
 pub line_told : (s : Status) (stream : Stream) (text : List ℕ) (before now : List Happening) → text ≡ line s
-    → Grew (TellsText stream text) before now → Grew (IsTold stream s) before now
-line_told s stream text before now is h = (h.0, h.1, told_of s stream h.0 (subst (λ (t : List ℕ). TellsText stream t h.0) is h.2))
+    → ((path : List ℕ) → s ≡ FileFault path → ⊥) → Grew (TellsText stream text) before now → Grew (IsTold stream s) before now
+line_told s stream text before now is other h = (h.0, h.1, told_of s stream h.0 other (subst (λ (t : List ℕ). TellsText stream t h.0) is h.2))
 
 -- a line that has a part of its own isn't empty
 pub own_told : (s : Status) (stream : Stream) (text : List ℕ) (before now : List Happening) → text ≡ line s
-    → text ≡ codes "strudel: " ++ message s ++ codes "\n"
+    → text ≡ codes "strudel: " ++ message s ++ codes "\n" → ((path : List ℕ) → s ≡ FileFault path → ⊥)
     → Grew (IsOnePut stream text) before now → Grew (IsTold stream s) before now
-own_told s stream text before now is own h =
-    line_told s stream text before now is (put_tells stream before now text (λ e. not_empty (message s ++ codes "\n") (sym own ∙ e)) h)
+own_told s stream text before now is own other h =
+    line_told s stream text before now is other (put_tells stream before now text (λ e. not_empty (message s ++ codes "\n") (sym own ∙ e)) h)

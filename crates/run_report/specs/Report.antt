@@ -113,10 +113,9 @@ line Ok = []
 line NotAllYes = []
 line status = codes "strudel: " ++ message status ++ codes "\n"
 
--- a status whose line has no part of its own
+-- a status whose line needs no memory
 abbrev pub IsFixed : Status → Type 0
 IsFixed (Refused file number place) = ⊥
 IsFixed (ReadFault path) = ⊥
-IsFixed (FileFault path) = ⊥
 IsFixed (PageFault term kind) = ⊥
 IsFixed status = ⊤

@@ -1,5 +1,5 @@
 // The line that reports a status.
-ghost use Rattle.std.specs.Prelude.{◌≡◌, ◌≤◌, ◌⊎◌, ◌++◌, List, OnOk, IfOk, IfSome, IsSome, codes};
+ghost use Rattle.std.specs.Prelude.{◌≡◌, ◌≤◌, ◌⊎◌, ◌++◌, ℕ, List, OnOk, IfOk, IfSome, IsSome, codes};
 ghost use Rattle.std.specs.Fmt.{decimal};
 ghost use Rattle.edge_io.specs.Counts.{Rose};
 ghost use Rattle.edge_io.specs.Sink.{Gains, GainsPart};
@@ -7,7 +7,8 @@ ghost use Rattle.happenings.specs.Happening.{Happening};
 ghost use Rattle.page_spec.specs.Show.{show as show_value, address as address_of};
 ghost use Rattle.run_report.specs.Report.{line, message, shown, page_fault, IsFixed};
 ghost use Rattle.run_report.specs.Report as specs;
-ghost use Rattle.run_report.specs.Told.{TellsText, IsTold};
+ghost use Rattle.run_report.specs.Told.{TellsText, IsTold, ArePut, file_line};
+ghost use Rattle.run_report.specs.declared.status.Status.TheVariants.{FileFault};
 
 use crate::status::{PageKind, Place, Status};
 use address::{address, show};
@@ -181,10 +182,11 @@ fn status_line(alloc: Global, status: &Status) -> Result<Vec<u8>, NoMemory>
 
 const OUT_OF_MEMORY: &[u8] = b"strudel: out of memory\n";
 
-// The line of a status that has no part of its own: it needs no memory.
+// The line of a status that has no part of its own.
 fn fixed_line(status: &Status) -> Option<&'static [u8]>
     ensures line { IfSome result (λ text. text.now ≡ line status.now) }
-    ensures fixed { IsFixed status.now → IsSome result }
+    ensures fixed { IsFixed status.now → ((path : List ℕ) → status.now ≡ FileFault path → ⊥)
+        → IsSome result }
 {
     match status {
         Status::Ok | Status::NotAllYes => Some(b""),
@@ -215,8 +217,26 @@ fn put_line<E: Sink>(text: &[u8], err: &mut E)
     }
 }
 
-/// Writes the line of a status. Where memory is missing for it, the status is out of memory.
-pub fn report<E: Sink>(alloc: Global, status: Status, err: &mut E) -> Status
+// Puts the line that names a file, in parts, so that it needs no memory.
+fn put_file_line<E: Sink>(path: &Str, err: &mut E)
+    ensures whole { ¬ Rose (E.failed err.old) (E.failed err.new)
+        → Gains (E.text err.old) (E.text err.new) (line (FileFault path.now)) }
+    ensures part { GainsPart (E.text err.old) (E.text err.new) (line (FileFault path.now)) }
+    ensures later { E.failed err.old ≤ E.failed err.new }
+    ensures traced { (part : List Happening) × (E.trace err.new ≡ E.trace err.old ++ part)
+        × ArePut (E.stream err.old) (file_line path.now) part }
+{
+    if err.put(b"strudel: cannot write ").is_err() {
+        return;
+    }
+    if err.put(path.bytes()).is_ok() {
+        let _ = err.put(b"\n");
+    }
+}
+
+// Puts the line of a status that names no file.
+fn report_other<E: Sink>(alloc: Global, status: Status, err: &mut E) -> Status
+    requires other { (path : List ℕ) → status ≡ FileFault path → ⊥ }
     ensures status { (result ≡ status) ⊎ (result ≡ Status.NoMemory) }
     ensures fixed { IsFixed status → result ≡ status }
     ensures whole { ¬ Rose (E.failed err.old) (E.failed err.new)
@@ -239,5 +259,25 @@ pub fn report<E: Sink>(alloc: Global, status: Status, err: &mut E) -> Status
             let _ = err.put(OUT_OF_MEMORY);
             Status::NoMemory
         }
+    }
+}
+
+/// Writes the line of a status. If memory is missing for it, the status is out of memory.
+pub fn report<E: Sink>(alloc: Global, status: Status, err: &mut E) -> Status
+    ensures status { (result ≡ status) ⊎ (result ≡ Status.NoMemory) }
+    ensures fixed { IsFixed status → result ≡ status }
+    ensures whole { ¬ Rose (E.failed err.old) (E.failed err.new)
+        → Gains (E.text err.old) (E.text err.new) (line result) }
+    ensures part { GainsPart (E.text err.old) (E.text err.new) (line result) }
+    ensures later { E.failed err.old ≤ E.failed err.new }
+    ensures traced { (part : List Happening) × (E.trace err.new ≡ E.trace err.old ++ part)
+        × IsTold (E.stream err.old) result part }
+{
+    match &status {
+        Status::FileFault { path } => {
+            put_file_line(path, err);
+            status
+        }
+        _ => report_other(alloc, status, err),
     }
 }

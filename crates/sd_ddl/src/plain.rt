@@ -1,5 +1,6 @@
 // A text without directives, read statement by statement.
 ghost use Rattle.std.specs.Prelude.{◌≡◌, ◌+◌, ◌^◌, ◌<◌, length, map, IfSome, IsTrue, OnOk};
+ghost use Rattle.sd_graph.specs.ProgramLimits.{AreWithinProgram};
 ghost use Rattle.sd_graph.specs.Stating.{Leads};
 ghost use Rattle.ddl_text.specs.declared.tree.Statement.TheVariants.{Object};
 ghost use Rattle.sd_ddl.specs.Parts.{parts_of, member_part, edge_part};
@@ -133,6 +134,7 @@ pub(crate) fn read_plainly(
     limit: u64,
     limits: Limits,
 ) -> Option<GraphBuilder>
+    requires { AreWithinProgram limits }
     ensures { IfSome result (ReadsAll limit bytes.now limits) }
 {
     let Ok(start) = text_rest(bytes, limit) else {

@@ -28,8 +28,8 @@ EndPuts ended text old new PutsRose NotAllYes = ⊥
 EndPuts ended text old new PutsRose Usage = ⊥
 EndPuts ended text old new PutsRose (Refused file number place) = ⊥
 EndPuts ended text old new PutsRose (ReadFault path) = ⊥
-EndPuts ended text old new PutsRose (PageFault term kind) = ⊥
 EndPuts ended text old new PutsRose (FileFault path) = ⊥
+EndPuts ended text old new PutsRose (PageFault term kind) = ⊥
 EndPuts ended text old new PutsRose NotFound = ⊥
 
 -- ---- what happened
@@ -48,6 +48,6 @@ EndHappens ended stream text part NotAllYes = ⊥
 EndHappens ended stream text part Usage = ⊥
 EndHappens ended stream text part (Refused file number place) = ⊥
 EndHappens ended stream text part (ReadFault path) = ⊥
-EndHappens ended stream text part (PageFault term kind) = ⊥
 EndHappens ended stream text part (FileFault path) = ⊥
+EndHappens ended stream text part (PageFault term kind) = ⊥
 EndHappens ended stream text part NotFound = ⊥

@@ -2,7 +2,7 @@
 ghost use Rattle.std.specs.Prelude.{⊤, ◌≡◌, ◌≤◌, length, IfErr};
 
 use crate::accepting::{Arrival, take_waiting};
-use crate::crowd::{Crowd, Signal};
+use crate::connections::{Connections, Signal};
 use crate::waits::Waits;
 use byte_queue::CutOff;
 use mio::unix::SourceFd;
@@ -35,7 +35,7 @@ pub struct EventLoop<L, S> {
     listener: L,
     poll: Poll,
     reports: Events,
-    crowd: Crowd<S>,
+    connections: Connections<S>,
     waits: Waits,
     /// How many connections are open at once.
     open: usize,
@@ -81,7 +81,7 @@ impl<
             listener,
             poll,
             reports,
-            crowd: Crowd::new(alloc, waits),
+            connections: Connections::new(alloc, waits),
             waits,
             open: open.max(1),
             is_awaited: true,
@@ -102,16 +102,16 @@ impl<
     /// What comes next of any connection, for which this waits. Nothing where no more connections are taken and none is left,
     /// and where the wait fails or no connection can be taken.
     pub fn next<C: Clock>(&mut self, clock: &C, accepts: bool) -> Option<Signal> {
-        self.crowd.tick(clock);
+        self.connections.tick(clock);
         for _ in 0..u64::MAX {
-            if let Some(token) = self.crowd.next_listed() {
-                let signal = self.crowd.visit(token, &self.poll);
+            if let Some(token) = self.connections.next_listed() {
+                let signal = self.connections.visit(token, &self.poll);
                 if signal.is_some() {
                     return signal;
                 }
                 continue;
             }
-            let is_left = accepts || self.crowd.len() > 0;
+            let is_left = accepts || self.connections.len() > 0;
             if !is_left || self.failed >= TRIES || !self.wait(clock, accepts) {
                 break;
             }
@@ -126,30 +126,31 @@ impl<
         if self.poll.poll(&mut self.reports, timeout).is_err() {
             return false;
         }
-        let now = self.crowd.tick(clock);
+        let now = self.connections.tick(clock);
         self.note_reports();
         if accepts {
             self.accept_all();
         } else {
-            self.crowd.part_unopened();
+            self.connections.part_unopened();
         }
         if now.saturating_sub(self.swept) >= SWEEP {
             self.swept = now;
             self.is_stuck = false;
-            self.crowd.sweep(self.waits, accepts && self.is_awaited);
+            self.connections
+                .sweep(self.waits, accepts && self.is_awaited);
         }
-        self.crowd.begin_round();
+        self.connections.begin_round();
         true
     }
 
     // How long the system is waited for: not at all where connections are listed, and else until the next sweep, if one is
     // open or may be.
     fn timeout(&mut self, accepts: bool) -> Option<Duration> {
-        if self.crowd.is_busy() {
+        if self.connections.is_busy() {
             Some(Duration::from_millis(0))
         } else if accepts && self.is_stuck {
             Some(Duration::from_millis(PAUSE))
-        } else if self.crowd.len() > 0 || (accepts && self.is_awaited) {
+        } else if self.connections.len() > 0 || (accepts && self.is_awaited) {
             Some(Duration::from_millis(SWEEP))
         } else {
             None
@@ -166,7 +167,7 @@ impl<
             if token == LISTENER {
                 self.is_awaited = true;
             } else {
-                self.crowd.wake(token as u64, report.is_read_closed());
+                self.connections.wake(token as u64, report.is_read_closed());
             }
         }
     }
@@ -174,13 +175,13 @@ impl<
     // Takes the connections that wait, while there is room.
     fn accept_all(&mut self) {
         for _ in 0..REPORTS {
-            if !self.is_awaited || self.is_stuck || self.crowd.len() >= self.open {
+            if !self.is_awaited || self.is_stuck || self.connections.len() >= self.open {
                 return;
             }
             match take_waiting(&self.listener) {
                 Arrival::Came(stream) => {
                     self.failed = 0;
-                    self.crowd.admit(stream);
+                    self.connections.admit(stream);
                 }
                 Arrival::Nobody => self.is_awaited = false,
                 Arrival::Failed => self.note_failure(),
@@ -192,39 +193,39 @@ impl<
     // connections that are open give back.
     fn note_failure(&mut self) {
         self.is_stuck = true;
-        if self.crowd.len() == 0 {
+        if self.connections.len() == 0 {
             self.failed = self.failed.saturating_add(1);
         }
     }
 
     /// A connection was opened under this number.
     pub fn name(&mut self, token: u64, number: u64) {
-        self.crowd.name(token, number);
+        self.connections.name(token, number);
     }
 
     /// Sends to a connection, which is let go where that fails.
     pub fn send<C: Clock>(&mut self, clock: &C, token: u64, bytes: &[u8]) -> Result<(), CutOff>
         ensures { IfErr result (λ cut. cut.taken ≤ length bytes.now) }
     {
-        self.crowd.tick(clock);
-        self.crowd.send(token, bytes)
+        self.connections.tick(clock);
+        self.connections.send(token, bytes)
     }
 
     /// Lets a connection go at once.
     pub fn cut(&mut self, token: u64) {
         self.is_stuck = false;
-        self.crowd.remove(token);
+        self.connections.remove(token);
     }
 
     /// Closes a connection: it is let go once it has taken what is queued.
     pub fn part(&mut self, token: u64, refused: bool) {
         self.is_stuck = false;
-        self.crowd.part(token, refused, &self.poll);
+        self.connections.part(token, refused, &self.poll);
     }
 
     /// Closes all connections, and waits until they have taken what is queued or their time is over.
     pub fn finish<C: Clock>(&mut self, clock: &C) {
-        self.crowd.part_all();
+        self.connections.part_all();
         for _ in 0..u64::MAX {
             if self.next(clock, false).is_none() {
                 return;

@@ -2,7 +2,7 @@
 #![tactic(auto)]
 
 mod accepting;
-mod crowd;
+mod connections;
 mod event_loop;
 mod pace;
 mod peer;
@@ -10,7 +10,7 @@ mod piece;
 mod waits;
 
 pub use accepting::listen_at;
-pub use crowd::Signal;
+pub use connections::Signal;
 pub use event_loop::EventLoop;
 pub use peer::News;
 pub use piece::Piece;

@@ -47,6 +47,8 @@ pub struct Peer<S> {
     pub number: u64,
     phase: Phase,
     pace: Pace,
+    /// Its time was over at its last turn.
+    is_late: bool,
     /// It is among those that are visited next.
     pub is_listed: bool,
     /// The system reports when it can be read or written.
@@ -73,6 +75,7 @@ impl<S: Read + Write + OpenStream + AsRawFd + Drop> Peer<S> {
             number: 0,
             phase: Phase::Reading,
             pace: Pace::start(now),
+            is_late: false,
             is_listed: false,
             is_registered: false,
             is_dry: false,
@@ -138,8 +141,27 @@ impl<S: Read + Write + OpenStream + AsRawFd + Drop> Peer<S> {
         self.output = ByteQueue::new(alloc);
     }
 
-    /// Its turn: it takes what it has room for of what is queued, and once that is all it is read.
-    pub fn take_turn(&mut self, alloc: Global, now: u64, buffer: &mut [u8]) -> Option<News> {
+    /// Its turn. It is lost where its time is over and nothing came of it, and where its time was over at its last turn too.
+    /// So one whose bytes waited while the server was busy gives them, and one that sends a byte now and then doesn't stay.
+    pub fn take_turn(
+        &mut self,
+        alloc: Global,
+        now: u64,
+        waits: Waits,
+        buffer: &mut [u8],
+    ) -> Option<News> {
+        let news = self.go_on(alloc, now, buffer);
+        let was_late = self.is_late;
+        self.is_late = self.is_over(now, waits);
+        match news {
+            None if self.is_late && self.is_waiting() => Some(News::Lost),
+            Some(News::Bytes(_)) if self.is_late && was_late => Some(News::Lost),
+            news => news,
+        }
+    }
+
+    // It takes what it has room for of what is queued, and once that is all it is read.
+    fn go_on(&mut self, alloc: Global, now: u64, buffer: &mut [u8]) -> Option<News> {
         if self.flush(now).is_err() {
             return Some(News::Lost);
         }

@@ -69,7 +69,7 @@ IsSent number reply w after =
     Replies number (refuses reply) w.book after.book
     × (after ≡ record w { book = after.book })
 
--- the watched file was read, if that was due, and gave no change
+-- the watched file was looked at, if that was due, and gave no change
 abbrev pub without_change : TcpState → TcpState
 without_change w = record w { watch = option_map (passed w.book.ended) w.watch }
 

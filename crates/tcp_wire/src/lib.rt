@@ -15,6 +15,7 @@ ghost use Rattle.tcp_wire.specs.TcpState.{local_address, parting_of, noted_told,
 
 mod book;
 mod parting;
+mod source;
 mod watch;
 
 use book::Book;
@@ -25,6 +26,7 @@ use parting::{Parting, refuses};
 use sd_value::Str;
 pub use socket_loop::Waits;
 use socket_loop::{EventLoop, News, Piece, Signal, listen_at};
+use source::{Source, time_of};
 use std::alloc::Global;
 use std::marker::Model;
 use std::mem::swap;
@@ -38,16 +40,17 @@ use wire::{Wire, WireEnd, WireEvent};
 /// has room for of what it was sent, and gives what it has sent up to the end of a request's head. It is open until it is
 /// closed, a send to it fails or it is lost. It is lost where it gives or takes nothing for long enough, or too slowly,
 /// where too many pieces come without a reply, where memory is refused for what it sent, and where the replies that are
-/// queued for all take too much memory and it has taken nothing for longest. A file that is watched is read after each so
-/// many connections that ended, when the next one has come and before it is opened, and gives a change where it holds
-/// another text than at the last read; where the read fails it gives none. The wire reports nothing of what its connections
+/// queued for all take too much memory and it has taken nothing for longest. A file that is watched is looked at
+/// after each so many connections that ended, when the next one has come and before it is opened. It is read where it may
+/// have changed, and gives a change where it holds another text than at the last read; where the read fails it gives none,
+/// and where it holds a beginning of that text, not while it was changed less than a second ago. The wire reports nothing of what its connections
 /// send, and the count of failed sends of each is at its last value, where every failure counts as a rise.
 #[derive(Drop)]
 struct Sockets<'r, R: Net + Clock, F> {
     alloc: Global,
     system: &'r R,
     /// Where the watched file is read.
-    files: F,
+    source: Source<F>,
     watch: Option<Watch>,
     waits: Waits,
     /// How many connections are open at once.
@@ -78,12 +81,13 @@ impl<'r, R: Net + Clock, F> Model for Sockets<'r, R, F> {
 impl<'r, R: Net + Clock, F: Files> Sockets<'r, R, F> {
     /// A wire that does not listen yet: until then it has no connection to give. A file is watched in `files`.
     pub(crate) fn new(alloc: Global, system: &'r R, files: F, waits: Waits, open: usize) -> Self
-        ensures { result ≡ record { book = new_book; next_faults = 0; address = None; watch = None } }
+        ensures { result
+            ≡ record { book = new_book; next_faults = 0; address = None; watch = None } }
     {
         Sockets {
             alloc,
             system,
-            files,
+            source: Source::new(files),
             watch: None,
             waits,
             open,
@@ -127,13 +131,14 @@ impl<'r, R: Net + Clock, F: Files> Sockets<'r, R, F> {
         }
     }
 
-    // What the watched file holds, where it is to be read and holds another text than before.
+    // What the watched file holds, where it is to be looked at and holds another text than before.
     fn look(&mut self, alloc: Global) -> Option<Str>
         ensures none { result ≡ None → self.new ≡ self.old }
         ensures some { IfSome result (λ text. GivesChange self.old text self.new) }
     {
         let mut watch = self.watch.take()?;
-        let text = watch.look(alloc, &mut self.files, self.book.ended());
+        let now = time_of(self.system);
+        let text = watch.look(alloc, &mut self.source, now, self.book.ended());
         self.watch = Some(watch);
         text
     }
@@ -418,7 +423,8 @@ impl<R: Net + Clock, F: Files> Sockets<'_, R, F> {
             last = None;
           });
         }) }
-        ensures short_only { OnErr result ((result ≡ Err WireEnd.NoMemory) × (self.new ≡ self.old)) }
+        ensures short_only { OnErr result
+            ((result ≡ Err WireEnd.NoMemory) × (self.new ≡ self.old)) }
     {
         let Ok(path) = path.copy(alloc) else {
             return Err(WireEnd::NoMemory);

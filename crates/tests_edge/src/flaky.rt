@@ -1,4 +1,4 @@
-// A system whose listeners fail.
+// A system whose listeners run out of descriptors, and whose clock may be ahead.
 ghost use Rattle.std.specs.Prelude.{None};
 
 use std::cell::Cell;
@@ -7,10 +7,14 @@ use std::net::{Net, OpenListener, SocketAddr};
 use std::os::fd::{AsRawFd, RawFd};
 use std::time::{Clock, Duration};
 
-/// A listener of which the first calls of `accept` fail.
+// The system's number of the error that no descriptor is left.
+const EMFILE: i32 = 24;
+
+/// A listener that takes so many connections, and then fails so often for want of a descriptor.
 #[derive(Drop)]
 pub struct FlakyListener<L> {
     listener: L,
+    taking: Cell<u32>,
     failing: Cell<u32>,
 }
 
@@ -18,12 +22,15 @@ impl<L: OpenListener> OpenListener for FlakyListener<L> {
     type Stream = L::Stream;
 
     fn accept(&self) -> io::Result<(L::Stream, SocketAddr)> {
+        let taking = self.taking.get();
         let failing = self.failing.get();
-        if failing > 0 {
+        if taking == 0 && failing > 0 {
             self.failing.set(failing - 1);
-            return Err(io::Error::from(io::ErrorKind::ConnectionAborted));
+            return Err(io::Error::from_raw_os_error(EMFILE));
         }
-        self.listener.accept()
+        let taken = self.listener.accept()?;
+        self.taking.set(taking.saturating_sub(1));
+        Ok(taken)
     }
 
     fn local_addr(&self) -> io::Result<SocketAddr> {
@@ -41,11 +48,14 @@ impl<L: AsRawFd> AsRawFd for FlakyListener<L> {
     }
 }
 
-/// A system whose listeners fail so often before they take a connection.
+/// A system whose listeners take so many connections, and then fail so often before they take another one. Its clock is so
+/// far ahead of that of its files.
 #[derive(Drop)]
 pub struct Flaky<'r, R> {
     pub system: &'r R,
+    pub taking: u32,
     pub failing: u32,
+    pub ahead: Duration,
 }
 
 impl<R: Net> Net for Flaky<'_, R> {
@@ -57,6 +67,7 @@ impl<R: Net> Net for Flaky<'_, R> {
         let listener = self.system.bind(address)?;
         Ok(FlakyListener {
             listener,
+            taking: Cell::new(self.taking),
             failing: Cell::new(self.failing),
         })
     }
@@ -72,6 +83,7 @@ impl<R: Clock> Clock for Flaky<'_, R> {
     }
 
     fn since_1970(&self) -> io::Result<Duration> {
-        self.system.since_1970()
+        let time = self.system.since_1970()?;
+        Ok(time.saturating_add(self.ahead))
     }
 }

@@ -1,11 +1,12 @@
-// How the wire waits and serves many clients at once, and when it reads a watched file: short waits of some tens of
-// milliseconds, and no time is measured.
+// How the wire waits and serves many clients at once, and when it looks at a watched file: short waits of some tens of
+// milliseconds. No time is measured, but that failing tries take some at least.
 // One thread is client and server.
 use crate::burst::answers_burst;
 use crate::flaky::Flaky;
 use crate::folder::Folder;
 use crate::talk::{Step, Talk, take_talk};
 use std::test::Fail;
+use std::time::{Duration, Instant};
 use tcp_wire::Waits;
 
 // Nothing that a talk waits for in vain takes longer than this many milliseconds.
@@ -99,6 +100,20 @@ const TALKS: &[Talk] = &[
             Step::Pieces(520, 0, 1),
             Step::Send(0, b"x"),
             Step::Lost(1),
+            Step::Done,
+        ],
+    },
+    // Each byte comes within the wait, and all of them too slowly: the wire doesn't wait for the end of the 521 pieces.
+    Talk {
+        name: "a client that sends a byte now and then is lost",
+        waits: SHORT,
+        steps: &[
+            Step::Listen(1),
+            Step::Connect(1),
+            Step::Send(0, b"x"),
+            Step::Opened(1),
+            Step::Piece(1, b"x"),
+            Step::Drip(0, 1),
             Step::Done,
         ],
     },
@@ -249,7 +264,7 @@ const TALKS: &[Talk] = &[
             Step::Piece(2, b"a late one"),
         ],
     },
-    // At most 128 are open at once: two more wait until those that have sent nothing for a second are let go.
+    // At most 128 are open at once: two more wait until those that have sent nothing for three seconds are let go.
     Talk {
         name: "silent clients make room for those that wait",
         waits: LONG,
@@ -401,7 +416,7 @@ const TALKS: &[Talk] = &[
             Step::Done,
         ],
     },
-    // The wire reads the file when the next client has come.
+    // The wire looks at the file when the next client has come.
     Talk {
         name: "a watched file gives a change where it has changed",
         waits: WATCHED,
@@ -409,91 +424,96 @@ const TALKS: &[Talk] = &[
             Step::Write(b"one"),
             Step::Listen(8),
             Step::Watch(1),
-            Step::Connect(1),
-            Step::Send(0, b"a"),
-            Step::Opened(1),
-            Step::Piece(1, b"a"),
-            Step::Close(1),
-            Step::Leave,
-            Step::Connect(1),
-            Step::Send(0, b"a"),
+            Step::Come,
+            Step::Go(1),
+            Step::Come,
             Step::Change(b"one"),
-            Step::Opened(2),
-            Step::Piece(2, b"a"),
-            Step::Close(2),
-            Step::Leave,
+            Step::Go(2),
             // As it was: no change comes.
-            Step::Connect(1),
-            Step::Send(0, b"a"),
-            Step::Opened(3),
-            Step::Piece(3, b"a"),
-            Step::Close(3),
-            Step::Leave,
+            Step::Come,
+            Step::Go(3),
             Step::Write(b"two"),
-            Step::Connect(1),
-            Step::Send(0, b"a"),
+            Step::Come,
             Step::Change(b"two"),
-            Step::Opened(4),
-            Step::Piece(4, b"a"),
-            Step::Close(4),
-            Step::Leave,
+            Step::Go(4),
             // Gone: no change comes, nor where it is there again as it was.
             Step::Remove,
-            Step::Connect(1),
-            Step::Send(0, b"a"),
-            Step::Opened(5),
-            Step::Piece(5, b"a"),
-            Step::Close(5),
-            Step::Leave,
+            Step::Come,
+            Step::Go(5),
             Step::Write(b"two"),
-            Step::Connect(1),
-            Step::Send(0, b"a"),
-            Step::Opened(6),
-            Step::Piece(6, b"a"),
-            Step::Close(6),
-            Step::Leave,
+            Step::Come,
+            Step::Go(6),
         ],
     },
     Talk {
-        name: "a watched file is read after each so many connections",
+        name: "a watched file is looked at after each so many connections",
         waits: WATCHED,
         steps: &[
             Step::Write(b"one"),
             Step::Listen(8),
             Step::Watch(2),
-            Step::Connect(1),
-            Step::Send(0, b"a"),
-            Step::Opened(1),
-            Step::Piece(1, b"a"),
-            Step::Close(1),
-            Step::Leave,
-            Step::Connect(1),
-            Step::Send(0, b"a"),
-            Step::Opened(2),
-            Step::Piece(2, b"a"),
-            Step::Close(2),
-            Step::Leave,
-            Step::Connect(1),
-            Step::Send(0, b"a"),
+            Step::Come,
+            Step::Go(1),
+            Step::Come,
+            Step::Go(2),
+            Step::Come,
             Step::Change(b"one"),
-            Step::Opened(3),
-            Step::Piece(3, b"a"),
-            Step::Close(3),
-            Step::Leave,
+            Step::Go(3),
             Step::Write(b"two"),
-            Step::Connect(1),
-            Step::Send(0, b"a"),
-            Step::Opened(4),
-            Step::Piece(4, b"a"),
-            Step::Close(4),
-            Step::Leave,
-            Step::Connect(1),
-            Step::Send(0, b"a"),
+            Step::Come,
+            Step::Go(4),
+            Step::Come,
             Step::Change(b"two"),
-            Step::Opened(5),
-            Step::Piece(5, b"a"),
-            Step::Close(5),
-            Step::Leave,
+            Step::Go(5),
+        ],
+    },
+    // As an editor does.
+    Talk {
+        name: "a file that is renamed over a watched one gives a change",
+        waits: WATCHED,
+        steps: &[
+            Step::Write(b"one"),
+            Step::Listen(4),
+            Step::Watch(1),
+            Step::Come,
+            Step::Go(1),
+            Step::Come,
+            Step::Change(b"one"),
+            Step::Go(2),
+            Step::Replace(b"two"),
+            Step::Come,
+            Step::Change(b"two"),
+            Step::Go(3),
+            Step::Remove,
+            Step::Replace(b"one"),
+            Step::Come,
+            Step::Change(b"one"),
+            Step::Go(4),
+        ],
+    },
+    // It is cut, and then written anew by and by.
+    Talk {
+        name: "a watched file that is half-written gives no change",
+        waits: WATCHED,
+        steps: &[
+            Step::Write(b"one, two"),
+            Step::Listen(6),
+            Step::Watch(1),
+            Step::Come,
+            Step::Go(1),
+            Step::Come,
+            Step::Change(b"one, two"),
+            Step::Go(2),
+            Step::Write(b""),
+            Step::Come,
+            Step::Go(3),
+            Step::Write(b"one"),
+            Step::Come,
+            Step::Go(4),
+            Step::Write(b"one, four"),
+            Step::Come,
+            Step::Change(b"one, four"),
+            Step::Go(5),
         ],
     },
 ];
@@ -520,8 +540,9 @@ fn a_burst_of_clients_is_answered(rt: HostRuntime) -> Result<(), Fail> {
     }
 }
 
-// A talk over a system whose listener fails so often before it takes a connection.
+// A talk over a system whose listener takes so many connections, and then fails so often before it takes another one.
 struct FlakyTalk {
+    taking: u32,
     failing: u32,
     talk: Talk,
 }
@@ -540,8 +561,27 @@ const NOT_OPENED: &[Step] = &[
     Step::NotOpened(1),
 ];
 
+// The third client waits while there is no room for it, and is opened once there is. Those that are open go on.
+const OPENED_LATER: &[Step] = &[
+    Step::Listen(3),
+    Step::Connect(3),
+    Step::Send(0, b"a request"),
+    Step::Send(1, b"another"),
+    Step::Send(2, b"a third"),
+    Step::Opened(1),
+    Step::Piece(1, b"a request"),
+    Step::Opened(2),
+    Step::Piece(2, b"another"),
+    Step::Reply(1, b"a reply"),
+    Step::Send(0, b"one more"),
+    Step::Piece(1, b"one more"),
+    Step::Opened(3),
+    Step::Piece(3, b"a third"),
+];
+
 const FLAKY_TALKS: &[FlakyTalk] = &[
     FlakyTalk {
+        taking: 0,
         failing: 0,
         talk: Talk {
             name: "opened",
@@ -550,6 +590,7 @@ const FLAKY_TALKS: &[FlakyTalk] = &[
         },
     },
     FlakyTalk {
+        taking: 0,
         failing: 1,
         talk: Talk {
             name: "opened after a failure",
@@ -558,6 +599,7 @@ const FLAKY_TALKS: &[FlakyTalk] = &[
         },
     },
     FlakyTalk {
+        taking: 0,
         failing: 99,
         talk: Talk {
             name: "opened after 99 failures",
@@ -566,6 +608,7 @@ const FLAKY_TALKS: &[FlakyTalk] = &[
         },
     },
     FlakyTalk {
+        taking: 0,
         failing: 100,
         talk: Talk {
             name: "not opened after 100 failures",
@@ -573,16 +616,72 @@ const FLAKY_TALKS: &[FlakyTalk] = &[
             steps: NOT_OPENED,
         },
     },
+    FlakyTalk {
+        taking: 2,
+        failing: 30,
+        talk: Talk {
+            name: "opened after 30 failures, while others are open",
+            waits: LONG,
+            steps: OPENED_LATER,
+        },
+    },
 ];
 
+// How long a failing try is followed by none at least, in milliseconds. The wire waits ten.
+const PAUSE: u64 = 5;
+
+// Between two tries the loop waits: so many failures take their time.
 #[test]
-fn a_failing_accept_is_repeated(rt: HostRuntime) -> Result<(), Fail> {
+fn a_failing_accept_is_repeated_after_a_pause(rt: HostRuntime) -> Result<(), Fail> {
     for row in FLAKY_TALKS {
         let flaky = Flaky {
             system: &rt,
+            taking: row.taking,
             failing: row.failing,
+            ahead: Duration::ZERO,
         };
+        let begun = Instant::now(&rt)?;
         take_talk(&rt, &flaky, "", &row.talk)?;
+        let least = Duration::from_millis(PAUSE * u64::from(row.failing));
+        assert!(rt; begun.elapsed(&rt)? >= least, "{}: it spins", row.talk.name);
     }
     Ok(())
+}
+
+// By this clock each file was changed so many seconds ago at least.
+const LATER: u64 = 3_600;
+
+const CUT: Talk = Talk {
+    name: "a watched file that stays cut gives a change",
+    waits: WATCHED,
+    steps: &[
+        Step::Write(b"one, two"),
+        Step::Listen(4),
+        Step::Watch(1),
+        Step::Come,
+        Step::Go(1),
+        Step::Come,
+        Step::Change(b"one, two"),
+        Step::Go(2),
+        Step::Come,
+        Step::Go(3),
+        Step::Write(b"one"),
+        Step::Come,
+        Step::Change(b"one"),
+        Step::Go(4),
+    ],
+};
+
+#[test]
+fn a_file_that_stays_cut_gives_a_change(rt: HostRuntime) -> Result<(), Fail> {
+    let folder = Folder::fresh(&rt, "cut")?;
+    let path = folder.path(rt.alloc(), "d.ddl")?;
+    let flaky = Flaky {
+        system: &rt,
+        taking: 0,
+        failing: 0,
+        ahead: Duration::from_secs(LATER),
+    };
+    take_talk(&rt, &flaky, path.as_str(), &CUT)?;
+    folder.remove(&rt)
 }

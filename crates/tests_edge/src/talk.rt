@@ -6,7 +6,7 @@ use std::fs;
 use std::io::{Read, Write};
 use std::net::{Ipv4Addr, Net, OpenStream, Shutdown, SocketAddr, SocketAddrV4, TcpStream};
 use std::test::Fail;
-use std::time::Clock;
+use std::time::{Clock, Duration};
 use tcp_wire::{TcpWire, Waits};
 use wire::{Wire, WireEvent};
 
@@ -17,14 +17,18 @@ pub enum Step<'a> {
     Listen(u64),
     /// The wire watches the file, and reads it after each so many connections.
     Watch(u64),
-    /// The watched file is written.
+    /// The watched file is written in its place.
     Write(&'a [u8]),
+    /// Another file with these bytes is renamed over the watched one.
+    Replace(&'a [u8]),
     /// The watched file is removed.
     Remove,
     /// So many clients connect.
     Connect(u32),
-    /// The client that came last leaves, and the next one has its number.
-    Leave,
+    /// A client connects and sends a byte.
+    Come,
+    /// Next the connection is opened and has this byte. It is closed, and the client that came last leaves.
+    Go(u64),
     /// The client sends the bytes.
     Send(usize, &'a [u8]),
     /// The client sends so many bytes.
@@ -53,6 +57,8 @@ pub enum Step<'a> {
     Piece(u64, &'a [u8]),
     /// So many times the client sends a byte, and the connection has it next.
     Pieces(u32, usize, u64),
+    /// The client sends a byte each 20 milliseconds, which the connection has next, until it is lost, before 400 came.
+    Drip(usize, u64),
     /// Next the connection's input ends.
     Ended(u64),
     /// Next the connection is lost.
@@ -96,6 +102,70 @@ fn connects<R: Net + Clock>(
         Ok(client) => clients.push(client).is_ok(),
         Err(_) => false,
     }
+}
+
+// A client connects to the wire and sends a byte. Does it?
+fn comes<R: Net + Clock>(
+    system: &R,
+    wire: &TcpWire<'_, R, RealFiles<'_, HostRuntime>>,
+    clients: &mut Vec<R::Stream>,
+) -> bool {
+    if !connects(system, wire, clients) {
+        return false;
+    }
+    match clients.last_mut() {
+        Some(client) => client.write_all(b"x").is_ok(),
+        None => false,
+    }
+}
+
+// The connection is opened and has the byte of the client that came last, and both leave. Do they?
+fn passes<W: Wire, S: Drop>(
+    alloc: Global,
+    wire: &mut W,
+    clients: &mut Vec<S>,
+    number: u64,
+) -> bool {
+    let is_opened = match wire.next(alloc) {
+        Ok(WireEvent::Opened(found)) => found == number,
+        _ => false,
+    };
+    let has_come = match wire.next(alloc) {
+        Ok(WireEvent::Bytes(found, piece)) => found == number && piece.bytes() == b"x".as_slice(),
+        _ => false,
+    };
+    wire.close(number);
+    is_opened && has_come && clients.pop().is_some()
+}
+
+// Renames another file with these bytes over the path. Does it?
+fn replaces(rt: &HostRuntime, path: &str, bytes: &[u8]) -> bool {
+    let Ok(other) = format!(in rt.alloc(); "{path}.new") else {
+        return false;
+    };
+    fs::write(rt, other.as_str(), bytes).is_ok() && fs::rename(rt, other.as_str(), path).is_ok()
+}
+
+// A client sends a byte now and then, which its connection has next, until it is lost. Is it, before 400 came?
+fn drips<C: Clock, W: Wire, S: Write>(
+    alloc: Global,
+    clock: &C,
+    wire: &mut W,
+    client: &mut S,
+    number: u64,
+) -> bool {
+    for _ in 0..400 {
+        clock.sleep(Duration::from_millis(20));
+        if client.write_all(b"x").is_err() {
+            return false;
+        }
+        match wire.next(alloc) {
+            Ok(WireEvent::Bytes(found, _)) if found == number => {}
+            Ok(WireEvent::Lost(found)) => return found == number,
+            _ => return false,
+        }
+    }
+    false
 }
 
 // A client takes these bytes until its connection is closed. Does it?
@@ -222,9 +292,15 @@ fn goes<R: Net + Clock>(
     let alloc = rt.alloc();
     match step {
         Step::Write(bytes) => fs::write(rt, path, *bytes).is_ok(),
+        Step::Replace(bytes) => replaces(rt, path, bytes),
         Step::Remove => fs::remove_file(rt, path).is_ok(),
         Step::Connect(_) => connects(system, wire, clients),
-        Step::Leave => clients.pop().is_some(),
+        Step::Come => comes(system, wire, clients),
+        Step::Drip(client, number) => match clients.get_mut(*client) {
+            Some(client) => drips(alloc, rt, wire, client, *number),
+            None => false,
+        },
+        Step::Go(number) => passes(alloc, wire, clients, *number),
         Step::Send(..) | Step::SendMany(..) | Step::End(_) | Step::Take(..) => {
             acts(alloc, clients, step)
         }

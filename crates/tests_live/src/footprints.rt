@@ -12,7 +12,7 @@ struct FootprintRow {
     templates: &'static [u8],
     function: &'static [u8],
     every: bool,
-    blocks: &'static [u32],
+    blocks: &'static [usize],
     labels: &'static [&'static [u8]],
     collections: &'static [&'static [u8]],
     reason: &'static str,

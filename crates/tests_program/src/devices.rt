@@ -111,7 +111,7 @@ const RUNS: &[Run] = &[
         failing_calls: &[9],
         code: 5,
         out: "",
-        err: "strudel: cannot write\n",
+        err: "strudel: cannot write DIR/index.html\n",
         written: FIVE_PAGES,
         ..PLAIN
     },

@@ -110,11 +110,11 @@ fn the_worked_page_is_served_at_the_port_that_was_asked_for(rt: HostRuntime) -> 
     Ok(())
 }
 
-// The title of the page of 1998 is edited, and then the file is written by half.
+// The title of the page of 1998 is edited, and then half of another edit is written.
 const TEXTS: &[&str] = &[
     BIB,
     "object pub1 in Publications { title \"Edited!\" year 1998 }\n",
-    "object pub1 in Publications { title \"Edi",
+    "object pub1 in Publications { title \"Once mo",
 ];
 
 // The page with the title that the edited file gives it.

@@ -497,7 +497,7 @@ const SITE_RUNS: &[Run] = &[
         failing_calls: &[5],
         code: 5,
         out: "",
-        err: NOT_WRITTEN,
+        err: "strudel: cannot write out/PaperPage/npub2.html\n",
         written: FIRST_PAGE,
         ..PLAIN
     },
@@ -506,7 +506,7 @@ const SITE_RUNS: &[Run] = &[
         failing_calls: &[9],
         code: 5,
         out: "",
-        err: NOT_WRITTEN,
+        err: "strudel: cannot write out/index.html\n",
         written: ALL_BUT_THE_INDEX,
         ..PLAIN
     },

@@ -1,4 +1,4 @@
-use Rattle.std.proofs.Common.{ℕ, List, [], ◌∙◌, inr, refl, ap, subst}
+use Rattle.std.proofs.Common.{ℕ, List, [], ◌∙◌, refl, ap, subst}
 use Rattle.std.specs.Prelude.{Err}
 use Rattle.edge_io.specs.Sink.{Gains, GainsPart}
 use Rattle.site_inputs.specs.Values.{inputs_of}
@@ -6,7 +6,7 @@ use Rattle.files_spec.specs.declared.stop.Stop.{Stop}
 use Rattle.run_report.specs.declared.status.Status.TheVariants as status
 use Rattle.command_build.specs.Ends.{SiteRose}
 use Rattle.command_build.proofs.Courses.{line_put, line_cut, no_line, reads_then_writes, reads_stop_build}
-use Rattle.command_build.proofs.Built.{refused_told, stopped_told, whole_told, part_told, unwritten_of}
+use Rattle.command_build.proofs.Built.{refused_told, stopped_told, whole_told, part_told, unwritten_of, no_put_failed}
 use Rattle.command_build.proofs.build.Goals as goal
 
 pub returns-in-Err-clause-ends : goal.returns-in-Err-clause-ends
@@ -34,15 +34,18 @@ returns-clause-ends g c = λ map told.
     stopped_told (g.F.Files.failed_reads c.args.files.now) (g.F.Files.failed_reads c.write_noted.new.files) (g.F.Files.failed_writes c.args.files.now) (g.F.Files.failed_writes c.write_noted.new.files) (g.O.Sink.text c.args.out.now) (g.O.Sink.text c.args.out.now) (g.O.Sink.failed c.args.out.now) (g.O.Sink.failed c.args.out.now) (g.F.Files.contents c.write_noted.new.files) map c.args.command.now (inputs_of c.in-Ok.inputs) c.in-Err-write_noted.stop c.status_of_stop.result refl c.status_of_stop.ensures
     (c.in-Ok.ensures.ends map told)
     (c.in-Err-write_noted.ensures.ends map (c.in-Ok.ensures.same ∙ told))
-    (λ e. subst (λ (before : List ℕ → ℕ). SiteRose (inputs_of c.in-Ok.inputs) c.args.command.now.folder before (g.F.Files.failed_writes c.write_noted.new.files)) c.in-Ok.ensures.writes (c.in-Err-write_noted.ensures.cause.failed (ap (λ (r : Stop). Err r) e)))
+    (λ path e. subst (λ (before : List ℕ → ℕ). SiteRose (inputs_of c.in-Ok.inputs) c.args.command.now.folder before (g.F.Files.failed_writes c.write_noted.new.files) path) c.in-Ok.ensures.writes (c.in-Err-write_noted.ensures.cause.failed path (ap (λ (r : Stop). Err r) e)))
 
 pub returns-clause-write_cause : goal.returns-clause-write_cause
-returns-clause-write_cause g c = λ e. inr (record {
+returns-clause-write_cause g c = λ e. absurd (no_put_failed c.in-Err-write_noted.stop c.status_of_stop.result c.status_of_stop.ensures e)
+
+pub returns-clause-file_cause : goal.returns-clause-file_cause
+returns-clause-file_cause g c = λ path e. record {
   inputs = inputs_of c.in-Ok.inputs;
   taken = λ map told. (c.in-Ok.ensures.ends map told);
-  rose = subst (λ (before : List ℕ → ℕ). SiteRose (inputs_of c.in-Ok.inputs) c.args.command.now.folder before (g.F.Files.failed_writes c.write_noted.new.files)) c.in-Ok.ensures.writes
-      (c.in-Err-write_noted.ensures.cause.failed (ap (λ (r : Stop). Err r) (unwritten_of c.in-Err-write_noted.stop c.status_of_stop.result c.status_of_stop.ensures e)));
-})
+  rose = subst (λ (before : List ℕ → ℕ). SiteRose (inputs_of c.in-Ok.inputs) c.args.command.now.folder before (g.F.Files.failed_writes c.write_noted.new.files) path) c.in-Ok.ensures.writes
+      (c.in-Err-write_noted.ensures.cause.failed path (ap (λ (r : Stop). Err r) (unwritten_of c.in-Err-write_noted.stop c.status_of_stop.result path c.status_of_stop.ensures e)));
+}
 
 pub returns-in-Err-clause-course : goal.returns-in-Err-clause-course
 returns-in-Err-clause-course g c =

@@ -45,17 +45,16 @@ returns-clause-ends g c = λ old told.
 pub returns-clause-cause : goal.returns-clause-cause
 returns-clause-cause g c = record {
   later = c.in-Err.ensures.cause.later;
-  failed = λ e.
-      let r = c.in-Err.ensures.cause.failed (unwritten_again c.in-Err.stop e) in (
-        r.0,
-        site_file (inputs_of c.args.inputs) _ _ _ _ c.args.folder.now c.as_slice-terms.result.now r.0
+  failed = λ path e.
+      let r = c.in-Err.ensures.cause.failed path (unwritten_again c.in-Err.stop path e) in (
+        site_file (inputs_of c.args.inputs) _ _ _ _ c.args.folder.now c.as_slice-terms.result.now path
             (c.in_ok-whole.ensures.graph ∙ c.of-asker.ensures.store ∙ c.in_ok-store.ensures)
             (ap scope_of c.in_ok-whole.ensures.scopes ∙ c.in_ok-scopes.ensures.scope)
             (ap file_of c.in_ok-whole.ensures.templates)
             (root_copied c.root_of-root.result ∙ c.root_of-root.ensures ∙ ap (λ s. root_of_bodies s.bodies) c.in_ok-scopes.ensures.scope)
             (subst (ListsExactly term_cmp (IsPresent (site_of _ (scope_of c.in_ok-whole.whole.scopes.now)) (file_of c.in_ok-whole.whole.templates.now))) (sym c.as_slice-terms.ensures.value) c.in_ok-pages.ensures)
-            r.1,
-        r.2,
+            r.0,
+        r.1,
       );
 }
 

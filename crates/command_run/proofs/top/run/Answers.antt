@@ -4,7 +4,7 @@ use Rattle.std.specs.Borrow.{Bor}
 use Rattle.edge_io.specs.Counts.{Rose}
 use Rattle.command_spec.specs.declared.Command.{Command}
 use Rattle.command_run.specs.Top.{WritesNoFile, UsesNoWire}
-use Rattle.command_run.proofs.Ends.{no_command_told, command_told, given_read_rose, given_write_rose}
+use Rattle.command_run.proofs.Ends.{no_command_told, command_told, given_read_rose, given_file_rose}
 use Rattle.command_run.proofs.Courses.{given_course, no_course}
 use Rattle.command_run.proofs.top.run.Goals as goal
 
@@ -17,10 +17,8 @@ returns-in-Some-clause-ends g c = λ map told. command_told (g.F.Files.failed_re
 pub returns-in-Some-clause-files : goal.returns-in-Some-clause-files
 returns-in-Some-clause-files g c = λ none. c.run_command.ensures.files (subst WritesNoFile (sym c.command.ensures.exact ∙ ap (option_map (λ (b : Bor Command). b.now)) c.in-Some.is) none)
 
-pub returns-in-Some-clause-write_cause : goal.returns-in-Some-clause-write_cause
-returns-in-Some-clause-write_cause g c = λ e.
-    given_write_rose _ c.in-Some.command.now (g.F.Files.contents c.args.files.now) (g.F.Files.failed_writes c.args.files.now) (g.F.Files.failed_writes c.run_command.new.files) (Rose (g.O.Sink.failed c.args.out.now) (g.O.Sink.failed c.run_command.new.out))
-    (sym c.command.ensures.exact ∙ ap (option_map (λ (b : Bor Command). b.now)) c.in-Some.is) (c.run_command.ensures.write_cause e)
+pub returns-in-Some-clause-file_cause : goal.returns-in-Some-clause-file_cause
+returns-in-Some-clause-file_cause g c = given_file_rose _ c.in-Some.command.now _ _ _ _ (sym c.command.ensures.exact ∙ ap (option_map (λ (b : Bor Command). b.now)) c.in-Some.is) c.run_command.ensures.file_cause
 
 pub returns-in-Some-clause-read_cause : goal.returns-in-Some-clause-read_cause
 returns-in-Some-clause-read_cause g c = given_read_rose _ c.in-Some.command.now _ _ _ (sym c.command.ensures.exact ∙ ap (option_map (λ (b : Bor Command). b.now)) c.in-Some.is) c.run_command.ensures.read_cause

@@ -1,5 +1,5 @@
 use Rattle.std.proofs.Common.{ap}
-use Rattle.command_run.proofs.Ends.{reported_told, reported_silent}
+use Rattle.command_run.proofs.Ends.{reported_told, reported_silent, reported_file_rose}
 use Rattle.command_run.proofs.Complete.{complete_told}
 use Rattle.command_run.proofs.Exact.{exact_told}
 use Rattle.command_run.proofs.Checked.{held_told}
@@ -12,6 +12,9 @@ use Rattle.command_run.proofs.top.strudel.Goals as goal
 pub returns-clause-ends : goal.returns-clause-ends
 returns-clause-ends g c = λ map told.
     reported_told (g.F.Files.failed_reads c.args.files.now) (g.F.Files.failed_reads c.run-status.new.files) (g.F.Files.failed_writes c.args.files.now) (g.F.Files.failed_writes c.run-status.new.files) (g.O.Sink.text c.args.out.now) (g.O.Sink.text c.run-status.new.out) (g.O.Sink.failed c.args.out.now) (g.O.Sink.failed c.run-status.new.out) (g.W.Wire.told c.args.wire.now) (g.W.Wire.told c.run-status.new.wire) _ map _ _ _ (c.run-status.ensures.ends map told) (λ quiet. ap g.O.Sink.text (c.run-status.ensures.silent quiet)) c.line_lent.ensures.fixed c.line_lent.ensures.status
+
+pub returns-clause-file_cause : goal.returns-clause-file_cause
+returns-clause-file_cause g c = reported_file_rose _ _ _ _ _ _ c.run-status.ensures.file_cause c.line_lent.ensures.status
 
 pub returns-clause-silent : goal.returns-clause-silent
 returns-clause-silent g c = reported_silent _ _ c.run-status.ensures.silent c.line_lent.ensures.status

@@ -28,6 +28,7 @@ returns-in-Ok-clause-run g c =
       complete = e.complete;
       read_cause = e.read_cause;
       write_cause = e.write_cause;
+      file_cause = e.file_cause;
       whole_line = e.line;
       part_line = e.part;
     })

@@ -40,7 +40,7 @@ by_end-requires-clause-small c =
     let labs = subst (λ (es : List Edge). AreRanks bytes_cmp (map (λ (e : Edge). e.label) es) c.in_ok-label_ranks.label_ranks.firsts.items c.in_ok-label_ranks.label_ranks.ranks.items) c.edges-edges.ensures.value c.in_ok-label_ranks.ensures in
     let order = subst (λ (rs : List ℕ). ListsExactly (rank_cmp rs) (λ i. i < length rs) c.in_ok-by_label.by_label.items) c.as_slice-2.ensures.value c.in_ok-by_label.ensures.order in
     let ranks_are : c.as_slice-4.result.now ≡ c.in_ok-firsts.field-0.ranks.items = c.as_slice-4.ensures.value in
-    omega (arith, c.in_ok-by_label.ensures.short, ap length c.as_slice-2.ensures.value, labs.counted, length-map G.edges (λ (e : Edge). e.label), ap length c.edges-edges.ensures.value, ap length c.as_slice-5.ensures.value, c.if-edges-ge-MOST.false)
+    omega (arith, c.in_ok-by_label.ensures.short, ap length c.as_slice-2.ensures.value, labs.counted, length-map G.edges (λ (e : Edge). e.label), ap length c.edges-edges.ensures.value, ap length c.as_slice-5.ensures.value, c.member_pairs-members.ensures.within.1)
 
 pub of-requires : goal.of-requires
 of-requires c =
@@ -63,7 +63,7 @@ of-requires c =
 pub spans_from-requires : goal.spans_from-requires
 spans_from-requires c = record {
   ascending = subst (IsStrictlySortedBy edge_cmp) (sym c.edges-edges.ensures.value) c.edges-edges.ensures.well_formed.edges_ascend;
-  small = omega (arith, c.if-edges-ge-MOST.false);
+  small = omega (arith, ap length c.edges-edges.ensures.value, c.member_pairs-members.ensures.within.1);
 }
 
 pub spans_to-requires-clause-places : goal.spans_to-requires-clause-places
@@ -109,7 +109,7 @@ spans_to-requires-clause-small c =
     let labs = subst (λ (es : List Edge). AreRanks bytes_cmp (map (λ (e : Edge). e.label) es) c.in_ok-label_ranks.label_ranks.firsts.items c.in_ok-label_ranks.label_ranks.ranks.items) c.edges-edges.ensures.value c.in_ok-label_ranks.ensures in
     let order = subst (λ (rs : List ℕ). ListsExactly (rank_cmp rs) (λ i. i < length rs) c.in_ok-by_label.by_label.items) c.as_slice-2.ensures.value c.in_ok-by_label.ensures.order in
     let ranks_are : c.as_slice-4.result.now ≡ c.in_ok-firsts.field-0.ranks.items = c.as_slice-4.ensures.value in
-    omega (arith, ap length c.as_slice-8.ensures.value, c.in_ok-by_end.ensures.short, c.in_ok-by_label.ensures.short, ap length c.as_slice-2.ensures.value, labs.counted, length-map G.edges (λ (e : Edge). e.label), ap length c.edges-edges.ensures.value, ap length c.as_slice-5.ensures.value, c.if-edges-ge-MOST.false)
+    omega (arith, ap length c.as_slice-8.ensures.value, c.in_ok-by_end.ensures.short, c.in_ok-by_label.ensures.short, ap length c.as_slice-2.ensures.value, labs.counted, length-map G.edges (λ (e : Edge). e.label), ap length c.edges-edges.ensures.value, ap length c.as_slice-5.ensures.value, c.member_pairs-members.ensures.within.1)
 
 pub spans_labelled-requires-clause-order : goal.spans_labelled-requires-clause-order
 spans_labelled-requires-clause-order c =
@@ -136,12 +136,12 @@ spans_labelled-requires-clause-small c =
     let labs = subst (λ (es : List Edge). AreRanks bytes_cmp (map (λ (e : Edge). e.label) es) c.in_ok-label_ranks.label_ranks.firsts.items c.in_ok-label_ranks.label_ranks.ranks.items) c.edges-edges.ensures.value c.in_ok-label_ranks.ensures in
     let order = subst (λ (rs : List ℕ). ListsExactly (rank_cmp rs) (λ i. i < length rs) c.in_ok-by_label.by_label.items) c.as_slice-2.ensures.value c.in_ok-by_label.ensures.order in
     let ranks_are : c.as_slice-4.result.now ≡ c.in_ok-firsts.field-0.ranks.items = c.as_slice-4.ensures.value in
-    omega (arith, ap length c.as_slice-10.ensures.value, c.in_ok-by_label.ensures.short, ap length c.as_slice-2.ensures.value, labs.counted, length-map G.edges (λ (e : Edge). e.label), ap length c.edges-edges.ensures.value, c.if-edges-ge-MOST.false)
+    omega (arith, ap length c.as_slice-10.ensures.value, c.in_ok-by_label.ensures.short, ap length c.as_slice-2.ensures.value, labs.counted, length-map G.edges (λ (e : Edge). e.label), ap length c.edges-edges.ensures.value, c.member_pairs-members.ensures.within.1)
 
 pub spans_collected-requires : goal.spans_collected-requires
 spans_collected-requires c = record {
   ascending = subst (IsStrictlySortedBy member_cmp) (sym c.member_pairs-members.ensures.value) c.member_pairs-members.ensures.well_formed.members_ascend;
-  small = omega (arith, c.if-members-ge-MOST.false);
+  small = omega (arith, ap length c.member_pairs-members.ensures.value, c.member_pairs-members.ensures.within.1);
 }
 
 pub invariant_of-result : goal.invariant_of-result

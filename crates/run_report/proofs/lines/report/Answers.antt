@@ -1,22 +1,8 @@
-use Rattle.std.proofs.Common.{subst, sym, ◌∙◌}
-use Rattle.std.specs.Prelude.{take}
-use Rattle.edge_io.specs.Sink.{Gains, GainsPart}
-use Rattle.run_report.proofs.OwnLines.{own_line, put_whole}
-use Rattle.run_report.proofs.ToldLines.{put_notes, own_told}
+use Rattle.std.proofs.Common.{sym, subst}
+use Rattle.edge_io.specs.Sink.{GainsPart}
+use Rattle.run_report.specs.Report.{line}
 use Rattle.run_report.proofs.lines.report.Goals as goal
 
-pub returns-in-Ok-clause-part : goal.returns-in-Ok-clause-part
-returns-in-Ok-clause-part g c =
-    subst (GainsPart (g.E.Sink.text c.args.err.now) (g.E.Sink.text c.put.new.self))
-    (c.deref.ensures.value ∙ c.in-Ok.ensures ∙ sym (own_line c.args.status c.in_default.ensures.fixed)) c.put.ensures.part
-
-pub returns-in-Err-clause-whole : goal.returns-in-Err-clause-whole
-returns-in-Err-clause-whole g c = λ no. put_whole _ _ c.put-in-Err.result c.put-in-Err.ensures.whole c.put-in-Err.ensures.cause.failed no
-
-pub returns-in-Ok-clause-traced : goal.returns-in-Ok-clause-traced
-returns-in-Ok-clause-traced g c =
-    let own = c.deref.ensures.value ∙ c.in-Ok.ensures in
-    own_told c.args.status (g.E.Sink.stream c.args.err.now) c.deref.result.now (g.E.Sink.trace c.args.err.now) (g.E.Sink.trace c.put.new.self)
-    (own ∙ sym (own_line c.args.status c.in_default.ensures.fixed)) own
-    (put_notes (g.E.Sink.stream c.args.err.now) (g.E.Sink.trace c.args.err.now) (g.E.Sink.trace c.put.new.self) c.deref.result.now c.put.result
-    (λ taken. Gains (g.E.Sink.text c.args.err.now) (g.E.Sink.text c.put.new.self) (take taken c.deref.result.now)) c.put.ensures.traced)
+pub returns-in-FileFault-clause-part : goal.returns-in-FileFault-clause-part
+returns-in-FileFault-clause-part g c =
+    subst (λ s. GainsPart (g.E.Sink.text c.args.err.now) (g.E.Sink.text c.put_file_line.new.err) (line s)) (sym c.in-FileFault.is) c.put_file_line.ensures.part

@@ -21,7 +21,7 @@ const BUFFER: usize = 16384;
 const MOST_QUEUED: usize = 67_108_864;
 
 /// How long a connection is waited for where others wait for its place, in milliseconds.
-const CROWDED: u32 = 1_000;
+const CROWDED: u32 = 3_000;
 
 /// News of a connection: of its token, under its number, which is 0 where it is not opened yet.
 #[derive(Drop)]
@@ -33,7 +33,7 @@ pub struct Signal {
 
 /// The connections, and which of them are visited next, each at most once in a round.
 #[derive(Drop)]
-pub struct Crowd<S> {
+pub struct Connections<S> {
     alloc: Global,
     waits: Waits,
     /// The connections by their tokens.
@@ -52,16 +52,16 @@ pub struct Crowd<S> {
 }
 
 // Clauses see nothing of the connections themselves, which keeps the proofs of the wire small.
-impl<S> Model for Crowd<S> {
+impl<S> Model for Connections<S> {
     ghost Value = { ⊤ };
 
     ghost view = { λ _. tt };
 }
 
-impl<S: Read + Write + OpenStream + AsRawFd + Drop> Crowd<S> {
+impl<S: Read + Write + OpenStream + AsRawFd + Drop> Connections<S> {
     /// No connection is open.
     pub fn new(alloc: Global, waits: Waits) -> Self {
-        Crowd {
+        Connections {
             alloc,
             waits,
             peers: BTreeMap::new(alloc),
@@ -161,19 +161,14 @@ impl<S: Read + Write + OpenStream + AsRawFd + Drop> Crowd<S> {
         let peer = self.peers.get_mut(&token)?;
         peer.is_listed = false;
         let before = peer.queued();
-        let turn = peer.take_turn(self.alloc, self.now, &mut self.buffer);
+        let turn = peer.take_turn(self.alloc, self.now, self.waits, &mut self.buffer);
         let after = peer.queued();
         let number = peer.number;
-        let is_over = peer.is_waiting() && peer.is_over(self.now, self.waits);
         let is_reported = peer.is_registered && peer.is_spent();
         self.count(before, after);
-        let news = match turn {
-            None if !is_over => {
-                self.wait_for(token, poll);
-                return None;
-            }
-            Some(news) => news,
-            None => News::Lost,
+        let Some(news) = turn else {
+            self.wait_for(token, poll);
+            return None;
         };
         match news {
             News::Bytes(_) if is_reported => {}
