@@ -262,10 +262,7 @@ fn hosts_in(alloc: Global, text: &str) -> Result<Option<Option<Str>>, NoMemory>
     Ok(Some(Some(Str::new(alloc, text.as_bytes())?)))
 }
 
-fn given_hosts(
-    alloc: Global,
-    matches: &ArgMatches<'_>,
-) -> Result<Option<Option<Str>>, NoMemory>
+fn given_hosts(alloc: Global, matches: &ArgMatches<'_>) -> Result<Option<Option<Str>>, NoMemory>
     ensures { IfOk result (λ hosts. hosts
         ≡ specs.given_hosts (parsed.found (rows_of (found_of matches.now)))) }
 {
@@ -311,11 +308,7 @@ fn serve_waits(matches: &ArgMatches<'_>) -> Option<ServeWaits>
     })
 }
 
-fn options_with(
-    whole: bool,
-    limits: RunLimits,
-    matches: &ArgMatches<'_>,
-) -> Option<ServeOptions>
+fn options_with(whole: bool, limits: RunLimits, matches: &ArgMatches<'_>) -> Option<ServeOptions>
     requires { AreLimits limits }
     ensures exact { result
         ≡ specs.options_with whole limits (parsed.found (rows_of (found_of matches.now))) }

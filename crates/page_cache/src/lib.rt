@@ -131,7 +131,12 @@ impl<P: Versions + Drop> Cached<P> {
         match self.pages.change(alloc, text, &terms) {
             Ok(Changed::Taken(mut same)) => {
                 let own = kept.len();
-                self.bytes = sift(&mut self.kept, &terms[own..], &same.flags[own..], self.bytes);
+                self.bytes = sift(
+                    &mut self.kept,
+                    &terms[own..],
+                    &same.flags[own..],
+                    self.bytes,
+                );
                 same.flags.truncate(own);
                 Ok(Changed::Taken(same))
             }

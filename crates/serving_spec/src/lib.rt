@@ -1,5 +1,5 @@
 //! What came of each connection, what it was sent, and what a run over connections counts.
-//! Definitions, no engine.
+//! Definitions and a law, no engine.
 #![tactic(auto)]
 
 mod laws;

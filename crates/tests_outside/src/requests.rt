@@ -118,16 +118,28 @@ const SCRIPTS: &[Script] = &[
             Step::Feed(b"GET / HTTP/1.0\r\nHost: evil\r\n\r\n", Some(MISDIRECTED)),
             Step::Feed(b"GET / HTTP/1.1\r\nHost: ab\r\n\r\n", Some(MISDIRECTED)),
             Step::Feed(b"GET / HTTP/1.1\r\nHost: a:8x\r\n\r\n", Some(MISDIRECTED)),
-            Step::Feed(b"GET / HTTP/1.1\r\nHost: a.b.example\r\n\r\n", Some(MISDIRECTED)),
-            Step::Feed(b"GET / HTTP/1.1\r\nHost: a,b.example\r\n\r\n", Some(MISDIRECTED)),
+            Step::Feed(
+                b"GET / HTTP/1.1\r\nHost: a.b.example\r\n\r\n",
+                Some(MISDIRECTED),
+            ),
+            Step::Feed(
+                b"GET / HTTP/1.1\r\nHost: a,b.example\r\n\r\n",
+                Some(MISDIRECTED),
+            ),
             Step::Feed(b"GET / HTTP/1.1\r\nHost:\r\n\r\n", Some(MISDIRECTED)),
-            Step::Feed(b"HEAD / HTTP/1.1\r\nHost: evil\r\n\r\n", Some(MISDIRECTED_HEAD)),
+            Step::Feed(
+                b"HEAD / HTTP/1.1\r\nHost: evil\r\n\r\n",
+                Some(MISDIRECTED_HEAD),
+            ),
             Step::Feed(
                 b"POST / HTTP/1.1\r\nHost: evil\r\nContent-Length: 3\r\n\r\n",
                 Some(MISDIRECTED),
             ),
             Step::Feed(b"POST / HTTP/1.1\r\nHost: a\r\n\r\n", Some(WRONG)),
-            Step::Feed(b"GET / HTTP/1.1\r\nHost: evil\r\nHost: a\r\n\r\n", Some(BAD)),
+            Step::Feed(
+                b"GET / HTTP/1.1\r\nHost: evil\r\nHost: a\r\n\r\n",
+                Some(BAD),
+            ),
             Step::Feed(b"GET / HTTP/1.1\r\n\r\n", Some(BAD)),
         ],
     },

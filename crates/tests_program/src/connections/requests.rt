@@ -123,7 +123,15 @@ const EXCHANGES: &[Exchange] = &[
     },
     Exchange {
         name: "another host",
-        replay: &["replay", "--requests=2", "--host=b,a.example", "q", "t", "s", "d"],
+        replay: &[
+            "replay",
+            "--requests=2",
+            "--host=b,a.example",
+            "q",
+            "t",
+            "s",
+            "d",
+        ],
         serve: &["serve", "--requests=2", "--host=b,a.example", "q", "t", "d"],
         script: &[Part {
             text: "open 1 bytes 1 \"GET / HTTP/1.1\\r\\nHost: rebound.example:8080\\r\\n\\r\\n\"",
@@ -221,8 +229,25 @@ const EXCHANGES: &[Exchange] = &[
     // The page has 56 bytes: it is kept if there is room for as many.
     Exchange {
         name: "room for the page",
-        replay: &["replay", "--requests", "2", "--cache-bytes=56", "q", "t", "s", "d"],
-        serve: &["serve", "--requests", "2", "--cache-bytes=56", "q", "t", "d"],
+        replay: &[
+            "replay",
+            "--requests",
+            "2",
+            "--cache-bytes=56",
+            "q",
+            "t",
+            "s",
+            "d",
+        ],
+        serve: &[
+            "serve",
+            "--requests",
+            "2",
+            "--cache-bytes=56",
+            "q",
+            "t",
+            "d",
+        ],
         script: &[Part {
             text: "open 1 bytes 1 \"GET /YearPage/i1998.html HTTP/1.1\\r\\nHost: a\\r\\n\\r\\nGET \
                 /YearPage/i1998.html HTTP/1.1\\r\\nHost: a\\r\\n\\r\\n\"",
@@ -243,8 +268,25 @@ const EXCHANGES: &[Exchange] = &[
     },
     Exchange {
         name: "no room for the page",
-        replay: &["replay", "--requests", "2", "--cache-bytes=55", "q", "t", "s", "d"],
-        serve: &["serve", "--requests", "2", "--cache-bytes=55", "q", "t", "d"],
+        replay: &[
+            "replay",
+            "--requests",
+            "2",
+            "--cache-bytes=55",
+            "q",
+            "t",
+            "s",
+            "d",
+        ],
+        serve: &[
+            "serve",
+            "--requests",
+            "2",
+            "--cache-bytes=55",
+            "q",
+            "t",
+            "d",
+        ],
         script: &[Part {
             text: "open 1 bytes 1 \"GET /YearPage/i1998.html HTTP/1.1\\r\\nHost: a\\r\\n\\r\\nGET \
                 /YearPage/i1998.html HTTP/1.1\\r\\nHost: a\\r\\n\\r\\n\"",

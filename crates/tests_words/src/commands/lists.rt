@@ -169,12 +169,29 @@ const COMMANDS: &[CommandRow] = &[
             localhost",
     },
     CommandRow {
-        words: &["serve", "q", "t", "d", "--host=A.example,[::1],b", "--cache-bytes", "1"],
+        words: &[
+            "serve",
+            "q",
+            "t",
+            "d",
+            "--host=A.example,[::1],b",
+            "--cache-bytes",
+            "1",
+        ],
         command: "serve q t d 8080 4294967296 1 4294967296 256 1 5000 10000 16384 host \
             A.example,[::1],b",
     },
     CommandRow {
-        words: &["replay", "--host", "a", "q", "t", "s", "d", "--cache-bytes=4294967296"],
+        words: &[
+            "replay",
+            "--host",
+            "a",
+            "q",
+            "t",
+            "s",
+            "d",
+            "--cache-bytes=4294967296",
+        ],
         command: "replay q t s d 1 4294967296 256 4294967296 host a",
     },
     CommandRow {
