@@ -167,8 +167,8 @@ pub(crate) fn answer<P: Versions, W: Wire>(
     ensures others { OtherAccountsStay number (W.told wire.old) (W.told wire.new) }
     ensures others_fine { OtherFaultsStay number (W.told wire.old) (W.told wire.new) }
     ensures sent { (all : Made)
-        × IsAnswered (shown_in origin.now P.site P.templates (P.state pages.old)) (TermOf origin.now.root)
-        ask.now target.now last all result
+        × IsAnswered (shown_in origin.now P.site P.templates (P.state pages.old))
+        (TermOf origin.now.root) ask.now target.now last all result
         ((W.told wire.old).account number) ((W.told wire.new).account number)
         ((W.told wire.old).faults number) ((W.told wire.new).faults number)
         × (made.new ≡ up_by all.replies made.old)

@@ -297,8 +297,8 @@ impl<P: Versions> Desk<P> {
         ensures opened { self.new.opened
             ≡ opened_after (WireEvent.Opened number) self.old.greatest self.old.opened }
         ensures turned { Turned (shown_in self.old.origin P.site P.templates
-            (P.state self.old.pages)) (TermOf self.old.origin.root) self.old.requests self.old.greatest
-            (WireEvent.Opened number) nothing
+            (P.state self.old.pages)) (TermOf self.old.origin.root) self.old.requests
+            self.old.greatest (WireEvent.Opened number) nothing
             (ats (get nat_cmp self.old.connections) (W.told wire.old).account
             (W.told wire.old).faults)
             (ats (get nat_cmp self.new.connections) (W.told wire.new).account

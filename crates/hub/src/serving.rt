@@ -38,8 +38,8 @@ pub fn serve<P: Versions, W: Wire>(
         × ((W.told wire.new).given ≡ fold add_event (W.told wire.old).given events)
         × IsDrawn (W.told wire.old).left events (W.told wire.new).left
         × EndsRun turns events result
-        × IsCourse (rules_under hub.old.origin P.site P.templates P.changed P.accepts P.looks P.renews
-        P.found) hub.old.limit result
+        × IsCourse (rules_under hub.old.origin P.site P.templates P.changed P.accepts P.looks
+        P.renews P.found) hub.old.limit result
         (scene P.state P.cache hub.old (W.told wire.old).account (W.told wire.old).faults) events
         (scene P.state P.cache hub.new (W.told wire.new).account (W.told wire.new).faults) course
         × ((number : ℕ) → line_of hub.old number ≡ None

@@ -72,8 +72,8 @@ pub(crate) fn take_piece<P: Versions, W: Wire>(
         (W.told wire.old).faults)
         (ats (get nat_cmp connections.new) (W.told wire.new).account (W.told wire.new).faults) }
     ensures taken { (all : Made)
-        × TakesPiece (shown_in origin.now P.site P.templates (P.state pages.old)) (TermOf origin.now.root)
-        piece.now all (get nat_cmp connections.old number)
+        × TakesPiece (shown_in origin.now P.site P.templates (P.state pages.old))
+        (TermOf origin.now.root) piece.now all (get nat_cmp connections.old number)
         (at_in (get nat_cmp connections.old) (W.told wire.old).account (W.told wire.old).faults
         number)
         (at_in (get nat_cmp connections.new) (W.told wire.new).account (W.told wire.new).faults
