@@ -1,5 +1,5 @@
 -- A build ends well, unless it is out of memory, where its inputs are accepted and nothing outside fails.
-use Rattle.std.specs.Prelude.{ℕ, List, Ok, Err}
+use Rattle.std.specs.Prelude.{ℕ, List}
 use Rattle.sd_value.specs.declared.Term.{Term}
 use Rattle.page_spec.specs.Page.{IsPresent}
 use Rattle.files_spec.specs.Files.{IsPageText}

@@ -1,7 +1,7 @@
 //! The command `build`: the whole site as files.
 #![tactic(auto)]
 
-ghost use Rattle.std.specs.Prelude.{◌≡◌, ◌⊎◌, ◌++◌, List, IfOk};
+ghost use Rattle.std.specs.Prelude.{◌≡◌, ◌++◌, ℕ, List, IfOk};
 ghost use Rattle.std.specs.Option.{ForSome, IsSomeAnd};
 ghost use Rattle.edge_io.specs.Counts.{Rose};
 ghost use Rattle.happenings.specs.Happening.{Happening};

@@ -1,5 +1,5 @@
 -- The command `lint`: what a site's texts ask for and isn't there.
-use Rattle.std.specs.Prelude.{◌≡◌, ℕ, List, [], ◌++◌, Bool, ◌↔◌, IsTrue, Result, Ok, Err, ⊤}
+use Rattle.std.specs.Prelude.{◌≡◌, ℕ, List, ◌++◌, Bool, Result, Ok, Err, ⊤}
 use Rattle.std.specs.List.{flat_map}
 use Rattle.edge_io.specs.Files.{FileMap}
 use Rattle.command_spec.specs.Limits.{text_limit}
@@ -17,7 +17,7 @@ use Rattle.lint_spec.specs.declared.Finding.{Finding}
 use Rattle.lint_spec.specs.QueryClaims.{query_claims}
 use Rattle.lint_spec.specs.TemplateClaims.{template_claims, further_labels}
 use Rattle.lint_spec.specs.Mistakes.{IsMistake}
-use Rattle.lint_spec.specs.Findings.{AreFindings}
+use Rattle.lint_spec.specs.Findings.{AreFindings, are_notes}
 use Rattle.run_report.specs.declared.reports.Report.{Report}
 use Rattle.site_inputs.specs.declared.fault.Fault.{Fault}
 use Rattle.site_inputs.specs.declared.fault.Fault.TheVariants.{NoMemory}
@@ -49,8 +49,8 @@ module _ (graph : DataGraph) (query : plain.Query) (templates : TemplateFile) wh
   HasFindings trees =
       AreFindings (IsMistake graph (scope_of query) templates (further_labels trees.items))
 
-  -- The text has a line for each finding in the query, and then for each in the templates, and all that
-  -- is asked for is there where there is none.
+  -- The text has a line for each finding in the query, and then for each in the templates, and nothing is
+  -- amiss if each is a note.
   pub record IsLintReport (texts : SiteTexts) (text : List ℕ) (all_met : Bool) : Type 0 where
     pub trees : SiteTrees
     pub spelled : AreTrees texts trees
@@ -61,7 +61,7 @@ module _ (graph : DataGraph) (query : plain.Query) (templates : TemplateFile) wh
     pub lines : text
         ≡ flat_map (finding_line texts.query_path) in_query
         ++ flat_map (finding_line texts.templates_path) in_templates
-    pub clean : IsTrue all_met ↔ (in_query ++ in_templates ≡ [])
+    pub clean : all_met ≡ are_notes (in_query ++ in_templates)
 
   -- How judging the texts ends: with their report.
   abbrev pub LintTaken : SiteTexts → Result Report Fault → Type 0

@@ -1,5 +1,5 @@
 -- What `lint` tells: exactly the findings.
-use Rattle.std.specs.Prelude.{◌≡◌, ◌↔◌, ℕ, List, [], ◌++◌, Bool, Option, Ok}
+use Rattle.std.specs.Prelude.{◌≡◌, ◌↔◌, ℕ, List, ◌++◌, Bool, IsTrue, Option, Ok}
 use Rattle.edge_io.specs.Files.{FileMap}
 use Rattle.edge_io.specs.Sink.{Gains}
 use Rattle.command_spec.specs.Limits.{text_limit}
@@ -7,6 +7,7 @@ use Rattle.command_spec.specs.declared.DataFiles.{DataFiles}
 use Rattle.graph_spec.specs.DataGraph.{DataGraph}
 use Rattle.query_spec.specs.Query as plain
 use Rattle.tmpl.specs.Body.{TemplateFile}
+use Rattle.lint_spec.specs.Findings.{are_notes}
 use Rattle.run_report.specs.declared.status.Status.{Status}
 use Rattle.run_report.specs.declared.status.Status.TheVariants as status
 use Rattle.site_inputs.specs.Runs.{FileEnds}
@@ -27,7 +28,7 @@ module _ (map : FileMap) (sources : DataFiles) (query_path templates_path : List
     pub are_templates : TemplatesTaken templates_path texts.templates (Ok templates)
 
   -- The output has gained exactly the lines of the findings in the files' texts, and the status is 0
-  -- exactly where there is none.
+  -- exactly if each is a note.
   pub record TellsFindings (old new : Option (List ℕ)) (reached : Status) : Type 0 where
     pub graph : DataGraph
     pub query : plain.Query
@@ -38,4 +39,5 @@ module _ (map : FileMap) (sources : DataFiles) (query_path templates_path : List
     pub all_met : Bool
     pub report : IsLintReport graph query templates texts text all_met
     pub gained : Gains old new text
-    pub clean : (reached ≡ status.Ok) ↔ (report.in_query ++ report.in_templates ≡ [])
+    pub clean : (reached ≡ status.Ok)
+        ↔ IsTrue (are_notes (report.in_query ++ report.in_templates))

@@ -1,7 +1,8 @@
 -- The lines of findings, as a refusal is reported: the file, the number, the name and the place.
-use Rattle.std.specs.Prelude.{ℕ, List, ◌++◌, ◌==◌, codes, if◌then◌else◌}
+use Rattle.std.specs.Prelude.{ℕ, List, [], ◌++◌, ◌==◌, codes, if◌then◌else◌}
 use Rattle.std.specs.Fmt.{decimal}
 use Rattle.lint_spec.specs.declared.Finding.{Finding}
+use Rattle.lint_spec.specs.Findings.{is_note}
 
 -- the name of a mistake of this number
 abbrev pub name_of : ℕ → List ℕ
@@ -15,10 +16,16 @@ name_of n =
     if n == 147 then codes "Unbounded" else (
     if n == 148 then codes "NoRow" else (
     if n == 149 then codes "MisspelledTag" else (
-    if n == 156 then codes "OnlyCollected" else codes "")))))))))
+    if n == 156 then codes "OnlyCollected" else (
+    if n == 157 then codes "UnsafePlace" else (
+    if n == 158 then codes "ActiveAddress" else codes "")))))))))))
+
+-- the word before a note
+abbrev pub mark_of : ℕ → List ℕ
+mark_of n = if is_note n then codes "note " else []
 
 -- the line of a finding in the file
 abbrev pub finding_line : List ℕ → Finding → List ℕ
 finding_line path f =
-    path ++ codes ": " ++ decimal f.number ++ codes " " ++ name_of f.number ++ codes " at "
+    mark_of f.number ++ path ++ codes ": " ++ decimal f.number ++ codes " " ++ name_of f.number ++ codes " at "
     ++ decimal f.at ++ codes "\n"

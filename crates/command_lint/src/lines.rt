@@ -1,10 +1,11 @@
 // The lines of findings.
 ghost use Rattle.std.specs.Prelude.{◌≡◌, ◌++◌, IfOk};
 ghost use Rattle.std.specs.List.{flat_map};
-ghost use Rattle.command_lint.specs.Lines.{name_of as name_by, finding_line};
+ghost use Rattle.command_lint.specs.Lines.{name_of as name_by, mark_of, finding_line};
 
 use lint_spec::Finding;
 use sd_value::{NoMemory, Str};
+use site_lint::is_note;
 use token_writer::put_number;
 
 // The name of a mistake of this number.
@@ -22,8 +23,17 @@ fn name_of(number: u32) -> &'static [u8]
         148 => b"NoRow",
         149 => b"MisspelledTag",
         156 => b"OnlyCollected",
+        157 => b"UnsafePlace",
+        158 => b"ActiveAddress",
         _ => b"",
     }
+}
+
+// The word before a note.
+fn mark_of(number: u32) -> &'static [u8]
+    ensures { result.now ≡ mark_of number }
+{
+    if is_note(number) { b"note " } else { b"" }
 }
 
 // Adds the line of a finding in the file.
@@ -31,6 +41,7 @@ fn push_line(text: &mut Vec<u8>, path: &Str, finding: &Finding) -> Result<(), No
     ensures { IfOk result (λ _. text.new.items
         ≡ text.old.items ++ finding_line path.now finding.now) }
 {
+    text.extend_from_slice(mark_of(finding.number))?;
     text.extend_from_slice(path.bytes())?;
     text.extend_from_slice(b": ")?;
     put_number(finding.number as u128, text)?;

@@ -1,7 +1,9 @@
 // The findings of a query's text and of its templates'.
-ghost use Rattle.std.specs.Prelude.{◌≡◌, ◌++◌, ◌↔◌, ℕ, List, [], IfOk, IsTrue};
+ghost use Rattle.std.specs.Prelude.{◌≡◌, ◌++◌, ℕ, List, All, IfOk};
 ghost use Rattle.std.specs.List.{flat_map};
-ghost use Rattle.template_items.specs.Scanning.{AreItems};
+ghost use Rattle.template_items.specs.Scanning.{AreItems, EndsWithin};
+ghost use Rattle.text_claims.specs.Limits.{text_end};
+ghost use Rattle.lint_spec.specs.Findings.{are_notes};
 ghost use Rattle.tmpl.specs.Reading.{file_of};
 ghost use Rattle.command_lint.specs.Lines.{finding_line};
 ghost use Rattle.command_lint.specs.Asks.{Asks};
@@ -11,45 +13,35 @@ use crate::asked::AskedQuery;
 use crate::lines::push_lines;
 use crate::link_answers::QueryLinks;
 use bindings::StoreAsker;
-use command_spec::TEXT_LIMIT;
 use index_store::IndexStore;
 use lint_spec::Finding;
 use query_scoping::scopes;
 use run_report::Report;
 use sd_graph::Graph;
 use sd_value::{NoMemory, Str};
-use site_lint::{LintedSite, blocks_without_rows, findings_of, names_of};
+use site_lint::{
+    LintedSite, blocks_without_rows, findings_of, has_active_end, is_note, names_of,
+};
 use std::alloc::Global;
-use template_items::{Item, items};
+use template_items::Item;
 use text_claims::{claims_of_templates, further_labels};
 use tmpl::Templates;
 
-/// A text, and the path of its file.
+/// The items of a text of templates, and the path of its file.
 #[derive(Drop)]
-pub(crate) struct InputText<'a> {
+pub(crate) struct TemplateItems<'a> {
     pub path: &'a Str,
-    pub bytes: &'a [u8],
+    pub items: &'a [Item],
 }
 
-// The items of the text of a file of templates.
-fn template_items(alloc: Global, bytes: &[u8]) -> Result<Vec<Item>, NoMemory>
-    ensures { IfOk result (λ items. AreItems bytes.now items.items) }
+// Whether each of the findings is a note.
+fn are_notes(findings: &[Finding]) -> bool
+    ensures { result ≡ are_notes findings.now }
 {
-    // The text was read before, so that it isn't too long here.
-    if bytes.len() as u64 > TEXT_LIMIT {
-        return Err(NoMemory);
-    }
-    items(alloc, bytes)
+    findings.iter().all(|finding| is_note(finding.number))
 }
 
-// Whether there is no finding in either.
-fn are_none(in_query: &[Finding], in_templates: &[Finding]) -> bool
-    ensures { IsTrue result ↔ (in_query.now ++ in_templates.now ≡ []) }
-{
-    in_query.is_empty() && in_templates.is_empty()
-}
-
-// The lines of the findings in the query, and then of those in the templates, and whether there is none.
+// The lines of the findings in the query, and then of those in the templates, and whether each is a note.
 fn report(
     alloc: Global,
     query_path: &Str,
@@ -60,8 +52,7 @@ fn report(
     ensures text { IfOk result (λ r. r.text
         ≡ flat_map (finding_line query_path.now) in_query.now
         ++ flat_map (finding_line templates_path.now) in_templates.now) }
-    ensures clean { IfOk result (λ r. IsTrue r.passed
-        ↔ (in_query.now ++ in_templates.now ≡ [])) }
+    ensures clean { IfOk result (λ r. r.passed ≡ are_notes (in_query.now ++ in_templates.now)) }
 {
     let mut text = Vec::new(alloc);
     push_lines(&mut text, query_path, in_query)?;
@@ -69,7 +60,7 @@ fn report(
     let text = Str::of(alloc, text)?;
     Ok(Report {
         text,
-        passed: are_none(in_query, in_templates),
+        passed: are_notes(in_query) && are_notes(in_templates),
     })
 }
 
@@ -82,15 +73,18 @@ pub(crate) fn report_of(
     query_path: &Str,
     query: &AskedQuery,
     templates: &Templates,
-    template_text: &InputText,
+    template_text: &TemplateItems,
 ) -> Result<Report, NoMemory>
-    ensures { (bytes : List ℕ) → Asks bytes query.now.asked.items → IfOk result (λ r.
+    requires { All (EndsWithin text_end) template_text.now.items.now }
+    ensures { (bytes template_bytes : List ℕ) → Asks bytes query.now.asked.items
+        → AreItems template_bytes template_text.now.items.now → IfOk result (λ r.
         IsLintReport graph query.now.checked (file_of templates.now)
-        (texts_of query_path.now bytes
-        template_text.now.path.now template_text.now.bytes.now) r.text r.passed) }
+        (texts_of query_path.now bytes template_text.now.path.now template_bytes)
+        r.text r.passed) }
 {
-    let items = template_items(alloc, template_text.bytes)?;
-    let further = further_labels(alloc, &items)?;
+    let items = template_text.items;
+    let further = further_labels(alloc, items)?;
+    let has_active_end = has_active_end(alloc, graph.edges())?;
     let scopes = scopes(alloc, &query.checked)?;
     let store = IndexStore::of(alloc, graph)?;
     let mut asker = StoreAsker::of(store);
@@ -105,9 +99,10 @@ pub(crate) fn report_of(
         further: &further,
         names: &names,
         without_rows: &without_rows,
+        has_active_end,
     };
     let in_query = findings_of(alloc, &site, &query.asked)?;
-    let asked = claims_of_templates(alloc, &items)?;
+    let asked = claims_of_templates(alloc, items)?;
     let in_templates = findings_of(alloc, &site, &asked)?;
     report(
         alloc,

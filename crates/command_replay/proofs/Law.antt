@@ -3,7 +3,6 @@ use Rattle.std.proofs.Common.{◌≡◌, ◌<◌, ℕ, List, length, inl, inr, r
 use Rattle.std.specs.Prelude.{Some, Result, Ok, Err}
 use Rattle.edge_io.specs.Files.{FileMap}
 use Rattle.happenings.specs.declared.event.WireEvent.{WireEvent}
-use Rattle.serving_spec.specs.declared.HubEnd.{HubEnd}
 use Rattle.serving_spec.specs.declared.HubEnd.TheVariants as end
 use Rattle.run_report.specs.declared.status.Place.TheVariants.{At}
 use Rattle.run_report.specs.declared.status.Status.{Status}

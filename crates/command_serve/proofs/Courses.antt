@@ -24,7 +24,7 @@ use Rattle.site_inputs.proofs.ReadLemmas.{reads_fault}
 use Rattle.run_report.specs.Told.{IsOnePut}
 use Rattle.serve_run.specs.Puts.{EndHappens}
 use Rattle.serve_run.specs.Texts.{tally_text}
-use Rattle.run_report.proofs.Added.{Added, added_then, added_behind, added_none}
+use Rattle.run_report.proofs.Added.{Added, added_behind, added_none}
 use Rattle.site_serving.specs.Served.{ServesSite, ServesSiteInSteps}
 use Rattle.command_serve.specs.Ends.{serving_text, no_tally, WatchesIf, Listening}
 use Rattle.command_serve.specs.Course.{watch_of, CountsHappen, ServesThenCounts, TellsThenServes, ListensThenTells, OverCourse, ServeCourse}

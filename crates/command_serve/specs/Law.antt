@@ -1,5 +1,5 @@
 -- A run over connections ends well, unless it is out of memory, where its inputs are accepted and nothing outside fails.
-use Rattle.std.specs.Prelude.{◌≡◌, ◌<◌, ℕ, List, length, Some, Ok, Err}
+use Rattle.std.specs.Prelude.{◌≡◌, ◌<◌, ℕ, List, length, Some}
 use Rattle.wire.specs.Told.{WireReport}
 use Rattle.happenings.specs.declared.event.WireEvent.{WireEvent}
 use Rattle.run_report.specs.declared.status.Status.{Status}

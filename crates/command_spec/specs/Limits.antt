@@ -38,6 +38,10 @@ port_limit = 65535
 abbrev pub cache_limit : ℕ
 cache_limit = 4096
 
+-- the most bytes of pages that are kept
+abbrev pub cache_bytes_limit : ℕ
+cache_bytes_limit = 4294967296
+
 -- the longest wait for a connection, in milliseconds
 abbrev pub wait_limit : ℕ
 wait_limit = 4294967295

@@ -3,9 +3,10 @@ use Rattle.std.specs.Prelude.{ℕ, List, length, Bool, ◌&&◌, nat_le, Option,
 use Rattle.std.specs.List.{list_all}
 use Rattle.std.specs.Char.{is_ascii_digit}
 use Rattle.std.specs.Str.Parse.{digits_value}
-use Rattle.command_spec.specs.Limits.{count_limit, port_limit, cache_limit, wait_limit, open_limit}
+use Rattle.command_spec.specs.Limits.{count_limit, port_limit, cache_limit, cache_bytes_limit}
+use Rattle.command_spec.specs.Limits.{wait_limit, open_limit}
 use Rattle.command_spec.specs.declared.numbers.NumberOption.{NumberOption}
-use Rattle.command_spec.specs.declared.numbers.NumberOption.TheVariants.{Port, Connections, Requests, Turns, Cache}
+use Rattle.command_spec.specs.declared.numbers.NumberOption.TheVariants.{Port, Connections, Requests, Turns, Cache, CacheBytes}
 use Rattle.command_spec.specs.declared.numbers.NumberOption.TheVariants.{Idle, Stall, OpenAtOnce, Every}
 use Rattle.command_spec.specs.declared.options.ValueOption.TheVariants.{Number}
 use Rattle.command_spec.specs.Values.{Given}
@@ -17,6 +18,7 @@ greatest Connections = count_limit
 greatest Requests = count_limit
 greatest Turns = count_limit
 greatest Cache = cache_limit
+greatest CacheBytes = cache_bytes_limit
 greatest Idle = wait_limit
 greatest Stall = wait_limit
 greatest OpenAtOnce = open_limit
@@ -29,6 +31,7 @@ default_of Connections = count_limit
 default_of Requests = 1
 default_of Turns = count_limit
 default_of Cache = 256
+default_of CacheBytes = 67108864
 default_of Idle = 5000
 default_of Stall = 10000
 default_of OpenAtOnce = open_limit

@@ -1,6 +1,7 @@
 -- The ranges in which the numbers of a command lie.
 use Rattle.std.specs.Prelude.{ℕ, ◌≤◌, IfSome, ⊤}
-use Rattle.command_spec.specs.Limits.{entry_limit, count_limit, port_limit, cache_limit, wait_limit, open_limit}
+use Rattle.command_spec.specs.Limits.{entry_limit, count_limit, port_limit, cache_limit, cache_bytes_limit}
+use Rattle.command_spec.specs.Limits.{wait_limit, open_limit}
 use Rattle.command_spec.specs.declared.RunLimits.{RunLimits}
 use Rattle.command_spec.specs.declared.ServeOptions.{ServeOptions}
 use Rattle.command_spec.specs.declared.ServeWaits.{ServeWaits}
@@ -19,6 +20,7 @@ pub record AreLimits (limits : RunLimits) : Type 0 where
   pub requests : IsFrom1To count_limit limits.requests
   pub turns : IsFrom1To count_limit limits.turns
   pub cache : IsFrom1To cache_limit limits.cache
+  pub cache_bytes : IsFrom1To cache_bytes_limit limits.cache_bytes
 
 -- the waits of `serve` are in their ranges
 pub record AreWaits (waits : ServeWaits) : Type 0 where

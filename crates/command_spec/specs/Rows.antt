@@ -4,10 +4,10 @@ use Rattle.std.specs.Prelude.{if◌then◌else◌, codes}
 use Rattle.std.specs.Option.{option_copied}
 use Rattle.std.specs.Str.{bytes_eq}
 use Rattle.command_spec.specs.declared.numbers.NumberOption.TheVariants.{Port, Connections, Requests}
-use Rattle.command_spec.specs.declared.numbers.NumberOption.TheVariants.{Turns, Cache, Idle, Stall, OpenAtOnce, Every}
-use Rattle.command_spec.specs.declared.options.PathOption.TheVariants.{Watch, Over}
+use Rattle.command_spec.specs.declared.numbers.NumberOption.TheVariants.{Turns, Cache, CacheBytes, Idle, Stall, OpenAtOnce, Every}
+use Rattle.command_spec.specs.declared.options.TextOption.TheVariants.{Host, Watch, Over}
 use Rattle.command_spec.specs.declared.options.ValueOption.{ValueOption}
-use Rattle.command_spec.specs.declared.options.ValueOption.TheVariants.{Number, Path}
+use Rattle.command_spec.specs.declared.options.ValueOption.TheVariants.{Number, Text}
 use Rattle.command_spec.specs.declared.rows.CommandRow.{CommandRow}
 use Rattle.command_spec.specs.declared.rows.CommandName.{CommandName}
 use Rattle.command_spec.specs.declared.rows.CommandName.TheVariants.{Page, Build, Data, Explain, Schema, Check, Lint}
@@ -26,16 +26,18 @@ pub record Row : Type 0 where
 -- the options of `serve`
 abbrev pub options_of_serve : List ValueOption
 options_of_serve =
-    Number Port ∷ Number Connections ∷ Number Requests ∷ Number Turns ∷ Number Cache
-    ∷ Number Idle ∷ Number Stall ∷ Number OpenAtOnce ∷ Path Watch ∷ Number Every ∷ Path Over ∷ []
+    Number Port ∷ Text Host ∷ Number Connections ∷ Number Requests ∷ Number Turns ∷ Number Cache
+    ∷ Number CacheBytes ∷ Number Idle ∷ Number Stall ∷ Number OpenAtOnce ∷ Text Watch ∷ Number Every
+    ∷ Text Over ∷ []
 
 -- the options of `replay`
 abbrev pub options_of_replay : List ValueOption
-options_of_replay = Number Requests ∷ Number Turns ∷ Number Cache ∷ Path Over ∷ []
+options_of_replay =
+    Text Host ∷ Number Requests ∷ Number Turns ∷ Number Cache ∷ Number CacheBytes ∷ Text Over ∷ []
 
 -- the options of `page`, `build` and `data`
 abbrev pub options_of_page : List ValueOption
-options_of_page = Path Over ∷ []
+options_of_page = Text Over ∷ []
 
 -- the row of `page`
 abbrev pub page_row : Row
@@ -183,10 +185,12 @@ serve_row = record {
       ++ codes "  TEMPLATES        the file of the templates\n"
       ++ codes "  DATA             a data file: data text, CSV, JSON or BibTeX\n"
       ++ codes "  --port N         the port, 1 to 65535 (8080)\n"
+      ++ codes "  --host NAME,..   the hosts whose requests are answered (all)\n"
       ++ codes "  --connections N  connections that are taken, 1 to 4294967296 (4294967296)\n"
       ++ codes "  --requests N     replies of one connection, 1 to 4294967296 (1)\n"
       ++ codes "  --turns N        events that are taken, 1 to 4294967296 (4294967296)\n"
       ++ codes "  --cache N        pages that are kept, 1 to 4096 (256)\n"
+      ++ codes "  --cache-bytes N  bytes of the pages that are kept, 1 to 4294967296 (67108864)\n"
       ++ codes "  --idle MS        milliseconds that a silent client has, 1 to 4294967295 (5000)\n"
       ++ codes "  --stall MS       milliseconds that a reply waits for its client, 1 to 4294967295 "
       ++ codes "(10000)\n"
@@ -214,9 +218,11 @@ replay_row = record {
       ++ codes "  TEMPLATES        the file of the templates\n"
       ++ codes "  SCRIPT           the file of the events\n"
       ++ codes "  DATA             a data file: data text, CSV, JSON or BibTeX\n"
+      ++ codes "  --host NAME,..   the hosts whose requests are answered (all)\n"
       ++ codes "  --requests N     replies of one connection, 1 to 4294967296 (1)\n"
       ++ codes "  --turns N        events that are taken, 1 to 4294967296 (4294967296)\n"
       ++ codes "  --cache N        pages that are kept, 1 to 4096 (256)\n"
+      ++ codes "  --cache-bytes N  bytes of the pages that are kept, 1 to 4294967296 (67108864)\n"
       ++ codes "  --over FILE      a first query, whose site over the data files is the data\n"
       ++ codes "  --lenient        reads CSV and JSON by the lenient rules\n";
 }

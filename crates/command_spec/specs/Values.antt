@@ -5,12 +5,12 @@ use Rattle.std.specs.List.{list_all, list_any}
 use Rattle.std.specs.Str.{bytes_eq}
 use Rattle.command_spec.specs.Options.{Setting}
 use Rattle.command_spec.specs.declared.numbers.NumberOption.{NumberOption}
-use Rattle.command_spec.specs.declared.numbers.NumberOption.TheVariants.{Port, Connections, Requests, Turns, Cache}
+use Rattle.command_spec.specs.declared.numbers.NumberOption.TheVariants.{Port, Connections, Requests, Turns, Cache, CacheBytes}
 use Rattle.command_spec.specs.declared.numbers.NumberOption.TheVariants.{Idle, Stall, OpenAtOnce, Every}
-use Rattle.command_spec.specs.declared.options.PathOption.{PathOption}
-use Rattle.command_spec.specs.declared.options.PathOption.TheVariants.{Watch, Over}
+use Rattle.command_spec.specs.declared.options.TextOption.{TextOption}
+use Rattle.command_spec.specs.declared.options.TextOption.TheVariants.{Host, Watch, Over}
 use Rattle.command_spec.specs.declared.options.ValueOption.{ValueOption}
-use Rattle.command_spec.specs.declared.options.ValueOption.TheVariants.{Number, Path}
+use Rattle.command_spec.specs.declared.options.ValueOption.TheVariants.{Number, Text}
 
 -- the name of an option whose value is a number
 abbrev pub number_name : NumberOption → List ℕ
@@ -19,20 +19,22 @@ number_name Connections = codes "connections"
 number_name Requests = codes "requests"
 number_name Turns = codes "turns"
 number_name Cache = codes "cache"
+number_name CacheBytes = codes "cache-bytes"
 number_name Idle = codes "idle"
 number_name Stall = codes "stall"
 number_name OpenAtOnce = codes "open"
 number_name Every = codes "every"
 
--- the name of an option whose value is a path
-abbrev pub path_name : PathOption → List ℕ
-path_name Watch = codes "watch"
-path_name Over = codes "over"
+-- the name of an option whose value is another text
+abbrev pub text_name : TextOption → List ℕ
+text_name Host = codes "host"
+text_name Watch = codes "watch"
+text_name Over = codes "over"
 
 -- the option's name
 abbrev pub option_name : ValueOption → List ℕ
 option_name (Number option) = number_name option
-option_name (Path option) = path_name option
+option_name (Text option) = text_name option
 
 -- how the option is written
 abbrev pub option_word : ValueOption → List ℕ

@@ -1,13 +1,13 @@
 -- Which words give a command.
-use Rattle.std.specs.Prelude.{ℕ, suc, ◌+◌, List, [], ◌∷◌, ◌++◌, take, drop, Bool, true, false, ◌&&◌, ◌||◌, not}
+use Rattle.std.specs.Prelude.{ℕ, suc, ◌+◌, ◌==◌, List, [], ◌∷◌, ◌++◌, take, drop, Bool, true, false, ◌&&◌, ◌||◌, not}
 use Rattle.std.specs.Prelude.{Option, None, Some, option_map, option_and_then, if◌then◌else◌, codes}
-use Rattle.std.specs.List.{list_all}
+use Rattle.std.specs.List.{list_all, list_any, slice_split}
 use Rattle.std.specs.Str.{bytes_eq, is_utf8}
 use Rattle.command_spec.specs.Limits.{entry_limit}
 use Rattle.command_spec.specs.declared.numbers.NumberOption.TheVariants.{Port, Connections, Requests}
-use Rattle.command_spec.specs.declared.numbers.NumberOption.TheVariants.{Turns, Cache, Idle, Stall, OpenAtOnce, Every}
-use Rattle.command_spec.specs.declared.options.PathOption.TheVariants.{Watch, Over}
-use Rattle.command_spec.specs.declared.options.ValueOption.TheVariants.{Number, Path}
+use Rattle.command_spec.specs.declared.numbers.NumberOption.TheVariants.{Turns, Cache, CacheBytes, Idle, Stall, OpenAtOnce, Every}
+use Rattle.command_spec.specs.declared.options.TextOption.TheVariants.{Host, Watch, Over}
+use Rattle.command_spec.specs.declared.options.ValueOption.TheVariants as values
 use Rattle.command_spec.specs.declared.rows.CommandName.{CommandName}
 use Rattle.command_spec.specs.declared.rows.CommandName.TheVariants as names
 use Rattle.command_spec.specs.declared.rows.Flags.{Flags}
@@ -162,13 +162,40 @@ replay_command limits lenient over words = None
 
 -- ---- options
 
--- the limits of a run
-abbrev pub run_limits : Given → Option RunLimits
-run_limits given = do
+-- whether the byte is a comma
+abbrev pub is_comma : ℕ → Bool
+is_comma byte = byte == 44
+
+-- the hosts of the text of `--host`, none of which is empty between the commas, if it is given
+abbrev pub hosts_by : Option (List ℕ) → Option (Option (List ℕ))
+hosts_by None = Some None
+hosts_by (Some text) =
+    if list_any is_empty (slice_split is_comma text) then None else Some (Some text)
+
+-- the hosts whose requests are answered, if not all
+abbrev pub given_hosts : Given → Option (Option (List ℕ))
+given_hosts given = hosts_by (given (values.Text Host))
+
+-- the limits of a run in which requests for these hosts are answered
+abbrev pub limits_with : Option (List ℕ) → Given → Option RunLimits
+limits_with hosts given = do
   requests ← number_of Requests given
   turns ← number_of Turns given
   cache ← number_of Cache given
-  Some (record { requests = requests; turns = turns; cache = cache })
+  cache_bytes ← number_of CacheBytes given
+  Some (record {
+    hosts = hosts;
+    requests = requests;
+    turns = turns;
+    cache = cache;
+    cache_bytes = cache_bytes;
+  })
+
+-- the limits of a run
+abbrev pub run_limits : Given → Option RunLimits
+run_limits given = do
+  hosts ← given_hosts given
+  limits_with hosts given
 
 -- how long `serve` waits for a connection, and for how many at once
 abbrev pub serve_waits : Given → Option ServeWaits
@@ -178,12 +205,11 @@ serve_waits given = do
   at_once ← number_of OpenAtOnce given
   Some (record { idle = idle; stall = stall; at_once = at_once })
 
--- the options of `serve`, with or without its flag
-abbrev pub serve_options : Bool → Given → Option ServeOptions
-serve_options whole given = do
+-- the options of `serve` with these limits, with or without its flag
+abbrev pub options_with : Bool → RunLimits → Given → Option ServeOptions
+options_with whole limits given = do
   port ← number_of Port given
   connections ← number_of Connections given
-  limits ← run_limits given
   waits ← serve_waits given
   Some (record {
     port = port;
@@ -192,6 +218,12 @@ serve_options whole given = do
     waits = waits;
     whole = whole;
   })
+
+-- the options of `serve`, with or without its flag
+abbrev pub serve_options : Bool → Given → Option ServeOptions
+serve_options whole given = do
+  limits ← run_limits given
+  options_with whole limits given
 
 -- the file that is watched, if one is, by the texts of `--watch` and of `--every`, which doesn't stand alone
 abbrev pub watch_by : Option (List ℕ) → Option (List ℕ) → Option (Option WatchOptions)
@@ -203,11 +235,11 @@ watch_by (Some path) text =
 
 -- the file that `serve` watches
 abbrev pub serve_watch : Given → Option (Option WatchOptions)
-serve_watch given = watch_by (given (Path Watch)) (given (Number Every))
+serve_watch given = watch_by (given (values.Text Watch)) (given (values.Number Every))
 
 -- the file of the first query, if there is one
 abbrev pub first_query : Given → Option (List ℕ)
-first_query given = given (Path Over)
+first_query given = given (values.Text Over)
 
 -- `serve` with these options and words
 abbrev pub serve_with_words : Flags → Given → List (List ℕ) → Option Command

@@ -12,7 +12,7 @@ mod rows;
 
 pub use limits::{DATA_LIMIT, SCRIPT_LIMIT, TEXT_LIMIT};
 pub use numbers::NumberOption;
-pub use options::{PathOption, ValueOption};
+pub use options::{TextOption, ValueOption};
 pub use rows::{CommandName, CommandRow, Flags};
 use sd_value::{NoMemory, Str};
 use std::alloc::Global;
@@ -144,14 +144,18 @@ pub struct LintCommand {
 }
 
 /// The limits of a run over connections.
-#[derive(Clone, Copy, Debug, PartialEq, Eq)]
+#[derive(Debug, Drop)]
 pub struct RunLimits {
+    /// The hosts whose requests are answered, with commas between them; without them all are.
+    pub hosts: Option<Str>,
     /// Replies per connection, 1 to 4,294,967,296.
     pub requests: u64,
     /// Events that are taken, 1 to 4,294,967,296.
     pub turns: u64,
     /// Pages that are kept, 1 to 4,096.
     pub cache: u32,
+    /// Their bytes together, 1 to 4,294,967,296.
+    pub cache_bytes: u64,
 }
 
 /// How long `serve` waits for a connection, in milliseconds, and for how many at once.
@@ -166,7 +170,7 @@ pub struct ServeWaits {
 }
 
 /// The options of `serve`.
-#[derive(Clone, Copy, Debug, PartialEq, Eq)]
+#[derive(Debug, Drop)]
 pub struct ServeOptions {
     /// The port that is listened at, 1 to 65,535.
     pub port: u16,

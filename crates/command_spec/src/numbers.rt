@@ -11,6 +11,7 @@ pub enum NumberOption {
     Requests,
     Turns,
     Cache,
+    CacheBytes,
     Idle,
     Stall,
     OpenAtOnce,
@@ -28,6 +29,7 @@ impl NumberOption {
             NumberOption::Requests => "requests",
             NumberOption::Turns => "turns",
             NumberOption::Cache => "cache",
+            NumberOption::CacheBytes => "cache-bytes",
             NumberOption::Idle => "idle",
             NumberOption::Stall => "stall",
             NumberOption::OpenAtOnce => "open",
@@ -44,6 +46,7 @@ impl NumberOption {
             NumberOption::Connections
             | NumberOption::Requests
             | NumberOption::Turns
+            | NumberOption::CacheBytes
             | NumberOption::Every => 4_294_967_296,
             NumberOption::Cache => 4_096,
             NumberOption::Idle | NumberOption::Stall => 4_294_967_295,
@@ -60,6 +63,7 @@ impl NumberOption {
             NumberOption::Connections | NumberOption::Turns => 4_294_967_296,
             NumberOption::Requests | NumberOption::Every => 1,
             NumberOption::Cache => 256,
+            NumberOption::CacheBytes => 67_108_864,
             NumberOption::Idle => 5_000,
             NumberOption::Stall => 10_000,
             NumberOption::OpenAtOnce => 16_384,

@@ -4,30 +4,32 @@ ghost use Rattle.command_spec.specs.Values as specs;
 
 use crate::numbers::NumberOption;
 
-/// An option whose value is a path.
+/// An option whose value is a path, or names.
 #[derive(Clone, Copy, Debug, PartialEq, Eq)]
-pub enum PathOption {
+pub enum TextOption {
+    Host,
     Watch,
     Over,
 }
 
-impl PathOption {
+impl TextOption {
     /// The name of the option, without its dashes.
     pub fn name<'a>(self) -> &'a str
-        ensures { result.now ≡ specs.path_name self }
+        ensures { result.now ≡ specs.text_name self }
     {
         match self {
-            PathOption::Watch => "watch",
-            PathOption::Over => "over",
+            TextOption::Host => "host",
+            TextOption::Watch => "watch",
+            TextOption::Over => "over",
         }
     }
 }
 
-/// An option with a value: a number, or a path.
+/// An option with a value: a number, or another text.
 #[derive(Clone, Copy, Debug, PartialEq, Eq)]
 pub enum ValueOption {
     Number(NumberOption),
-    Path(PathOption),
+    Text(TextOption),
 }
 
 impl ValueOption {
@@ -37,7 +39,7 @@ impl ValueOption {
     {
         match self {
             ValueOption::Number(option) => option.name(),
-            ValueOption::Path(option) => option.name(),
+            ValueOption::Text(option) => option.name(),
         }
     }
 }

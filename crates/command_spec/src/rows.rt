@@ -4,7 +4,7 @@ ghost use Rattle.std.specs.Option.{option_copied};
 ghost use Rattle.command_spec.specs.Rows as specs;
 
 use crate::numbers::NumberOption;
-use crate::options::{PathOption, ValueOption};
+use crate::options::{TextOption, ValueOption};
 
 /// The name of a command: the first word of a command line.
 #[derive(Clone, Copy, Debug, PartialEq, Eq)]
@@ -51,27 +51,31 @@ pub struct Flags {
 
 const LENIENT: &str = "--lenient";
 
-const PAGE_OPTIONS: &[ValueOption] = &[ValueOption::Path(PathOption::Over)];
+const PAGE_OPTIONS: &[ValueOption] = &[ValueOption::Text(TextOption::Over)];
 
 const REPLAY_OPTIONS: &[ValueOption] = &[
+    ValueOption::Text(TextOption::Host),
     ValueOption::Number(NumberOption::Requests),
     ValueOption::Number(NumberOption::Turns),
     ValueOption::Number(NumberOption::Cache),
-    ValueOption::Path(PathOption::Over),
+    ValueOption::Number(NumberOption::CacheBytes),
+    ValueOption::Text(TextOption::Over),
 ];
 
 const SERVE_OPTIONS: &[ValueOption] = &[
     ValueOption::Number(NumberOption::Port),
+    ValueOption::Text(TextOption::Host),
     ValueOption::Number(NumberOption::Connections),
     ValueOption::Number(NumberOption::Requests),
     ValueOption::Number(NumberOption::Turns),
     ValueOption::Number(NumberOption::Cache),
+    ValueOption::Number(NumberOption::CacheBytes),
     ValueOption::Number(NumberOption::Idle),
     ValueOption::Number(NumberOption::Stall),
     ValueOption::Number(NumberOption::OpenAtOnce),
-    ValueOption::Path(PathOption::Watch),
+    ValueOption::Text(TextOption::Watch),
     ValueOption::Number(NumberOption::Every),
-    ValueOption::Path(PathOption::Over),
+    ValueOption::Text(TextOption::Over),
 ];
 
 const PAGE: CommandRow = CommandRow {
@@ -220,10 +224,12 @@ Serves the pages of the site on 127.0.0.1 over HTTP.\n\
 \x20 TEMPLATES        the file of the templates\n\
 \x20 DATA             a data file: data text, CSV, JSON or BibTeX\n\
 \x20 --port N         the port, 1 to 65535 (8080)\n\
+\x20 --host NAME,..   the hosts whose requests are answered (all)\n\
 \x20 --connections N  connections that are taken, 1 to 4294967296 (4294967296)\n\
 \x20 --requests N     replies of one connection, 1 to 4294967296 (1)\n\
 \x20 --turns N        events that are taken, 1 to 4294967296 (4294967296)\n\
 \x20 --cache N        pages that are kept, 1 to 4096 (256)\n\
+\x20 --cache-bytes N  bytes of the pages that are kept, 1 to 4294967296 (67108864)\n\
 \x20 --idle MS        milliseconds that a silent client has, 1 to 4294967295 (5000)\n\
 \x20 --stall MS       milliseconds that a reply waits for its client, 1 to 4294967295 (10000)\n\
 \x20 --open N         connections that are open at once, 1 to 16384 (16384)\n\
@@ -250,9 +256,11 @@ Serves the pages of the site to the connections of a script, and prints the repl
 \x20 TEMPLATES        the file of the templates\n\
 \x20 SCRIPT           the file of the events\n\
 \x20 DATA             a data file: data text, CSV, JSON or BibTeX\n\
+\x20 --host NAME,..   the hosts whose requests are answered (all)\n\
 \x20 --requests N     replies of one connection, 1 to 4294967296 (1)\n\
 \x20 --turns N        events that are taken, 1 to 4294967296 (4294967296)\n\
 \x20 --cache N        pages that are kept, 1 to 4096 (256)\n\
+\x20 --cache-bytes N  bytes of the pages that are kept, 1 to 4294967296 (67108864)\n\
 \x20 --over FILE      a first query, whose site over the data files is the data\n\
 \x20 --lenient        reads CSV and JSON by the lenient rules\n",
 };

@@ -12,7 +12,7 @@ use Rattle.http_spec.specs.declared.Standing.TheVariants.{Open, Closed, Short}
 use Rattle.http_spec.specs.Asks.{ask_of}
 use Rattle.http_spec.specs.Heads.{IsHead, HasNoHead, Cuts, print_heads}
 use Rattle.http_spec.specs.Replies.{no_memory_bytes, reply_bytes}
-use Rattle.http_spec.specs.Sessions.{OutcomeAt, IsLookedUp, IsReply, IsRefused}
+use Rattle.http_spec.specs.Sessions.{Showing, IsLookedUp, IsReply, IsRefused}
 use Rattle.http_spec.proofs.HeadLemmas.{cuts_unique, cuts_longest}
 use Rattle.wire.specs.Accounts.{Account, gain, close_to}
 use Rattle.hub.specs.Line.{Line}
@@ -65,13 +65,16 @@ opening before after is (inr (Err failed, account, (would, sent, next, some, fro
     inr (none, λ fine. risen after.faults (subst (λ (a : At). Rose a.faults after.faults) is rose) fine.0)
 
 -- what the connection was sent, and the term that was looked up for it
-pub record Replied (page : OutcomeAt) (Names : List ℕ → Term → Type 0) (target : List ℕ) (made : Made) (account : Option Account) : Type 0 where
+pub record Replied (page : Showing) (Names : List ℕ → Term → Type 0) (target : List ℕ) (made : Made) (account : Option Account) : Type 0 where
   pub outcome : Outcome
-  pub is : page target outcome
+  pub is : page.outcome target outcome
   pub reply : bytes_taken account ≡ reply_to outcome
   pub named : NamedBy Names target made.terms
 
-module _ (page : OutcomeAt) (Names : List ℕ → Term → Type 0) (target : List ℕ) (askable : IsAskable target) where
+module _ (page : Showing) (any : page.hosts ≡ None) (Names : List ℕ → Term → Type 0) (target : List ℕ) (askable : IsAskable target) where
+  asks_page : (h : RequestHead) → h ≡ head_of target → ask_of page.hosts h ≡ page_ask
+  asks_page h same = ap (λ hosts. ask_of hosts h) any ∙ ap (ask_of None) same ∙ asks target
+
   -- where one reply closes a connection, no head is answered by replies that leave it open
   none_answered : (heads : List RequestHead) (replies : List (List ℕ)) → AreReplies page 1 heads replies false → (heads ≡ []) × (replies ≡ [])
   none_answered [] [] h = (refl, refl)
@@ -98,23 +101,23 @@ module _ (page : OutcomeAt) (Names : List ℕ → Term → Type 0) (target : Lis
       let longer = cuts_longest (request target) (head_of target ∷ []) (h ∷ []) [] more (cuts target askable) each whole in
       (let same : head_of target ∷ [] ≡ h ∷ longer.0 = longer.1 in cc)
 
-  reply_is : (h : RequestHead) (reply : List ℕ) → h ≡ head_of target → IsReply page h true reply → (outcome : Outcome) × page target outcome × (reply ≡ reply_to outcome)
+  reply_is : (h : RequestHead) (reply : List ℕ) → h ≡ head_of target → IsReply page h true reply → (outcome : Outcome) × page.outcome target outcome × (reply ≡ reply_to outcome)
   reply_is h reply same (outcome, looked, is) =
-      let ask : ask_of h ≡ page_ask = ap ask_of same ∙ asks target in (
+      let ask = asks_page h same in (
         outcome,
         subst (λ (x : RequestHead). IsLookedUp page page_ask.kind x.target outcome) same (subst (λ (a : ParsedRequest). IsLookedUp page a.kind h.target outcome) ask looked),
         is ∙ ap (λ (a : ParsedRequest). reply_bytes a outcome true) ask,
       )
 
-  looks_are : (h : RequestHead) (made : Made) (looked extra : List Term) → h ≡ head_of target → LooksUpAll Names (h ∷ []) looked → extra ≡ [] → made.terms ≡ looked ++ extra → NamedBy Names target made.terms
+  looks_are : (h : RequestHead) (made : Made) (looked extra : List Term) → h ≡ head_of target → LooksUpAll page.hosts Names (h ∷ []) looked → extra ≡ [] → made.terms ≡ looked ++ extra → NamedBy Names target made.terms
   looks_are h made looked extra same (first, others, up, none, is) no_extra terms =
-      let ask : ask_of h ≡ page_ask = ap ask_of same ∙ asks target in
+      let ask = asks_page h same in
       let named : NamedBy Names target first = subst (λ (x : RequestHead). LooksUp Names page_ask.kind x.target first) same (subst (λ (a : ParsedRequest). LooksUp Names a.kind h.target first) ask up) in
       let all : made.terms ≡ first = terms ∙ ap (λ e. looked ++ e) no_extra ∙ append-nil looked ∙ is ∙ ap (λ o. first ++ o) none ∙ append-nil first in
       subst (NamedBy Names target) (sym all) named
 
   closed_by : (made : Made) (account : Option Account) (heads : List RequestHead) (replies : List (List ℕ)) (more : List ℕ)
-      → ClosedAfter page 1 (request target) replies heads more → Makes Names Closed heads replies made → account ≡ gain (Some unsent) replies → Replied page Names target made (close_to account)
+      → ClosedAfter page 1 (request target) replies heads more → Makes page.hosts Names Closed heads replies made → account ≡ gain (Some unsent) replies → Replied page Names target made (close_to account)
   closed_by made account [] [] more closed makes sent = absurd (let wrong : true ≡ false = closed.answered in cc)
   closed_by made account [] (r ∷ rs) more closed makes sent = absurd closed.answered
   closed_by made account (h ∷ hs) [] more closed makes sent = absurd closed.answered
@@ -127,7 +130,7 @@ module _ (page : OutcomeAt) (Names : List ℕ → Term → Type 0) (target : Lis
         outcome = told.0;
         is = told.1;
         reply = ap (λ a. bytes_taken (close_to a)) sent ∙ ap (λ others. bytes_taken (close_to (gain (Some unsent) (r ∷ others)))) end.1 ∙ append-nil r ∙ told.2;
-        named = looks_are h made makes.looked makes.extra same (subst (λ ks. LooksUpAll Names (h ∷ ks) makes.looked) one makes.look_ups) makes.may makes.terms;
+        named = looks_are h made makes.looked makes.extra same (subst (λ ks. LooksUpAll page.hosts Names (h ∷ ks) makes.looked) one makes.look_ups) makes.may makes.terms;
       }
 
   short_replies : (heads : List RequestHead) (answered replies : List (List ℕ)) → AreReplies page 1 heads answered false → replies ≡ answered ++ no_memory_bytes ∷ [] → replies ≡ no_memory_bytes ∷ []
@@ -143,7 +146,7 @@ module _ (page : OutcomeAt) (Names : List ℕ → Term → Type 0) (target : Lis
   served made (Ok Closed) held account now (replies, (heads, (sent_now, new, inl (more, closed)), makes), sent, faults) is_account is_line = (
     is_line,
     λ fine. subst (Replied page Names target made) (sym is_account)
-        (closed_by made account heads sent_now more closed (subst (λ rs. Makes Names Closed heads rs made) new makes) (sent ∙ ap (gain (Some unsent)) new)),
+        (closed_by made account heads sent_now more closed (subst (λ rs. Makes page.hosts Names Closed heads rs made) new makes) (sent ∙ ap (gain (Some unsent)) new)),
   )
   served made (Ok Closed) held account now (replies, (heads, (sent_now, new, inr (rest, answered, refused)), makes), sent, faults) is_account is_line =
       absurd (never_refused heads rest answered refused.whole refused.answers refused.why)
@@ -158,7 +161,7 @@ module _ (page : OutcomeAt) (Names : List ℕ → Term → Type 0) (target : Lis
       served made told.0 told.1 told.2 new told.3 told.4 told.5
 
 -- nothing more is done to a connection that is over
-pub passed_over : (page : OutcomeAt) (Names : List ℕ → Term → Type 0) (bytes : List ℕ) (made : Made) (old new : At) → old.line ≡ None → TakesPiece page Names bytes made old.line old new → (new ≡ old) × (made ≡ nothing)
+pub passed_over : (page : Showing) (Names : List ℕ → Term → Type 0) (bytes : List ℕ) (made : Made) (old new : At) → old.line ≡ None → TakesPiece page Names bytes made old.line old new → (new ≡ old) × (made ≡ nothing)
 passed_over page Names bytes made old new over takes = subst (λ line. TakesPiece page Names bytes made line old new) over takes
 
 pub finished : (made : Made) (old new : At) → old.line ≡ None → Finishes made old.line old new → (new ≡ old) × (made ≡ nothing)

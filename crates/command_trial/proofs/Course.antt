@@ -7,7 +7,7 @@ use Rattle.sd_value.specs.declared.Term.{Term}
 use Rattle.page_spec.specs.declared.Outcome.{Outcome}
 use Rattle.page_spec.specs.declared.Outcome.TheVariants.{Missing}
 use Rattle.page_spec.specs.Address.{TermOf}
-use Rattle.page_spec.specs.Page.{IsOutcome, PageAt}
+use Rattle.page_spec.specs.Page.{IsOutcome}
 use Rattle.page_spec.specs.Site.{Site}
 use Rattle.tmpl.specs.Body.{TemplateFile}
 use Rattle.happenings.specs.Happening.{Happening}
@@ -15,6 +15,8 @@ use Rattle.happenings.specs.declared.event.WireEvent.{WireEvent}
 use Rattle.happenings.specs.declared.event.WireEvent.TheVariants.{Opened, Bytes, Ended, Done}
 use Rattle.serving_spec.specs.Changes.{Changes}
 use Rattle.serving_spec.specs.Looks.{Kept, LooksIn}
+use Rattle.serving_spec.specs.Shown.{shown_in}
+use Rattle.serving_spec.specs.declared.Origin.{Origin}
 use Rattle.hub.specs.Course.{Scene, Rules, Passes, PassesAll}
 use Rattle.serving_spec.specs.Made.{Made, nothing, AllLooked}
 use Rattle.hub.specs.Turns.{At, Opens, TakesPiece, Finishes}
@@ -28,9 +30,13 @@ use Rattle.command_trial.specs.Replies.{reply_to}
 use Rattle.trial_spec.specs.Requests.{request}
 use Rattle.command_trial.proofs.Connections.{unopened, opened, Fine, IsTroubled, opening, Replied, piece, passed_over, finished}
 
+-- any host is answered
+abbrev pub origin_under : Option (List ℕ) → Origin
+origin_under root = record { root = root; hosts = None }
+
 module _ {D : Type 0} (root : Option (List ℕ)) (site : D → Site) (templates : D → TemplateFile) (texts : Changes D) (still : D) where
   abbrev rules : Rules D Kept
-  rules = run_rules root site templates texts
+  rules = run_rules (origin_under root) site templates texts
 
   abbrev Looks : Kept → Term → Kept → Type 0
   Looks = LooksIn (IsOutcome (site still) (templates still))
@@ -67,7 +73,7 @@ module _ {D : Type 0} (root : Option (List ℕ)) (site : D → Site) (templates 
     greatest : d.greatest ≡ Some number
     greatest = r.greatest ∙ q.greatest ∙ p.greatest ∙ (ap (λ t. if t then Some number else a.greatest) new)
 
-    takes : TakesPiece (PageAt root (site still) (templates still)) Names (request target) q.made (b.ats number).line (b.ats number) (c.ats number)
+    takes : TakesPiece (shown_in (origin_under root) site templates still) Names (request target) q.made (b.ats number).line (b.ats number) (c.ats number)
     takes = subst (λ (f : D). TakesPiece (rules.Page f) Names (request target) q.made (b.ats number).line (b.ats number) (c.ats number)) current_b q.turned.0
 
     looked : AllLooked Looks a.cache q.made.terms c.cache
@@ -88,7 +94,7 @@ module _ {D : Type 0} (root : Option (List ℕ)) (site : D → Site) (templates 
 
         by : (b.ats number ≡ opened) ⊎ IsTroubled (b.ats number) → OneAsked number target a d
         by (inl is_open) =
-            let sent = piece (PageAt root (site still) (templates still)) Names target askable q.made (b.ats number) (c.ats number) is_open takes in
+            let sent = piece (shown_in (origin_under root) site templates still) refl Names target askable q.made (b.ats number) (c.ats number) is_open takes in
             let end = ended sent.0 in
             told (λ fine.
             let replied = sent.1 (subst Fine end.0 fine) in (
@@ -97,7 +103,7 @@ module _ {D : Type 0} (root : Option (List ℕ)) (site : D → Site) (templates 
               ap (λ (x : At). bytes_taken x.account) end.0 ∙ replied.reply,
             ))
         by (inr (over, troubled)) =
-            let passed = passed_over (PageAt root (site still) (templates still)) Names (request target) q.made (b.ats number) (c.ats number) over takes in
+            let passed = passed_over (shown_in (origin_under root) site templates still) Names (request target) q.made (b.ats number) (c.ats number) over takes in
             let end = ended (ap (λ (x : At). x.line) passed.0 ∙ over) in
             told (λ fine. absurd (troubled (subst Fine (end.0 ∙ passed.0) fine)))
 

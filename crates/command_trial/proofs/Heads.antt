@@ -1,5 +1,5 @@
 -- The head of a request for a target.
-use Rattle.std.proofs.Common.{◌≡◌, ℕ, zero, suc, ◌+◌, ◌<◌, ◌≤◌, Bool, true, false, List, [], ◌∷◌, ◌++◌, length, All, IsTrue, codes, slice_index, refl, sym, ap, ◌∙◌, subst, arith, append-nil, lit<, length-append}
+use Rattle.std.proofs.Common.{◌≡◌, ℕ, zero, suc, ◌+◌, ◌<◌, ◌≤◌, Bool, true, false, List, [], ◌∷◌, ◌++◌, length, All, IsTrue, codes, slice_index, None, refl, sym, ap, ◌∙◌, subst, arith, append-nil, lit<, length-append}
 use Rattle.std.specs.Prelude.{◌&&◌, not, nat_lt, ◌==◌, IsUtf8}
 use Rattle.std.specs.List.{list_all}
 use Rattle.std.proofs.lemmas.Bool.Decides.{nat_tests}
@@ -33,7 +33,7 @@ head_of target = record {
 pub printed : (target : List ℕ) → print_request (head_of target) ≡ request target
 printed target = sym (append-nil (print_request (head_of target))) ∙ print_request-append (head_of target) []
 
-pub asks : (target : List ℕ) → ask_of (head_of target) ≡ page_ask
+pub asks : (target : List ℕ) → ask_of None (head_of target) ≡ page_ask
 unfolding trim_ows has_close_word
 asks target = refl
 

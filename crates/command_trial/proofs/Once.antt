@@ -1,5 +1,5 @@
 -- A trial of so many entries has one text.
-use Rattle.std.proofs.Common.{◌≡◌, ℕ, List, [], ◌∷◌, Bool, true, false, refl, sym, ap, ◌∙◌, subst, inl, inr, Option, Result, Ok, Err, length}
+use Rattle.std.proofs.Common.{◌≡◌, ℕ, List, [], ◌∷◌, Bool, true, false, refl, sym, ap, ◌∙◌, subst, inl, inr, Option, Some, None, Result, Ok, Err, length}
 use Rattle.sd_value.specs.declared.Term.{Term}
 use Rattle.tmpl.specs.Body.{TemplateFile}
 use Rattle.query_spec.specs.Query as plain
@@ -16,7 +16,8 @@ use Rattle.page_spec.proofs.Addresses.{term_of_unique}
 use Rattle.page_spec.proofs.Texts.{outcome_unique}
 use Rattle.site_spec.specs.Root.{root_function}
 use Rattle.serving_spec.specs.Made.{NamedBy, AllLooked}
-use Rattle.serving_spec.specs.Looks.{Kept, Looks, LooksIn, is_kept, hits_after}
+use Rattle.serving_spec.specs.Looks.{Kept, KeptPage, Looks, LooksIn, without, hits_after}
+use Rattle.serving_spec.specs.declared.CacheRoom.{CacheRoom}
 use Rattle.serving_spec.specs.declared.Hit.{Hit}
 use Rattle.serving_spec.specs.declared.Hit.TheVariants.{Found, Miss}
 use Rattle.command_spec.specs.declared.TrialCommand.{TrialCommand}
@@ -48,18 +49,23 @@ one_site entries a b p q =
 -- ---- what is kept
 
 module _ (root : Option (List ℕ)) (s : Site) (f : TemplateFile) where
-  one_hit : (capacity : ℕ) (kept : List Term) (term : Term) (o p : Outcome) (h g : Hit) (a b : List Term) → o ≡ p → Looks capacity kept term o h a → Looks capacity kept term p g b → (h ≡ g) × (a ≡ b)
-  one_hit capacity kept term o p Found Found a b same x y = (refl, x.1 ∙ sym y.1)
-  one_hit capacity kept term o p Found Miss a b same x y = absurd (let wrong : true ≡ false = sym x.0 ∙ y.0 in cc)
-  one_hit capacity kept term o p Miss Found a b same x y = absurd (let wrong : true ≡ false = sym y.0 ∙ x.0 in cc)
-  one_hit capacity kept term o p Miss Miss a b same x y = (refl, x.1 ∙ rw same (sym y.1))
+  some_page : (a b : KeptPage) → Some a ≡ Some b → a ≡ b
+  some_page a b same = cc
+
+  one_hit : (room : CacheRoom) (kept : List KeptPage) (term : Term) (o p : Outcome) (h g : Hit) (a b : List KeptPage) → o ≡ p → Looks room kept term o h a → Looks room kept term p g b → (h ≡ g) × (a ≡ b)
+  one_hit room kept term o p Found Found a b same x y =
+      let page : x.0 ≡ y.0 = some_page x.0 y.0 (sym x.1 ∙ y.1) in
+      (refl, x.2 ∙ ap (λ q. q ∷ without term kept) page ∙ sym y.2)
+  one_hit room kept term o p Found Miss a b same x y = absurd (let wrong : Some x.0 ≡ None = sym x.1 ∙ y.0 in cc)
+  one_hit room kept term o p Miss Found a b same x y = absurd (let wrong : Some y.0 ≡ None = sym y.1 ∙ x.0 in cc)
+  one_hit room kept term o p Miss Miss a b same x y = (refl, x.1 ∙ rw same (sym y.1))
 
   one_look : (before : Kept) (term : Term) (a b : Kept) → LooksIn (IsOutcome s f) before term a → LooksIn (IsOutcome s f) before term b → a ≡ b
   one_look before term a b x y =
-      let same = one_hit before.capacity before.terms term x.outcome y.outcome x.hit y.hit a.terms b.terms (outcome_unique s f term x.outcome y.outcome x.is y.is) x.terms y.terms in
+      let same = one_hit before.room before.pages term x.outcome y.outcome x.hit y.hit a.pages b.pages (outcome_unique s f term x.outcome y.outcome x.is y.is) x.pages y.pages in
       let hits : a.hits ≡ b.hits = x.hits ∙ ap (λ h. hits_after h before.hits) same.0 ∙ sym y.hits in
-      let rooms : a.capacity ≡ b.capacity = x.capacity ∙ sym y.capacity in
-      λ i. record { capacity = rooms i; terms = same.1 i; hits = hits i }
+      let rooms : a.room ≡ b.room = x.room ∙ sym y.room in
+      λ i. record { room = rooms i; pages = same.1 i; hits = hits i }
 
   all_looks : (terms : List Term) (before a b : Kept) → AllLooked (LooksIn (IsOutcome s f)) before terms a → AllLooked (LooksIn (IsOutcome s f)) before terms b → a ≡ b
   all_looks [] before a b x y = x ∙ sym y

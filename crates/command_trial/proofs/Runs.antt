@@ -31,13 +31,13 @@ use Rattle.serving_spec.specs.declared.Served.{Served}
 use Rattle.trial_spec.specs.declared.Counts.{Counts}
 use Rattle.command_trial.specs.Askable.{IsAskable}
 use Rattle.trial_spec.specs.Events.{events_from}
-use Rattle.trial_spec.specs.Asked.{AreAsked, none_kept}
+use Rattle.trial_spec.specs.Asked.{AreAsked, none_kept, trial_room}
 use Rattle.trial_spec.specs.Numbers.{counts_of}
 use Rattle.command_trial.specs.Replies.{IsFine, AreReplied, reply_to}
 use Rattle.trial_spec.specs.Requests.{request}
 use Rattle.command_trial.specs.Runs.{AreCounted}
 use Rattle.command_trial.proofs.Connections.{unopened, Fine}
-use Rattle.command_trial.proofs.Course.{all_asked}
+use Rattle.command_trial.proofs.Course.{origin_under, all_asked}
 
 -- none of the events is Done
 none_done : (number : ℕ) (targets : List (List ℕ)) → list_any is_done (events_from number targets) ≡ false
@@ -100,7 +100,7 @@ new_at (Some e) some new = ap (λ (s : Sent). record { line = None; account = So
 
 module _ {D : Type 0} (root : Option (List ℕ)) (site : D → Site) (templates : D → TemplateFile) (texts : Changes D) (still : D) (turns : ℕ) (targets : List (List ℕ)) (w after : WireInMemory) (served : Served) (counts_is : Counts) where
   abbrev Tally_of : List WireEvent → Type 0
-  Tally_of events = TalliedInSteps root site templates texts still 1 256 (steady_told w) (steady_told after) served.end events served.tally
+  Tally_of events = TalliedInSteps (origin_under root) site templates texts still 1 trial_room (steady_told w) (steady_told after) served.end events served.tally
 
   fine_at : (events : List WireEvent) (tally : Tally_of events) (i : ℕ) → IsFine after (i + 1) → Fine (tally.last.ats (1 + i))
   fine_at events tally i (faults, whole) =
@@ -116,7 +116,7 @@ module _ {D : Type 0} (root : Option (List ℕ)) (site : D → Site) (templates 
 
   pub are_counted : All IsAskable targets → w.events ≡ events_from 1 targets → w.count ≡ 0
       → ((number : ℕ) → IfSome (entry_of w number) IsNew) → All (HasEntry (entry_of w)) (events_from 1 targets)
-      → ServesInSteps root site templates texts still 1 turns 256 (steady_told w) (steady_told after) served
+      → ServesInSteps (origin_under root) site templates texts still 1 turns trial_room (steady_told w) (steady_told after) served
       → served.end ≡ end.Done
       → ((i : ℕ) → i < length targets → IsFine after (i + 1))
       → ((outcomes : List Outcome) → length outcomes ≡ length targets → AreReplied after outcomes → counts_is ≡ counts_of outcomes)
@@ -128,7 +128,7 @@ module _ {D : Type 0} (root : Option (List ℕ)) (site : D → Site) (templates 
       let drew : IsDrawn (Some (events_from 1 targets)) (ends.0 ++ Done ∷ []) ((steady_told after).left) =
       subst (λ es. IsDrawn (Some (events_from 1 targets)) es ((steady_told after).left)) ends.1 (subst (λ o. IsDrawn o serves.events ((steady_told after).left)) left serves.left) in
       let all : serves.events ≡ events_from 1 targets ++ Done ∷ [] = ends.1 ∙ ap (λ es. es ++ Done ∷ []) (drawn_all (events_from 1 targets) ends.0 ((steady_told after).left) drew ends.3 (none_done 1 targets)) in
-      let passes = no_change (run_rules root site templates texts) served.end (events_from 1 targets) serves.events tally.first tally.last tally.trace all tally.course in
+      let passes = no_change (run_rules (origin_under root) site templates texts) served.end (events_from 1 targets) serves.events tally.first tally.last tally.trace all tally.course in
       let asked = all_asked root site templates texts still targets 1 tally.first tally.last tally.trace askable passes tally.data_are
       (λ other least most. tally.begins other ∙ new_at (entry_of w other) (entries w targets 1 opened other least most) (new other))
       (λ other least. ap (λ g. counts g other) tally.none_open) in
@@ -144,7 +144,7 @@ module _ {D : Type 0} (root : Option (List ℕ)) (site : D → Site) (templates 
 -- the turns are never spent, since there are fewer events
 pub turns_left : {D : Type 0} (root : Option (List ℕ)) (site : D → Site) (templates : D → TemplateFile) (texts : Changes D)
     (still : D) (turns : ℕ) (w after : WireInMemory) (served : Served) → length w.events < turns → w.count ≡ 0
-    → ServesInSteps root site templates texts still 1 turns 256 (steady_told w) (steady_told after) served
+    → ServesInSteps (origin_under root) site templates texts still 1 turns trial_room (steady_told w) (steady_told after) served
     → served.end ≡ end.TurnsSpent → ⊥
 turns_left root site templates texts still turns w after served fewer begins serves spent =
     let ends : EndsRun turns serves.events end.TurnsSpent = subst (EndsRun turns serves.events) spent serves.ends in

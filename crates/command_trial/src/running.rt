@@ -21,11 +21,13 @@ use site_serving::{PageSource, serve_site};
 use std::alloc::Global;
 use trial_spec::Counts;
 
-// One request to a connection, a turn for every event, and 256 kept pages.
+// Any host, one request to a connection, a turn for every event, and 256 kept pages of 64 MiB.
 const LIMITS: RunLimits = RunLimits {
+    hosts: None,
     requests: 1,
     turns: 4_294_967_296,
     cache: 256,
+    cache_bytes: 67_108_864,
 };
 
 /// What was counted of a run.

@@ -6,9 +6,9 @@ use Rattle.std.proofs.lemmas.Slice.Eq.{bytes_eq-Decides}
 use Rattle.clap.specs.Walk.{Rule, Text, arg_by_id, arg_by_long, arg_by_short, has_short}
 use Rattle.clap.specs.declared.builder.value_parser.ValueParser.TheVariants.{String}
 use Rattle.command_spec.specs.declared.options.ValueOption.{ValueOption}
-use Rattle.command_spec.specs.declared.numbers.NumberOption.TheVariants.{Port, Connections, Requests, Turns, Cache, Idle, Stall, OpenAtOnce, Every}
-use Rattle.command_spec.specs.declared.options.PathOption.TheVariants.{Watch, Over}
-use Rattle.command_spec.specs.declared.options.ValueOption.TheVariants.{Number, Path}
+use Rattle.command_spec.specs.declared.numbers.NumberOption.TheVariants.{Port, Connections, Requests, Turns, Cache, CacheBytes, Idle, Stall, OpenAtOnce, Every}
+use Rattle.command_spec.specs.declared.options.TextOption.TheVariants.{Host, Watch, Over}
+use Rattle.command_spec.specs.declared.options.ValueOption.TheVariants.{Number, Text as Texted}
 use Rattle.command_spec.specs.Values.{option_name, option_word, is_among}
 use Rattle.command_words.specs.Parsed.{option_rule, words_rule}
 
@@ -54,59 +54,67 @@ turned a b = elim (two (bytes_eq b a)) [
 
 pub dashed : (option : ValueOption) → option_word option ≡ 45 ∷ 45 ∷ option_name option
 dashed (Number Port) = refl
+dashed (Texted Host) = refl
 dashed (Number Connections) = refl
 dashed (Number Requests) = refl
 dashed (Number Turns) = refl
 dashed (Number Cache) = refl
+dashed (Number CacheBytes) = refl
 dashed (Number Idle) = refl
 dashed (Number Stall) = refl
 dashed (Number OpenAtOnce) = refl
-dashed (Path Watch) = refl
+dashed (Texted Watch) = refl
 dashed (Number Every) = refl
-dashed (Path Over) = refl
+dashed (Texted Over) = refl
 
 pub own_name : (option : ValueOption) → bytes_eq (codes "words") (option_name option) ≡ false
 own_name (Number Port) = refl
+own_name (Texted Host) = refl
 own_name (Number Connections) = refl
 own_name (Number Requests) = refl
 own_name (Number Turns) = refl
 own_name (Number Cache) = refl
+own_name (Number CacheBytes) = refl
 own_name (Number Idle) = refl
 own_name (Number Stall) = refl
 own_name (Number OpenAtOnce) = refl
-own_name (Path Watch) = refl
+own_name (Texted Watch) = refl
 own_name (Number Every) = refl
-own_name (Path Over) = refl
+own_name (Texted Over) = refl
 
 -- the option of a name
 which : Text → Option ValueOption
 which name =
     if bytes_eq name (codes "port") then Some (Number Port)
+    else if bytes_eq name (codes "host") then Some (Texted Host)
     else if bytes_eq name (codes "connections") then Some (Number Connections)
     else if bytes_eq name (codes "requests") then Some (Number Requests)
     else if bytes_eq name (codes "turns") then Some (Number Turns)
     else if bytes_eq name (codes "cache") then Some (Number Cache)
+    else if bytes_eq name (codes "cache-bytes") then Some (Number CacheBytes)
     else if bytes_eq name (codes "idle") then Some (Number Idle)
     else if bytes_eq name (codes "stall") then Some (Number Stall)
     else if bytes_eq name (codes "open") then Some (Number OpenAtOnce)
-    else if bytes_eq name (codes "watch") then Some (Path Watch)
+    else if bytes_eq name (codes "watch") then Some (Texted Watch)
     else if bytes_eq name (codes "every") then Some (Number Every)
-    else if bytes_eq name (codes "over") then Some (Path Over)
+    else if bytes_eq name (codes "over") then Some (Texted Over)
     else None
 
 which_own : (option : ValueOption) → which (option_name option) ≡ Some option
 unfolding which
 which_own (Number Port) = refl
+which_own (Texted Host) = refl
 which_own (Number Connections) = refl
 which_own (Number Requests) = refl
 which_own (Number Turns) = refl
 which_own (Number Cache) = refl
+which_own (Number CacheBytes) = refl
 which_own (Number Idle) = refl
 which_own (Number Stall) = refl
 which_own (Number OpenAtOnce) = refl
-which_own (Path Watch) = refl
+which_own (Texted Watch) = refl
 which_own (Number Every) = refl
-which_own (Path Over) = refl
+which_own (Texted Over) = refl
 
 -- options of one name are one
 pub one_option : (a b : ValueOption) → option_name a ≡ option_name b → a ≡ b

@@ -5,9 +5,9 @@ use Rattle.std.specs.List.{list_all}
 use Rattle.std.specs.Str.{bytes_eq}
 use Rattle.clap.specs.Walk.{Row, Text}
 use Rattle.command_spec.specs.declared.options.ValueOption.{ValueOption}
-use Rattle.command_spec.specs.declared.numbers.NumberOption.TheVariants.{Port, Connections, Requests, Turns, Cache, Idle, Stall, OpenAtOnce, Every}
-use Rattle.command_spec.specs.declared.options.PathOption.TheVariants.{Watch, Over}
-use Rattle.command_spec.specs.declared.options.ValueOption.TheVariants.{Number, Path}
+use Rattle.command_spec.specs.declared.numbers.NumberOption.TheVariants.{Port, Connections, Requests, Turns, Cache, CacheBytes, Idle, Stall, OpenAtOnce, Every}
+use Rattle.command_spec.specs.declared.options.TextOption.TheVariants.{Host, Watch, Over}
+use Rattle.command_spec.specs.declared.options.ValueOption.TheVariants.{Number, Text as Texted}
 use Rattle.command_spec.specs.declared.RunLimits.{RunLimits}
 use Rattle.command_spec.specs.declared.ServeOptions.{ServeOptions}
 use Rattle.command_spec.specs.declared.ServeWaits.{ServeWaits}
@@ -36,7 +36,7 @@ replaying flags words limits over = option_and_then (λ l. replay_command l flag
 
 module _ (f g : Given) (equal : (o : ValueOption) → f o ≡ g o) where
   same_limits : run_limits f ≡ run_limits g
-  same_limits = rw (equal (Number Requests), equal (Number Turns), equal (Number Cache)) refl
+  same_limits = rw (equal (Texted Host), equal (Number Requests), equal (Number Turns), equal (Number Cache), equal (Number CacheBytes)) refl
 
   same_waits : serve_waits f ≡ serve_waits g
   same_waits = rw (equal (Number Idle), equal (Number Stall), equal (Number OpenAtOnce)) refl
@@ -45,20 +45,20 @@ module _ (f g : Given) (equal : (o : ValueOption) → f o ≡ g o) where
   same_options whole = rw (equal (Number Port), equal (Number Connections), same_limits, same_waits) refl
 
   same_watch : serve_watch f ≡ serve_watch g
-  same_watch = ap₂ watch_by (equal (Path Watch)) (equal (Number Every))
+  same_watch = ap₂ watch_by (equal (Texted Watch)) (equal (Number Every))
 
   same_serve : (flags : Flags) (words : List Text) → command_of Serve flags f words ≡ command_of Serve flags g words
   same_serve flags words =
       ap₂ (λ o w. serving flags words o w (first_query f)) (same_options flags.own) same_watch
-      ∙ ap (serving flags words (serve_options flags.own g) (serve_watch g)) (equal (Path Over))
+      ∙ ap (serving flags words (serve_options flags.own g) (serve_watch g)) (equal (Texted Over))
 
   same_replay : (flags : Flags) (words : List Text) → command_of Replay flags f words ≡ command_of Replay flags g words
-  same_replay flags words = ap₂ (replaying flags words) same_limits (equal (Path Over))
+  same_replay flags words = ap₂ (replaying flags words) same_limits (equal (Texted Over))
 
   pub same_command : (name : CommandName) (flags : Flags) (words : List Text) → command_of name flags f words ≡ command_of name flags g words
-  same_command Page flags words = ap (λ over. page_command flags.lenient over words) (equal (Path Over))
-  same_command Build flags words = ap (λ over. build_command flags.lenient over words) (equal (Path Over))
-  same_command Data flags words = ap (λ over. data_command flags.lenient over words) (equal (Path Over))
+  same_command Page flags words = ap (λ over. page_command flags.lenient over words) (equal (Texted Over))
+  same_command Build flags words = ap (λ over. build_command flags.lenient over words) (equal (Texted Over))
+  same_command Data flags words = ap (λ over. data_command flags.lenient over words) (equal (Texted Over))
   same_command Serve flags words = same_serve flags words
   same_command Replay flags words = same_replay flags words
   same_command name flags words = refl

@@ -12,9 +12,9 @@ use Rattle.std.specs.Char.{encode_utf8}
 use Rattle.clap.specs.Walk.{Text}
 use Rattle.clap.specs.Lexer.{has_byte, long_of, name_and_value, short_of}
 use Rattle.command_spec.specs.declared.options.ValueOption.{ValueOption}
-use Rattle.command_spec.specs.declared.numbers.NumberOption.TheVariants.{Port, Connections, Requests, Turns, Cache, Idle, Stall, OpenAtOnce, Every}
-use Rattle.command_spec.specs.declared.options.PathOption.TheVariants.{Watch, Over}
-use Rattle.command_spec.specs.declared.options.ValueOption.TheVariants.{Number, Path}
+use Rattle.command_spec.specs.declared.numbers.NumberOption.TheVariants.{Port, Connections, Requests, Turns, Cache, CacheBytes, Idle, Stall, OpenAtOnce, Every}
+use Rattle.command_spec.specs.declared.options.TextOption.TheVariants.{Host, Watch, Over}
+use Rattle.command_spec.specs.declared.options.ValueOption.TheVariants.{Number, Text as Texted}
 use Rattle.command_spec.specs.Values.{option_word, is_among}
 use Rattle.command_spec.specs.Options.{Setting, Role, Complete, Open, Misplaced, is_equals, is_option, joined, option_role, word_role}
 use Rattle.command_words.proofs.Lookups.{two}
@@ -128,29 +128,33 @@ no_option name none (o ∷ os) = rw (none o) (no_option name none os)
 
 one_dash : (first : ℕ) (rest : Text) → nat_eq first 45 ≡ false → (o : ValueOption) → bytes_eq (45 ∷ first ∷ rest) (option_word o) ≡ false
 one_dash first rest d (Number Port) = rw d refl
+one_dash first rest d (Texted Host) = rw d refl
 one_dash first rest d (Number Connections) = rw d refl
 one_dash first rest d (Number Requests) = rw d refl
 one_dash first rest d (Number Turns) = rw d refl
 one_dash first rest d (Number Cache) = rw d refl
+one_dash first rest d (Number CacheBytes) = rw d refl
 one_dash first rest d (Number Idle) = rw d refl
 one_dash first rest d (Number Stall) = rw d refl
 one_dash first rest d (Number OpenAtOnce) = rw d refl
-one_dash first rest d (Path Watch) = rw d refl
+one_dash first rest d (Texted Watch) = rw d refl
 one_dash first rest d (Number Every) = rw d refl
-one_dash first rest d (Path Over) = rw d refl
+one_dash first rest d (Texted Over) = rw d refl
 
 dash_alone : (o : ValueOption) → bytes_eq (45 ∷ []) (option_word o) ≡ false
 dash_alone (Number Port) = refl
+dash_alone (Texted Host) = refl
 dash_alone (Number Connections) = refl
 dash_alone (Number Requests) = refl
 dash_alone (Number Turns) = refl
 dash_alone (Number Cache) = refl
+dash_alone (Number CacheBytes) = refl
 dash_alone (Number Idle) = refl
 dash_alone (Number Stall) = refl
 dash_alone (Number OpenAtOnce) = refl
-dash_alone (Path Watch) = refl
+dash_alone (Texted Watch) = refl
 dash_alone (Number Every) = refl
-dash_alone (Path Over) = refl
+dash_alone (Texted Over) = refl
 
 dash_before : (first : ℕ) (rest : Text) → nat_eq first 45 ≡ false → (n : ℕ) → IsNoOption (take n (first ∷ rest)) → IsNoOption (45 ∷ take n (first ∷ rest))
 dash_before first rest d zero h = no_option (45 ∷ []) dash_alone

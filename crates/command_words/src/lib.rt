@@ -3,7 +3,7 @@
 
 ghost use Rattle.std.specs.Prelude.{◌≡◌, None, Some, IfOk, IfSome};
 ghost use Rattle.std.specs.Prelude.{◌≢◌, map, MatchOption, true, false, option_map};
-ghost use Rattle.std.specs.List.{list_all};
+ghost use Rattle.std.specs.List.{list_all, list_any, slice_split};
 ghost use Rattle.clap.specs.Words.{found_of, kind_of, rows_of};
 ghost use Rattle.clap.specs.Walk.{texts};
 ghost use Rattle.command_words.specs.Parsed as parsed;
@@ -20,9 +20,9 @@ use clap::error::ErrorKind;
 use clap::{ArgMatches, Error};
 use command_spec::{
     BuildCommand, CheckAllCommand, Command, CommandName, DataCommand, DataFiles, ExplainCommand,
-    Flags, HelpCommand, HereCommand, LintCommand, NumberOption, PageCommand, PathOption,
-    ReplayCommand, ReportCommand, RunLimits, SchemaCommand, ServeCommand, ServeOptions, ServeWaits,
-    TextCommand, TrialCommand, ValueOption, WatchOptions,
+    Flags, HelpCommand, HereCommand, LintCommand, NumberOption, PageCommand, ReplayCommand,
+    ReportCommand, RunLimits, SchemaCommand, ServeCommand, ServeOptions, ServeWaits, TextCommand,
+    TextOption, TrialCommand, ValueOption, WatchOptions,
 };
 use flags::take_flag;
 use numbers::{number, number_of, text_in};
@@ -245,15 +245,56 @@ fn version_command(words: &[&str]) -> Option<Command>
     }
 }
 
-fn run_limits(matches: &ArgMatches<'_>) -> Option<RunLimits>
-    ensures exact { result ≡ specs.run_limits (parsed.found (rows_of (found_of matches.now))) }
+/// Whether nothing is before, between or after some of the commas.
+fn some_is_empty(text: &[u8]) -> bool
+    ensures { result ≡ list_any is_empty (slice_split specs.is_comma text.now) }
+{
+    text.split(|byte| *byte == b',').any(|name| name.is_empty())
+}
+
+/// The hosts of this text, if none is empty.
+fn hosts_in(alloc: Global, text: &str) -> Result<Option<Option<Str>>, NoMemory>
+    ensures { IfOk result (λ hosts. hosts ≡ specs.hosts_by (Some text.now)) }
+{
+    if some_is_empty(text.as_bytes()) {
+        return Ok(None);
+    }
+    Ok(Some(Some(Str::new(alloc, text.as_bytes())?)))
+}
+
+fn given_hosts(alloc: Global, matches: &ArgMatches<'_>) -> Result<Option<Option<Str>>, NoMemory>
+    ensures { IfOk result (λ hosts. hosts
+        ≡ specs.given_hosts (parsed.found (rows_of (found_of matches.now)))) }
+{
+    match text_in(ValueOption::Text(TextOption::Host), matches) {
+        Some(text) => hosts_in(alloc, text),
+        None => Ok(Some(None)),
+    }
+}
+
+fn limits_with(hosts: Option<Str>, matches: &ArgMatches<'_>) -> Option<RunLimits>
+    ensures exact { result
+        ≡ specs.limits_with hosts (parsed.found (rows_of (found_of matches.now))) }
     ensures ranges { IfSome result AreLimits }
 {
     Some(RunLimits {
+        hosts,
         requests: number_of(NumberOption::Requests, matches)?,
         turns: number_of(NumberOption::Turns, matches)?,
         cache: number_of(NumberOption::Cache, matches)? as u32,
+        cache_bytes: number_of(NumberOption::CacheBytes, matches)?,
     })
+}
+
+fn run_limits(alloc: Global, matches: &ArgMatches<'_>) -> Result<Option<RunLimits>, NoMemory>
+    ensures exact { IfOk result (λ limits. limits
+        ≡ specs.run_limits (parsed.found (rows_of (found_of matches.now)))) }
+    ensures ranges { IfOk result (λ limits. IfSome limits AreLimits) }
+{
+    match given_hosts(alloc, matches)? {
+        Some(hosts) => Ok(limits_with(hosts, matches)),
+        None => Ok(None),
+    }
 }
 
 fn serve_waits(matches: &ArgMatches<'_>) -> Option<ServeWaits>
@@ -267,18 +308,34 @@ fn serve_waits(matches: &ArgMatches<'_>) -> Option<ServeWaits>
     })
 }
 
-fn serve_options(whole: bool, matches: &ArgMatches<'_>) -> Option<ServeOptions>
+fn options_with(whole: bool, limits: RunLimits, matches: &ArgMatches<'_>) -> Option<ServeOptions>
+    requires { AreLimits limits }
     ensures exact { result
-        ≡ specs.serve_options whole (parsed.found (rows_of (found_of matches.now))) }
+        ≡ specs.options_with whole limits (parsed.found (rows_of (found_of matches.now))) }
     ensures ranges { IfSome result AreServeOptions }
 {
     Some(ServeOptions {
         port: number_of(NumberOption::Port, matches)? as u16,
         connections: number_of(NumberOption::Connections, matches)?,
-        limits: run_limits(matches)?,
+        limits,
         waits: serve_waits(matches)?,
         whole,
     })
+}
+
+fn serve_options(
+    alloc: Global,
+    whole: bool,
+    matches: &ArgMatches<'_>,
+) -> Result<Option<ServeOptions>, NoMemory>
+    ensures exact { IfOk result (λ options. options
+        ≡ specs.serve_options whole (parsed.found (rows_of (found_of matches.now)))) }
+    ensures ranges { IfOk result (λ options. IfSome options AreServeOptions) }
+{
+    match run_limits(alloc, matches)? {
+        Some(limits) => Ok(options_with(whole, limits, matches)),
+        None => Ok(None),
+    }
 }
 
 /// The watched file at this path, where `--every` has a number or isn't given.
@@ -309,7 +366,7 @@ fn serve_watch(
         ≡ specs.serve_watch (parsed.found (rows_of (found_of matches.now)))) }
     ensures ranges { IfOk result (λ watch. IfSome watch (λ w. IfSome w IsWatchInRange)) }
 {
-    match text_in(ValueOption::Path(PathOption::Watch), matches) {
+    match text_in(ValueOption::Text(TextOption::Watch), matches) {
         Some(path) => watched(alloc, path, number_of(NumberOption::Every, matches)),
         None => match text_in(ValueOption::Number(NumberOption::Every), matches) {
             Some(_) => Ok(None),
@@ -323,7 +380,7 @@ fn first_query(alloc: Global, matches: &ArgMatches<'_>) -> Result<Option<Str>, N
     ensures { IfOk result
         (λ over. over ≡ specs.first_query (parsed.found (rows_of (found_of matches.now)))) }
 {
-    match text_in(ValueOption::Path(PathOption::Over), matches) {
+    match text_in(ValueOption::Text(TextOption::Over), matches) {
         Some(path) => Ok(Some(Str::new(alloc, path.as_bytes())?)),
         None => Ok(None),
     }
@@ -398,7 +455,7 @@ fn serve_with_words(
         (parsed.found (rows_of (found_of matches.now))) (texts words.now)) }
     ensures ranges { IfOk result (λ given. IfSome given IsInRange) }
 {
-    let Some(options) = serve_options(flags.own, matches) else {
+    let Some(options) = serve_options(alloc, flags.own, matches)? else {
         return Ok(None);
     };
     let Some(watch) = serve_watch(alloc, matches)? else {
@@ -418,7 +475,7 @@ fn replay_with_words(
         (parsed.found (rows_of (found_of matches.now))) (texts words.now)) }
     ensures ranges { IfOk result (λ given. IfSome given IsInRange) }
 {
-    let Some(limits) = run_limits(matches) else {
+    let Some(limits) = run_limits(alloc, matches)? else {
         return Ok(None);
     };
     let over = first_query(alloc, matches)?;
@@ -601,7 +658,8 @@ fn texts_of<'a>(alloc: Global, words: &'a [Str]) -> Result<Option<Vec<&'a str>>,
 /// The first word is a command's name. Of the words behind it, those before `--` that have two bytes or more and begin
 /// with a dash are options: `--name=value`, or `--name` with the next word as its value, which is no option itself. The
 /// first `--` is dropped, and the words behind it are no options. Each option is one of the command's, occurs at most
-/// once, and has a number of 1 to 10 digits within its range, but for `--over` and `--watch`, whose values are paths;
+/// once, and has a number of 1 to 10 digits within its range, but for `--over` and `--watch`, whose values are paths, and
+/// `--host`, whose value is names between commas, none of them empty;
 /// `--every` doesn't stand without `--watch`. `--lenient` of every command that reads data, `--dot` of `schema`, `--whole` of
 /// `serve`, and `--here` of `check`, which `check` wants exactly where it has data, have no value. The other words are as
 /// many as the command wants. Every word is a text, and none is empty.

@@ -24,16 +24,16 @@ fed_whole rest piece bytes n e =
     ap (λ x. x ++ drop n piece) e ∙ append_assoc rest (take n piece) (drop n piece) ∙ ap (λ x. rest ++ x) (take-append-drop n piece)
 
 -- what a refusal says
-pub refused : (rest piece old bytes : List ℕ) (i : ℕ) (fed : Fed) (after : Held)
+pub refused : (hosts : Option (List ℕ)) (rest piece old bytes : List ℕ) (i : ℕ) (fed : Fed) (after : Held)
     → i < length piece → old ≡ rest ++ take i piece → bytes ≡ old ++ get_or piece i 0 ∷ []
     → HasNoHead bytes → (max_head ≤ length bytes) ⊎ CannotBecomeHead bytes
-    → fed ≡ record { taken = length piece; ask = Some bad_request } → after ≡ nothing_held → Feeds rest piece fed after
-refused rest piece old bytes i fed after inside before e none why is held =
+    → fed ≡ record { taken = length piece; ask = Some bad_request } → after ≡ nothing_held → Feeds hosts rest piece fed after
+refused hosts rest piece old bytes i fed after inside before e none why is held =
     let more = drop (i + 1) piece in
     let whole : bytes ++ more ≡ rest ++ piece = fed_whole rest piece bytes (i + 1) (fed_so_far rest piece old bytes i inside before e) in
     let later : (max_head ≤ length (bytes ++ more)) ⊎ CannotBecomeHead (bytes ++ more) =
     elim why [ inl full ↦ inl (omega (arith, length-append bytes more)) | inr doomed ↦ inr (doomed_more bytes more doomed) ] in
-    subst (λ f. Feeds rest piece f after) (sym is) (inr (record {
+    subst (λ f. Feeds hosts rest piece f after) (sym is) (inr (record {
       all = refl;
       none = subst HasNoHead whole (no_head_stays bytes more none why);
       why = subst (λ s. (max_head ≤ length s) ⊎ CannotBecomeHead s) whole later;

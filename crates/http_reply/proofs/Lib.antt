@@ -2,3 +2,4 @@ mod ParserLemmas
 mod ReadingLemmas
 mod FeedLemmas
 mod LineEndLemmas
+mod HostLemmas

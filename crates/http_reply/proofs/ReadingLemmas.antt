@@ -1,5 +1,5 @@
 -- Bytes of a connection, one byte after another.
-use Rattle.std.proofs.Common.{◌≡◌, ℕ, ◌+◌, ◌-◌, ◌<◌, ◌≤◌, List, [], ◌∷◌, ◌++◌, length, sym, ap, ◌∙◌, subst, arith, append_assoc, get_or, take, drop, map, inl, inr, ◌≢◌, lit<, false, true}
+use Rattle.std.proofs.Common.{◌≡◌, ℕ, ◌+◌, ◌-◌, ◌<◌, ◌≤◌, List, [], ◌∷◌, ◌++◌, length, sym, ap, ◌∙◌, subst, arith, append_assoc, get_or, take, drop, map, inl, inr, ◌≢◌, lit<, false, true, Option}
 use Rattle.std.proofs.lemmas.List.{append-nil, take_more, take_all, same_from_push, length-take-le, length-map}
 use Rattle.httparse.specs.declared.spans.HeaderSpan.{HeaderSpan}
 use Rattle.httparse.specs.declared.spans.RequestSpans.{RequestSpans}
@@ -57,12 +57,12 @@ head_is_whole bytes h rest some before reads =
     ]
 
 -- what the parser's answer says, where there was no head before the last byte
-pub whole_from_parser : (bytes : List ℕ) (headers : List HeaderSpan) (spans : RequestSpans) (ask : ParsedRequest)
+pub whole_from_parser : (hosts : Option (List ℕ)) (bytes : List ℕ) (headers : List HeaderSpan) (spans : RequestSpans) (ask : ParsedRequest)
     → 0 < length bytes → length bytes ≤ 16384 → length headers ≤ 64 → HasNoHead (take (length bytes - 1) bytes)
     → IsRequestWithin bytes headers spans → IsRequestOf bytes headers spans
-    → ask ≡ ask_with (span_bytes bytes spans.method) spans.version (map (header_bytes bytes) (take spans.headers headers))
-    → Parses bytes (Head ask spans.path)
-whole_from_parser bytes headers spans ask some size room before within parsed asked =
+    → ask ≡ ask_with hosts (span_bytes bytes spans.method) spans.version (map (header_bytes bytes) (take spans.headers headers))
+    → Parses hosts bytes (Head ask spans.path)
+whole_from_parser hosts bytes headers spans ask some size room before within parsed asked =
     let h = parsed.0 in
     let at = parsed.1 in
     let section = within.section in
@@ -78,7 +78,7 @@ whole_from_parser bytes headers spans ask some size room before within parsed as
       h,
       head,
       head_is_whole bytes h (drop spans.len bytes) some before (record { head = head; whole = at.reads.1 }),
-      asked ∙ (λ i. ask_with (at.method i) (at.version i) (at.fields i)),
+      asked ∙ (λ i. ask_with hosts (at.method i) (at.version i) (at.fields i)),
       at.path,
       (omega arith, omega arith),
     )

@@ -16,13 +16,13 @@ pub record Held : Type 0 where
 abbrev pub nothing_held : Held
 nothing_held = record { rest = []; target = [] }
 
--- The piece ends the head h.
-pub record EndsHead (rest piece : List ℕ) (taken : ℕ) (ask : ParsedRequest) (after : Held)
+-- The piece ends the head h, where requests for these hosts are answered.
+pub record EndsHead (hosts : Option (List ℕ)) (rest piece : List ℕ) (taken : ℕ) (ask : ParsedRequest) (after : Held)
     (h : RequestHead) : Type 0 where
   pub head : IsHead h
   pub within : taken ≤ length piece
   pub whole : rest ++ take taken piece ≡ print_request h
-  pub ask_is : ask ≡ ask_of h
+  pub ask_is : ask ≡ ask_of hosts h
   pub after_is : after ≡ record { rest = []; target = h.target }
 
 -- The piece was taken, and there is no head yet.
@@ -42,14 +42,15 @@ pub record Refuses (rest piece : List ℕ) (taken : ℕ) (ask : ParsedRequest)
   pub after_is : after ≡ nothing_held
 
 -- what is asked for, if anything
-abbrev pub FedCase : List ℕ → List ℕ → ℕ → Option ParsedRequest → Held → Type 0
-FedCase rest piece taken None after = Waits rest piece taken after
-FedCase rest piece taken (Some ask) after =
-    ((h : RequestHead) × EndsHead rest piece taken ask after h) ⊎ Refuses rest piece taken ask after
+abbrev pub FedCase : Option (List ℕ) → List ℕ → List ℕ → ℕ → Option ParsedRequest → Held → Type 0
+FedCase hosts rest piece taken None after = Waits rest piece taken after
+FedCase hosts rest piece taken (Some ask) after =
+    ((h : RequestHead) × EndsHead hosts rest piece taken ask after h)
+    ⊎ Refuses rest piece taken ask after
 
 -- what a piece makes of a rest
-abbrev pub Feeds : List ℕ → List ℕ → Fed → Held → Type 0
-Feeds rest piece fed after = FedCase rest piece fed.taken fed.ask after
+abbrev pub Feeds : Option (List ℕ) → List ℕ → List ℕ → Fed → Held → Type 0
+Feeds hosts rest piece fed after = FedCase hosts rest piece fed.taken fed.ask after
 
 -- the end of the input gives a 400 exactly where the rest is no list of line ends
 abbrev pub EndsWith : List ℕ → Option ParsedRequest → Type 0

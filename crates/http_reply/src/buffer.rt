@@ -9,6 +9,7 @@ use crate::ask::BAD_REQUEST;
 use crate::parsing::{Parsed, parse_head};
 use crate::reading::Fed;
 use httparse::spans::Span;
+use sd_value::Str;
 
 /// The bytes of a head that is not whole yet, or a whole head.
 #[derive(Drop)]
@@ -56,21 +57,22 @@ impl Buffer {
         }
     }
 
-    /// Adds a byte to a head that is not whole, and reports what the bytes are then.
-    pub(crate) fn add(&mut self, byte: u8) -> Parsed
+    /// Adds a byte to a head that is not whole, and reports what the bytes are then, where requests for these hosts are
+    /// answered.
+    pub(crate) fn add(&mut self, byte: u8, hosts: &Option<Str>) -> Parsed
         requires room { max_head ≤ vec_capacity self.old.bytes }
         requires open { IsOpen self.old.bytes.items self.old.started }
         ensures bytes { self.new.bytes.items ≡ self.old.bytes.items ++ byte ∷ [] }
         ensures room { max_head ≤ vec_capacity self.new.bytes }
         ensures target { self.new.target ≡ self.old.target }
         ensures unstarted { self.new.started ≡ false → AllLineEndBytes self.new.bytes.items }
-        ensures parsed { Parses self.new.bytes.items result }
+        ensures parsed { Parses hosts.now self.new.bytes.items result }
     {
         if self.bytes.push(byte).is_err() {
             unreachable!()
         }
         self.started = self.started || !is_line_end_byte(byte);
-        parse_head(self.bytes.as_slice(), self.started)
+        parse_head(self.bytes.as_slice(), self.started, hosts)
     }
 }
 

@@ -7,7 +7,7 @@ use crate::ask::BAD_REQUEST;
 use crate::buffer::Buffer;
 use crate::parsing::Parsed;
 use http_spec::ParsedRequest;
-use sd_value::NoMemory;
+use sd_value::{NoMemory, Str};
 use std::alloc::Global;
 use std::marker::Model;
 
@@ -55,10 +55,11 @@ impl Reading {
         Ok(Reading { buffer })
     }
 
-    /// Takes bytes to the end of the first whole head, or all of them. It takes no memory. The head
-    /// that was read before is forgotten, and after a 400 that is for no whole head so is everything.
-    pub fn feed(&mut self, piece: &[u8]) -> Fed
-        ensures fed { Feeds self.old.rest piece.now result self.new }
+    /// Takes bytes to the end of the first whole head, or all of them. Requests for these hosts are answered, with commas
+    /// between them, or for any. It takes no memory. The head that was read before is forgotten, and after a 400 that is
+    /// for no whole head so is everything.
+    pub fn feed(&mut self, piece: &[u8], hosts: &Option<Str>) -> Fed
+        ensures fed { Feeds hosts.now self.old.rest piece.now result self.new }
         ensures taken { result.taken ≤ length piece.now }
         ensures progress { 0 < length piece.now → 0 < result.taken }
     {
@@ -66,7 +67,7 @@ impl Reading {
             self.buffer.clear();
         }
         for (i, byte) in piece.iter().enumerate() {
-            match self.buffer.add(*byte) {
+            match self.buffer.add(*byte, hosts) {
                 Parsed::Head(ask, target) => {
                     self.buffer.target = Some(target);
                     return Fed {

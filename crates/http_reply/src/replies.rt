@@ -31,6 +31,14 @@ pub fn reply(
         RequestKind::Get => page_reply(alloc, ask, outcome, close, out),
         RequestKind::Head => page_reply(alloc, ask, outcome, close, out),
         RequestKind::BadRequest => respond(alloc, ask, outcome, b"bad request\n", close, out),
+        RequestKind::Misdirected => respond(
+            alloc,
+            ask,
+            outcome,
+            b"misdirected request\n",
+            close,
+            out,
+        ),
         RequestKind::WrongMethod => respond(
             alloc,
             ask,
@@ -112,6 +120,7 @@ fn status(kind: RequestKind, outcome: &Outcome) -> &'static str
         RequestKind::Get => page_status(outcome),
         RequestKind::Head => page_status(outcome),
         RequestKind::BadRequest => "400 Bad Request",
+        RequestKind::Misdirected => "421 Misdirected Request",
         RequestKind::WrongMethod => "405 Method Not Allowed",
     }
 }
@@ -134,6 +143,7 @@ fn content_type(kind: RequestKind, outcome: &Outcome) -> &'static str
         RequestKind::Get => page_type(outcome),
         RequestKind::Head => page_type(outcome),
         RequestKind::BadRequest => PLAIN,
+        RequestKind::Misdirected => PLAIN,
         RequestKind::WrongMethod => PLAIN,
     }
 }
@@ -156,6 +166,7 @@ fn allow_line(kind: RequestKind) -> &'static str
         RequestKind::Get => "",
         RequestKind::Head => "",
         RequestKind::BadRequest => "",
+        RequestKind::Misdirected => "",
         RequestKind::WrongMethod => "Allow: GET, HEAD\r\n",
     }
 }

@@ -1,7 +1,7 @@
 -- What was answered stays the answer, whatever bytes come later.
 use Rattle.std.proofs.Common.{◌≡◌, ℕ, Bool, true, false, List, ◌++◌, sym, ap, ◌∙◌, subst, arith, append_assoc, inl, inr, length-append}
 use Rattle.http_spec.specs.declared.Standing.TheVariants.{Closed, Short}
-use Rattle.http_spec.specs.Sessions.{OutcomeAt, IsRefused, IsDue, Ends, AnswersStream}
+use Rattle.http_spec.specs.Sessions.{Showing, IsRefused, IsDue, Ends, AnswersStream}
 use Rattle.http_spec.specs.Streams.{Timed, bytes_in}
 use Rattle.httparse.specs.Grammar.{print_request}
 use Rattle.http_spec.proofs.HeadLemmas.{no_head_stays, doomed_more}
@@ -24,7 +24,7 @@ closed_ends_later ended closed rest more last (inl over) = inl over
 closed_ends_later ended closed rest more last (inr (inl (goes, refused, one))) = inr (inl (goes, refused_later ended rest more refused, one))
 closed_ends_later ended closed rest more last (inr (inr (goes, never, waits, clean, nothing))) = absurd (let e : false ≡ true = never in cc)
 
-pub closed_later : {D : Type 0} (page : D → OutcomeAt) (limit : ℕ) (stream more : List (Timed D)) (ended : Bool) (replies : List (List ℕ))
+pub closed_later : {D : Type 0} (page : D → Showing) (limit : ℕ) (stream more : List (Timed D)) (ended : Bool) (replies : List (List ℕ))
     → AnswersStream page limit stream false Closed replies → AnswersStream page limit (stream ++ more) ended Closed replies
 closed_later page limit stream more ended replies a = record {
   requests = a.requests;
@@ -37,7 +37,7 @@ closed_later page limit stream more ended replies a = record {
   whole = a.whole;
 }
 
-pub short_later : {D : Type 0} (page : D → OutcomeAt) (limit : ℕ) (stream more : List (Timed D)) (ended : Bool) (replies : List (List ℕ))
+pub short_later : {D : Type 0} (page : D → Showing) (limit : ℕ) (stream more : List (Timed D)) (ended : Bool) (replies : List (List ℕ))
     → AnswersStream page limit stream false Short replies → AnswersStream page limit (stream ++ more) ended Short replies
 short_later page limit stream more ended replies a = record {
   requests = a.requests;

@@ -4,7 +4,7 @@ use Rattle.page_spec.specs.declared.Outcome.{Outcome}
 use Rattle.page_spec.specs.declared.Outcome.TheVariants.{Page, Missing, Cyclic, TooLong}
 use Rattle.page_spec.specs.Show.{show}
 use Rattle.http_spec.specs.declared.RequestKind.{RequestKind}
-use Rattle.http_spec.specs.declared.RequestKind.TheVariants.{Get, Head, BadRequest, WrongMethod}
+use Rattle.http_spec.specs.declared.RequestKind.TheVariants.{Get, Head, BadRequest, Misdirected, WrongMethod}
 use Rattle.http_spec.specs.declared.ParsedRequest.{ParsedRequest}
 
 -- the status of a page's outcome
@@ -19,6 +19,7 @@ abbrev pub status : RequestKind → Outcome → List ℕ
 status Get outcome = page_status outcome
 status Head outcome = page_status outcome
 status BadRequest outcome = codes "400 Bad Request"
+status Misdirected outcome = codes "421 Misdirected Request"
 status WrongMethod outcome = codes "405 Method Not Allowed"
 
 -- the type of the body by a page's outcome
@@ -33,6 +34,7 @@ abbrev pub content_type : RequestKind → Outcome → List ℕ
 content_type Get outcome = page_type outcome
 content_type Head outcome = page_type outcome
 content_type BadRequest outcome = codes "text/plain; charset=utf-8"
+content_type Misdirected outcome = codes "text/plain; charset=utf-8"
 content_type WrongMethod outcome = codes "text/plain; charset=utf-8"
 
 -- the line that names the methods, in the reply to another method
@@ -40,6 +42,7 @@ abbrev pub allow_line : RequestKind → List ℕ
 allow_line Get = []
 allow_line Head = []
 allow_line BadRequest = []
+allow_line Misdirected = []
 allow_line WrongMethod = codes "Allow: GET, HEAD\r\n"
 
 -- the body by a page's outcome
@@ -54,6 +57,7 @@ abbrev pub reply_body : RequestKind → Outcome → List ℕ
 reply_body Get outcome = page_body outcome
 reply_body Head outcome = page_body outcome
 reply_body BadRequest outcome = codes "bad request\n"
+reply_body Misdirected outcome = codes "misdirected request\n"
 reply_body WrongMethod outcome = codes "method not allowed\n"
 
 -- what the Connection line says

@@ -1,12 +1,12 @@
 -- What a connection is sent for the bytes that came of it.
 use Rattle.std.specs.Prelude.{◌≡◌, ℕ, ◌-◌, ◌<◌, ◌≤◌, ◌⊎◌, Bool, true, false, ◌||◌, ◌==◌, List, []}
 use Rattle.std.specs.Prelude.{◌∷◌, ◌++◌}
-use Rattle.std.specs.Prelude.{length, MatchBool, ⊤}
+use Rattle.std.specs.Prelude.{length, MatchBool, ⊤, Option}
 use Rattle.httparse.specs.Grammar.{RequestHead}
 use Rattle.page_spec.specs.declared.Outcome.{Outcome}
 use Rattle.page_spec.specs.declared.Outcome.TheVariants.{Missing}
 use Rattle.http_spec.specs.declared.RequestKind.{RequestKind}
-use Rattle.http_spec.specs.declared.RequestKind.TheVariants.{Get, Head, BadRequest, WrongMethod}
+use Rattle.http_spec.specs.declared.RequestKind.TheVariants.{Get, Head, BadRequest, Misdirected, WrongMethod}
 use Rattle.http_spec.specs.declared.Standing.{Standing}
 use Rattle.http_spec.specs.declared.Standing.TheVariants.{Open, Closed, Short}
 use Rattle.http_spec.specs.Asks.{ask_of, bad_request}
@@ -14,34 +14,36 @@ use Rattle.http_spec.specs.Heads.{max_head, ReadsHead, HasNoHead, AreLineEnds, C
 use Rattle.http_spec.specs.Replies.{reply_bytes, no_memory_bytes}
 use Rattle.http_spec.specs.Streams.{Timed, Request, bytes_in, IsCutTo}
 
--- which outcome each target has
-abbrev pub OutcomeAt : Type 1
-OutcomeAt = List ℕ → Outcome → Type 0
+-- What is shown: the hosts between these commas alone, or any, and which outcome each target has.
+pub record Showing : Type 1 where
+  pub hosts : Option (List ℕ)
+  pub outcome : List ℕ → Outcome → Type 0
 
 -- each target has at most one outcome
-abbrev pub HasOneOutcome : OutcomeAt → Type 0
+abbrev pub HasOneOutcome : Showing → Type 0
 HasOneOutcome page =
-    (target : List ℕ) (o p : Outcome) → page target o → page target p → o ≡ p
+    (target : List ℕ) (o p : Outcome) → page.outcome target o → page.outcome target p → o ≡ p
 
-module _ (page : OutcomeAt) where
+module _ (page : Showing) where
   -- the outcome that the reply shows; where no page is looked up it may be any
   abbrev pub IsLookedUp : RequestKind → List ℕ → Outcome → Type 0
-  IsLookedUp Get target outcome = page target outcome
-  IsLookedUp Head target outcome = page target outcome
+  IsLookedUp Get target outcome = page.outcome target outcome
+  IsLookedUp Head target outcome = page.outcome target outcome
   IsLookedUp BadRequest target outcome = ⊤
+  IsLookedUp Misdirected target outcome = ⊤
   IsLookedUp WrongMethod target outcome = ⊤
 
   -- the bytes are the reply to this head; last says that the connection may have no further one
   abbrev pub IsReply : RequestHead → Bool → List ℕ → Type 0
   IsReply h last bytes =
-      (outcome : Outcome) × IsLookedUp (ask_of h).kind h.target outcome
-      × (bytes ≡ reply_bytes (ask_of h) outcome (last || (ask_of h).close))
+      (outcome : Outcome) × IsLookedUp (ask_of page.hosts h).kind h.target outcome
+      × (bytes ≡ reply_bytes (ask_of page.hosts h) outcome (last || (ask_of page.hosts h).close))
 
--- the connection closes after the reply to this head, where it may still have `left` replies
-abbrev pub closes_after : ℕ → RequestHead → Bool
-closes_after left h = (left == 1) || (ask_of h).close
+  -- the connection closes after the reply to this head, where it may still have `left` replies
+  abbrev pub closes_after : ℕ → RequestHead → Bool
+  closes_after left h = (left == 1) || (ask_of page.hosts h).close
 
-module _ {D : Type 0} (page : D → OutcomeAt) where
+module _ {D : Type 0} (page : D → Showing) where
   -- The replies to these requests, one each, in order, where the connection may still have `left`
   -- of them. Only the last reply may close it, and closed says whether it does. Each page is that
   -- of the data of its request.
@@ -51,7 +53,7 @@ module _ {D : Type 0} (page : D → OutcomeAt) where
   HasReplies left (request ∷ requests) [] closed = ⊥
   HasReplies left (request ∷ requests) (reply ∷ replies) closed =
       IsReply (page request.current) request.head (left == 1) reply
-      × MatchBool (closes_after left request.head)
+      × MatchBool (closes_after (page request.current) left request.head)
       ((requests ≡ []) × (replies ≡ []) × (closed ≡ true))
       (HasReplies (left - 1) requests replies closed)
 
@@ -87,7 +89,7 @@ Ends ended Short rest closed last =
     (closed ≡ false) × IsDue ended rest × (last ≡ no_memory_bytes ∷ [])
 
 -- over pages whose data may change, and with a limit on the replies of one connection
-module _ {D : Type 0} (page : D → OutcomeAt) (limit : ℕ) where
+module _ {D : Type 0} (page : D → Showing) (limit : ℕ) where
   -- the heads at the front of the stream have these replies
   pub record Session (stream : List (Timed D)) (requests : List (Request D)) (rest : List (Timed D))
       (replies : List (List ℕ)) (closed : Bool) : Type 0 where

@@ -3,7 +3,7 @@ ghost use Rattle.std.specs.Prelude.{◌≡◌, ℕ, List, [], ◌∷◌, ◌++�
 ghost use Rattle.httparse.specs.Grammar.{RequestHead, IsRequestHead, print_request, print_blank};
 ghost use Rattle.http_spec.specs.Heads.{Cuts, IsHead, HasNoHead, print_heads, is_line_end_byte};
 ghost use Rattle.http_spec.specs.Streams.{Timed, Request, bytes_in, heads_of, IsCutTo};
-ghost use Rattle.http_spec.specs.Sessions.{OutcomeAt, HasOneOutcome, AnswersStream};
+ghost use Rattle.http_spec.specs.Sessions.{Showing, HasOneOutcome, AnswersStream};
 
 use crate::Standing;
 
@@ -11,7 +11,7 @@ use crate::Standing;
 pub trait SomePages {
     ghost Current: { Type 0 };
 
-    ghost page: { Current → OutcomeAt };
+    ghost page: { Current → Showing };
 }
 
 /// A head is a list of line ends, and then a request head that begins with neither CR nor LF.

@@ -17,6 +17,8 @@ pub enum RequestKind {
     Head,
     /// Nothing that the server understands.
     BadRequest,
+    /// Something of another host.
+    Misdirected,
     /// Something by another method.
     WrongMethod,
 }

@@ -5,7 +5,7 @@ use Rattle.std.proofs.lemmas.List.{append-nil}
 use Rattle.std.proofs.lemmas.List.Elements.{All-head, All-tail}
 use Rattle.httparse.specs.Grammar.{RequestHead, print_request}
 use Rattle.http_spec.specs.Heads.{IsHead, HasNoHead, print_heads}
-use Rattle.http_spec.specs.Sessions.{OutcomeAt, closes_after, HasReplies, Session}
+use Rattle.http_spec.specs.Sessions.{Showing, closes_after, HasReplies, Session}
 use Rattle.http_spec.specs.Streams.{Timed, Request, timed, bytes_in, IsCutTo}
 use Rattle.http_spec.proofs.HeadLemmas.{head_last, last_of, later_cut}
 use Rattle.http_spec.proofs.StreamLemmas.{bytes-append}
@@ -117,12 +117,12 @@ cut_more {D} d rest piece x (h ∷ heads) none each whole =
         absurd (none h (drop (length (print_request h)) (bytes_in rest)) record { head = All-head IsHead h heads each; whole = cut.0 })
 
 -- replies while these data were current
-pub replies_dated : {D : Type 0} (page : D → OutcomeAt) (d : D) (left : ℕ) (heads : List RequestHead) (replies : List (List ℕ)) (closed : Bool)
+pub replies_dated : {D : Type 0} (page : D → Showing) (d : D) (left : ℕ) (heads : List RequestHead) (replies : List (List ℕ)) (closed : Bool)
     → AreReplies (page d) left heads replies closed → HasReplies page left (requests_of d heads) replies closed
 replies_dated page d left [] [] closed same = same
 replies_dated page d left [] (r ∷ rs) closed never = absurd never
 replies_dated page d left (h ∷ heads) [] closed never = absurd never
-replies_dated page d left (h ∷ heads) (r ∷ rs) closed both = (both.0, choose (closes_after left h) (λ goes. replies_dated page d (left - 1) heads rs closed goes) both.1)
+replies_dated page d left (h ∷ heads) (r ∷ rs) closed both = (both.0, choose (closes_after (page d) left h) (λ goes. replies_dated page d (left - 1) heads rs closed goes) both.1)
   where
     choose : (b : Bool) → (AreReplies (page d) (left - 1) heads rs closed → HasReplies page (left - 1) (requests_of d heads) rs closed)
         → MatchBool b ((heads ≡ []) × (rs ≡ []) × (closed ≡ true)) (AreReplies (page d) (left - 1) heads rs closed)
@@ -136,7 +136,7 @@ matched true X A Z C x never f = absurd (never x)
 matched false X A Z C a never f = f a
 
 -- replies to more requests, after replies that closed nothing
-pub has_append : {D : Type 0} (page : D → OutcomeAt) (limit left : ℕ) (requests more : List (Request D)) (replies others : List (List ℕ)) (closed : Bool)
+pub has_append : {D : Type 0} (page : D → Showing) (limit left : ℕ) (requests more : List (Request D)) (replies others : List (List ℕ)) (closed : Bool)
     → left + length requests ≡ limit → HasReplies page limit requests replies false → HasReplies page left more others closed
     → HasReplies page limit (requests ++ more) (replies ++ others) closed
 has_append page limit left [] more [] others closed e first second =
@@ -145,12 +145,12 @@ has_append page limit left [] more (r ∷ rs) others closed e first second = abs
 has_append page limit left (h ∷ hs) more [] others closed e first second = absurd first
 has_append page limit left (h ∷ hs) more (r ∷ rs) others closed e first second = (
   first.0,
-  matched (closes_after limit h.head) _ _ _ _ first.1 (λ never. cc) (λ stands.
+  matched (closes_after (page h.current) limit h.head) _ _ _ _ first.1 (λ never. cc) (λ stands.
       has_append page (limit - 1) left hs more rs others closed (omega arith) stands second),
 )
 
 -- one event more of a session that nothing closed
-pub session_more : {D : Type 0} (page : D → OutcomeAt) (d : D) (limit left : ℕ) (stream rest : List (Timed D)) (requests : List (Request D)) (replies others : List (List ℕ)) (piece x : List ℕ)
+pub session_more : {D : Type 0} (page : D → Showing) (d : D) (limit left : ℕ) (stream rest : List (Timed D)) (requests : List (Request D)) (replies others : List (List ℕ)) (piece x : List ℕ)
     (heads : List RequestHead) (closed : Bool)
     → Session page limit stream requests rest replies false → left + length requests ≡ limit → HasNoHead (bytes_in rest)
     → All IsHead heads → bytes_in rest ++ piece ≡ print_heads heads ++ x → AreReplies (page d) left heads others closed

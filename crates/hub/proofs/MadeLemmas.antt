@@ -1,10 +1,10 @@
 -- What a run makes: counts of replies, and look-ups one after another.
-use Rattle.std.proofs.Common.{◌≡◌, ℕ, ◌+◌, ◌-◌, ◌≤◌, ◌⊎◌, List, [], ◌∷◌, ◌++◌, length, zero, suc, refl, sym, ap, ◌∙◌, subst, arith, append_assoc, append-nil, inl, inr, Some, length-append, lit≤}
+use Rattle.std.proofs.Common.{◌≡◌, ℕ, ◌+◌, ◌-◌, ◌≤◌, ◌⊎◌, List, [], ◌∷◌, ◌++◌, length, zero, suc, Option, refl, sym, ap, ◌∙◌, subst, arith, append_assoc, append-nil, inl, inr, Some, length-append, lit≤}
 use Rattle.httparse.specs.Grammar.{RequestHead}
 use Rattle.sd_value.specs.declared.Term.{Term}
 use Rattle.http_spec.specs.declared.ParsedRequest.{ParsedRequest}
 use Rattle.http_spec.specs.declared.RequestKind.{RequestKind}
-use Rattle.http_spec.specs.declared.RequestKind.TheVariants.{Get, Head, BadRequest, WrongMethod}
+use Rattle.http_spec.specs.declared.RequestKind.TheVariants.{Get, Head, BadRequest, Misdirected, WrongMethod}
 use Rattle.http_spec.specs.declared.Standing.TheVariants.{Open, Short}
 use Rattle.http_spec.specs.Asks.{ask_of}
 use Rattle.http_reply.specs.Feeding.{Held, FedCase}
@@ -26,25 +26,25 @@ looked_more Looks (t ∷ terms) others before between after (next, one, rest) se
     (next, one, looked_more Looks terms others next between after rest second)
 
 -- the look-ups for one head more
-pub looks_more : (Names : List ℕ → Term → Type 0) (heads : List RequestHead) (looked : List Term) (h : RequestHead) (terms : List Term)
-    → LooksUpAll Names heads looked → LooksUp Names (ask_of h).kind h.target terms → LooksUpAll Names (heads ++ h ∷ []) (looked ++ terms)
-looks_more Names [] looked h terms none one =
+pub looks_more : (hosts : Option (List ℕ)) (Names : List ℕ → Term → Type 0) (heads : List RequestHead) (looked : List Term) (h : RequestHead) (terms : List Term)
+    → LooksUpAll hosts Names heads looked → LooksUp Names (ask_of hosts h).kind h.target terms → LooksUpAll hosts Names (heads ++ h ∷ []) (looked ++ terms)
+looks_more hosts Names [] looked h terms none one =
     (terms, [], one, refl, ap (λ l. l ++ terms) none ∙ sym (append-nil terms))
-looks_more Names (k ∷ heads) looked h terms (first, others, own, rest, is) one =
-    (first, others ++ terms, own, looks_more Names heads others h terms rest one, ap (λ l. l ++ terms) is ∙ append_assoc first others terms)
+looks_more hosts Names (k ∷ heads) looked h terms (first, others, own, rest, is) one =
+    (first, others ++ terms, own, looks_more hosts Names heads others h terms rest one, ap (λ l. l ++ terms) is ∙ append_assoc first others terms)
 
 -- the look-ups for the head that an ask is for, or for none
-pub looks_asked : (Names : List ℕ → Term → Type 0) (rest p : List ℕ) (taken : ℕ) (ask : ParsedRequest) (after : Held) (fed : FedCase rest p taken (Some ask) after)
-    (heads : List RequestHead) (looked terms : List Term) → LooksUpAll Names heads looked → LooksUp Names ask.kind after.target terms
-    → LooksUpAll Names (heads_after rest p taken ask after fed heads) (looked ++ terms)
-looks_asked Names rest p taken ask after (inl w) heads looked terms before one =
+pub looks_asked : (hosts : Option (List ℕ)) (Names : List ℕ → Term → Type 0) (rest p : List ℕ) (taken : ℕ) (ask : ParsedRequest) (after : Held) (fed : FedCase hosts rest p taken (Some ask) after)
+    (heads : List RequestHead) (looked terms : List Term) → LooksUpAll hosts Names heads looked → LooksUp Names ask.kind after.target terms
+    → LooksUpAll hosts Names (heads_after hosts rest p taken ask after fed heads) (looked ++ terms)
+looks_asked hosts Names rest p taken ask after (inl w) heads looked terms before one =
     let At : ParsedRequest → Type 0 = λ a. LooksUp Names a.kind after.target terms in
-    let Target : List ℕ → Type 0 = λ t. LooksUp Names (ask_of w.0).kind t terms in
-    looks_more Names heads looked w.0 terms before (subst Target (ap (λ (x : Held). x.target) w.1.after_is) (subst At w.1.ask_is one))
-looks_asked Names rest p taken ask after (inr refused) heads looked terms before one =
+    let Target : List ℕ → Type 0 = λ t. LooksUp Names (ask_of hosts w.0).kind t terms in
+    looks_more hosts Names heads looked w.0 terms before (subst Target (ap (λ (x : Held). x.target) w.1.after_is) (subst At w.1.ask_is one))
+looks_asked hosts Names rest p taken ask after (inr refused) heads looked terms before one =
     let At : ParsedRequest → Type 0 = λ a. LooksUp Names a.kind after.target terms in
     let none : terms ≡ [] = subst At refused.ask_is one in
-    subst (LooksUpAll Names heads) (sym (ap (λ l. looked ++ l) none ∙ append-nil looked)) before
+    subst (LooksUpAll hosts Names heads) (sym (ap (λ l. looked ++ l) none ∙ append-nil looked)) before
 
 -- what is looked up for one ask is at most one term
 named_few : (Names : List ℕ → Term → Type 0) (target : List ℕ) (terms : List Term) → NamedBy Names target terms → length terms ≤ 1
@@ -55,6 +55,7 @@ looks_few : (Names : List ℕ → Term → Type 0) (kind : RequestKind) (target 
 looks_few Names Get target terms up = named_few Names target terms up
 looks_few Names Head target terms up = named_few Names target terms up
 looks_few Names BadRequest target terms none = subst (λ (l : List Term). length l ≤ 1) (sym none) (lit≤ tt)
+looks_few Names Misdirected target terms none = subst (λ (l : List Term). length l ≤ 1) (sym none) (lit≤ tt)
 looks_few Names WrongMethod target terms none = subst (λ (l : List Term). length l ≤ 1) (sym none) (lit≤ tt)
 
 pub short_few : (Names : List ℕ → Term → Type 0) (kind : RequestKind) (target : List ℕ) (terms : List Term) → (terms ≡ []) ⊎ LooksUp Names kind target terms

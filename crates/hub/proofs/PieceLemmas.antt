@@ -6,7 +6,7 @@ use Rattle.std.proofs.lemmas.List.Elements.{All-push}
 use Rattle.httparse.specs.Grammar.{RequestHead, print_request}
 use Rattle.http_spec.specs.Heads.{max_head, IsHead, HasNoHead, print_heads}
 use Rattle.http_spec.specs.Replies.{no_memory_bytes}
-use Rattle.http_spec.specs.Sessions.{OutcomeAt, IsReply, closes_after, refusal, IsRefused, IsDue}
+use Rattle.http_spec.specs.Sessions.{Showing, IsReply, closes_after, refusal, IsRefused, IsDue}
 use Rattle.http_spec.proofs.HeadLemmas.{no_head_nil}
 use Rattle.hub.specs.Pieces.{AreReplies, OpenAfter, ClosedAfter, RefusedAfter, ShortAfter}
 
@@ -25,7 +25,7 @@ chosen_false true X A e a = cc
 chosen_false false X A e a = a
 
 -- replies to more heads, after replies that closed nothing
-pub replies_append : (page : OutcomeAt) (limit left : ℕ) (heads more : List RequestHead) (replies others : List (List ℕ)) (closed : Bool)
+pub replies_append : (page : Showing) (limit left : ℕ) (heads more : List RequestHead) (replies others : List (List ℕ)) (closed : Bool)
     → left + length heads ≡ limit → AreReplies page limit heads replies false → AreReplies page left more others closed
     → AreReplies page limit (heads ++ more) (replies ++ others) closed
 replies_append page limit left [] more [] others closed e first second =
@@ -34,7 +34,7 @@ replies_append page limit left [] more (r ∷ rs) others closed e first second =
 replies_append page limit left (h ∷ hs) more [] others closed e first second = absurd first
 replies_append page limit left (h ∷ hs) more (r ∷ rs) others closed e first second = (
   first.0,
-  matched (closes_after limit h) _ _ _ _ first.1 (λ never. cc) (λ stands.
+  matched (closes_after page limit h) _ _ _ _ first.1 (λ never. cc) (λ stands.
       replies_append page (limit - 1) left hs more rs others closed (omega arith) stands second),
 )
 
@@ -45,7 +45,7 @@ print_more (k ∷ heads) h =
     ap (λ s. print_request k ++ s) (print_more heads h) ∙ sym (append_assoc (print_request k) (print_heads heads) (print_request h))
 
 -- bytes come, and still no head is whole
-pub open_waits : (page : OutcomeAt) (limit : ℕ) (bytes : List ℕ) (replies : List (List ℕ)) (rest : List ℕ) (heads : List RequestHead) (piece : List ℕ)
+pub open_waits : (page : Showing) (limit : ℕ) (bytes : List ℕ) (replies : List (List ℕ)) (rest : List ℕ) (heads : List RequestHead) (piece : List ℕ)
     → OpenAfter page limit bytes replies rest heads → HasNoHead (rest ++ piece) → length (rest ++ piece) < max_head
     → OpenAfter page limit (bytes ++ piece) replies (rest ++ piece) heads
 open_waits page limit bytes replies rest heads piece stands none room = record {
@@ -65,9 +65,9 @@ head_ends heads bytes rest piece h whole ends =
     ap (λ s. s ++ piece) whole ∙ append_assoc (print_heads heads) rest piece ∙ ap (λ s. print_heads heads ++ s) ends ∙ sym (print_more heads h)
 
 -- a head's reply, which leaves the connection open
-pub open_replies : (page : OutcomeAt) (limit left : ℕ) (bytes : List ℕ) (replies : List (List ℕ)) (rest : List ℕ) (heads : List RequestHead) (piece : List ℕ) (h : RequestHead) (reply : List ℕ)
+pub open_replies : (page : Showing) (limit left : ℕ) (bytes : List ℕ) (replies : List (List ℕ)) (rest : List ℕ) (heads : List RequestHead) (piece : List ℕ) (h : RequestHead) (reply : List ℕ)
     → OpenAfter page limit bytes replies rest heads → left + length heads ≡ limit → IsHead h → rest ++ piece ≡ print_request h
-    → IsReply page h (left == 1) reply → closes_after left h ≡ false
+    → IsReply page h (left == 1) reply → closes_after page left h ≡ false
     → OpenAfter page limit (bytes ++ piece) (replies ++ reply ∷ []) [] (heads ++ h ∷ [])
 open_replies page limit left bytes replies rest heads piece h reply stands count head ends is stays = record {
   cut = record {
@@ -75,23 +75,23 @@ open_replies page limit left bytes replies rest heads piece h reply stands count
     whole = head_ends heads bytes rest piece h stands.cut.whole ends ∙ sym (append-nil (print_heads (heads ++ h ∷ [])));
     last = no_head_nil;
   };
-  answered = replies_append page limit left heads (h ∷ []) replies (reply ∷ []) false count stands.answered (is, chosen_false (closes_after left h) _ _ stays refl);
+  answered = replies_append page limit left heads (h ∷ []) replies (reply ∷ []) false count stands.answered (is, chosen_false (closes_after page left h) _ _ stays refl);
   room = lit< tt;
 }
 
 -- a head's reply, which closes the connection
-pub open_closes : (page : OutcomeAt) (limit left : ℕ) (bytes : List ℕ) (replies : List (List ℕ)) (rest : List ℕ) (heads : List RequestHead) (piece more : List ℕ) (h : RequestHead) (reply : List ℕ)
+pub open_closes : (page : Showing) (limit left : ℕ) (bytes : List ℕ) (replies : List (List ℕ)) (rest : List ℕ) (heads : List RequestHead) (piece more : List ℕ) (h : RequestHead) (reply : List ℕ)
     → OpenAfter page limit bytes replies rest heads → left + length heads ≡ limit → IsHead h → rest ++ piece ≡ print_request h
-    → IsReply page h (left == 1) reply → closes_after left h ≡ true
+    → IsReply page h (left == 1) reply → closes_after page left h ≡ true
     → ClosedAfter page limit ((bytes ++ piece) ++ more) (replies ++ reply ∷ []) (heads ++ h ∷ []) more
 open_closes page limit left bytes replies rest heads piece more h reply stands count head ends is closes = record {
   each = All-push IsHead heads h stands.cut.each head;
   whole = ap (λ s. s ++ more) (head_ends heads bytes rest piece h stands.cut.whole ends);
-  answered = replies_append page limit left heads (h ∷ []) replies (reply ∷ []) true count stands.answered (is, chosen_true (closes_after left h) _ _ closes (refl, refl, refl));
+  answered = replies_append page limit left heads (h ∷ []) replies (reply ∷ []) true count stands.answered (is, chosen_true (closes_after page left h) _ _ closes (refl, refl, refl));
 }
 
 -- the rest is refused
-pub open_refused : (page : OutcomeAt) (limit : ℕ) (bytes : List ℕ) (replies : List (List ℕ)) (rest : List ℕ) (heads : List RequestHead) (piece : List ℕ)
+pub open_refused : (page : Showing) (limit : ℕ) (bytes : List ℕ) (replies : List (List ℕ)) (rest : List ℕ) (heads : List RequestHead) (piece : List ℕ)
     → OpenAfter page limit bytes replies rest heads → IsRefused false (rest ++ piece)
     → RefusedAfter page limit (bytes ++ piece) (replies ++ refusal ∷ []) (rest ++ piece) heads replies
 open_refused page limit bytes replies rest heads piece stands why = record {
@@ -103,7 +103,7 @@ open_refused page limit bytes replies rest heads piece stands why = record {
 }
 
 -- memory is missing for the reply that is due
-pub open_short : (page : OutcomeAt) (limit : ℕ) (bytes : List ℕ) (replies : List (List ℕ)) (rest : List ℕ) (heads : List RequestHead) (piece : List ℕ)
+pub open_short : (page : Showing) (limit : ℕ) (bytes : List ℕ) (replies : List (List ℕ)) (rest : List ℕ) (heads : List RequestHead) (piece : List ℕ)
     → OpenAfter page limit bytes replies rest heads → IsDue false (rest ++ piece)
     → ShortAfter page limit (bytes ++ piece) (replies ++ no_memory_bytes ∷ []) heads (rest ++ piece) replies
 open_short page limit bytes replies rest heads piece stands due = record {

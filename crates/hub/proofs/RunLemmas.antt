@@ -1,10 +1,10 @@
 -- A run takes one event more.
-use Rattle.std.proofs.Common.{◌≡◌, inr, ℕ, ◌<◌, Bool, true, false, ◌||◌, ◌==◌, List, [], ◌∷◌, ◌++◌, refl, sym, ap, ◌∙◌, subst, append_assoc, append-nil, Option, Some, None, if◌then◌else◌}
+use Rattle.std.proofs.Common.{◌≡◌, inr, ℕ, ◌<◌, true, false, ◌||◌, List, [], ◌∷◌, ◌++◌, refl, sym, ap, ◌∙◌, subst, append_assoc, append-nil, Option, None, if◌then◌else◌}
 use Rattle.std.specs.List.{fold, list_any}
 use Rattle.std.proofs.lemmas.Grind.{fold-append}
 use Rattle.std.proofs.lemmas.List.Folds.{list_any-append}
 use Rattle.sd_value.specs.declared.Term.{Term}
-use Rattle.http_spec.specs.Sessions.{OutcomeAt}
+use Rattle.http_spec.specs.Sessions.{Showing}
 use Rattle.wire.specs.Accounts.{Account, up_by}
 use Rattle.wire.specs.Noted.{AreAccountedFor}
 use Rattle.wire.proofs.Noting.{told_none}
@@ -12,30 +12,31 @@ use Rattle.wire.specs.Events.{add_event, is_done, IsNextOf, IsDrawn}
 use Rattle.happenings.specs.Happening.{Happening, Given}
 use Rattle.happenings.specs.declared.event.WireEvent.{WireEvent}
 use Rattle.happenings.specs.declared.event.WireEvent.TheVariants.{Opened, Bytes, Ended, Lost as LostEvent, Change, Done}
+use Rattle.serving_spec.specs.declared.Origin.{Origin}
 use Rattle.hub.specs.Course.{Scene, Rules, Passes, PassesAll, IsCourse, accounts_of}
 use Rattle.hub.specs.HubState.{scene, HubState}
 use Rattle.hub.specs.Line.{Line}
 use Rattle.serving_spec.specs.Counted.{no_counts, counts_with, is_of}
 use Rattle.serving_spec.specs.Made.{Made, nothing}
-use Rattle.serving_spec.specs.Inputs.{Moment, Unopened, Coming, after_event, moment_after}
+use Rattle.serving_spec.specs.Inputs.{Moment, Unopened, after_event, moment_after}
 use Rattle.hub.specs.Moments.{Stands}
 use Rattle.hub.specs.Turns.{At, at_in, Turned, state_after}
-use Rattle.serving_spec.specs.Openings.{counts, greatest_after, opened_after}
+use Rattle.serving_spec.specs.Openings.{greatest_after, opened_after}
 use Rattle.serving_spec.specs.declared.HubEnd.TheVariants.{NoMemory}
 use Rattle.hub.proofs.TurnLemmas.{stands_turn}
 
 -- where a connection stands after these events, with the current and the greatest number as they are then
-pub record Runs {D : Type 0} (page : D → OutcomeAt) (Names : List ℕ → Term → Type 0) (changed : D → List ℕ → D) (limit number : ℕ) (start : Moment D) (events : List WireEvent) (first now : At) (current : D) (greatest : Option ℕ) : Type 0 where
+pub record Runs {D : Type 0} (page : D → Showing) (Names : List ℕ → Term → Type 0) (changed : D → List ℕ → D) (limit number : ℕ) (start : Moment D) (events : List WireEvent) (first now : At) (current : D) (greatest : Option ℕ) : Type 0 where
   pub stands : Stands page Names limit number (moment_after (state_after changed) number start events) first now
   pub current_is : (moment_after (state_after changed) number start events).current ≡ current
   pub greatest_is : (moment_after (state_after changed) number start events).greatest ≡ greatest
 
-pub runs_start : {D : Type 0} (page : D → OutcomeAt) (Names : List ℕ → Term → Type 0) (changed : D → List ℕ → D) (limit number : ℕ) (first : At) (current : D) (greatest : Option ℕ) → first.line ≡ None
+pub runs_start : {D : Type 0} (page : D → Showing) (Names : List ℕ → Term → Type 0) (changed : D → List ℕ → D) (limit number : ℕ) (first : At) (current : D) (greatest : Option ℕ) → first.line ≡ None
     → Runs page Names changed limit number (record { current = current; greatest = greatest; input = Unopened }) [] first first current greatest
 runs_start page Names changed limit number first current greatest none =
     record { stands = record { counted = no_counts; is = record { stands = (none, refl, refl); opened = tt } }; current_is = refl; greatest_is = refl }
 
-module _ {D : Type 0} (page : D → OutcomeAt) (Names : List ℕ → Term → Type 0) (changed : D → List ℕ → D) (limit k : ℕ) (start : Moment D) (events : List WireEvent) (e : WireEvent) (first : At) (made : Made) where
+module _ {D : Type 0} (page : D → Showing) (Names : List ℕ → Term → Type 0) (changed : D → List ℕ → D) (limit k : ℕ) (start : Moment D) (events : List WireEvent) (e : WireEvent) (first : At) (made : Made) where
   moment_more : moment_after (state_after changed) k start (events ++ e ∷ []) ≡ after_event (state_after changed) k (moment_after (state_after changed) k start events) e
   moment_more = fold-append (after_event (state_after changed) k) start events (e ∷ [])
 
@@ -95,7 +96,7 @@ done_is (Change text) is = cc
 done_is Done is = refl
 
 -- the wire tells the same of the connections
-pub runs_moved : {D : Type 0} (page : D → OutcomeAt) (Names : List ℕ → Term → Type 0) (changed : D → List ℕ → D) (limit number : ℕ) (start : Moment D) (events : List WireEvent) (first : At) (lines : ℕ → Option Line)
+pub runs_moved : {D : Type 0} (page : D → Showing) (Names : List ℕ → Term → Type 0) (changed : D → List ℕ → D) (limit number : ℕ) (start : Moment D) (events : List WireEvent) (first : At) (lines : ℕ → Option Line)
     (accounts others : ℕ → Option Account) (faults later : ℕ → ℕ) (current : D) (greatest : Option ℕ) → others ≡ accounts → later ≡ faults
     → Runs page Names changed limit number start events first (at_in lines accounts faults number) current greatest
     → Runs page Names changed limit number start events first (at_in lines others later number) current greatest
@@ -103,13 +104,13 @@ runs_moved page Names changed limit number start events first lines accounts oth
     subst (λ (a : ℕ → Option Account). Runs page Names changed limit number start events first (at_in lines a later number) current greatest) (sym same)
     (subst (λ (f : ℕ → ℕ). Runs page Names changed limit number start events first (at_in lines accounts f number) current greatest) (sym fine) runs)
 
--- the root and the limit are as they were at first
-pub turned_at : {D : Type 0} (page : Option (List ℕ) → D → OutcomeAt) (Names : Option (List ℕ) → List ℕ → Term → Type 0) (current : D) (root here : Option (List ℕ)) (limit first : ℕ) (greatest : Option ℕ) (e : WireEvent) (made : Made)
-    (before after : ℕ → At) → root ≡ here → limit ≡ first → Turned (page root current) (Names root) limit greatest e made before after
+-- the origin and the limit are as they were at first
+pub turned_at : {D : Type 0} (page : Origin → D → Showing) (Names : Origin → List ℕ → Term → Type 0) (current : D) (origin here : Origin) (limit first : ℕ) (greatest : Option ℕ) (e : WireEvent) (made : Made)
+    (before after : ℕ → At) → origin ≡ here → limit ≡ first → Turned (page origin current) (Names origin) limit greatest e made before after
     → Turned (page here current) (Names here) first greatest e made before after
-turned_at page Names current root here limit first greatest e made before after as_root same turned =
+turned_at page Names current origin here limit first greatest e made before after as_origin same turned =
     subst (λ n. Turned (page here current) (Names here) n greatest e made before after) same
-    (subst (λ r. Turned (page r current) (Names r) limit greatest e made before after) as_root turned)
+    (subst (λ r. Turned (page r current) (Names r) limit greatest e made before after) as_origin turned)
 
 -- an event was given, and then this was done
 pub one_turn : (start now given after trace part : List Happening) (e : Happening) → now ≡ start ++ trace → given ≡ now ++ e ∷ [] → after ≡ given ++ part

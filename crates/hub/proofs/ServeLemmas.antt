@@ -11,7 +11,7 @@ use Rattle.http_spec.specs.declared.Standing.TheVariants.{Open, Closed, Short}
 use Rattle.http_spec.specs.Asks.{bad_request}
 use Rattle.http_spec.specs.Heads.{AreLineEnds}
 use Rattle.http_spec.specs.Replies.{reply_bytes, no_memory_bytes}
-use Rattle.http_spec.specs.Sessions.{OutcomeAt, IsLookedUp}
+use Rattle.http_spec.specs.Sessions.{Showing, IsLookedUp}
 use Rattle.http_reply.specs.Feeding.{Held, FedCase, EndsWith}
 use Rattle.wire.specs.Accounts.{Account, send_to, gain, up}
 use Rattle.hub.specs.Line.{Line}
@@ -32,14 +32,14 @@ gain_append a [] more = refl
 gain_append a (r ∷ replies) more = gain_append (send_to a r) replies more
 
 -- an answer, after other replies
-shifted : (page : OutcomeAt) (ask : ParsedRequest) (target : List ℕ) (last : Bool) (would : Standing) (mid : List (List ℕ)) (reply : List ℕ)
+shifted : (page : Showing) (ask : ParsedRequest) (target : List ℕ) (last : Bool) (would : Standing) (mid : List (List ℕ)) (reply : List ℕ)
     → Answered page ask target last would [] (reply ∷ []) → Answered page ask target last would mid (mid ++ reply ∷ [])
 shifted page ask target last Open mid reply (outcome, up, close, e) = (outcome, up, close, ap (λ x. mid ++ x) e)
 shifted page ask target last Closed mid reply (outcome, up, close, e) = (outcome, up, close, ap (λ x. mid ++ x) e)
 shifted page ask target last Short mid reply e = ap (λ x. mid ++ x) e
 
 -- the answer of the reader's ask, with the outcomes as they were at first
-pub answered_now : {D : Type 0} (page : D → OutcomeAt) (Names : List ℕ → Term → Type 0) (made : Made) (told end : StepEnd) (now first : D) (ask : ParsedRequest) (given target : List ℕ) (left : ℕ)
+pub answered_now : {D : Type 0} (page : D → Showing) (Names : List ℕ → Term → Type 0) (made : Made) (told end : StepEnd) (now first : D) (ask : ParsedRequest) (given target : List ℕ) (left : ℕ)
     (old new : Option Account) (f h : ℕ) → told ≡ end → now ≡ first → given ≡ target → IsAnswered (page now) Names ask given (left == 1) made told old new f h
     → IsAnswered (page first) Names ask target (left == 1) made end old new f h
 answered_now {D} page Names made told end now first ask given target left old new f h so current same answered =
@@ -48,39 +48,39 @@ answered_now {D} page Names made told end now first ask given target left old ne
     let At : List ℕ → Type 0 = λ t. IsAnswered (page first) Names ask t (left == 1) made end old new f h in
     subst At same (subst Of current (subst Told so answered))
 
-module _ (page : OutcomeAt) (Names : List ℕ → Term → Type 0) (before : Line) (piece p : List ℕ) (from taken : ℕ) (held : Line) (after : Held) (mid : List (List ℕ))
+module _ (page : Showing) (Names : List ℕ → Term → Type 0) (before : Line) (piece p : List ℕ) (from taken : ℕ) (held : Line) (after : Held) (mid : List (List ℕ))
     (is : p ≡ drop from piece) (stays : StaysOpen page before (take from piece) held [] mid)
-    (ask : ParsedRequest) (fed : FedCase held.rest p taken (Some ask) after) (first now new : Option Account) (f g h : ℕ)
-    (account : now ≡ gain first mid) (fine : g ≡ f) (looked : List Term) (look_ups : LooksUpAll Names stays.heads looked) (made : Made) where
+    (ask : ParsedRequest) (fed : FedCase page.hosts held.rest p taken (Some ask) after) (first now new : Option Account) (f g h : ℕ)
+    (account : now ≡ gain first mid) (fine : g ≡ f) (looked : List Term) (look_ups : LooksUpAll page.hosts Names stays.heads looked) (made : Made) where
   -- all that was made up to this reply
   abbrev pub so_many : Made
   so_many = record { replies = length mid + made.replies; terms = looked ++ made.terms }
 
   -- what is made where the reply leaves it open or closes it, and where memory is missing for it
   makes_open : (reply : List ℕ) → made.replies ≡ replies_in Open (reply ∷ []) → LooksUp Names ask.kind after.target made.terms
-      → Makes Names Open (heads_after held.rest p taken ask after fed stays.heads) (mid ++ reply ∷ []) so_many
+      → Makes page.hosts Names Open (heads_after page.hosts held.rest p taken ask after fed stays.heads) (mid ++ reply ∷ []) so_many
   makes_open reply one up = record {
     looked = looked ++ made.terms;
     extra = [];
     count = count_open mid reply made one;
-    look_ups = looks_asked Names held.rest p taken ask after fed stays.heads looked made.terms look_ups up;
+    look_ups = looks_asked page.hosts Names held.rest p taken ask after fed stays.heads looked made.terms look_ups up;
     may = refl;
     terms = sym (append-nil (looked ++ made.terms));
   }
 
   makes_closed : (reply : List ℕ) → made.replies ≡ replies_in Closed (reply ∷ []) → LooksUp Names ask.kind after.target made.terms
-      → Makes Names Closed (heads_after held.rest p taken ask after fed stays.heads) (mid ++ reply ∷ []) so_many
+      → Makes page.hosts Names Closed (heads_after page.hosts held.rest p taken ask after fed stays.heads) (mid ++ reply ∷ []) so_many
   makes_closed reply one up = record {
     looked = looked ++ made.terms;
     extra = [];
     count = count_open mid reply made one;
-    look_ups = looks_asked Names held.rest p taken ask after fed stays.heads looked made.terms look_ups up;
+    look_ups = looks_asked page.hosts Names held.rest p taken ask after fed stays.heads looked made.terms look_ups up;
     may = refl;
     terms = sym (append-nil (looked ++ made.terms));
   }
 
   makes_short : (reply : List ℕ) → made.replies ≡ replies_in Short (reply ∷ []) → (made.terms ≡ []) ⊎ LooksUp Names ask.kind after.target made.terms
-      → Makes Names Short stays.heads (mid ++ reply ∷ []) so_many
+      → Makes page.hosts Names Short stays.heads (mid ++ reply ∷ []) so_many
   makes_short reply none up = record {
     looked = looked;
     extra = made.terms;
@@ -100,15 +100,15 @@ module _ (page : OutcomeAt) (Names : List ℕ → Term → Type 0) (before : Lin
 
   pub serve_open : IsAnswered page Names ask after.target (held.left == 1) made (Ok Open) now new g h
       → (replies : List (List ℕ)) × (s : StaysOpen page before (take (from + taken) piece) (record { rest = after.rest; left = held.left - 1 }) [] replies)
-      × (new ≡ gain first replies) × LooksUpAll Names s.heads (looked ++ made.terms) × (length replies ≡ length mid + made.replies)
+      × (new ≡ gain first replies) × LooksUpAll page.hosts Names s.heads (looked ++ made.terms) × (length replies ≡ length mid + made.replies)
   serve_open (replies, r, account_is, faults_are) =
       let opened = answered_open page before piece p from taken held after [] mid (mid ++ r.reply ∷ []) is stays ask fed
       (shifted page ask after.target (held.left == 1) Open mid r.reply r.answers) in (
         mid ++ r.reply ∷ [],
         opened.0,
         one_reply Open replies r account_is,
-        subst (λ heads. LooksUpAll Names heads (looked ++ made.terms)) (sym opened.1)
-            (looks_asked Names held.rest p taken ask after fed stays.heads looked made.terms look_ups r.looks),
+        subst (λ heads. LooksUpAll page.hosts Names heads (looked ++ made.terms)) (sym opened.1)
+            (looks_asked page.hosts Names held.rest p taken ask after fed stays.heads looked made.terms look_ups r.looks),
         sym (count_open mid r.reply made r.count),
       )
 
@@ -117,7 +117,7 @@ module _ (page : OutcomeAt) (Names : List ℕ → Term → Type 0) (before : Lin
   serve_closed then (replies, r, account_is, faults_are) = (
     mid ++ r.reply ∷ [],
     (
-      heads_after held.rest p taken ask after fed stays.heads,
+      heads_after page.hosts held.rest p taken ask after fed stays.heads,
       answered_closed page before piece p from taken held after [] mid (mid ++ r.reply ∷ []) is stays ask then fed
           (shifted page ask after.target (held.left == 1) Closed mid r.reply r.answers),
       makes_closed r.reply r.count r.looks,
@@ -146,7 +146,7 @@ module _ (page : OutcomeAt) (Names : List ℕ → Term → Type 0) (before : Lin
       → FrontReplies page Names before piece so_many would (mid ++ reply ∷ [])
   front Open reply answered one up =
       let opened = answered_open page before piece p from taken held after [] mid (mid ++ reply ∷ []) is stays ask fed answered in (
-        heads_after held.rest p taken ask after fed stays.heads,
+        heads_after page.hosts held.rest p taken ask after fed stays.heads,
         record {
           front = take (from + taken) piece;
           more = drop (from + taken) piece;
@@ -157,7 +157,7 @@ module _ (page : OutcomeAt) (Names : List ℕ → Term → Type 0) (before : Lin
         makes_open reply one up,
       )
   front Closed reply answered one up = (
-    heads_after held.rest p taken ask after fed stays.heads,
+    heads_after page.hosts held.rest p taken ask after fed stays.heads,
     record {
       front = piece;
       more = [];
@@ -221,7 +221,7 @@ none_looked Names Closed target terms none = none
 none_looked Names Short target terms (inl none) = none
 none_looked Names Short target terms (inr none) = none
 
-end_step : (page : OutcomeAt) (Names : List ℕ → Term → Type 0) (rest target : List ℕ) (ask : ParsedRequest) (made : Made) (would : Standing) (replies : List (List ℕ)) → ¬ (AreLineEnds rest) → ask ≡ bad_request
+end_step : (page : Showing) (Names : List ℕ → Term → Type 0) (rest target : List ℕ) (ask : ParsedRequest) (made : Made) (would : Standing) (replies : List (List ℕ)) → ¬ (AreLineEnds rest) → ask ≡ bad_request
     → Reply page Names ask target true made would replies → EndSteps rest made would replies
 end_step page Names rest target ask made would replies within is r =
     subst (EndSteps rest made would) (sym r.one) record {
@@ -236,7 +236,7 @@ end_step page Names rest target ask made would replies within is r =
     step Short answered = (within, answered)
 
 -- the end of the input, after more than line ends
-pub finish_asked : (page : OutcomeAt) (Names : List ℕ → Term → Type 0) (rest target : List ℕ) (asked : Option ParsedRequest) (ask : ParsedRequest) (made : Made) (end : StepEnd) (a b : Option Account) (f g : ℕ)
+pub finish_asked : (page : Showing) (Names : List ℕ → Term → Type 0) (rest target : List ℕ) (asked : Option ParsedRequest) (ask : ParsedRequest) (made : Made) (end : StepEnd) (a b : Option Account) (f g : ℕ)
     → asked ≡ Some ask → EndsWith rest asked → IsAnswered page Names ask target true made end a b f g → IsFinished rest made end a b f g
 finish_asked page Names rest target asked ask made end a b f g some ends answered =
     let ended : EndsWith rest (Some ask) = subst (EndsWith rest) some ends in
@@ -249,12 +249,12 @@ finish_asked page Names rest target asked ask made end a b f g some ends answere
         (would, before, next, some, end_step page Names rest target ask made would (before ++ next ∷ []) within is r, e, k)
 
 -- an answer that left it open had no fault
-pub faults_open : (page : OutcomeAt) (Names : List ℕ → Term → Type 0) (ask : ParsedRequest) (target : List ℕ) (last : Bool) (made : Made) (old new : Option Account) (f h : ℕ)
+pub faults_open : (page : Showing) (Names : List ℕ → Term → Type 0) (ask : ParsedRequest) (target : List ℕ) (last : Bool) (made : Made) (old new : Option Account) (f h : ℕ)
     → IsAnswered page Names ask target last made (Ok Open) old new f h → h ≡ f
 faults_open page Names ask target last made old new f h (replies, r, account_is, fine) = fine
 
 -- a reply that was made is sent
-pub sent_answer : (page : OutcomeAt) (Names : List ℕ → Term → Type 0) (ask : ParsedRequest) (target : List ℕ) (last close : Bool) (reply : List ℕ) (outcome : Outcome) (terms : List Term) (end : StepEnd)
+pub sent_answer : (page : Showing) (Names : List ℕ → Term → Type 0) (ask : ParsedRequest) (target : List ℕ) (last close : Bool) (reply : List ℕ) (outcome : Outcome) (terms : List Term) (end : StepEnd)
     (old new : Option Account) (f g : ℕ) → close ≡ (last || ask.close) → IsLookedUp page ask.kind target outcome → reply ≡ reply_bytes ask outcome close
     → LooksUp Names ask.kind target terms
     → IsSent close reply end old new f g → IsAnswered page Names ask target last (record { replies = 1; terms = terms }) end old new f g
@@ -281,7 +281,7 @@ sent_answer page Names ask target last close reply outcome terms end old new f g
         (would.0, [], reply, some, would.1, account, rose)
 
 -- a 503 is sent in its place
-pub short_answer : (page : OutcomeAt) (Names : List ℕ → Term → Type 0) (ask : ParsedRequest) (target : List ℕ) (last : Bool) (terms : List Term) (end : StepEnd) (old new : Option Account) (f g : ℕ)
+pub short_answer : (page : Showing) (Names : List ℕ → Term → Type 0) (ask : ParsedRequest) (target : List ℕ) (last : Bool) (terms : List Term) (end : StepEnd) (old new : Option Account) (f g : ℕ)
     → (terms ≡ []) ⊎ LooksUp Names ask.kind target terms → IsUnopened end old new f g
     → IsAnswered page Names ask target last (record { replies = 0; terms = terms }) end old new f g
 short_answer page Names ask target last terms end old new f g looks = by_end end

@@ -8,7 +8,7 @@ use Rattle.http_spec.specs.declared.Standing.{Standing}
 use Rattle.http_spec.specs.declared.Standing.TheVariants.{Open, Closed, Short}
 use Rattle.http_spec.specs.Heads.{max_head, HasNoHead}
 use Rattle.http_spec.specs.Replies.{no_memory_bytes}
-use Rattle.http_spec.specs.Sessions.{OutcomeAt, refusal, IsRefused, IsDue, Ends, AnswersStream}
+use Rattle.http_spec.specs.Sessions.{Showing, refusal, IsRefused, IsDue, Ends, AnswersStream}
 use Rattle.http_spec.specs.Streams.{Timed, Request, timed, bytes_in}
 use Rattle.http_spec.proofs.StreamLemmas.{cut_later, bytes-append}
 use Rattle.http_spec.proofs.LaterLemmas.{due_later, closed_ends_later}
@@ -31,7 +31,7 @@ ends_later ended closed Closed rest more last over ends = closed_ends_later ende
 ends_later ended closed Short rest more last over (goes, due, one) = (goes, due_later ended rest more due, one)
 
 -- bytes that come later change nothing of a session that is shut, nor does the end of the input
-answer_ends : {D : Type 0} (page : D → OutcomeAt) (Names : List ℕ → Term → Type 0) (limit : ℕ) (counted : Counts D) (stream later : List (Timed D)) (ended : Bool) (standing : Standing) (replies : List (List ℕ)) → (standing ≢ Open)
+answer_ends : {D : Type 0} (page : D → Showing) (Names : List ℕ → Term → Type 0) (limit : ℕ) (counted : Counts D) (stream later : List (Timed D)) (ended : Bool) (standing : Standing) (replies : List (List ℕ)) → (standing ≢ Open)
     → HasCounts page Names limit counted stream false standing replies → HasCounts page Names limit counted (stream ++ later) ended standing replies
 answer_ends page Names limit counted stream later ended standing replies over (inr short) = inr short
 answer_ends page Names limit counted stream later ended standing replies over (inl c) =
@@ -55,16 +55,16 @@ answer_ends page Names limit counted stream later ended standing replies over (i
       whole = c.whole;
     }
 
-answer_later : {D : Type 0} (page : D → OutcomeAt) (Names : List ℕ → Term → Type 0) (limit : ℕ) (counted : Counts D) (stream later : List (Timed D)) (standing : Standing) (replies : List (List ℕ)) → (standing ≢ Open)
+answer_later : {D : Type 0} (page : D → Showing) (Names : List ℕ → Term → Type 0) (limit : ℕ) (counted : Counts D) (stream later : List (Timed D)) (standing : Standing) (replies : List (List ℕ)) → (standing ≢ Open)
     → HasCounts page Names limit counted stream false standing replies → HasCounts page Names limit counted (stream ++ later) false standing replies
 answer_later page Names limit counted stream later standing replies over a = answer_ends page Names limit counted stream later false standing replies over a
 
-answer_over : {D : Type 0} (page : D → OutcomeAt) (Names : List ℕ → Term → Type 0) (limit : ℕ) (counted : Counts D) (stream : List (Timed D)) (standing : Standing) (replies : List (List ℕ)) → (standing ≢ Open)
+answer_over : {D : Type 0} (page : D → Showing) (Names : List ℕ → Term → Type 0) (limit : ℕ) (counted : Counts D) (stream : List (Timed D)) (standing : Standing) (replies : List (List ℕ)) → (standing ≢ Open)
     → HasCounts page Names limit counted stream false standing replies → HasCounts page Names limit counted stream true standing replies
 answer_over page Names limit counted stream standing replies over a =
     subst (λ s. HasCounts page Names limit counted s true standing replies) (append-nil stream) (answer_ends page Names limit counted stream [] true standing replies over a)
 
-front_later : {D : Type 0} (page : D → OutcomeAt) (Names : List ℕ → Term → Type 0) (limit : ℕ) (counted : Counts D) (stream later : List (Timed D)) (standing : Standing) (replies : List (List ℕ))
+front_later : {D : Type 0} (page : D → Showing) (Names : List ℕ → Term → Type 0) (limit : ℕ) (counted : Counts D) (stream later : List (Timed D)) (standing : Standing) (replies : List (List ℕ))
     → FrontOf (HasCounts page Names limit counted) stream false standing replies → FrontOf (HasCounts page Names limit counted) (stream ++ later) false standing replies
 front_later page Names limit counted stream later standing replies a = record {
   front = a.front;
@@ -75,7 +75,7 @@ front_later page Names limit counted stream later standing replies a = record {
   answer = a.answer;
 }
 
-front_over : {D : Type 0} (page : D → OutcomeAt) (Names : List ℕ → Term → Type 0) (limit : ℕ) (counted : Counts D) (stream : List (Timed D)) (standing : Standing) (replies : List (List ℕ))
+front_over : {D : Type 0} (page : D → Showing) (Names : List ℕ → Term → Type 0) (limit : ℕ) (counted : Counts D) (stream : List (Timed D)) (standing : Standing) (replies : List (List ℕ))
     → FrontOf (HasCounts page Names limit counted) stream false standing replies → FrontOf (HasCounts page Names limit counted) stream true standing replies
 front_over page Names limit counted stream standing replies a = record {
   front = a.front;
@@ -103,7 +103,7 @@ module _ (P Q : Standing → List (List ℕ) → Type 0) (first now : Seen) wher
   }
 
 -- Over a connection to which nothing more is sent.
-module _ {D : Type 0} (page : D → OutcomeAt) (Names : List ℕ → Term → Type 0) (limit : ℕ) (counted : Counts D) (stream : List (Timed D)) (first now : At) where
+module _ {D : Type 0} (page : D → Showing) (Names : List ℕ → Term → Type 0) (limit : ℕ) (counted : Counts D) (stream : List (Timed D)) (first now : At) where
   abbrev Whole : List (Timed D) → Bool → Standing → List (List ℕ) → Type 0
   Whole = HasCounts page Names limit counted
 
@@ -130,18 +130,18 @@ look_ups_append : {D : Type 0} (d : D) (a b : List Term) → look_ups d (a ++ b)
 look_ups_append d a b = map-append (look_up d) a b
 
 -- look-ups for requests, and for others
-looks_append : {D : Type 0} (Names : List ℕ → Term → Type 0) (requests others : List (Request D)) (a b : List (LookUp D)) → LooksUpFor Names requests a → LooksUpFor Names others b
-    → LooksUpFor Names (requests ++ others) (a ++ b)
-looks_append Names [] others a b none second = subst (λ l. LooksUpFor Names others (l ++ b)) (sym none) second
-looks_append Names (r ∷ requests) others a b (terms, more, one, rest, is) second =
-    (terms, more ++ b, one, looks_append Names requests others more b rest second, ap (λ l. l ++ b) is ∙ append_assoc (look_ups r.current terms) more b)
+looks_append : {D : Type 0} (page : D → Showing) (Names : List ℕ → Term → Type 0) (requests others : List (Request D)) (a b : List (LookUp D)) → LooksUpFor page Names requests a → LooksUpFor page Names others b
+    → LooksUpFor page Names (requests ++ others) (a ++ b)
+looks_append page Names [] others a b none second = subst (λ l. LooksUpFor page Names others (l ++ b)) (sym none) second
+looks_append page Names (r ∷ requests) others a b (terms, more, one, rest, is) second =
+    (terms, more ++ b, one, looks_append page Names requests others more b rest second, ap (λ l. l ++ b) is ∙ append_assoc (look_ups r.current terms) more b)
 
 -- look-ups for heads that are whole while this is current
-looks_dated : {D : Type 0} (Names : List ℕ → Term → Type 0) (d : D) (heads : List RequestHead) (looked : List Term) → LooksUpAll Names heads looked
-    → LooksUpFor Names (requests_of d heads) (look_ups d looked)
-looks_dated Names d [] looked none = ap (look_ups d) none
-looks_dated Names d (h ∷ heads) looked (first, others, one, rest, is) =
-    (first, look_ups d others, one, looks_dated Names d heads others rest, ap (look_ups d) is ∙ look_ups_append d first others)
+looks_dated : {D : Type 0} (page : D → Showing) (Names : List ℕ → Term → Type 0) (d : D) (heads : List RequestHead) (looked : List Term) → LooksUpAll (page d).hosts Names heads looked
+    → LooksUpFor page Names (requests_of d heads) (look_ups d looked)
+looks_dated page Names d [] looked none = ap (look_ups d) none
+looks_dated page Names d (h ∷ heads) looked (first, others, one, rest, is) =
+    (first, look_ups d others, one, looks_dated page Names d heads others rest, ap (look_ups d) is ∙ look_ups_append d first others)
 
 may_look : {D : Type 0} (d : D) (would : Standing) (extra : List Term) → MayLookUp would extra → MayLookUp would (look_ups d extra)
 may_look d Open extra none = ap (look_ups d) none
@@ -154,7 +154,7 @@ may_none A Closed = refl
 may_none A Short = lit≤ tt
 
 -- where it is out of memory, a 503 is sent
-some_short : (page : OutcomeAt) (line : Line) (piece : List ℕ) (heads : List RequestHead) (would : Standing) (held : Line) (replies : List (List ℕ)) → Steps page line piece heads would held [] replies
+some_short : (page : Showing) (line : Line) (piece : List ℕ) (heads : List RequestHead) (would : Standing) (held : Line) (replies : List (List ℕ)) → Steps page line piece heads would held [] replies
     → would ≡ Short → 0 < length replies
 some_short page line piece heads Open held replies step e = absurd (let never : Open ≡ Short = e in cc)
 some_short page line piece heads Closed held replies step e = absurd (let never : Closed ≡ Short = e in cc)
@@ -170,7 +170,7 @@ some_at_end rest Short replies (within, is) e =
     omega (arith, count)
 
 -- What an open connection's step adds to its session.
-module _ {D : Type 0} (page : D → OutcomeAt) (Names : List ℕ → Term → Type 0) (d : D) (limit : ℕ) (counted : Counts D) (stream : List (Timed D)) (line : Line) (first now : At) (open_at : IsOpenAt page Names limit counted stream line first now) where
+module _ {D : Type 0} (page : D → Showing) (Names : List ℕ → Term → Type 0) (d : D) (limit : ℕ) (counted : Counts D) (stream : List (Timed D)) (line : Line) (first now : At) (open_at : IsOpenAt page Names limit counted stream line first now) where
   -- the replies that are counted, with those of a step
   count_more : (would : Standing) (replies : List (List ℕ)) (one : ℕ) → one ≡ replies_in would replies → (would ≡ Short → 0 < length replies)
       → counted.replies + one ≡ replies_in would (open_at.replies ++ replies)
@@ -179,19 +179,19 @@ module _ {D : Type 0} (page : D → OutcomeAt) (Names : List ℕ → Term → Ty
   count_more Short replies one e some = let so_far = open_at.count in let is : one ≡ length replies - 1 = e in let has : 0 < length replies = some refl in omega (arith, so_far, is, has, length-append open_at.replies replies)
 
   -- the look-ups, with those of a step
-  looks_more : (heads : List RequestHead) (looked : List Term) → LooksUpAll Names heads looked → LooksUpFor Names (open_at.requests ++ requests_of d heads) (counted.looked ++ look_ups d looked)
-  looks_more heads looked up = looks_append Names open_at.requests (requests_of d heads) counted.looked (look_ups d looked) open_at.looks (looks_dated Names d heads looked up)
+  looks_more : (heads : List RequestHead) (looked : List Term) → LooksUpAll (page d).hosts Names heads looked → LooksUpFor page Names (open_at.requests ++ requests_of d heads) (counted.looked ++ look_ups d looked)
+  looks_more heads looked up = looks_append page Names open_at.requests (requests_of d heads) counted.looked (look_ups d looked) open_at.looks (looks_dated page Names d heads looked up)
 
   -- the counts of an answer to the bytes so far and these heads
   counts_more : (heads : List RequestHead) (would : Standing) (replies : List (List ℕ)) (one : Made) (bytes : List (Timed D)) (ended : Bool) (a : AnswersStream page limit bytes ended would (open_at.replies ++ replies))
-      → a.requests ≡ open_at.requests ++ requests_of d heads → Makes Names would heads replies one → (would ≡ Short → 0 < length replies)
+      → a.requests ≡ open_at.requests ++ requests_of d heads → Makes (page d).hosts Names would heads replies one → (would ≡ Short → 0 < length replies)
       → CountedAnswer page Names limit (counts_with counted d one) bytes ended would (open_at.replies ++ replies)
   counts_more heads would replies one bytes ended a same makes some = record {
     answer = a;
     looked = counted.looked ++ look_ups d makes.looked;
     extra = look_ups d makes.extra;
     count = count_more would replies one.replies makes.count some;
-    looks = subst (λ rs. LooksUpFor Names rs (counted.looked ++ look_ups d makes.looked)) (sym same) (looks_more heads makes.looked makes.look_ups);
+    looks = subst (λ rs. LooksUpFor page Names rs (counted.looked ++ look_ups d makes.looked)) (sym same) (looks_more heads makes.looked makes.look_ups);
     may = may_look d would makes.extra makes.may;
     whole = ap (λ ts. counted.looked ++ look_ups d ts) makes.terms ∙ ap (λ l. counted.looked ++ l) (look_ups_append d makes.looked makes.extra)
         ∙ sym (append_assoc counted.looked (look_ups d makes.looked) (look_ups d makes.extra));
@@ -202,7 +202,7 @@ module _ {D : Type 0} (page : D → OutcomeAt) (Names : List ℕ → Term → Ty
   rest_on piece tail e = ap (λ s. s ++ piece) open_at.rest_is ∙ e
 
   pub open_more : (piece : List ℕ) (heads : List RequestHead) (held : Line) (replies : List (List ℕ)) (one : Made) (after : At) → Steps (page d) line piece heads Open held [] replies
-      → Makes Names Open heads replies one → after.account ≡ gain now.account replies → after.faults ≡ now.faults
+      → Makes (page d).hosts Names Open heads replies one → after.account ≡ gain now.account replies → after.faults ≡ now.faults
       → IsOpenAt page Names limit (counts_with counted d one) (stream ++ timed d piece) held first after
   open_more piece heads held replies one_made after (step, same) makes account faults =
       let one = open_at.left in
@@ -223,8 +223,8 @@ module _ {D : Type 0} (page : D → OutcomeAt) (Names : List ℕ → Term → Ty
         faults = faults ∙ open_at.faults;
         count = count_more Open replies one_made.replies makes.count (λ e. absurd (let never : Open ≡ Short = e in cc))
             ∙ ap (λ (r : List (List ℕ)). length (open_at.replies ++ r)) step.sent;
-        looks = subst (λ hs. LooksUpFor Names (open_at.requests ++ requests_of d hs) (counted.looked ++ look_ups d one_made.terms)) (sym same)
-            (subst (λ ts. LooksUpFor Names (open_at.requests ++ requests_of d heads) (counted.looked ++ look_ups d ts)) (sym (makes.terms ∙ ap (λ e. makes.looked ++ e) makes.may ∙ append-nil makes.looked))
+        looks = subst (λ hs. LooksUpFor page Names (open_at.requests ++ requests_of d hs) (counted.looked ++ look_ups d one_made.terms)) (sym same)
+            (subst (λ ts. LooksUpFor page Names (open_at.requests ++ requests_of d heads) (counted.looked ++ look_ups d ts)) (sym (makes.terms ∙ ap (λ e. makes.looked ++ e) makes.may ∙ append-nil makes.looked))
             (looks_more heads makes.looked makes.look_ups));
       }
 
@@ -325,13 +325,13 @@ module _ {D : Type 0} (page : D → OutcomeAt) (Names : List ℕ → Term → Ty
       )
 
   pub answer_more : (piece : List ℕ) (heads : List RequestHead) (would : Standing) (held : Line) (replies : List (List ℕ)) (one : Made) → Steps (page d) line piece heads would held [] replies
-      → Makes Names would heads replies one → HasCounts page Names limit (counts_with counted d one) (stream ++ timed d piece) false would (open_at.replies ++ replies)
+      → Makes (page d).hosts Names would heads replies one → HasCounts page Names limit (counts_with counted d one) (stream ++ timed d piece) false would (open_at.replies ++ replies)
   answer_more piece heads would held replies one step makes =
       let more = replies_more piece heads would held replies step in
       inl (counts_more heads would replies one (stream ++ timed d piece) false more.0 more.1 makes (some_short (page d) line piece heads would held replies step))
 
   pub front_more : (piece : List ℕ) (heads : List RequestHead) (would : Standing) (replies : List (List ℕ)) (one : Made) → FrontSteps (page d) line piece heads would replies
-      → Makes Names would heads replies one → FrontOf (HasCounts page Names limit (counts_with counted d one)) (stream ++ timed d piece) false would (open_at.replies ++ replies)
+      → Makes (page d).hosts Names would heads replies one → FrontOf (HasCounts page Names limit (counts_with counted d one)) (stream ++ timed d piece) false would (open_at.replies ++ replies)
   front_more piece heads would replies one step makes = record {
     front = stream ++ timed d step.front;
     more = timed d step.more;
@@ -377,7 +377,7 @@ module _ {D : Type 0} (page : D → OutcomeAt) (Names : List ℕ → Term → Ty
         looked = counted.looked;
         extra = [];
         count = count_more would replies made.replies step.count (some_at_end (bytes_in open_at.rest) would replies at_end);
-        looks = subst (λ rs. LooksUpFor Names rs counted.looked) (sym a.1) open_at.looks;
+        looks = subst (λ rs. LooksUpFor page Names rs counted.looked) (sym a.1) open_at.looks;
         may = may_none (LookUp D) would;
         whole = ap (λ ts. counted.looked ++ look_ups d ts) step.none;
       }

@@ -11,7 +11,7 @@ use Rattle.http_spec.specs.declared.Standing.TheVariants.{Open, Closed, Short}
 use Rattle.http_spec.specs.Asks.{ask_of, bad_request}
 use Rattle.http_spec.specs.Heads.{max_head, IsHead, HasNoHead, CannotBecomeHead}
 use Rattle.http_spec.specs.Replies.{reply_bytes, no_memory_bytes}
-use Rattle.http_spec.specs.Sessions.{OutcomeAt, IsRefused, IsDue, refusal}
+use Rattle.http_spec.specs.Sessions.{Showing, IsRefused, IsDue, refusal}
 use Rattle.http_spec.proofs.HeadLemmas.{no_head_nil}
 use Rattle.http_reply.specs.declared.reading.Fed.{Fed}
 use Rattle.http_reply.specs.Feeding.{Held, Feeds, FedCase, EndsHead, Refuses}
@@ -52,14 +52,14 @@ not_last : (n : ℕ) → 0 < n → (n == 1) ≡ false → 1 < n
 not_last n some e = grind (arith, nat_tests)
 
 -- the heads that are answered after an ask
-abbrev pub heads_after : (rest p : List ℕ) (taken : ℕ) (ask : ParsedRequest) (after : Held) → FedCase rest p taken (Some ask) after → List RequestHead → List RequestHead
-heads_after rest p taken ask after (inl w) heads = heads ++ w.0 ∷ []
-heads_after rest p taken ask after (inr refused) heads = heads
+abbrev pub heads_after : (hosts : Option (List ℕ)) (rest p : List ℕ) (taken : ℕ) (ask : ParsedRequest) (after : Held) → FedCase hosts rest p taken (Some ask) after → List RequestHead → List RequestHead
+heads_after hosts rest p taken ask after (inl w) heads = heads ++ w.0 ∷ []
+heads_after hosts rest p taken ask after (inr refused) heads = heads
 
-module _ (page : OutcomeAt) (before : Line) (piece p : List ℕ) (from taken : ℕ) (held : Line) (after : Held) (old mid new : List (List ℕ))
+module _ (page : Showing) (before : Line) (piece p : List ℕ) (from taken : ℕ) (held : Line) (after : Held) (old mid new : List (List ℕ))
     (is : p ≡ drop from piece) (stays : StaysOpen page before (take from piece) held old mid) where
   -- no ask: the piece is at its end
-  pub waits : FedCase held.rest p taken None after → (s : StaysOpen page before piece (record { rest = after.rest; left = held.left }) old mid) × (s.heads ≡ stays.heads)
+  pub waits : FedCase page.hosts held.rest p taken None after → (s : StaysOpen page before piece (record { rest = after.rest; left = held.left }) old mid) × (s.heads ≡ stays.heads)
   waits fed =
       let rest_is : held.rest ++ p ≡ after.rest = sym (ap (λ (h : Held). h.rest) fed.after_is) in
       let opened = open_waits page before.left (before.rest ++ take from piece) stays.replies held.rest stays.heads p stays.stays fed.none fed.room in
@@ -77,11 +77,11 @@ module _ (page : OutcomeAt) (before : Line) (piece p : List ℕ) (from taken : �
       )
 
   -- what was sent for the head that ended
-  head_answered : (ask : ParsedRequest) (h : RequestHead) (standing : Standing) → EndsHead held.rest p taken ask after h
-      → Answered page ask after.target (held.left == 1) standing mid new → Answered page (ask_of h) h.target (held.left == 1) standing mid new
+  head_answered : (ask : ParsedRequest) (h : RequestHead) (standing : Standing) → EndsHead page.hosts held.rest p taken ask after h
+      → Answered page ask after.target (held.left == 1) standing mid new → Answered page (ask_of page.hosts h) h.target (held.left == 1) standing mid new
   head_answered ask h standing ends answered =
       let At : ParsedRequest → Type 0 = λ a. Answered page a after.target (held.left == 1) standing mid new in
-      let Target : List ℕ → Type 0 = λ t. Answered page (ask_of h) t (held.left == 1) standing mid new in
+      let Target : List ℕ → Type 0 = λ t. Answered page (ask_of page.hosts h) t (held.left == 1) standing mid new in
       subst Target (ap (λ (x : Held). x.target) ends.after_is) (subst At ends.ask_is answered)
 
   refusal_answered : (ask : ParsedRequest) (standing : Standing) → Refuses held.rest p taken ask after
@@ -91,17 +91,17 @@ module _ (page : OutcomeAt) (before : Line) (piece p : List ℕ) (from taken : �
       subst At refused.ask_is answered
 
   -- the reply left it open
-  pub answered_open : (ask : ParsedRequest) (fed : FedCase held.rest p taken (Some ask) after) → Answered page ask after.target (held.left == 1) Open mid new
+  pub answered_open : (ask : ParsedRequest) (fed : FedCase page.hosts held.rest p taken (Some ask) after) → Answered page ask after.target (held.left == 1) Open mid new
       → (s : StaysOpen page before (take (from + taken) piece) (record { rest = after.rest; left = held.left - 1 }) old new)
-      × (s.heads ≡ heads_after held.rest p taken ask after fed stays.heads)
+      × (s.heads ≡ heads_after page.hosts held.rest p taken ask after fed stays.heads)
   answered_open ask (inl w) answered =
       let h = w.0 in
       let ends = w.1 in
       let said = head_answered ask h Open ends answered in
-      let reply = reply_bytes (ask_of h) said.0 ((held.left == 1) || (ask_of h).close) in
+      let reply = reply_bytes (ask_of page.hosts h) said.0 ((held.left == 1) || (ask_of page.hosts h).close) in
       let some = stays.some in
       let count = stays.left in
-      let more : 1 < held.left = not_last held.left some (or_left (held.left == 1) (ask_of h).close said.2) in
+      let more : 1 < held.left = not_last held.left some (or_left (held.left == 1) (ask_of page.hosts h).close said.2) in
       let opened = open_replies page before.left held.left (before.rest ++ take from piece) stays.replies held.rest stays.heads (take taken p) h reply
       stays.stays stays.left ends.head ends.whole (said.0, said.1, refl) said.2 in
       let Bytes : List ℕ → Type 0 = λ b. OpenAfter page before.left b (stays.replies ++ reply ∷ []) [] (stays.heads ++ h ∷ []) in
@@ -119,13 +119,13 @@ module _ (page : OutcomeAt) (before : Line) (piece p : List ℕ) (from taken : �
   answered_open ask (inr refused) answered = absurd (or_true (held.left == 1) (refusal_answered ask Open refused answered).2)
 
   -- the reply closed it
-  pub answered_closed : (ask : ParsedRequest) (then : Line) (fed : FedCase held.rest p taken (Some ask) after) → Answered page ask after.target (held.left == 1) Closed mid new
-      → Steps page before piece (heads_after held.rest p taken ask after fed stays.heads) Closed then old new
+  pub answered_closed : (ask : ParsedRequest) (then : Line) (fed : FedCase page.hosts held.rest p taken (Some ask) after) → Answered page ask after.target (held.left == 1) Closed mid new
+      → Steps page before piece (heads_after page.hosts held.rest p taken ask after fed stays.heads) Closed then old new
   answered_closed ask then (inl w) answered =
       let h = w.0 in
       let ends = w.1 in
       let said = head_answered ask h Closed ends answered in
-      let reply = reply_bytes (ask_of h) said.0 ((held.left == 1) || (ask_of h).close) in
+      let reply = reply_bytes (ask_of page.hosts h) said.0 ((held.left == 1) || (ask_of page.hosts h).close) in
       let more = drop (from + taken) piece in
       let closed = open_closes page before.left held.left (before.rest ++ take from piece) stays.replies held.rest stays.heads (take taken p) more h reply
       stays.stays stays.left ends.head ends.whole (said.0, said.1, refl) said.2 in
@@ -152,7 +152,7 @@ module _ (page : OutcomeAt) (before : Line) (piece p : List ℕ) (from taken : �
       )
 
   -- a further reply was due
-  due : (ask : ParsedRequest) → FedCase held.rest p taken (Some ask) after → IsDue false (held.rest ++ p)
+  due : (ask : ParsedRequest) → FedCase page.hosts held.rest p taken (Some ask) after → IsDue false (held.rest ++ p)
   due ask (inl w) =
       inl (
         w.0,
@@ -166,7 +166,7 @@ module _ (page : OutcomeAt) (before : Line) (piece p : List ℕ) (from taken : �
   due ask (inr refused) = inr (why_refused (held.rest ++ p) refused.none refused.why)
 
   -- memory was missing for it
-  pub answered_short : (ask : ParsedRequest) (then : Line) → FedCase held.rest p taken (Some ask) after → Answered page ask after.target (held.left == 1) Short mid new
+  pub answered_short : (ask : ParsedRequest) (then : Line) → FedCase page.hosts held.rest p taken (Some ask) after → Answered page ask after.target (held.left == 1) Short mid new
       → Steps page before piece stays.heads Short then old new
   answered_short ask then fed answered =
       let Bytes : List ℕ → Type 0 = λ b. ShortAfter page before.left b (stays.replies ++ no_memory_bytes ∷ []) stays.heads (held.rest ++ p) stays.replies in (
@@ -181,13 +181,14 @@ module _ (page : OutcomeAt) (before : Line) (piece p : List ℕ) (from taken : �
       )
 
 -- what a feed says, where its ask is known
-pub fed_case : (rest p : List ℕ) (fed : Fed) (asked : Option ParsedRequest) (after : Held) → fed.ask ≡ asked → Feeds rest p fed after → FedCase rest p fed.taken asked after
-fed_case rest p fed asked after e feeds = subst (λ a. FedCase rest p fed.taken a after) e feeds
+pub fed_case : (hosts : Option (List ℕ)) (rest p : List ℕ) (fed : Fed) (asked : Option ParsedRequest) (after : Held) → fed.ask ≡ asked → Feeds hosts rest p fed after
+    → FedCase hosts rest p fed.taken asked after
+fed_case hosts rest p fed asked after e feeds = subst (λ a. FedCase hosts rest p fed.taken a after) e feeds
 
 -- after an ask nothing is held of the bytes
-pub asked_rest : (rest p : List ℕ) (taken : ℕ) (ask : ParsedRequest) (after : Held) → FedCase rest p taken (Some ask) after → after.rest ≡ []
-asked_rest rest p taken ask after (inl w) = ap (λ (x : Held). x.rest) w.1.after_is
-asked_rest rest p taken ask after (inr refused) = ap (λ (x : Held). x.rest) refused.after_is
+pub asked_rest : (hosts : Option (List ℕ)) (rest p : List ℕ) (taken : ℕ) (ask : ParsedRequest) (after : Held) → FedCase hosts rest p taken (Some ask) after → after.rest ≡ []
+asked_rest hosts rest p taken ask after (inl w) = ap (λ (x : Held). x.rest) w.1.after_is
+asked_rest hosts rest p taken ask after (inr refused) = ap (λ (x : Held). x.rest) refused.after_is
 
 pub no_head_asked : (after : Held) → after.rest ≡ [] → HasNoHead after.rest × (length after.rest < max_head)
 no_head_asked after e = (
@@ -196,7 +197,7 @@ no_head_asked after e = (
 )
 
 -- before the first byte of a piece
-abbrev pub starts : (page : OutcomeAt) (before : Line) (rest : List ℕ) (left : ℕ) (sent : List (List ℕ)) → record { rest = rest; left = left } ≡ before
+abbrev pub starts : (page : Showing) (before : Line) (rest : List ℕ) (left : ℕ) (sent : List (List ℕ)) → record { rest = rest; left = left } ≡ before
     → HasNoHead rest → length rest < max_head → 0 < left → StaysOpen page before [] (record { rest = rest; left = left }) sent sent
 starts page before rest left sent view none room some = record {
   replies = [];

@@ -5,26 +5,25 @@ use Rattle.std.proofs.lemmas.Bool.Decides.{nat_tests}
 use Rattle.sd_value.specs.declared.Term.{Term}
 use Rattle.http_spec.specs.declared.Standing.{Standing}
 use Rattle.http_spec.specs.declared.Standing.TheVariants.{Open, Closed, Short}
-use Rattle.http_spec.specs.Replies.{no_memory_bytes}
-use Rattle.http_spec.specs.Sessions.{OutcomeAt}
+use Rattle.http_spec.specs.Sessions.{Showing}
 use Rattle.http_spec.specs.Streams.{Timed, timed}
 use Rattle.http_spec.proofs.HeadLemmas.{no_head_nil}
 use Rattle.wire.specs.Accounts.{Account, up_by}
 use Rattle.happenings.specs.declared.event.WireEvent.{WireEvent}
 use Rattle.happenings.specs.declared.event.WireEvent.TheVariants.{Opened, Bytes, Ended, Lost as LostEvent, Change, Done}
-use Rattle.serving_spec.specs.Delivered.{closing, AllSent, CutOff}
+use Rattle.serving_spec.specs.Delivered.{closing}
 use Rattle.hub.specs.Line.{Line}
 use Rattle.serving_spec.specs.Inputs.{Input, Unopened, Coming, Over, Moment, more_of, over_of, after_event}
 use Rattle.serving_spec.specs.Sent.{FrontOf}
 use Rattle.serving_spec.specs.Counted.{Counts, no_counts, counts_with, HasCounts, is_of}
 use Rattle.hub.specs.Moments.{SettledAt, IsOpenAt, IsOverAt, StandsComing, StandsFor, IsBelow, WasOpened, CountedStands}
 use Rattle.serving_spec.specs.Made.{Made, nothing}
-use Rattle.hub.specs.Turns.{At, seen_of, StepEnd, account_after, EndSteps, PieceReplies, FrontReplies, IsPieceServed, IsFinished, IsUnopened, Opens, TakesPiece, Finishes, OthersStay, Turned, kept_after, Keeps}
+use Rattle.hub.specs.Turns.{At, StepEnd, account_after, EndSteps, IsPieceServed, IsFinished, IsUnopened, Opens, TakesPiece, Finishes, OthersStay, Turned, kept_after, Keeps}
 use Rattle.serving_spec.specs.Openings.{counts}
 use Rattle.hub.proofs.StandLemmas.{over_later, over_ended, over_settled, all_on, cut_on, settled_on, open_more, answer_more, front_more, end_more, front_end, so_far}
 
 -- memory was missing for the connection
-over_unopened : {D : Type 0} (page : D → OutcomeAt) (Names : List ℕ → Term → Type 0) (limit : ℕ) (end : StepEnd) (account : Option Account) (first now : At) → IsUnopened end first.account account first.faults now.faults
+over_unopened : {D : Type 0} (page : D → Showing) (Names : List ℕ → Term → Type 0) (limit : ℕ) (end : StepEnd) (account : Option Account) (first now : At) → IsUnopened end first.account account first.faults now.faults
     → now.account ≡ account_after end account → IsOverAt page Names limit no_counts [] first now
 over_unopened page Names limit (Ok standing) account first now (replies, (short, is), sent, faults) closed =
     inl (
@@ -49,7 +48,7 @@ over_unopened page Names limit (Err failed) account first now (would, before, ne
     }
 
 -- the connection is opened
-turn_opens : {D : Type 0} (page : D → OutcomeAt) (Names : List ℕ → Term → Type 0) (limit : ℕ) (first before after : At) → 0 < limit → before ≡ first → Opens limit before after → StandsComing page Names limit no_counts [] after.line first after
+turn_opens : {D : Type 0} (page : D → Showing) (Names : List ℕ → Term → Type 0) (limit : ℕ) (first before after : At) → 0 < limit → before ≡ first → Opens limit before after → StandsComing page Names limit no_counts [] after.line first after
 turn_opens page Names limit first before after some same (inl opened) =
     subst (λ (a : At). StandsComing page Names limit no_counts [] a.line first a) (sym opened) record {
       requests = [];
@@ -79,7 +78,7 @@ counts_same {D} counted d made none =
     ap (λ (m : Made). counts_with counted d m) none ∙ still
 
 -- a piece of an open connection
-module _ {D : Type 0} (page : D → OutcomeAt) (Names : List ℕ → Term → Type 0) (made : Made) (d : D) (limit : ℕ) (counted : Counts D) (stream : List (Timed D)) (piece : List ℕ) (line : Line) (first before after : At) (held : Line)
+module _ {D : Type 0} (page : D → Showing) (Names : List ℕ → Term → Type 0) (made : Made) (d : D) (limit : ℕ) (counted : Counts D) (stream : List (Timed D)) (piece : List ℕ) (line : Line) (first before after : At) (held : Line)
     (account : Option Account) (open_at : IsOpenAt page Names limit counted stream line first before) where
   abbrev Answer : Standing → List (List ℕ) → Type 0
   Answer = HasCounts page Names limit (counts_with counted d made) (stream ++ timed d piece) false
@@ -112,7 +111,7 @@ module _ {D : Type 0} (page : D → OutcomeAt) (Names : List ℕ → Term → Ty
       (front_more page Names d limit counted stream line first before open_at piece is.0 would (sent ++ next ∷ []) made is.1 is.2) (same ∙ account_is) rose))
 
 -- a piece
-turn_piece : {D : Type 0} (page : D → OutcomeAt) (Names : List ℕ → Term → Type 0) (made : Made) (d : D) (limit : ℕ) (counted : Counts D) (piece : List ℕ) (input : Input D) (line : Option Line) (first before after : At) → before.line ≡ line
+turn_piece : {D : Type 0} (page : D → Showing) (Names : List ℕ → Term → Type 0) (made : Made) (d : D) (limit : ℕ) (counted : Counts D) (piece : List ℕ) (input : Input D) (line : Option Line) (first before after : At) → before.line ≡ line
     → StandsFor page Names limit counted input first before → TakesPiece (page d) Names piece made line before after
     → StandsFor page Names limit (counts_with counted d made) (more_of (timed d piece) input) first after
 turn_piece {D} page Names made d limit counted piece input None first before after is stands (same, none) =
@@ -135,7 +134,7 @@ turn_piece {D} page Names made d limit counted piece (Over ended stream) (Some l
     absurd (let never : None ≡ Some line = sym stands.0 ∙ is in cc)
 
 -- the end of an open connection's input
-finish_open : {D : Type 0} (page : D → OutcomeAt) (Names : List ℕ → Term → Type 0) (made : Made) (d : D) (limit : ℕ) (counted : Counts D) (stream : List (Timed D)) (line : Line) (first before after : At) (end : StepEnd) (account : Option Account)
+finish_open : {D : Type 0} (page : D → Showing) (Names : List ℕ → Term → Type 0) (made : Made) (d : D) (limit : ℕ) (counted : Counts D) (stream : List (Timed D)) (line : Line) (first before after : At) (end : StepEnd) (account : Option Account)
     → IsOpenAt page Names limit counted stream line first before → IsFinished line.rest made end before.account account before.faults after.faults
     → after.account ≡ account_after end account → SettledAt page Names limit (counts_with counted d made) stream true first after
 finish_open page Names made d limit counted stream line first before after end account open_at sent closed =
@@ -144,7 +143,7 @@ finish_open page Names made d limit counted stream line first before after end a
     (λ standing replies is. end_more page Names d limit counted stream line first before open_at made standing replies is)
     (λ would replies is. front_end page Names d limit counted stream line first before open_at made would replies is) sent closed
 
-turn_end : {D : Type 0} (page : D → OutcomeAt) (Names : List ℕ → Term → Type 0) (made : Made) (d : D) (limit : ℕ) (counted : Counts D) (input : Input D) (line : Option Line) (first before after : At) → before.line ≡ line
+turn_end : {D : Type 0} (page : D → Showing) (Names : List ℕ → Term → Type 0) (made : Made) (d : D) (limit : ℕ) (counted : Counts D) (input : Input D) (line : Option Line) (first before after : At) → before.line ≡ line
     → StandsFor page Names limit counted input first before → Finishes made line before after → StandsFor page Names limit (counts_with counted d made) (over_of true input) first after
 turn_end {D} page Names made d limit counted input None first before after is stands (same, none) =
     subst (λ c. StandsFor page Names limit c (over_of true input) first after) (sym (counts_same counted d made none))
@@ -167,7 +166,7 @@ turn_end {D} page Names made d limit counted (Over ended stream) (Some line) fir
 abbrev gone_from : At → At
 gone_from a = record { line = None; account = a.account; faults = a.faults }
 
-turn_lost : {D : Type 0} (page : D → OutcomeAt) (Names : List ℕ → Term → Type 0) (d : D) (limit : ℕ) (counted : Counts D) (input : Input D) (line : Option Line) (first before after : At) → before.line ≡ line
+turn_lost : {D : Type 0} (page : D → Showing) (Names : List ℕ → Term → Type 0) (d : D) (limit : ℕ) (counted : Counts D) (input : Input D) (line : Option Line) (first before after : At) → before.line ≡ line
     → StandsFor page Names limit counted input first before → after ≡ gone_from before → StandsFor page Names limit counted (over_of false input) first after
 turn_lost {D} page Names d limit counted input line first before after is stands same =
     subst (λ a. StandsFor page Names limit counted (over_of false input) first a) (sym same) (by_input input line is stands)
@@ -219,7 +218,7 @@ not_below number None counted below = below
 not_below number (Some greatest) counted below = grind (arith, nat_tests)
 
 -- a number that counts was not opened before
-first_time : {D : Type 0} (page : D → OutcomeAt) (Names : List ℕ → Term → Type 0) (limit number : ℕ) (counted : Counts D) (greatest : Option ℕ) (input : Input D) (first before : At) → counts greatest number ≡ true → WasOpened number greatest input
+first_time : {D : Type 0} (page : D → Showing) (Names : List ℕ → Term → Type 0) (limit number : ℕ) (counted : Counts D) (greatest : Option ℕ) (input : Input D) (first before : At) → counts greatest number ≡ true → WasOpened number greatest input
     → StandsFor page Names limit counted input first before → (before ≡ first) × (counted ≡ no_counts)
 first_time page Names limit number counted greatest Unopened first before fresh was stands = (stands.1, stands.2)
 first_time page Names limit number counted greatest (Coming stream) first before fresh was stands = absurd (not_below number greatest fresh was)
@@ -246,7 +245,7 @@ other true X Y e x = cc
 other false X Y e y = y
 
 -- One event more.
-module _ {D : Type 0} (page : D → OutcomeAt) (Names : List ℕ → Term → Type 0) (next : WireEvent → D → D) (limit k : ℕ) (m : Moment D) (counted : Counts D) (first : At) (made : Made) (before after : ℕ → At) (some : 0 < limit)
+module _ {D : Type 0} (page : D → Showing) (Names : List ℕ → Term → Type 0) (next : WireEvent → D → D) (limit k : ℕ) (m : Moment D) (counted : Counts D) (first : At) (made : Made) (before after : ℕ → At) (some : 0 < limit)
     (stands : CountedStands page Names limit k m counted first (before k)) where
   abbrev counted_then : Counts D
   counted_then = counts_with counted m.current made
@@ -337,7 +336,7 @@ module _ {D : Type 0} (page : D → OutcomeAt) (Names : List ℕ → Term → Ty
   stands_turn Done (turned, none) = stays_so (record { current = next Done m.current; greatest = m.greatest; input = m.input }) refl refl (turned k)
 
 -- what an event does and makes, told of the event as it is written
-pub told_at : {C : Type 0} (page : OutcomeAt) (Names : List ℕ → Term → Type 0) (limit : ℕ) (greatest : Option ℕ) (e x : WireEvent) (made : Made) (before after : ℕ → At) (replies later : ℕ)
+pub told_at : {C : Type 0} (page : Showing) (Names : List ℕ → Term → Type 0) (limit : ℕ) (greatest : Option ℕ) (e x : WireEvent) (made : Made) (before after : ℕ → At) (replies later : ℕ)
     (Looks : C → Term → C → Type 0) (Renews : List ℕ → C → C → Type 0) (cache now : C) (A : Type 0) → e ≡ x
     → Turned page Names limit greatest x made before after → later ≡ up_by made.replies replies → (A → Keeps Looks Renews x made cache now)
     → (m : Made) × Turned page Names limit greatest e m before after × (later ≡ up_by m.replies replies) × (A → Keeps Looks Renews e m cache now)

@@ -4,7 +4,7 @@ use Rattle.sd_value.specs.declared.Term.{Term}
 use Rattle.tmpl.specs.Body.{TemplateFile}
 use Rattle.page_spec.specs.Address.{TermOf}
 use Rattle.page_spec.specs.Site.{Site}
-use Rattle.http_spec.specs.Sessions.{OutcomeAt}
+use Rattle.http_spec.specs.Sessions.{Showing}
 use Rattle.happenings.specs.Happening.{Happening, Given, NextFailed}
 use Rattle.wire.specs.Accounts.{Account, up_by}
 use Rattle.wire.specs.Noted.{AreAccountedFor}
@@ -15,6 +15,7 @@ use Rattle.serving_spec.specs.Made.{Made}
 use Rattle.serving_spec.specs.Shown.{shown_in}
 use Rattle.hub.specs.Turns.{At, Turned, state_after, Keeps}
 use Rattle.serving_spec.specs.Openings.{greatest_after, opened_after}
+use Rattle.serving_spec.specs.declared.Origin.{Origin}
 use Rattle.serving_spec.specs.declared.HubEnd.{HubEnd}
 use Rattle.serving_spec.specs.declared.HubEnd.TheVariants.{Done as Finished, WireFailed, TurnsSpent, NoMemory}
 
@@ -33,7 +34,7 @@ pub record Scene (D C : Type 0) : Type 0 where
 -- what the pages of a run are: outcomes, the term of a target, which texts are accepted, and what texts and look-ups make
 -- of their state and of what they keep
 pub record Rules (D C : Type 0) : Type 1 where
-  pub Page : D → OutcomeAt
+  pub Page : D → Showing
   pub Names : List ℕ → Term → Type 0
   pub changed : D → List ℕ → D
   pub accepts : D → List ℕ → Bool
@@ -41,14 +42,14 @@ pub record Rules (D C : Type 0) : Type 1 where
   pub Renews : D → List ℕ → C → C → Type 0
   pub found : C → ℕ
 
--- the rules of pages that are shown under a root
-abbrev pub rules_under : {D C : Type 0} → Option (List ℕ) → (D → Site) → (D → TemplateFile)
+-- the rules of pages that are shown for an origin
+abbrev pub rules_under : {D C : Type 0} → Origin → (D → Site) → (D → TemplateFile)
     → (D → List ℕ → D) → (D → List ℕ → Bool) → (D → C → Term → C → Type 0)
     → (D → List ℕ → C → C → Type 0) → (C → ℕ)
     → Rules D C
-rules_under root site templates changed accepts Looks Renews found = record {
-  Page = shown_in root site templates;
-  Names = TermOf root;
+rules_under origin site templates changed accepts Looks Renews found = record {
+  Page = shown_in origin site templates;
+  Names = TermOf origin.root;
   changed = changed;
   accepts = accepts;
   Looks = Looks;

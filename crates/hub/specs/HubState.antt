@@ -4,6 +4,7 @@ use Rattle.std.specs.BTreeMap.{is_at}
 use Rattle.std.specs.Map.{lookup}
 use Rattle.std.specs.Ordering.{nat_cmp}
 use Rattle.wire.specs.Accounts.{Account}
+use Rattle.serving_spec.specs.declared.Origin.{Origin}
 use Rattle.hub.specs.Course.{Scene}
 use Rattle.hub.specs.Line.{Line}
 use Rattle.hub.specs.Turns.{ats}
@@ -18,8 +19,8 @@ pub record HubState (P : Type 0) : Type 0 where
   pub greatest : Option ℕ
   -- how many replies a connection may have
   pub limit : ℕ
-  -- the function of the term for `/`
-  pub root : Option (List ℕ)
+  -- what the run answers for
+  pub origin : Origin
   -- out of memory for a change: no further event is taken
   pub spent : Bool
   -- how many connections were opened

@@ -3,7 +3,7 @@ use Rattle.std.specs.Prelude.{◌≡◌, ◌≢◌, ◌+◌, ◌<◌, ◌≤◌,
 use Rattle.sd_value.specs.declared.Term.{Term}
 use Rattle.http_spec.specs.declared.Standing.TheVariants.{Open}
 use Rattle.http_spec.specs.Heads.{HasNoHead, max_head}
-use Rattle.http_spec.specs.Sessions.{OutcomeAt, Session}
+use Rattle.http_spec.specs.Sessions.{Showing, Session}
 use Rattle.http_spec.specs.Streams.{Timed, Request, bytes_in}
 use Rattle.wire.specs.Accounts.{gain}
 use Rattle.serving_spec.specs.Counted.{Counts, no_counts, LooksUpFor, HasCounts}
@@ -14,13 +14,13 @@ use Rattle.serving_spec.specs.Sent.{FrontOf, SettledBy}
 use Rattle.hub.specs.Turns.{At, seen_of}
 
 -- what the wire reports of a connection is settled by what came of it, and this is counted of it
-abbrev pub SettledAt : {D : Type 0} → (D → OutcomeAt) → (List ℕ → Term → Type 0) → ℕ → Counts D
+abbrev pub SettledAt : {D : Type 0} → (D → Showing) → (List ℕ → Term → Type 0) → ℕ → Counts D
     → List (Timed D) → Bool → At → At → Type 0
 SettledAt page Names limit counted stream ended first now =
     SettledBy (HasCounts page Names limit counted) stream ended (seen_of first) (seen_of now)
 
 -- the same, and nothing more is sent: an answer shut it, or a send failed
-abbrev pub IsOverAt : {D : Type 0} → (D → OutcomeAt) → (List ℕ → Term → Type 0) → ℕ → Counts D
+abbrev pub IsOverAt : {D : Type 0} → (D → Showing) → (List ℕ → Term → Type 0) → ℕ → Counts D
     → List (Timed D) → At → At → Type 0
 IsOverAt page Names limit counted stream first now =
     ((all : AllSent (HasCounts page Names limit counted stream false) (seen_of first) (seen_of now))
@@ -29,7 +29,7 @@ IsOverAt page Names limit counted stream first now =
     (seen_of now)
 
 -- the connection is open: the replies to its whole heads were sent, and none closed it
-pub record IsOpenAt {D : Type 0} (page : D → OutcomeAt) (Names : List ℕ → Term → Type 0) (limit : ℕ)
+pub record IsOpenAt {D : Type 0} (page : D → Showing) (Names : List ℕ → Term → Type 0) (limit : ℕ)
     (counted : Counts D) (stream : List (Timed D)) (line : Line) (first now : At) : Type 0 where
   pub requests : List (Request D)
   pub rest : List (Timed D)
@@ -43,10 +43,10 @@ pub record IsOpenAt {D : Type 0} (page : D → OutcomeAt) (Names : List ℕ → 
   pub account : now.account ≡ gain first.account replies
   pub faults : now.faults ≡ first.faults
   pub count : counted.replies ≡ length replies
-  pub looks : LooksUpFor Names requests counted.looked
+  pub looks : LooksUpFor page Names requests counted.looked
 
 -- a connection whose bytes still come: it is open, or over
-abbrev pub StandsComing : {D : Type 0} → (D → OutcomeAt) → (List ℕ → Term → Type 0) → ℕ → Counts D
+abbrev pub StandsComing : {D : Type 0} → (D → Showing) → (List ℕ → Term → Type 0) → ℕ → Counts D
     → List (Timed D) → Option Line → At → At → Type 0
 StandsComing page Names limit counted stream (Some line) first now =
     IsOpenAt page Names limit counted stream line first now
@@ -59,7 +59,7 @@ IsBelow number None = ⊥
 IsBelow number (Some greatest) = number ≤ greatest
 
 -- where a connection is, of which this came, and this was counted
-abbrev pub StandsFor : {D : Type 0} → (D → OutcomeAt) → (List ℕ → Term → Type 0) → ℕ → Counts D
+abbrev pub StandsFor : {D : Type 0} → (D → Showing) → (List ℕ → Term → Type 0) → ℕ → Counts D
     → Input D → At → At → Type 0
 StandsFor page Names limit counted Unopened first now =
     (first.line ≡ None) × (now ≡ first) × (counted ≡ no_counts)
@@ -75,13 +75,13 @@ WasOpened number greatest (Coming stream) = IsBelow number greatest
 WasOpened number greatest (Over ended stream) = IsBelow number greatest
 
 -- what holds of each connection after each list of events, where this is counted of it
-pub record CountedStands {D : Type 0} (page : D → OutcomeAt) (Names : List ℕ → Term → Type 0)
+pub record CountedStands {D : Type 0} (page : D → Showing) (Names : List ℕ → Term → Type 0)
     (limit number : ℕ) (moment : Moment D) (counted : Counts D) (first now : At) : Type 0 where
   pub stands : StandsFor page Names limit counted moment.input first now
   pub opened : WasOpened number moment.greatest moment.input
 
 -- the same, where something is counted of it
-pub record Stands {D : Type 0} (page : D → OutcomeAt) (Names : List ℕ → Term → Type 0)
+pub record Stands {D : Type 0} (page : D → Showing) (Names : List ℕ → Term → Type 0)
     (limit number : ℕ) (moment : Moment D) (first now : At) : Type 0 where
   pub counted : Counts D
   pub is : CountedStands page Names limit number moment counted first now

@@ -8,7 +8,7 @@ use Rattle.http_spec.specs.declared.ParsedRequest.{ParsedRequest}
 use Rattle.http_spec.specs.declared.Standing.{Standing}
 use Rattle.http_spec.specs.declared.Standing.TheVariants.{Open, Closed, Short}
 use Rattle.http_spec.specs.Replies.{no_memory_bytes}
-use Rattle.http_spec.specs.Sessions.{OutcomeAt}
+use Rattle.http_spec.specs.Sessions.{Showing}
 use Rattle.wire.specs.Accounts.{Account, send_to, gain}
 use Rattle.happenings.specs.declared.event.WireEvent.{WireEvent}
 use Rattle.happenings.specs.declared.event.WireEvent.TheVariants.{Opened, Bytes, Ended, Lost as LostEvent, Change, Done}
@@ -68,7 +68,7 @@ IsDelivered Whole Front (Err failed) old new faults later =
     × Rose faults later
 
 -- a piece whose replies are made up to some byte of it
-pub record FrontSteps (page : OutcomeAt) (line : Line) (piece : List ℕ) (heads : List RequestHead)
+pub record FrontSteps (page : Showing) (line : Line) (piece : List ℕ) (heads : List RequestHead)
     (would : Standing) (replies : List (List ℕ)) : Type 0 where
   pub front : List ℕ
   pub more : List ℕ
@@ -77,28 +77,28 @@ pub record FrontSteps (page : OutcomeAt) (line : Line) (piece : List ℕ) (heads
   pub steps : Steps page line front heads would held [] replies
 
 -- the replies to a piece, and what they make
-abbrev pub PieceReplies : OutcomeAt → (List ℕ → Term → Type 0) → Line → List ℕ → Made → Line
+abbrev pub PieceReplies : Showing → (List ℕ → Term → Type 0) → Line → List ℕ → Made → Line
     → Standing → List (List ℕ) → Type 0
 PieceReplies page Names line piece made held would replies =
     (heads : List RequestHead) × Steps page line piece heads would held [] replies
-    × Makes Names would heads replies made
+    × Makes page.hosts Names would heads replies made
 
 -- the same of a piece at whose front a reply failed to be sent
-abbrev pub FrontReplies : OutcomeAt → (List ℕ → Term → Type 0) → Line → List ℕ → Made → Standing
+abbrev pub FrontReplies : Showing → (List ℕ → Term → Type 0) → Line → List ℕ → Made → Standing
     → List (List ℕ) → Type 0
 FrontReplies page Names line piece made would replies =
     (heads : List RequestHead) × FrontSteps page line piece heads would replies
-    × Makes Names would heads replies made
+    × Makes page.hosts Names would heads replies made
 
 -- a piece of an open connection's bytes came: its replies were sent
-abbrev pub IsPieceServed : OutcomeAt → (List ℕ → Term → Type 0) → Line → List ℕ → Made → StepEnd
+abbrev pub IsPieceServed : Showing → (List ℕ → Term → Type 0) → Line → List ℕ → Made → StepEnd
     → Line → Option Account → Option Account → ℕ → ℕ → Type 0
 IsPieceServed page Names line piece made end held old new faults later =
     IsDelivered (PieceReplies page Names line piece made held)
     (FrontReplies page Names line piece made) end old new faults later
 
 -- one reply to an ask, and what it makes
-pub record Reply (page : OutcomeAt) (Names : List ℕ → Term → Type 0) (ask : ParsedRequest)
+pub record Reply (page : Showing) (Names : List ℕ → Term → Type 0) (ask : ParsedRequest)
     (target : List ℕ)
     (last : Bool) (made : Made) (would : Standing) (replies : List (List ℕ)) : Type 0 where
   pub reply : List ℕ
@@ -118,7 +118,7 @@ IsSent close reply (Err failed) old new faults later =
     (some : ℕ) × (new ≡ send_to old (take some reply)) × Rose faults later
 
 -- a reply to an ask was sent
-abbrev pub IsAnswered : OutcomeAt → (List ℕ → Term → Type 0) → ParsedRequest → List ℕ → Bool → Made
+abbrev pub IsAnswered : Showing → (List ℕ → Term → Type 0) → ParsedRequest → List ℕ → Bool → Made
     → StepEnd → Option Account → Option Account → ℕ → ℕ → Type 0
 IsAnswered page Names ask target last made end old new faults later =
     IsDelivered (Reply page Names ask target last made) (Reply page Names ask target last made)
@@ -151,7 +151,7 @@ Opens limit before after =
     × (after.account ≡ account_after end account) × (after.line ≡ None))
 
 -- a piece came of a connection, which is open or not
-abbrev pub TakesPiece : OutcomeAt → (List ℕ → Term → Type 0) → List ℕ → Made → Option Line → At
+abbrev pub TakesPiece : Showing → (List ℕ → Term → Type 0) → List ℕ → Made → Option Line → At
     → At → Type 0
 TakesPiece page Names piece made None before after = (after ≡ before) × (made ≡ nothing)
 TakesPiece page Names piece made (Some line) before after =
@@ -174,7 +174,7 @@ OthersStay number before after = (other : ℕ) → other ≢ number → after ot
 
 -- What the event does to all connections, and what it makes. page is the outcomes in the data that are current, and Names
 -- says which term a target names.
-abbrev pub Turned : OutcomeAt → (List ℕ → Term → Type 0) → ℕ → Option ℕ → WireEvent → Made
+abbrev pub Turned : Showing → (List ℕ → Term → Type 0) → ℕ → Option ℕ → WireEvent → Made
     → (ℕ → At) → (ℕ → At) → Type 0
 Turned page Names limit greatest (Opened number) made before after =
     MatchBool (counts greatest number) (Opens limit (before number) (after number))

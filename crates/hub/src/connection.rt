@@ -17,7 +17,8 @@ use edge_io::Failed;
 use http_reply::{Reading, no_memory_reply, reply};
 use http_spec::{ParsedRequest, RequestKind, Standing};
 use page_spec::Outcome;
-use sd_value::{NoMemory, Str};
+use sd_value::NoMemory;
+use serving_spec::Origin;
 use std::alloc::Global;
 use std::marker::Model;
 use versions::Versions;
@@ -62,7 +63,7 @@ impl Connection {
         &mut self,
         alloc: Global,
         piece: &[u8],
-        root: &Option<Str>,
+        origin: &Origin,
         pages: &mut P,
         made: &mut u64,
         number: u64,
@@ -74,8 +75,8 @@ impl Connection {
         ensures others { OtherAccountsStay number (W.told wire.old) (W.told wire.new) }
         ensures others_fine { OtherFaultsStay number (W.told wire.old) (W.told wire.new) }
         ensures served { (all : Made)
-            × IsPieceServed (shown_in root.now P.site P.templates (P.state pages.old))
-            (TermOf root.now) self.old piece.now all result self.new
+            × IsPieceServed (shown_in origin.now P.site P.templates (P.state pages.old))
+            (TermOf origin.now.root) self.old piece.now all result self.new
             ((W.told wire.old).account number) ((W.told wire.new).account number)
             ((W.told wire.old).faults number) ((W.told wire.new).faults number)
             × (made.new ≡ up_by all.replies made.old)
@@ -87,7 +88,7 @@ impl Connection {
     {
         let mut from = 0;
         while from < piece.len() {
-            let fed = self.reading.feed(&piece[from..]);
+            let fed = self.reading.feed(&piece[from..], &origin.hosts);
             from += fed.taken;
             let Some(ask) = fed.ask else {
                 return Ok(Standing::Open);
@@ -98,7 +99,7 @@ impl Connection {
                 &ask,
                 self.reading.target(),
                 last,
-                root,
+                origin,
                 pages,
                 made,
                 number,
@@ -118,7 +119,7 @@ impl Connection {
     pub(crate) fn end<P: Versions, W: Wire>(
         &mut self,
         alloc: Global,
-        root: &Option<Str>,
+        origin: &Origin,
         pages: &mut P,
         made: &mut u64,
         number: u64,
@@ -143,7 +144,7 @@ impl Connection {
         let Some(ask) = self.reading.end() else {
             return Ok(Standing::Closed);
         };
-        answer(alloc, &ask, &[], true, root, pages, made, number, wire)
+        answer(alloc, &ask, &[], true, origin, pages, made, number, wire)
     }
 }
 
@@ -154,7 +155,7 @@ pub(crate) fn answer<P: Versions, W: Wire>(
     ask: &ParsedRequest,
     target: &[u8],
     last: bool,
-    root: &Option<Str>,
+    origin: &Origin,
     pages: &mut P,
     made: &mut u64,
     number: u64,
@@ -166,8 +167,8 @@ pub(crate) fn answer<P: Versions, W: Wire>(
     ensures others { OtherAccountsStay number (W.told wire.old) (W.told wire.new) }
     ensures others_fine { OtherFaultsStay number (W.told wire.old) (W.told wire.new) }
     ensures sent { (all : Made)
-        × IsAnswered (shown_in root.now P.site P.templates (P.state pages.old)) (TermOf root.now)
-        ask.now target.now last all result
+        × IsAnswered (shown_in origin.now P.site P.templates (P.state pages.old))
+        (TermOf origin.now.root) ask.now target.now last all result
         ((W.told wire.old).account number) ((W.told wire.new).account number)
         ((W.told wire.old).faults number) ((W.told wire.new).faults number)
         × (made.new ≡ up_by all.replies made.old)
@@ -178,7 +179,7 @@ pub(crate) fn answer<P: Versions, W: Wire>(
         (W.told wire.new).account }
 {
     let close = closes(ask, last);
-    match reply_to(alloc, ask, target, close, root, pages) {
+    match reply_to(alloc, ask, target, close, origin, pages) {
         Ok(reply) => {
             *made = made.saturating_add(1);
             send(reply.as_slice(), close, number, wire)
@@ -235,22 +236,22 @@ fn reply_to<P: Versions>(
     ask: &ParsedRequest,
     target: &[u8],
     close: bool,
-    root: &Option<Str>,
+    origin: &Origin,
     pages: &mut P,
 ) -> Result<Vec<u8>, NoMemory>
     requires own { P.Own pages.old }
     ensures own { P.Own pages.new }
     ensures state { P.state pages.new ≡ P.state pages.old }
     ensures bytes { IfOk result (λ bytes. (outcome : Outcome)
-        × IsLookedUp (shown_in root.now P.site P.templates (P.state pages.old)) ask.now.kind
+        × IsLookedUp (shown_in origin.now P.site P.templates (P.state pages.old)) ask.now.kind
         target.now outcome
         × (bytes.items ≡ reply_bytes ask.now outcome close)) }
     ensures looked { (terms : List Term)
-        × ((terms ≡ []) ⊎ LooksUp (TermOf root.now) ask.now.kind target.now terms)
-        × IfOk result (λ bytes. LooksUp (TermOf root.now) ask.now.kind target.now terms)
+        × ((terms ≡ []) ⊎ LooksUp (TermOf origin.now.root) ask.now.kind target.now terms)
+        × IfOk result (λ bytes. LooksUp (TermOf origin.now.root) ask.now.kind target.now terms)
         × AllLooked (P.looks (P.state pages.old)) (P.cache pages.old) terms (P.cache pages.new) }
 {
-    let outcome = look_up(alloc, ask.kind, target, root, pages)?;
+    let outcome = look_up(alloc, ask.kind, target, origin, pages)?;
     let mut out = Vec::new(alloc);
     reply(alloc, ask, &outcome, close, &mut out)?;
     Ok(out)
@@ -261,23 +262,24 @@ fn look_up<P: Versions>(
     alloc: Global,
     kind: RequestKind,
     target: &[u8],
-    root: &Option<Str>,
+    origin: &Origin,
     pages: &mut P,
 ) -> Result<Outcome, NoMemory>
     requires own { P.Own pages.old }
     ensures own { P.Own pages.new }
     ensures state { P.state pages.new ≡ P.state pages.old }
     ensures found { IfOk result (λ outcome. IsLookedUp
-        (shown_in root.now P.site P.templates (P.state pages.old)) kind target.now outcome) }
+        (shown_in origin.now P.site P.templates (P.state pages.old)) kind target.now outcome) }
     ensures looked { (terms : List Term)
-        × ((terms ≡ []) ⊎ LooksUp (TermOf root.now) kind target.now terms)
-        × IfOk result (λ outcome. LooksUp (TermOf root.now) kind target.now terms)
+        × ((terms ≡ []) ⊎ LooksUp (TermOf origin.now.root) kind target.now terms)
+        × IfOk result (λ outcome. LooksUp (TermOf origin.now.root) kind target.now terms)
         × AllLooked (P.looks (P.state pages.old)) (P.cache pages.old) terms (P.cache pages.new) }
 {
     match kind {
-        RequestKind::Get => page_at(alloc, target, root, pages),
-        RequestKind::Head => page_at(alloc, target, root, pages),
+        RequestKind::Get => page_at(alloc, target, origin, pages),
+        RequestKind::Head => page_at(alloc, target, origin, pages),
         RequestKind::BadRequest => Ok(Outcome::Missing),
+        RequestKind::Misdirected => Ok(Outcome::Missing),
         RequestKind::WrongMethod => Ok(Outcome::Missing),
     }
 }
@@ -286,20 +288,20 @@ fn look_up<P: Versions>(
 fn page_at<P: Versions>(
     alloc: Global,
     target: &[u8],
-    root: &Option<Str>,
+    origin: &Origin,
     pages: &mut P,
 ) -> Result<Outcome, NoMemory>
     requires own { P.Own pages.old }
     ensures own { P.Own pages.new }
     ensures state { P.state pages.new ≡ P.state pages.old }
-    ensures found { IfOk result (shown_in root.now P.site P.templates (P.state pages.old)
-        target.now) }
+    ensures found { IfOk result
+        ((shown_in origin.now P.site P.templates (P.state pages.old)).outcome target.now) }
     ensures looked { (terms : List Term)
-        × ((terms ≡ []) ⊎ NamedBy (TermOf root.now) target.now terms)
-        × IfOk result (λ outcome. NamedBy (TermOf root.now) target.now terms)
+        × ((terms ≡ []) ⊎ NamedBy (TermOf origin.now.root) target.now terms)
+        × IfOk result (λ outcome. NamedBy (TermOf origin.now.root) target.now terms)
         × AllLooked (P.looks (P.state pages.old)) (P.cache pages.old) terms (P.cache pages.new) }
 {
-    match term_of(alloc, target, root.as_ref())? {
+    match term_of(alloc, target, origin.root.as_ref())? {
         Some(term) => pages.page(alloc, &term),
         None => Ok(Outcome::Missing),
     }

@@ -16,7 +16,7 @@ ghost use Rattle.serving_spec.specs.Openings.{counts, greatest_after, opened_aft
 
 use crate::table::{Connections, finish, forget, open, take_piece};
 use sd_value::{NoMemory, Str};
-use serving_spec::Tally;
+use serving_spec::{Origin, Tally};
 use std::alloc::Global;
 use std::collections::BTreeMap;
 use std::marker::Model;
@@ -32,8 +32,8 @@ struct Desk<P> {
     greatest: Option<u64>,
     /// How many replies a connection may have.
     requests: u64,
-    /// The function of the term for `/`.
-    root: Option<Str>,
+    /// What the run answers for.
+    origin: Origin,
     /// Out of memory for a change.
     spent: bool,
     /// How many connections were opened, and how many replies made.
@@ -61,7 +61,7 @@ impl<P> Model for Hub<P> {
       lines = h.desk.connections.entries;
       greatest = h.desk.greatest;
       limit = h.desk.requests;
-      root = h.desk.root;
+      origin = h.desk.origin;
       spent = h.desk.spent;
       opened = h.desk.opened;
       replies = h.desk.replies;
@@ -73,14 +73,14 @@ impl<P> Model for Hub<P> {
 }
 
 impl<P: Versions> Hub<P> {
-    /// A hub without connections, in which each may have at most `requests` replies. `root` is the function of the term for `/`.
-    pub fn of(alloc: Global, pages: P, requests: u64, root: Option<Str>) -> Hub<P>
+    /// A hub without connections, in which each may have at most `requests` replies, and which answers for the origin.
+    pub fn of(alloc: Global, pages: P, requests: u64, origin: Origin) -> Hub<P>
         requires some { 0 < requests }
         ensures pages { result.pages ≡ pages }
         ensures none { (number : ℕ) → line_of result number ≡ None }
         ensures greatest { result.greatest ≡ None }
         ensures limit { result.limit ≡ requests }
-        ensures root { result.root ≡ root }
+        ensures origin { result.origin ≡ origin }
         ensures spent { result.spent ≡ false }
         ensures counts { (result.opened ≡ 0) × (result.replies ≡ 0) }
         ensures texts { (result.changes ≡ 0) × (result.refused ≡ 0) }
@@ -90,7 +90,7 @@ impl<P: Versions> Hub<P> {
             connections: BTreeMap::new(alloc),
             greatest: None,
             requests,
-            root,
+            origin,
             spent: false,
             opened: 0,
             replies: 0,
@@ -108,15 +108,15 @@ impl<P: Versions> Hub<P> {
         ensures own { P.Own self.new.pages }
         ensures some { 0 < self.old.limit }
         ensures limit { self.new.limit ≡ self.old.limit }
-        ensures root { self.new.root ≡ self.old.root }
+        ensures origin { self.new.origin ≡ self.old.origin }
         ensures state { self.old.spent ≡ false → self.new.spent ≡ false
             → P.state self.new.pages ≡ state_after P.changed event.now (P.state self.old.pages) }
         ensures greatest { self.old.spent ≡ false
             → self.new.greatest ≡ greatest_after event.now self.old.greatest }
         ensures passes { self.old.spent ≡ true → (self.new ≡ self.old) × (wire.new ≡ wire.old) }
         ensures turned { self.old.spent ≡ false → (made : Made)
-            × Turned (shown_in self.old.root P.site P.templates (P.state self.old.pages))
-            (TermOf self.old.root) self.old.limit self.old.greatest event.now made
+            × Turned (shown_in self.old.origin P.site P.templates (P.state self.old.pages))
+            (TermOf self.old.origin.root) self.old.limit self.old.greatest event.now made
             (ats (line_of self.old) (W.told wire.old).account (W.told wire.old).faults)
             (ats (line_of self.new) (W.told wire.new).account (W.told wire.new).faults)
             × (self.new.replies ≡ up_by made.replies self.old.replies)
@@ -190,13 +190,13 @@ impl<P: Versions> Desk<P> {
         requires alive { self.old.spent ≡ false }
         ensures own { P.Own self.new.pages }
         ensures requests { self.new.requests ≡ self.old.requests }
-        ensures root { self.new.root ≡ self.old.root }
+        ensures origin { self.new.origin ≡ self.old.origin }
         ensures state { self.new.spent ≡ false
             → P.state self.new.pages ≡ state_after P.changed event.now (P.state self.old.pages) }
         ensures greatest { self.new.greatest ≡ greatest_after event.now self.old.greatest }
         ensures turned { (made : Made)
-            × Turned (shown_in self.old.root P.site P.templates (P.state self.old.pages))
-            (TermOf self.old.root) self.old.requests self.old.greatest event.now made
+            × Turned (shown_in self.old.origin P.site P.templates (P.state self.old.pages))
+            (TermOf self.old.origin.root) self.old.requests self.old.greatest event.now made
             (ats (get nat_cmp self.old.connections) (W.told wire.old).account
             (W.told wire.old).faults)
             (ats (get nat_cmp self.new.connections) (W.told wire.new).account
@@ -228,7 +228,7 @@ impl<P: Versions> Desk<P> {
                 alloc,
                 *number,
                 piece.bytes(),
-                &self.root,
+                &self.origin,
                 &mut self.pages,
                 &mut self.replies,
                 wire,
@@ -237,7 +237,7 @@ impl<P: Versions> Desk<P> {
                 &mut self.connections,
                 alloc,
                 *number,
-                &self.root,
+                &self.origin,
                 &mut self.pages,
                 &mut self.replies,
                 wire,
@@ -254,7 +254,7 @@ impl<P: Versions> Desk<P> {
         requires alive { self.old.spent ≡ false }
         ensures own { P.Own self.new.pages }
         ensures requests { self.new.requests ≡ self.old.requests }
-        ensures root { self.new.root ≡ self.old.root }
+        ensures origin { self.new.origin ≡ self.old.origin }
         ensures connections { self.new.connections ≡ self.old.connections }
         ensures greatest { self.new.greatest ≡ self.old.greatest }
         ensures counts { (self.new.opened ≡ self.old.opened)
@@ -286,7 +286,7 @@ impl<P: Versions> Desk<P> {
     fn begin<W: Wire>(&mut self, alloc: Global, number: u64, wire: &mut W)
         requires some { 0 < self.old.requests }
         ensures requests { self.new.requests ≡ self.old.requests }
-        ensures root { self.new.root ≡ self.old.root }
+        ensures origin { self.new.origin ≡ self.old.origin }
         ensures spent { self.new.spent ≡ self.old.spent }
         ensures pages { self.new.pages ≡ self.old.pages }
         ensures greatest { self.new.greatest
@@ -296,9 +296,9 @@ impl<P: Versions> Desk<P> {
             × (self.new.refused ≡ self.old.refused) }
         ensures opened { self.new.opened
             ≡ opened_after (WireEvent.Opened number) self.old.greatest self.old.opened }
-        ensures turned { Turned (shown_in self.old.root P.site P.templates
-            (P.state self.old.pages)) (TermOf self.old.root) self.old.requests self.old.greatest
-            (WireEvent.Opened number) nothing
+        ensures turned { Turned (shown_in self.old.origin P.site P.templates
+            (P.state self.old.pages)) (TermOf self.old.origin.root) self.old.requests
+            self.old.greatest (WireEvent.Opened number) nothing
             (ats (get nat_cmp self.old.connections) (W.told wire.old).account
             (W.told wire.old).faults)
             (ats (get nat_cmp self.new.connections) (W.told wire.new).account

@@ -8,4 +8,4 @@ mod table;
 
 pub use hub_step::Hub;
 pub use serving::serve;
-pub use serving_spec::{HubEnd, Tally};
+pub use serving_spec::{HubEnd, Origin, Tally};

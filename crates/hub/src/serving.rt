@@ -38,12 +38,12 @@ pub fn serve<P: Versions, W: Wire>(
         × ((W.told wire.new).given ≡ fold add_event (W.told wire.old).given events)
         × IsDrawn (W.told wire.old).left events (W.told wire.new).left
         × EndsRun turns events result
-        × IsCourse (rules_under hub.old.root P.site P.templates P.changed P.accepts P.looks P.renews
-        P.found) hub.old.limit result
+        × IsCourse (rules_under hub.old.origin P.site P.templates P.changed P.accepts P.looks
+        P.renews P.found) hub.old.limit result
         (scene P.state P.cache hub.old (W.told wire.old).account (W.told wire.old).faults) events
         (scene P.state P.cache hub.new (W.told wire.new).account (W.told wire.new).faults) course
         × ((number : ℕ) → line_of hub.old number ≡ None
-        → Stands (shown_in hub.old.root P.site P.templates) (TermOf hub.old.root)
+        → Stands (shown_in hub.old.origin P.site P.templates) (TermOf hub.old.origin.root)
         hub.old.limit number
         (moment_after (state_after P.changed) number (record {
           current = P.state hub.old.pages;
@@ -59,7 +59,7 @@ pub fn serve<P: Versions, W: Wire>(
         → (W.told wire.new).next_faults ≡ (W.told wire.old).next_faults }
     ensures listens { (W.told wire.new).listens ≡ (W.told wire.old).listens }
     ensures watches { (W.told wire.new).watches ≡ (W.told wire.old).watches }
-    ensures stays { (hub.new.limit ≡ hub.old.limit) × (hub.new.root ≡ hub.old.root) }
+    ensures stays { (hub.new.limit ≡ hub.old.limit) × (hub.new.origin ≡ hub.old.origin) }
 {
     for _ in 0..turns {
         let event = match wire.next(alloc) {

@@ -13,7 +13,7 @@ ghost use Rattle.hub.specs.Turns.{At, ats, at_in, account_after, Opens, TakesPie
 use crate::connection::{Connection, cut_short};
 use edge_io::Failed;
 use http_spec::Standing;
-use sd_value::Str;
+use serving_spec::Origin;
 use std::alloc::Global;
 use std::collections::BTreeMap;
 use versions::Versions;
@@ -60,7 +60,7 @@ pub(crate) fn take_piece<P: Versions, W: Wire>(
     alloc: Global,
     number: u64,
     piece: &[u8],
-    root: &Option<Str>,
+    origin: &Origin,
     pages: &mut P,
     made: &mut u64,
     wire: &mut W,
@@ -72,8 +72,8 @@ pub(crate) fn take_piece<P: Versions, W: Wire>(
         (W.told wire.old).faults)
         (ats (get nat_cmp connections.new) (W.told wire.new).account (W.told wire.new).faults) }
     ensures taken { (all : Made)
-        × TakesPiece (shown_in root.now P.site P.templates (P.state pages.old)) (TermOf root.now)
-        piece.now all (get nat_cmp connections.old number)
+        × TakesPiece (shown_in origin.now P.site P.templates (P.state pages.old))
+        (TermOf origin.now.root) piece.now all (get nat_cmp connections.old number)
         (at_in (get nat_cmp connections.old) (W.told wire.old).account (W.told wire.old).faults
         number)
         (at_in (get nat_cmp connections.new) (W.told wire.new).account (W.told wire.new).faults
@@ -87,7 +87,7 @@ pub(crate) fn take_piece<P: Versions, W: Wire>(
 {
     let end = match connections.get_mut(&number) {
         None => return,
-        Some(connection) => connection.bytes(alloc, piece, root, pages, made, number, wire),
+        Some(connection) => connection.bytes(alloc, piece, origin, pages, made, number, wire),
     };
     match &end {
         Ok(Standing::Open) => {}
@@ -104,7 +104,7 @@ pub(crate) fn finish<P: Versions, W: Wire>(
     connections: &mut Connections,
     alloc: Global,
     number: u64,
-    root: &Option<Str>,
+    origin: &Origin,
     pages: &mut P,
     made: &mut u64,
     wire: &mut W,
@@ -130,7 +130,7 @@ pub(crate) fn finish<P: Versions, W: Wire>(
 {
     let end = match connections.get_mut(&number) {
         None => return,
-        Some(connection) => connection.end(alloc, root, pages, made, number, wire),
+        Some(connection) => connection.end(alloc, origin, pages, made, number, wire),
     };
     forget(connections, number);
     settle(&end, number, wire);

@@ -1,14 +1,14 @@
 -- The findings of a text: those of its claims that are mistakes, in their order, by their numbers.
-use Rattle.std.specs.Prelude.{◌≡◌, ◌↔◌, ℕ, List, [], ◌∷◌, Bool, true, false, IsTrue, codes, nat_eq}
+use Rattle.std.specs.Prelude.{◌≡◌, ◌↔◌, ℕ, List, [], ◌∷◌, Bool, true, false, IsTrue, codes, nat_eq, ◌||◌}
 use Rattle.std.specs.Prelude.{if◌then◌else◌}
-use Rattle.std.specs.List.{AllZip}
+use Rattle.std.specs.List.{AllZip, list_all}
 use Rattle.lint_spec.specs.declared.Asked.{Asked}
 use Rattle.lint_spec.specs.declared.Asked.TheVariants as asked
 use Rattle.lint_spec.specs.declared.Claim.{Claim}
 use Rattle.lint_spec.specs.declared.Finding.{Finding}
 
 -- the number of a mistake: UnknownCollection, UnknownLabel, NoSuchLink, NeverCreated, NoTemplate,
--- NeverReached, Unbounded, NoRow, MisspelledTag, OnlyCollected
+-- NeverReached, Unbounded, NoRow, MisspelledTag, OnlyCollected, UnsafePlace, ActiveAddress
 abbrev pub number_of : Asked → ℕ
 number_of (asked.Collection c) = 141
 number_of (asked.Labels labels) = 142
@@ -22,6 +22,16 @@ number_of (asked.Variable block x) = 147
 number_of (asked.Rows block) = 148
 number_of asked.Tag = 149
 number_of (asked.Member c) = 156
+number_of asked.Shown = 157
+number_of asked.Targets = 158
+
+-- a number that is told as a note, which is no fault of the texts
+abbrev pub is_note : ℕ → Bool
+is_note number = nat_eq number 157 || nat_eq number 158
+
+-- each of the findings is a note
+abbrev pub are_notes : List Finding → Bool
+are_notes = list_all (λ f. is_note f.number)
 
 -- the mistake at the claim's place
 abbrev pub finding : Claim → Finding

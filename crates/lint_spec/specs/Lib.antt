@@ -1,4 +1,5 @@
 pub mod QueryClaims
+pub mod Markup
 pub mod TemplateClaims
 pub mod Mistakes
 pub mod Findings

@@ -1,9 +1,13 @@
 -- What is asked for, and is not there.
-use Rattle.std.specs.Prelude.{◌≡◌, ℕ, List, [], ◌++◌, map, slice_get, Contains, Option, Some, ⊤}
+use Rattle.std.specs.Prelude.{◌≡◌, ℕ, Bool, false, List, [], ◌++◌, map, slice_get, Contains, Option, Some, ⊤, IsTrue}
 use Rattle.std.specs.Prelude.{option_map, find}
-use Rattle.std.specs.List.{flat_map}
+use Rattle.std.specs.List.{flat_map, list_any}
+use Rattle.sd_value.specs.declared.Datum.TheVariants.{Url, File}
 use Rattle.sd_value.specs.declared.Value.{Value}
+use Rattle.sd_value.specs.declared.Value.TheVariants.{Data}
+use Rattle.page_spec.specs.Show.{is_active}
 use Rattle.sd_value.specs.Names.{Name, Label}
+use Rattle.graph_spec.specs.declared.Edge.{Edge}
 use Rattle.graph_spec.specs.DataGraph.{DataGraph, HasMember, IsLabelOf}
 use Rattle.query_spec.specs.Query.{Condition, negation, Target, Body}
 use Rattle.query_spec.specs.Mentions.{names, arc_names}
@@ -51,6 +55,16 @@ module _ (bodies : List Body) where
 -- the functions whose pages a template presents
 abbrev pub presented : TemplateFile → List Name
 presented templates = map (λ n. n.name) templates.functions
+
+-- the value is an active address
+abbrev pub is_active_value : Value → Bool
+is_active_value (Data (Url s)) = is_active s
+is_active_value (Data (File s)) = is_active s
+is_active_value v = false
+
+-- one of the edges ends at an active address
+abbrev pub has_active_end : List Edge → Bool
+has_active_end = list_any (λ e. is_active_value e.to)
 
 module _ (q : Scope) where
   -- the block of the number, with the conditions round it, has P
@@ -102,3 +116,7 @@ module _ (graph : DataGraph) (q : Scope) (templates : TemplateFile) (further : L
       × (IsLabelOf graph l → ⊥)
   -- a tag in other letters is text
   IsMistake asked.Tag = ⊤
+  -- what is shown there is no text
+  IsMistake asked.Shown = ⊤
+  -- an edge ends at an active address, which LINK shows as text
+  IsMistake asked.Targets = IsTrue (has_active_end graph.edges)

@@ -16,6 +16,9 @@ use Rattle.lint_spec.specs.declared.Asked.{Asked}
 use Rattle.lint_spec.specs.declared.Asked.TheVariants as asked
 use Rattle.lint_spec.specs.declared.Before.{Before}
 use Rattle.lint_spec.specs.declared.Claim.{Claim}
+use Rattle.lint_spec.specs.declared.Markup.{Markup}
+use Rattle.lint_spec.specs.declared.Markup.TheVariants.{Content}
+use Rattle.lint_spec.specs.Markup.{after_text, after_value, is_unsafe}
 use Rattle.lint_spec.specs.QueryClaims.{claim}
 
 -- ---- tags in other letters
@@ -122,26 +125,41 @@ abbrev pub title_claims : List Item → List Claim
 title_claims [] = []
 title_claims (i ∷ items) = labelled asked.Presented (title_function (i ∷ items)) i.place
 
+-- what is asked for by a tag that shows a value at such a place
+abbrev pub shown_claims : Markup → ℕ → List Claim
+shown_claims place at = if is_unsafe place then claim asked.Shown at ∷ [] else []
+
+-- what is asked for by LINK
+abbrev pub target_claims : Name → ℕ → List Claim
+target_claims n at = if bytes_eq n (codes "LINK") then claim asked.Targets at ∷ [] else []
+
 -- what an item asks for, by what is before it and behind it
 abbrev pub item_claims : Before → ItemKind → ℕ → List Item → List Claim
 item_claims s (kinds.Text t) at items = tag_claims at t
 item_claims s (kinds.Mark marks.OpenTemplate) at items = title_claims items
+item_claims s (kinds.Mark marks.OpenFormat) at items = shown_claims s.markup at
 item_claims s (kinds.Mark marks.HereOf) at items = label_claims (of_page s.function) items
 item_claims s (kinds.Mark marks.Hash) at items = label_claims asked.Collection items
 item_claims s (kinds.Token (tokens.Sign signs.Dot)) at items = label_claims asked.Step items
 item_claims s (kinds.Token (tokens.Name n)) at items =
-    if s.labelled then [] else (if is_word_setting n then word_claims items else [])
+    if s.labelled then []
+    else target_claims n at ++ (if is_word_setting n then word_claims items else [])
 item_claims s k at items = []
+
+-- what is known further on in a template
+abbrev pub known : Before → (labelled : Bool) → Markup → Before
+known s labelled place = record { function = s.function; labelled = labelled; markup = place }
 
 -- what is known behind an item
 abbrev pub before_next : Before → ItemKind → List Item → Before
 before_next s (kinds.Mark marks.OpenTemplate) items =
-    record { function = title_function items; labelled = false }
-before_next s (kinds.Mark marks.HereOf) items = record { function = s.function; labelled = true }
-before_next s (kinds.Mark marks.Hash) items = record { function = s.function; labelled = true }
-before_next s (kinds.Token (tokens.Sign signs.Dot)) items =
-    record { function = s.function; labelled = true }
-before_next s k items = record { function = s.function; labelled = false }
+    record { function = title_function items; labelled = false; markup = Content }
+before_next s (kinds.Mark marks.OpenFormat) items = known s false (after_value s.markup)
+before_next s (kinds.Mark marks.HereOf) items = known s true s.markup
+before_next s (kinds.Mark marks.Hash) items = known s true s.markup
+before_next s (kinds.Token (tokens.Sign signs.Dot)) items = known s true s.markup
+before_next s (kinds.Text t) items = known s false (after_text s.markup t)
+before_next s k items = known s false s.markup
 
 -- what items ask for
 abbrev pub items_claims : Before → List Item → List Claim
@@ -151,4 +169,4 @@ items_claims s (i ∷ items) =
 
 -- all that a file of templates asks for, by its items
 abbrev pub template_claims : List Item → List Claim
-template_claims = items_claims (record { function = None; labelled = false })
+template_claims = items_claims (record { function = None; labelled = false; markup = Content })

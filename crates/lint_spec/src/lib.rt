@@ -81,6 +81,10 @@ pub enum Asked {
     Step(Str),
     /// A tag that is spelled in other letters.
     Tag,
+    /// A value that is shown where escapes don't keep it text.
+    Shown,
+    /// Values of the data to which LINK leads.
+    Targets,
 }
 
 // Written out, so that it is proved here once, and not again in each crate that drops one.
@@ -109,6 +113,8 @@ impl Drop for Asked {
             } => {}
             Asked::Step(_) => {}
             Asked::Tag => {}
+            Asked::Shown => {}
+            Asked::Targets => {}
         }
     }
 }
@@ -130,12 +136,31 @@ impl Drop for Claim {
     }
 }
 
+/// Where in HTML a place of a template is. `raw` says that the content of the tag is a script or a
+/// style sheet, `runs` that the value of the attribute is a script or a style.
+#[derive(Clone, Copy, Debug, PartialEq, Eq)]
+pub enum Markup {
+    /// Text between tags.
+    Content,
+    /// Within a tag, where names of attributes stand.
+    Tag { raw: bool, runs: bool },
+    /// After an attribute's `=`.
+    Value { raw: bool, runs: bool },
+    /// In a value without quotes.
+    Unquoted { raw: bool },
+    /// In a value within quotes, double or single ones.
+    Quoted { raw: bool, runs: bool, double: bool },
+    /// In a script or a style sheet.
+    Raw,
+}
+
 /// What is known before an item of a file of templates: the function whose pages its template
-/// presents, if it does, and whether a `@`, a `#` or a `.` is right before it.
+/// presents, if it does, whether a `@`, a `#` or a `.` is right before it, and where in HTML it is.
 #[derive(Debug, Drop)]
 pub struct Before {
     pub function: Option<Str>,
     pub labelled: bool,
+    pub markup: Markup,
 }
 
 /// A mistake of a text: its number, and the byte at which it is.

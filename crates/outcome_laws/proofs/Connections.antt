@@ -7,13 +7,13 @@ use Rattle.page_spec.specs.declared.Outcome.{Outcome}
 use Rattle.page_spec.specs.declared.Outcome.TheVariants.{Missing}
 use Rattle.page_spec.proofs.Addresses.{head_same, rests_same}
 use Rattle.http_spec.specs.declared.RequestKind.{RequestKind}
-use Rattle.http_spec.specs.declared.RequestKind.TheVariants.{Get, Head, BadRequest, WrongMethod}
+use Rattle.http_spec.specs.declared.RequestKind.TheVariants.{Get, Head, BadRequest, Misdirected, WrongMethod}
 use Rattle.http_spec.specs.declared.Standing.{Standing}
 use Rattle.http_spec.specs.declared.Standing.TheVariants.{Open, Closed, Short}
 use Rattle.http_spec.specs.Asks.{ask_of}
 use Rattle.http_spec.specs.Heads.{max_head, IsHead, HasNoHead}
 use Rattle.http_spec.specs.Replies.{reply_bytes}
-use Rattle.http_spec.specs.Sessions.{OutcomeAt, IsLookedUp, IsReply, closes_after, HasReplies, refusal, Ends}
+use Rattle.http_spec.specs.Sessions.{Showing, IsLookedUp, IsReply, closes_after, HasReplies, refusal, Ends}
 use Rattle.http_spec.specs.Sessions.{AnswersStream}
 use Rattle.http_spec.specs.Streams.{Timed, Request, bytes_in, IsCutTo}
 use Rattle.site_graphs.proofs.Decide.{yes, no}
@@ -91,20 +91,21 @@ end_of ended rest closed (inr h) =
       | no many ↦ too_long ended rest closed h.0 h.1 (let long : max_head ≤ length rest = omega (arith, many) in long)
     ]
 
-module _ {D : Type 0} (page : D → OutcomeAt)
-    (some : (current : D) (target : List ℕ) → (o : Outcome) × page current target o) where
+module _ {D : Type 0} (page : D → Showing)
+    (some : (current : D) (target : List ℕ) → (o : Outcome) × (page current).outcome target o) where
   -- ---- the replies to heads
 
   looked_up : (current : D) (kind : RequestKind) (target : List ℕ) → (o : Outcome) × IsLookedUp (page current) kind target o
   looked_up current Get target = some current target
   looked_up current Head target = some current target
   looked_up current BadRequest target = (Missing, tt)
+  looked_up current Misdirected target = (Missing, tt)
   looked_up current WrongMethod target = (Missing, tt)
 
   reply_to : (current : D) (h : RequestHead) (last : Bool) → (bytes : List ℕ) × IsReply (page current) h last bytes
   reply_to current h last =
-      let o = looked_up current (ask_of h).kind h.target in
-      (reply_bytes (ask_of h) o.0 (last || (ask_of h).close), (o.0, o.1, refl))
+      let o = looked_up current (ask_of (page current).hosts h).kind h.target in
+      (reply_bytes (ask_of (page current).hosts h) o.0 (last || (ask_of (page current).hosts h).close), (o.0, o.1, refl))
 
   -- the heads at the front of a stream have replies, and then it is closed or no head is left
   record Handled (left : ℕ) (stream : List (Timed D)) : Type 0 where
@@ -135,7 +136,7 @@ module _ {D : Type 0} (page : D → OutcomeAt)
 
   one_more : (left : ℕ) (stream : List (Timed D)) (h : RequestHead) → IsHead h → (c : Parted stream (print_request h))
       → Handled (left - 1) c.more → Handled left stream
-  one_more left stream h valid c later = by (closes_after left h) refl
+  one_more left stream h valid c later = by (closes_after (page c.last.current) left h) refl
     where
       request : Request D
       request = record { head = h; current = c.last.current }
@@ -143,7 +144,7 @@ module _ {D : Type 0} (page : D → OutcomeAt)
       reply : (bytes : List ℕ) × IsReply (page c.last.current) h (left == 1) bytes
       reply = reply_to c.last.current h (left == 1)
 
-      by : (closes : Bool) → closes_after left h ≡ closes → Handled left stream
+      by : (closes : Bool) → closes_after (page c.last.current) left h ≡ closes → Handled left stream
       by true is = record {
         requests = request ∷ [];
         rest = c.more;

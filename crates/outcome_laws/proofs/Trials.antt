@@ -1,6 +1,6 @@
 -- The text of a trial over a site that can be listed: each target has an outcome, and each look-up keeps something.
-use Rattle.std.proofs.Common.{◌≡◌, ℕ, Bool, true, false, List, [], ◌∷◌, length, inl, inr, refl}
-use Rattle.std.specs.Prelude.{Option}
+use Rattle.std.proofs.Common.{◌≡◌, ℕ, List, [], ◌∷◌, length, inl, inr, refl}
+use Rattle.std.specs.Prelude.{Option, Some, None}
 use Rattle.sd_value.specs.Names.{Name}
 use Rattle.sd_value.specs.declared.Term.{Term}
 use Rattle.tmpl.specs.Body.{TemplateFile}
@@ -9,7 +9,7 @@ use Rattle.page_spec.specs.declared.Outcome.TheVariants.{Missing}
 use Rattle.page_spec.specs.Site.{Site}
 use Rattle.page_spec.specs.Page.{IsOutcome}
 use Rattle.serving_spec.specs.declared.Hit.TheVariants.{Found, Miss}
-use Rattle.serving_spec.specs.Looks.{Kept, LooksIn, is_kept, without, kept_with, hits_after}
+use Rattle.serving_spec.specs.Looks.{Kept, KeptPage, LooksIn, kept_page, without, kept_with, hits_after}
 use Rattle.trial_spec.specs.Asked.{none_kept, IsAsked, AreAsked, IsTrialText}
 use Rattle.trial_spec.specs.Numbers.{counts_of, lines_of}
 use Rattle.trial_spec.specs.Requests.{targets}
@@ -20,28 +20,28 @@ use Rattle.outcome_laws.proofs.Outcomes.{outcome_of}
 
 module _ (site : Site) (listed : IsListed site) (templates : TemplateFile) (root : Option Name) where
   looked : (before : Kept) (t : Term) → (after : Kept) × LooksIn (IsOutcome site templates) before t after
-  looked before t = by (is_kept t before.terms) refl
+  looked before t = by (kept_page t before.pages) refl
     where
       o : (o : Outcome) × IsOutcome site templates t o
       o = outcome_of site listed templates t
 
-      by : (test : Bool) → is_kept t before.terms ≡ test
+      by : (test : Option KeptPage) → kept_page t before.pages ≡ test
           → (after : Kept) × LooksIn (IsOutcome site templates) before t after
-      by true is = (
+      by (Some page) is = (
         record {
-          capacity = before.capacity;
-          terms = t ∷ without t before.terms;
+          room = before.room;
+          pages = page ∷ without t before.pages;
           hits = hits_after Found before.hits;
         },
-        record { outcome = o.0; hit = Found; is = o.1; terms = (is, refl); hits = refl; capacity = refl },
+        record { outcome = o.0; hit = Found; is = o.1; pages = (page, is, refl); hits = refl; room = refl },
       )
-      by false is = (
+      by None is = (
         record {
-          capacity = before.capacity;
-          terms = kept_with before.capacity t o.0 before.terms;
+          room = before.room;
+          pages = kept_with before.room t o.0 before.pages;
           hits = hits_after Miss before.hits;
         },
-        record { outcome = o.0; hit = Miss; is = o.1; terms = (is, refl); hits = refl; capacity = refl },
+        record { outcome = o.0; hit = Miss; is = o.1; pages = (is, refl); hits = refl; room = refl },
       )
 
   asked : (before : Kept) (target : List ℕ)

@@ -14,6 +14,8 @@ ghost use Rattle.page_spec.specs.Page.{HasText, Loops, IsOutcome, PageAt};
 ghost use Rattle.weight_spec.specs.Site.{site_of};
 ghost use Rattle.http_spec.specs.Streams.{Timed};
 ghost use Rattle.http_spec.specs.Sessions.{AnswersStream};
+ghost use Rattle.serving_spec.specs.Shown.{shown_in};
+ghost use Rattle.serving_spec.specs.declared.Origin.{Origin};
 ghost use Rattle.trial_spec.specs.Asked.{IsTrialText};
 
 use http_spec::Standing;
@@ -54,10 +56,10 @@ pub fn each_target_has_an_outcome()
 /// Each connection has an answer for which memory suffices, whatever its bytes are, whatever changes
 /// between them, and whether they have ended or not.
 pub fn each_connection_has_an_answer<C: Changing>()
-    ensures { (root : Option Name) (limit : ℕ) (stream : List (Timed C.Current)) (ended : Bool)
+    ensures { (origin : Origin) (limit : ℕ) (stream : List (Timed C.Current)) (ended : Bool)
         → (standing : Standing) × (replies : List (List ℕ)) × (standing ≡ Standing.Short → ⊥)
-        × AnswersStream (λ current. PageAt root
-        (site_of (C.graph current) (C.query current)) (C.templates current))
+        × AnswersStream
+        (shown_in origin (λ current. site_of (C.graph current) (C.query current)) C.templates)
         limit stream ended standing replies }
 {}
 

@@ -1,1 +1,2 @@
-mod LookLemmas
+pub mod ByteLemmas
+pub mod LookLemmas

@@ -1,6 +1,6 @@
 -- A look-up, by the kept entries.
 use Rattle.std.proofs.Common.{◌≡◌, ℕ, ◌<◌, ◌+◌, ◌-◌, Bool, true, false, ◌||◌, cond, List, [], ◌∷◌, ◌++◌, length, take, drop, get_or, map, filter, append_assoc, append-nil, refl, sym, ap, ◌∙◌, subst, Option, Some, None, is_some, if◌then◌else◌, nat_le, Contains, zero, suc, ◌⊎◌, inl, inr}
-use Rattle.std.proofs.Common.{arith, ◌≤◌}
+use Rattle.std.proofs.Common.{arith, ◌≤◌, slice_get}
 use Rattle.std.proofs.lemmas.Bool.Decides.{nat_tests}
 use Rattle.std.proofs.lemmas.List.Elements.{Contains-append_left, Contains-append_right}
 use Rattle.std.specs.Prelude.{◌↔◌}
@@ -11,7 +11,7 @@ use Rattle.std.proofs.Math.Seq.{drop-cons, take-suc, drop-append_seam}
 use Rattle.std.proofs.lemmas.List.{drop_all, take_all, length-take-le, length-map, map-append}
 use Rattle.std.specs.declared.cmp.Ordering.{Ordering}
 use Rattle.std.specs.declared.cmp.Ordering.TheVariants.{Less, Equal, Greater}
-use Rattle.lru.specs.LruCache.{LruCache, lru_cache, promoted, demoted, put_entries}
+use Rattle.lru.specs.LruCache.{LruCache, lru_cache, promoted, demoted, put_entries, displaced}
 use Rattle.lru.proofs.Splits.{Contains-cons, Contains-nil, Contains-head, Contains-tail}
 use Rattle.lru.proofs.CallerLemmas.{Contains-lookup_entry, Contains-promoted, Contains-take}
 use Rattle.sd_value.specs.declared.Term.{Term}
@@ -20,11 +20,12 @@ use Rattle.sd_value.specs.OrderLaws.{term_cmp-exact, term_cmp-total}
 use Rattle.page_spec.specs.declared.Outcome.{Outcome}
 use Rattle.page_spec.specs.declared.Outcome.TheVariants.{Page, Missing, Cyclic, TooLong}
 use Rattle.serving_spec.specs.declared.Hit.TheVariants.{Found, Miss}
-use Rattle.serving_spec.specs.declared.TheConstants.{MAX_KEPT}
-use Rattle.page_cache.specs.Entries.{entries_with, entries_where, AreKept}
+use Rattle.serving_spec.specs.declared.CacheRoom.{CacheRoom}
+use Rattle.page_cache.specs.Entries.{pages_of, bytes_in, entries_within, entries_with, entries_where, AreKept, AreSound}
+use Rattle.page_cache.proofs.ByteLemmas.{size_of, bytes_cons, bytes_promoted, last_bytes}
 use Rattle.versions.specs.declared.Changed.TheVariants.{Taken, Refused}
 use Rattle.versions.specs.declared.Same.{Same}
-use Rattle.serving_spec.specs.Looks.{is_same, is_kept, without, kept_with, kept_after, Looks}
+use Rattle.serving_spec.specs.Looks.{KeptPage, is_same, kept_page, without, newest_within, kept_with, kept_after, Looks}
 
 -- terms that compare equal are one
 same_term : (t u : Term) → is_same t u ≡ true → t ≡ u
@@ -48,23 +49,36 @@ entry_of term (e ∷ es) text is = by_test (is_same term e.0) refl is (entry_of 
         ap (λ k. Some (k, e.1)) (sym key) ∙ ap (λ (o : Option (List ℕ)). option_map_or (λ v. Some (term, v)) o None) found
     by_test false is found rest = rest found
 
-kept_of : (term : Term) (es : List (Term × List ℕ)) → is_kept term (keys_of es) ≡ is_some (lookup (is_same term) es)
-kept_of term [] = refl
-kept_of term (e ∷ es) = by_test (is_same term e.0) (kept_of term es)
-  where
-    by_test : (t : Bool) → is_kept term (keys_of es) ≡ is_some (lookup (is_same term) es)
-        → (t || is_kept term (keys_of es)) ≡ is_some (cond t (Some e.1) (lookup (is_same term) es))
-    by_test true rest = refl
-    by_test false rest = rest
+-- an entry as a page
+abbrev page_of : Term × List ℕ → KeptPage
+page_of e = record { term = e.0; bytes = length e.1 }
 
-keys_without : (term : Term) (es : List (Term × List ℕ)) → keys_of (remove_entry (is_same term) es) ≡ without term (keys_of es)
-keys_without term [] = refl
-keys_without term (e ∷ es) = by_test (is_same term e.0) (keys_without term es)
+found_page : (term : Term) (es : List (Term × List ℕ)) (entry : Term × List ℕ) → lookup_entry (is_same term) es ≡ Some entry → kept_page term (pages_of es) ≡ Some (page_of entry)
+found_page term [] entry is = cc
+found_page term (e ∷ es) entry is = by_test (is_same term e.0) is (found_page term es entry)
   where
-    by_test : (t : Bool) → keys_of (remove_entry (is_same term) es) ≡ without term (keys_of es)
-        → keys_of (cond t es (e ∷ remove_entry (is_same term) es)) ≡ (if t then keys_of es else e.0 ∷ without term (keys_of es))
+    by_test : (t : Bool) → cond t (Some e) (lookup_entry (is_same term) es) ≡ Some entry
+        → (lookup_entry (is_same term) es ≡ Some entry → kept_page term (pages_of es) ≡ Some (page_of entry)) → cond t (Some (page_of e)) (kept_page term (pages_of es)) ≡ Some (page_of entry)
+    by_test true found rest = ap (λ (o : Option (Term × List ℕ)). option_map_or (λ x. Some (page_of x)) o None) found
+    by_test false found rest = rest found
+
+no_page : (term : Term) (es : List (Term × List ℕ)) → lookup (is_same term) es ≡ None → kept_page term (pages_of es) ≡ None
+no_page term [] is = refl
+no_page term (e ∷ es) is = by_test (is_same term e.0) is (no_page term es)
+  where
+    by_test : (t : Bool) → cond t (Some e.1) (lookup (is_same term) es) ≡ None → (lookup (is_same term) es ≡ None → kept_page term (pages_of es) ≡ None)
+        → cond t (Some (page_of e)) (kept_page term (pages_of es)) ≡ None
+    by_test true found rest = cc
+    by_test false found rest = rest found
+
+pages_without : (term : Term) (es : List (Term × List ℕ)) → pages_of (remove_entry (is_same term) es) ≡ without term (pages_of es)
+pages_without term [] = refl
+pages_without term (e ∷ es) = by_test (is_same term e.0) (pages_without term es)
+  where
+    by_test : (t : Bool) → pages_of (remove_entry (is_same term) es) ≡ without term (pages_of es)
+        → pages_of (cond t es (e ∷ remove_entry (is_same term) es)) ≡ (if t then pages_of es else page_of e ∷ without term (pages_of es))
     by_test true rest = refl
-    by_test false rest = ap (λ ks. e.0 ∷ ks) rest
+    by_test false rest = ap (λ ps. page_of e ∷ ps) rest
 
 promoted_of : (term : Term) (es : List (Term × List ℕ)) (entry : Term × List ℕ) → lookup_entry (is_same term) es ≡ Some entry
     → promoted (is_same term) es ≡ entry ∷ remove_entry (is_same term) es
@@ -75,23 +89,55 @@ module _ (HasOutcome : Term → Outcome → Type 0) (kept : LruCache Term (List 
   pub found_outcome : (text : List ℕ) → lookup (is_same term) kept.entries ≡ Some text → HasOutcome term (Page text)
   found_outcome text is = sound (term, text) (Contains-lookup_entry (is_same term) kept.entries (term, text) (entry_of term kept.entries text is)).0
 
-  pub found_looks : (text : List ℕ) (after : LruCache Term (List ℕ)) → lookup (is_same term) kept.entries ≡ Some text
-      → after ≡ lru_cache (promoted (is_same term) kept.entries) kept.cap → Looks kept.cap (keys_of kept.entries) term (Page text) Found (keys_of after.entries)
-  found_looks text after is promotes =
+  pub found_looks : (most : ℕ) (text : List ℕ) (after : LruCache Term (List ℕ)) → lookup (is_same term) kept.entries ≡ Some text
+      → after ≡ lru_cache (promoted (is_same term) kept.entries) kept.cap
+      → Looks (record { pages = kept.cap; bytes = most }) (pages_of kept.entries) term (Page text) Found (pages_of after.entries)
+  found_looks most text after is promotes =
       let entry = entry_of term kept.entries text is in (
-        kept_of term kept.entries ∙ ap (λ (o : Option (List ℕ)). is_some o) is,
-        ap (λ (c : LruCache Term (List ℕ)). keys_of c.entries) promotes ∙ ap (λ (es : List (Term × List ℕ)). keys_of es) (promoted_of term kept.entries (term, text) entry)
-            ∙ ap (λ ks. term ∷ ks) (keys_without term kept.entries),
+        page_of (term, text),
+        found_page term kept.entries (term, text) entry,
+        ap (λ (c : LruCache Term (List ℕ)). pages_of c.entries) promotes ∙ ap (λ (es : List (Term × List ℕ)). pages_of es) (promoted_of term kept.entries (term, text) entry)
+            ∙ ap (λ ps. page_of (term, text) ∷ ps) (pages_without term kept.entries),
       )
 
-  pub found_sound : (after : LruCache Term (List ℕ)) → after ≡ lru_cache (promoted (is_same term) kept.entries) kept.cap → AreKept HasOutcome after.entries
-  found_sound after promotes entry holds =
+  found_each : (after : LruCache Term (List ℕ)) → after ≡ lru_cache (promoted (is_same term) kept.entries) kept.cap → AreKept HasOutcome after.entries
+  found_each after promotes entry holds =
       sound entry (Contains-promoted (is_same term) kept.entries entry (subst (λ (c : LruCache Term (List ℕ)). Contains c.entries entry) promotes holds))
 
-keys_take : (n : ℕ) (es : List (Term × List ℕ)) → keys_of (take n es) ≡ take n (keys_of es)
-keys_take zero es = refl
-keys_take (suc n) [] = refl
-keys_take (suc n) (e ∷ es) = ap (λ ks. e.0 ∷ ks) (keys_take n es)
+  pub found_sound : (bytes most : ℕ) (after : LruCache Term (List ℕ)) → bytes ≡ bytes_in kept.entries → bytes ≤ most
+      → after ≡ lru_cache (promoted (is_same term) kept.entries) kept.cap → AreSound HasOutcome after.entries bytes most
+  found_sound bytes most after count within promotes = record {
+    each = found_each after promotes;
+    count = count ∙ sym (ap (λ (c : LruCache Term (List ℕ)). bytes_in c.entries) promotes ∙ bytes_promoted (is_same term) kept.entries);
+    within = within;
+  }
+
+pages_take : (n : ℕ) (es : List (Term × List ℕ)) → pages_of (take n es) ≡ take n (pages_of es)
+pages_take zero es = refl
+pages_take (suc n) [] = refl
+pages_take (suc n) (e ∷ es) = ap (λ ps. page_of e ∷ ps) (pages_take n es)
+
+pages_within : (bytes : ℕ) (es : List (Term × List ℕ)) → pages_of (entries_within bytes es) ≡ newest_within bytes (pages_of es)
+pages_within bytes [] = refl
+pages_within bytes (e ∷ es) = by_test (nat_le (length e.1) bytes) (pages_within (bytes - length e.1) es)
+  where
+    by_test : (t : Bool) → pages_of (entries_within (bytes - length e.1) es) ≡ newest_within (bytes - length e.1) (pages_of es)
+        → pages_of (if t then e ∷ entries_within (bytes - length e.1) es else []) ≡ (if t then page_of e ∷ newest_within (bytes - length e.1) (pages_of es) else [])
+    by_test true rest = ap (λ ps. page_of e ∷ ps) rest
+    by_test false rest = refl
+
+-- what there is room for was there
+within_holds : (bytes : ℕ) (es : List (Term × List ℕ)) (entry : Term × List ℕ) → Contains (entries_within bytes es) entry → Contains es entry
+within_holds bytes [] entry holds = holds
+within_holds bytes (e ∷ es) entry holds = by_test (nat_le (length e.1) bytes) (within_holds (bytes - length e.1) es entry) holds
+  where
+    by_test : (t : Bool) → (Contains (entries_within (bytes - length e.1) es) entry → Contains es entry)
+        → Contains (if t then e ∷ entries_within (bytes - length e.1) es else []) entry → Contains (e ∷ es) entry
+    by_test true rest there = elim (Contains-cons e (entries_within (bytes - length e.1) es) entry there) [
+      | inl same ↦ subst (λ x. Contains (e ∷ es) x) same (Contains-head e es)
+      | inr later ↦ Contains-tail e es entry (rest later)
+    ]
+    by_test false rest there = absurd (Contains-nil entry there)
 
 none_of : (term : Term) (es : List (Term × List ℕ)) → lookup (is_same term) es ≡ None → lookup_entry (is_same term) es ≡ None
 none_of term [] is = refl
@@ -103,63 +149,122 @@ none_of term (e ∷ es) is = by_test (is_same term e.0) is (none_of term es)
     by_test false is rest = rest is
 
 -- A term that is not kept.
-module _ (HasOutcome : Term → Outcome → Type 0) (kept : LruCache Term (List ℕ)) (term : Term) (sound : AreKept HasOutcome kept.entries) (none : lookup (is_same term) kept.entries ≡ None) where
-  put_of : (text : List ℕ) → put_entries is_same kept term text ≡ (term, text) ∷ take (kept.cap - 1) kept.entries
-  put_of text =
-      ap (λ (o : Option (Term × List ℕ)). option_map_or (λ e. (e.0, text) ∷ remove_entry (is_same term) kept.entries) o ((term, text) ∷ take (kept.cap - 1) kept.entries))
-      (none_of term kept.entries none)
+module _ (HasOutcome : Term → Outcome → Type 0) (kept : LruCache Term (List ℕ)) (most : ℕ) (term : Term) (sound : AreKept HasOutcome kept.entries) (none : lookup (is_same term) kept.entries ≡ None) where
+  abbrev room : CacheRoom
+  room = record { pages = kept.cap; bytes = most }
 
-  keys_with : (outcome : Outcome) → keys_of (entries_with kept term outcome) ≡ kept_with kept.cap term outcome (keys_of kept.entries)
-  keys_with (Page text) = by_test (nat_le (length text) MAX_KEPT)
+  pages_with : (outcome : Outcome) → pages_of (entries_with most kept term outcome) ≡ kept_with room term outcome (pages_of kept.entries)
+  pages_with (Page text) = by_test (nat_le (length text) most)
     where
-      by_test : (t : Bool) → keys_of (if t then put_entries is_same kept term text else kept.entries) ≡ (if t then term ∷ take (kept.cap - 1) (keys_of kept.entries) else keys_of kept.entries)
-      by_test true = ap (λ (es : List (Term × List ℕ)). keys_of es) (put_of text) ∙ ap (λ ks. term ∷ ks) (keys_take (kept.cap - 1) kept.entries)
+      by_test : (t : Bool) → pages_of (if t then (term, text) ∷ entries_within (most - length text) (take (kept.cap - 1) kept.entries) else kept.entries)
+          ≡ (if t then page_of (term, text) ∷ newest_within (most - length text) (take (kept.cap - 1) (pages_of kept.entries)) else pages_of kept.entries)
+      by_test true =
+          ap (λ ps. page_of (term, text) ∷ ps)
+          (pages_within (most - length text) (take (kept.cap - 1) kept.entries) ∙ ap (λ ps. newest_within (most - length text) ps) (pages_take (kept.cap - 1) kept.entries))
       by_test false = refl
-  keys_with Missing = refl
-  keys_with (Cyclic value) = refl
-  keys_with TooLong = refl
+  pages_with Missing = refl
+  pages_with (Cyclic value) = refl
+  pages_with TooLong = refl
 
-  pub missed_looks : (outcome : Outcome) (after : LruCache Term (List ℕ)) → after ≡ lru_cache (entries_with kept term outcome) kept.cap
-      → Looks kept.cap (keys_of kept.entries) term outcome Miss (keys_of after.entries)
+  pub missed_looks : (outcome : Outcome) (after : LruCache Term (List ℕ)) → after ≡ lru_cache (entries_with most kept term outcome) kept.cap
+      → Looks room (pages_of kept.entries) term outcome Miss (pages_of after.entries)
   missed_looks outcome after is = (
-    kept_of term kept.entries ∙ ap (λ (o : Option (List ℕ)). is_some o) none,
-    ap (λ (c : LruCache Term (List ℕ)). keys_of c.entries) is ∙ keys_with outcome,
+    no_page term kept.entries none,
+    ap (λ (c : LruCache Term (List ℕ)). pages_of c.entries) is ∙ pages_with outcome,
   )
 
-  sound_with : (outcome : Outcome) → HasOutcome term outcome → AreKept HasOutcome (entries_with kept term outcome)
-  sound_with (Page text) found = by_test (nat_le (length text) MAX_KEPT)
+  sound_with : (outcome : Outcome) → HasOutcome term outcome → AreKept HasOutcome (entries_with most kept term outcome)
+  sound_with (Page text) found = by_test (nat_le (length text) most)
     where
-      by_test : (t : Bool) → AreKept HasOutcome (if t then put_entries is_same kept term text else kept.entries)
-      by_test true entry holds = by_put (Contains-cons (term, text) (take (kept.cap - 1) kept.entries) entry (subst (λ (es : List (Term × List ℕ)). Contains es entry) (put_of text) holds))
+      front : List (Term × List ℕ)
+      front = take (kept.cap - 1) kept.entries
+
+      by_test : (t : Bool) → AreKept HasOutcome (if t then (term, text) ∷ entries_within (most - length text) front else kept.entries)
+      by_test true entry holds = by_place (Contains-cons (term, text) (entries_within (most - length text) front) entry holds)
         where
-          by_put : ((term, text) ≡ entry) ⊎ Contains (take (kept.cap - 1) kept.entries) entry → HasOutcome entry.0 (Page entry.1)
-          by_put (inl e) = subst (λ (x : Term × List ℕ). HasOutcome x.0 (Page x.1)) e found
-          by_put (inr there) = sound entry (Contains-take (kept.cap - 1) kept.entries entry there)
+          by_place : ((term, text) ≡ entry) ⊎ Contains (entries_within (most - length text) front) entry → HasOutcome entry.0 (Page entry.1)
+          by_place (inl e) = subst (λ (x : Term × List ℕ). HasOutcome x.0 (Page x.1)) e found
+          by_place (inr there) = sound entry (Contains-take (kept.cap - 1) kept.entries entry (within_holds (most - length text) front entry there))
       by_test false entry holds = sound entry holds
   sound_with Missing found = sound
   sound_with (Cyclic value) found = sound
   sound_with TooLong found = sound
 
-  pub missed_sound : (outcome : Outcome) (after : LruCache Term (List ℕ)) → HasOutcome term outcome
-      → after ≡ lru_cache (entries_with kept term outcome) kept.cap → AreKept HasOutcome after.entries
-  missed_sound outcome after found is = subst (λ (c : LruCache Term (List ℕ)). AreKept HasOutcome c.entries) (sym is) (sound_with outcome found)
+  pub missed_sound : (outcome : Outcome) (bytes : ℕ) (after : LruCache Term (List ℕ)) → HasOutcome term outcome
+      → after ≡ lru_cache (entries_with most kept term outcome) kept.cap → bytes ≡ bytes_in after.entries → bytes ≤ most → AreSound HasOutcome after.entries bytes most
+  missed_sound outcome bytes after found is count within = record {
+    each = subst (λ (c : LruCache Term (List ℕ)). AreKept HasOutcome c.entries) (sym is) (sound_with outcome found);
+    count = count;
+    within = within;
+  }
 
 -- nothing has changed
-pub same_sound : {S : Type 0} (HasOutcome : S → Term → Outcome → Type 0) (now first : S) (after before : LruCache Term (List ℕ)) → now ≡ first → after ≡ before
-    → AreKept (HasOutcome first) before.entries → AreKept (HasOutcome now) after.entries
-same_sound HasOutcome now first after before state kept sound =
-    subst (λ s. AreKept (HasOutcome s) after.entries) (sym state) (subst (λ (k : LruCache Term (List ℕ)). AreKept (HasOutcome first) k.entries) (sym kept) sound)
+pub same_sound : {S : Type 0} (HasOutcome : S → Term → Outcome → Type 0) (now first : S) (after before : LruCache Term (List ℕ)) (bytes most : ℕ) → now ≡ first → after ≡ before
+    → AreSound (HasOutcome first) before.entries bytes most → AreSound (HasOutcome now) after.entries bytes most
+same_sound HasOutcome now first after before bytes most state kept sound =
+    subst (λ s. AreSound (HasOutcome s) after.entries bytes most) (sym state)
+    (subst (λ (k : LruCache Term (List ℕ)). AreSound (HasOutcome first) k.entries bytes most) (sym kept) sound)
 
--- a short page is kept
-pub short_kept : (kept new : LruCache Term (List ℕ)) (term key : Term) (outcome : Outcome) (text copy : List ℕ) → outcome ≡ Page text → length text ≤ MAX_KEPT
-    → key ≡ term → copy ≡ text → new ≡ lru_cache (put_entries is_same kept key copy) kept.cap → new ≡ lru_cache (entries_with kept term outcome) kept.cap
-short_kept kept new term key outcome text copy is short same copied put =
-    put ∙ ap (λ k. lru_cache (put_entries is_same kept k copy) kept.cap) same ∙ ap (λ t. lru_cache (put_entries is_same kept term t) kept.cap) copied
-    ∙ ap (λ (b : Bool). lru_cache (if b then put_entries is_same kept term text else kept.entries) kept.cap) (sym test)
-    ∙ ap (λ o. lru_cache (entries_with kept term o) kept.cap) (sym is)
+-- a page for which there is room is kept
+pub short_kept : (kept new : LruCache Term (List ℕ)) (most : ℕ) (term : Term) (outcome : Outcome) (text : List ℕ) → outcome ≡ Page text → length text ≤ most
+    → new ≡ lru_cache ((term, text) ∷ entries_within (most - length text) (take (kept.cap - 1) kept.entries)) kept.cap → new ≡ lru_cache (entries_with most kept term outcome) kept.cap
+short_kept kept new most term outcome text is short put =
+    put
+    ∙ ap (λ (b : Bool). lru_cache (if b then (term, text) ∷ entries_within (most - length text) (take (kept.cap - 1) kept.entries) else kept.entries) kept.cap) (sym test)
+    ∙ ap (λ o. lru_cache (entries_with most kept term o) kept.cap) (sym is)
   where
-    test : nat_le (length text) MAX_KEPT ≡ true
+    test : nat_le (length text) most ≡ true
     test = grind (arith, nat_tests)
+
+pub long_left : (kept : LruCache Term (List ℕ)) (most : ℕ) (term : Term) (outcome : Outcome) → ((text : List ℕ) → outcome ≡ Page text → most < length text)
+    → kept ≡ lru_cache (entries_with most kept term outcome) kept.cap
+long_left kept most term (Page text) long =
+    ap (λ (b : Bool). lru_cache (if b then (term, text) ∷ entries_within (most - length text) (take (kept.cap - 1) kept.entries) else kept.entries) kept.cap) (sym test)
+  where
+    test : nat_le (length text) most ≡ false
+    test = let past = long text refl in grind (arith, nat_tests)
+long_left kept most term Missing long = refl
+long_left kept most term (Cyclic value) long = refl
+long_left kept most term TooLong long = refl
+
+-- A pair was pushed in front, and then the oldest dropped until there was room.
+module _ (kept pushed after : LruCache Term (List ℕ)) (term key : Term) (text copy : List ℕ) (same : key ≡ term) (copied : copy ≡ text)
+    (none : lookup (is_same term) kept.entries ≡ None) (pushes : pushed ≡ lru_cache (put_entries is_same kept key copy) kept.cap) where
+  put_of : put_entries is_same kept term text ≡ (term, text) ∷ take (kept.cap - 1) kept.entries
+  put_of =
+      ap (λ (o : Option (Term × List ℕ)). option_map_or (λ e. (e.0, text) ∷ remove_entry (is_same term) kept.entries) o ((term, text) ∷ take (kept.cap - 1) kept.entries))
+      (none_of term kept.entries none)
+
+  pub pushed_are : pushed ≡ lru_cache ((term, text) ∷ take (kept.cap - 1) kept.entries) kept.cap
+  pushed_are =
+      pushes ∙ ap (λ k. lru_cache (put_entries is_same kept k copy) kept.cap) same ∙ ap (λ t. lru_cache (put_entries is_same kept term t) kept.cap) copied
+      ∙ ap (λ (es : List (Term × List ℕ)). lru_cache es kept.cap) put_of
+
+  -- how many bytes the entries after it have
+  pub others_are : (bytes gone : ℕ) (displaces : Option (Term × List ℕ)) → bytes ≡ bytes_in kept.entries → length kept.entries ≤ kept.cap → 0 < kept.cap
+      → displaces ≡ displaced is_same kept key copy → gone ≡ size_of displaces → (gone ≤ bytes) × (bytes - gone ≡ bytes_in (drop 1 pushed.entries))
+  others_are bytes gone displaces count few some displaces_is size_is =
+      let out : displaces ≡ slice_get kept.entries (kept.cap - 1) =
+      displaces_is ∙ ap (λ k. displaced is_same kept k copy) same
+      ∙ ap (λ (o : Option (List ℕ)). option_map_or (λ old. Some (term, old)) o (slice_get kept.entries (kept.cap - 1))) none in
+      let size_same : gone ≡ size_of (slice_get kept.entries (kept.cap - 1)) = size_is ∙ ap size_of out in
+      let all = last_bytes (kept.cap - 1) kept.entries (omega (arith, few, some)) in
+      let rest : bytes_in (drop 1 pushed.entries) ≡ bytes_in (take (kept.cap - 1) kept.entries) = ap (λ (c : LruCache Term (List ℕ)). bytes_in (drop 1 c.entries)) pushed_are in
+      (omega (arith, size_same, all, count), omega (arith, size_same, all, count, rest))
+
+  pub added : (most : ℕ) → after ≡ lru_cache (take 1 pushed.entries ++ entries_within (most - length text) (drop 1 pushed.entries)) pushed.cap
+      → after ≡ lru_cache ((term, text) ∷ entries_within (most - length text) (take (kept.cap - 1) kept.entries)) kept.cap
+  added most is =
+      is ∙ ap (λ (c : LruCache Term (List ℕ)). lru_cache (take 1 c.entries ++ entries_within (most - length text) (drop 1 c.entries)) c.cap) pushed_are
+
+  pub added_bytes : (most own others bytes : ℕ) → after ≡ lru_cache (take 1 pushed.entries ++ entries_within (most - length text) (drop 1 pushed.entries)) pushed.cap
+      → own ≡ length text → length text ≤ most → others ≡ bytes_in (drop 1 after.entries) → others ≤ most - own → bytes ≡ own + others
+      → (bytes ≡ bytes_in after.entries) × (bytes ≤ most)
+  added_bytes most own others bytes is own_is short count within all =
+      let left = entries_within (most - length text) (take (kept.cap - 1) kept.entries) in
+      let drop_is : bytes_in (drop 1 after.entries) ≡ bytes_in left = ap (λ (c : LruCache Term (List ℕ)). bytes_in (drop 1 c.entries)) (added most is) in
+      let whole_is : bytes_in after.entries ≡ length text + bytes_in left = ap (λ (c : LruCache Term (List ℕ)). bytes_in c.entries) (added most is) ∙ bytes_cons (term, text) left in
+      (omega (arith, drop_is, whole_is, own_is, count, all), omega (arith, own_is, short, within, all))
 
 -- a term compares equal to itself
 same_self : (t : Term) → is_same t t ≡ true
@@ -242,16 +347,26 @@ sift_end es cap i flags kept all flagged is =
     ∙ ap (λ fs. lru_cache (entries_where fs (take i es)) cap) (take_all i flags (omega (arith, all, flagged)))
     ∙ ap (λ xs. lru_cache (entries_where flags xs) cap) (take_all i es (omega (arith, all)))
 
--- the terms whose flag is true
-keys_where : (stays : Term → Bool) (es : List (Term × List ℕ)) → keys_of (entries_where (map stays (keys_of es)) es) ≡ filter stays (keys_of es)
-keys_where stays [] = refl
-keys_where stays (e ∷ es) = by_flag (stays e.0) (keys_where stays es)
+-- the pages whose flag is true
+pages_where : (stays : Term → Bool) (es : List (Term × List ℕ)) → pages_of (entries_where (map stays (keys_of es)) es) ≡ filter (λ (p : KeptPage). stays p.term) (pages_of es)
+pages_where stays [] = refl
+pages_where stays (e ∷ es) = by_flag (stays e.0) (pages_where stays es)
   where
-    by_flag : (b : Bool) → keys_of (entries_where (map stays (keys_of es)) es) ≡ filter stays (keys_of es)
-        → keys_of (if b then e ∷ entries_where (map stays (keys_of es)) es else entries_where (map stays (keys_of es)) es)
-        ≡ (if b then e.0 ∷ filter stays (keys_of es) else filter stays (keys_of es))
-    by_flag true rest = ap (λ ks. e.0 ∷ ks) rest
+    by_flag : (b : Bool) → pages_of (entries_where (map stays (keys_of es)) es) ≡ filter (λ (p : KeptPage). stays p.term) (pages_of es)
+        → pages_of (if b then e ∷ entries_where (map stays (keys_of es)) es else entries_where (map stays (keys_of es)) es)
+        ≡ cond b (page_of e ∷ filter (λ (p : KeptPage). stays p.term) (pages_of es)) (filter (λ (p : KeptPage). stays p.term) (pages_of es))
+    by_flag true rest = ap (λ ps. page_of e ∷ ps) rest
     by_flag false rest = rest
+
+-- they have no more bytes than all
+where_less : (flags : List Bool) (es : List (Term × List ℕ)) → bytes_in (entries_where flags es) ≤ bytes_in es
+where_less [] es = omega arith
+where_less (b ∷ flags) [] = omega arith
+where_less (b ∷ flags) (e ∷ es) = by_flag b (where_less flags es)
+  where
+    by_flag : (b : Bool) → bytes_in (entries_where flags es) ≤ bytes_in es → bytes_in (if b then e ∷ entries_where flags es else entries_where flags es) ≤ bytes_in (e ∷ es)
+    by_flag true rest = let kept = bytes_cons e (entries_where flags es) in let all = bytes_cons e es in omega (arith, rest, kept, all)
+    by_flag false rest = let all = bytes_cons e es in omega (arith, rest, all)
 
 -- an entry whose flag is true was there, and its page stays
 where_holds : (stays : Term → Bool) (es : List (Term × List ℕ)) (entry : Term × List ℕ) → Contains (entries_where (map stays (keys_of es)) es) entry
@@ -303,18 +418,30 @@ module _ (stays : Term → Bool) (given : List Term) (kept : LruCache Term (List
       ap (λ (k : LruCache Term (List ℕ)). k.entries) sifted
       ∙ ap (λ fs. entries_where fs kept.entries) (own_are ∙ own_flags stays given kept.entries all flags all_is flags_are)
 
-  pub renewed_terms : (accepts : Bool) (same : Same) → ((Taken same ≡ Refused) ↔ (accepts ≡ false)) → keys_of after.entries ≡ kept_after accepts stays (keys_of kept.entries)
-  renewed_terms accepts same means =
-      ap (λ (es : List (Term × List ℕ)). keys_of es) renewed ∙ keys_where stays kept.entries
-      ∙ ap (λ (b : Bool). kept_after b stays (keys_of kept.entries)) (sym (taken_accepts accepts same means))
+  pub renewed_pages : (accepts : Bool) (same : Same) → ((Taken same ≡ Refused) ↔ (accepts ≡ false)) → pages_of after.entries ≡ kept_after accepts stays (pages_of kept.entries)
+  renewed_pages accepts same means =
+      ap (λ (es : List (Term × List ℕ)). pages_of es) renewed ∙ pages_where stays kept.entries
+      ∙ ap (λ (b : Bool). kept_after b stays (pages_of kept.entries)) (sym (taken_accepts accepts same means))
 
   -- each was kept, and its page is as it was
-  pub renewed_sound : (Old New : Term → Outcome → Type 0) → AreKept Old kept.entries → ((t : Term) (o : Outcome) → Contains all t → stays t ≡ true → Old t o → New t o)
+  renewed_each : (Old New : Term → Outcome → Type 0) → AreKept Old kept.entries → ((t : Term) (o : Outcome) → Contains all t → stays t ≡ true → Old t o → New t o)
       → AreKept New after.entries
-  renewed_sound Old New sound same entry holds =
+  renewed_each Old New sound same entry holds =
       let there = where_holds stays kept.entries entry (subst (λ es. Contains es entry) renewed holds) in
       let among : Contains all entry.0 = subst (λ ts. Contains ts entry.0) (sym all_is) (Contains-append_right given (keys_of kept.entries) entry.0 (key_there kept.entries entry there.0)) in
       same entry.0 (Page entry.1) among there.1 (sound entry there.0)
+
+  pub renewed_sound : (Old New : Term → Outcome → Type 0) (bytes most old : ℕ) → AreSound Old kept.entries old most
+      → ((t : Term) (o : Outcome) → Contains all t → stays t ≡ true → Old t o → New t o) → bytes ≡ bytes_in after.entries → AreSound New after.entries bytes most
+  renewed_sound Old New bytes most old sound same count = record {
+    each = renewed_each Old New sound.each same;
+    count = count;
+    within =
+        let all = sound.count in
+        let before = sound.within in
+        let less : bytes_in after.entries ≤ bytes_in kept.entries = subst (λ es. bytes_in es ≤ bytes_in kept.entries) (sym renewed) (where_less (map stays (keys_of kept.entries)) kept.entries) in
+        omega (arith, all, before, less, count);
+  }
 
 pub given_among : (given others all : List Term) (t : Term) → all ≡ given ++ others → Contains given t → Contains all t
 given_among given others all t all_is among = subst (λ ts. Contains ts t) (sym all_is) (Contains-append_left given others t among)

@@ -1,7 +1,8 @@
 //! Pages that were looked up last are kept.
 #![tactic(auto)]
 
-ghost use Rattle.std.specs.Prelude.{◌≡◌, ◌≤◌, ◌<◌, ◌++◌, ◌↔◌, ℕ, List, [], length, drop, map, IfOk, OnErr, OnOk, Ok};
+ghost use Rattle.std.specs.Prelude.{◌≡◌, ◌≤◌, ◌<◌, ◌+◌, ◌-◌, ◌++◌, ◌↔◌, ℕ, List, [], ◌∷◌, length, take, drop, map, IfOk, OnErr, OnOk, Ok, None};
+ghost use Rattle.std.specs.Option.{option_map_or};
 ghost use Rattle.std.specs.Prelude.{true, false, if◌then◌else◌, Contains};
 ghost use Rattle.std.specs.Map.{keys_of, lookup};
 ghost use Rattle.std.specs.NonZero.{non_zero_usize_get};
@@ -10,13 +11,13 @@ ghost use Rattle.page_spec.specs.Page.{IsOutcome};
 ghost use Rattle.sd_value.specs.declared.Term.{Term};
 ghost use Rattle.page_spec.specs.declared.Outcome.{Outcome};
 ghost use Rattle.versions.specs.Changes.{TellsEach};
-ghost use Rattle.page_cache.specs.Entries.{entries_with, entries_where, AreKept};
+ghost use Rattle.page_cache.specs.Entries.{pages_of, bytes_in, entries_within, entries_with, entries_where, AreSound};
 ghost use Rattle.serving_spec.specs.Looks.{is_same, Looks, hits_after, kept_after, LooksIn, Kept};
 
 use lru::LruCache;
 use page_spec::Outcome;
 use sd_value::{NoMemory, Str, Term};
-pub use serving_spec::{Hit, MAX_KEPT};
+pub use serving_spec::Hit;
 use std::alloc::Global;
 use std::num::NonZeroUsize;
 use versions::{Changed, Versions};
@@ -26,25 +27,36 @@ use versions::{Changed, Versions};
 pub struct Cached<P> {
     pub pages: P,
     pub kept: LruCache<Term, Str>,
+    /// How many bytes the kept pages have together, and how many they may have.
+    pub bytes: u64,
+    pub most: u64,
     /// How often a page was kept that was looked up.
     pub hits: u64,
 }
 
 impl<P: Versions + Drop> Cached<P> {
-    /// Keeps at most `capacity` pages, and none at first.
-    pub fn of(alloc: Global, pages: P, capacity: NonZeroUsize) -> Result<Cached<P>, NoMemory>
+    /// Keeps at most `capacity` pages, which have at most `most` bytes together, and none at first.
+    pub fn of(
+        alloc: Global,
+        pages: P,
+        capacity: NonZeroUsize,
+        most: u64,
+    ) -> Result<Cached<P>, NoMemory>
         ensures pages { IfOk result (λ cached. cached.pages ≡ pages) }
         ensures none { IfOk result (λ cached. cached.kept.entries ≡ []) }
         ensures hits { IfOk result (λ cached. cached.hits ≡ 0) }
         ensures capacity { IfOk result (λ cached. cached.kept.cap ≡ non_zero_usize_get capacity) }
-        ensures sound { IfOk result (λ cached. AreKept
+        ensures most { IfOk result (λ cached. cached.most ≡ most) }
+        ensures sound { IfOk result (λ cached. AreSound
             (IsOutcome (P.site (P.state cached.pages)) (P.templates (P.state cached.pages)))
-            cached.kept.entries) }
+            cached.kept.entries cached.bytes cached.most) }
     {
         let kept = LruCache::new(alloc, capacity)?;
         Ok(Cached {
             pages,
             kept,
+            bytes: 0,
+            most,
             hits: 0,
         })
     }
@@ -52,20 +64,24 @@ impl<P: Versions + Drop> Cached<P> {
     /// The outcome of a term. Where its page is kept, the pages are not asked.
     pub fn look(&mut self, alloc: Global, term: &Term) -> Result<(Outcome, Hit), NoMemory>
         requires own { P.Own self.old.pages }
-        requires sound { AreKept (IsOutcome (P.site (P.state self.old.pages))
-            (P.templates (P.state self.old.pages))) self.old.kept.entries }
+        requires sound { AreSound (IsOutcome (P.site (P.state self.old.pages))
+            (P.templates (P.state self.old.pages))) self.old.kept.entries self.old.bytes
+            self.old.most }
         ensures own { P.Own self.new.pages }
-        ensures sound { AreKept (IsOutcome (P.site (P.state self.new.pages))
-            (P.templates (P.state self.new.pages))) self.new.kept.entries }
+        ensures sound { AreSound (IsOutcome (P.site (P.state self.new.pages))
+            (P.templates (P.state self.new.pages))) self.new.kept.entries self.new.bytes
+            self.new.most }
         ensures outcome { IfOk result (λ found. IsOutcome (P.site (P.state self.old.pages))
             (P.templates (P.state self.old.pages)) term.now found.0) }
-        ensures looks { IfOk result (λ found. Looks self.old.kept.cap
-            (keys_of self.old.kept.entries) term.now found.0 found.1
-            (keys_of self.new.kept.entries)) }
+        ensures looks { IfOk result (λ found. Looks
+            (record { pages = self.old.kept.cap; bytes = self.old.most })
+            (pages_of self.old.kept.entries) term.now found.0 found.1
+            (pages_of self.new.kept.entries)) }
         ensures hits { IfOk result (λ found. self.new.hits ≡ hits_after found.1 self.old.hits) }
         ensures err { OnErr result ((self.new.kept ≡ self.old.kept)
             × (self.new.hits ≡ self.old.hits)) }
         ensures capacity { self.new.kept.cap ≡ self.old.kept.cap }
+        ensures most { self.new.most ≡ self.old.most }
         ensures hit { IfOk result (λ found. found.1 ≡ Hit.Found → self.new.pages ≡ self.old.pages) }
         ensures state { P.state self.new.pages ≡ P.state self.old.pages }
     {
@@ -75,7 +91,8 @@ impl<P: Versions + Drop> Cached<P> {
             return Ok((Outcome::Page(text), Hit::Found));
         }
         let outcome = self.pages.page(alloc, term)?;
-        keep(&mut self.kept, alloc, term, &outcome)?;
+        let bytes = keep(&mut self.kept, alloc, term, &outcome, self.bytes, self.most)?;
+        self.bytes = bytes;
         Ok((outcome, Hit::Miss))
     }
 
@@ -83,20 +100,22 @@ impl<P: Versions + Drop> Cached<P> {
     /// order, and no other. After out of memory perhaps none is kept.
     pub fn renew(&mut self, alloc: Global, text: &Str, kept: &[Term]) -> Result<Changed, NoMemory>
         requires own { P.Own self.old.pages }
-        requires sound { AreKept (IsOutcome (P.site (P.state self.old.pages))
-            (P.templates (P.state self.old.pages))) self.old.kept.entries }
+        requires sound { AreSound (IsOutcome (P.site (P.state self.old.pages))
+            (P.templates (P.state self.old.pages))) self.old.kept.entries self.old.bytes
+            self.old.most }
         ensures own { P.Own self.new.pages }
-        ensures sound { AreKept (IsOutcome (P.site (P.state self.new.pages))
-            (P.templates (P.state self.new.pages))) self.new.kept.entries }
+        ensures sound { AreSound (IsOutcome (P.site (P.state self.new.pages))
+            (P.templates (P.state self.new.pages))) self.new.kept.entries self.new.bytes
+            self.new.most }
         ensures changed { IfOk result (λ c. P.state self.new.pages
             ≡ P.changed (P.state self.old.pages) text.now) }
         ensures refused { IfOk result (λ c. (c ≡ Changed.Refused)
             ↔ (P.accepts (P.state self.old.pages) text.now ≡ false)) }
         ensures nothing { result ≡ Ok Changed.Refused
             → (P.state self.new.pages ≡ P.state self.old.pages) × (self.new.kept ≡ self.old.kept) }
-        ensures keeps { IfOk result (λ c. keys_of self.new.kept.entries
+        ensures keeps { IfOk result (λ c. pages_of self.new.kept.entries
             ≡ kept_after (P.accepts (P.state self.old.pages) text.now)
-            (P.stays (P.state self.old.pages) text.now) (keys_of self.old.kept.entries)) }
+            (P.stays (P.state self.old.pages) text.now) (pages_of self.old.kept.entries)) }
         ensures flags { IfOk result (TellsEach (P.stays (P.state self.old.pages) text.now)
             kept.now) }
         ensures same { IfOk result (λ c. (t : Term) (o : Outcome) → Contains kept.now t
@@ -105,19 +124,26 @@ impl<P: Versions + Drop> Cached<P> {
             → IsOutcome (P.site (P.state self.new.pages))
             (P.templates (P.state self.new.pages)) t o) }
         ensures capacity { self.new.kept.cap ≡ self.old.kept.cap }
+        ensures most { self.new.most ≡ self.old.most }
         ensures hits { self.new.hits ≡ self.old.hits }
     {
         let terms = all_terms(alloc, kept, &self.kept)?;
         match self.pages.change(alloc, text, &terms) {
             Ok(Changed::Taken(mut same)) => {
                 let own = kept.len();
-                sift(&mut self.kept, &terms[own..], &same.flags[own..]);
+                self.bytes = sift(
+                    &mut self.kept,
+                    &terms[own..],
+                    &same.flags[own..],
+                    self.bytes,
+                );
                 same.flags.truncate(own);
                 Ok(Changed::Taken(same))
             }
             Ok(Changed::Refused) => Ok(Changed::Refused),
             Err(error) => {
                 self.kept.clear();
+                self.bytes = 0;
                 Err(error)
             }
         }
@@ -132,8 +158,8 @@ impl<P: Versions + Drop> Versions for Cached<P> {
     ghost state = { λ c. P.state c.pages };
 
     ghost cache = { λ c. record {
-      capacity = c.kept.cap;
-      terms = keys_of c.kept.entries;
+      room = record { pages = c.kept.cap; bytes = c.most };
+      pages = pages_of c.kept.entries;
       hits = c.hits;
     } };
 
@@ -151,14 +177,14 @@ impl<P: Versions + Drop> Versions for Cached<P> {
         LooksIn (IsOutcome (P.site state) (P.templates state)) before term after };
 
     ghost renews = { λ state text before after. after ≡ record before {
-      terms = kept_after (P.accepts state text) (P.stays state text) before.terms;
+      pages = kept_after (P.accepts state text) (P.stays state text) before.pages;
     } };
 
     ghost found = { λ cache. cache.hits };
 
     ghost Own = { λ c. P.Own c.pages
-        × AreKept (IsOutcome (P.site (P.state c.pages)) (P.templates (P.state c.pages)))
-        c.kept.entries };
+        × AreSound (IsOutcome (P.site (P.state c.pages)) (P.templates (P.state c.pages)))
+        c.kept.entries c.bytes c.most };
 
     fn page(&mut self, alloc: Global, term: &Term) -> Result<Outcome, NoMemory> {
         let (outcome, _) = self.look(alloc, term)?;
@@ -200,27 +226,45 @@ fn push_keys(alloc: Global, kept: &LruCache<Term, Str>, all: &mut Vec<Term>) -> 
     Ok(())
 }
 
-/// Keeps the entries whose flag is true, in their order. Each has a flag, the newest first.
-fn sift(kept: &mut LruCache<Term, Str>, terms: &[Term], flags: &[bool])
+/// Keeps the entries whose flag is true, in their order. Each has a flag, the newest first. Returns how many bytes they
+/// have, where all had this many.
+fn sift(kept: &mut LruCache<Term, Str>, terms: &[Term], flags: &[bool], all: u64) -> u64
     requires terms { terms.now ≡ keys_of kept.old.entries }
     requires flags { length flags.now ≡ length terms.now }
-    ensures { kept.new ≡ lru_cache (entries_where flags.now kept.old.entries) kept.old.cap }
+    requires all { all ≡ bytes_in kept.old.entries }
+    ensures entries { kept.new
+        ≡ lru_cache (entries_where flags.now kept.old.entries) kept.old.cap }
+    ensures bytes { result ≡ bytes_in kept.new.entries }
 {
+    let mut bytes = all;
     for (i, term) in terms.iter().enumerate() {
-        turn(kept, term, flags[i]);
+        bytes -= turn(kept, term, flags[i]);
     }
+    bytes
 }
 
-/// Moves the newest entry, which has this term, behind all others, or drops it.
-fn turn(kept: &mut LruCache<Term, Str>, term: &Term, stays: bool)
-    ensures { kept.new ≡ lru_cache
+/// Moves the newest entry, which has this term, behind all others, or drops it. Returns how many bytes are kept no longer.
+fn turn(kept: &mut LruCache<Term, Str>, term: &Term, stays: bool) -> u64
+    ensures entries { kept.new ≡ lru_cache
         (if stays then demoted (is_same term.now) kept.old.entries else drop 1 kept.old.entries)
         kept.old.cap }
+    ensures bytes { result + bytes_in kept.new.entries ≡ bytes_in kept.old.entries }
 {
     if stays {
         kept.demote(term);
+        0
     } else {
-        let _ = kept.pop_mru();
+        bytes_of(&kept.pop_mru())
+    }
+}
+
+/// How many bytes the text of an entry has, if there is one.
+fn bytes_of(entry: &Option<(Term, Str)>) -> u64
+    ensures { result ≡ option_map_or (λ e. length e.1) entry.now 0 }
+{
+    match entry {
+        Some((_, text)) => text.bytes().len() as u64,
+        None => 0,
     }
 }
 
@@ -238,23 +282,73 @@ fn copy_kept(
     }
 }
 
-/// Keeps a copy of a page that is short enough.
+/// Keeps a copy of a page that was not kept, where there is room for it. The pages have this many bytes, at most `most`.
+/// Returns how many they have then.
 fn keep(
     kept: &mut LruCache<Term, Str>,
     alloc: Global,
     term: &Term,
     outcome: &Outcome,
-) -> Result<(), NoMemory>
+    bytes: u64,
+    most: u64,
+) -> Result<u64, NoMemory>
+    requires none { lookup (is_same term.now) kept.old.entries ≡ None }
+    requires bytes { bytes ≡ bytes_in kept.old.entries }
+    requires within { bytes ≤ most }
     ensures entries { OnOk result (kept.new
-        ≡ lru_cache (entries_with kept.old term.now outcome.now) kept.old.cap) }
+        ≡ lru_cache (entries_with most kept.old term.now outcome.now) kept.old.cap) }
+    ensures bytes { IfOk result
+        (λ bytes. (bytes ≡ bytes_in kept.new.entries) × (bytes ≤ most)) }
     ensures err { OnErr result (kept.new ≡ kept.old) }
 {
     if let Outcome::Page(text) = outcome
-        && text.bytes().len() <= MAX_KEPT
+        && text.bytes().len() as u64 <= most
     {
-        let copy = text.copy(alloc)?;
-        let term = term.copy(alloc)?;
-        kept.put(term, copy)?;
+        return add(kept, alloc, term, text, bytes, most);
     }
-    Ok(())
+    Ok(bytes)
+}
+
+/// Keeps a copy of a page for which there is room, and drops the oldest pages until there is.
+fn add(
+    kept: &mut LruCache<Term, Str>,
+    alloc: Global,
+    term: &Term,
+    text: &Str,
+    bytes: u64,
+    most: u64,
+) -> Result<u64, NoMemory>
+    requires none { lookup (is_same term.now) kept.old.entries ≡ None }
+    requires bytes { bytes ≡ bytes_in kept.old.entries }
+    requires fits { length text.now ≤ most }
+    ensures entries { OnOk result (kept.new ≡ lru_cache
+        ((term.now, text.now) ∷ entries_within (most - length text.now)
+        (take (kept.old.cap - 1) kept.old.entries)) kept.old.cap) }
+    ensures bytes { IfOk result
+        (λ bytes. (bytes ≡ bytes_in kept.new.entries) × (bytes ≤ most)) }
+    ensures err { OnErr result (kept.new ≡ kept.old) }
+{
+    let own = text.bytes().len() as u64;
+    // (so at most one is pushed out: no more are kept than there is room for)
+    let _ = kept.len();
+    let copy = text.copy(alloc)?;
+    let displaced = kept.push(term.copy(alloc)?, copy)?;
+    let others = bytes - bytes_of(&displaced);
+    Ok(own + fit(kept, others, most - own))
+}
+
+/// Drops the oldest entries until those after the first, which have this many bytes, have at most `most`. Returns how many
+/// they have then.
+fn fit(kept: &mut LruCache<Term, Str>, all: u64, most: u64) -> u64
+    requires some { 0 < length kept.old.entries }
+    requires bytes { all ≡ bytes_in (drop 1 kept.old.entries) }
+    ensures entries { kept.new ≡ lru_cache
+        (take 1 kept.old.entries ++ entries_within most (drop 1 kept.old.entries)) kept.old.cap }
+    ensures bytes { (result ≡ bytes_in (drop 1 kept.new.entries)) × (result ≤ most) }
+{
+    let mut bytes = all;
+    while bytes > most {
+        bytes -= bytes_of(&kept.pop_lru());
+    }
+    bytes
 }

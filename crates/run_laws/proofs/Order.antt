@@ -11,7 +11,6 @@ use Rattle.command_spec.specs.declared.Command.TheVariants as command
 use Rattle.command_serve.specs.Ends.{serving_text}
 use Rattle.site_inputs.specs.Reads.{read_of}
 use Rattle.run_report.specs.Report.{code, IsFixed}
-use Rattle.run_report.specs.declared.status.Status.{Status}
 use Rattle.command_run.specs.declared.no_words.NoWords.{NoWords}
 use Rattle.command_run.specs.declared.no_words.NoWords.TheVariants.{Unreadable, NoMemory}
 use Rattle.command_run.specs.Main.{Words, Seen, command_given, status_without}

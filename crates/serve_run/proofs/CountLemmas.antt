@@ -7,7 +7,7 @@ use Rattle.page_spec.specs.Address.{TermOf}
 use Rattle.page_spec.specs.Site.{Site}
 use Rattle.http_spec.specs.declared.Standing.{Standing}
 use Rattle.http_spec.specs.declared.Standing.TheVariants.{Open}
-use Rattle.http_spec.specs.Sessions.{OutcomeAt, HasAnswer}
+use Rattle.http_spec.specs.Sessions.{Showing, HasAnswer}
 use Rattle.http_spec.specs.Streams.{Timed}
 use Rattle.wire.specs.Accounts.{up_by}
 use Rattle.happenings.specs.Happening.{Happening}
@@ -24,6 +24,7 @@ use Rattle.serving_spec.specs.Sent.{FrontOf, SettledBy, IsServedBy, IsServed}
 use Rattle.serving_spec.specs.Serving.{When, after_when, first_when}
 use Rattle.serving_spec.specs.Shown.{shown_in}
 use Rattle.serving_spec.specs.declared.HubEnd.{HubEnd}
+use Rattle.serving_spec.specs.declared.Origin.{Origin}
 use Rattle.hub.specs.Course.{Scene, Rules, Passes, PassesAll, IsCourse}
 use Rattle.hub.specs.Line.{Line}
 use Rattle.hub.specs.Moments.{SettledAt, StandsComing, StandsFor, CountedStands}
@@ -34,7 +35,7 @@ use Rattle.hub.proofs.TurnLemmas.{stands_turn}
 use Rattle.serve_run.specs.Steps.{run_rules}
 
 -- what a connection is sent, from where it stands
-module _ {D : Type 0} (page : D → OutcomeAt) (Names : List ℕ → Term → Type 0) (d : D) (limit : ℕ) (counted : Counts D) (first now : At) where
+module _ {D : Type 0} (page : D → Showing) (Names : List ℕ → Term → Type 0) (d : D) (limit : ℕ) (counted : Counts D) (first now : At) where
   coming_served : (stream : List (Timed D)) (line : Option Line) → StandsComing page Names limit counted stream line first now
       → SettledAt page Names limit counted stream false first now
   coming_served stream None over = over_settled page Names limit counted stream first now over
@@ -56,7 +57,7 @@ module _ {D : Type 0} (page : D → OutcomeAt) (Names : List ℕ → Term → Ty
   counted_of input stands = (served_of input stands, none_of input stands)
 
 -- the same, without the counts
-module _ {D : Type 0} (page : D → OutcomeAt) (Names : List ℕ → Term → Type 0) (limit : ℕ) (counted : Counts D) where
+module _ {D : Type 0} (page : D → Showing) (Names : List ℕ → Term → Type 0) (limit : ℕ) (counted : Counts D) where
   plain : (stream : List (Timed D)) (ended : Bool) (standing : Standing) (replies : List (List ℕ)) → HasCounts page Names limit counted stream ended standing replies
       → HasAnswer page limit stream ended standing replies
   plain stream ended standing replies (inl c) = inl c.answer
@@ -86,7 +87,7 @@ module _ {D : Type 0} (page : D → OutcomeAt) (Names : List ℕ → Term → Ty
   plain_served (Over ended stream) first now settled = plain_settled stream ended first now settled
 
 -- an event of no connection makes nothing
-may_make : (page : OutcomeAt) (Names : List ℕ → Term → Type 0) (limit : ℕ) (greatest : Option ℕ) (e : WireEvent) (made : Made) (before after : ℕ → At) → Turned page Names limit greatest e made before after
+may_make : (page : Showing) (Names : List ℕ → Term → Type 0) (limit : ℕ) (greatest : Option ℕ) (e : WireEvent) (made : Made) (before after : ℕ → At) → Turned page Names limit greatest e made before after
     → MayMake e made
 may_make page Names limit greatest (Opened number) made before after turned = tt
 may_make page Names limit greatest (Bytes number piece) made before after turned = tt
@@ -100,29 +101,29 @@ counted_more : {A : Type 0} (xs ys : List A) (n : ℕ) → up_by (length ys) (up
 counted_more xs ys n = sym (ap (λ k. up_by k n) (length-append xs ys) ∙ up_by_more (length xs) (length ys) n)
 
 -- Over pages whose data texts may change.
-module _ {D : Type 0} (root : Option (List ℕ)) (site : D → Site) (templates : D → TemplateFile) (texts : Changes D) (limit : ℕ) (some : 0 < limit) where
-  abbrev page : When D → OutcomeAt
-  page when = shown_in root site templates when.current
+module _ {D : Type 0} (origin : Origin) (site : D → Site) (templates : D → TemplateFile) (texts : Changes D) (limit : ℕ) (some : 0 < limit) where
+  abbrev page : When D → Showing
+  page when = shown_in origin site templates when.current
 
   abbrev next : WireEvent → When D → When D
   next = after_when texts.changed
 
   abbrev rules : Rules D Kept
-  rules = run_rules root site templates texts
+  rules = run_rules origin site templates texts
 
   abbrev Here : ℕ → Moment (When D) → Counts (When D) → At → At → Type 0
-  Here k moment counted first now = CountedStands page (TermOf root) limit k moment counted first now
+  Here k moment counted first now = CountedStands page (TermOf origin.root) limit k moment counted first now
 
   -- one step, for one connection
   one_step : (k : ℕ) (when : When D) (e : WireEvent) (moment : Moment (When D)) (counted : Counts (When D)) (first : At) (before after : Scene D Kept) → when.current ≡ before.current
       → moment.current ≡ when → moment.greatest ≡ before.greatest → Here k moment counted first (before.ats k) → (step : Passes rules limit e before after)
       → Here k (after_event next k moment e) (if is_of k e then counts_with counted when step.made else counted) first (after.ats k)
   one_step k when e moment counted first before after current is_when greatest here step =
-      let turned : Turned (page moment.current) (TermOf root) limit moment.greatest e step.made before.ats after.ats =
-      subst (λ g. Turned (page moment.current) (TermOf root) limit g e step.made before.ats after.ats) (sym greatest)
-      (subst (λ d. Turned (shown_in root site templates d) (TermOf root) limit before.greatest e step.made before.ats after.ats) (sym current ∙ ap (λ (w : When D). w.current) (sym is_when)) step.turned) in
+      let turned : Turned (page moment.current) (TermOf origin.root) limit moment.greatest e step.made before.ats after.ats =
+      subst (λ g. Turned (page moment.current) (TermOf origin.root) limit g e step.made before.ats after.ats) (sym greatest)
+      (subst (λ d. Turned (shown_in origin site templates d) (TermOf origin.root) limit before.greatest e step.made before.ats after.ats) (sym current ∙ ap (λ (w : When D). w.current) (sym is_when)) step.turned) in
       subst (λ w. Here k (after_event next k moment e) (if is_of k e then counts_with counted w step.made else counted) first (after.ats k)) is_when
-      (stands_turn page (TermOf root) next limit k moment counted first step.made before.ats after.ats some here e turned)
+      (stands_turn page (TermOf origin.root) next limit k moment counted first step.made before.ats after.ats some here e turned)
 
   -- what is counted after the events
   pub record After (firsts : ℕ → At) (moments : ℕ → Moment (When D)) (counted : ℕ → Counts (When D)) (when : When D) (events : List WireEvent) (before after : Scene D Kept) : Type 0 where

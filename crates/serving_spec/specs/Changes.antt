@@ -75,7 +75,7 @@ module _ {D : Type 0} (site : D → Site) (templates : D → TemplateFile) (text
   abbrev pub RenewsAt : D → List ℕ → Kept → Kept → Type 0
   RenewsAt current text before after =
       after ≡ record before {
-        terms = kept_after (texts.accepts current text) (texts.stays current text) before.terms;
+        pages = kept_after (texts.accepts current text) (texts.stays current text) before.pages;
       }
 
   -- what is kept after these events, each of which made this, one after another

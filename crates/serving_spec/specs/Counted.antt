@@ -5,7 +5,7 @@ use Rattle.http_spec.specs.declared.Standing.{Standing}
 use Rattle.http_spec.specs.declared.Standing.TheVariants.{Short}
 use Rattle.http_spec.specs.Asks.{ask_of}
 use Rattle.http_spec.specs.Replies.{no_memory_bytes}
-use Rattle.http_spec.specs.Sessions.{OutcomeAt, AnswersStream}
+use Rattle.http_spec.specs.Sessions.{Showing, AnswersStream}
 use Rattle.http_spec.specs.Streams.{Timed, Request}
 use Rattle.happenings.specs.declared.event.WireEvent.{WireEvent}
 use Rattle.happenings.specs.declared.event.WireEvent.TheVariants.{Opened, Bytes, Ended, Lost, Change, Done}
@@ -44,17 +44,17 @@ counts_with counts current made = record {
 }
 
 -- What is looked up for these requests, one after another: for each its term, if it has one, when its last byte comes.
-abbrev pub LooksUpFor : {D : Type 0} → (List ℕ → Term → Type 0) → List (Request D)
+abbrev pub LooksUpFor : {D : Type 0} → (D → Showing) → (List ℕ → Term → Type 0) → List (Request D)
     → List (LookUp D) → Type 0
-LooksUpFor Names [] looked = looked ≡ []
-LooksUpFor Names (r ∷ requests) looked =
+LooksUpFor page Names [] looked = looked ≡ []
+LooksUpFor page Names (r ∷ requests) looked =
     (terms : List Term) × (others : List (LookUp _))
-    × LooksUp Names (ask_of r.head).kind r.head.target terms
-    × LooksUpFor Names requests others
+    × LooksUp Names (ask_of (page r.current).hosts r.head).kind r.head.target terms
+    × LooksUpFor page Names requests others
     × (looked ≡ look_ups r.current terms ++ others)
 
 -- Over pages whose data may change, where Names says which term a target names.
-module _ {D : Type 0} (page : D → OutcomeAt) (Names : List ℕ → Term → Type 0) (limit : ℕ) where
+module _ {D : Type 0} (page : D → Showing) (Names : List ℕ → Term → Type 0) (limit : ℕ) where
   -- These are the replies to a connection's bytes, and this is counted of them. One term more may be looked up if it was
   -- out of memory for its reply.
   pub record CountedAnswer (counts : Counts D) (stream : List (Timed D)) (ended : Bool)
@@ -63,7 +63,7 @@ module _ {D : Type 0} (page : D → OutcomeAt) (Names : List ℕ → Term → Ty
     pub looked : List (LookUp D)
     pub extra : List (LookUp D)
     pub count : counts.replies ≡ replies_in standing replies
-    pub looks : LooksUpFor Names answer.requests looked
+    pub looks : LooksUpFor page Names answer.requests looked
     pub may : MayLookUp standing extra
     pub whole : counts.looked ≡ looked ++ extra
 

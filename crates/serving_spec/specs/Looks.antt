@@ -1,58 +1,82 @@
--- What a look-up does to the terms whose pages are kept, the newest first.
-use Rattle.std.specs.Prelude.{◌≡◌, ℕ, ◌+◌, ◌-◌, ◌^◌, min, nat_le, Bool, true, false, List, [], ◌∷◌, length, take, filter, if◌then◌else◌}
-use Rattle.std.specs.List.{list_any}
+-- What a look-up does to the pages that are kept, the newest first.
+use Rattle.std.specs.Prelude.{◌≡◌, ℕ, ◌+◌, ◌-◌, ◌≤◌, ◌^◌, min, nat_le, Bool, List, [], ◌∷◌, length, sum_by, take, filter, find}
+use Rattle.std.specs.Prelude.{Option, Some, None, if◌then◌else◌}
 use Rattle.std.specs.Ordering.{is_eq}
 use Rattle.sd_value.specs.declared.Term.{Term}
 use Rattle.sd_value.specs.Order.{term_cmp}
 use Rattle.page_spec.specs.declared.Outcome.{Outcome}
 use Rattle.page_spec.specs.declared.Outcome.TheVariants.{Page, Missing, Cyclic, TooLong}
+use Rattle.serving_spec.specs.declared.CacheRoom.{CacheRoom}
 use Rattle.serving_spec.specs.declared.Hit.{Hit}
 use Rattle.serving_spec.specs.declared.Hit.TheVariants.{Found, Miss}
-use Rattle.serving_spec.specs.declared.TheConstants.{MAX_KEPT}
 
 -- the terms are equal
 abbrev pub is_same : Term → Term → Bool
 is_same a b = is_eq (term_cmp a b)
 
--- the term is among these
-abbrev pub is_kept : Term → List Term → Bool
-is_kept term terms = list_any (is_same term) terms
+-- a page that is kept: its term, and how many bytes its text has
+pub record KeptPage : Type 0 where
+  pub term : Term
+  pub bytes : ℕ
 
--- the terms without this one
-abbrev pub without : Term → List Term → List Term
+-- the page of the term among these, if it is there
+abbrev pub kept_page : Term → List KeptPage → Option KeptPage
+kept_page term pages = find (λ page. is_same term page.term) pages
+
+-- the pages without that of the term
+abbrev pub without : Term → List KeptPage → List KeptPage
 without term [] = []
-without term (t ∷ terms) = if is_same term t then terms else t ∷ without term terms
+without term (page ∷ pages) =
+    if is_same term page.term then pages else page ∷ without term pages
 
--- the terms that are kept after this outcome was found: one with a short page goes in front, and the last goes where
--- there are too many
-abbrev pub kept_with : ℕ → Term → Outcome → List Term → List Term
-kept_with capacity term (Page text) kept =
-    if nat_le (length text) MAX_KEPT then term ∷ take (capacity - 1) kept else kept
-kept_with capacity term Missing kept = kept
-kept_with capacity term (Cyclic value) kept = kept
-kept_with capacity term TooLong kept = kept
+-- how many bytes the pages have together
+abbrev pub bytes_of : List KeptPage → ℕ
+bytes_of pages = sum_by (λ page. page.bytes) pages
 
--- one look-up: a term that is kept goes to the front, and another is kept where its page is short enough
-abbrev pub Looks : ℕ → List Term → Term → Outcome → Hit → List Term → Type 0
-Looks capacity kept term outcome Found after =
-    (is_kept term kept ≡ true) × (after ≡ term ∷ without term kept)
-Looks capacity kept term outcome Miss after =
-    (is_kept term kept ≡ false) × (after ≡ kept_with capacity term outcome kept)
+-- the newest of the pages: as many as have at most so many bytes together
+abbrev pub newest_within : ℕ → List KeptPage → List KeptPage
+newest_within bytes [] = []
+newest_within bytes (page ∷ pages) =
+    if nat_le page.bytes bytes then page ∷ newest_within (bytes - page.bytes) pages else []
+
+-- the pages that are kept after this outcome was found: a page for which there is room goes in front, and the oldest go
+-- where they are too many, or have too many bytes with it
+abbrev pub kept_with : CacheRoom → Term → Outcome → List KeptPage → List KeptPage
+kept_with room term (Page text) kept =
+    if nat_le (length text) room.bytes
+    then record { term = term; bytes = length text }
+    ∷ newest_within (room.bytes - length text) (take (room.pages - 1) kept)
+    else kept
+kept_with room term Missing kept = kept
+kept_with room term (Cyclic value) kept = kept
+kept_with room term TooLong kept = kept
+
+-- one look-up: a page that is kept goes to the front, and another is kept where there is room for it
+abbrev pub Looks : CacheRoom → List KeptPage → Term → Outcome → Hit → List KeptPage → Type 0
+Looks room kept term outcome Found after =
+    (page : KeptPage) × (kept_page term kept ≡ Some page) × (after ≡ page ∷ without term kept)
+Looks room kept term outcome Miss after =
+    (kept_page term kept ≡ None) × (after ≡ kept_with room term outcome kept)
 
 -- the count of hits after a look-up; at its last value it stays
 abbrev pub hits_after : Hit → ℕ → ℕ
 hits_after Found hits = min (hits + 1) (2 ^ 64 - 1)
 hits_after Miss hits = hits
 
--- the terms that are kept after a text: where it is accepted, those whose pages surely stay, in their order
-abbrev pub kept_after : Bool → (Term → Bool) → List Term → List Term
-kept_after accepted stays kept = if accepted then filter stays kept else kept
+-- the pages that are kept after a text: where it is accepted, those that surely stay, in their order
+abbrev pub kept_after : Bool → (Term → Bool) → List KeptPage → List KeptPage
+kept_after accepted stays kept = if accepted then filter (λ page. stays page.term) kept else kept
 
--- what is kept: at most how many terms, the terms, the newest first, and how often one was found
+-- what is kept: how much room there is, the pages, the newest first, and how often one was found
 pub record Kept : Type 0 where
-  pub capacity : ℕ
-  pub terms : List Term
+  pub room : CacheRoom
+  pub pages : List KeptPage
   pub hits : ℕ
+
+-- no more is kept than there is room for
+pub record IsWithinRoom (kept : Kept) : Type 0 where
+  pub pages : length kept.pages ≤ kept.room.pages
+  pub bytes : bytes_of kept.pages ≤ kept.room.bytes
 
 -- a look-up of a term, whose page has this outcome
 pub record LooksIn (HasOutcome : Term → Outcome → Type 0) (before : Kept) (term : Term)
@@ -60,6 +84,6 @@ pub record LooksIn (HasOutcome : Term → Outcome → Type 0) (before : Kept) (t
   pub outcome : Outcome
   pub hit : Hit
   pub is : HasOutcome term outcome
-  pub terms : Looks before.capacity before.terms term outcome hit after.terms
+  pub pages : Looks before.room before.pages term outcome hit after.pages
   pub hits : after.hits ≡ hits_after hit before.hits
-  pub capacity : after.capacity ≡ before.capacity
+  pub room : after.room ≡ before.room

@@ -2,7 +2,7 @@
 use Rattle.std.specs.Prelude.{◌≡◌, ◌≤◌, ◌-◌, ◌⊎◌, ℕ, List, [], ◌∷◌, length}
 use Rattle.sd_value.specs.declared.Term.{Term}
 use Rattle.http_spec.specs.declared.RequestKind.{RequestKind}
-use Rattle.http_spec.specs.declared.RequestKind.TheVariants.{Get, Head, BadRequest, WrongMethod}
+use Rattle.http_spec.specs.declared.RequestKind.TheVariants.{Get, Head, BadRequest, Misdirected, WrongMethod}
 use Rattle.http_spec.specs.declared.Standing.{Standing}
 use Rattle.http_spec.specs.declared.Standing.TheVariants.{Open, Closed, Short}
 
@@ -32,6 +32,7 @@ abbrev pub LooksUp : (List ℕ → Term → Type 0) → RequestKind → List ℕ
 LooksUp Names Get target terms = NamedBy Names target terms
 LooksUp Names Head target terms = NamedBy Names target terms
 LooksUp Names BadRequest target terms = terms ≡ []
+LooksUp Names Misdirected target terms = terms ≡ []
 LooksUp Names WrongMethod target terms = terms ≡ []
 
 -- one term more may be looked up if it was out of memory for its reply

@@ -1,7 +1,7 @@
 -- What a connection is sent for what came of it.
 use Rattle.std.specs.Prelude.{◌≡◌, ◌⊎◌, ℕ, Bool, true, false, List, [], ◌++◌}
 use Rattle.http_spec.specs.declared.Standing.{Standing}
-use Rattle.http_spec.specs.Sessions.{OutcomeAt, HasAnswer}
+use Rattle.http_spec.specs.Sessions.{Showing, HasAnswer}
 use Rattle.http_spec.specs.Streams.{Timed}
 use Rattle.wire.specs.Told.{WireReport}
 use Rattle.serving_spec.specs.Delivered.{Seen, AllSent, CutOff}
@@ -35,5 +35,5 @@ module _ {D : Type 0} (IsAnswer : List (Timed D) → Bool → Standing → List 
   IsServedBy (Over ended stream) before after = SettledBy stream ended before after
 
 -- the same for pages whose data may change, if a connection has at most limit replies
-abbrev pub IsServed : {D : Type 0} → (D → OutcomeAt) → ℕ → Input D → Seen → Seen → Type 0
+abbrev pub IsServed : {D : Type 0} → (D → Showing) → ℕ → Input D → Seen → Seen → Type 0
 IsServed page limit = IsServedBy (HasAnswer page limit)

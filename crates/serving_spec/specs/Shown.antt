@@ -1,11 +1,13 @@
--- Which outcome each target has in the site of some data.
-use Rattle.std.specs.Prelude.{ℕ, List, Option}
+-- What is shown of the site of some data.
 use Rattle.tmpl.specs.Body.{TemplateFile}
 use Rattle.page_spec.specs.Page.{PageAt}
 use Rattle.page_spec.specs.Site.{Site}
-use Rattle.http_spec.specs.Sessions.{OutcomeAt}
+use Rattle.http_spec.specs.Sessions.{Showing}
+use Rattle.serving_spec.specs.declared.Origin.{Origin}
 
--- root is the function of the term for `/`, if there is one
-abbrev pub shown_in : {D : Type 0} → Option (List ℕ) → (D → Site) → (D → TemplateFile) → D
-    → OutcomeAt
-shown_in root site templates current = PageAt root (site current) (templates current)
+-- the outcome of each target, to requests for the hosts of the origin
+abbrev pub shown_in : {D : Type 0} → Origin → (D → Site) → (D → TemplateFile) → D → Showing
+shown_in origin site templates current = record {
+  hosts = origin.hosts;
+  outcome = PageAt origin.root (site current) (templates current);
+}

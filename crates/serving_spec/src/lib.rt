@@ -1,6 +1,11 @@
 //! What came of each connection, what it was sent, and what a run over connections counts.
-//! Definitions, no engine.
+//! Definitions and a law, no engine.
 #![tactic(auto)]
+
+mod laws;
+
+pub use laws::{ChangingPages, kept_pages_have_room};
+use sd_value::Str;
 
 /// Why a run has ended.
 #[derive(Clone, Copy, Debug, PartialEq, Eq)]
@@ -37,8 +42,21 @@ pub struct Served {
     pub tally: Tally,
 }
 
-/// The longest page that is kept, in bytes.
-pub const MAX_KEPT: usize = 65536;
+/// What a run answers for.
+#[derive(Debug, Drop)]
+pub struct Origin {
+    /// The function of the term for `/`, if there is one.
+    pub root: Option<Str>,
+    /// The hosts whose requests are answered, with commas between them; without them all are.
+    pub hosts: Option<Str>,
+}
+
+/// How much is kept of the pages that were looked up: at most so many, which have at most so many bytes together.
+#[derive(Clone, Copy, Debug, PartialEq, Eq)]
+pub struct CacheRoom {
+    pub pages: u64,
+    pub bytes: u64,
+}
 
 /// Whether the page of a term was kept when it was looked up.
 #[derive(Clone, Copy, Debug, PartialEq, Eq)]

@@ -150,6 +150,14 @@ templates_told (templates.TooDeep at) = Some (record { number = 84; at = at })
 templates_told (templates.UnknownVariable at) = Some (record { number = 85; at = at })
 templates_told templates.NoMemory = None
 
+-- what is said of a text of templates that is refused so, unless it was out of memory
+abbrev pub TemplatesRefused : List ℕ → TmplRefusal → Fault → Type 0
+TemplatesRefused path e (Refused refusal) =
+    (told : NumberedFault) × (refusal ≡ record { file = path; number = told.number; place = At told.at })
+    × (templates_told e ≡ Some told)
+TemplatesRefused path e NoMemory = ⊤
+TemplatesRefused path e fault = ⊥
+
 -- How a text of templates ends: with the file of templates, or refused.
 abbrev pub TemplatesTaken : List ℕ → List ℕ → Result TemplateFile Fault → Type 0
 TemplatesTaken path bytes (Ok file) = IsTemplatesAnswer text_limit bytes (Ok file)

@@ -1,11 +1,13 @@
 // The inputs of a site, each read and decoded before the next.
-ghost use Rattle.std.specs.Prelude.{◌≡◌, ◌∷◌, []};
+ghost use Rattle.std.specs.Prelude.{◌≡◌, ◌≤◌, ◌^◌, ◌∷◌, [], ℕ, List, Err, IfErr, IfOk, length};
 ghost use Rattle.std.specs.Option.{ForSome};
 ghost use Rattle.site_inputs.specs.Reads.{Reads};
 ghost use Rattle.site_inputs.specs.Runs.{ReadsHaveCause};
 ghost use Rattle.command_spec.specs.Inputs.{data_paths, input_paths};
-ghost use Rattle.site_inputs.specs.Sites.{QueryRefused, WrittenTaken, TextsTaken, QueryTaken, QueryEnds, TemplatesTaken, TemplatesEnd, InputsEnd};
+ghost use Rattle.site_inputs.specs.Sites.{QueryRefused, WrittenTaken, TextsTaken, QueryTaken, QueryEnds, TemplatesRefused, TemplatesTaken, TemplatesEnd, InputsEnd};
+ghost use Rattle.command_spec.specs.Limits.{text_limit};
 ghost use Rattle.struql_ast.specs.Reading.{query_of};
+ghost use Rattle.template_reader.specs.Faults.{AreItemsOf};
 ghost use Rattle.struql_ast.specs.Written.{query_written};
 ghost use Rattle.struql_check.specs.Parsed.{IsParsed};
 ghost use Rattle.site_inputs.specs.Values.{file_result, inputs_result};
@@ -24,7 +26,8 @@ use sd_value::{NoMemory, Str};
 use std::alloc::Global;
 use struql_ast::Query;
 use struql_check::Checked;
-use template_reader::read_templates;
+use template_items::Item;
+use template_reader::{TmplRefusal, read_items, templates_of};
 use tmpl::Templates;
 
 /// What a site is made of.
@@ -103,19 +106,55 @@ pub fn load_query<F: Files>(alloc: Global, files: &mut F, path: &Str) -> Result<
     take_query(alloc, path, bytes.bytes())
 }
 
+// What refused templates end with: their refusal, with the file's path, or out of memory.
+fn refused_templates(alloc: Global, path: &Str, refusal: &TmplRefusal) -> Fault
+    ensures { TemplatesRefused path.now refusal.now result }
+{
+    match told_of_templates(refusal) {
+        Ok(told) => refused(alloc, path, told.number, Place::At(told.at)),
+        Err(NoMemory) => Fault::NoMemory,
+    }
+}
+
+/// The items of a text of templates, from which its templates are read.
+/// # Errors
+/// A text that is too long, with the file's path, or out of memory.
+pub fn take_items(alloc: Global, path: &Str, bytes: &[u8]) -> Result<Vec<Item>, Fault>
+    ensures items { IfOk result (λ v. AreItemsOf text_limit bytes.now v.items) }
+    ensures long { IfErr result (λ fault. TemplatesTaken path.now bytes.now (Err fault)) }
+{
+    match read_items(alloc, bytes, TEXT_LIMIT) {
+        Ok(items) => Ok(items),
+        Err(refusal) => Err(refused_templates(alloc, path, &refusal)),
+    }
+}
+
+/// The templates of the items of a text.
+/// # Errors
+/// Templates that are refused, with the file's path, or out of memory.
+pub fn take_item_templates(
+    alloc: Global,
+    path: &Str,
+    items: &[Item],
+) -> Result<Templates, Fault>
+    requires { length items.now ≤ 2 ^ 32 }
+    ensures { (bytes : List ℕ) → AreItemsOf text_limit bytes items.now
+        → TemplatesTaken path.now bytes (file_result result) }
+{
+    match templates_of(alloc, items) {
+        Ok(templates) => Ok(templates),
+        Err(refusal) => Err(refused_templates(alloc, path, &refusal)),
+    }
+}
+
 /// The templates that a text spells.
 /// # Errors
 /// A text that is refused, with the file's path, or out of memory.
 pub fn take_templates(alloc: Global, path: &Str, bytes: &[u8]) -> Result<Templates, Fault>
     ensures { TemplatesTaken path.now bytes.now (file_result result) }
 {
-    match read_templates(alloc, bytes, TEXT_LIMIT) {
-        Ok(templates) => Ok(templates),
-        Err(refusal) => match told_of_templates(&refusal) {
-            Ok(told) => Err(refused(alloc, path, told.number, Place::At(told.at))),
-            Err(NoMemory) => Err(Fault::NoMemory),
-        },
-    }
+    let items = take_items(alloc, path, bytes)?;
+    take_item_templates(alloc, path, &items)
 }
 
 // The templates of a file.

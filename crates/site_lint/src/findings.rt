@@ -3,8 +3,8 @@
 ghost use Rattle.std.specs.Prelude.{◌≡◌, ◌++◌, ◌∷◌, [], IfOk, if◌then◌else◌};
 ghost use Rattle.query_blocks.specs.Blocks.{scope_of, AreCheckedBlocks};
 ghost use Rattle.tmpl.specs.Reading.{file_of};
-ghost use Rattle.lint_spec.specs.Mistakes.{IsMistake};
-ghost use Rattle.lint_spec.specs.Findings.{number_of, finding, AreFindings};
+ghost use Rattle.lint_spec.specs.Mistakes.{IsMistake, has_active_end};
+ghost use Rattle.lint_spec.specs.Findings.{number_of, is_note, finding, AreFindings};
 ghost use Rattle.site_lint.specs.Judged.{HasNames, AreWithoutRows};
 
 use crate::judged::{LintedSite, is_mistake};
@@ -30,7 +30,16 @@ fn number_of(what: &Asked) -> u32
         Asked::Rows(_) => 148,
         Asked::Tag => 149,
         Asked::Member(_) => 156,
+        Asked::Shown => 157,
+        Asked::Targets => 158,
     }
+}
+
+/// Whether a finding of this number is a note, which is no fault of the texts.
+pub fn is_note(number: u32) -> bool
+    ensures { result ≡ is_note number }
+{
+    number == 157 || number == 158
 }
 
 // Adds the claim, where it is a mistake.
@@ -64,6 +73,8 @@ pub fn findings_of<S: Store, L: LinkAnswers>(
         (file_of site.now.templates.now) site.now.names.now }
     requires rows { AreWithoutRows (S.graph site.now.store.now)
         site.now.blocks.now.blocks.items site.now.without_rows.now }
+    requires ends { site.now.has_active_end
+        ≡ has_active_end (S.graph site.now.store.now).edges }
     ensures { IfOk result (λ found. AreFindings (IsMistake (S.graph site.now.store.now)
         (scope_of site.now.blocks.now) (file_of site.now.templates.now) site.now.further.now)
         claims.now found.items) }

@@ -7,7 +7,7 @@ ghost use Rattle.graph_spec.specs.DataGraph.{IsLabelOf};
 ghost use Rattle.query_spec.specs.Mentions.{arc_names};
 ghost use Rattle.query_blocks.specs.Blocks.{scope_of, AreCheckedBlocks};
 ghost use Rattle.tmpl.specs.Reading.{file_of};
-ghost use Rattle.lint_spec.specs.Mistakes.{IsMistake, NoLinkOf, outright_names, OfBlock};
+ghost use Rattle.lint_spec.specs.Mistakes.{IsMistake, NoLinkOf, outright_names, OfBlock, has_active_end};
 ghost use Rattle.site_lint.specs.Judged.{HasNames, AreWithoutRows};
 
 use crate::conditions::{is_arc, is_unbounded};
@@ -22,7 +22,8 @@ use store::Store;
 use tmpl::Templates;
 
 /// A site whose texts are judged: its data, what answers for its links, its blocks, its templates and
-/// the labels by which their words go on, its names, and for each block whether it has no row.
+/// the labels by which their words go on, its names, for each block whether it has no row, and whether
+/// an edge of the data ends at an active address.
 #[derive(Drop)]
 pub struct LintedSite<'a, S, L> {
     pub store: &'a S,
@@ -32,6 +33,7 @@ pub struct LintedSite<'a, S, L> {
     pub further: &'a [Str],
     pub names: &'a SiteNames,
     pub without_rows: &'a [bool],
+    pub has_active_end: bool,
 }
 
 // The block of the number.
@@ -175,6 +177,8 @@ pub(crate) fn is_mistake<S: Store, L: LinkAnswers>(
         (file_of site.now.templates.now) site.now.names.now }
     requires rows { AreWithoutRows (S.graph site.now.store.now)
         site.now.blocks.now.blocks.items site.now.without_rows.now }
+    requires ends { site.now.has_active_end
+        ≡ has_active_end (S.graph site.now.store.now).edges }
     ensures { IfOk result (λ b. IsTrue b ↔ IsMistake (S.graph site.now.store.now)
         (scope_of site.now.blocks.now) (file_of site.now.templates.now) site.now.further.now
         what.now) }
@@ -206,6 +210,7 @@ pub(crate) fn is_mistake<S: Store, L: LinkAnswers>(
         Asked::Step(label) => {
             is_unknown_step(alloc, site.store, site.links, &names.created, label)
         }
-        Asked::Tag => Ok(true),
+        Asked::Tag | Asked::Shown => Ok(true),
+        Asked::Targets => Ok(site.has_active_end),
     }
 }

@@ -2,6 +2,7 @@
 #![tactic(auto)]
 
 mod conditions;
+mod ends;
 mod findings;
 mod gathered;
 mod judged;
@@ -10,7 +11,8 @@ mod lookups;
 mod names;
 mod rows;
 
-pub use findings::findings_of;
+pub use ends::has_active_end;
+pub use findings::{findings_of, is_note};
 pub use judged::LintedSite;
 pub use links::LinkAnswers;
 pub use names::{SiteNames, names_of};

@@ -15,7 +15,7 @@ use query_blocks::{QueryBlocks, root_of};
 use query_scoping::scopes;
 use sd_value::{NoMemory, Str};
 use serve_run::{NO_TALLY, serve_pages};
-use serving_spec::{HubEnd, Served};
+use serving_spec::{CacheRoom, HubEnd, Origin, Served};
 use site_inputs::SiteInputs;
 pub use site_pages::PageSource;
 use site_pages::SitePages;
@@ -28,6 +28,16 @@ fn root_function(alloc: Global, scopes: &QueryBlocks) -> Result<Option<Str>, NoM
 {
     match root_of(scopes) {
         Some(root) => Ok(Some(root.copy(alloc)?)),
+        None => Ok(None),
+    }
+}
+
+// A copy of the text, if there is one.
+fn copied(alloc: Global, text: &Option<Str>) -> Result<Option<Str>, NoMemory>
+    ensures { IfOk result (λ copy. copy ≡ text.now) }
+{
+    match text {
+        Some(text) => Ok(Some(text.copy(alloc)?)),
         None => Ok(None),
     }
 }
@@ -52,7 +62,14 @@ fn serve_inputs<W: Wire>(
     ensures err { OnErr result (wire.new ≡ wire.old) }
 {
     let scopes = scopes(alloc, &inputs.query)?;
-    let root = root_function(alloc, &scopes)?;
+    let origin = Origin {
+        root: root_function(alloc, &scopes)?,
+        hosts: copied(alloc, &limits.hosts)?,
+    };
+    let room = CacheRoom {
+        pages: u64::from(limits.cache),
+        bytes: limits.cache_bytes,
+    };
     let pages = SitePages::of(
         alloc,
         inputs.graph,
@@ -64,10 +81,10 @@ fn serve_inputs<W: Wire>(
     let served = serve_pages(
         alloc,
         pages,
-        root,
+        origin,
         limits.requests,
         limits.turns,
-        u64::from(limits.cache),
+        room,
         wire,
     );
     Ok(served)

@@ -35,16 +35,17 @@ use std::time::Clock;
 use watch::Watch;
 use wire::{Wire, WireEnd, WireEvent};
 
-/// Connections to 127.0.0.1, many at once. A connection is opened only once it has sent something, or its input has ended;
-/// one that sends nothing for long enough (`Waits`) is let go and never opened. Each has its turns: in one it takes what it
-/// has room for of what it was sent, and gives what it has sent up to the end of a request's head. It is open until it is
-/// closed, a send to it fails or it is lost. It is lost where it gives or takes nothing for long enough, or too slowly,
-/// where too many pieces come without a reply, where memory is refused for what it sent, and where the replies that are
-/// queued for all take too much memory and it has taken nothing for longest. A file that is watched is looked at
-/// after each so many connections that ended, when the next one has come and before it is opened. It is read where it may
-/// have changed, and gives a change where it holds another text than at the last read; where the read fails it gives none,
-/// and where it holds a beginning of that text, not while it was changed less than a second ago. The wire reports nothing of what its connections
-/// send, and the count of failed sends of each is at its last value, where every failure counts as a rise.
+/// Connections to 127.0.0.1, many at once. A connection is opened only once it has sent something, or its input has
+/// ended; one that sends nothing for long enough (`Waits`) is let go and never opened. Each has its turns: in one it
+/// takes what it has room for of what it was sent, and gives what it has sent up to the end of a request's head. It is
+/// open until it is closed, a send to it fails or it is lost. It is lost where it gives or takes nothing for long
+/// enough, or too slowly, where too many pieces come without a reply, where memory is refused for what it sent, and
+/// where the replies that are queued for all take too much memory and it has taken nothing for longest. A file that is
+/// watched is looked at after each so many connections that ended, when the next one has come and before it is opened.
+/// It is read where it may have changed, and gives a change where it holds another text than at the last read; where
+/// the read fails it gives none, and where it holds a beginning of that text, not while it was changed less than a
+/// second ago. The wire reports nothing of what its connections send, and the count of failed sends of each is at its
+/// last value, where every failure counts as a rise.
 #[derive(Drop)]
 struct Sockets<'r, R: Net + Clock, F> {
     alloc: Global,

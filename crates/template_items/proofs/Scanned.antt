@@ -1,9 +1,10 @@
 -- What scanning has found so far, and that bytes have no other items.
 use Rattle.std.proofs.Common.{◌≡◌, ℕ, ◌+◌, ◌-◌, ◌<◌, ◌≤◌, List, [], ◌∷◌, ◌++◌, length, drop, refl, sym, ap, subst, ◌∙◌, arith, length-append, append_assoc, Option, Result, Ok, Err}
-use Rattle.std.specs.Prelude.{IfOk, Some, None}
+use Rattle.std.specs.Prelude.{IfOk, IfSome, All, Some, None}
 use Rattle.std.specs.Global.{Vec}
 use Rattle.sd_value.specs.declared.NoMemory.{NoMemory}
-use Rattle.std.proofs.lemmas.List.{length-drop}
+use Rattle.std.proofs.lemmas.List.{length-drop, append-nil}
+use Rattle.std.proofs.lemmas.List.Elements.{All-nil, All-push}
 use Rattle.sd_lex.specs.declared.refusal.LexRefusal.{LexRefusal}
 use Rattle.sd_lex.specs.declared.token.Token.{Token}
 use Rattle.sd_lex.specs.Lexing.{IsTokenOrFault, UnlessNoMemory}
@@ -12,7 +13,7 @@ use Rattle.template_items.specs.declared.item.Item.{Item}
 use Rattle.template_items.specs.declared.item.State.{State}
 use Rattle.template_items.specs.declared.item.Front.{Front}
 use Rattle.template_items.specs.declared.item.Front.TheVariants.{Passes, Finds, Ends}
-use Rattle.template_items.specs.Scanning.{front, last_items, first_state, GoesOn, IsWithin, AreItems, Scans, passes, finds, ends}
+use Rattle.template_items.specs.Scanning.{front, last_items, first_state, GoesOn, IsWithin, EndsWithin, AreItems, Scans, passes, finds, ends}
 
 pub token_within : (at : ℕ) (bytes : List ℕ) (r : Result Token LexRefusal) → at < length bytes → UnlessNoMemory (IsTokenOrFault at (drop at bytes)) r → IfOk r (λ t. (at < t.span.«end») × (t.span.«end» ≤ length bytes))
 token_within at bytes (Ok t) before h =
@@ -27,21 +28,35 @@ pub record Reached (bytes : List ℕ) (s : State) (items : List Item) : Type 0 w
   pub place : s.place ≤ length bytes
   pub few : s.loops ≤ s.place
   pub apart : length items ≤ s.place
+  pub within : All (EndsWithin (length bytes)) items
   pub goes_on : (more : List Item) → Scans bytes s more → Scans bytes first_state (items ++ more)
 
 pub first_reached : (bytes : List ℕ) → Reached bytes first_state []
-first_reached bytes = record { place = omega arith; few = omega arith; apart = omega arith; goes_on = λ more h. h }
+first_reached bytes = record { place = omega arith; few = omega arith; apart = omega arith; within = All-nil (EndsWithin (length bytes)); goes_on = λ more h. h }
 
 pub passes_reached : (bytes : List ℕ) (s next : State) (items : List Item) → Reached bytes s items → (f : Front) → f ≡ Passes next → f ≡ front bytes s → GoesOn (length bytes) s f → Reached bytes next items
 passes_reached bytes s next items so_far f here is on =
     let step : IsWithin (length bytes) s next = subst (GoesOn (length bytes) s) here on in
-    record { place = step.1; few = step.2; apart = omega (arith, so_far.apart, step.0); goes_on = λ more h. so_far.goes_on more (passes next (sym is ∙ here) h) }
+    record { place = step.1; few = step.2; apart = omega (arith, so_far.apart, step.0); within = so_far.within; goes_on = λ more h. so_far.goes_on more (passes next (sym is ∙ here) h) }
+
+last_all : (P : Item → Type 0) (items : List Item) (last : Option Item) → All P items → IfSome last P → All P (items ++ last_items last)
+last_all P items None all its = subst (All P) (sym (append-nil items)) all
+last_all P items (Some item) all its = All-push P items item all its
+
+-- the items end within the bytes
+pub ended_within : (bytes : List ℕ) (s : State) (items : List Item) (last : Option Item) → Reached bytes s items → (f : Front) → f ≡ Ends last → GoesOn (length bytes) s f
+    → (r : Result (Vec Item) NoMemory) → IfOk r (λ v. v.items ≡ items ++ last_items last) → IfOk r (λ v. All (EndsWithin (length bytes)) v.items)
+ended_within bytes s items last so_far f here on (Ok v) is =
+    let its : GoesOn (length bytes) s (Ends last) = subst (GoesOn (length bytes) s) here on in
+    subst (All (EndsWithin (length bytes))) (sym is) (last_all (EndsWithin (length bytes)) items last so_far.within its)
+ended_within bytes s items last so_far f here on (Err e) is = tt
 
 pub finds_reached : (bytes : List ℕ) (s next : State) (items : List Item) (item : Item) → Reached bytes s items → (f : Front) → f ≡ Finds item next → f ≡ front bytes s → GoesOn (length bytes) s f → Reached bytes next (items ++ item ∷ [])
-finds_reached bytes s next items item so_far f here is on = let step : IsWithin (length bytes) s next = subst (GoesOn (length bytes) s) here on in record {
+finds_reached bytes s next items item so_far f here is on = let both : GoesOn (length bytes) s (Finds item next) = subst (GoesOn (length bytes) s) here on in let step : IsWithin (length bytes) s next = both.0 in record {
   place = step.1;
   few = step.2;
   apart = omega (arith, so_far.apart, step.0, length-append items (item ∷ []));
+  within = All-push (EndsWithin (length bytes)) items item so_far.within both.1;
   goes_on = λ more h. subst (Scans bytes first_state) (sym (append_assoc items (item ∷ []) more)) (so_far.goes_on (item ∷ more) (finds item next more (sym is ∙ here) refl h));
 }
 

@@ -1,6 +1,6 @@
 -- How the bytes of a file of templates split into items.
 use Rattle.std.specs.Prelude.{◌≡◌, ℕ, ◌+◌, ◌<◌, ◌≤◌, Bool, true, false, ◌||◌, ◌&&◌, List, [], ◌∷◌, length, take, drop}
-use Rattle.std.specs.Prelude.{codes, nat_eq, nat_le, if◌then◌else◌, Option, Some, None, Result, Ok, Err}
+use Rattle.std.specs.Prelude.{codes, nat_eq, nat_le, if◌then◌else◌, Option, Some, None, IfSome, Result, Ok, Err}
 use Rattle.std.specs.Str.{bytes_eq}
 use Rattle.sd_lex.specs.declared.refusal.LexRefusal.{LexRefusal}
 use Rattle.sd_lex.specs.declared.refusal.LexRefusal.TheVariants.{TooLong, BadByte, OpenString, IntOutOfRange, NoMemory}
@@ -176,7 +176,16 @@ AreItems bytes items = Scans bytes first_state items
 abbrev pub IsWithin : ℕ → State → State → Type 0
 IsWithin n s next = (s.place < next.place) × (next.place ≤ n) × (next.loops ≤ next.place)
 
+-- a text at this place ends within the first `n` bytes
+abbrev pub KindEnds : ℕ → (place : ℕ) → ItemKind → Type 0
+KindEnds n place (kinds.Text t) = place + length t ≤ n
+KindEnds n place kind = Unit {0}
+
+-- the item, if it is a text, ends within the first `n` bytes
+abbrev pub EndsWithin : ℕ → Item → Type 0
+EndsWithin n item = KindEnds n item.place item.kind
+
 abbrev pub GoesOn : ℕ → State → Front → Type 0
 GoesOn n s (Passes next) = IsWithin n s next
-GoesOn n s (Finds item next) = IsWithin n s next
-GoesOn n s (Ends last) = Unit {0}
+GoesOn n s (Finds item next) = IsWithin n s next × EndsWithin n item
+GoesOn n s (Ends last) = IfSome last (EndsWithin n)

@@ -5,4 +5,4 @@ mod item;
 mod scanning;
 
 pub use item::{Item, ItemKind, Mark};
-pub use scanning::{begins_tag, items};
+pub use scanning::{begins_tag, is_blank, items};

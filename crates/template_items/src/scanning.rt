@@ -1,6 +1,6 @@
 //! From bytes to items.
 
-ghost use Rattle.std.specs.Prelude.{◌≡◌, ◌+◌, ◌^◌, ◌<◌, ◌≤◌, ◌-◌, ◌++◌, List, length, take, drop, codes, IfOk, IfSome, Some, None};
+ghost use Rattle.std.specs.Prelude.{◌≡◌, ◌+◌, ◌^◌, ◌<◌, ◌≤◌, ◌-◌, ◌++◌, List, length, take, drop, codes, All, IfOk, IfSome, Some, None};
 ghost use Rattle.std.specs.Option.{is_some};
 ghost use Rattle.sd_lex.specs.Bytes.{is_blank, is_letter};
 ghost use Rattle.sd_lex.specs.Lexing.{GivesTokens};
@@ -9,14 +9,15 @@ ghost use Rattle.template_items.specs.declared.item.Item.{Item as AnyItem};
 ghost use Rattle.template_items.specs.Scanning.{begins, starts_blank, opens, tag_at, text_run, made, fault_at, moved};
 ghost use Rattle.template_items.specs.Scanning.{front_between, behind_tag, front_tag, front_body, front_token};
 ghost use Rattle.template_items.specs.Scanning.{starts_label, fault_place, front_inside, front, first_state};
-ghost use Rattle.template_items.specs.Scanning.{last_items, AreItems, GoesOn, Scans};
+ghost use Rattle.template_items.specs.Scanning.{last_items, AreItems, GoesOn, EndsWithin, Scans};
 
 use crate::item::{Front, Item, ItemKind, Mark, Mode, State};
 use sd_lex::{LexRefusal, Token, token_at};
 use sd_value::{NoMemory, Str};
 use std::alloc::Global;
 
-fn is_blank(b: u8) -> bool
+/// Whether the byte is a blank: a space, a tab, or one that ends a line.
+pub fn is_blank(b: u8) -> bool
     ensures { result ≡ is_blank b }
 {
     b == b' ' || b == b'\t' || b == b'\r' || b == b'\n'
@@ -345,6 +346,7 @@ pub fn items(alloc: Global, bytes: &[u8]) -> Result<Vec<Item>, NoMemory>
     ensures only { (items : List AnyItem) → AreItems bytes.now items
         → IfOk result (λ v. v.items ≡ items) }
     ensures few { IfOk result (λ v. length v.items ≤ length bytes.now + 1) }
+    ensures within { IfOk result (λ v. All (EndsWithin (length bytes.now)) v.items) }
 {
     let mut items = Vec::new(alloc);
     let mut state = State {

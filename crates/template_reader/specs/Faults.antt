@@ -1,5 +1,5 @@
 -- Names that occur twice, tags that are never closed, and what a file of templates is answered.
-use Rattle.std.specs.Prelude.{◌≡◌, ◌⊎◌, ℕ, ◌-◌, ◌≤◌, ◌<◌, Bool, true, false, ◌||◌, List, [], ◌∷◌, ◌++◌, length, take}
+use Rattle.std.specs.Prelude.{◌≡◌, ◌⊎◌, ℕ, ◌-◌, ◌≤◌, ◌<◌, ◌+◌, All, Bool, true, false, ◌||◌, List, [], ◌∷◌, ◌++◌, length, take}
 use Rattle.std.specs.Prelude.{nat_lt, if◌then◌else◌, Option, Some, None, Result, Ok, Err}
 use Rattle.std.specs.Ordering.{eq_by_cmp}
 use Rattle.std.specs.BTreeSet.{contains}
@@ -7,7 +7,7 @@ use Rattle.grammar.specs.Fault.{FirstFault, FirstPast}
 use Rattle.sd_value.specs.Order.{bytes_cmp}
 use Rattle.template_items.specs.declared.item.Item.{Item}
 use Rattle.template_items.specs.declared.item.Mark.TheVariants as marks
-use Rattle.template_items.specs.Scanning.{AreItems}
+use Rattle.template_items.specs.Scanning.{AreItems, EndsWithin}
 use Rattle.tmpl.specs.Body.{TemplateFile}
 use Rattle.tmpl.specs.Reading.{file_of}
 use Rattle.tmpl.specs.declared.Templates.{Templates}
@@ -198,6 +198,18 @@ answer doubled items (Beyond rest) = Err (beyond_answer doubled rest)
 abbrev pub IsItemsAnswer : List Item → Result TemplateFile TmplRefusal → Type 0
 IsItemsAnswer items r =
     (ending : Ending) × IsEnding items ending × (r ≡ answer (twice items) items ending)
+
+-- the items of bytes that are no more than the limit; each text among them ends within the bytes
+pub record AreItemsOf (limit : ℕ) (bytes : List ℕ) (items : List Item) : Type 0 where
+  pub short : length bytes ≤ limit
+  pub are : AreItems bytes items
+  pub few : length items ≤ length bytes + 1
+  pub within : All (EndsWithin (length bytes)) items
+
+-- the bytes are more than the limit, or it was out of memory
+abbrev pub IsTooLong : ℕ → List ℕ → TmplRefusal → Type 0
+IsTooLong limit bytes NoMemory = Unit {0}
+IsTooLong limit bytes e = (limit < length bytes) × (e ≡ TooLong limit)
 
 -- Bytes beyond the limit are too long. Others are answered by their items and how these end.
 abbrev pub IsTemplatesAnswer : ℕ → List ℕ → Result TemplateFile TmplRefusal → Type 0

@@ -10,4 +10,4 @@ mod titles;
 
 pub use laws::a_file_of_templates_has_one_answer;
 pub use refusal::TmplRefusal;
-pub use templates::read_templates;
+pub use templates::{read_items, read_templates, templates_of};

@@ -1,6 +1,6 @@
 //! The reader of a file of templates.
 
-ghost use Rattle.std.specs.Prelude.{◌≡◌, ◌≢◌, ◌<◌, ◌≤◌, ◌^◌, ◌++◌, ◌∷◌, [], List, length, map, IfOk};
+ghost use Rattle.std.specs.Prelude.{◌≡◌, ◌≢◌, ◌<◌, ◌≤◌, ◌^◌, ◌++◌, ◌∷◌, [], List, length, map, IfErr, IfOk};
 ghost use Rattle.template_items.specs.declared.item.Item.{Item as AnyItem};
 ghost use Rattle.template_items.specs.Scanning.{AreItems};
 ghost use Rattle.tmpl.specs.Reading.{file_of};
@@ -9,7 +9,7 @@ ghost use Rattle.template_reader.specs.Reading.{is_block};
 ghost use Rattle.template_reader.specs.Entries.{entry_of, file_from};
 ghost use Rattle.template_reader.specs.Faults.{twice, unless_before, unless_twice, past_at, whole_answer};
 ghost use Rattle.template_reader.specs.Faults.{unfit_answer, beyond_answer, IsItemsAnswer, IsTemplatesAnswer, UnlessNoMemory};
-ghost use Rattle.template_reader.specs.Faults.{GivesTemplates, OrNoMemory};
+ghost use Rattle.template_reader.specs.Faults.{GivesTemplates, OrNoMemory, AreItemsOf, IsTooLong};
 ghost use Rattle.template_reader.specs.Filed.{Filed};
 
 use crate::file::{Entry, file_at};
@@ -169,8 +169,38 @@ fn answer(alloc: Global, items: &[Item], doubled: Option<u64>) -> Result<Templat
     }
 }
 
-/// The templates of a file of at most `limit` bytes, each SFOR of a template numbered from 0 in the order
-/// of the text. The fault with the least place is reported; that a body is not closed only where there is no other.
+/// The items of a file of at most `limit` bytes.
+/// # Errors
+/// A file of more bytes, or out of memory.
+pub fn read_items(alloc: Global, bytes: &[u8], limit: u64) -> Result<Vec<Item>, TmplRefusal>
+    requires { limit < 2 ^ 32 }
+    ensures items { IfOk result (λ v. AreItemsOf limit bytes.now v.items) }
+    ensures only { (items : List AnyItem) → AreItems bytes.now items
+        → IfOk result (λ v. v.items ≡ items) }
+    ensures long { IfErr result (λ e. IsTooLong limit bytes.now e) }
+{
+    if bytes.len() as u64 > limit {
+        return Err(TmplRefusal::TooLong(limit));
+    }
+    Ok(items(alloc, bytes)?)
+}
+
+/// The templates of a file of these items, each SFOR of a template numbered from 0 in the order of the text.
+/// # Errors
+/// The fault with the least place, but that a body is not closed only if there is no other; or out of memory.
+pub fn templates_of(alloc: Global, items: &[Item]) -> Result<Templates, TmplRefusal>
+    requires few { length items.now ≤ 2 ^ 32 }
+    ensures exact { UnlessNoMemory (IsItemsAnswer items.now) result }
+    ensures only { (entries : List PlainEntry) → within items.now entries
+        → GivesTemplates (whole_answer (twice items.now) entries) result }
+{
+    let doubled = twice(alloc, items)?;
+    answer(alloc, items, doubled)
+}
+
+/// The templates of a file of at most `limit` bytes, as `templates_of` has them of its items.
+/// # Errors
+/// Those of `read_items` and then of `templates_of`.
 pub fn read_templates(alloc: Global, bytes: &[u8], limit: u64) -> Result<Templates, TmplRefusal>
     requires { limit < 2 ^ 32 }
     ensures exact { UnlessNoMemory (IsTemplatesAnswer limit bytes.now) result }
@@ -178,10 +208,6 @@ pub fn read_templates(alloc: Global, bytes: &[u8], limit: u64) -> Result<Templat
         → AreItems bytes.now items → within items entries
         → GivesTemplates (whole_answer (twice items) entries) result }
 {
-    if bytes.len() as u64 > limit {
-        return Err(TmplRefusal::TooLong(limit));
-    }
-    let items = items(alloc, bytes)?;
-    let doubled = twice(alloc, items.as_slice())?;
-    answer(alloc, items.as_slice(), doubled)
+    let items = read_items(alloc, bytes, limit)?;
+    templates_of(alloc, &items)
 }

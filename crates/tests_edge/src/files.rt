@@ -51,6 +51,12 @@ enum Step {
     ReadsLong(&'static str, u64, usize),
     // A read fails, and is counted.
     ReadFails(&'static str),
+    // The file is told to have so many bytes.
+    TellsLength(&'static str, u64),
+    // The bytes are written, and then something else is told of the file than before.
+    TellsOther(&'static str, &'static [u8]),
+    // Nothing is told of the file.
+    TellsNothing(&'static str),
     // The bytes are written where the disk was full.
     WritesFull(&'static str, &'static [u8]),
     // A write to the full disk fails, and is counted.
@@ -86,6 +92,19 @@ const STORIES: &[Story] = &[
             Step::ReadFails("none"),
             Step::ReadFails("none/x"),
             Step::ReadFails("."),
+        ],
+    },
+    Story {
+        name: "what is told of a file",
+        folder: "told",
+        steps: &[
+            Step::TellsNothing("file"),
+            Step::Put("file", b"one"),
+            Step::TellsLength("file", 3),
+            Step::TellsOther("file", b"two"),
+            Step::TellsLength("file", 3),
+            Step::PutLong("file"),
+            Step::TellsLength("file", LONG as u64),
         ],
     },
     Story {
@@ -206,7 +225,8 @@ fn name_of(step: &Step) -> &'static str {
         Step::Put(name, _) | Step::PutLong(name) | Step::Link(name, _) => *name,
         Step::Holds(name, _) | Step::IsFile(name) | Step::Writes(name, _) => *name,
         Step::SetsMode(name, _) | Step::HasMode(name, _) => *name,
-        Step::WritesBesideLocked(name, _) => *name,
+        Step::WritesBesideLocked(name, _) | Step::TellsNothing(name) => *name,
+        Step::TellsLength(name, _) | Step::TellsOther(name, _) => *name,
         Step::WritesLong(name) | Step::WriteFails(name) | Step::ReadsLong(name, _, _) => *name,
         Step::ReadFails(name) | Step::WritesFull(name, _) | Step::WriteFullFails(name, _) => *name,
         Step::Names(_) => ".",
@@ -295,6 +315,13 @@ fn read_fails<F: Files>(alloc: Global, files: &mut F, path: &Str) -> bool {
     end == Err(ReadEnd::Failed) && files.read_faults(path) == 1 && files.write_faults(path) == 0
 }
 
+// The bytes are written, and then something else is told of the file than before. Is it so?
+fn tells_other<F: Files>(files: &mut F, path: &Str, bytes: &[u8]) -> bool {
+    let before = files.stamp(path);
+    let is_told = before.is_some() && before == files.stamp(path);
+    is_told && writes(files, path, bytes, 0) && before != files.stamp(path)
+}
+
 // Takes the step, with files of the system of which no call has failed, or with those of the full disk. Does it go as it
 // says?
 fn goes(
@@ -329,6 +356,11 @@ fn goes(
             None => false,
         },
         Step::ReadFails(_) => read_fails(rt.alloc(), files, path),
+        Step::TellsLength(_, length) => {
+            matches!(&files.stamp(path), Some(stamp) if stamp.length == *length)
+        }
+        Step::TellsOther(_, bytes) => tells_other(files, path, bytes),
+        Step::TellsNothing(_) => files.stamp(path).is_none(),
         Step::WritesFull(_, bytes) => writes(full, path, bytes, 1) && holds(rt, at, bytes),
         Step::WriteFullFails(_, bytes) => write_fails(full, path, bytes),
     }

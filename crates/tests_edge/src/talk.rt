@@ -12,10 +12,11 @@ use wire::{Wire, WireEvent};
 
 /// What is done next, or what the wire's next event must be. Clients are numbered from 0 and connections from 1, each as
 /// they come.
+#[derive(Drop)]
 pub enum Step<'a> {
     /// The wire listens, and takes so many connections.
     Listen(u64),
-    /// The wire watches the file, and reads it after each so many connections.
+    /// The wire watches the file, and looks at it after each so many connections.
     Watch(u64),
     /// The watched file is written in its place.
     Write(&'a [u8]),
@@ -126,16 +127,10 @@ fn passes<W: Wire, S: Drop>(
     clients: &mut Vec<S>,
     number: u64,
 ) -> bool {
-    let is_opened = match wire.next(alloc) {
-        Ok(WireEvent::Opened(found)) => found == number,
-        _ => false,
-    };
-    let has_come = match wire.next(alloc) {
-        Ok(WireEvent::Bytes(found, piece)) => found == number && piece.bytes() == b"x".as_slice(),
-        _ => false,
-    };
+    let has_come = is_next(alloc, wire, &Step::Opened(number))
+        && is_next(alloc, wire, &Step::Piece(number, b"x"));
     wire.close(number);
-    is_opened && has_come && clients.pop().is_some()
+    has_come && clients.pop().is_some()
 }
 
 // Renames another file with these bytes over the path. Does it?

@@ -194,7 +194,7 @@ fn check_kept<V: Versions + Drop>(
     let Some(capacity) = NonZeroUsize::new(256) else {
         return Err(Fail::new("no capacity"));
     };
-    let mut cached = Cached::of(alloc, pages, capacity)?;
+    let mut cached = Cached::of(alloc, pages, capacity, 67_108_864)?;
     check_edits(alloc, &mut cached, site, seed, count)
 }
 

@@ -1,6 +1,6 @@
 // Replies to each kind of request.
 use crate::inputs::{check, check_text};
-use crate::requests::{BAD, GET, HEAD, WRONG};
+use crate::requests::{BAD, GET, HEAD, MISDIRECTED, WRONG};
 use http_reply::{NO_MEMORY_REPLY, no_memory_reply, reply};
 use http_spec::ParsedRequest;
 use page_spec::Outcome;
@@ -62,6 +62,14 @@ const REPLIES: &[ReplyRow] = &[
         close: true,
         reply: b"HTTP/1.1 400 Bad Request\r\nContent-Type: text/plain; charset=utf-8\r\nContent-Length: 12\r\n\
             Connection: close\r\n\r\nbad request\n",
+    },
+    ReplyRow {
+        name: "a request for another host",
+        request: MISDIRECTED,
+        asked: Asked::Missing,
+        close: true,
+        reply: b"HTTP/1.1 421 Misdirected Request\r\nContent-Type: text/plain; charset=utf-8\r\nContent-Length: 20\r\n\
+            Connection: close\r\n\r\nmisdirected request\n",
     },
     ReplyRow {
         name: "a wrong method",

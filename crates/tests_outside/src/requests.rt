@@ -2,6 +2,7 @@
 use crate::inputs::{Repeated, are_same, repeated_text};
 use http_reply::Reading;
 use http_spec::{ParsedRequest, RequestKind};
+use sd_value::{NoMemory, Str};
 use std::alloc::Global;
 use std::test::Fail;
 
@@ -34,6 +35,11 @@ const BAD_HEAD: ParsedRequest = request!(BadRequest, true, true);
 /// A method that is not served.
 pub const WRONG: ParsedRequest = request!(WrongMethod, false, true);
 
+/// A request for another host.
+pub const MISDIRECTED: ParsedRequest = request!(Misdirected, false, true);
+
+const MISDIRECTED_HEAD: ParsedRequest = request!(Misdirected, true, true);
+
 const HEAD_OF_LETTERS: &[u8] = b"GET / HTTP/1.1\r\nHost: a\r\nX: ";
 
 const HEAD_OF_LINES: &[u8] = b"GET / HTTP/1.1\r\nHost: a\r\n";
@@ -52,14 +58,16 @@ enum Step {
     End(Option<ParsedRequest>),
 }
 
-// What one reading is fed.
+// What one reading is fed, and the hosts whose requests are answered, if not all are.
 struct Script {
+    hosts: Option<&'static [u8]>,
     name: &'static str,
     steps: &'static [Step],
 }
 
 const SCRIPTS: &[Script] = &[
     Script {
+        hosts: None,
         name: "heads",
         steps: &[
             Step::Feed(b"\r\n\n\r\nGET / HTTP/1.1\nhOST:\n\n", Some(GET)),
@@ -98,6 +106,45 @@ const SCRIPTS: &[Script] = &[
         ],
     },
     Script {
+        hosts: Some(b"a,b.example,[::1]"),
+        name: "hosts",
+        steps: &[
+            Step::Feed(b"GET / HTTP/1.1\r\nHost: A:8080\r\n\r\n", Some(GET)),
+            Step::Feed(b"GET / HTTP/1.1\r\nhost:\tB.Example \r\n\r\n", Some(GET)),
+            Step::Feed(b"GET / HTTP/1.1\r\nHost: [::1]:80\r\n\r\n", Some(GET)),
+            Step::Feed(b"GET / HTTP/1.1\r\nHost: a:\r\n\r\n", Some(GET)),
+            Step::Feed(b"GET / HTTP/1.0\r\n\r\n", Some(GET_AND_CLOSE)),
+            Step::Feed(b"GET / HTTP/1.1\r\nHost: evil\r\n\r\n", Some(MISDIRECTED)),
+            Step::Feed(b"GET / HTTP/1.0\r\nHost: evil\r\n\r\n", Some(MISDIRECTED)),
+            Step::Feed(b"GET / HTTP/1.1\r\nHost: ab\r\n\r\n", Some(MISDIRECTED)),
+            Step::Feed(b"GET / HTTP/1.1\r\nHost: a:8x\r\n\r\n", Some(MISDIRECTED)),
+            Step::Feed(
+                b"GET / HTTP/1.1\r\nHost: a.b.example\r\n\r\n",
+                Some(MISDIRECTED),
+            ),
+            Step::Feed(
+                b"GET / HTTP/1.1\r\nHost: a,b.example\r\n\r\n",
+                Some(MISDIRECTED),
+            ),
+            Step::Feed(b"GET / HTTP/1.1\r\nHost:\r\n\r\n", Some(MISDIRECTED)),
+            Step::Feed(
+                b"HEAD / HTTP/1.1\r\nHost: evil\r\n\r\n",
+                Some(MISDIRECTED_HEAD),
+            ),
+            Step::Feed(
+                b"POST / HTTP/1.1\r\nHost: evil\r\nContent-Length: 3\r\n\r\n",
+                Some(MISDIRECTED),
+            ),
+            Step::Feed(b"POST / HTTP/1.1\r\nHost: a\r\n\r\n", Some(WRONG)),
+            Step::Feed(
+                b"GET / HTTP/1.1\r\nHost: evil\r\nHost: a\r\n\r\n",
+                Some(BAD),
+            ),
+            Step::Feed(b"GET / HTTP/1.1\r\n\r\n", Some(BAD)),
+        ],
+    },
+    Script {
+        hosts: None,
         name: "targets",
         steps: &[
             Step::Feed(
@@ -113,6 +160,7 @@ const SCRIPTS: &[Script] = &[
         ],
     },
     Script {
+        hosts: None,
         name: "a head byte by byte",
         steps: &[
             Step::FeedBytes(b"GET /YearPage/i1998.html HTTP/1.1\r\nHost: a\r\n\r"),
@@ -122,6 +170,7 @@ const SCRIPTS: &[Script] = &[
         ],
     },
     Script {
+        hosts: None,
         name: "heads of the greatest length and past it",
         steps: &[
             Step::FeedRepeated(
@@ -163,6 +212,7 @@ const SCRIPTS: &[Script] = &[
         ],
     },
     Script {
+        hosts: None,
         name: "lines beside the Host line, as many as may be and one more",
         steps: &[
             Step::FeedRepeated(
@@ -188,6 +238,7 @@ const SCRIPTS: &[Script] = &[
         ],
     },
     Script {
+        hosts: None,
         name: "what is left at the end",
         steps: &[
             Step::Feed(b"GET / HT", None),
@@ -203,15 +254,20 @@ const SCRIPTS: &[Script] = &[
 ];
 
 // Feeds the text. Is all of it taken, and does it end a head of this request?
-fn is_fed(reading: &mut Reading, text: &[u8], request: Option<ParsedRequest>) -> bool {
-    let fed = reading.feed(text);
+fn is_fed(
+    reading: &mut Reading,
+    text: &[u8],
+    hosts: &Option<Str>,
+    request: Option<ParsedRequest>,
+) -> bool {
+    let fed = reading.feed(text, hosts);
     fed.taken == text.len() && fed.ask == request
 }
 
 // Feeds the bytes one at a time. Are they taken, and does none end a head?
-fn are_fed(reading: &mut Reading, bytes: &[u8]) -> bool {
+fn are_fed(reading: &mut Reading, bytes: &[u8], hosts: &Option<Str>) -> bool {
     for byte in bytes.chunks(1) {
-        if !is_fed(reading, byte, None) {
+        if !is_fed(reading, byte, hosts, None) {
             return false;
         }
     }
@@ -219,23 +275,31 @@ fn are_fed(reading: &mut Reading, bytes: &[u8]) -> bool {
 }
 
 // Takes the step. Does it go as it says?
-fn goes(alloc: Global, reading: &mut Reading, step: &Step) -> bool {
+fn goes(alloc: Global, reading: &mut Reading, hosts: &Option<Str>, step: &Step) -> bool {
     match step {
-        Step::Feed(text, request) => is_fed(reading, text, *request),
+        Step::Feed(text, request) => is_fed(reading, text, hosts, *request),
         Step::FeedRepeated(text, request) => match repeated_text(alloc, text) {
-            Ok(text) => is_fed(reading, &text, *request),
+            Ok(text) => is_fed(reading, &text, hosts, *request),
             Err(_) => false,
         },
-        Step::FeedBytes(bytes) => are_fed(reading, bytes),
+        Step::FeedBytes(bytes) => are_fed(reading, bytes, hosts),
         Step::Target(target) => are_same(reading.target(), target),
         Step::End(request) => reading.end() == *request,
     }
 }
 
+fn hosts_of(alloc: Global, script: &Script) -> Result<Option<Str>, NoMemory> {
+    match script.hosts {
+        Some(hosts) => Ok(Some(Str::new(alloc, hosts)?)),
+        None => Ok(None),
+    }
+}
+
 fn take_script(alloc: Global, script: &Script) -> Result<(), Fail> {
+    let hosts = hosts_of(alloc, script)?;
     let mut reading = Reading::new(alloc)?;
     for (place, step) in script.steps.iter().enumerate() {
-        if !goes(alloc, &mut reading, step) {
+        if !goes(alloc, &mut reading, &hosts, step) {
             return Err(Fail::new(format_args!("{}: step {place}", script.name)));
         }
     }

@@ -1,14 +1,17 @@
 //! What the items of a file of templates ask for.
 
-ghost use Rattle.std.specs.Prelude.{◌≡◌, ◌++◌, IfOk};
-ghost use Rattle.lint_spec.specs.TemplateClaims.{item_claims, before_next, template_claims};
+ghost use Rattle.std.specs.Prelude.{◌≡◌, ◌++◌, All, IfOk};
+ghost use Rattle.lint_spec.specs.TemplateClaims.{item_claims, known, before_next, template_claims};
+ghost use Rattle.template_items.specs.Scanning.{EndsWithin};
+ghost use Rattle.text_claims.specs.Limits.{text_end};
 
+use crate::markup::{after_text, after_value};
 use crate::tags::push_tags;
 use crate::words::{
-    is_word_setting, push_collection, push_of_page, push_step, push_title, push_word,
-    title_function,
+    is_word_setting, push_collection, push_of_page, push_shown, push_step, push_targets,
+    push_title, push_word, title_function,
 };
-use lint_spec::{Before, Claim};
+use lint_spec::{Before, Claim, Markup};
 use sd_lex::{Sign, TokenKind};
 use sd_value::{NoMemory, Str};
 use std::alloc::Global;
@@ -29,6 +32,7 @@ fn push_mark(
 {
     match mark {
         Mark::OpenTemplate => push_title(alloc, found, later),
+        Mark::OpenFormat => push_shown(found, before.markup, item.place),
         Mark::HereOf => push_of_page(alloc, found, &before.function, later),
         Mark::Hash => push_collection(alloc, found, later),
         _ => Ok(()),
@@ -48,7 +52,11 @@ fn push_name(
     ensures { IfOk result (λ _. found.new.items ≡ found.old.items
         ++ item_claims before.now item.now.kind item.now.place later.now) }
 {
-    if !before.labelled && is_word_setting(name) {
+    if before.labelled {
+        return Ok(());
+    }
+    push_targets(found, name, item.place)?;
+    if is_word_setting(name) {
         push_word(alloc, found, later)
     } else {
         Ok(())
@@ -63,6 +71,7 @@ fn push_item(
     item: &Item,
     later: &[Item],
 ) -> Result<(), NoMemory>
+    requires { EndsWithin text_end item.now }
     ensures { IfOk result (λ _. found.new.items ≡ found.old.items
         ++ item_claims before.now item.now.kind item.now.place later.now) }
 {
@@ -80,56 +89,62 @@ fn push_item(
     }
 }
 
-// What is known behind an item.
-fn next(alloc: Global, before: Before, item: &Item, later: &[Item]) -> Result<Before, NoMemory>
-    ensures { IfOk result (λ b. b ≡ before_next before item.now.kind later.now) }
+// What is known further on in a template.
+fn known(before: Before, labelled: bool, markup: Markup) -> Before
+    ensures { result ≡ known before labelled markup }
 {
     let Before {
         function,
         labelled: _,
+        markup: _,
     } = before;
+    Before {
+        function,
+        labelled,
+        markup,
+    }
+}
+
+// What is known behind an item.
+fn next(alloc: Global, before: Before, item: &Item, later: &[Item]) -> Result<Before, NoMemory>
+    ensures { IfOk result (λ b. b ≡ before_next before item.now.kind later.now) }
+{
+    let place = before.markup;
     match &item.kind {
+        ItemKind::Text(text) => Ok(known(before, false, after_text(place, text.bytes()))),
         ItemKind::Mark(mark) => match *mark {
             Mark::OpenTemplate => Ok(Before {
                 function: title_function(alloc, later)?,
                 labelled: false,
+                markup: Markup::Content,
             }),
-            Mark::HereOf | Mark::Hash => Ok(Before {
-                function,
-                labelled: true,
-            }),
-            _ => Ok(Before {
-                function,
-                labelled: false,
-            }),
+            Mark::OpenFormat => Ok(known(before, false, after_value(place))),
+            Mark::HereOf | Mark::Hash => Ok(known(before, true, place)),
+            _ => Ok(known(before, false, place)),
         },
-        ItemKind::Token(TokenKind::Sign(sign)) => match *sign {
-            Sign::Dot => Ok(Before {
-                function,
-                labelled: true,
-            }),
-            _ => Ok(Before {
-                function,
-                labelled: false,
-            }),
+        ItemKind::Token(token) => match token {
+            TokenKind::Sign(sign) => match *sign {
+                Sign::Dot => Ok(known(before, true, place)),
+                _ => Ok(known(before, false, place)),
+            },
+            _ => Ok(known(before, false, place)),
         },
-        _ => Ok(Before {
-            function,
-            labelled: false,
-        }),
     }
 }
 
-/// All that a file of templates asks for, by its items, in their order.
+/// All that a file of templates asks for, by its items, in their order. The texts among them end within a text of fewer
+/// bytes than 64 bits number.
 /// # Errors
 /// Out of memory.
 pub fn claims_of_templates(alloc: Global, items: &[Item]) -> Result<Vec<Claim>, NoMemory>
+    requires { All (EndsWithin text_end) items.now }
     ensures { IfOk result (λ found. found.items ≡ template_claims items.now) }
 {
     let mut found = Vec::new(alloc);
     let mut before = Before {
         function: None,
         labelled: false,
+        markup: Markup::Content,
     };
     let mut rest = items;
     'items: loop {

@@ -6,6 +6,7 @@ mod claims;
 mod clauses;
 mod conditions;
 mod further;
+mod markup;
 mod tags;
 mod words;
 

@@ -1,6 +1,6 @@
 //! Tags that are spelled in other letters.
 
-ghost use Rattle.std.specs.Prelude.{◌≡◌, ◌++◌, IfOk, map};
+ghost use Rattle.std.specs.Prelude.{◌≡◌, ◌+◌, ◌<◌, ◌^◌, ◌++◌, IfOk, length, map};
 ghost use Rattle.std.specs.Char.{to_ascii_uppercase};
 ghost use Rattle.lint_spec.specs.TemplateClaims.{tags_from, tag_claims};
 
@@ -12,6 +12,7 @@ use template_items::begins_tag;
 
 // Adds the tags with which a text begins at any of its bytes.
 fn push_from(found: &mut Vec<Claim>, at: u64, bytes: &[u8]) -> Result<(), NoMemory>
+    requires { at + length bytes.now < 2 ^ 64 }
     ensures { IfOk result (λ _. found.new.items ≡ found.old.items ++ tags_from at bytes.now) }
 {
     let mut place = at;
@@ -23,11 +24,7 @@ fn push_from(found: &mut Vec<Claim>, at: u64, bytes: &[u8]) -> Result<(), NoMemo
         if begins_tag(rest) {
             push(found, Asked::Tag, place)?;
         }
-        // A text's places are below its length, so they don't run out.
-        let Some(next) = place.checked_add(1) else {
-            return Err(NoMemory);
-        };
-        place = next;
+        place += 1;
         rest = later;
     }
 }
@@ -50,6 +47,7 @@ pub(crate) fn push_tags(
     at: u64,
     text: &[u8],
 ) -> Result<(), NoMemory>
+    requires { at + length text.now < 2 ^ 64 }
     ensures { IfOk result (λ _. found.new.items ≡ found.old.items ++ tag_claims at text.now) }
 {
     let capitals = capitals(alloc, text)?;

@@ -6,9 +6,10 @@ ghost use Rattle.lint_spec.specs.QueryClaims.{claim};
 ghost use Rattle.lint_spec.specs.TemplateClaims.{name_of, label_of, is_equals as equals};
 ghost use Rattle.lint_spec.specs.TemplateClaims.{label_claims, word_claims, of_page};
 ghost use Rattle.lint_spec.specs.TemplateClaims.{is_word_setting as word_setting};
-ghost use Rattle.lint_spec.specs.TemplateClaims.{has_label, title_function, title_claims};
+ghost use Rattle.lint_spec.specs.TemplateClaims.{has_label, title_function, title_claims, shown_claims, target_claims};
 
-use lint_spec::{Asked, Claim};
+use crate::markup::is_unsafe;
+use lint_spec::{Asked, Claim, Markup};
 use sd_lex::{Sign, TokenKind};
 use sd_value::{NoMemory, Str};
 use std::alloc::Global;
@@ -196,5 +197,27 @@ pub(crate) fn push_title(
             Some(function) => push(found, Asked::Presented(function), first.place),
             None => Ok(()),
         },
+    }
+}
+
+/// Adds a tag that shows a value at such a place, if what is shown there may be read as more than text.
+pub(crate) fn push_shown(found: &mut Vec<Claim>, place: Markup, at: u64) -> Result<(), NoMemory>
+    ensures { IfOk result (λ _. found.new.items ≡ found.old.items ++ shown_claims place at) }
+{
+    if is_unsafe(place) {
+        push(found, Asked::Shown, at)
+    } else {
+        Ok(())
+    }
+}
+
+/// Adds what LINK asks for, if the name is it.
+pub(crate) fn push_targets(found: &mut Vec<Claim>, name: &Str, at: u64) -> Result<(), NoMemory>
+    ensures { IfOk result (λ _. found.new.items ≡ found.old.items ++ target_claims name.now at) }
+{
+    if name.bytes() == b"LINK".as_slice() {
+        push(found, Asked::Targets, at)
+    } else {
+        Ok(())
     }
 }

@@ -8,12 +8,17 @@ use Rattle.page_spec.specs.Page.{IsOutcome, PageAt}
 use Rattle.page_spec.specs.Site.{Site}
 use Rattle.serving_spec.specs.Made.{NamedBy, AllLooked}
 use Rattle.serving_spec.specs.Looks.{Kept, LooksIn}
+use Rattle.serving_spec.specs.declared.CacheRoom.{CacheRoom}
 use Rattle.trial_spec.specs.Numbers.{counts_of, lines_of}
 use Rattle.trial_spec.specs.Requests.{targets}
 
--- nothing is kept yet, and there is room for 256 pages
+-- the room for pages of a trial
+abbrev pub trial_room : CacheRoom
+trial_room = record { pages = 256; bytes = 67108864 }
+
+-- nothing is kept yet
 abbrev pub none_kept : Kept
-none_kept = record { capacity = 256; terms = []; hits = 0 }
+none_kept = record { room = trial_room; pages = []; hits = 0 }
 
 module _ (root : Option (List ℕ)) (s : Site) (f : TemplateFile) where
   -- A target was asked for: the outcome that it has, and what is kept of the pages before and after its term, if it has

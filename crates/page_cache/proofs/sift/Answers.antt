@@ -4,18 +4,22 @@ use Rattle.page_cache.proofs.LookLemmas.{sift_step, sift_end, length_keys}
 use Rattle.page_cache.proofs.sift.Goals as goal
 
 pub loop-i-init : goal.loop-i-init
-loop-i-init c = ap (λ es. lru_cache es c.args.kept.now.cap) (sym (append-nil c.args.kept.now.entries))
+loop-i-init c = (ap (λ es. lru_cache es c.args.kept.now.cap) (sym (append-nil c.args.kept.now.entries)), c.requires.all)
 
 pub loop-i-preserved : goal.loop-i-preserved
 loop-i-preserved c =
     let es = c.args.kept.now.entries in
     let same : length c.args.terms.now ≡ length es = ap length c.requires.terms ∙ length_keys es in
-    sift_step es c.args.kept.now.cap c.loop-i.i c.args.flags.now c.index-terms-i.result _ _ c.index-terms-i.result c.loop-i.kept c.turn.new.kept
-    (omega (arith, same, c.loop-i-test.true)) (c.requires.flags ∙ same)
-    (c.index-terms-i.is ∙ ap (λ ks. get_or ks c.loop-i.i c.index-terms-i.result) c.requires.terms) refl c.loop-i.invariant c.turn.ensures
+    let turned = c.turn-bytes.ensures.bytes in
+    let before = c.loop-i.invariant.1 in (
+      sift_step es c.args.kept.now.cap c.loop-i.i c.args.flags.now c.index-terms-i.result _ _ c.index-terms-i.result c.loop-i.kept c.turn-bytes.new.kept
+          (omega (arith, same, c.loop-i-test.true)) (c.requires.flags ∙ same)
+          (c.index-terms-i.is ∙ ap (λ ks. get_or ks c.loop-i.i c.index-terms-i.result) c.requires.terms) refl c.loop-i.invariant.0 c.turn-bytes.ensures.entries,
+      omega (arith, turned, before),
+    )
 
-pub returns : goal.returns
-returns c =
+pub returns-clause-entries : goal.returns-clause-entries
+returns-clause-entries c =
     let es = c.args.kept.now.entries in
     let same : length c.args.terms.now ≡ length es = ap length c.requires.terms ∙ length_keys es in
-    sift_end es c.args.kept.now.cap c.loop-i.i c.args.flags.now c.loop-i.kept (omega (arith, same, c.loop-i-test.false, c.loop-i.auto.i-end)) (c.requires.flags ∙ same) c.loop-i.invariant
+    sift_end es c.args.kept.now.cap c.loop-i.i c.args.flags.now c.loop-i.kept (omega (arith, same, c.loop-i-test.false, c.loop-i.auto.i-end)) (c.requires.flags ∙ same) c.loop-i.invariant.0

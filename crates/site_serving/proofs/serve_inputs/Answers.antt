@@ -6,7 +6,9 @@ use Rattle.site_spec.specs.Site.{Scope}
 use Rattle.site_inputs.specs.Values.{inputs_of}
 use Rattle.site_pages.specs.Rules.{the_rules}
 use Rattle.site_pages.specs.Texts.{Current, current_site, current_templates, data_texts}
-use Rattle.site_serving.specs.Served.{first_data}
+use Rattle.site_serving.specs.Served.{first_data, room_of}
+use Rattle.serving_spec.specs.declared.CacheRoom.{CacheRoom}
+use Rattle.serving_spec.specs.declared.Origin.{Origin}
 use Rattle.site_serving.proofs.serve_inputs.Goals as goal
 
 pub returns-clause-steps : goal.returns-clause-steps
@@ -21,7 +23,10 @@ returns-clause-steps g c =
     c.in_ok-root.ensures ∙ ap (λ s. root_of_bodies s.bodies) c.in_ok-scopes.ensures.scope in
     let start = first_data (inputs_of c.args.inputs) in
     let is_start = c.in_ok-pages.ensures.state ∙ ap (λ (scope : Scope). record { first = start.first; pages = record { graph = start.pages.graph; scope = scope; templates = start.pages.templates } }) c.in_ok-scopes.ensures.scope in
-    subst (λ (r : Option (List ℕ)). HappensInSteps r current_site current_templates (data_texts the_rules) start limits.requests limits.turns limits.cache old new served before after) is_root
-    (subst (λ (kept : ℕ). HappensInSteps c.in_ok-root.root current_site current_templates (data_texts the_rules) start limits.requests limits.turns kept old new served before after) c.from.ensures
-    (subst (λ (d : Current). HappensInSteps c.in_ok-root.root current_site current_templates (data_texts the_rules) d limits.requests limits.turns c.from.result old new served before after) is_start
-    c.serve_pages-served.ensures.steps))
+    let first : Origin = record { root = c.in_ok-root.root; hosts = c.in_ok-hosts.hosts } in
+    let kept : CacheRoom = record { pages = c.from.result; bytes = limits.cache_bytes } in
+    subst (λ (r : Option (List ℕ)). HappensInSteps (record { root = r; hosts = limits.hosts }) current_site current_templates (data_texts the_rules) start limits.requests limits.turns (room_of limits) old new served before after) is_root
+    (subst (λ (h : Option (List ℕ)). HappensInSteps (record { root = c.in_ok-root.root; hosts = h }) current_site current_templates (data_texts the_rules) start limits.requests limits.turns (room_of limits) old new served before after) c.in_ok-hosts.ensures
+    (subst (λ (n : ℕ). HappensInSteps first current_site current_templates (data_texts the_rules) start limits.requests limits.turns (record { pages = n; bytes = limits.cache_bytes }) old new served before after) c.from.ensures
+    (subst (λ (d : Current). HappensInSteps first current_site current_templates (data_texts the_rules) d limits.requests limits.turns kept old new served before after) is_start
+    c.serve_pages-served.ensures.steps)))

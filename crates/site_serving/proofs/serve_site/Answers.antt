@@ -1,16 +1,15 @@
-use Rattle.site_spec.specs.Root.{root_function}
 use Rattle.site_inputs.specs.Values.{inputs_of}
 use Rattle.serve_run.proofs.ServingLemmas.{serves_nothing, no_steps_happen}
 use Rattle.site_pages.specs.Rules.{the_rules}
 use Rattle.site_pages.specs.Texts.{current_site, current_templates, data_texts}
-use Rattle.site_serving.specs.Served.{first_data}
+use Rattle.site_serving.specs.Served.{first_data, origin_of, room_of}
 use Rattle.site_serving.proofs.serve_site.Goals as goal
 
 pub returns-in-Err-clause-serves : goal.returns-in-Err-clause-serves
 returns-in-Err-clause-serves g c =
     rw c.in-Err.ensures.err (
       the_rules,
-      serves_nothing (root_function c.args.inputs.query) current_site current_templates (data_texts the_rules) (first_data (inputs_of c.args.inputs)) c.args.limits.now.requests c.args.limits.now.turns c.args.limits.now.cache
+      serves_nothing (origin_of (inputs_of c.args.inputs) c.args.limits.now) current_site current_templates (data_texts the_rules) (first_data (inputs_of c.args.inputs)) c.args.limits.now.requests c.args.limits.now.turns (room_of c.args.limits.now)
           (g.W.Wire.told c.args.wire.now),
     )
 
@@ -18,7 +17,7 @@ pub returns-in-Err-clause-steps : goal.returns-in-Err-clause-steps
 returns-in-Err-clause-steps g c =
     rw c.in-Err.ensures.err (
       the_rules,
-      no_steps_happen (root_function c.args.inputs.query) current_site current_templates (data_texts the_rules) (first_data (inputs_of c.args.inputs)) c.args.limits.now.requests c.args.limits.now.turns c.args.limits.now.cache
+      no_steps_happen (origin_of (inputs_of c.args.inputs) c.args.limits.now) current_site current_templates (data_texts the_rules) (first_data (inputs_of c.args.inputs)) c.args.limits.now.requests c.args.limits.now.turns (room_of c.args.limits.now)
           (g.W.Wire.told c.args.wire.now) (g.W.Wire.trace c.args.wire.now),
     )
 

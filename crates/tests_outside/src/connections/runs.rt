@@ -1,6 +1,6 @@
 // Runs of a hub over a wire in memory.
 use super::no_pages::NoPages;
-use super::socket::{MISSING, REQUEST};
+use super::socket::{ANY, MISSING, REQUEST};
 use crate::inputs::{Repeated, are_same, check, push_all, repeated_text, wire_of};
 use hub::{Hub, HubEnd, Tally, serve};
 use mem_wire::{FailingSend, MemWire};
@@ -222,7 +222,7 @@ fn is_served(alloc: Global, wire: &mut MemWire, requests: u64) -> bool {
     if requests == 0 {
         return false;
     }
-    let mut hub = Hub::of(alloc, Still { pages: NoPages }, requests, None);
+    let mut hub = Hub::of(alloc, Still { pages: NoPages }, requests, ANY);
     serve(alloc, &mut hub, wire, 1000) == HubEnd::Done
 }
 
@@ -231,10 +231,10 @@ fn is_served_kept(alloc: Global, wire: &mut MemWire, kept: &Kept) -> bool {
     let Some(capacity) = NonZeroUsize::new(kept.capacity) else {
         return false;
     };
-    let Ok(pages) = Cached::of(alloc, Still { pages: NoPages }, capacity) else {
+    let Ok(pages) = Cached::of(alloc, Still { pages: NoPages }, capacity, 65_536) else {
         return false;
     };
-    let mut hub = Hub::of(alloc, pages, 1, None);
+    let mut hub = Hub::of(alloc, pages, 1, ANY);
     serve(alloc, &mut hub, wire, 1000) == HubEnd::Done && hub.tally() == kept.tally
 }
 

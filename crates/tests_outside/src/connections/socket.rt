@@ -2,7 +2,7 @@
 use super::no_pages::NoPages;
 use crate::inputs::check;
 use edge_io::{LockFile, RealFiles};
-use hub::{Hub, HubEnd, serve};
+use hub::{Hub, HubEnd, Origin, serve};
 use std::io::{Read, Write};
 use std::net::{Ipv4Addr, Net, SocketAddr, SocketAddrV4, TcpStream};
 use std::rt::Files;
@@ -44,13 +44,19 @@ where
     }
 }
 
+/// Any host, and no root.
+pub const ANY: Origin = Origin {
+    root: None,
+    hosts: None,
+};
+
 // One thread is client and server: the system keeps what a connection sends until it is taken.
 #[test]
 fn a_request_over_a_socket_has_its_reply(rt: HostRuntime) -> Result<(), Fail> {
     let alloc = rt.alloc();
     let mut wire = TcpWire::new(alloc, &rt, RealFiles::new(&rt, 0), WAITS, 1);
     let mut client = asking(&rt, &mut wire).ok_or("no socket")?;
-    let mut hub = Hub::of(alloc, Still { pages: NoPages }, 1, None);
+    let mut hub = Hub::of(alloc, Still { pages: NoPages }, 1, ANY);
     let end = serve(alloc, &mut hub, &mut wire, 1000);
     let mut taken = Vec::new(alloc);
     let is_read = client.read_to_end(&mut taken).is_ok();

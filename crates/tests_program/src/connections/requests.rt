@@ -108,6 +108,44 @@ const EXCHANGES: &[Exchange] = &[
         sent: HOME,
         ..ONE_REPLY
     },
+    // Hosts: of those that are answered, without case and whatever the port, and of another one.
+    Exchange {
+        name: "one of the hosts",
+        replay: &["replay", "--host", "b,A.example", "q", "t", "s", "d"],
+        serve: &["serve", "--host", "b,A.example", "q", "t", "d"],
+        script: &[Part {
+            text: "open 1 bytes 1 \"GET /YearPage/i1998.html HTTP/1.1\\r\\nHost: a.EXAMPLE:8080\\r\\n\\r\\n\"",
+            count: 1,
+        }],
+        length: "154",
+        sent: YEAR,
+        ..ONE_REPLY
+    },
+    Exchange {
+        name: "another host",
+        replay: &[
+            "replay",
+            "--requests=2",
+            "--host=b,a.example",
+            "q",
+            "t",
+            "s",
+            "d",
+        ],
+        serve: &["serve", "--requests=2", "--host=b,a.example", "q", "t", "d"],
+        script: &[Part {
+            text: "open 1 bytes 1 \"GET / HTTP/1.1\\r\\nHost: rebound.example:8080\\r\\n\\r\\n\"",
+            count: 1,
+        }],
+        length: "136",
+        sent: &[Taken {
+            connection: 1,
+            bytes: "HTTP/1.1 421 Misdirected Request\r\nContent-Type: text/plain; charset=utf-8\r\n\
+                Content-Length: 20\r\nConnection: close\r\n\r\nmisdirected request\n",
+            is_closed: true,
+        }],
+        ..ONE_REPLY
+    },
     // Other methods, and bodies.
     Exchange {
         name: "POST",
@@ -186,6 +224,85 @@ const EXCHANGES: &[Exchange] = &[
             is_closed: true,
         }],
         counts: "connections 1\nreplies 2\nhits 1\n",
+        ..ONE_REPLY
+    },
+    // The page has 56 bytes: it is kept if there is room for as many.
+    Exchange {
+        name: "room for the page",
+        replay: &[
+            "replay",
+            "--requests",
+            "2",
+            "--cache-bytes=56",
+            "q",
+            "t",
+            "s",
+            "d",
+        ],
+        serve: &[
+            "serve",
+            "--requests",
+            "2",
+            "--cache-bytes=56",
+            "q",
+            "t",
+            "d",
+        ],
+        script: &[Part {
+            text: "open 1 bytes 1 \"GET /YearPage/i1998.html HTTP/1.1\\r\\nHost: a\\r\\n\\r\\nGET \
+                /YearPage/i1998.html HTTP/1.1\\r\\nHost: a\\r\\n\\r\\n\"",
+            count: 1,
+        }],
+        length: "313",
+        sent: &[Taken {
+            connection: 1,
+            bytes: "HTTP/1.1 200 OK\r\nContent-Type: text/html; charset=utf-8\r\nContent-Length: 56\r\n\
+                Connection: keep-alive\r\n\r\n<h1>1998</h1><a \
+                href=\"/PaperPage/npub1.html\">Strudel</a>HTTP/1.1 200 OK\r\nContent-Type: text/html; \
+                charset=utf-8\r\nContent-Length: 56\r\nConnection: close\r\n\r\n<h1>1998</h1><a \
+                href=\"/PaperPage/npub1.html\">Strudel</a>",
+            is_closed: true,
+        }],
+        counts: "connections 1\nreplies 2\nhits 1\n",
+        ..ONE_REPLY
+    },
+    Exchange {
+        name: "no room for the page",
+        replay: &[
+            "replay",
+            "--requests",
+            "2",
+            "--cache-bytes=55",
+            "q",
+            "t",
+            "s",
+            "d",
+        ],
+        serve: &[
+            "serve",
+            "--requests",
+            "2",
+            "--cache-bytes=55",
+            "q",
+            "t",
+            "d",
+        ],
+        script: &[Part {
+            text: "open 1 bytes 1 \"GET /YearPage/i1998.html HTTP/1.1\\r\\nHost: a\\r\\n\\r\\nGET \
+                /YearPage/i1998.html HTTP/1.1\\r\\nHost: a\\r\\n\\r\\n\"",
+            count: 1,
+        }],
+        length: "313",
+        sent: &[Taken {
+            connection: 1,
+            bytes: "HTTP/1.1 200 OK\r\nContent-Type: text/html; charset=utf-8\r\nContent-Length: 56\r\n\
+                Connection: keep-alive\r\n\r\n<h1>1998</h1><a \
+                href=\"/PaperPage/npub1.html\">Strudel</a>HTTP/1.1 200 OK\r\nContent-Type: text/html; \
+                charset=utf-8\r\nContent-Length: 56\r\nConnection: close\r\n\r\n<h1>1998</h1><a \
+                href=\"/PaperPage/npub1.html\">Strudel</a>",
+            is_closed: true,
+        }],
+        counts: "connections 1\nreplies 2\nhits 0\n",
         ..ONE_REPLY
     },
     Exchange {

@@ -129,7 +129,7 @@ const COMMANDS: &[CommandRow] = &[
     },
     CommandRow {
         words: &["serve", "q", "t", "a", "b"],
-        command: "serve q t a b 8080 4294967296 1 4294967296 256 5000 10000 16384",
+        command: "serve q t a b 8080 4294967296 1 4294967296 256 67108864 5000 10000 16384",
     },
     CommandRow {
         words: &[
@@ -145,47 +145,78 @@ const COMMANDS: &[CommandRow] = &[
             "--",
             "--port",
         ],
-        command: "serve q t --port 65535 4294967296 1 4294967296 4096 5000 10000 16384",
+        command: "serve q t --port 65535 4294967296 1 4294967296 4096 67108864 5000 10000 16384",
     },
     CommandRow {
         words: &["replay", "q", "t", "s", "a"],
-        command: "replay q t s a 1 4294967296 256",
+        command: "replay q t s a 1 4294967296 256 67108864",
     },
     CommandRow {
         words: &["serve", "q", "t", "d", "--port", "1"],
-        command: "serve q t d 1 4294967296 1 4294967296 256 5000 10000 16384",
+        command: "serve q t d 1 4294967296 1 4294967296 256 67108864 5000 10000 16384",
     },
     CommandRow {
         words: &["serve", "q", "--port", "1", "t", "d", "--cache=2", "e"],
-        command: "serve q t d e 1 4294967296 1 4294967296 2 5000 10000 16384",
+        command: "serve q t d e 1 4294967296 1 4294967296 2 67108864 5000 10000 16384",
     },
     CommandRow {
         words: &["serve", "--open", "2", "q", "t", "d"],
-        command: "serve q t d 8080 4294967296 1 4294967296 256 5000 10000 2",
+        command: "serve q t d 8080 4294967296 1 4294967296 256 67108864 5000 10000 2",
+    },
+    CommandRow {
+        words: &["serve", "--host", "localhost", "q", "t", "d"],
+        command: "serve q t d 8080 4294967296 1 4294967296 256 67108864 5000 10000 16384 host \
+            localhost",
+    },
+    CommandRow {
+        words: &[
+            "serve",
+            "q",
+            "t",
+            "d",
+            "--host=A.example,[::1],b",
+            "--cache-bytes",
+            "1",
+        ],
+        command: "serve q t d 8080 4294967296 1 4294967296 256 1 5000 10000 16384 host \
+            A.example,[::1],b",
+    },
+    CommandRow {
+        words: &[
+            "replay",
+            "--host",
+            "a",
+            "q",
+            "t",
+            "s",
+            "d",
+            "--cache-bytes=4294967296",
+        ],
+        command: "replay q t s d 1 4294967296 256 4294967296 host a",
     },
     CommandRow {
         words: &["serve", "--idle", "1", "q", "t", "d", "--stall=4294967295"],
-        command: "serve q t d 8080 4294967296 1 4294967296 256 1 4294967295 16384",
+        command: "serve q t d 8080 4294967296 1 4294967296 256 67108864 1 4294967295 16384",
     },
     CommandRow {
         words: &["serve", "--watch", "w", "q", "t", "d"],
-        command: "serve q t w d 8080 4294967296 1 4294967296 256 5000 10000 16384 1",
+        command: "serve q t w d 8080 4294967296 1 4294967296 256 67108864 5000 10000 16384 1",
     },
     CommandRow {
         words: &["serve", "q", "t", "d", "--every=4294967296", "--watch=w=1"],
-        command: "serve q t w=1 d 8080 4294967296 1 4294967296 256 5000 10000 16384 4294967296",
+        command: "serve q t w=1 d 8080 4294967296 1 4294967296 256 67108864 5000 10000 16384 4294967296",
     },
     CommandRow {
         words: &["serve", "--whole", "q", "t", "d"],
-        command: "serve whole q t d 8080 4294967296 1 4294967296 256 5000 10000 16384",
+        command: "serve whole q t d 8080 4294967296 1 4294967296 256 67108864 5000 10000 16384",
     },
     CommandRow {
         words: &["serve", "q", "t", "--watch", "w", "d", "--whole"],
-        command: "serve whole q t w d 8080 4294967296 1 4294967296 256 5000 10000 16384 1",
+        command: "serve whole q t w d 8080 4294967296 1 4294967296 256 67108864 5000 10000 16384 1",
     },
     CommandRow {
         words: &["serve", "q", "t", "--", "--whole"],
-        command: "serve q t --whole 8080 4294967296 1 4294967296 256 5000 10000 16384",
+        command: "serve q t --whole 8080 4294967296 1 4294967296 256 67108864 5000 10000 16384",
     },
     CommandRow {
         words: &["page", "--over", "f", "q", "t", "a", "d"],
@@ -207,11 +238,11 @@ const COMMANDS: &[CommandRow] = &[
         words: &[
             "serve", "q", "t", "--over", "f", "--watch", "w", "d", "--whole",
         ],
-        command: "serve whole q t w d 8080 4294967296 1 4294967296 256 5000 10000 16384 1 over f",
+        command: "serve whole q t w d 8080 4294967296 1 4294967296 256 67108864 5000 10000 16384 1 over f",
     },
     CommandRow {
         words: &["replay", "q", "t", "s", "d", "--cache=2", "--over", "f"],
-        command: "replay q t s d 1 4294967296 2 over f",
+        command: "replay q t s d 1 4294967296 2 67108864 over f",
     },
     CommandRow {
         words: &["lint", "q", "t", "d"],
@@ -227,7 +258,7 @@ const COMMANDS: &[CommandRow] = &[
     },
     CommandRow {
         words: &["serve", "q", "t", "--", "--port", "--", "d"],
-        command: "serve q t --port -- d 8080 4294967296 1 4294967296 256 5000 10000 16384",
+        command: "serve q t --port -- d 8080 4294967296 1 4294967296 256 67108864 5000 10000 16384",
     },
     CommandRow {
         words: &["data", "d", "--", "-5", "-x", "--port=1"],
@@ -372,15 +403,15 @@ const WITH_LENIENT: &[CommandRow] = &[
     },
     CommandRow {
         words: &["serve", "--lenient", "--whole", "q", "t", "d"],
-        command: "serve whole q t d 8080 4294967296 1 4294967296 256 5000 10000 16384 leniently",
+        command: "serve whole q t d 8080 4294967296 1 4294967296 256 67108864 5000 10000 16384 leniently",
     },
     CommandRow {
         words: &["serve", "--port", "--lenient", "1", "q", "t", "d"],
-        command: "serve q t d 1 4294967296 1 4294967296 256 5000 10000 16384 leniently",
+        command: "serve q t d 1 4294967296 1 4294967296 256 67108864 5000 10000 16384 leniently",
     },
     CommandRow {
         words: &["replay", "--cache=2", "q", "t", "s", "d", "--lenient"],
-        command: "replay q t s d 1 4294967296 2 leniently",
+        command: "replay q t s d 1 4294967296 2 67108864 leniently",
     },
 ];
 
@@ -438,6 +469,25 @@ const NO_COMMANDS: &[&[&str]] = &[
     &["serve", "--port=65536", "q", "t", "d"],
     &["serve", "--cache", "0", "q", "t", "d"],
     &["serve", "--cache", "4097", "q", "t", "d"],
+    &["serve", "q", "t", "d", "--cache-bytes"],
+    &["serve", "--cache-bytes=", "q", "t", "d"],
+    &["serve", "--cache-bytes", "0", "q", "t", "d"],
+    &["serve", "--cache-bytes=4294967297", "q", "t", "d"],
+    &["serve", "--cache-bytes=1k", "q", "t", "d"],
+    &["serve", "--cache-byte=1", "q", "t", "d"],
+    &["serve", "--cache-bytes=1", "--cache-bytes=1", "q", "t", "d"],
+    &["replay", "--cache-bytes=0", "q", "t", "s", "d"],
+    &["build", "--cache-bytes=1", "q", "t", "o", "d"],
+    &["serve", "q", "t", "d", "--host"],
+    &["serve", "--host=", "q", "t", "d"],
+    &["serve", "--host", ",", "q", "t", "d"],
+    &["serve", "--host=,a", "q", "t", "d"],
+    &["serve", "--host=a,", "q", "t", "d"],
+    &["serve", "--host=a,,b", "q", "t", "d"],
+    &["serve", "--host=a", "--host=b", "q", "t", "d"],
+    &["serve", "--Host=a", "q", "t", "d"],
+    &["replay", "--host=a,,b", "q", "t", "s", "d"],
+    &["page", "--host=a", "q", "t", "a", "d"],
     &["serve", "--requests=4294967297", "q", "t", "d"],
     &["serve", "--idle=0", "q", "t", "d"],
     &["serve", "--idle=4294967296", "q", "t", "d"],

@@ -1,7 +1,7 @@
 // Commands as texts: the name, and then each part behind a blank.
 use command_spec::{
     BuildCommand, Command, CommandName, DataFiles, HelpCommand, HereCommand, PageCommand,
-    ReplayCommand, ReportCommand, ServeCommand, TextCommand,
+    ReplayCommand, ReportCommand, RunLimits, ServeCommand, TextCommand,
 };
 use sd_value::{NoMemory, Str};
 use std::alloc::Global;
@@ -90,6 +90,15 @@ fn help_text(command: &HelpCommand) -> &'static [u8] {
     }
 }
 
+// With the hosts whose requests are answered, if not all are.
+fn hosts_text(mut text: Vec<u8>, limits: &RunLimits) -> Result<Vec<u8>, NoMemory> {
+    if let Some(hosts) = &limits.hosts {
+        text.extend_from_slice(b" host ")?;
+        text.extend_from_slice(hosts.bytes())?;
+    }
+    Ok(text)
+}
+
 // The path of the watched file stands behind those of the query and the templates, and its number last.
 fn serve_text(alloc: Global, c: &ServeCommand) -> Result<Vec<u8>, NoMemory> {
     let limits = &c.options.limits;
@@ -99,6 +108,7 @@ fn serve_text(alloc: Global, c: &ServeCommand) -> Result<Vec<u8>, NoMemory> {
         limits.requests,
         limits.turns,
         u64::from(limits.cache),
+        limits.cache_bytes,
         u64::from(c.options.waits.idle),
         u64::from(c.options.waits.stall),
         u64::from(c.options.waits.at_once),
@@ -131,9 +141,14 @@ fn here_text(alloc: Global, c: &HereCommand) -> Result<Vec<u8>, NoMemory> {
 fn replay_text(alloc: Global, c: &ReplayCommand) -> Result<Vec<u8>, NoMemory> {
     let paths = [&c.query, &c.templates, &c.script];
     let limits = &c.limits;
-    let numbers = [limits.requests, limits.turns, u64::from(limits.cache)];
+    let numbers = [
+        limits.requests,
+        limits.turns,
+        u64::from(limits.cache),
+        limits.cache_bytes,
+    ];
     let text = named(alloc, b"replay", &paths, c.sources.paths.items(), &numbers)?;
-    data_text(text, &c.sources, &c.over)
+    data_text(hosts_text(text, limits)?, &c.sources, &c.over)
 }
 
 fn page_text(alloc: Global, c: &PageCommand) -> Result<Vec<u8>, NoMemory> {
@@ -184,14 +199,17 @@ fn report_command_text(alloc: Global, command: &ReportCommand) -> Result<Vec<u8>
     }
 }
 
-/// The command as a text: its paths as they are in it, behind them its numbers, then whether its data are read leniently, and
+/// The command as a text: its paths as they are in it, behind them its numbers, then its hosts, then whether its data are read leniently, and
 /// last the file of a first query.
 pub fn command_text(alloc: Global, command: &Command) -> Result<Vec<u8>, NoMemory> {
     match command {
         Command::Text(c) => text_command_text(alloc, c),
         Command::Report(c) => report_command_text(alloc, c),
         Command::Build(c) => build_text(alloc, c),
-        Command::Serve(c) => data_text(serve_text(alloc, c)?, &c.sources, &c.over),
+        Command::Serve(c) => {
+            let text = hosts_text(serve_text(alloc, c)?, &c.options.limits)?;
+            data_text(text, &c.sources, &c.over)
+        }
         Command::Replay(c) => replay_text(alloc, c),
     }
 }

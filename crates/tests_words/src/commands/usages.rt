@@ -2,7 +2,7 @@
 use super::lists::words_of;
 use crate::checks::{check, check_text};
 use command_help::usage;
-use command_spec::{CommandName, NumberOption, PathOption, ValueOption};
+use command_spec::{CommandName, NumberOption, TextOption, ValueOption};
 use command_words::read_command;
 use sd_value::{NoMemory, Str};
 use std::alloc::Global;
@@ -35,7 +35,7 @@ const ROWS: &[UsageRow] = &[
         fewest: 5,
         operands: "QUERY TEMPLATES ADDRESS DATA..",
         flag: Flag::None,
-        options: &[ValueOption::Path(PathOption::Over)],
+        options: &[ValueOption::Text(TextOption::Over)],
         reads_data: true,
     },
     UsageRow {
@@ -44,7 +44,7 @@ const ROWS: &[UsageRow] = &[
         fewest: 5,
         operands: "QUERY TEMPLATES DIR DATA..",
         flag: Flag::None,
-        options: &[ValueOption::Path(PathOption::Over)],
+        options: &[ValueOption::Text(TextOption::Over)],
         reads_data: true,
     },
     UsageRow {
@@ -53,7 +53,7 @@ const ROWS: &[UsageRow] = &[
         fewest: 2,
         operands: "DATA..",
         flag: Flag::None,
-        options: &[ValueOption::Path(PathOption::Over)],
+        options: &[ValueOption::Text(TextOption::Over)],
         reads_data: true,
     },
     UsageRow {
@@ -109,16 +109,18 @@ const ROWS: &[UsageRow] = &[
         flag: Flag::May("--whole"),
         options: &[
             ValueOption::Number(NumberOption::Port),
+            ValueOption::Text(TextOption::Host),
             ValueOption::Number(NumberOption::Connections),
             ValueOption::Number(NumberOption::Requests),
             ValueOption::Number(NumberOption::Turns),
             ValueOption::Number(NumberOption::Cache),
+            ValueOption::Number(NumberOption::CacheBytes),
             ValueOption::Number(NumberOption::Idle),
             ValueOption::Number(NumberOption::Stall),
             ValueOption::Number(NumberOption::OpenAtOnce),
-            ValueOption::Path(PathOption::Watch),
+            ValueOption::Text(TextOption::Watch),
             ValueOption::Number(NumberOption::Every),
-            ValueOption::Path(PathOption::Over),
+            ValueOption::Text(TextOption::Over),
         ],
         reads_data: true,
     },
@@ -129,10 +131,12 @@ const ROWS: &[UsageRow] = &[
         operands: "QUERY TEMPLATES SCRIPT DATA..",
         flag: Flag::None,
         options: &[
+            ValueOption::Text(TextOption::Host),
             ValueOption::Number(NumberOption::Requests),
             ValueOption::Number(NumberOption::Turns),
             ValueOption::Number(NumberOption::Cache),
-            ValueOption::Path(PathOption::Over),
+            ValueOption::Number(NumberOption::CacheBytes),
+            ValueOption::Text(TextOption::Over),
         ],
         reads_data: true,
     },
@@ -171,11 +175,13 @@ const OPTIONS: &[ValueOption] = &[
     ValueOption::Number(NumberOption::Requests),
     ValueOption::Number(NumberOption::Turns),
     ValueOption::Number(NumberOption::Cache),
+    ValueOption::Number(NumberOption::CacheBytes),
+    ValueOption::Text(TextOption::Host),
     ValueOption::Number(NumberOption::Idle),
     ValueOption::Number(NumberOption::Stall),
     ValueOption::Number(NumberOption::OpenAtOnce),
-    ValueOption::Path(PathOption::Watch),
-    ValueOption::Path(PathOption::Over),
+    ValueOption::Text(TextOption::Watch),
+    ValueOption::Text(TextOption::Over),
 ];
 
 // All options without a value.

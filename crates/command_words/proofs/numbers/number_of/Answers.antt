@@ -1,7 +1,7 @@
 use Rattle.std.proofs.Common.{◌∙◌, arith, List, ℕ, Some, option_map, refl, sym, ap, subst}
 use Rattle.std.specs.Borrow.{Bor}
 use Rattle.command_spec.specs.declared.numbers.NumberOption.{NumberOption}
-use Rattle.command_spec.specs.declared.numbers.NumberOption.TheVariants.{Port, Connections, Requests, Turns, Cache, Idle, Stall, OpenAtOnce, Every}
+use Rattle.command_spec.specs.declared.numbers.NumberOption.TheVariants.{Port, Connections, Requests, Turns, Cache, CacheBytes, Idle, Stall, OpenAtOnce, Every}
 use Rattle.command_spec.specs.Numbers.{default_of, greatest, number_or_default}
 use Rattle.command_spec.specs.Ranges.{IsFrom1To}
 use Rattle.command_words.proofs.numbers.number_of.Goals as goal
@@ -12,6 +12,7 @@ default_within Connections = (omega arith, omega arith)
 default_within Requests = (omega arith, omega arith)
 default_within Turns = (omega arith, omega arith)
 default_within Cache = (omega arith, omega arith)
+default_within CacheBytes = (omega arith, omega arith)
 default_within Idle = (omega arith, omega arith)
 default_within Stall = (omega arith, omega arith)
 default_within OpenAtOnce = (omega arith, omega arith)

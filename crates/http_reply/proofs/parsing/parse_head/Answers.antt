@@ -17,7 +17,7 @@ pub returns-in-Ok-Complete : goal.returns-in-Ok-Complete
 returns-in-Ok-Complete c =
     let within = (rw c.in-Ok-Complete.field-0-is at c.in-Ok-Complete.ensures.within) in
     let complete = (rw c.in-Ok-Complete.field-0-is at c.in-Ok-Complete.ensures.complete) in
-    whole_from_parser c.args.bytes.now c.parse_request.new.headers c.in-Ok-Complete.spans c.ask_at.result c.requires.some c.requires.size (omega arith) c.requires.before
+    whole_from_parser c.args.hosts.now c.args.bytes.now c.parse_request.new.headers c.in-Ok-Complete.spans c.ask_at.result c.requires.some c.requires.size (omega arith) c.requires.before
     within complete c.ask_at.ensures
 
 pub returns-in-Err : goal.returns-in-Err

@@ -8,7 +8,7 @@ pub returns-in-Err-clause-sent : goal.returns-in-Err-clause-sent
 returns-in-Err-clause-sent g c =
     let looked = c.in-Err.ensures.looked in (
       record { replies = 0; terms = looked.0 },
-      short_answer (shown_in c.args.root.now g.P.Versions.site g.P.Versions.templates (g.P.Versions.state c.args.pages.now)) (TermOf c.args.root.now) c.args.ask.now c.args.target.now c.args.last
+      short_answer (shown_in c.args.origin.now g.P.Versions.site g.P.Versions.templates (g.P.Versions.state c.args.pages.now)) (TermOf c.args.origin.now.root) c.args.ask.now c.args.target.now c.args.last
           looked.0 c.cut_short.result _ _ _ _ looked.1 c.cut_short.ensures.sent,
       refl,
       looked.3,
@@ -19,7 +19,7 @@ returns-in-Ok-clause-sent g c =
     let found = c.in-Ok.ensures.bytes in
     let looked = c.in-Ok.ensures.looked in (
       record { replies = 1; terms = looked.0 },
-      sent_answer (shown_in c.args.root.now g.P.Versions.site g.P.Versions.templates (g.P.Versions.state c.args.pages.now)) (TermOf c.args.root.now) c.args.ask.now c.args.target.now c.args.last
+      sent_answer (shown_in c.args.origin.now g.P.Versions.site g.P.Versions.templates (g.P.Versions.state c.args.pages.now)) (TermOf c.args.origin.now.root) c.args.ask.now c.args.target.now c.args.last
           c.closes-close.result c.as_slice.result.now found.0 looked.0 c.send.result _ _ _ _ c.closes-close.ensures found.1 (c.as_slice.ensures.value ∙ found.2) looked.2 c.send.ensures.sent,
       search rules,
       looked.3,

@@ -1,4 +1,4 @@
-use Rattle.std.proofs.Common.{refl, [], ◌∷◌, ◌∙◌, ap, take}
+use Rattle.std.proofs.Common.{refl, [], ◌∙◌, ap, take}
 use Rattle.std.proofs.lemmas.Result.{err_from_is_err_and}
 use Rattle.http_spec.specs.declared.Standing.TheVariants.{Short}
 use Rattle.http_spec.specs.Replies.{no_memory_bytes}

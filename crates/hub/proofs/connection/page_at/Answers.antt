@@ -13,7 +13,7 @@ root_of (Some r) root is = is
 
 pub returns-in-None-clause-found : goal.returns-in-None-clause-found
 returns-in-None-clause-found g c =
-    let same = root_of c.as_ref.result c.args.root.now c.as_ref.ensures.value in
+    let same = root_of c.as_ref.result c.args.origin.now.root c.as_ref.ensures.value in
     inr (
       subst (λ r. (t : Term) → TermOf r c.args.target.now t → ⊥) same
           (subst (IsOnly (TermOf (root_name c.as_ref.result) c.args.target.now)) c.in-None.is c.in_ok-term.ensures),
@@ -30,15 +30,15 @@ page_looked Looks Names target before after term (Err e) named looks same = ([],
 
 pub returns-in-Some-clause-looked : goal.returns-in-Some-clause-looked
 returns-in-Some-clause-looked g c =
-    let same = root_of c.as_ref.result c.args.root.now c.as_ref.ensures.value in
+    let same = root_of c.as_ref.result c.args.origin.now.root c.as_ref.ensures.value in
     let named = subst (λ r. TermOf r c.args.target.now c.in-Some.term) same
     (subst (IsOnly (TermOf (root_name c.as_ref.result) c.args.target.now)) c.in-Some.is c.in_ok-term.ensures) in
-    page_looked (g.P.Versions.looks (g.P.Versions.state c.args.pages.now)) (TermOf c.args.root.now) c.args.target.now (g.P.Versions.cache c.args.pages.now)
+    page_looked (g.P.Versions.looks (g.P.Versions.state c.args.pages.now)) (TermOf c.args.origin.now.root) c.args.target.now (g.P.Versions.cache c.args.pages.now)
     (g.P.Versions.cache c.page.new.self) c.in-Some.term c.page.result named c.page.ensures.looks c.page.ensures.err
 
 pub returns-in-None-clause-looked : goal.returns-in-None-clause-looked
 returns-in-None-clause-looked g c =
-    let same = root_of c.as_ref.result c.args.root.now c.as_ref.ensures.value in
+    let same = root_of c.as_ref.result c.args.origin.now.root c.as_ref.ensures.value in
     let none = subst (λ r. (t : Term) → TermOf r c.args.target.now t → ⊥) same
     (subst (IsOnly (TermOf (root_name c.as_ref.result) c.args.target.now)) c.in-None.is c.in_ok-term.ensures) in
     ([], inl refl, inr (none, refl), refl)

@@ -15,7 +15,7 @@ use Rattle.hub.proofs.serving.serve.Given as goal
 abbrev pub invariant-loop : goal.invariant-loop
 invariant-loop g l =
     (l.hub.limit ≡ l.fn.hub.limit)
-    × (l.hub.root ≡ l.fn.hub.root)
+    × (l.hub.origin ≡ l.fn.hub.origin)
     × (l.hub.spent ≡ false)
     × g.P.Versions.Own l.hub.pages
     × ((g.W.Wire.told l.wire).next_faults ≡ (g.W.Wire.told l.fn.wire).next_faults)
@@ -26,11 +26,11 @@ invariant-loop g l =
     × IsDrawn (g.W.Wire.told l.fn.wire).left events (g.W.Wire.told l.wire).left
     × (length events ≡ l.counter)
     × (list_any is_done events ≡ false)
-    × PassesAll (rules_under l.fn.hub.root g.P.Versions.site g.P.Versions.templates g.P.Versions.changed g.P.Versions.accepts g.P.Versions.looks g.P.Versions.renews g.P.Versions.found) l.fn.hub.limit
+    × PassesAll (rules_under l.fn.hub.origin g.P.Versions.site g.P.Versions.templates g.P.Versions.changed g.P.Versions.accepts g.P.Versions.looks g.P.Versions.renews g.P.Versions.found) l.fn.hub.limit
     (scene g.P.Versions.state g.P.Versions.cache l.fn.hub (g.W.Wire.told l.fn.wire).account (g.W.Wire.told l.fn.wire).faults) events
     (scene g.P.Versions.state g.P.Versions.cache l.hub (g.W.Wire.told l.wire).account (g.W.Wire.told l.wire).faults) trace
     × ((number : ℕ) → (line_of l.fn.hub) number ≡ None
-    → Runs (shown_in l.fn.hub.root g.P.Versions.site g.P.Versions.templates) (TermOf l.fn.hub.root) g.P.Versions.changed l.fn.hub.limit number
+    → Runs (shown_in l.fn.hub.origin g.P.Versions.site g.P.Versions.templates) (TermOf l.fn.hub.origin.root) g.P.Versions.changed l.fn.hub.limit number
     (record { current = g.P.Versions.state l.fn.hub.pages; greatest = l.fn.hub.greatest; input = Unopened }) events
     (at_in (line_of l.fn.hub) (g.W.Wire.told l.fn.wire).account (g.W.Wire.told l.fn.wire).faults number)
     (at_in (line_of l.hub) (g.W.Wire.told l.wire).account (g.W.Wire.told l.wire).faults number)

@@ -14,7 +14,7 @@ returns-in-None-clause-taken g c =
     let at : At = at_in (get nat_cmp c.args.connections.now) (g.W.Wire.told c.args.wire.now).account (g.W.Wire.told c.args.wire.now).faults c.args.number in
     let now : At = at_in (get nat_cmp c.get_mut.follows.lender-at-none) (g.W.Wire.told c.args.wire.now).account (g.W.Wire.told c.args.wire.now).faults c.args.number in (
       nothing,
-      subst (λ (l : Option Line). TakesPiece (shown_in c.args.root.now g.P.Versions.site g.P.Versions.templates (g.P.Versions.state c.args.pages.now)) (TermOf c.args.root.now) c.args.piece.now nothing l at now)
+      subst (λ (l : Option Line). TakesPiece (shown_in c.args.origin.now g.P.Versions.site g.P.Versions.templates (g.P.Versions.state c.args.pages.now)) (TermOf c.args.origin.now.root) c.args.piece.now nothing l at now)
           (sym none) (search rules, refl),
       refl,
       refl,

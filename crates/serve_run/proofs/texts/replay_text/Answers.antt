@@ -1,4 +1,4 @@
-use Rattle.std.proofs.Common.{◌≡◌, ◌++◌, ◌∙◌, ℕ, ap, get_or}
+use Rattle.std.proofs.Common.{◌++◌, ◌∙◌, ℕ, ap, get_or}
 use Rattle.mem_wire.specs.WireInMemory.{accounts_of, entry_of}
 use Rattle.serve_run.specs.Texts.{bytes_taken, connection_text}
 use Rattle.serve_run.proofs.ServingLemmas.{more_texts, taken_is}

@@ -1,4 +1,4 @@
-use Rattle.std.proofs.Common.{◌∙◌, ◌∷◌, [], inl, inr, refl, arith}
+use Rattle.std.proofs.Common.{◌∙◌, ◌∷◌, [], inl, inr, arith}
 use Rattle.std.specs.Prelude.{Ok, Err}
 use Rattle.std.proofs.lemmas.Result.{err_from_is_err_and}
 use Rattle.command_spec.specs.Inputs.{data_paths, input_paths}

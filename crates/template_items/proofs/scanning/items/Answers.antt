@@ -1,4 +1,4 @@
-use Rattle.template_items.proofs.Scanned.{passes_reached, finds_reached, ended_says, ended_few, only_list}
+use Rattle.template_items.proofs.Scanned.{passes_reached, finds_reached, ended_says, ended_few, ended_within, only_list}
 use Rattle.template_items.proofs.scanning.items.Goals as goal
 
 pub items-preserved-in-Passes : goal.items-preserved-in-Passes
@@ -15,3 +15,6 @@ returns-in-Ends-clause-only c = only_list c.args.bytes.now c.ended.result (ended
 
 pub returns-in-Ends-clause-few : goal.returns-in-Ends-clause-few
 returns-in-Ends-clause-few c = ended_few c.args.bytes.now c.items.state c.items.items.items c.in-Ends.last c.items.invariant c.ended.result c.ended.ensures
+
+pub returns-in-Ends-clause-within : goal.returns-in-Ends-clause-within
+returns-in-Ends-clause-within c = ended_within c.args.bytes.now c.items.state c.items.items.items c.in-Ends.last c.items.invariant c.in_ok-next.field-0 c.in-Ends.is c.in_ok-next.ensures.on c.ended.result c.ended.ensures

@@ -26,7 +26,7 @@ invariant_of-self-in-Unfinished-2 c =
 pub returns-in-Unfinished-2-clause-fed : goal.returns-in-Unfinished-2-clause-fed
 returns-in-Unfinished-2-clause-fed c =
     let cleared = c.refuse.ensures in
-    refused c.args.self.now.rest c.args.piece.now _ _ c.loop-i.i _ _ c.loop-i-test.true c.loop-i.invariant.3 c.add.ensures.bytes
+    refused c.args.hosts.now c.args.self.now.rest c.args.piece.now _ _ c.loop-i.i _ _ c.loop-i-test.true c.loop-i.invariant.3 c.add.ensures.bytes
     c.in-Unfinished-2.ensures.parsed (inl (omega arith)) cleared.fed (held_cleared _ _ cleared.bytes cleared.target)
 
 pub invariant_of-self-in-Impossible : goal.invariant_of-self-in-Impossible
@@ -37,5 +37,5 @@ invariant_of-self-in-Impossible c =
 pub returns-in-Impossible-clause-fed : goal.returns-in-Impossible-clause-fed
 returns-in-Impossible-clause-fed c =
     let cleared = c.refuse-in-Impossible.ensures in
-    refused c.args.self.now.rest c.args.piece.now _ _ c.loop-i.i _ _ c.loop-i-test.true c.loop-i.invariant.3 c.add.ensures.bytes
+    refused c.args.hosts.now c.args.self.now.rest c.args.piece.now _ _ c.loop-i.i _ _ c.loop-i-test.true c.loop-i.invariant.3 c.add.ensures.bytes
     c.in-Impossible.ensures.parsed.0 (inr c.in-Impossible.ensures.parsed.1) cleared.fed (held_cleared _ _ cleared.bytes cleared.target)

@@ -16,7 +16,7 @@ loop-from-init g c = (
   refl,
   (
     [],
-    starts (shown_in c.args.root.now g.P.Versions.site g.P.Versions.templates (g.P.Versions.state c.args.pages.now)) c.args.self.now c.self.inside.reading.rest c.self.inside.left []
+    starts (shown_in c.args.origin.now g.P.Versions.site g.P.Versions.templates (g.P.Versions.state c.args.pages.now)) c.args.self.now c.self.inside.reading.rest c.self.inside.left []
         c.self.view_is c.self.invariant.0 c.self.invariant.1 c.self.invariant.2,
     refl,
     [],
@@ -38,13 +38,13 @@ returns-in_default-clause-served g c =
     let from = c.loop-from.from in
     let p = take (length piece - from) (drop from piece) in
     let inv = c.loop-from.invariant.2 in
-    let fed = fed_case c.loop-from.self-inside.reading.rest p c.feed-fed.result None c.feed-fed.new.self c.in_default.is c.feed-fed.ensures.fed in (
+    let fed = fed_case c.args.origin.now.hosts c.loop-from.self-inside.reading.rest p c.feed-fed.result None c.feed-fed.new.self c.in_default.is c.feed-fed.ensures.fed in (
       record { replies = length inv.0; terms = inv.3 },
       (
         inv.0,
         (
           inv.1.heads,
-          waits (shown_in c.args.root.now g.P.Versions.site g.P.Versions.templates (g.P.Versions.state c.args.pages.now)) c.args.self.now piece p from c.feed-fed.result.taken
+          waits (shown_in c.args.origin.now g.P.Versions.site g.P.Versions.templates (g.P.Versions.state c.args.pages.now)) c.args.self.now piece p from c.feed-fed.result.taken
               (record { rest = c.loop-from.self-inside.reading.rest; left = c.loop-from.self-inside.left }) c.feed-fed.new.self
               [] inv.0 inv.0 (take_rest piece from) inv.1 fed,
           record { looked = inv.3; extra = []; count = refl; look_ups = inv.4; may = refl; terms = sym (append-nil inv.3) },
@@ -61,13 +61,13 @@ loop-from-preserved g c =
     let piece = c.args.piece.now in
     let from = c.loop-from.from in
     let p = take (length piece - from) (drop from piece) in
-    let fed = fed_case c.loop-from.self-inside.reading.rest p c.feed-fed.result (Some c.in-Some.ask) c.feed-fed.new.self c.in-Some.is c.feed-fed.ensures.fed in
+    let fed = fed_case c.args.origin.now.hosts c.loop-from.self-inside.reading.rest p c.feed-fed.result (Some c.in-Some.ask) c.feed-fed.new.self c.in-Some.is c.feed-fed.ensures.fed in
     let inv = c.loop-from.invariant.2 in
     let sent = c.in-Ok-Open.ensures.sent in
-    let answered = answered_now (shown_in c.args.root.now g.P.Versions.site g.P.Versions.templates) (TermOf c.args.root.now) sent.0 (Ok c.in-Ok-Open.field-0) (Ok Open) (g.P.Versions.state c.loop-from.pages) (g.P.Versions.state c.args.pages.now) c.in-Some.ask c.target.result.now c.feed-fed.new.self.target c.loop-from.self-inside.left
+    let answered = answered_now (shown_in c.args.origin.now g.P.Versions.site g.P.Versions.templates) (TermOf c.args.origin.now.root) sent.0 (Ok c.in-Ok-Open.field-0) (Ok Open) (g.P.Versions.state c.loop-from.pages) (g.P.Versions.state c.args.pages.now) c.in-Some.ask c.target.result.now c.feed-fed.new.self.target c.loop-from.self-inside.left
     ((g.W.Wire.told c.loop-from.wire).account c.args.number) ((g.W.Wire.told c.answer.new.wire).account c.args.number) ((g.W.Wire.told c.loop-from.wire).faults c.args.number)
     ((g.W.Wire.told c.answer.new.wire).faults c.args.number) (ap Ok c.in-Ok-Open.field-0-is) c.loop-from.invariant.1 c.target.ensures sent.1 in
-    let opened = serve_open (shown_in c.args.root.now g.P.Versions.site g.P.Versions.templates (g.P.Versions.state c.args.pages.now)) (TermOf c.args.root.now) c.args.self.now piece p from c.feed-fed.result.taken
+    let opened = serve_open (shown_in c.args.origin.now g.P.Versions.site g.P.Versions.templates (g.P.Versions.state c.args.pages.now)) (TermOf c.args.origin.now.root) c.args.self.now piece p from c.feed-fed.result.taken
     (record { rest = c.loop-from.self-inside.reading.rest; left = c.loop-from.self-inside.left }) c.feed-fed.new.self inv.0
     (take_rest piece from) inv.1 c.in-Some.ask fed
     ((g.W.Wire.told c.args.wire.now).account c.args.number) ((g.W.Wire.told c.loop-from.wire).account c.args.number) ((g.W.Wire.told c.answer.new.wire).account c.args.number)
@@ -86,7 +86,7 @@ loop-from-preserved g c =
             (g.P.Versions.cache c.args.pages.now) (g.P.Versions.cache c.loop-from.pages) (g.P.Versions.cache c.answer.new.pages) c.loop-from.invariant.1 inv.6 sent.3,
       ),
       λ other apart. c.in-Ok-Open.ensures.others other apart ∙ c.loop-from.invariant.3 other apart,
-      faults_open (shown_in c.args.root.now g.P.Versions.site g.P.Versions.templates (g.P.Versions.state c.args.pages.now)) (TermOf c.args.root.now) c.in-Some.ask c.feed-fed.new.self.target (c.loop-from.self-inside.left == 1) sent.0 _ _ _ _ answered ∙ c.loop-from.invariant.4,
+      faults_open (shown_in c.args.origin.now g.P.Versions.site g.P.Versions.templates (g.P.Versions.state c.args.pages.now)) (TermOf c.args.origin.now.root) c.in-Some.ask c.feed-fed.new.self.target (c.loop-from.self-inside.left == 1) sent.0 _ _ _ _ answered ∙ c.loop-from.invariant.4,
       λ other apart. c.in-Ok-Open.ensures.others_fine other apart ∙ c.loop-from.invariant.5 other apart,
       (c.in-Ok-Open.ensures.stays.0 ∙ c.loop-from.invariant.6.0, c.in-Ok-Open.ensures.stays.1 ∙ c.loop-from.invariant.6.1, c.in-Ok-Open.ensures.stays.2 ∙ c.loop-from.invariant.6.2, c.in-Ok-Open.ensures.stays.3 ∙ c.loop-from.invariant.6.3, c.in-Ok-Open.ensures.stays.4 ∙ c.loop-from.invariant.6.4),
       c.in-Ok-Open.ensures.own,
@@ -98,8 +98,8 @@ invariant_of-self-in-Ok-Closed g c =
     let piece = c.args.piece.now in
     let from = c.loop-from.from in
     let p = take (length piece - from) (drop from piece) in
-    let fed = fed_case c.loop-from.self-inside.reading.rest p c.feed-fed.result (Some c.in-Some.ask) c.feed-fed.new.self c.in-Some.is c.feed-fed.ensures.fed in
-    let empty = no_head_asked c.feed-fed.new.self (asked_rest c.loop-from.self-inside.reading.rest p c.feed-fed.result.taken c.in-Some.ask c.feed-fed.new.self fed) in
+    let fed = fed_case c.args.origin.now.hosts c.loop-from.self-inside.reading.rest p c.feed-fed.result (Some c.in-Some.ask) c.feed-fed.new.self c.in-Some.is c.feed-fed.ensures.fed in
+    let empty = no_head_asked c.feed-fed.new.self (asked_rest c.args.origin.now.hosts c.loop-from.self-inside.reading.rest p c.feed-fed.result.taken c.in-Some.ask c.feed-fed.new.self fed) in
     let some = c.loop-from.invariant.2.1.some in
     (empty.0, empty.1, some)
 
@@ -108,8 +108,8 @@ invariant_of-self-in-Ok-Short g c =
     let piece = c.args.piece.now in
     let from = c.loop-from.from in
     let p = take (length piece - from) (drop from piece) in
-    let fed = fed_case c.loop-from.self-inside.reading.rest p c.feed-fed.result (Some c.in-Some.ask) c.feed-fed.new.self c.in-Some.is c.feed-fed.ensures.fed in
-    let empty = no_head_asked c.feed-fed.new.self (asked_rest c.loop-from.self-inside.reading.rest p c.feed-fed.result.taken c.in-Some.ask c.feed-fed.new.self fed) in
+    let fed = fed_case c.args.origin.now.hosts c.loop-from.self-inside.reading.rest p c.feed-fed.result (Some c.in-Some.ask) c.feed-fed.new.self c.in-Some.is c.feed-fed.ensures.fed in
+    let empty = no_head_asked c.feed-fed.new.self (asked_rest c.args.origin.now.hosts c.loop-from.self-inside.reading.rest p c.feed-fed.result.taken c.in-Some.ask c.feed-fed.new.self fed) in
     let some = c.loop-from.invariant.2.1.some in
     (empty.0, empty.1, some)
 
@@ -118,8 +118,8 @@ invariant_of-self-in-Err g c =
     let piece = c.args.piece.now in
     let from = c.loop-from.from in
     let p = take (length piece - from) (drop from piece) in
-    let fed = fed_case c.loop-from.self-inside.reading.rest p c.feed-fed.result (Some c.in-Some.ask) c.feed-fed.new.self c.in-Some.is c.feed-fed.ensures.fed in
-    let empty = no_head_asked c.feed-fed.new.self (asked_rest c.loop-from.self-inside.reading.rest p c.feed-fed.result.taken c.in-Some.ask c.feed-fed.new.self fed) in
+    let fed = fed_case c.args.origin.now.hosts c.loop-from.self-inside.reading.rest p c.feed-fed.result (Some c.in-Some.ask) c.feed-fed.new.self c.in-Some.is c.feed-fed.ensures.fed in
+    let empty = no_head_asked c.feed-fed.new.self (asked_rest c.args.origin.now.hosts c.loop-from.self-inside.reading.rest p c.feed-fed.result.taken c.in-Some.ask c.feed-fed.new.self fed) in
     let some = c.loop-from.invariant.2.1.some in
     (empty.0, empty.1, some)
 
@@ -128,14 +128,14 @@ returns-in-Ok-Closed-clause-served g c =
     let piece = c.args.piece.now in
     let from = c.loop-from.from in
     let p = take (length piece - from) (drop from piece) in
-    let fed = fed_case c.loop-from.self-inside.reading.rest p c.feed-fed.result (Some c.in-Some.ask) c.feed-fed.new.self c.in-Some.is c.feed-fed.ensures.fed in
+    let fed = fed_case c.args.origin.now.hosts c.loop-from.self-inside.reading.rest p c.feed-fed.result (Some c.in-Some.ask) c.feed-fed.new.self c.in-Some.is c.feed-fed.ensures.fed in
     let inv = c.loop-from.invariant.2 in
     let sent = c.in-Ok-Closed.ensures.sent in
-    let answered = answered_now (shown_in c.args.root.now g.P.Versions.site g.P.Versions.templates) (TermOf c.args.root.now) sent.0 (Ok c.in-Ok-Closed.field-0) (Ok Closed) (g.P.Versions.state c.loop-from.pages) (g.P.Versions.state c.args.pages.now) c.in-Some.ask c.target.result.now c.feed-fed.new.self.target c.loop-from.self-inside.left
+    let answered = answered_now (shown_in c.args.origin.now g.P.Versions.site g.P.Versions.templates) (TermOf c.args.origin.now.root) sent.0 (Ok c.in-Ok-Closed.field-0) (Ok Closed) (g.P.Versions.state c.loop-from.pages) (g.P.Versions.state c.args.pages.now) c.in-Some.ask c.target.result.now c.feed-fed.new.self.target c.loop-from.self-inside.left
     ((g.W.Wire.told c.loop-from.wire).account c.args.number) ((g.W.Wire.told c.answer.new.wire).account c.args.number) ((g.W.Wire.told c.loop-from.wire).faults c.args.number)
     ((g.W.Wire.told c.answer.new.wire).faults c.args.number) (ap Ok c.in-Ok-Closed.field-0-is) c.loop-from.invariant.1 c.target.ensures sent.1 in (
       record { replies = length inv.0 + sent.0.replies; terms = inv.3 ++ sent.0.terms },
-      serve_over (shown_in c.args.root.now g.P.Versions.site g.P.Versions.templates (g.P.Versions.state c.args.pages.now)) (TermOf c.args.root.now) c.args.self.now piece p from c.feed-fed.result.taken
+      serve_over (shown_in c.args.origin.now g.P.Versions.site g.P.Versions.templates (g.P.Versions.state c.args.pages.now)) (TermOf c.args.origin.now.root) c.args.self.now piece p from c.feed-fed.result.taken
           (record { rest = c.loop-from.self-inside.reading.rest; left = c.loop-from.self-inside.left }) c.feed-fed.new.self inv.0
           (take_rest piece from) inv.1 c.in-Some.ask fed
           ((g.W.Wire.told c.args.wire.now).account c.args.number) ((g.W.Wire.told c.loop-from.wire).account c.args.number) ((g.W.Wire.told c.answer.new.wire).account c.args.number)
@@ -151,14 +151,14 @@ returns-in-Ok-Short-clause-served g c =
     let piece = c.args.piece.now in
     let from = c.loop-from.from in
     let p = take (length piece - from) (drop from piece) in
-    let fed = fed_case c.loop-from.self-inside.reading.rest p c.feed-fed.result (Some c.in-Some.ask) c.feed-fed.new.self c.in-Some.is c.feed-fed.ensures.fed in
+    let fed = fed_case c.args.origin.now.hosts c.loop-from.self-inside.reading.rest p c.feed-fed.result (Some c.in-Some.ask) c.feed-fed.new.self c.in-Some.is c.feed-fed.ensures.fed in
     let inv = c.loop-from.invariant.2 in
     let sent = c.in-Ok-Short.ensures.sent in
-    let answered = answered_now (shown_in c.args.root.now g.P.Versions.site g.P.Versions.templates) (TermOf c.args.root.now) sent.0 (Ok c.in-Ok-Short.field-0) (Ok Short) (g.P.Versions.state c.loop-from.pages) (g.P.Versions.state c.args.pages.now) c.in-Some.ask c.target.result.now c.feed-fed.new.self.target c.loop-from.self-inside.left
+    let answered = answered_now (shown_in c.args.origin.now g.P.Versions.site g.P.Versions.templates) (TermOf c.args.origin.now.root) sent.0 (Ok c.in-Ok-Short.field-0) (Ok Short) (g.P.Versions.state c.loop-from.pages) (g.P.Versions.state c.args.pages.now) c.in-Some.ask c.target.result.now c.feed-fed.new.self.target c.loop-from.self-inside.left
     ((g.W.Wire.told c.loop-from.wire).account c.args.number) ((g.W.Wire.told c.answer.new.wire).account c.args.number) ((g.W.Wire.told c.loop-from.wire).faults c.args.number)
     ((g.W.Wire.told c.answer.new.wire).faults c.args.number) (ap Ok c.in-Ok-Short.field-0-is) c.loop-from.invariant.1 c.target.ensures sent.1 in (
       record { replies = length inv.0 + sent.0.replies; terms = inv.3 ++ sent.0.terms },
-      serve_over (shown_in c.args.root.now g.P.Versions.site g.P.Versions.templates (g.P.Versions.state c.args.pages.now)) (TermOf c.args.root.now) c.args.self.now piece p from c.feed-fed.result.taken
+      serve_over (shown_in c.args.origin.now g.P.Versions.site g.P.Versions.templates (g.P.Versions.state c.args.pages.now)) (TermOf c.args.origin.now.root) c.args.self.now piece p from c.feed-fed.result.taken
           (record { rest = c.loop-from.self-inside.reading.rest; left = c.loop-from.self-inside.left }) c.feed-fed.new.self inv.0
           (take_rest piece from) inv.1 c.in-Some.ask fed
           ((g.W.Wire.told c.args.wire.now).account c.args.number) ((g.W.Wire.told c.loop-from.wire).account c.args.number) ((g.W.Wire.told c.answer.new.wire).account c.args.number)
@@ -174,14 +174,14 @@ returns-in-Err-clause-served g c =
     let piece = c.args.piece.now in
     let from = c.loop-from.from in
     let p = take (length piece - from) (drop from piece) in
-    let fed = fed_case c.loop-from.self-inside.reading.rest p c.feed-fed.result (Some c.in-Some.ask) c.feed-fed.new.self c.in-Some.is c.feed-fed.ensures.fed in
+    let fed = fed_case c.args.origin.now.hosts c.loop-from.self-inside.reading.rest p c.feed-fed.result (Some c.in-Some.ask) c.feed-fed.new.self c.in-Some.is c.feed-fed.ensures.fed in
     let inv = c.loop-from.invariant.2 in
     let sent = c.in-Err.ensures.sent in
-    let answered = answered_now (shown_in c.args.root.now g.P.Versions.site g.P.Versions.templates) (TermOf c.args.root.now) sent.0 (Err c.in-Err.failed) (Err c.in-Err.failed) (g.P.Versions.state c.loop-from.pages) (g.P.Versions.state c.args.pages.now) c.in-Some.ask c.target.result.now c.feed-fed.new.self.target c.loop-from.self-inside.left
+    let answered = answered_now (shown_in c.args.origin.now g.P.Versions.site g.P.Versions.templates) (TermOf c.args.origin.now.root) sent.0 (Err c.in-Err.failed) (Err c.in-Err.failed) (g.P.Versions.state c.loop-from.pages) (g.P.Versions.state c.args.pages.now) c.in-Some.ask c.target.result.now c.feed-fed.new.self.target c.loop-from.self-inside.left
     ((g.W.Wire.told c.loop-from.wire).account c.args.number) ((g.W.Wire.told c.answer.new.wire).account c.args.number) ((g.W.Wire.told c.loop-from.wire).faults c.args.number)
     ((g.W.Wire.told c.answer.new.wire).faults c.args.number) refl c.loop-from.invariant.1 c.target.ensures sent.1 in (
       record { replies = length inv.0 + sent.0.replies; terms = inv.3 ++ sent.0.terms },
-      serve_over (shown_in c.args.root.now g.P.Versions.site g.P.Versions.templates (g.P.Versions.state c.args.pages.now)) (TermOf c.args.root.now) c.args.self.now piece p from c.feed-fed.result.taken
+      serve_over (shown_in c.args.origin.now g.P.Versions.site g.P.Versions.templates (g.P.Versions.state c.args.pages.now)) (TermOf c.args.origin.now.root) c.args.self.now piece p from c.feed-fed.result.taken
           (record { rest = c.loop-from.self-inside.reading.rest; left = c.loop-from.self-inside.left }) c.feed-fed.new.self inv.0
           (take_rest piece from) inv.1 c.in-Some.ask fed
           ((g.W.Wire.told c.args.wire.now).account c.args.number) ((g.W.Wire.told c.loop-from.wire).account c.args.number) ((g.W.Wire.told c.answer.new.wire).account c.args.number)
@@ -217,7 +217,7 @@ returns-clause-served g c =
     let piece = c.args.piece.now in
     let all = taken_all c.loop-from.from piece c.loop-from.invariant.0 (λ below. omega arith) in
     let Of : List ℕ → Type 0 = λ bytes.
-    (s : StaysOpen (shown_in c.args.root.now g.P.Versions.site g.P.Versions.templates (g.P.Versions.state c.args.pages.now)) c.args.self.now bytes (record { rest = c.loop-from.self-inside.reading.rest; left = c.loop-from.self-inside.left }) [] inv.0)
+    (s : StaysOpen (shown_in c.args.origin.now g.P.Versions.site g.P.Versions.templates (g.P.Versions.state c.args.pages.now)) c.args.self.now bytes (record { rest = c.loop-from.self-inside.reading.rest; left = c.loop-from.self-inside.left }) [] inv.0)
     × (s.heads ≡ inv.1.heads) in (
       record { replies = length inv.0; terms = inv.3 },
       (

@@ -14,10 +14,10 @@ invariant-loop-from g l =
     (l.from ≤ length l.piece)
     × (g.P.Versions.state l.pages ≡ g.P.Versions.state l.fn.pages)
     × ((replies : List (List ℕ))
-    × (stays : StaysOpen (shown_in l.root g.P.Versions.site g.P.Versions.templates (g.P.Versions.state l.fn.pages)) l.fn.self (take l.from l.piece)
+    × (stays : StaysOpen (shown_in l.origin g.P.Versions.site g.P.Versions.templates (g.P.Versions.state l.fn.pages)) l.fn.self (take l.from l.piece)
     (record { rest = l.self-inside.reading.rest; left = l.self-inside.left }) [] replies)
     × ((g.W.Wire.told l.wire).account l.fn.number ≡ gain ((g.W.Wire.told l.fn.wire).account l.fn.number) replies)
-    × (terms : List Term) × LooksUpAll (TermOf l.root) stays.heads terms
+    × (terms : List Term) × LooksUpAll l.origin.hosts (TermOf l.origin.root) stays.heads terms
     × (l.made ≡ up_by (length replies) l.fn.made)
     × AllLooked (g.P.Versions.looks (g.P.Versions.state l.fn.pages)) (g.P.Versions.cache l.fn.pages) terms (g.P.Versions.cache l.pages))
     × ((other : ℕ) → other ≢ l.fn.number → (g.W.Wire.told l.wire).account other ≡ (g.W.Wire.told l.fn.wire).account other)

@@ -30,7 +30,7 @@ returns-clause-finished g c =
     let ends : EndsWith c.args.self.now.rest c.end.result = subst (λ (r : List ℕ). EndsWith r c.end.result) rest_is c.end.ensures.ask in
     let sent = c.answer.ensures.sent in (
       sent.0,
-      finish_asked (shown_in c.args.root.now g.P.Versions.site g.P.Versions.templates (g.P.Versions.state c.args.pages.now)) (TermOf c.args.root.now) c.args.self.now.rest _ c.end.result c.in-Some.ask sent.0
+      finish_asked (shown_in c.args.origin.now g.P.Versions.site g.P.Versions.templates (g.P.Versions.state c.args.pages.now)) (TermOf c.args.origin.now.root) c.args.self.now.rest _ c.end.result c.in-Some.ask sent.0
           c.answer.result _ _ _ _ c.in-Some.is ends sent.1,
       sent.2,
       sent.3,
