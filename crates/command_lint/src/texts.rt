@@ -19,9 +19,7 @@ use query_scoping::scopes;
 use run_report::Report;
 use sd_graph::Graph;
 use sd_value::{NoMemory, Str};
-use site_lint::{
-    LintedSite, blocks_without_rows, findings_of, has_active_end, is_note, names_of,
-};
+use site_lint::{LintedSite, blocks_without_rows, findings_of, has_active_end, is_note, names_of};
 use std::alloc::Global;
 use template_items::Item;
 use text_claims::{claims_of_templates, further_labels};

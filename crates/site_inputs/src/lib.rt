@@ -12,6 +12,6 @@ pub use data::{DataInputs, load_data};
 pub use fault::{Fault, Refusal, refused, unread};
 pub use inputs::{load_graph, read_file};
 pub use site::{
-    SiteInputs, load_inputs, load_noted, load_query, take_checked, take_item_templates, take_items, take_query, take_templates,
-    take_written,
+    SiteInputs, load_inputs, load_noted, load_query, take_checked, take_item_templates, take_items,
+    take_query, take_templates, take_written,
 };

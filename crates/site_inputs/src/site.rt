@@ -132,11 +132,7 @@ pub fn take_items(alloc: Global, path: &Str, bytes: &[u8]) -> Result<Vec<Item>, 
 /// The templates of the items of a text.
 /// # Errors
 /// Templates that are refused, with the file's path, or out of memory.
-pub fn take_item_templates(
-    alloc: Global,
-    path: &Str,
-    items: &[Item],
-) -> Result<Templates, Fault>
+pub fn take_item_templates(alloc: Global, path: &Str, items: &[Item]) -> Result<Templates, Fault>
     requires { length items.now ≤ 2 ^ 32 }
     ensures { (bytes : List ℕ) → AreItemsOf text_limit bytes items.now
         → TemplatesTaken path.now bytes (file_result result) }
