@@ -14,7 +14,7 @@ use Rattle.lint_spec.specs.declared.Finding.{Finding}
 use Rattle.lint_spec.specs.Mistakes.{IsMistake}
 use Rattle.lint_spec.specs.QueryClaims.{query_claims}
 use Rattle.lint_spec.specs.TemplateClaims.{template_claims}
-use Rattle.lint_spec.specs.Findings.{AreFindings}
+use Rattle.lint_spec.specs.Findings.{AreFindings, are_notes}
 use Rattle.run_report.specs.declared.reports.Report.{Report}
 use Rattle.command_lint.specs.Lines.{finding_line}
 use Rattle.command_lint.specs.Ends.{SiteTexts, SiteTrees, AreTrees, HasFindings, IsLintReport}
@@ -32,7 +32,7 @@ findings_as G graph s scope templates l further cs claims found shown graphs sco
 pub whole_report : (graph : DataGraph) (query : plain.Query) (templates : TemplateFile) (texts : SiteTexts) (trees : SiteTrees) (in_query in_templates : List Finding) (result : Result Report NoMemory) → AreTrees texts trees
     → HasFindings graph query templates trees (query_claims trees.query) in_query → HasFindings graph query templates trees (template_claims trees.items) in_templates
     → IfOk result (λ r. r.text ≡ flat_map (finding_line texts.query_path) in_query ++ flat_map (finding_line texts.templates_path) in_templates)
-    → IfOk result (λ r. IsTrue r.passed ↔ (in_query ++ in_templates ≡ [])) → IfOk result (λ r. IsLintReport graph query templates texts r.text r.passed)
+    → IfOk result (λ r. r.passed ≡ are_notes (in_query ++ in_templates)) → IfOk result (λ r. IsLintReport graph query templates texts r.text r.passed)
 whole_report graph query templates texts trees in_query in_templates (Ok r) spelled of_query of_templates lines clean = record {
   trees = trees;
   spelled = spelled;
@@ -44,10 +44,3 @@ whole_report graph query templates texts trees in_query in_templates (Ok r) spel
   clean = clean;
 }
 whole_report graph query templates texts trees in_query in_templates (Err e) spelled of_query of_templates lines clean = tt
-
--- ---- some findings
-
--- there is one in the query
-pub some_first : (fs gs : List Finding) (a : Bool) → a ≡ (length fs == 0) → a ≡ false → IsTrue a ↔ (fs ++ gs ≡ [])
-some_first [] gs a first some = absurd cc
-some_first (f ∷ fs) gs a first some = (λ t. absurd (false≢true (sym some ∙ t)), λ n. absurd cc)

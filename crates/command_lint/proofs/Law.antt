@@ -1,5 +1,5 @@
 -- The inputs decide the report, and what is told are its findings.
-use Rattle.std.proofs.Common.{◌≡◌, ◌↔◌, ℕ, List, refl, ap}
+use Rattle.std.proofs.Common.{◌≡◌, ◌↔◌, ℕ, List, refl, sym, ap, ◌∙◌}
 use Rattle.std.specs.Prelude.{IsTrue, Result, Ok, Err, Option}
 use Rattle.edge_io.specs.Files.{FileMap}
 use Rattle.edge_io.specs.Sink.{Gains}
@@ -91,5 +91,5 @@ module _ (map : FileMap) (sources : DataFiles) (query_path templates_path : List
         all_met = r.passed;
         report = report;
         gained = gained;
-        clean = (λ ok. report.clean.0 (is.0 ok), λ none. is.1 (report.clean.1 none));
+        clean = (λ ok. sym report.clean ∙ is.0 ok, λ notes. is.1 (report.clean ∙ notes));
       }

@@ -22,7 +22,7 @@ use Rattle.lint_spec.specs.declared.Claim.{Claim}
 use Rattle.lint_spec.specs.declared.Finding.{Finding}
 use Rattle.lint_spec.specs.QueryClaims.{query_claims}
 use Rattle.lint_spec.specs.TemplateClaims.{template_claims}
-use Rattle.lint_spec.specs.Findings.{marked, AreFindings}
+use Rattle.lint_spec.specs.Findings.{marked, AreFindings, are_notes}
 use Rattle.run_report.specs.declared.reports.Report.{Report}
 use Rattle.command_lint.specs.Lines.{finding_line}
 use Rattle.command_lint.specs.Ends.{SiteTexts, SiteTrees, AreTrees, HasFindings, IsLintReport}
@@ -82,5 +82,5 @@ module _ (graph : DataGraph) (query : plain.Query) (templates : TemplateFile) (t
       let in_templates : h.in_templates ≡ k.in_templates = same_findings _ (template_claims h.trees.items) h.in_templates k.in_templates h.of_templates (subst (λ (t : SiteTrees). InTemplates t k.in_templates) trees k.of_templates) in
       let text : r.text ≡ s.text = h.lines ∙ (ap (λ (fs : List Finding). Lines fs h.in_templates) in_query ∙ (ap (Lines k.in_query) in_templates ∙ sym k.lines)) in
       let all_findings : k.in_query ++ k.in_templates ≡ h.in_query ++ h.in_templates = sym (ap (λ (fs : List Finding). fs ++ h.in_templates) in_query ∙ ap (λ (fs : List Finding). k.in_query ++ fs) in_templates) in
-      let all : r.passed ≡ s.passed = same_test r.passed s.passed (h.in_query ++ h.in_templates ≡ []) h.clean (subst (λ (fs : List Finding). IsTrue s.passed ↔ (fs ≡ [])) all_findings k.clean) in
+      let all : r.passed ≡ s.passed = h.clean ∙ ap are_notes (sym all_findings) ∙ sym k.clean in
       λ i. record { text = text i; passed = all i }

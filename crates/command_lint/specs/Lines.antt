@@ -24,8 +24,12 @@ name_of n =
 abbrev pub mark_of : ℕ → List ℕ
 mark_of n = if is_note n then codes "note " else []
 
--- the line of a finding in the file
-abbrev pub finding_line : List ℕ → Finding → List ℕ
-finding_line path f =
-    mark_of f.number ++ path ++ codes ": " ++ decimal f.number ++ codes " " ++ name_of f.number ++ codes " at "
+-- the line of a finding in the file, as that of a refusal
+abbrev pub fault_line : List ℕ → Finding → List ℕ
+fault_line path f =
+    path ++ codes ": " ++ decimal f.number ++ codes " " ++ name_of f.number ++ codes " at "
     ++ decimal f.at ++ codes "\n"
+
+-- the same, with the word before it if it is a note
+abbrev pub finding_line : List ℕ → Finding → List ℕ
+finding_line path f = mark_of f.number ++ fault_line path f

@@ -1,7 +1,7 @@
 // The lines of findings.
 ghost use Rattle.std.specs.Prelude.{◌≡◌, ◌++◌, IfOk};
 ghost use Rattle.std.specs.List.{flat_map};
-ghost use Rattle.command_lint.specs.Lines.{name_of as name_by, mark_of, finding_line};
+ghost use Rattle.command_lint.specs.Lines.{name_of as name_by, mark_of, fault_line, finding_line};
 
 use lint_spec::Finding;
 use sd_value::{NoMemory, Str};
@@ -36,12 +36,11 @@ fn mark_of(number: u32) -> &'static [u8]
     if is_note(number) { b"note " } else { b"" }
 }
 
-// Adds the line of a finding in the file.
-fn push_line(text: &mut Vec<u8>, path: &Str, finding: &Finding) -> Result<(), NoMemory>
+// Adds the line of a finding in the file, as that of a refusal.
+fn push_fault_line(text: &mut Vec<u8>, path: &Str, finding: &Finding) -> Result<(), NoMemory>
     ensures { IfOk result (λ _. text.new.items
-        ≡ text.old.items ++ finding_line path.now finding.now) }
+        ≡ text.old.items ++ fault_line path.now finding.now) }
 {
-    text.extend_from_slice(mark_of(finding.number))?;
     text.extend_from_slice(path.bytes())?;
     text.extend_from_slice(b": ")?;
     put_number(finding.number as u128, text)?;
@@ -51,6 +50,15 @@ fn push_line(text: &mut Vec<u8>, path: &Str, finding: &Finding) -> Result<(), No
     put_number(finding.at as u128, text)?;
     text.extend_from_slice(b"\n")?;
     Ok(())
+}
+
+// Adds the line of a finding in the file.
+fn push_line(text: &mut Vec<u8>, path: &Str, finding: &Finding) -> Result<(), NoMemory>
+    ensures { IfOk result (λ _. text.new.items
+        ≡ text.old.items ++ finding_line path.now finding.now) }
+{
+    text.extend_from_slice(mark_of(finding.number))?;
+    push_fault_line(text, path, finding)
 }
 
 /// Adds the lines of the findings in the file.

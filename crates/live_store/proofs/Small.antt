@@ -32,10 +32,10 @@ fewer {X} R total exact xs ys up within =
     (λ x h. list_any-from_Contains (eq_by_cmp_equiv total) x ys
     (within x (Contains-from_any {eq = eq_by_cmp R} same x xs h)))
 
-to_of : Edge → Value
+abbrev to_of : Edge → Value
 to_of e = e.to
 
-label_of : Edge → Name
+abbrev label_of : Edge → Name
 label_of e = e.label
 
 ended : (G : DataGraph) (e : Edge) (v : Value) → Contains G.edges e → e.to ≡ v

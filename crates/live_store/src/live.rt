@@ -102,14 +102,6 @@ impl LiveStore {
         })
     }
 
-    /// How large the graph may become: up to the program's limits.
-    pub fn limits(&self) -> Limits
-        ensures value { result ≡ self.now.limits }
-        ensures program { result ≡ program_limits }
-    {
-        PROGRAM_LIMITS
-    }
-
     /// Whether the graph declares this node.
     pub(crate) fn has_node(&self, name: &Str) -> bool
         ensures is { IsTrue result ↔ Contains self.now.graph.nodes name.now }
@@ -146,9 +138,11 @@ impl LiveStore {
     /// Makes an edit of the graph. Adding what is there and removing what isn't changes nothing.
     ///
     /// `TooManyNodes` comes exactly where the graph would have more nodes than the limit, and `TooManyEdges` exactly
-    /// where it would not, and would have more edges and members together than their limit. A refusal changes nothing.
+    /// where it would not, and would have more edges and members together than their limit. The limits are those of the
+    /// program. A refusal changes nothing.
     pub fn apply(&mut self, alloc: Global, edit: &Edit) -> Result<(), GraphRefusal>
         requires { IsOfData edit.now }
+        ensures limits { self.old.limits ≡ program_limits }
         ensures applies { Applies edit.now self.old self.new result }
         ensures edited { OnOk result (Edited self.old.graph edit.now self.new.graph) }
     {

@@ -111,7 +111,7 @@ fn refused_templates(alloc: Global, path: &Str, refusal: &TmplRefusal) -> Fault
     ensures { TemplatesRefused path.now refusal.now result }
 {
     match told_of_templates(refusal) {
-        Ok(told) => refused(alloc, path, told.number, Place::At(told.at)),
+        Ok(fault) => refused(alloc, path, fault.number, Place::At(fault.at)),
         Err(NoMemory) => Fault::NoMemory,
     }
 }

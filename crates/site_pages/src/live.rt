@@ -16,8 +16,6 @@ pub(crate) fn apply(alloc: Global, store: &mut LiveStore, edit: &Edit) -> Result
         (λ _. store.new.graph ≡ edited (Some edit.now) store.old.graph) }
     ensures room { IfOk result (λ room. room ≡ is_taken (Some edit.now) store.old.graph) }
 {
-    // With its limits a store says that they are the program's.
-    let _limits = store.limits();
     match store.apply(alloc, edit) {
         Ok(()) => Ok(true),
         Err(GraphRefusal::TooManyNodes) => Ok(false),

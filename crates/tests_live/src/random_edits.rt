@@ -215,7 +215,6 @@ fn store_of_nodes(alloc: Global, count: u64) -> Result<LiveStore, Fail> {
 fn edits_beyond_the_limits_are_refused(rt: HostRuntime) -> Result<(), Fail> {
     let alloc = rt.alloc();
     let mut store = store_of_nodes(alloc, MAX_NODES)?;
-    assert_eq!(rt; store.limits(), PROGRAM_LIMITS);
     for row in LIMITED {
         let edit = read_edit(alloc, row.edit.as_bytes(), 65_536)?;
         let answer = apply(alloc, &mut store, &edit)?;

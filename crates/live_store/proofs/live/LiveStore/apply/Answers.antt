@@ -19,8 +19,8 @@ returns-in_err-check_room-clause-applies c =
     let H : DataGraph = graph_after c.args.edit.now before in
     let edited : Edited before c.args.edit.now H = after before c.args.edit.now c.self.invariant.layers.whole in
     let are = c.told_after-told.ensures H (subst (λ (b : Building). Edited b.graph c.args.edit.now H) c.self.view_is edited) in
-    let p = err_from_is_err_and c.from_residual-in_err-check_room.result
-    c.from_residual-in_err-check_room.ensures.1 in
+    let p = err_from_is_err_and c.from_residual.result
+    c.from_residual.ensures.1 in
     subst (λ r. Applies c.args.edit.now c.args.self.now c.args.self.now r) (sym (p.1 ∙ ap (λ (r : GraphRefusal). Err r) p.2))
     (refused_as _ (record { limits = program_limits; graph = before }) c.args.edit.now H
     c.self.invariant.layers.whole edited _ _ c.in_err-check_room.was (c.check_room.ensures H are) c.self.view_is)

@@ -7,19 +7,19 @@ use Rattle.live_store.proofs.Moves.{labelled_bound}
 use Rattle.live_store.proofs.ValueLaws.{one_itself, labelled_moved, labels_moved, label_before}
 use Rattle.live_store.proofs.live.LiveStore.labels_after.Goals as goal
 
-pub recount-requires-clause-there : goal.recount-requires-clause-there
-recount-requires-clause-there c = (labelled_moved c.args.self.now.graph c.args.self.now.graph c.args.edge.now c.args.was c.args.was
+pub recount-left-requires-clause-there : goal.recount-left-requires-clause-there
+recount-left-requires-clause-there c = (labelled_moved c.args.self.now.graph c.args.self.now.graph c.args.edge.now c.args.was c.args.was
     (one_itself c.args.self.now.graph c.args.edge.now c.args.was c.requires) c.requires
     c.edges_of-edges.result c.edges_of-edges.ensures).0
 
-pub recount-requires-clause-small : goal.recount-requires-clause-small
-recount-requires-clause-small c =
+pub recount-left-requires-clause-small : goal.recount-left-requires-clause-small
+recount-left-requires-clause-small c =
     let most = labelled_bound c.args.self.now.graph c.counts-before.ensures.well_formed c.args.edge.now.label
     c.edges_of-edges.result c.edges_of-edges.ensures in
     omega (arith, most, c.counts-before.ensures.told.edge_count, c.counts-before.ensures.small.edges)
 
-pub recount-requires-2-clause-there : goal.recount-requires-2-clause-there
-recount-requires-2-clause-there c = label_before c.args.self.now.graph c.args.edge.now.label c.counts-before.result.sizes.labels
+pub recount-requires-clause-there : goal.recount-requires-clause-there
+recount-requires-clause-there c = label_before c.args.self.now.graph c.args.edge.now.label c.counts-before.result.sizes.labels
     c.edges_of-edges.result c.counts-before.ensures.told.label_count c.edges_of-edges.ensures
 
 pub returns : goal.returns

@@ -6,8 +6,8 @@ use Rattle.live_store.specs.Counts.{one_if}
 use Rattle.live_store.proofs.CountLaws.{moved, itself, length_moved}
 use Rattle.live_store.proofs.live.LiveStore.told_with_edge.Goals as goal
 
-pub recount-requires-clause-there : goal.recount-requires-clause-there
-recount-requires-clause-there c =
+pub recount-edges-requires-clause-there : goal.recount-edges-requires-clause-there
+recount-edges-requires-clause-there c =
     (moved edge_cmp edge_cmp-total edge_cmp-exact {Q = Contains c.args.self.now.graph.edges}
     {Q' = Contains c.args.self.now.graph.edges} c.args.edge.now c.counts-before.result.sizes.edges
     (subst (IsCountOf edge_cmp (Contains c.args.self.now.graph.edges)) (sym c.counts-before.ensures.told.edge_count)

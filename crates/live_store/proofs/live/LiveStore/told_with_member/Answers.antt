@@ -9,8 +9,8 @@ use Rattle.live_store.proofs.CountLaws.{moved, itself, length_moved}
 use Rattle.live_store.proofs.ValueLaws.{IsAtomOf, atoms_counted, atoms_same, labels_same, values_counted}
 use Rattle.live_store.proofs.live.LiveStore.told_with_member.Goals as goal
 
-pub recount-requires-clause-there : goal.recount-requires-clause-there
-recount-requires-clause-there c =
+pub recount-members-requires-clause-there : goal.recount-members-requires-clause-there
+recount-members-requires-clause-there c =
     (moved member_cmp member_cmp-total member_cmp-exact {Q = Contains c.args.self.now.graph.members}
     {Q' = Contains c.args.self.now.graph.members} c.args.member.now c.counts-before.result.members
     (subst (IsCountOf member_cmp (Contains c.args.self.now.graph.members)) (sym c.counts-before.ensures.told.member_count)

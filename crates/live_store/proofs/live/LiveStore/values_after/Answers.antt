@@ -9,13 +9,13 @@ use Rattle.live_store.proofs.Moves.{to_bound}
 use Rattle.live_store.proofs.ValueLaws.{IsAtomOf, one_itself, degree_moved, atoms_counted, atom_before, atoms_moved, values_counted}
 use Rattle.live_store.proofs.live.LiveStore.values_after.Goals as goal
 
-pub recount-requires-clause-there : goal.recount-requires-clause-there
-recount-requires-clause-there c = (degree_moved c.args.self.now.graph c.args.self.now.graph c.args.edge.now c.args.was c.args.was
+pub recount-left-requires-clause-there : goal.recount-left-requires-clause-there
+recount-left-requires-clause-there c = (degree_moved c.args.self.now.graph c.args.self.now.graph c.args.edge.now c.args.was c.args.was
     (one_itself c.args.self.now.graph c.args.edge.now c.args.was c.requires.there) c.requires.there
     c.degree_incoming-degree.result c.degree_incoming-degree.ensures).0
 
-pub recount-requires-clause-small : goal.recount-requires-clause-small
-recount-requires-clause-small c =
+pub recount-left-requires-clause-small : goal.recount-left-requires-clause-small
+recount-left-requires-clause-small c =
     let most = to_bound c.args.self.now.graph c.counts-before.ensures.well_formed c.args.edge.now.to
     c.degree_incoming-degree.result c.degree_incoming-degree.ensures in
     omega (arith, most, c.counts-before.ensures.told.edge_count, c.counts-before.ensures.small.edges)
@@ -26,8 +26,8 @@ overflow_sub-before_atoms c =
     c.counts-before.ensures.told.value_count).0 in
     omega (arith, most, c.counts-before.ensures.told.node_count)
 
-pub recount-requires-2-clause-there : goal.recount-requires-2-clause-there
-recount-requires-2-clause-there c =
+pub recount-atoms-requires-clause-there : goal.recount-atoms-requires-clause-there
+recount-atoms-requires-clause-there c =
     let atoms = subst (λ n. IsCountOf value_cmp (IsAtomOf c.args.self.now.graph) (c.counts-before.result.sizes.values - n))
     (sym c.counts-before.ensures.told.node_count)
     (atoms_counted c.args.self.now.graph c.counts-before.ensures.well_formed c.counts-before.result.sizes.values
