@@ -62,10 +62,9 @@ fn serve_inputs<W: Wire>(
     ensures err { OnErr result (wire.new ≡ wire.old) }
 {
     let scopes = scopes(alloc, &inputs.query)?;
-    let origin = Origin {
-        root: root_function(alloc, &scopes)?,
-        hosts: copied(alloc, &limits.hosts)?,
-    };
+    let root = root_function(alloc, &scopes)?;
+    let hosts = copied(alloc, &limits.hosts)?;
+    let origin = Origin { root, hosts };
     let room = CacheRoom {
         pages: u64::from(limits.cache),
         bytes: limits.cache_bytes,
