@@ -3,3 +3,4 @@ pub mod Once
 pub mod Law
 pub mod Taken
 pub mod Judged
+pub mod Items

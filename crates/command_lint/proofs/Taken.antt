@@ -23,12 +23,6 @@ then_next : {A B : Type 0} (First : Result A Fault → Type 0) (Next : A → Res
 then_next First Next a (Ok b) first next = record { value = a; first = first; next = next }
 then_next First Next a (Err fault) first next = inr (record { value = a; first = first; next = next })
 
--- the templates are judged by their bytes
-pub judged_as : (graph : DataGraph) (query : plain.Query) (templates : TemplateFile) (query_path query_bytes templates_path t template_bytes : List ℕ) (result : Result Report Fault) → t ≡ template_bytes
-    → LintTaken graph query templates (texts_of query_path query_bytes templates_path t) result → LintTaken graph query templates (texts_of query_path query_bytes templates_path template_bytes) result
-judged_as graph query templates query_path query_bytes templates_path t template_bytes result same h =
-    subst (λ (x : List ℕ). LintTaken graph query templates (texts_of query_path query_bytes templates_path x) result) same h
-
 module _ (map : FileMap) (sources : DataFiles) (query_path templates_path : List ℕ) (graph : DataGraph) (is_graph : GraphEnds map empty_building sources (Ok graph)) where
   -- behind the data
   pub graph_next : (result : Result Report Fault) → WithGraph map sources query_path templates_path graph result → LintEnds map sources query_path templates_path result

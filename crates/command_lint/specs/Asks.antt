@@ -6,8 +6,11 @@ use Rattle.query_reader.specs.Reads.{Spells}
 use Rattle.lint_spec.specs.declared.Claim.{Claim}
 use Rattle.lint_spec.specs.QueryClaims.{query_claims}
 use Rattle.site_inputs.specs.declared.fault.Fault.{Fault}
-use Rattle.site_inputs.specs.Sites.{QueryTaken}
+use Rattle.tmpl.specs.Reading.{file_of}
+use Rattle.template_reader.specs.Faults.{AreItemsOf}
+use Rattle.site_inputs.specs.Sites.{QueryTaken, TemplatesTaken}
 use Rattle.command_lint.specs.declared.asked.AskedQuery.{AskedQuery}
+use Rattle.command_lint.specs.declared.asked.ItemTemplates.{ItemTemplates}
 
 -- the text spells a query, and this is all that it asks for
 abbrev pub Asks : List ℕ → List Claim → Type 0
@@ -19,3 +22,10 @@ abbrev pub AskedTaken : List ℕ → List ℕ → Result AskedQuery Fault → Ty
 AskedTaken path bytes (Ok query) =
     QueryTaken path bytes (Ok query.checked) × Asks bytes query.asked.items
 AskedTaken path bytes (Err fault) = QueryTaken path bytes (Err fault)
+
+-- How a text of templates ends: with the templates and the items of the text, or refused.
+abbrev pub ItemsTaken : List ℕ → List ℕ → Result ItemTemplates Fault → Type 0
+ItemsTaken path bytes (Ok text) =
+    TemplatesTaken path bytes (Ok (file_of text.templates))
+    × AreItemsOf text_limit bytes text.items.items
+ItemsTaken path bytes (Err fault) = TemplatesTaken path bytes (Err fault)

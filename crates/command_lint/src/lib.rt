@@ -14,14 +14,14 @@ mod lines;
 mod link_answers;
 mod texts;
 
-use crate::asked::take_asked;
-use crate::texts::{TemplateItems, report_of};
+use crate::asked::{take_asked, take_item_text};
+use crate::texts::report_of;
 use command_spec::{DataFiles, TEXT_LIMIT};
 use edge_io::Files;
 pub use laws::reports_are_decided;
 use run_report::Report;
 use sd_value::Str;
-use site_inputs::{Fault, load_graph, read_file, take_item_templates, take_items};
+use site_inputs::{Fault, load_graph, read_file};
 use std::alloc::Global;
 
 /// What a query and its templates ask for and isn't there, over the data: a line for each finding, those in the query
@@ -49,12 +49,7 @@ pub fn lint<F: Files>(
     let query_bytes = read_file(alloc, files, query_path, TEXT_LIMIT)?;
     let query = take_asked(alloc, query_path, query_bytes.bytes())?;
     let template_bytes = read_file(alloc, files, templates_path, TEXT_LIMIT)?;
-    let items = take_items(alloc, templates_path, template_bytes.bytes())?;
-    let templates = take_item_templates(alloc, templates_path, &items)?;
-    let template_text = TemplateItems {
-        path: templates_path,
-        items: &items,
-    };
-    let report = report_of(alloc, graph, query_path, &query, &templates, &template_text)?;
+    let templates = take_item_text(alloc, templates_path, template_bytes.bytes())?;
+    let report = report_of(alloc, graph, query_path, &query, templates_path, &templates)?;
     Ok(report)
 }

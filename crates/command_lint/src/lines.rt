@@ -58,7 +58,8 @@ fn push_line(text: &mut Vec<u8>, path: &Str, finding: &Finding) -> Result<(), No
         ≡ text.old.items ++ finding_line path.now finding.now) }
 {
     text.extend_from_slice(mark_of(finding.number))?;
-    push_fault_line(text, path, finding)
+    push_fault_line(text, path, finding)?;
+    Ok(())
 }
 
 /// Adds the lines of the findings in the file.

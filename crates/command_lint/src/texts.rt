@@ -9,7 +9,7 @@ ghost use Rattle.command_lint.specs.Lines.{finding_line};
 ghost use Rattle.command_lint.specs.Asks.{Asks};
 ghost use Rattle.command_lint.specs.Ends.{IsLintReport, texts_of};
 
-use crate::asked::AskedQuery;
+use crate::asked::{AskedQuery, ItemTemplates};
 use crate::lines::push_lines;
 use crate::link_answers::QueryLinks;
 use bindings::StoreAsker;
@@ -21,16 +21,7 @@ use sd_graph::Graph;
 use sd_value::{NoMemory, Str};
 use site_lint::{LintedSite, blocks_without_rows, findings_of, has_active_end, is_note, names_of};
 use std::alloc::Global;
-use template_items::Item;
 use text_claims::{claims_of_templates, further_labels};
-use tmpl::Templates;
-
-/// The items of a text of templates, and the path of its file.
-#[derive(Drop)]
-pub(crate) struct TemplateItems<'a> {
-    pub path: &'a Str,
-    pub items: &'a [Item],
-}
 
 // Whether each of the findings is a note.
 fn are_notes(findings: &[Finding]) -> bool
@@ -70,17 +61,17 @@ pub(crate) fn report_of(
     graph: Graph,
     query_path: &Str,
     query: &AskedQuery,
-    templates: &Templates,
-    template_text: &TemplateItems,
+    templates_path: &Str,
+    text: &ItemTemplates,
 ) -> Result<Report, NoMemory>
-    requires { All (EndsWithin text_end) template_text.now.items.now }
+    requires { All (EndsWithin text_end) text.now.items.items }
     ensures { (bytes template_bytes : List ℕ) → Asks bytes query.now.asked.items
-        → AreItems template_bytes template_text.now.items.now → IfOk result (λ r.
-        IsLintReport graph query.now.checked (file_of templates.now)
-        (texts_of query_path.now bytes template_text.now.path.now template_bytes)
+        → AreItems template_bytes text.now.items.items → IfOk result (λ r.
+        IsLintReport graph query.now.checked (file_of text.now.templates)
+        (texts_of query_path.now bytes templates_path.now template_bytes)
         r.text r.passed) }
 {
-    let items = template_text.items;
+    let items = text.items.as_slice();
     let further = further_labels(alloc, items)?;
     let has_active_end = has_active_end(alloc, graph.edges())?;
     let scopes = scopes(alloc, &query.checked)?;
@@ -88,12 +79,12 @@ pub(crate) fn report_of(
     let mut asker = StoreAsker::of(store);
     let without_rows = blocks_without_rows(alloc, &mut asker, &scopes)?;
     let links = QueryLinks::of(alloc, &scopes)?;
-    let names = names_of(alloc, &scopes, templates)?;
+    let names = names_of(alloc, &scopes, &text.templates)?;
     let site = LintedSite {
         store: asker.store(),
         links: &links,
         blocks: &scopes,
-        templates,
+        templates: &text.templates,
         further: &further,
         names: &names,
         without_rows: &without_rows,
@@ -102,11 +93,5 @@ pub(crate) fn report_of(
     let in_query = findings_of(alloc, &site, &query.asked)?;
     let asked = claims_of_templates(alloc, items)?;
     let in_templates = findings_of(alloc, &site, &asked)?;
-    report(
-        alloc,
-        query_path,
-        &in_query,
-        template_text.path,
-        &in_templates,
-    )
+    report(alloc, query_path, &in_query, templates_path, &in_templates)
 }

@@ -1,4 +1,4 @@
-use Rattle.std.proofs.Common.{ℕ, List, ◌∙◌, ◌∷◌, [], inl, subst, arith}
+use Rattle.std.proofs.Common.{ℕ, List, ◌∙◌, ◌∷◌, [], inl, length, subst, arith}
 use Rattle.std.proofs.lemmas.Result.{err_from_is_err_and}
 use Rattle.std.specs.Prelude.{Ok, Err}
 use Rattle.command_spec.specs.Inputs.{input_paths}
@@ -11,21 +11,28 @@ use Rattle.site_inputs.specs.Sites.{QueryTaken, TemplatesTaken}
 use Rattle.site_inputs.proofs.Runs.{none_fell}
 use Rattle.site_inputs.proofs.Causes.{cause_within, of_sources, of_query, of_templates}
 use Rattle.site_inputs.proofs.ReadLemmas.{reads_then, reads_stop, reads_fault, reads_done}
+use Rattle.template_reader.specs.Faults.{AreItemsOf}
+use Rattle.text_claims.specs.Limits.{text_end}
+use Rattle.command_lint.proofs.Items.{ends_more}
 use Rattle.command_lint.specs.Asks.{Asks}
-use Rattle.command_lint.proofs.Taken.{judged_as, graph_next, all_taken, query_fault, templates_unread, templates_fault, query_cause, templates_cause, query_is_read, templates_are_read}
+use Rattle.command_lint.proofs.Taken.{graph_next, all_taken, query_fault, templates_unread, templates_fault, query_cause, templates_cause, query_is_read, templates_are_read}
 use Rattle.command_lint.proofs.lint.Goals as goal
+
+pub report_of-requires : goal.report_of-requires
+report_of-requires g c =
+    let ends = c.in_ok-templates.ensures.1 in
+    ends_more (length c.bytes-2.result.now) text_end c.in_ok-templates.templates.items.items (omega (arith, ends.short)) ends.within
 
 pub returns-clause-ends : goal.returns-clause-ends
 returns-clause-ends g c = λ map told.
-    let templates = file_of c.in_ok-templates.templates in
+    let templates = file_of c.in_ok-templates.templates.templates in
     all_taken map c.args.sources.now c.args.query_path.now c.args.templates_path.now c.in_ok-graph.graph (c.in_ok-graph.ensures.ends map told)
     c.in_ok-query_bytes.query_bytes (c.in_ok-query_bytes.ensures.ends map (c.in_ok-graph.ensures.same ∙ told))
     c.in_ok-query.query.checked (subst (λ (b : List ℕ). QueryTaken c.args.query_path.now b (Ok c.in_ok-query.query.checked)) c.bytes.ensures c.in_ok-query.ensures.0)
     c.in_ok-template_bytes.template_bytes (c.in_ok-template_bytes.ensures.ends map (c.in_ok-query_bytes.ensures.same ∙ c.in_ok-graph.ensures.same ∙ told))
-    templates (Ok c.in_ok-report.report) (subst (λ (b : List ℕ). TemplatesTaken c.args.templates_path.now b (Ok templates)) c.bytes-2.ensures c.in_ok-templates.ensures)
-    (judged_as c.in_ok-graph.graph c.in_ok-query.query.checked templates c.args.query_path.now c.in_ok-query_bytes.query_bytes c.args.templates_path.now c.bytes-3.result.now c.in_ok-template_bytes.template_bytes (Ok c.in_ok-report.report)
-    c.bytes-3.ensures
-    (c.in_ok-report.ensures c.in_ok-query_bytes.query_bytes (subst (λ (b : List ℕ). Asks b c.in_ok-query.query.asked.items) c.bytes.ensures c.in_ok-query.ensures.1)))
+    templates (Ok c.in_ok-report.report) (subst (λ (b : List ℕ). TemplatesTaken c.args.templates_path.now b (Ok templates)) c.bytes-2.ensures c.in_ok-templates.ensures.0)
+    (c.in_ok-report.ensures c.in_ok-query_bytes.query_bytes c.in_ok-template_bytes.template_bytes (subst (λ (b : List ℕ). Asks b c.in_ok-query.query.asked.items) c.bytes.ensures c.in_ok-query.ensures.1)
+    (subst (λ (b : List ℕ). AreItemsOf text_limit b c.in_ok-templates.templates.items.items) c.bytes-2.ensures c.in_ok-templates.ensures.1).are)
 
 pub returns-in_err-query-clause-ends : goal.returns-in_err-query-clause-ends
 returns-in_err-query-clause-ends g c = λ map told.
@@ -160,7 +167,7 @@ returns-in_err-report-clause-traced g c =
     let p = err_from_is_err_and c.from_residual-in_err-report.result c.from_residual-in_err-report.ensures.1 in
     let query_bytes = c.in_ok-query_bytes.query_bytes in
     let template_bytes = c.in_ok-template_bytes.template_bytes in
-    let templates = file_of c.in_ok-templates.templates in
+    let templates = file_of c.in_ok-templates.templates.templates in
     rw (p.1, p.2)
     (reads_then c.args.sources.now.paths (c.args.query_path.now ∷ c.args.templates_path.now ∷ []) _ _ _ _ _ c.in_ok-graph.graph (Err NoMemory) _ _ _ c.in_ok-graph.ensures.traced
     (reads_then (c.args.query_path.now ∷ []) (c.args.templates_path.now ∷ []) _ _ _ _ _ query_bytes (Err NoMemory) _ _
@@ -171,14 +178,15 @@ returns-in_err-report-clause-traced g c =
     c.in_ok-graph.ensures.same
     (λ map f n. all_taken map c.args.sources.now c.args.query_path.now c.args.templates_path.now c.in_ok-graph.graph f query_bytes n.0
     c.in_ok-query.query.checked (subst (λ (b : List ℕ). QueryTaken c.args.query_path.now b (Ok c.in_ok-query.query.checked)) c.bytes.ensures c.in_ok-query.ensures.0)
-    template_bytes n.1 templates (Err NoMemory) (subst (λ (b : List ℕ). TemplatesTaken c.args.templates_path.now b (Ok templates)) c.bytes-2.ensures c.in_ok-templates.ensures) tt))
+    template_bytes n.1 templates (Err NoMemory) (subst (λ (b : List ℕ). TemplatesTaken c.args.templates_path.now b (Ok templates)) c.bytes-2.ensures c.in_ok-templates.ensures.0) tt))
 
 pub returns-clause-traced : goal.returns-clause-traced
 returns-clause-traced g c =
     let query_bytes = c.in_ok-query_bytes.query_bytes in
     let template_bytes = c.in_ok-template_bytes.template_bytes in
-    let templates = file_of c.in_ok-templates.templates in
-    let told = c.in_ok-report.ensures query_bytes (subst (λ (b : List ℕ). Asks b c.in_ok-query.query.asked.items) c.bytes.ensures c.in_ok-query.ensures.1) in
+    let templates = file_of c.in_ok-templates.templates.templates in
+    let told = c.in_ok-report.ensures query_bytes template_bytes (subst (λ (b : List ℕ). Asks b c.in_ok-query.query.asked.items) c.bytes.ensures c.in_ok-query.ensures.1)
+    (subst (λ (b : List ℕ). AreItemsOf text_limit b c.in_ok-templates.templates.items.items) c.bytes-2.ensures c.in_ok-templates.ensures.1).are in
     reads_then c.args.sources.now.paths (c.args.query_path.now ∷ c.args.templates_path.now ∷ []) _ _ _ _ _ c.in_ok-graph.graph (Ok c.in_ok-report.report) _ _ _ c.in_ok-graph.ensures.traced
     (reads_then (c.args.query_path.now ∷ []) (c.args.templates_path.now ∷ []) _ _ _ _ _ query_bytes (Ok c.in_ok-report.report) _ _
     (λ map. FileEnds text_limit map c.args.query_path.now (Ok query_bytes) × FileEnds text_limit map c.args.templates_path.now (Ok template_bytes))
@@ -188,5 +196,21 @@ returns-clause-traced g c =
     c.in_ok-graph.ensures.same
     (λ map f n. all_taken map c.args.sources.now c.args.query_path.now c.args.templates_path.now c.in_ok-graph.graph f query_bytes n.0
     c.in_ok-query.query.checked (subst (λ (b : List ℕ). QueryTaken c.args.query_path.now b (Ok c.in_ok-query.query.checked)) c.bytes.ensures c.in_ok-query.ensures.0)
-    template_bytes n.1 templates (Ok c.in_ok-report.report) (subst (λ (b : List ℕ). TemplatesTaken c.args.templates_path.now b (Ok templates)) c.bytes-2.ensures c.in_ok-templates.ensures)
-    (judged_as c.in_ok-graph.graph c.in_ok-query.query.checked templates c.args.query_path.now query_bytes c.args.templates_path.now c.bytes-3.result.now template_bytes (Ok c.in_ok-report.report) c.bytes-3.ensures told))
+    template_bytes n.1 templates (Ok c.in_ok-report.report) (subst (λ (b : List ℕ). TemplatesTaken c.args.templates_path.now b (Ok templates)) c.bytes-2.ensures c.in_ok-templates.ensures.0) told)
+
+pub returns-in_err-report-clause-ends : goal.returns-in_err-report-clause-ends
+returns-in_err-report-clause-ends g c = λ map told.
+    let p = err_from_is_err_and c.from_residual-in_err-report.result c.from_residual-in_err-report.ensures.1 in
+    let templates = file_of c.in_ok-templates.templates.templates in
+    rw (p.1, p.2)
+    (all_taken map c.args.sources.now c.args.query_path.now c.args.templates_path.now c.in_ok-graph.graph (c.in_ok-graph.ensures.ends map told)
+    c.in_ok-query_bytes.query_bytes (c.in_ok-query_bytes.ensures.ends map (c.in_ok-graph.ensures.same ∙ told))
+    c.in_ok-query.query.checked (subst (λ (b : List ℕ). QueryTaken c.args.query_path.now b (Ok c.in_ok-query.query.checked)) c.bytes.ensures c.in_ok-query.ensures.0)
+    c.in_ok-template_bytes.template_bytes (c.in_ok-template_bytes.ensures.ends map (c.in_ok-query_bytes.ensures.same ∙ c.in_ok-graph.ensures.same ∙ told))
+    templates (Err NoMemory) (subst (λ (b : List ℕ). TemplatesTaken c.args.templates_path.now b (Ok templates)) c.bytes-2.ensures c.in_ok-templates.ensures.0) tt)
+
+pub returns-in_err-report-clause-cause : goal.returns-in_err-report-clause-cause
+returns-in_err-report-clause-cause g c =
+    let p = err_from_is_err_and c.from_residual-in_err-report.result c.from_residual-in_err-report.ensures.1 in
+    rw (p.1, p.2)
+    (record { later = none_fell (none_fell c.in_ok-graph.ensures.cause.later c.in_ok-query_bytes.ensures.cause.later) c.in_ok-template_bytes.ensures.cause.later; failed = tt })
