@@ -8,6 +8,18 @@ const SLIPS: &str =
     "<TEMPLATE RootPage><SFMT @Paper LINK=title></TEMPLATE>\n<TEMPLATE PaperPage><SFMT #Papers EMBED></TEMPLATE>\n";
 
 /// The worked site, others that differ from it, and constraints.
+// One address that a browser would run, whatever its case and the tab before it, and one that leads somewhere.
+const ACTIVE: &str =
+    "object a in C { home url \"\tJavaScript:f()\" home url \"https://x.example/\" }";
+
+const HOMES: &str =
+    "INPUT D WHERE C(x), x -> \"home\" -> h CREATE P() LINK P() -> \"home\" -> h OUTPUT S";
+
+// Values in text, in an attribute in quotes, in one without, in a handler, in the tag, and in a script and after it.
+const PLACES: &str = "<TEMPLATE P><SFMT @home><a title='<SFMT @home>' href=<SFMT @home> \
+    onclick=\"<SFMT @home>\" <SFMT @home>></a><SCRIPT>x = \"<SFMT @home>\"</SCRIPT>\
+    <SFMT @home LINK></TEMPLATE>";
+
 pub const FILES: &[FileRow] = &[
     FileRow {
         path: "bib",
@@ -20,6 +32,22 @@ pub const FILES: &[FileRow] = &[
     FileRow {
         path: "looks",
         text: LOOKS,
+    },
+    FileRow {
+        path: "active",
+        text: ACTIVE,
+    },
+    FileRow {
+        path: "homes",
+        text: HOMES,
+    },
+    FileRow {
+        path: "places",
+        text: PLACES,
+    },
+    FileRow {
+        path: "linked",
+        text: "<TEMPLATE P><SFMT @home LINK DELIM=\", \"></TEMPLATE>",
     },
     FileRow {
         path: "slips",

@@ -5,6 +5,12 @@ use std::test::Fail;
 
 const FOUND: &str = "q: 145 NoTemplate at 314\nslips: 141 UnknownCollection at 82\n";
 
+const NOTES: &str = "note places: 157 UnsafePlace at 53\n\
+    note places: 157 UnsafePlace at 75\n\
+    note places: 157 UnsafePlace at 89\n\
+    note places: 157 UnsafePlace at 119\n\
+    note places: 158 ActiveAddress at 153\n";
+
 const RUNS: &[Run] = &[
     // The lines are put, and nothing is reported.
     Run {
@@ -18,6 +24,22 @@ const RUNS: &[Run] = &[
         words: &["lint", "q", "looks", "bib"],
         code: 0,
         out: "",
+        err: "",
+        ..PLAIN
+    },
+    // Notes are told, and the status doesn't count them.
+    Run {
+        words: &["lint", "homes", "places", "active"],
+        code: 0,
+        out: NOTES,
+        err: "",
+        ..PLAIN
+    },
+    // An active address is shown as text, and another as a link.
+    Run {
+        words: &["page", "homes", "linked", "/", "active"],
+        code: 0,
+        out: "\tJavaScript:f(), <a href=\"https://x.example/\">https://x.example/</a>",
         err: "",
         ..PLAIN
     },
