@@ -469,25 +469,6 @@ const NO_COMMANDS: &[&[&str]] = &[
     &["serve", "--port=65536", "q", "t", "d"],
     &["serve", "--cache", "0", "q", "t", "d"],
     &["serve", "--cache", "4097", "q", "t", "d"],
-    &["serve", "q", "t", "d", "--cache-bytes"],
-    &["serve", "--cache-bytes=", "q", "t", "d"],
-    &["serve", "--cache-bytes", "0", "q", "t", "d"],
-    &["serve", "--cache-bytes=4294967297", "q", "t", "d"],
-    &["serve", "--cache-bytes=1k", "q", "t", "d"],
-    &["serve", "--cache-byte=1", "q", "t", "d"],
-    &["serve", "--cache-bytes=1", "--cache-bytes=1", "q", "t", "d"],
-    &["replay", "--cache-bytes=0", "q", "t", "s", "d"],
-    &["build", "--cache-bytes=1", "q", "t", "o", "d"],
-    &["serve", "q", "t", "d", "--host"],
-    &["serve", "--host=", "q", "t", "d"],
-    &["serve", "--host", ",", "q", "t", "d"],
-    &["serve", "--host=,a", "q", "t", "d"],
-    &["serve", "--host=a,", "q", "t", "d"],
-    &["serve", "--host=a,,b", "q", "t", "d"],
-    &["serve", "--host=a", "--host=b", "q", "t", "d"],
-    &["serve", "--Host=a", "q", "t", "d"],
-    &["replay", "--host=a,,b", "q", "t", "s", "d"],
-    &["page", "--host=a", "q", "t", "a", "d"],
     &["serve", "--requests=4294967297", "q", "t", "d"],
     &["serve", "--idle=0", "q", "t", "d"],
     &["serve", "--idle=4294967296", "q", "t", "d"],
@@ -535,6 +516,29 @@ const NO_COMMANDS: &[&[&str]] = &[
     &["serve", "--turns=1.0", "q", "t", "d"],
     &["serve", "--turns=1=1", "q", "t", "d"],
     &["serve", "--connections=99999999999999999999", "q", "t", "d"],
+];
+
+// Bytes of kept pages and hosts that are none, or are given twice, or to a command that has none.
+const WORDS_WITH_ROOM_OR_HOSTS: &[&[&str]] = &[
+    &["serve", "q", "t", "d", "--cache-bytes"],
+    &["serve", "--cache-bytes=", "q", "t", "d"],
+    &["serve", "--cache-bytes", "0", "q", "t", "d"],
+    &["serve", "--cache-bytes=4294967297", "q", "t", "d"],
+    &["serve", "--cache-bytes=1k", "q", "t", "d"],
+    &["serve", "--cache-byte=1", "q", "t", "d"],
+    &["serve", "--cache-bytes=1", "--cache-bytes=1", "q", "t", "d"],
+    &["replay", "--cache-bytes=0", "q", "t", "s", "d"],
+    &["build", "--cache-bytes=1", "q", "t", "o", "d"],
+    &["serve", "q", "t", "d", "--host"],
+    &["serve", "--host=", "q", "t", "d"],
+    &["serve", "--host", ",", "q", "t", "d"],
+    &["serve", "--host=,a", "q", "t", "d"],
+    &["serve", "--host=a,", "q", "t", "d"],
+    &["serve", "--host=a,,b", "q", "t", "d"],
+    &["serve", "--host=a", "--host=b", "q", "t", "d"],
+    &["serve", "--Host=a", "q", "t", "d"],
+    &["replay", "--host=a,,b", "q", "t", "s", "d"],
+    &["page", "--host=a", "q", "t", "a", "d"],
 ];
 
 const STRAY_WORDS: &[&[&str]] = &[
@@ -654,6 +658,11 @@ fn check_no_commands(alloc: Global, rows: &[&[&str]]) -> Result<(), Fail> {
 #[test]
 fn other_words_give_no_command(rt: HostRuntime) -> Result<(), Fail> {
     check_no_commands(rt.alloc(), NO_COMMANDS)
+}
+
+#[test]
+fn kept_pages_have_room_and_hosts_have_names(rt: HostRuntime) -> Result<(), Fail> {
+    check_no_commands(rt.alloc(), WORDS_WITH_ROOM_OR_HOSTS)
 }
 
 #[test]
