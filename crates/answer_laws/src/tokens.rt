@@ -1,0 +1,31 @@
+//! The texts that are read token by token.
+
+ghost use Rattle.std.specs.Prelude.{ℕ, List, Result, ⊤};
+ghost use Rattle.token_reader.specs.declared.refusal.TextRefusal.{TextRefusal};
+ghost use Rattle.happenings.specs.declared.event.WireEvent.{WireEvent};
+ghost use Rattle.script_reader.specs.Script as script;
+ghost use Rattle.edit_spec.specs.declared.Edit.{Edit};
+ghost use Rattle.edit_reader.specs.Reads as edit;
+ghost use Rattle.sd_graph.specs.Statement.{Building};
+ghost use Rattle.sd_ddl.specs.declared.refusal.DdlRefusal.{DdlRefusal};
+ghost use Rattle.sd_ddl.specs.Reads as ddl;
+ghost use Rattle.ddl_laws.specs.OneAnswer.{IsSettled};
+
+/// Each script has an answer besides out of memory: its events, or its first fault.
+pub fn each_script_has_an_answer()
+    ensures { (limit : ℕ) (bytes : List ℕ) → (r : Result (List WireEvent) TextRefusal)
+        × script.IsSettled r × script.Reads limit bytes r }
+{}
+
+/// Each text has an answer as an edit besides out of memory: the edit, or its first fault.
+pub fn each_edit_has_an_answer()
+    ensures { (limit : ℕ) (bytes : List ℕ) → (r : Result Edit TextRefusal)
+        × edit.IsSettled r × edit.Reads limit bytes r }
+{}
+
+/// Each data text has an answer besides out of memory, whatever graph it is read into, and leaves a
+/// graph: it is taken whole, or has a first fault.
+pub fn each_data_text_has_an_answer()
+    ensures { (limit : ℕ) (bytes : List ℕ) (b : Building) → (c : Building)
+        × (r : Result ⊤ DdlRefusal) × IsSettled r × ddl.Reads limit bytes b c r }
+{}
