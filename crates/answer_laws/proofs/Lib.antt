@@ -5,3 +5,7 @@ pub mod Edits
 pub mod Steps
 pub mod DataTexts
 pub mod Templates
+pub mod Constraints
+pub mod Csv
+pub mod Json
+pub mod Bibtex

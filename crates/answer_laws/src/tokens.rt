@@ -6,6 +6,10 @@ ghost use Rattle.happenings.specs.declared.event.WireEvent.{WireEvent};
 ghost use Rattle.script_reader.specs.Script as script;
 ghost use Rattle.edit_spec.specs.declared.Edit.{Edit};
 ghost use Rattle.edit_reader.specs.Reads as edit;
+ghost use Rattle.query_spec.specs.Query.{Query};
+ghost use Rattle.constraint_spec.specs.declared.Constraint.{Constraint};
+ghost use Rattle.constraints.specs.declared.refusal.ConstraintRefusal.{ConstraintRefusal};
+ghost use Rattle.constraints.specs.Constraints as constraints;
 ghost use Rattle.sd_graph.specs.Statement.{Building};
 ghost use Rattle.sd_ddl.specs.declared.refusal.DdlRefusal.{DdlRefusal};
 ghost use Rattle.sd_ddl.specs.Reads as ddl;
@@ -21,6 +25,14 @@ pub fn each_script_has_an_answer()
 pub fn each_edit_has_an_answer()
     ensures { (limit : ℕ) (bytes : List ℕ) → (r : Result Edit TextRefusal)
         × edit.IsSettled r × edit.Reads limit bytes r }
+{}
+
+/// Each text of constraints has an answer besides out of memory, whatever the query: the constraints,
+/// or its first fault.
+pub fn each_text_of_constraints_has_an_answer()
+    ensures { (q : Query) (limit : ℕ) (bytes : List ℕ)
+        → (r : Result (List Constraint) ConstraintRefusal)
+        × constraints.IsSettled r × constraints.Reads q limit bytes r }
 {}
 
 /// Each data text has an answer besides out of memory, whatever graph it is read into, and leaves a
