@@ -9,3 +9,5 @@ pub mod Constraints
 pub mod Csv
 pub mod Json
 pub mod Bibtex
+pub mod FirstFaults
+pub mod Queries

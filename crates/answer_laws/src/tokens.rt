@@ -7,6 +7,9 @@ ghost use Rattle.script_reader.specs.Script as script;
 ghost use Rattle.edit_spec.specs.declared.Edit.{Edit};
 ghost use Rattle.edit_reader.specs.Reads as edit;
 ghost use Rattle.query_spec.specs.Query.{Query};
+ghost use Rattle.struql_ast.specs.Written as written;
+ghost use Rattle.query_reader.specs.declared.QueryRefusal.{QueryRefusal};
+ghost use Rattle.answer_laws.specs.Queries.{AnswersWritten};
 ghost use Rattle.constraint_spec.specs.declared.Constraint.{Constraint};
 ghost use Rattle.constraints.specs.declared.refusal.ConstraintRefusal.{ConstraintRefusal};
 ghost use Rattle.constraints.specs.Constraints as constraints;
@@ -14,6 +17,13 @@ ghost use Rattle.sd_graph.specs.Statement.{Building};
 ghost use Rattle.sd_ddl.specs.declared.refusal.DdlRefusal.{DdlRefusal};
 ghost use Rattle.sd_ddl.specs.Reads as ddl;
 ghost use Rattle.ddl_laws.specs.OneAnswer.{IsSettled};
+
+/// Each query's text has an answer besides out of memory: the query without faults that it spells, as
+/// it is written, or its first fault.
+pub fn each_query_has_an_answer()
+    ensures { (limit : ℕ) (bytes : List ℕ) → (r : Result written.Query QueryRefusal)
+        × AnswersWritten limit bytes r }
+{}
 
 /// Each script has an answer besides out of memory: its events, or its first fault.
 pub fn each_script_has_an_answer()
