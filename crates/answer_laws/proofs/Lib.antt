@@ -11,3 +11,4 @@ pub mod Json
 pub mod Bibtex
 pub mod FirstFaults
 pub mod Queries
+pub mod DataFiles

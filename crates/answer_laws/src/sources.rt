@@ -1,4 +1,4 @@
-//! The texts of other formats that are read into a graph.
+//! The data files that are read into a graph, by their formats.
 
 ghost use Rattle.std.specs.Prelude.{◌≡◌, ℕ, List, Result, Err, ⊤};
 ghost use Rattle.sd_graph.specs.Statement.{Building};
@@ -13,6 +13,18 @@ ghost use Rattle.json_source.specs.Reads as json;
 ghost use Rattle.bibtex_source.specs.declared.refusal.BibRefusal.{BibRefusal};
 ghost use Rattle.bibtex_source.specs.declared.refusal.BibRefusal.TheVariants as bib_refusal;
 ghost use Rattle.bibtex_source.specs.Reads as bibtex;
+ghost use Rattle.data_source.specs.declared.rules.SourceRules.{SourceRules};
+ghost use Rattle.data_source.specs.declared.refusal.SourceRefusal.{SourceRefusal};
+ghost use Rattle.data_source.specs.declared.refusal.SourceRefusal.TheVariants as source_refusal;
+ghost use Rattle.data_source.specs.Takes.{Takes};
+
+/// Each data file has an answer besides out of memory, whatever its path and bytes and the graph that
+/// it is read into, and leaves a graph.
+pub fn each_data_file_has_an_answer()
+    ensures { (rules : SourceRules) (path : List ℕ) (limit : ℕ) (bytes : List ℕ) (b : Building)
+        → (c : Building) × (r : Result ⊤ SourceRefusal) × (r ≡ Err source_refusal.NoMemory → ⊥)
+        × Takes rules path limit bytes b c r }
+{}
 
 /// Each CSV text has an answer besides out of memory, whatever graph it is read into, and leaves a
 /// graph.
