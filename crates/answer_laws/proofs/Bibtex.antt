@@ -1,5 +1,5 @@
 -- Each BibTeX text has an answer over any graph. Its faults are those of the grammar.
-use Rattle.std.proofs.Common.{◌≡◌, ◌-◌, ℕ, zero, suc, List, [], ◌∷◌, ◌++◌, length, refl, sym, subst, Result, Ok, Err}
+use Rattle.std.proofs.Common.{◌≡◌, ◌-◌, ℕ, zero, suc, List, [], ◌∷◌, length, refl, sym, subst, Result, Ok, Err}
 use Rattle.std.specs.Prelude.{◌==◌, Bool, true, false, nat_eq, ⊤, if◌then◌else◌}
 use Rattle.grammar.specs.Reading.{Outcome, Read, Stuck, Past, starts}
 use Rattle.graph_spec.specs.DataGraph.{Name}
@@ -7,7 +7,6 @@ use Rattle.sd_graph.specs.Statement.{Building}
 use Rattle.sd_graph.specs.Stating.{Ending, done, fault, too_many_nodes, too_many_edges, no_memory, Ends}
 use Rattle.source_steps.specs.Names.{without_mark}
 use Rattle.bibtex_spec.specs.declared.Field.{Field}
-use Rattle.bibtex_spec.specs.declared.Entry.{Entry}
 use Rattle.bibtex_spec.specs.declared.Item.{Item}
 use Rattle.bibtex_spec.specs.declared.Item.TheVariants.{Passes, Defines, Enters}
 use Rattle.bibtex_spec.specs.Bytes.{is_junk, behind}
@@ -15,9 +14,9 @@ use Rattle.bibtex_spec.specs.Values.{texts_of}
 use Rattle.bibtex_spec.specs.Macros.{MacroTexts, months}
 use Rattle.bibtex_spec.specs.Reading.{read_item}
 use Rattle.bibtex_source.specs.declared.refusal.BibRefusal.{BibRefusal}
-use Rattle.bibtex_source.specs.declared.refusal.BibRefusal.TheVariants.{Expected, UnknownMacro, TooDeep, TooManyEdges, TooManyNodes, NoMemory}
-use Rattle.bibtex_source.specs.Text.{BibStep, text_step, texts_steps, field_steps, fields_steps, entry_steps, item_steps, macros_behind, limit_fault}
-use Rattle.bibtex_source.specs.Text.{read_steps, marked_steps, steps_within, items_steps, text_steps, bib_ending}
+use Rattle.bibtex_source.specs.declared.refusal.BibRefusal.TheVariants.{UnknownMacro, TooDeep, TooManyEdges, TooManyNodes, NoMemory}
+use Rattle.bibtex_source.specs.Text.{BibStep, text_step, texts_steps, field_steps, fields_steps, item_steps, macros_behind, limit_fault}
+use Rattle.bibtex_source.specs.Text.{read_steps, marked_steps, steps_within, text_steps, bib_ending}
 use Rattle.bibtex_source.specs.Reads.{Reads}
 use Rattle.answer_laws.proofs.Steps.{FailAs, fail_append, fail_choice, IsToldAs, ended}
 

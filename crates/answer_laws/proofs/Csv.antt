@@ -11,8 +11,8 @@ use Rattle.source_steps.specs.Fields.{Field}
 use Rattle.csv_source.specs.Separators.{CsvRecord, records_of}
 use Rattle.csv_source.specs.declared.rules.CsvRules.{CsvRules}
 use Rattle.csv_source.specs.declared.refusal.CsvRefusal.{CsvRefusal}
-use Rattle.csv_source.specs.declared.refusal.CsvRefusal.TheVariants.{NotUtf8, EmptyLabel, Ragged, TooManyEdges, TooManyNodes, NoMemory}
-use Rattle.csv_source.specs.Text.{CsvStep, field_step, field_steps, row_statements, fits, row_steps, rows_steps, label_faults, header_steps, records_steps, text_steps, csv_ending}
+use Rattle.csv_source.specs.declared.refusal.CsvRefusal.TheVariants.{NotUtf8, EmptyLabel, TooManyEdges, TooManyNodes, NoMemory}
+use Rattle.csv_source.specs.Text.{CsvStep, field_step, field_steps, fits, row_steps, rows_steps, label_faults, header_steps, records_steps, text_steps, csv_ending}
 use Rattle.csv_source.specs.Reads.{Reads}
 use Rattle.answer_laws.proofs.Steps.{FailAs, fail_append, fail_choice, IsToldAs, ended}
 

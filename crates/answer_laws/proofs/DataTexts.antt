@@ -1,5 +1,5 @@
 -- Each data text has an answer over any graph: it is taken whole, or it has a first fault.
-use Rattle.std.proofs.Common.{◌≡◌, ℕ, List, length, refl, Result, Ok, Err}
+use Rattle.std.proofs.Common.{ℕ, List, length, refl, Result, Ok, Err}
 use Rattle.std.specs.Prelude.{⊤}
 use Rattle.sd_lex.specs.declared.token.Token.{Token}
 use Rattle.sd_lex.specs.declared.refusal.LexRefusal.{LexRefusal}

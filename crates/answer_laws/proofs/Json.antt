@@ -1,6 +1,6 @@
 -- Each JSON text has an answer over any graph: its faults are that it is no JSON, and those of a number or of a value that
 -- is no record.
-use Rattle.std.proofs.Common.{◌≡◌, ◌+◌, ℕ, ℤ, List, [], ◌∷◌, refl, sym, subst, Option, Some, None, Result, Ok, Err}
+use Rattle.std.proofs.Common.{◌≡◌, ◌+◌, ℕ, ℤ, List, [], refl, sym, subst, Option, Some, None, Result, Ok, Err}
 use Rattle.std.specs.Prelude.{⊤, if◌then◌else◌}
 use Rattle.serde_json.specs.Data.{Data, null, boolean, number, string, array, object, Items, no_items, item, Members, no_members, member}
 use Rattle.serde_json.specs.Find.{as_i64}
@@ -12,8 +12,8 @@ use Rattle.json_source.specs.Document.{value_of}
 use Rattle.json_source.specs.Tables.{is_collection, holds_collections}
 use Rattle.json_source.specs.declared.rules.JsonRules.{JsonRules}
 use Rattle.json_source.specs.declared.refusal.JsonRefusal.{JsonRefusal}
-use Rattle.json_source.specs.declared.refusal.JsonRefusal.TheVariants.{NotJson, NotInteger, NotRecords, TooManyEdges, TooManyNodes, NoMemory}
-use Rattle.json_source.specs.Text.{JsonStep, number_steps, value_steps, items_steps, members_steps, record_statements, record_steps, records_steps}
+use Rattle.json_source.specs.declared.refusal.JsonRefusal.TheVariants.{TooManyEdges, TooManyNodes, NoMemory}
+use Rattle.json_source.specs.Text.{JsonStep, number_steps, value_steps, items_steps, members_steps, record_steps, records_steps}
 use Rattle.json_source.specs.Text.{collection_steps, collections_steps, object_steps, top_steps, steps_of, text_steps, json_ending}
 use Rattle.json_source.specs.Reads.{Reads}
 use Rattle.answer_laws.proofs.Steps.{FailAs, fail_append, fail_choice, IsToldAs, ended}

@@ -1,5 +1,5 @@
 -- Each script has an answer: its events, or its first fault.
-use Rattle.std.proofs.Common.{◌≡◌, ℕ, List, length, refl, Result, Ok, Err}
+use Rattle.std.proofs.Common.{ℕ, List, length, refl, Result, Ok, Err}
 use Rattle.sd_lex.specs.declared.token.Token.{Token}
 use Rattle.sd_lex.specs.declared.refusal.LexRefusal.{LexRefusal}
 use Rattle.sd_lex.specs.declared.refusal.LexRefusal.TheVariants as lexer

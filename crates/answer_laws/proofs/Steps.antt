@@ -1,9 +1,9 @@
 -- Taking the steps of a text ends: with all of them, at a fault, or at a statement for which there is no room.
-use Rattle.std.proofs.Common.{◌≡◌, ◌⊎◌, ◌+◌, ◌≤◌, ◌<◌, ℕ, Bool, true, false, List, [], ◌∷◌, ◌++◌, length, refl, ap, arith, inl, inr}
+use Rattle.std.proofs.Common.{◌≡◌, ◌+◌, ◌≤◌, Bool, true, false, List, [], ◌∷◌, ◌++◌, length, refl, ap, arith}
 use Rattle.std.specs.Prelude.{nat_lt, ⊤, if◌then◌else◌}
 use Rattle.std.proofs.lemmas.Bool.Decides.{nat_tests}
 use Rattle.sd_graph.specs.Statement.{Statement, Building, building_with, IsWithin, HasTooMany_nodes, HasTooMany_edges}
-use Rattle.sd_graph.specs.Stating.{Step, says, fails, Ending, done, fault, too_many_nodes, too_many_edges, no_memory, Leads, Ends}
+use Rattle.sd_graph.specs.Stating.{Step, says, fails, Ending, done, fault, too_many_nodes, too_many_edges, no_memory, Ends}
 
 -- each fault among the steps is one of these
 abbrev pub FailAs : {P F : Type 0} → (F → Type 0) → List (Step P F) → Type 0
