@@ -12,3 +12,4 @@ pub mod Bibtex
 pub mod FirstFaults
 pub mod Queries
 pub mod DataFiles
+pub mod Trials

@@ -9,6 +9,7 @@ ghost use Rattle.tmpl.specs.Body.{TemplateFile};
 ghost use Rattle.template_reader.specs.declared.refusal.TmplRefusal.{TmplRefusal};
 ghost use Rattle.template_reader.specs.declared.refusal.TmplRefusal.TheVariants.{NoMemory as OutOfMemory};
 ghost use Rattle.template_reader.specs.Faults.{IsTemplatesAnswer};
+ghost use Rattle.command_trial.specs.Ends.{IsTrial};
 
 mod sources;
 mod tokens;
@@ -32,4 +33,9 @@ pub fn each_text_has_tokens()
 pub fn each_file_of_templates_has_an_answer()
     ensures { (limit : ℕ) (bytes : List ℕ) → (r : Result TemplateFile TmplRefusal)
         × (r ≡ Err OutOfMemory → ⊥) × IsTemplatesAnswer limit bytes r }
+{}
+
+/// The trial of any number of entries has a text.
+pub fn each_trial_is_answered()
+    ensures { (entries : ℕ) → (text : List ℕ) × IsTrial entries text }
 {}
