@@ -4,4 +4,5 @@ pub mod Course
 pub mod Runs
 pub mod Replies
 pub mod Lists
+pub mod Queries
 pub mod Once

@@ -1,14 +1,10 @@
 -- A trial of so many entries has one text.
-use Rattle.std.proofs.Common.{◌≡◌, ℕ, List, [], ◌∷◌, Bool, true, false, refl, sym, ap, ◌∙◌, subst, inl, inr, Option, Some, None, Result, Ok, Err, length}
+use Rattle.std.proofs.Common.{◌≡◌, ℕ, List, [], ◌∷◌, refl, sym, ap, ◌∙◌, subst, inl, inr, Option, Some, None, Result, Ok, Err, length}
 use Rattle.sd_value.specs.declared.Term.{Term}
 use Rattle.tmpl.specs.Body.{TemplateFile}
-use Rattle.query_spec.specs.Query as plain
-use Rattle.query_reader.specs.declared.QueryRefusal.{QueryRefusal}
-use Rattle.query_reader.proofs.QueryText as query_law
 use Rattle.template_reader.specs.declared.refusal.TmplRefusal.{TmplRefusal}
 use Rattle.template_reader.proofs.TemplateFiles as templates_law
 use Rattle.page_spec.specs.declared.Outcome.{Outcome}
-use Rattle.page_spec.specs.declared.Outcome.TheVariants.{Missing}
 use Rattle.page_spec.specs.Address.{TermOf}
 use Rattle.page_spec.specs.Page.{IsOutcome, PageAt}
 use Rattle.page_spec.specs.Site.{Site}
@@ -31,6 +27,7 @@ use Rattle.trial_spec.specs.Numbers.{lines_of, counts_of}
 use Rattle.trial_spec.specs.Requests.{targets}
 use Rattle.trial_spec.specs.Texts.{query_text, templates_text}
 use Rattle.command_trial.specs.Ends.{IsMadeSite, IsTrial, TrialEnds}
+use Rattle.command_trial.proofs.Queries.{one_query}
 
 ok_is : (A E : Type 0) (a b : A) → ◌≡◌ {A = Result A E} (Ok a) (Ok b) → a ≡ b
 ok_is A E a b same = cc
@@ -41,7 +38,7 @@ one_site : (entries : ℕ) (a b : Inputs) → IsMadeSite entries a → IsMadeSit
 one_site entries a b p q =
     let graphs : a.graph ≡ b.graph = p.graph ∙ sym q.graph in
     let firsts : a.first ≡ b.first = p.first ∙ sym q.first in
-    let queries : a.query ≡ b.query = ok_is plain.Query QueryRefusal a.query b.query (query_law.one_answer text_limit query_text (Ok a.query) (Ok b.query) p.query q.query tt tt) in
+    let queries : a.query ≡ b.query = one_query text_limit query_text a.query b.query p.query q.query in
     let files : a.templates ≡ b.templates =
     ok_is TemplateFile TmplRefusal a.templates b.templates (templates_law.one_answer text_limit templates_text (Ok a.templates) (Ok b.templates) p.templates q.templates) in
     λ i. record { graph = graphs i; first = firsts i; query = queries i; templates = files i }

@@ -1,6 +1,10 @@
 -- The command `trial`.
 use Rattle.std.specs.Prelude.{◌≡◌, ℕ, List, Result, Ok, Err, None, ⊤}
-use Rattle.query_reader.specs.Reads.{IsAccepted}
+use Rattle.query_spec.specs.Query as plain
+use Rattle.struql_ast.specs.Written as written
+use Rattle.struql_check.specs.Faults.{IsFaultless}
+use Rattle.query_scoping.proofs.Plain.{query_plain}
+use Rattle.query_reader.specs.Reads.{Spells}
 use Rattle.template_reader.specs.Faults.{IsTemplatesAnswer}
 use Rattle.site_spec.specs.Root.{root_function}
 use Rattle.command_spec.specs.declared.TrialCommand.{TrialCommand}
@@ -12,11 +16,18 @@ use Rattle.trial_spec.specs.Asked.{IsTrialText}
 use Rattle.trial_spec.specs.Data.{made_graph}
 use Rattle.trial_spec.specs.Texts.{query_text, templates_text}
 
+-- the plain tree of the query without faults that the text spells
+pub record IsSpelledQuery (limit : ℕ) (bytes : List ℕ) (query : plain.Query) : Type 0 where
+  pub written : written.Query
+  pub spelled : Spells limit bytes written
+  pub faultless : IsFaultless written
+  pub is : query ≡ query_plain written
+
 -- the site of the trial's query and templates over its data, which are no first query's site
 pub record IsMadeSite (entries : ℕ) (site : Inputs) : Type 0 where
   pub graph : site.graph ≡ made_graph entries
   pub first : site.first ≡ None
-  pub query : IsAccepted text_limit query_text site.query
+  pub query : IsSpelledQuery text_limit query_text site.query
   pub templates : IsTemplatesAnswer text_limit templates_text (Ok site.templates)
 
 -- The text of a trial of n entries: that of the trial's site.

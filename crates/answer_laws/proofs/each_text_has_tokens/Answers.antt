@@ -1,0 +1,5 @@
+use Rattle.answer_laws.proofs.Lexed.{each_text}
+use Rattle.answer_laws.proofs.each_text_has_tokens.Goals as goal
+
+pub returns : goal.returns
+returns c = each_text
