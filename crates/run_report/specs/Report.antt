@@ -45,6 +45,7 @@ source_refusal_name number =
     else if number == 121 then codes "Expected"
     else if number == 122 then codes "UnknownMacro"
     else if number == 123 then codes "TooDeep"
+    else if number == 124 then codes "TooLarge"
     else []
 
 -- those of queries, templates, constraints and scripts

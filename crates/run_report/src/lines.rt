@@ -38,6 +38,7 @@ fn source_refusal_name(number: u32) -> &'static [u8]
         121 => b"Expected",
         122 => b"UnknownMacro",
         123 => b"TooDeep",
+        124 => b"TooLarge",
         _ => b"",
     }
 }
