@@ -23,7 +23,7 @@ def directed(count):
 
 def listed(count):
     """A condition that lists as many constants as there are rows."""
-    return 'INPUT D CREATE R() { WHERE P(x), x -> "v" -> v, v in {' + ", ".join(f'"s{n}"' for n in range(count)) + '} LINK R() -> "x" -> v } OUTPUT S'
+    return 'INPUT D CREATE R() { WHERE P(x), x -> "v" -> v, not(v in {' + ", ".join(f'"s{n}"' for n in range(count)) + '}) LINK R() -> "x" -> v } OUTPUT S'
 
 
 def labelled(count):
@@ -71,7 +71,7 @@ def bench_hurt(folder):
 
     rows += grown("a directive, and one object in {} collections by as many statements", (2_500, 10_000), data(collected))
     rows += grown("one object in {} collections with as many directives and values", (1_000, 4_000), data(directed))
-    rows += grown("`v in {{..}}` of {} constants over as many rows", (5_000, 20_000), rows_in)
+    rows += grown("`not(v in {{..}})` of {} constants over as many rows", (5_000, 20_000), rows_in)
     rows += grown("`lint` with {} labels and links", (2_500, 10_000), links)
     for what, text, wanted in (
         ("JSON, 4,000 records of 120 levels", nested(4_000, 120, "k"), 0),
