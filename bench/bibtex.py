@@ -12,6 +12,7 @@ LETTERS = b"abcdefghijklmnopqrstuvwxyzABCDEFGHIJKLMNOPQRSTUVWXYZ"
 NAMES = LETTERS + b"0123456789_-:.+/"
 BLANKS = b" \t\r\n"
 DEEPEST = 64
+LARGEST = 1_048_576
 
 
 class Refused(Exception):
@@ -71,7 +72,8 @@ class Reader:
         self.at += 1
         return self.text[start : self.at - 1]
 
-    def piece(self):
+    def piece(self, before):
+        """A piece of a value that has this text so far."""
         self.blanks()
         byte = self.byte()
         if byte in (b"{", b'"'):
@@ -83,14 +85,16 @@ class Reader:
         name = self.run(LETTERS, NAMES).lower()
         if name not in self.macros:
             raise Refused(122, start)
+        if len(before) + len(self.macros[name]) > LARGEST:
+            raise Refused(124, start)
         return self.macros[name]
 
     def value(self):
-        text = self.piece()
+        text = self.piece(b"")
         self.blanks()
         while self.byte() == b"#":
             self.at += 1
-            text += self.piece()
+            text += self.piece(text)
             self.blanks()
         return text
 

@@ -12,5 +12,5 @@ pub mod Items
 pub mod Same
 pub mod Whole
 pub mod Laws
-pub mod Repeat
+pub mod Iterate
 pub mod Parts

@@ -1,13 +1,13 @@
 -- Parts of a grammar, within limits or not, with their readers, put together as the grammar is.
-use Rattle.std.proofs.Common.{◌≡◌, Bool, true, false, List, [], ◌∷◌, ◌++◌, Option, Some, refl, sym, ap, subst, ◌∙◌, inl, inr}
+use Rattle.std.proofs.Common.{◌≡◌, ℕ, zero, suc, Bool, true, false, List, [], ◌∷◌, ◌++◌, Option, Some, refl, sym, ap, subst, ◌∙◌, inl}
 use Rattle.grammar.specs.Fault.{Every}
-use Rattle.grammar.specs.Grammar.{nothing, one, either, many}
+use Rattle.grammar.specs.Grammar.{nothing, one, either, steps, iterated}
 use Rattle.grammar.specs.Grammar as grammar
-use Rattle.grammar.specs.Reading.{Outcome, and_then, give, take_one, starts, choose, repeat}
+use Rattle.grammar.specs.Reading.{Outcome, and_then, give, take_one, starts, choose, iterate}
 use Rattle.grammar.proofs.Laws.{Always, Stops, every_append}
 use Rattle.grammar.proofs.Parts.{Opens, first_is}
 use Rattle.bibtex_laws.proofs.Laws.{Reads, weaken, restate, give_reads, one_reads, then_reads, choose_reads}
-use Rattle.bibtex_laws.proofs.Repeat.{repeat_reads}
+use Rattle.bibtex_laws.proofs.Iterate.{iterate_reads}
 
 -- The reader reads the part's phrases wherever they stand, and there is one within the limits, of tokens that a text can have.
 pub record Part {T A : Type 0} (Real : T → Type 0) (Why : List T → (T → Bool) → Type 0) (P U : List T → A → Type 0) (Follow : List T → Type 0) (read : List T → Outcome T A) : Type 0 where
@@ -58,19 +58,25 @@ module _ {T A B : Type 0} {Real : T → Type 0} {Why : List T → (T → Bool) �
   pub stop_then : (first : T → Bool) → Part Real Why P U (Stops first) p → ((v : A) → Part Real Why (Q v) (V v) F (q v)) → ((v : A) → Opens (V v) (λ t. first t ≡ false)) → Part Real Why (grammar.◌>>=◌ P Q) (grammar.◌>>=◌ U V) F (λ ts. and_then (p ts) q)
   stop_then first a b opens = then_part a b (λ v y w rest h _. first_is (V v) first false (opens v) y w rest h)
 
-module _ {T A : Type 0} {Real : T → Type 0} {Why : List T → (T → Bool) → Type 0} {P U : List T → A → Type 0} {G F : List T → Type 0} {p : List T → Outcome T A} where
-  -- any number of a part's phrases
-  pub many_part : (first : T → Bool) → Part Real Why P U G p → Opens U (λ t. first t ≡ true) → ((t : T) (later : List T) → first t ≡ true → G (t ∷ later)) → ((rest : List T) → F rest → G rest) → ((rest : List T) → F rest → starts first rest ≡ false) → Part Real Why (many P) (many U) F (repeat first p)
-  many_part first a opens may implies stops = record {
-    reads = repeat_reads Real Why first P U G F p (first_is U first true opens) stops between a.reads;
-    phrase = ([], [], refl, tt);
+-- any number of steps, each of which opens with a token of the set, with what may stand before them
+module _ {T S : Type 0} {U : S → List T → S → Type 0} {G F : List T → Type 0} (first : T → Bool) (opens : (state : S) → Opens (U state) (λ t. first t ≡ true)) (may : (t : T) (later : List T) → first t ≡ true → G (t ∷ later)) (implies : (rest : List T) → F rest → G rest) where
+  by_steps : (n : ℕ) (y : List T) (state last : S) (rest : List T) → steps U n state y last → F rest → G (y ++ rest)
+  by_steps zero y state last rest h f = subst (λ x. G (x ++ rest)) (sym h.0) (implies rest f)
+  by_steps (suc n) y state last rest h f =
+      let o = opens state h.0 h.2 h.4 in
+      subst (λ x. G (x ++ rest)) (sym (h.3 ∙ ap (λ x. x ++ h.1) o.2)) (may o.0 ((o.1 ++ h.1) ++ rest) o.3)
+
+  pub steps_follow : (y : List T) (state last : S) (rest : List T) → iterated U state y last → F rest → G (y ++ rest)
+  steps_follow y state last rest h f = by_steps h.0 y state last rest h.1 f
+
+module _ {T S : Type 0} {Real : T → Type 0} {Why : List T → (T → Bool) → Type 0} {P U : S → List T → S → Type 0} {G F : List T → Type 0} {step : S → List T → Outcome T S} where
+  -- any number of steps
+  pub iterated_part : (first : T → Bool) → ((state : S) → Part Real Why (P state) (U state) G (step state)) → ((state : S) → Opens (U state) (λ t. first t ≡ true)) → ((t : T) (later : List T) → first t ≡ true → G (t ∷ later)) → ((rest : List T) → F rest → G rest) → ((rest : List T) → F rest → starts first rest ≡ false)
+      → (state : S) → Part Real Why (iterated P state) (iterated U state) F (iterate first step state)
+  iterated_part first a opens may implies stops state = record {
+    reads = iterate_reads Real Why first P U G F step (λ s. first_is (U s) first true (opens s)) stops (steps_follow first opens may implies) (λ s. (a s).reads) state;
+    phrase = ([], state, (0, (refl, refl)), tt);
   }
-    where
-      between : (y : List T) (vs : List A) (rest : List T) → many U y vs → F rest → G (y ++ rest)
-      between y [] rest h f = subst (λ x. G (x ++ rest)) (sym h) (implies rest f)
-      between y (v ∷ vs) rest h f =
-          let o = opens h.0 v h.3 in
-          subst (λ x. G (x ++ rest)) (sym (h.2 ∙ ap (λ x. x ++ h.1) o.2)) (may o.0 ((o.1 ++ h.1) ++ rest) o.3)
 
 module _ {T A : Type 0} {Real : T → Type 0} {Why : List T → (T → Bool) → Type 0} {P U Q V : List T → A → Type 0} {F : List T → Type 0} {p q : List T → Outcome T A} where
   -- the one part where a token of the set is first, else the other

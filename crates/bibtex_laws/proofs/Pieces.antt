@@ -65,24 +65,24 @@ pub starts_none : (rest : List ℕ) → starts none rest ≡ false
 starts_none [] = refl
 starts_none (b ∷ rest) = refl
 
-module _ (macros : MacroTexts) where
+module _ (macros : MacroTexts) (before : List ℕ) where
   delimited_opens : (start close : ℕ) (W : ℕ → Type 0) → W start → Opens (delimited (free macros) start close) W
   delimited_opens start close W here = opens_then _ _ W (opens_then (one (same_byte start)) _ W (opens_one (same_byte start) W (λ t v e. subst W (sym (same_byte_is start t v e).0) here)))
 
-  macro_opens : (W : ℕ → Type 0) → ((b : ℕ) → is_letter b ≡ true → W b) → Opens (macro (free macros)) W
+  macro_opens : (W : ℕ → Type 0) → ((b : ℕ) → is_letter b ≡ true → W b) → Opens (macro (free macros) before) W
   macro_opens W known x v h = name_opens W known x h.0 h.1
 
   -- a byte that begins a piece
-  pub piece_opens : (W : ℕ → Type 0) → ((b : ℕ) → is_digit b ≡ true → W b) → W 123 → W 34 → ((b : ℕ) → is_letter b ≡ true → W b) → Opens (piece (free macros)) W
+  pub piece_opens : (W : ℕ → Type 0) → ((b : ℕ) → is_digit b ≡ true → W b) → W 123 → W 34 → ((b : ℕ) → is_letter b ≡ true → W b) → Opens (piece (free macros) before) W
   piece_opens W digit brace quote letter =
       opens_either digits _ W (digits_open W digit)
       (opens_either (delimited (free macros) 123 125) _ W (delimited_opens 123 125 W brace)
-      (opens_either (delimited (free macros) 34 34) (macro (free macros)) W (delimited_opens 34 34 W quote) (macro_opens W letter)))
+      (opens_either (delimited (free macros) 34 34) (macro (free macros) before) W (delimited_opens 34 34 W quote) (macro_opens W letter)))
 
   -- the same reader, with the byte that opens a text
 
   abbrev last_two : List ℕ → Outcome ℕ (List ℕ)
-  last_two = choose (nat_eq 34) (delimited_reader 34 34) (read_macro macros)
+  last_two = choose (nat_eq 34) (delimited_reader 34 34) (read_macro macros before)
 
   abbrev last_three : List ℕ → Outcome ℕ (List ℕ)
   last_three = choose (nat_eq 123) (delimited_reader 123 125) last_two
@@ -99,12 +99,12 @@ module _ (macros : MacroTexts) where
       itself : (start : ℕ) → read_enclosed close (start ∷ bytes) ≡ delimited_reader start close (start ∷ bytes)
       itself start = rw (eq_itself start) refl
 
-  pub same_piece : (tokens : List ℕ) → read_piece macros tokens ≡ four tokens
+  pub same_piece : (tokens : List ℕ) → read_piece macros before tokens ≡ four tokens
   unfolding read_piece read_digits
   same_piece [] = refl
   same_piece (b ∷ bytes) = by (is_digit b) (nat_eq 123 b) (nat_eq 34 b) refl refl refl
     where
-      by : (p q r : Bool) → is_digit b ≡ p → nat_eq 123 b ≡ q → nat_eq 34 b ≡ r → read_piece macros (b ∷ bytes) ≡ four (b ∷ bytes)
+      by : (p q r : Bool) → is_digit b ≡ p → nat_eq 123 b ≡ q → nat_eq 34 b ≡ r → read_piece macros before (b ∷ bytes) ≡ four (b ∷ bytes)
       by true q r h1 h2 h3 = rw h1 refl
       by false true r h1 h2 h3 = rw (h1, h2) (delimited_same 123 125 b bytes h2)
       by false false true h1 h2 h3 = rw (h1, h2, h3) (delimited_same 34 34 b bytes h3)
@@ -125,10 +125,10 @@ module _ (macros : MacroTexts) where
   quotes = delimited_part macros 34 34 (omega arith) (omega arith)
 
   abbrev two_strict : List ℕ → List ℕ → Type 0
-  two_strict = either (delimited (strict macros) 34 34) (macro (strict macros))
+  two_strict = either (delimited (strict macros) 34 34) (macro (strict macros) before)
 
   abbrev two_free : List ℕ → List ℕ → Type 0
-  two_free = either (delimited (free macros) 34 34) (macro (free macros))
+  two_free = either (delimited (free macros) 34 34) (macro (free macros) before)
 
   abbrev three_strict : List ℕ → List ℕ → Type 0
   three_strict = either (delimited (strict macros) 123 125) two_strict
@@ -138,25 +138,25 @@ module _ (macros : MacroTexts) where
 
   two_in : (x v : List ℕ) → two_strict x v → two_free x v
   two_in x v (inl h) = inl (part_within quotes x v h)
-  two_in x v (inr h) = inr ((macro_core macros []).within x v h)
+  two_in x v (inr h) = inr ((macro_core macros before []).within x v h)
 
   three_in : (x v : List ℕ) → three_strict x v → three_free x v
   three_in x v (inl h) = inl (part_within braces x v h)
   three_in x v (inr h) = inr (two_in x v h)
 
   two_open : (W : ℕ → Type 0) → W 34 → ((b : ℕ) → is_letter b ≡ true → W b) → Opens two_free W
-  two_open W quote letter = opens_either (delimited (free macros) 34 34) (macro (free macros)) W (delimited_opens 34 34 W quote) (macro_opens W letter)
+  two_open W quote letter = opens_either (delimited (free macros) 34 34) (macro (free macros) before) W (delimited_opens 34 34 W quote) (macro_opens W letter)
 
   three_open : (W : ℕ → Type 0) → W 123 → W 34 → ((b : ℕ) → is_letter b ≡ true → W b) → Opens three_free W
   three_open W brace quote letter = opens_either (delimited (free macros) 123 125) two_free W (delimited_opens 123 125 W brace) (two_open W quote letter)
 
   two_core : (ts : List ℕ) → Core two_strict two_free (Clear is_name_byte) last_two ts
   two_core ts =
-      choose_core (nat_eq 34) (delimited (strict macros) 34 34) (delimited (free macros) 34 34) (macro (strict macros)) (macro (free macros)) (Clear is_name_byte) (delimited_reader 34 34) (read_macro macros) ts
-      (part_within quotes) ((macro_core macros []).within)
-      (λ _. weaken_core (Clear is_name_byte) after_text (quotes.reads ts).core) (λ _. macro_core macros ts)
+      choose_core (nat_eq 34) (delimited (strict macros) 34 34) (delimited (free macros) 34 34) (macro (strict macros) before) (macro (free macros) before) (Clear is_name_byte) (delimited_reader 34 34) (read_macro macros before) ts
+      (part_within quotes) ((macro_core macros before []).within)
+      (λ _. weaken_core (Clear is_name_byte) after_text (quotes.reads ts).core) (λ _. macro_core macros before ts)
       (first_is (delimited (free macros) 34 34) (nat_eq 34) true (delimited_opens 34 34 (λ t. nat_eq 34 t ≡ true) refl))
-      (λ x v rest h _. first_is (macro (free macros)) (nat_eq 34) false (macro_opens (λ t. nat_eq 34 t ≡ false) (not_this is_letter 34 refl)) x v rest h)
+      (λ x v rest h _. first_is (macro (free macros) before) (nat_eq 34) false (macro_opens (λ t. nat_eq 34 t ≡ false) (not_this is_letter 34 refl)) x v rest h)
 
   three_core : (ts : List ℕ) → Core three_strict three_free (Clear is_name_byte) last_three ts
   three_core ts =
@@ -166,7 +166,7 @@ module _ (macros : MacroTexts) where
       (first_is (delimited (free macros) 123 125) (nat_eq 123) true (delimited_opens 123 125 (λ t. nat_eq 123 t ≡ true) refl))
       (λ x v rest h _. first_is two_free (nat_eq 123) false (two_open (λ t. nat_eq 123 t ≡ false) refl (not_this is_letter 123 refl)) x v rest h)
 
-  four_core : (ts : List ℕ) → Core (piece (strict macros)) (piece (free macros)) (Clear is_name_byte) four ts
+  four_core : (ts : List ℕ) → Core (piece (strict macros) before) (piece (free macros) before) (Clear is_name_byte) four ts
   four_core ts =
       choose_core is_digit digits digits three_strict three_free (Clear is_name_byte) digits_reader last_three ts
       (λ x v h. h) three_in
@@ -174,29 +174,29 @@ module _ (macros : MacroTexts) where
       (first_is digits is_digit true (digits_open (λ t. is_digit t ≡ true) (λ b is. is)))
       (λ x v rest h _. first_is three_free is_digit false (three_open (λ t. is_digit t ≡ false) refl refl no_digit) x v rest h)
 
-  four_viable : (ts : List ℕ) → IsViable IsByte (piece (strict macros)) four ts
+  four_viable : (ts : List ℕ) → IsViable IsByte (piece (strict macros) before) four ts
   four_viable ts =
-      choose_viable is_digit (piece (strict macros)) digits_reader last_three ts
-      (λ _. more_viable IsByte digits digits_reader ts (piece (strict macros)) (λ x v h. inl h) ((digits_part {Why = IsLimit}).reads ts).viable)
-      (λ _. choose_viable (nat_eq 123) (piece (strict macros)) (delimited_reader 123 125) last_two ts
-      (λ _. more_viable IsByte (delimited (strict macros) 123 125) (delimited_reader 123 125) ts (piece (strict macros)) (λ x v h. inr (inl h)) (braces.reads ts).viable)
-      (λ _. choose_viable (nat_eq 34) (piece (strict macros)) (delimited_reader 34 34) (read_macro macros) ts
-      (λ _. more_viable IsByte (delimited (strict macros) 34 34) (delimited_reader 34 34) ts (piece (strict macros)) (λ x v h. inr (inr (inl h))) (quotes.reads ts).viable)
-      (λ _. macro_stuck macros ts)))
+      choose_viable is_digit (piece (strict macros) before) digits_reader last_three ts
+      (λ _. more_viable IsByte digits digits_reader ts (piece (strict macros) before) (λ x v h. inl h) ((digits_part {Why = IsLimit}).reads ts).viable)
+      (λ _. choose_viable (nat_eq 123) (piece (strict macros) before) (delimited_reader 123 125) last_two ts
+      (λ _. more_viable IsByte (delimited (strict macros) 123 125) (delimited_reader 123 125) ts (piece (strict macros) before) (λ x v h. inr (inl h)) (braces.reads ts).viable)
+      (λ _. choose_viable (nat_eq 34) (piece (strict macros) before) (delimited_reader 34 34) (read_macro macros before) ts
+      (λ _. more_viable IsByte (delimited (strict macros) 34 34) (delimited_reader 34 34) ts (piece (strict macros) before) (λ x v h. inr (inr (inl h))) (quotes.reads ts).viable)
+      (λ _. macro_stuck macros before ts)))
 
-  four_past : (ts : List ℕ) → IsPassed IsByte IsLimit (piece (strict macros)) (piece (free macros)) four ts
+  four_past : (ts : List ℕ) → IsPassed IsByte IsLimit (piece (strict macros) before) (piece (free macros) before) four ts
   four_past ts =
-      choose_past is_digit (piece (strict macros)) (piece (free macros)) digits_reader last_three ts
-      (λ _. more_past IsByte IsLimit digits digits digits_reader ts (piece (strict macros)) (piece (free macros)) (λ x v h. inl h) (λ x v h. inl h) ((digits_part {Why = IsLimit}).reads ts).past)
-      (λ _. choose_past (nat_eq 123) (piece (strict macros)) (piece (free macros)) (delimited_reader 123 125) last_two ts
-      (λ _. more_past IsByte IsLimit (delimited (strict macros) 123 125) (delimited (free macros) 123 125) (delimited_reader 123 125) ts (piece (strict macros)) (piece (free macros)) (λ x v h. inr (inl h)) (λ x v h. inr (inl h)) (braces.reads ts).past)
-      (λ _. choose_past (nat_eq 34) (piece (strict macros)) (piece (free macros)) (delimited_reader 34 34) (read_macro macros) ts
-      (λ _. more_past IsByte IsLimit (delimited (strict macros) 34 34) (delimited (free macros) 34 34) (delimited_reader 34 34) ts (piece (strict macros)) (piece (free macros)) (λ x v h. inr (inr (inl h))) (λ x v h. inr (inr (inl h))) (quotes.reads ts).past)
-      (λ _. macro_past macros ts)))
+      choose_past is_digit (piece (strict macros) before) (piece (free macros) before) digits_reader last_three ts
+      (λ _. more_past IsByte IsLimit digits digits digits_reader ts (piece (strict macros) before) (piece (free macros) before) (λ x v h. inl h) (λ x v h. inl h) ((digits_part {Why = IsLimit}).reads ts).past)
+      (λ _. choose_past (nat_eq 123) (piece (strict macros) before) (piece (free macros) before) (delimited_reader 123 125) last_two ts
+      (λ _. more_past IsByte IsLimit (delimited (strict macros) 123 125) (delimited (free macros) 123 125) (delimited_reader 123 125) ts (piece (strict macros) before) (piece (free macros) before) (λ x v h. inr (inl h)) (λ x v h. inr (inl h)) (braces.reads ts).past)
+      (λ _. choose_past (nat_eq 34) (piece (strict macros) before) (piece (free macros) before) (delimited_reader 34 34) (read_macro macros before) ts
+      (λ _. more_past IsByte IsLimit (delimited (strict macros) 34 34) (delimited (free macros) 34 34) (delimited_reader 34 34) ts (piece (strict macros) before) (piece (free macros) before) (λ x v h. inr (inr (inl h))) (λ x v h. inr (inr (inl h))) (quotes.reads ts).past)
+      (λ _. macro_past macros before ts)))
 
-  pub piece_part : Part IsByte IsLimit (piece (strict macros)) (piece (free macros)) (Clear is_name_byte) (read_piece macros)
+  pub piece_part : Part IsByte IsLimit (piece (strict macros) before) (piece (free macros) before) (Clear is_name_byte) (read_piece macros before)
   piece_part = record {
-    reads = λ ts. restate (piece (strict macros)) (piece (free macros)) (read_piece macros) (λ x v h. h) (λ x v h. h) (λ x v h. h) (λ x v h. h) same_piece
+    reads = λ ts. restate (piece (strict macros) before) (piece (free macros) before) (read_piece macros before) (λ x v h. h) (λ x v h. h) (λ x v h. h) (λ x v h. h) same_piece
         (record { core = four_core ts; viable = four_viable ts; past = four_past ts });
     phrase = let a = (digits_part {Why = IsLimit}).phrase in (a.0, a.1, inl a.2, a.3);
   }

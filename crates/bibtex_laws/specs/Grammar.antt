@@ -14,24 +14,25 @@
 use Rattle.std.specs.Prelude.{◌≡◌, ◌+◌, ℕ, Bool, true, false, List, [], ◌∷◌, ◌++◌, length, codes, map, if◌then◌else◌, Option, Some, None}
 use Rattle.std.specs.Str.{bytes_eq}
 use Rattle.grammar.specs.Fault.{Every}
-use Rattle.grammar.specs.Grammar.{nothing, one, ◌>>=◌, ◌>>◌, either, many}
+use Rattle.grammar.specs.Grammar.{nothing, one, ◌>>=◌, ◌>>◌, either, many, iterated}
 use Rattle.grammar.specs.Reading.{starts}
 use Rattle.bibtex_spec.specs.declared.Field.{Field}
 use Rattle.bibtex_spec.specs.Bytes.{is_blank, is_letter, is_digit, is_name_byte, is_key_byte, is_junk, lower}
-use Rattle.bibtex_spec.specs.Values.{tidy, joined}
+use Rattle.bibtex_spec.specs.Values.{tidy, has_room}
 use Rattle.bibtex_spec.specs.Macros.{MacroTexts, text_of, with_macro, months}
 use Rattle.bibtex_spec.specs.Reading.{same_byte, closing}
 use Rattle.bibtex_laws.specs.Braces.{IsEnclosed, IsShallow}
 
--- What is kept apart from the grammar: which text a macro's name stands for, and which texts aren't too deep.
+-- What is kept apart from the grammar: which text a macro's name stands for behind the text that its value has before
+-- it, and which texts aren't too deep.
 pub record Rules : Type 1 where
-  pub stands : List ℕ → List ℕ → Type 0
+  pub stands : (before name text : List ℕ) → Type 0
   pub fits : List ℕ → Type 0
 
--- a name stands for the text that it was defined as, and no text has more than 64 open braces
+-- a name stands for the text that it was defined as, for which there is room, and no text has more than 64 open braces
 abbrev pub strict : MacroTexts → Rules
 strict macros = record {
-  stands = λ name text. text_of macros name ≡ Some text;
+  stands = λ before name text. (text_of macros name ≡ Some text) × (has_room before text ≡ true);
   fits = IsShallow 0;
 }
 
@@ -39,10 +40,11 @@ abbrev pub or_empty : Option (List ℕ) → List ℕ
 or_empty (Some text) = text
 or_empty None = []
 
--- The rules aside: every name stands for some text, the empty one where it wasn't defined, and no text is too deep.
+-- The rules aside: every name stands for some text, the empty one where it wasn't defined, and no text is too deep or
+-- too large.
 abbrev pub free : MacroTexts → Rules
 free macros = record {
-  stands = λ name text. text ≡ or_empty (text_of macros name);
+  stands = λ before name text. text ≡ or_empty (text_of macros name);
   fits = λ text. Unit {0};
 }
 
@@ -105,21 +107,28 @@ enclosed rules close bytes text =
 abbrev pub delimited : Rules → ℕ → ℕ → List ℕ → List ℕ → Type 0
 delimited rules start close = spaced (one (same_byte start) >> enclosed rules close)
 
-abbrev pub macro : Rules → List ℕ → List ℕ → Type 0
-macro rules bytes text = (word : List ℕ) × name bytes word × rules.stands word text
+-- a piece of a value that has the text `before` so far
 
-abbrev pub piece : Rules → List ℕ → List ℕ → Type 0
-piece rules =
-    either digits (either (delimited rules 123 125) (either (delimited rules 34 34) (macro rules)))
+abbrev pub macro : Rules → List ℕ → List ℕ → List ℕ → Type 0
+macro rules before bytes text =
+    (word : List ℕ) × name bytes word × rules.stands before word text
 
-abbrev pub further : Rules → List ℕ → List ℕ → Type 0
-further rules = mark 35 >> piece rules
+abbrev pub piece : Rules → List ℕ → List ℕ → List ℕ → Type 0
+piece rules before =
+    either digits
+    (either (delimited rules 123 125) (either (delimited rules 34 34) (macro rules before)))
+
+-- what it has with one piece more
+abbrev pub further : Rules → List ℕ → List ℕ → List ℕ → Type 0
+further rules before = do
+  mark 35
+  text ← piece rules before
+  nothing (before ++ text)
 
 abbrev pub value : Rules → List ℕ → List ℕ → Type 0
 value rules = do
-  first ← piece rules
-  others ← many (further rules)
-  nothing (joined (first ∷ others))
+  first ← piece rules []
+  iterated (further rules) first
 
 abbrev pub field : Rules → List ℕ → Field → Type 0
 field rules = do

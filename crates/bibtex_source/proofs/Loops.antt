@@ -1,8 +1,7 @@
 -- Loops that read phrases one after the other.
 use Rattle.std.proofs.Common.{◌≡◌, ◌<◌, ◌≤◌, ℕ, zero, suc, Bool, true, false, List, [], ◌∷◌, ◌++◌, length, refl, sym, ap, ◌∙◌, append_assoc, arith}
 use Rattle.std.specs.Prelude.{nat_eq}
-use Rattle.std.proofs.lemmas.List.{append-nil}
-use Rattle.grammar.specs.Reading.{Outcome, Read, Stuck, Past, and_then, starts, repeat, repeat_within, with_front}
+use Rattle.grammar.specs.Reading.{Outcome, Read, Stuck, Past, and_then, starts, iterate, iterate_within, with_front}
 use Rattle.bibtex_source.specs.declared.halt.Halt.{Halt}
 use Rattle.bibtex_source.specs.declared.halt.Halt.TheVariants.{Expected, Limit, NoMemory}
 use Rattle.bibtex_spec.specs.declared.Field.{Field}
@@ -20,53 +19,49 @@ starts_none : (first : ℕ → Bool) (rest : List ℕ) → length rest ≤ 0 →
 starts_none first [] few is = cc
 starts_none first (b ∷ rest) few is = omega (arith, few)
 
-module _ {A : Type 0} (first : ℕ → Bool) (read : List ℕ → Outcome ℕ A) where
-  -- `front` was read of the phrases, and `rest` is still to be read
-  pub record IsRepeated (front : List A) (rest : List ℕ) (total : Outcome ℕ (List A)) : Type 0 where
+module _ {S : Type 0} (first : ℕ → Bool) (step : S → List ℕ → Outcome ℕ S) where
+  -- the steps that were taken led to `state`, and `rest` is still to be read
+  pub record IsIterated (state : S) (rest : List ℕ) (total : Outcome ℕ S) : Type 0 where
     pub turns : ℕ
     pub enough : length rest ≤ turns
-    pub so_far : with_front front (repeat_within first read turns rest) ≡ total
+    pub so_far : iterate_within first step turns state rest ≡ total
 
-  pub starts_so : (front : List A) (bytes : List ℕ) → IsRepeated front bytes (with_front front (repeat first read bytes))
-  unfolding repeat
-  starts_so front bytes = record { turns = length bytes; enough = omega arith; so_far = refl }
+  pub starts_so : (state : S) (bytes : List ℕ) → IsIterated state bytes (iterate first step state bytes)
+  unfolding iterate
+  starts_so state bytes = record { turns = length bytes; enough = omega arith; so_far = refl }
 
-  pub goes_on : (front : List A) (rest after : List ℕ) (v : A) (total : Outcome ℕ (List A)) → starts first rest ≡ true → read rest ≡ Read v after → length after < length rest
-      → IsRepeated front rest total → IsRepeated (front ++ v ∷ []) after total
-  goes_on front rest after v total is was shorter so_far = by so_far.turns so_far.enough so_far.so_far
+  pub goes_on : (state next : S) (rest after : List ℕ) (total : Outcome ℕ S) → starts first rest ≡ true → step state rest ≡ Read next after → length after < length rest
+      → IsIterated state rest total → IsIterated next after total
+  goes_on state next rest after total is was shorter so_far = by so_far.turns so_far.enough so_far.so_far
     where
-      by : (n : ℕ) → length rest ≤ n → with_front front (repeat_within first read n rest) ≡ total → IsRepeated (front ++ v ∷ []) after total
+      by : (n : ℕ) → length rest ≤ n → iterate_within first step n state rest ≡ total → IsIterated next after total
       by zero few e = absurd (starts_none first rest few is)
       by (suc n) enough e =
-          let here : repeat_within first read (suc n) rest ≡ and_then (repeat_within first read n after) (λ values last. Read (v ∷ values) last) = rw (is, was) refl in
-          record {
-            turns = n;
-            enough = omega (arith, enough, shorter);
-            so_far = sym (with_more front v (repeat_within first read n after)) ∙ ap (with_front front) (sym here) ∙ e;
-          }
+          let here : iterate_within first step (suc n) state rest ≡ iterate_within first step n next after = rw (is, was) refl in
+          record { turns = n; enough = omega (arith, enough, shorter); so_far = sym here ∙ e }
 
-  pub ends_in : (front : List A) (rest : List ℕ) (total : Outcome ℕ (List A)) (e : Halt) → starts first rest ≡ true → Fails e (read rest) → IsRepeated front rest total → Fails e total
-  ends_in front rest total e is was so_far = by so_far.turns so_far.enough so_far.so_far e was
+  pub ends_in : (state : S) (rest : List ℕ) (total : Outcome ℕ S) (e : Halt) → starts first rest ≡ true → Fails e (step state rest) → IsIterated state rest total → Fails e total
+  ends_in state rest total e is was so_far = by so_far.turns so_far.enough so_far.so_far e was
     where
-      by : (n : ℕ) → length rest ≤ n → with_front front (repeat_within first read n rest) ≡ total → (e : Halt) → Fails e (read rest) → Fails e total
+      by : (n : ℕ) → length rest ≤ n → iterate_within first step n state rest ≡ total → (e : Halt) → Fails e (step state rest) → Fails e total
       by n enough h NoMemory was = tt
       by zero few h (Expected left) was = absurd (starts_none first rest few is)
       by zero few h (Limit left) was = absurd (starts_none first rest few is)
       by (suc n) enough h (Expected left) was =
-          let here : repeat_within first read (suc n) rest ≡ Stuck left.now = rw (is, was) refl in
-          sym h ∙ ap (with_front front) here
+          let here : iterate_within first step (suc n) state rest ≡ Stuck left.now = rw (is, was) refl in
+          sym h ∙ here
       by (suc n) enough h (Limit left) was =
-          let here : repeat_within first read (suc n) rest ≡ Past left.now = rw (is, was) refl in
-          sym h ∙ ap (with_front front) here
+          let here : iterate_within first step (suc n) state rest ≡ Past left.now = rw (is, was) refl in
+          sym h ∙ here
 
-  pub done : (front : List A) (rest : List ℕ) (total : Outcome ℕ (List A)) → starts first rest ≡ false → IsRepeated front rest total → total ≡ Read front rest
-  done front rest total is so_far = by so_far.turns so_far.so_far
+  pub done : (state : S) (rest : List ℕ) (total : Outcome ℕ S) → starts first rest ≡ false → IsIterated state rest total → total ≡ Read state rest
+  done state rest total is so_far = by so_far.turns so_far.so_far
     where
-      by : (n : ℕ) → with_front front (repeat_within first read n rest) ≡ total → total ≡ Read front rest
-      by zero e = sym e ∙ ap (λ vs. Read vs rest) (append-nil front)
+      by : (n : ℕ) → iterate_within first step n state rest ≡ total → total ≡ Read state rest
+      by zero e = sym e
       by (suc n) e =
-          let here : repeat_within first read (suc n) rest ≡ Read [] rest = rw is refl in
-          sym e ∙ ap (with_front front) here ∙ ap (λ vs. Read vs rest) (append-nil front)
+          let here : iterate_within first step (suc n) state rest ≡ Read state rest = rw is refl in
+          sym e ∙ here
 
 -- the fields of an entry
 

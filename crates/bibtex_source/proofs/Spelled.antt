@@ -34,8 +34,8 @@ same_steps stem whole (Enters entry) = refl
 
 module _ (stem : Name) (whole : ℕ) where
   -- how a reader that ends without a value is told
-  abbrev pub IsEnd : Outcome ℕ (List Phrase) → List ℕ → BibRefusal → Type 0
-  IsEnd read rest e = ((read ≡ Stuck rest) × (e ≡ Expected (whole - length rest))) ⊎ ((read ≡ Past rest) × (e ≡ limit_fault whole rest))
+  abbrev pub IsEnd : MacroTexts → Outcome ℕ (List Phrase) → List ℕ → BibRefusal → Type 0
+  IsEnd macros read rest e = ((read ≡ Stuck rest) × (e ≡ Expected (whole - length rest))) ⊎ ((read ≡ Past rest) × (e ≡ limit_fault whole macros rest))
 
   pub record IsLeft (macros : MacroTexts) (at : ℕ) (bytes : List ℕ) (steps : List BibStep) : Type 0 where
     pub front : List ℕ
@@ -47,7 +47,7 @@ module _ (stem : Name) (whole : ℕ) where
     pub spelled : items strict macros at front phrases
     pub no_more : (spot : ℕ) (x later : List ℕ) (phrase : Phrase) → back ≡ x ++ later → starts is_junk later ≡ false → item (strict (macros_after macros phrases)) spot x phrase → ⊥
     pub steps_are : steps ≡ phrases_steps stem phrases ++ fails fault ∷ []
-    pub ends : IsEnd (items_reader macros at bytes) rest fault
+    pub ends : IsEnd (macros_after macros phrases) (items_reader macros at bytes) rest fault
 
   abbrev pub IsWalked : MacroTexts → ℕ → List ℕ → List BibStep → Type 0
   IsWalked macros at bytes steps = ((phrases : List Phrase) × items strict macros at bytes phrases × (steps ≡ phrases_steps stem phrases)) ⊎ IsLeft macros at bytes steps
@@ -58,9 +58,9 @@ module _ (stem : Name) (whole : ℕ) where
   junk_past zero macros bytes = refl
   junk_past (suc n) macros bytes = ap (marked_steps stem whole macros (steps_within n stem whole)) (junk_once bytes)
 
-  end_more : (phrase : Phrase) (read total : Outcome ℕ (List Phrase)) (rest : List ℕ) (e : BibRefusal) → total ≡ and_then read (λ others last. Read (phrase ∷ others) last) → IsEnd read rest e → IsEnd total rest e
-  end_more phrase read total rest e is (inl h) = inl (is ∙ ap (λ o. and_then o (λ others last. Read (phrase ∷ others) last)) h.0, h.1)
-  end_more phrase read total rest e is (inr h) = inr (is ∙ ap (λ o. and_then o (λ others last. Read (phrase ∷ others) last)) h.0, h.1)
+  end_more : (macros : MacroTexts) (phrase : Phrase) (read total : Outcome ℕ (List Phrase)) (rest : List ℕ) (e : BibRefusal) → total ≡ and_then read (λ others last. Read (phrase ∷ others) last) → IsEnd macros read rest e → IsEnd macros total rest e
+  end_more macros phrase read total rest e is (inl h) = inl (is ∙ ap (λ o. and_then o (λ others last. Read (phrase ∷ others) last)) h.0, h.1)
+  end_more macros phrase read total rest e is (inr h) = inr (is ∙ ap (λ o. and_then o (λ others last. Read (phrase ∷ others) last)) h.0, h.1)
 
   module _ (macros : MacroTexts) (at b : ℕ) (bytes : List ℕ) (place : at + length (b ∷ bytes) ≡ whole) where
     item_read : item_reader macros at (b ∷ bytes) ≡ up_to_next whole (read_item macros (b ∷ bytes))
@@ -111,7 +111,7 @@ module _ (stem : Name) (whole : ℕ) where
             spelled = (sound.0, h.front, refl, sound.2.0, shift (length sound.0) sound.2.1 h.front h.phrases h.spelled);
             no_more = h.no_more;
             steps_are = ap (λ x. x ++ steps) (same_steps stem whole it) ∙ ap (λ x. phrase_steps stem (phrase_of whole it) ++ x) h.steps_are ∙ sym (append_assoc (phrase_steps stem (phrase_of whole it)) (phrases_steps stem h.phrases) (fails h.fault ∷ []));
-            ends = end_more (phrase_of whole it) (items_reader (macros_left macros (phrase_of whole it)) (at + (length (b ∷ bytes) - length (behind is_junk rest))) (behind is_junk rest)) (items_reader macros at (b ∷ bytes)) h.rest h.fault more_items h.ends;
+            ends = end_more (macros_after (macros_left macros (phrase_of whole it)) h.phrases) (phrase_of whole it) (items_reader (macros_left macros (phrase_of whole it)) (at + (length (b ∷ bytes) - length (behind is_junk rest))) (behind is_junk rest)) (items_reader macros at (b ∷ bytes)) h.rest h.fault more_items h.ends;
           })
 
   -- no item stands where none is read
@@ -135,7 +135,7 @@ module _ (stem : Name) (whole : ℕ) where
   one_walked n macros at b bytes few place again (Stuck rest) was =
       inr (record { front = []; back = b ∷ bytes; phrases = []; rest = rest; fault = Expected (whole - length rest); parts = refl; spelled = refl; no_more = stuck_item macros b bytes rest was; steps_are = refl; ends = inl (stuck_items macros at b bytes place rest was, refl) })
   one_walked n macros at b bytes few place again (Past rest) was =
-      inr (record { front = []; back = b ∷ bytes; phrases = []; rest = rest; fault = limit_fault whole rest; parts = refl; spelled = refl; no_more = past_item macros b bytes rest was; steps_are = refl; ends = inr (past_items macros at b bytes place rest was, refl) })
+      inr (record { front = []; back = b ∷ bytes; phrases = []; rest = rest; fault = limit_fault whole macros rest; parts = refl; spelled = refl; no_more = past_item macros b bytes rest was; steps_are = refl; ends = inr (past_items macros at b bytes place rest was, refl) })
   one_walked n macros at b bytes few place again (Read it rest) was =
       let less : length (behind is_junk rest) < length (b ∷ bytes) = item_shrinks macros at (b ∷ bytes) (phrase_of whole it, length (b ∷ bytes) - length (behind is_junk rest)) (behind is_junk rest) (one_sized macros at b bytes place it rest was) in
       let others = again (macros_left macros (phrase_of whole it)) (at + (length (b ∷ bytes) - length (behind is_junk rest))) (behind is_junk rest) (omega (arith, few, less)) (omega (arith, place, less)) (behind_stops is_junk rest) in

@@ -1,5 +1,5 @@
 -- What the answers of this crate share.
-use Rattle.std.specs.Prelude.{◌≡◌, ◌≤◌, ◌<◌, ◌-◌, ◌==◌, ◌++◌, ℕ, zero, suc, ◌∷◌, [], List, length, Bool, true, false, nat_eq, if◌then◌else◌, Result, Err, ⊤}
+use Rattle.std.specs.Prelude.{◌≡◌, ◌≤◌, ◌<◌, ◌-◌, ◌==◌, ◌++◌, ℕ, zero, suc, ◌∷◌, [], List, length, map, Bool, true, false, nat_eq, Option, Some, None, if◌then◌else◌, Result, Err, ⊤}
 use Rattle.std.proofs.Common.{refl, sym, ◌∙◌, ap, subst, inl, inr, arith}
 use Rattle.std.proofs.lemmas.Bool.{eqb-true}
 use Rattle.grammar.specs.Reading.{Outcome, Read, Stuck, Past}
@@ -10,11 +10,11 @@ use Rattle.sd_graph.specs.StatingLaws.{ending_at, Ends-one, IsCut, Continues, Co
 use Rattle.sd_graph.specs.declared.GraphRefusal.{GraphRefusal}
 use Rattle.bibtex_spec.specs.declared.Item.{Item}
 use Rattle.bibtex_source.specs.declared.refusal.BibRefusal.{BibRefusal}
-use Rattle.bibtex_source.specs.declared.refusal.BibRefusal.TheVariants.{Expected, UnknownMacro, TooDeep, TooManyEdges, TooManyNodes, NoMemory}
-use Rattle.bibtex_spec.specs.Bytes.{is_junk, behind}
-use Rattle.bibtex_spec.specs.Macros.{MacroTexts}
+use Rattle.bibtex_source.specs.declared.refusal.BibRefusal.TheVariants.{Expected, UnknownMacro, TooDeep, TooLarge, TooManyEdges, TooManyNodes, NoMemory}
+use Rattle.bibtex_spec.specs.Bytes.{is_junk, is_name_byte, lower, run, behind}
+use Rattle.bibtex_spec.specs.Macros.{MacroTexts, text_of}
 use Rattle.bibtex_spec.specs.Reading.{read_item}
-use Rattle.bibtex_source.specs.Text.{BibStep, bib_ending, limit_fault, IsFaultOf, IsItemFault, item_steps, macros_behind, read_steps, marked_steps, steps_within}
+use Rattle.bibtex_source.specs.Text.{BibStep, bib_ending, macro_fault, limit_fault, IsFaultOf, IsItemFault, item_steps, macros_behind, read_steps, marked_steps, steps_within}
 
 pub stated : (at : ℕ) (s : Statement) (b c : Building) (r : Result ⊤ GraphRefusal) (x : Result ⊤ BibRefusal) → bib_ending x ≡ ending_at at r → Adds s b c r → Ends b (says at s ∷ []) c (bib_ending x)
 stated at s b c r x is adds = subst (λ e. Ends b (says at s ∷ []) c e) (sym is) (Ends-one BibRefusal at s b c r adds)
@@ -24,6 +24,7 @@ pub cuts : (e : BibRefusal) → IsCut (bib_ending (Err e))
 cuts (Expected k) = tt
 cuts (UnknownMacro k) = tt
 cuts (TooDeep k) = tt
+cuts (TooLarge k) = tt
 cuts (TooManyEdges k) = tt
 cuts (TooManyNodes k) = tt
 cuts NoMemory = tt
@@ -33,20 +34,24 @@ stop b c d steps front rest e h ends = Continues-stop b c d steps front rest (bi
 
 -- a fault of an item, with nothing stated before it
 
-limit_ends : (b : Building) (whole : ℕ) (rest : List ℕ) (e : BibRefusal) → e ≡ limit_fault whole rest → Ends b (fails (limit_fault whole rest) ∷ []) b (bib_ending (Err e))
-limit_ends b whole [] e is = rw is ([], [], refl, refl)
-limit_ends b whole (x ∷ rest) e is = by (nat_eq 123 x) is
-  where
-    by : (p : Bool) → e ≡ (if p then TooDeep (whole - length (x ∷ rest)) else UnknownMacro (whole - length (x ∷ rest))) → Ends b (fails (if p then TooDeep (whole - length (x ∷ rest)) else UnknownMacro (whole - length (x ∷ rest))) ∷ []) b (bib_ending (Err e))
-    by true is = rw is ([], [], refl, refl)
-    by false is = rw is ([], [], refl, refl)
+macro_ends : (b : Building) (at : ℕ) (text : Option (List ℕ)) (e : BibRefusal) → e ≡ macro_fault at text → Ends b (fails (macro_fault at text) ∷ []) b (bib_ending (Err e))
+macro_ends b at (Some text) e is = rw is ([], [], refl, refl)
+macro_ends b at None e is = rw is ([], [], refl, refl)
 
-fault_ends : (b : Building) (stem : Name) (whole : ℕ) (macros : MacroTexts) (later : MacroTexts → List ℕ → List BibStep) (read : Outcome ℕ Item) (e : BibRefusal) → IsFaultOf whole read e → Ends b (read_steps stem whole macros later read) b (bib_ending (Err e))
+limit_ends : (b : Building) (whole : ℕ) (macros : MacroTexts) (rest : List ℕ) (e : BibRefusal) → e ≡ limit_fault whole macros rest → Ends b (fails (limit_fault whole macros rest) ∷ []) b (bib_ending (Err e))
+limit_ends b whole macros [] e is = macro_ends b (whole - 0) (text_of macros []) e is
+limit_ends b whole macros (x ∷ rest) e is = by (nat_eq 123 x) is
+  where
+    by : (p : Bool) → e ≡ (if p then TooDeep (whole - length (x ∷ rest)) else macro_fault (whole - length (x ∷ rest)) (text_of macros (map lower (run is_name_byte (x ∷ rest))))) → Ends b (fails (if p then TooDeep (whole - length (x ∷ rest)) else macro_fault (whole - length (x ∷ rest)) (text_of macros (map lower (run is_name_byte (x ∷ rest))))) ∷ []) b (bib_ending (Err e))
+    by true is = rw is ([], [], refl, refl)
+    by false is = macro_ends b (whole - length (x ∷ rest)) (text_of macros (map lower (run is_name_byte (x ∷ rest)))) e is
+
+fault_ends : (b : Building) (stem : Name) (whole : ℕ) (macros : MacroTexts) (later : MacroTexts → List ℕ → List BibStep) (read : Outcome ℕ Item) (e : BibRefusal) → IsFaultOf whole macros read e → Ends b (read_steps stem whole macros later read) b (bib_ending (Err e))
 fault_ends b stem whole macros later (Read item rest) e is = absurd is
 fault_ends b stem whole macros later (Stuck rest) e is = rw is ([], [], refl, refl)
-fault_ends b stem whole macros later (Past rest) e is = limit_ends b whole rest e is
+fault_ends b stem whole macros later (Past rest) e is = limit_ends b whole macros rest e is
 
-item_ends : (b : Building) (stem : Name) (whole : ℕ) (macros : MacroTexts) (later : MacroTexts → List ℕ → List BibStep) (read : Outcome ℕ Item) (e : BibRefusal) → IsItemFault whole read e → Ends b (read_steps stem whole macros later read) b (bib_ending (Err e))
+item_ends : (b : Building) (stem : Name) (whole : ℕ) (macros : MacroTexts) (later : MacroTexts → List ℕ → List BibStep) (read : Outcome ℕ Item) (e : BibRefusal) → IsItemFault whole macros read e → Ends b (read_steps stem whole macros later read) b (bib_ending (Err e))
 item_ends b stem whole macros later read e (inl none) = rw none ([], read_steps stem whole macros later read, refl, refl)
 item_ends b stem whole macros later read e (inr is) = fault_ends b stem whole macros later read e is
 
@@ -74,7 +79,7 @@ module _ (stem : Name) (whole : ℕ) (b : Building) (steps : List BibStep) where
       ∙ ap (λ bs. read_steps stem whole macros (steps_within n stem whole) (read_item macros bs)) (sym split)
 
   module _ (c : Building) (macros : MacroTexts) (rest marked : List ℕ) (is : marked ≡ behind is_junk rest) (some : length marked ≤ length rest) where
-    pub item_stops : (x : ℕ) (more : List ℕ) (e : BibRefusal) → marked ≡ x ∷ more → IsItemFault whole (read_item macros marked) e → IsReached c macros rest → Ends b steps c (bib_ending (Err e))
+    pub item_stops : (x : ℕ) (more : List ℕ) (e : BibRefusal) → marked ≡ x ∷ more → IsItemFault whole macros (read_item macros marked) e → IsReached c macros rest → Ends b steps c (bib_ending (Err e))
     item_stops x more e split why reached = by reached.turns reached.enough reached.continues
       where
         by : (n : ℕ) → length rest ≤ n → Continues b steps c (steps_within n stem whole macros rest) → Ends b steps c (bib_ending (Err e))

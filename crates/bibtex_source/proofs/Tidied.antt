@@ -1,17 +1,8 @@
 -- Loops over the bytes of a value.
-use Rattle.std.proofs.Common.{◌≡◌, ◌≤◌, ◌<◌, ◌+◌, ℕ, Bool, true, false, List, [], ◌∷◌, ◌++◌, length, get_or, take, drop, refl, sym, ap, subst, ◌∙◌, append_assoc, arith}
+use Rattle.std.proofs.Common.{◌≡◌, ◌≤◌, ◌+◌, ℕ, Bool, true, false, List, [], ◌∷◌, ◌++◌, length, drop, refl, sym, ap, subst, ◌∙◌, append_assoc, arith}
 use Rattle.std.specs.Prelude.{◌-◌, map, if◌then◌else◌, nat_eq, ◌&&◌}
 use Rattle.std.proofs.lemmas.Bool.{eqb-true}
-use Rattle.std.proofs.lemmas.List.{append-nil}
-use Rattle.std.proofs.lemmas.Grind.{flat_map-append, take_at_read}
-use Rattle.bibtex_spec.specs.Values.{tidy, joined, begins_and, depth_behind, grow, parts_from, parts}
-
-pub joined_more : (texts : List (List ℕ)) (i : ℕ) (x all : List ℕ) → i < length texts → x ≡ get_or texts i x → all ≡ joined (take i texts) → all ++ x ≡ joined (take (i + 1) texts)
-joined_more texts i x all lt at so_far =
-    sym (ap joined ((take_at_read texts i x lt).1 ∙ ap (λ z. take i texts ++ z ∷ []) (sym at))
-    ∙ flat_map-append (λ text. text) (take i texts) (x ∷ [])
-    ∙ ap (λ ys. ys ++ (x ++ [])) (sym so_far)
-    ∙ ap (λ ys. all ++ ys) (append-nil x))
+use Rattle.bibtex_spec.specs.Values.{tidy, begins_and, depth_behind, grow, parts_from, parts}
 
 -- Parts of a text.
 

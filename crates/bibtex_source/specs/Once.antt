@@ -6,7 +6,7 @@ use Rattle.sd_graph.specs.Statement.{Building}
 use Rattle.sd_graph.specs.Stating.{Ending, done, fault, too_many_nodes, too_many_edges, no_memory}
 use Rattle.source_steps.specs.Once.{IsTold, ends_once}
 use Rattle.bibtex_source.specs.declared.refusal.BibRefusal.{BibRefusal}
-use Rattle.bibtex_source.specs.declared.refusal.BibRefusal.TheVariants.{Expected, UnknownMacro, TooDeep, TooManyEdges, TooManyNodes, NoMemory}
+use Rattle.bibtex_source.specs.declared.refusal.BibRefusal.TheVariants.{Expected, UnknownMacro, TooDeep, TooLarge, TooManyEdges, TooManyNodes, NoMemory}
 use Rattle.bibtex_source.specs.Text.{text_steps, bib_ending}
 use Rattle.bibtex_source.specs.Reads.{HasOneAnswer}
 
@@ -23,6 +23,7 @@ answer_back (Ok u) = refl
 answer_back (Err (Expected k)) = refl
 answer_back (Err (UnknownMacro k)) = refl
 answer_back (Err (TooDeep k)) = refl
+answer_back (Err (TooLarge k)) = refl
 answer_back (Err (TooManyEdges k)) = refl
 answer_back (Err (TooManyNodes k)) = refl
 answer_back (Err NoMemory) = refl
@@ -32,6 +33,7 @@ told (Ok u) h = tt
 told (Err (Expected k)) h = tt
 told (Err (UnknownMacro k)) h = tt
 told (Err (TooDeep k)) h = tt
+told (Err (TooLarge k)) h = tt
 told (Err (TooManyEdges k)) h = tt
 told (Err (TooManyNodes k)) h = tt
 told (Err NoMemory) h = h refl

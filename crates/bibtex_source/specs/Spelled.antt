@@ -1,5 +1,5 @@
 -- What a text states by its grammar, or why it is refused.
-use Rattle.std.specs.Prelude.{◌≡◌, ◌-◌, ◌⊎◌, ℕ, true, false, List, [], ◌∷◌, ◌++◌, length, Result, ⊤}
+use Rattle.std.specs.Prelude.{◌≡◌, ◌-◌, ◌⊎◌, ℕ, true, false, List, [], ◌∷◌, ◌++◌, length, map, Some, None, Result, ⊤}
 use Rattle.std.specs.List.{flat_map}
 use Rattle.grammar.specs.Fault.{Every}
 use Rattle.grammar.specs.Reading.{starts}
@@ -7,13 +7,13 @@ use Rattle.graph_spec.specs.DataGraph.{Name}
 use Rattle.sd_graph.specs.Statement.{Building}
 use Rattle.sd_graph.specs.Stating.{fails, Ends}
 use Rattle.source_steps.specs.Names.{without_mark}
-use Rattle.bibtex_spec.specs.Bytes.{is_letter, is_name_byte, is_junk}
-use Rattle.bibtex_spec.specs.Macros.{MacroTexts, months}
+use Rattle.bibtex_spec.specs.Bytes.{is_letter, is_name_byte, is_junk, lower}
+use Rattle.bibtex_spec.specs.Macros.{MacroTexts, text_of, months}
 use Rattle.bibtex_laws.specs.Grammar.{Phrase, Passing, Defining, Entering, strict, item, macros_behind, text}
 use Rattle.bibtex_laws.specs.Limits.{none}
 use Rattle.bibtex_laws.specs.Faults.{IsFirstFault, IsPassedBy}
 use Rattle.bibtex_source.specs.declared.refusal.BibRefusal.{BibRefusal}
-use Rattle.bibtex_source.specs.declared.refusal.BibRefusal.TheVariants.{Expected, UnknownMacro, TooDeep, TooManyEdges, TooManyNodes, NoMemory}
+use Rattle.bibtex_source.specs.declared.refusal.BibRefusal.TheVariants.{Expected, UnknownMacro, TooDeep, TooLarge, TooManyEdges, TooManyNodes, NoMemory}
 use Rattle.bibtex_source.specs.Text.{BibStep, entry_steps, bib_ending}
 
 -- an entry's statements; nothing else states any
@@ -26,19 +26,29 @@ phrase_steps stem (Entering at class key fields) =
 abbrev pub phrases_steps : Name → List Phrase → List BibStep
 phrases_steps stem = flat_map (phrase_steps stem)
 
+-- the macro's name, in lower case, with which `rest` begins and passes a limit
+abbrev pub IsNameAt : List ℕ → List ℕ → List ℕ → Type 0
+IsNameAt bytes rest name =
+    (word : List ℕ) × (starts is_letter word ≡ true) × Every (λ b. is_name_byte b ≡ true) word
+    × (name ≡ map lower word) × IsPassedBy word is_name_byte bytes rest
+
 -- The text is refused where `rest` begins: at the first byte that doesn't fit, at a name that was defined by nothing
--- before, or at the brace that is open within 64.
-abbrev pub IsFault : List ℕ → List ℕ → BibRefusal → Type 0
-IsFault bytes rest (Expected at) = (at ≡ length bytes - length rest) × IsFirstFault bytes rest
-IsFault bytes rest (UnknownMacro at) =
+-- before, at a name that was and whose text makes its value too large, or at the brace that is open within 64.
+abbrev pub IsFault : MacroTexts → List ℕ → List ℕ → BibRefusal → Type 0
+IsFault macros bytes rest (Expected at) =
+    (at ≡ length bytes - length rest) × IsFirstFault bytes rest
+IsFault macros bytes rest (UnknownMacro at) =
     (at ≡ length bytes - length rest)
-    × ((name : List ℕ) × (starts is_letter name ≡ true)
-    × Every (λ b. is_name_byte b ≡ true) name × IsPassedBy name is_name_byte bytes rest)
-IsFault bytes rest (TooDeep at) =
+    × ((name : List ℕ) × IsNameAt bytes rest name × (text_of macros name ≡ None))
+IsFault macros bytes rest (TooLarge at) =
+    (at ≡ length bytes - length rest)
+    × ((name : List ℕ) × (text : List ℕ) × IsNameAt bytes rest name
+    × (text_of macros name ≡ Some text))
+IsFault macros bytes rest (TooDeep at) =
     (at ≡ length bytes - length rest) × IsPassedBy (123 ∷ []) none bytes rest
-IsFault bytes rest (TooManyEdges at) = ⊥
-IsFault bytes rest (TooManyNodes at) = ⊥
-IsFault bytes rest NoMemory = ⊥
+IsFault macros bytes rest (TooManyEdges at) = ⊥
+IsFault macros bytes rest (TooManyNodes at) = ⊥
+IsFault macros bytes rest NoMemory = ⊥
 
 -- the macros that phrases leave
 abbrev pub macros_after : MacroTexts → List Phrase → MacroTexts
@@ -59,7 +69,7 @@ pub record IsCutShort (stem : Name) (bytes : List ℕ) (steps : List BibStep) : 
       → starts is_junk later ≡ false
       → item (strict (macros_after months phrases)) at whole phrase → ⊥
   pub steps_are : steps ≡ phrases_steps stem phrases ++ fails fault ∷ []
-  pub because : IsFault bytes rest fault
+  pub because : IsFault (macros_after months phrases) bytes rest fault
 
 -- The steps of a text: those of the phrases that it spells, or of those before its first fault.
 abbrev pub IsSteps : Name → List ℕ → List BibStep → Type 0

@@ -1,5 +1,5 @@
 -- What a BibTeX text states of a data graph, step by step.
-use Rattle.std.specs.Prelude.{◌≡◌, ◌⊎◌, ◌-◌, ◌==◌, ℕ, zero, suc, false, List, [], ◌∷◌, ◌++◌, length, nat_eq, if◌then◌else◌, Result, Ok, Err, ⊤}
+use Rattle.std.specs.Prelude.{◌≡◌, ◌⊎◌, ◌-◌, ◌==◌, ℕ, zero, suc, false, List, [], ◌∷◌, ◌++◌, length, map, nat_eq, if◌then◌else◌, Option, Some, None, Result, Ok, Err, ⊤}
 use Rattle.grammar.specs.Reading.{Outcome, Read, Stuck, Past, starts}
 use Rattle.graph_spec.specs.DataGraph.{Name}
 use Rattle.sd_graph.specs.Statement.{a_node, a_member, an_edge}
@@ -11,10 +11,10 @@ use Rattle.bibtex_spec.specs.declared.Entry.{Entry}
 use Rattle.bibtex_spec.specs.declared.Item.{Item}
 use Rattle.bibtex_spec.specs.declared.Item.TheVariants.{Passes, Defines, Enters}
 use Rattle.bibtex_source.specs.declared.refusal.BibRefusal.{BibRefusal}
-use Rattle.bibtex_source.specs.declared.refusal.BibRefusal.TheVariants.{Expected, UnknownMacro, TooDeep, TooManyEdges, TooManyNodes, NoMemory}
-use Rattle.bibtex_spec.specs.Bytes.{is_junk, behind}
+use Rattle.bibtex_source.specs.declared.refusal.BibRefusal.TheVariants.{Expected, UnknownMacro, TooDeep, TooLarge, TooManyEdges, TooManyNodes, NoMemory}
+use Rattle.bibtex_spec.specs.Bytes.{is_junk, is_name_byte, lower, run, behind}
 use Rattle.bibtex_spec.specs.Values.{texts_of}
-use Rattle.bibtex_spec.specs.Macros.{MacroTexts, with_macro, months}
+use Rattle.bibtex_spec.specs.Macros.{MacroTexts, text_of, with_macro, months}
 use Rattle.bibtex_spec.specs.Reading.{read_item}
 
 abbrev pub BibStep : Type 0
@@ -54,21 +54,26 @@ macros_behind macros Passes = macros
 macros_behind macros (Defines name text) = with_macro macros name text
 macros_behind macros (Enters entry) = macros
 
--- which limit is passed where these bytes are left: a brace is one too deep, and a name is no macro
-abbrev pub limit_fault : ℕ → List ℕ → BibRefusal
-limit_fault whole rest =
+-- a name that is no macro, or whose text makes its value too large
+abbrev pub macro_fault : ℕ → Option (List ℕ) → BibRefusal
+macro_fault at (Some text) = TooLarge at
+macro_fault at None = UnknownMacro at
+
+-- which limit is passed where these bytes are left: a brace is one too deep, or a name's is passed
+abbrev pub limit_fault : ℕ → MacroTexts → List ℕ → BibRefusal
+limit_fault whole macros rest =
     if starts (nat_eq 123) rest then TooDeep (whole - length rest)
-    else UnknownMacro (whole - length rest)
+    else macro_fault (whole - length rest) (text_of macros (map lower (run is_name_byte rest)))
 
 -- the fault of a reader that is left without an item
-abbrev pub IsFaultOf : ℕ → Outcome ℕ Item → BibRefusal → Type 0
-IsFaultOf whole (Read item rest) e = ⊥
-IsFaultOf whole (Stuck rest) e = e ≡ Expected (whole - length rest)
-IsFaultOf whole (Past rest) e = e ≡ limit_fault whole rest
+abbrev pub IsFaultOf : ℕ → MacroTexts → Outcome ℕ Item → BibRefusal → Type 0
+IsFaultOf whole macros (Read item rest) e = ⊥
+IsFaultOf whole macros (Stuck rest) e = e ≡ Expected (whole - length rest)
+IsFaultOf whole macros (Past rest) e = e ≡ limit_fault whole macros rest
 
 -- why no item was read: its fault, or out of memory, at any time
-abbrev pub IsItemFault : ℕ → Outcome ℕ Item → BibRefusal → Type 0
-IsItemFault whole read e = (e ≡ NoMemory) ⊎ IsFaultOf whole read e
+abbrev pub IsItemFault : ℕ → MacroTexts → Outcome ℕ Item → BibRefusal → Type 0
+IsItemFault whole macros read e = (e ≡ NoMemory) ⊎ IsFaultOf whole macros read e
 
 -- an item, and what is behind it; or its fault
 abbrev pub read_steps : Name → ℕ → MacroTexts → (MacroTexts → List ℕ → List BibStep)
@@ -76,7 +81,7 @@ abbrev pub read_steps : Name → ℕ → MacroTexts → (MacroTexts → List ℕ
 read_steps stem whole macros later (Read item rest) =
     item_steps stem whole item ++ later (macros_behind macros item) rest
 read_steps stem whole macros later (Stuck rest) = fails (Expected (whole - length rest)) ∷ []
-read_steps stem whole macros later (Past rest) = fails (limit_fault whole rest) ∷ []
+read_steps stem whole macros later (Past rest) = fails (limit_fault whole macros rest) ∷ []
 
 -- from an `@` on
 abbrev pub marked_steps : Name → ℕ → MacroTexts → (MacroTexts → List ℕ → List BibStep) → List ℕ

@@ -10,7 +10,7 @@ use std::alloc::{AllocError, AllocFailed};
 pub(crate) enum Halt<'a> {
     /// The first of these bytes doesn't fit, or none is left.
     Expected(&'a [u8]),
-    /// A macro begins here that isn't defined, or a brace that is too deep.
+    /// A macro begins here that isn't defined or makes its value too large, or a brace that is too deep.
     Limit(&'a [u8]),
     NoMemory,
 }

@@ -1,11 +1,14 @@
 // The items of a text, one behind the other.
-ghost use Rattle.std.specs.Prelude.{◌≡◌, ◌-◌, ◌<◌, IfOk, IfErr, OnOk, length};
+ghost use Rattle.std.specs.Prelude.{◌≡◌, ◌-◌, ◌<◌, IfOk, IfErr, OnOk, length, map};
 ghost use Rattle.grammar.specs.Reading.{Read};
 ghost use Rattle.sd_graph.specs.Stating.{Ends};
-ghost use Rattle.bibtex_source.specs.Text.{bib_ending, item_steps, items_steps, macros_behind, limit_fault, IsItemFault};
+ghost use Rattle.bibtex_source.specs.Text.{bib_ending, item_steps, items_steps, macros_behind, limit_fault, IsItemFault, macro_fault};
+ghost use Rattle.bibtex_spec.specs.Bytes as spec_bytes;
+ghost use Rattle.bibtex_spec.specs.Bytes.{run};
+ghost use Rattle.bibtex_spec.specs.Macros.{text_of};
 ghost use Rattle.bibtex_spec.specs.Reading.{read_item};
 
-use crate::bytes::behind_junk;
+use crate::bytes::{behind_junk, name_bytes};
 use crate::halt::Halt;
 use crate::macros::{Macros, months};
 use crate::reading::item_at;
@@ -13,7 +16,7 @@ use crate::refusal::BibRefusal;
 use crate::statements::add_entry;
 use bibtex_spec::Item;
 use sd_graph::GraphBuilder;
-use sd_value::Str;
+use sd_value::{NoMemory, Str};
 use std::alloc::Global;
 
 // The place in a text of `whole` bytes of which these are left.
@@ -23,12 +26,35 @@ fn place_of(whole: u64, rest: &[u8]) -> u64
     whole.saturating_sub(rest.len() as u64)
 }
 
-fn limit_fault(whole: u64, rest: &[u8]) -> BibRefusal
-    ensures { result ≡ limit_fault whole rest.now }
+// Which limit the name here passes.
+fn macro_fault(
+    alloc: Global,
+    whole: u64,
+    macros: &Macros,
+    rest: &[u8],
+) -> Result<BibRefusal, NoMemory>
+    ensures { IfOk result (λ e. e ≡ macro_fault (whole - length rest.now)
+        (text_of macros.now (map spec_bytes.lower (run spec_bytes.is_name_byte rest.now)))) }
+{
+    let (word, _) = name_bytes(alloc, rest)?;
+    let name = Str::of(alloc, word)?;
+    match macros.text(&name) {
+        Some(_) => Ok(BibRefusal::TooLarge(place_of(whole, rest))),
+        None => Ok(BibRefusal::UnknownMacro(place_of(whole, rest))),
+    }
+}
+
+fn limit_fault(
+    alloc: Global,
+    whole: u64,
+    macros: &Macros,
+    rest: &[u8],
+) -> Result<BibRefusal, NoMemory>
+    ensures { IfOk result (λ e. e ≡ limit_fault whole macros.now rest.now) }
 {
     match rest {
-        [b'{', ..] => BibRefusal::TooDeep(place_of(whole, rest)),
-        _ => BibRefusal::UnknownMacro(place_of(whole, rest)),
+        [b'{', ..] => Ok(BibRefusal::TooDeep(place_of(whole, rest))),
+        _ => macro_fault(alloc, whole, macros, rest),
     }
 }
 
@@ -41,12 +67,12 @@ fn next_item<'a>(
 ) -> Result<(Item, &'a [u8]), BibRefusal>
     ensures item { IfOk result (λ x. read_item macros.now bytes.now ≡ Read x.0 x.1.now) }
     ensures shorter { IfOk result (λ x. length x.1.now < length bytes.now) }
-    ensures fault { IfErr result (λ e. IsItemFault whole (read_item macros.now bytes.now) e) }
+    ensures fault { IfErr result (λ e. IsItemFault whole macros.now (read_item macros.now bytes.now) e) }
 {
     match item_at(alloc, macros, bytes) {
         Ok(read) => Ok(read),
         Err(Halt::Expected(rest)) => Err(BibRefusal::Expected(place_of(whole, rest))),
-        Err(Halt::Limit(rest)) => Err(limit_fault(whole, rest)),
+        Err(Halt::Limit(rest)) => Err(limit_fault(alloc, whole, macros, rest)?),
         Err(Halt::NoMemory) => Err(BibRefusal::NoMemory),
     }
 }

@@ -1,6 +1,6 @@
 // The reader of single items.
-ghost use Rattle.std.specs.Prelude.{◌≡◌, ◌<◌, ◌≤◌, ◌∷◌, [], IfOk, length, nat_eq};
-ghost use Rattle.grammar.specs.Reading.{repeat, with_front, starts};
+ghost use Rattle.std.specs.Prelude.{◌≡◌, ◌<◌, ◌≤◌, ◌++◌, IfOk, length, nat_eq};
+ghost use Rattle.grammar.specs.Reading.{iterate, starts};
 ghost use Rattle.bibtex_spec.specs.Bytes as specs;
 ghost use Rattle.bibtex_source.specs.Gives.{GivesPhrase};
 ghost use Rattle.bibtex_spec.specs.Reading.{read_mark, read_open, read_class, read_name, read_key, read_digits};
@@ -13,7 +13,7 @@ use crate::bytes::{
 };
 use crate::halt::Halt;
 use crate::macros::Macros;
-use crate::values::{joined, tidy};
+use crate::values::{has_room, tidy};
 use bibtex_spec::{Entry, Field, Fields, Item, Nesting};
 use sd_value::Str;
 use std::alloc::Global;
@@ -190,20 +190,22 @@ fn enclosed_at(alloc: Global, bytes: &[u8], close: u8) -> Result<(Str, &[u8]), H
     Ok((text, behind_blanks(rest)))
 }
 
-/// A macro, and its text.
+/// A macro, and its text, in a value that has the text `before` so far.
 #[tactic(auto, unfolding(bibtex_spec::specs::Reading::read_macro))]
 fn macro_at<'a>(
     alloc: Global,
     macros: &Macros,
+    before: &[u8],
     bytes: &'a [u8],
 ) -> Result<(Str, &'a [u8]), Halt<'a>>
-    ensures is { GivesPhrase (λ x. x.0) (λ x. x.1.now) result (read_macro macros.now bytes.now) }
+    ensures is { GivesPhrase (λ x. x.0) (λ x. x.1.now) result
+        (read_macro macros.now before.now bytes.now) }
     ensures shorter { IfOk result (λ x. length x.1.now ≤ length bytes.now) }
 {
     let (name, rest) = name_at(alloc, bytes)?;
     match macros.text(&name) {
-        Some(text) => Ok((text.copy(alloc)?, rest)),
-        None => Err(Halt::Limit(bytes)),
+        Some(text) if has_room(before, text.bytes()) => Ok((text.copy(alloc)?, rest)),
+        _ => Err(Halt::Limit(bytes)),
     }
 }
 
@@ -211,9 +213,11 @@ fn macro_at<'a>(
 fn piece_at<'a>(
     alloc: Global,
     macros: &Macros,
+    before: &[u8],
     bytes: &'a [u8],
 ) -> Result<(Str, &'a [u8]), Halt<'a>>
-    ensures is { GivesPhrase (λ x. x.0) (λ x. x.1.now) result (read_piece macros.now bytes.now) }
+    ensures is { GivesPhrase (λ x. x.0) (λ x. x.1.now) result
+        (read_piece macros.now before.now bytes.now) }
     ensures shorter { IfOk result (λ x. length x.1.now ≤ length bytes.now) }
 {
     if has_digit(bytes) {
@@ -223,43 +227,48 @@ fn piece_at<'a>(
     } else if has_mark(bytes, b'"') {
         enclosed_at(alloc, bytes, b'"')
     } else {
-        macro_at(alloc, macros, bytes)
+        macro_at(alloc, macros, before, bytes)
     }
 }
 
+/// The text that a value has with one piece more.
 #[tactic(auto, unfolding(bibtex_spec::specs::Reading::read_further))]
 fn further_piece_at<'a>(
     alloc: Global,
     macros: &Macros,
+    text: Vec<u8>,
     bytes: &'a [u8],
-) -> Result<(Str, &'a [u8]), Halt<'a>>
-    ensures is { GivesPhrase (λ x. x.0) (λ x. x.1.now) result (read_further macros.now bytes.now) }
+) -> Result<(Vec<u8>, &'a [u8]), Halt<'a>>
+    ensures is { GivesPhrase (λ x. x.0.items) (λ x. x.1.now) result
+        (read_further macros.now text.items bytes.now) }
     ensures shorter { IfOk result (λ x. length x.1.now < length bytes.now) }
 {
+    let mut text = text;
     let rest = mark_at(bytes, b'#')?;
-    piece_at(alloc, macros, rest)
+    let (piece, rest) = piece_at(alloc, macros, text.as_slice(), rest)?;
+    text.extend_from_slice(piece.bytes())?;
+    Ok((text, rest))
 }
 
-/// The pieces behind the first, added to it.
+/// The text that a value has with the pieces behind the first.
 fn further_pieces_at<'a>(
     alloc: Global,
     macros: &Macros,
-    first: Str,
+    first: Vec<u8>,
     bytes: &'a [u8],
-) -> Result<(Vec<Str>, &'a [u8]), Halt<'a>>
+) -> Result<(Vec<u8>, &'a [u8]), Halt<'a>>
     ensures is { GivesPhrase (λ x. x.0.items) (λ x. x.1.now) result
-        (with_front (first ∷ []) (repeat (nat_eq 35) (read_further macros.now) bytes.now)) }
+        (iterate (nat_eq 35) (read_further macros.now) first.items bytes.now) }
     ensures shorter { IfOk result (λ x. length x.1.now ≤ length bytes.now) }
 {
-    let mut pieces = Vec::new(alloc);
-    pieces.push(first)?;
+    let mut text = first;
     let mut rest = bytes;
     'pieces: while has_mark(rest, b'#') {
-        let (piece, after) = further_piece_at(alloc, macros, rest)?;
-        pieces.push(piece)?;
+        let (longer, after) = further_piece_at(alloc, macros, text, rest)?;
+        text = longer;
         rest = after;
     }
-    Ok((pieces, rest))
+    Ok((text, rest))
 }
 
 /// The texts of a value's pieces, joined. Blanks stay, since a macro's text is a part of others.
@@ -272,11 +281,12 @@ fn value_at<'a>(
     ensures is { GivesPhrase (λ x. x.0) (λ x. x.1.now) result (read_value macros.now bytes.now) }
     ensures shorter { IfOk result (λ x. length x.1.now ≤ length bytes.now) }
 {
-    let (first, rest) = piece_at(alloc, macros, bytes)?;
-    let (pieces, rest) = further_pieces_at(alloc, macros, first, rest)?;
-    let whole = joined(alloc, pieces.as_slice())?;
-    let text = Str::new(alloc, whole.as_slice())?;
-    Ok((text, rest))
+    let (first, rest) = piece_at(alloc, macros, b"", bytes)?;
+    let mut text = Vec::new(alloc);
+    text.extend_from_slice(first.bytes())?;
+    let (text, rest) = further_pieces_at(alloc, macros, text, rest)?;
+    let whole = Str::of(alloc, text)?;
+    Ok((whole, rest))
 }
 
 #[tactic(auto, unfolding(bibtex_spec::specs::Reading::read_field))]

@@ -11,6 +11,8 @@ pub enum BibRefusal {
     UnknownMacro(u64),
     /// This brace of a value is within 64 that are open.
     TooDeep(u64),
+    /// With the text of this macro its value has more than 1,048,576 bytes.
+    TooLarge(u64),
     /// What the entry of this key states doesn't fit.
     TooManyEdges(u64),
     TooManyNodes(u64),

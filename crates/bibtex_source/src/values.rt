@@ -46,15 +46,12 @@ pub(crate) fn tidy(alloc: Global, bytes: &[u8]) -> Result<Str, NoMemory>
     Str::of(alloc, text)
 }
 
-/// The texts, one behind the other.
-pub(crate) fn joined(alloc: Global, texts: &[Str]) -> Result<Vec<u8>, NoMemory>
-    ensures { IfOk result (λ v. v.items ≡ specs.joined texts.now) }
+/// Whether a macro's text may stand behind what its value has before it.
+#[tactic(auto, unfolding(bibtex_spec::specs::Values::has_room))]
+pub(crate) fn has_room(before: &[u8], text: &[u8]) -> bool
+    ensures { result ≡ specs.has_room before.now text.now }
 {
-    let mut all = Vec::new(alloc);
-    for text in texts {
-        all.extend_from_slice(text.bytes())?;
-    }
-    Ok(all)
+    before.len() as u64 + text.len() as u64 <= 1_048_576
 }
 
 fn begins_and(bytes: &[u8]) -> bool

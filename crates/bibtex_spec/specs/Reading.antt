@@ -9,18 +9,18 @@
 --   piece := digits | "{" balanced "}" | quote | name
 --
 -- Blanks may stand between all of these. A reader is stuck at the first byte with which no item goes on, and is past
--- a limit at a macro that isn't defined, or at the brace that is open within 64 others.
+-- a limit at a macro that isn't defined or makes its value too large, or at the brace that is open within 64 others.
 use Rattle.std.specs.Prelude.{◌+◌, ◌-◌, ◌==◌, ◌&&◌, ℕ, zero, suc, Bool, true, false, List, [], ◌∷◌, ◌++◌, length}
 use Rattle.std.specs.Prelude.{codes, nat_eq, nat_lt, map, if◌then◌else◌, Option, Some, None}
 use Rattle.std.specs.Str.{bytes_eq}
-use Rattle.grammar.specs.Reading.{Outcome, Read, Stuck, Past, and_then, ◌>>=◌, ◌>>◌, give, take_one, choose, repeat, with_front}
+use Rattle.grammar.specs.Reading.{Outcome, Read, Stuck, Past, and_then, ◌>>=◌, ◌>>◌, give, take_one, choose, iterate, with_front}
 use Rattle.bibtex_spec.specs.declared.Field.{Field}
 use Rattle.bibtex_spec.specs.declared.Item.{Item}
 use Rattle.bibtex_spec.specs.declared.Item.TheVariants.{Passes, Defines, Enters}
 use Rattle.bibtex_spec.specs.declared.Nesting.{Nesting}
 use Rattle.bibtex_spec.specs.declared.Nesting.TheVariants.{Closes, Unpaired, TooDeep, Goes}
 use Rattle.bibtex_spec.specs.Bytes.{is_blank, is_letter, is_digit, is_name_byte, is_key_byte, lower, run, behind}
-use Rattle.bibtex_spec.specs.Values.{tidy, joined}
+use Rattle.bibtex_spec.specs.Values.{tidy, has_room}
 use Rattle.bibtex_spec.specs.Macros.{MacroTexts, text_of}
 
 -- a reader, and the blanks behind what it reads
@@ -100,31 +100,34 @@ opened close (b ∷ bytes) = enclosed close 1 bytes
 unfoldable pub read_enclosed : ℕ → List ℕ → Outcome ℕ (List ℕ)
 read_enclosed close = spaced (opened close)
 
--- the text of the macro that was read from these bytes
-abbrev pub macro_read : List ℕ → List ℕ → Option (List ℕ) → Outcome ℕ (List ℕ)
-macro_read bytes rest (Some text) = Read text rest
-macro_read bytes rest None = Past bytes
+-- the text of the macro that was read from these bytes, where there is room for it
+abbrev pub macro_read : List ℕ → List ℕ → List ℕ → Option (List ℕ) → Outcome ℕ (List ℕ)
+macro_read before bytes rest (Some text) = if has_room before text then Read text rest else Past bytes
+macro_read before bytes rest None = Past bytes
 
-unfoldable pub read_macro : MacroTexts → List ℕ → Outcome ℕ (List ℕ)
-read_macro macros bytes =
-    and_then (read_name bytes) (λ name rest. macro_read bytes rest (text_of macros name))
+-- a piece of a value that has the text `before` so far
 
-unfoldable pub read_piece : MacroTexts → List ℕ → Outcome ℕ (List ℕ)
-read_piece macros =
+unfoldable pub read_macro : MacroTexts → List ℕ → List ℕ → Outcome ℕ (List ℕ)
+read_macro macros before bytes =
+    and_then (read_name bytes) (λ name rest. macro_read before bytes rest (text_of macros name))
+
+unfoldable pub read_piece : MacroTexts → List ℕ → List ℕ → Outcome ℕ (List ℕ)
+read_piece macros before =
     choose is_digit read_digits
     (choose (nat_eq 123) (read_enclosed 125)
-    (choose (nat_eq 34) (read_enclosed 34) (read_macro macros)))
+    (choose (nat_eq 34) (read_enclosed 34) (read_macro macros before)))
 
-unfoldable pub read_further : MacroTexts → List ℕ → Outcome ℕ (List ℕ)
-read_further macros = do
+-- what it has with one piece more
+unfoldable pub read_further : MacroTexts → List ℕ → List ℕ → Outcome ℕ (List ℕ)
+read_further macros before = do
   read_mark 35
-  read_piece macros
+  text ← read_piece macros before
+  give (before ++ text)
 
 unfoldable pub read_value : MacroTexts → List ℕ → Outcome ℕ (List ℕ)
 read_value macros = do
-  first ← read_piece macros
-  others ← repeat (nat_eq 35) (read_further macros)
-  give (joined (first ∷ others))
+  first ← read_piece macros []
+  iterate (nat_eq 35) (read_further macros) first
 
 unfoldable pub read_field : MacroTexts → List ℕ → Outcome ℕ Field
 read_field macros = do

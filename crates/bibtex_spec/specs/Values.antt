@@ -1,7 +1,6 @@
 -- The text of a value, and the texts that a field gives.
 use Rattle.std.specs.Prelude.{◌+◌, ◌-◌, ◌==◌, ◌||◌, ◌&&◌, ℕ, zero, suc, Bool, true, false, List, [], ◌∷◌, ◌++◌, codes}
-use Rattle.std.specs.Prelude.{nat_eq, map, if◌then◌else◌}
-use Rattle.std.specs.List.{flat_map}
+use Rattle.std.specs.Prelude.{nat_eq, nat_le, length, map, if◌then◌else◌}
 use Rattle.std.specs.Str.{bytes_eq}
 use Rattle.bibtex_spec.specs.Bytes.{is_blank, behind}
 
@@ -19,9 +18,9 @@ tidy_from owed (b ∷ bytes) =
 abbrev pub tidy : List ℕ → List ℕ
 tidy bytes = tidy_from false (behind is_blank bytes)
 
--- the texts, one behind the other
-abbrev pub joined : List (List ℕ) → List ℕ
-joined = flat_map (λ text. text)
+-- whether a macro's text may stand behind what a value has before it: together they have at most 1,048,576 bytes
+unfoldable pub has_room : List ℕ → List ℕ → Bool
+has_room before text = nat_le (length before + length text) 1048576
 
 -- ` and `
 abbrev pub begins_and : List ℕ → Bool

@@ -14,6 +14,7 @@ ghost use Rattle.candidate_values.specs.Kept.{IsWalkOf, key_cmp, IsReach, AreRea
 
 use crate::search::Search;
 use automaton::Automaton;
+use condition_tests::is_among;
 use sd_value::{NoMemory, Value, copy};
 use std::alloc::Global;
 use std::collections::BTreeMap;
@@ -29,14 +30,6 @@ pub struct Reaches {
     onward: BTreeMap<(usize, Value), Vec<Value>>,
     backward: BTreeMap<(usize, Value), Vec<Value>>,
     count: usize,
-}
-
-// Whether the value is one of ascending ones.
-fn is_among(values: &[Value], value: &Value) -> bool
-    ensures { IsStrictlySortedBy value_cmp values.now
-        → IsTrue result ↔ Contains values.now value.now }
-{
-    values.binary_search(value).is_ok()
 }
 
 fn copies(alloc: Global, values: &[Value]) -> Result<Vec<Value>, NoMemory>

@@ -1,6 +1,6 @@
 -- The atoms that stand for conditions.
-use Rattle.std.proofs.Common.{◌≡◌, ℕ, List, [], ◌∷◌, refl, sym, ◌∙◌, subst}
-use Rattle.std.specs.Prelude.{◌↔◌}
+use Rattle.std.proofs.Common.{◌≡◌, ℕ, List, [], ◌∷◌, refl, sym, subst}
+use Rattle.std.specs.Prelude.{◌↔◌, Contains}
 use Rattle.sd_value.specs.declared.Datum.TheVariants.{Text}
 use Rattle.sd_value.specs.declared.Value.{Value}
 use Rattle.sd_value.specs.declared.Value.TheVariants.{Data}
@@ -8,12 +8,11 @@ use Rattle.rpe.specs.Regex.{Regex, Word, label}
 use Rattle.graph_spec.specs.DataGraph.{DataGraph, text, HasEdge}
 use Rattle.graph_spec.specs.Walk.{Walk as WalkOf}
 use Rattle.query_spec.specs.declared.Variable.{Variable}
-use Rattle.query_spec.specs.Query.{Operand, expression, path}
+use Rattle.query_spec.specs.Query.{Operand, expression, path, one_of}
 use Rattle.condition_tests.specs.declared.literal.Slot.{Slot}
-use Rattle.condition_tests.specs.declared.literal.Slot.TheVariants.{Variable as Numbered}
 use Rattle.condition_tests.specs.declared.literal.Relation.TheVariants.{Edge, Walk, Compare}
-use Rattle.condition_tests.specs.declared.literal.Atom.TheVariants.{Two}
-use Rattle.condition_tests.specs.declared.literal.Goal.TheVariants.{Holds as HoldsGoal}
+use Rattle.condition_tests.specs.declared.literal.Property.TheVariants.{OneOf}
+use Rattle.condition_tests.specs.declared.literal.Atom.TheVariants.{One, Two}
 use Rattle.condition_tests.specs.Meaning.{HasArc}
 use Rattle.rpe.specs.Language.{InLanguage}
 use Rattle.automaton.specs.Table.{Table, HasWord}
@@ -49,3 +48,10 @@ module _ (version : ℕ) (variables : List Variable) where
   path_atom from to r (Edge name) p q i j h = subst (λ e. IsAtomOf version variables (path from (expression e) to) (Two p (Edge name) q)) (sym h) (edge_atom from to name p q i j)
   path_atom from to r (Walk table) p q i j h = walk_atom from to r table p q i j h
   path_atom from to r (Compare op) p q i j h = absurd h
+
+  -- a set with the members of a list
+  pub one_of_atom : (operand : Operand) (p : Slot) (set constants : List Value) → IsPlaceOf variables operand p → ((v : Value) → Contains set v ↔ Contains constants v) → IsAtomOf version variables (one_of operand constants) (One p (OneOf set))
+  one_of_atom operand p set constants place same = λ G t l. (
+    (λ h. (h.0, place.to t h.0 l h.1, h.2.0, (same h.2.0).0 h.2.1, h.2.2)),
+    (λ h. (h.0, place.from t h.0 l h.1, (h.2, (same h.2).1 h.3, h.4))),
+  )

@@ -1,5 +1,5 @@
 -- When values are equal, as tests tell it.
-use Rattle.std.proofs.Common.{◌≡◌, ℕ, zero, suc, ◌+◌, ◌<◌, ◌≤◌, List, [], ◌∷◌, ◌++◌, take, add-one, length, arith, refl, ap, sym, ◌∙◌, inl, inr, subst}
+use Rattle.std.proofs.Common.{◌≡◌, ℕ, zero, suc, ◌+◌, ◌≤◌, List, [], ◌∷◌, ◌++◌, take, add-one, length, arith, refl, ap, sym, ◌∙◌, inl, inr, subst}
 use Rattle.std.specs.Prelude.{◌⊎◌, ◌↔◌, IsTrue, Bool, true, false, Contains, Some, slice_get}
 use Rattle.std.specs.Ordering.{eq_by_cmp}
 use Rattle.std.proofs.lemmas.List.Elements.{Contains-append_cases, Contains-append_left, Contains-append_right, Contains-push_cases, Contains-push}
@@ -28,21 +28,10 @@ module _ (version : ℕ) (u v : Value) where
     elim [ inl same ↦ (let t = equal_values u v b e same in cc) | inr twin ↦ h.1 twin ],
   )
 
-split_below : (j n : ℕ) → j < n + 1 → (j < n) ⊎ (j ≡ n)
-split_below j n h = search (arith, h)
-
 take_more : (xs : List Value) (i : ℕ) (x : Value) → slice_get xs i ≡ Some x → take (suc i) xs ≡ take i xs ++ x ∷ []
 take_more [] i x h = cc
 take_more (y ∷ xs) zero x h = let e : x ≡ y = cc in ap (λ z. z ∷ []) (sym e)
 take_more (y ∷ xs) (suc i) x h = ap (λ zs. y ∷ zs) (take_more xs i x h)
-
-module _ (version : ℕ) (v : Value) (constants : List Value) where
-  pub none_so_far : (n : ℕ) (k : Value) → ((i : ℕ) (c : Value) → i < n → slice_get constants i ≡ Some c → IsEqual version v c → ⊥) → slice_get constants n ≡ Some k → (IsEqual version v k → ⊥)
-      → (i : ℕ) (c : Value) → i < n + 1 → slice_get constants i ≡ Some c → IsEqual version v c → ⊥
-  none_so_far n k before here differs i c l e same = elim (split_below i n l) [
-    | inl m ↦ before i c m e same
-    | inr at ↦ (let there : slice_get constants n ≡ Some c = subst (λ j. slice_get constants j ≡ Some c) at e in let one : k ≡ c = cc in differs (subst (λ x. IsEqual version v x) (sym one) same))
-  ]
 
 twin_turned : (version : ℕ) (u v : Value) → IsTwinOf version u v → IsTwinOf version v u
 twin_turned version (Data (Int n)) (Data (Text s)) h = h

@@ -1,11 +1,11 @@
 -- Goals that stand for the conditions of a chain.
-use Rattle.std.specs.Prelude.{◌≡◌, ◌↔◌, ℕ, List, length, map, Bool, Some, slice_get, Contains, ⊤, ◌≤◌}
+use Rattle.std.specs.Prelude.{◌≡◌, ◌↔◌, ℕ, List, length, map, Some, slice_get, Contains, ⊤, ◌≤◌}
 use Rattle.sd_value.specs.declared.Value.{Value}
 use Rattle.rpe.specs.Regex.{Regex, Word, label}
 use Rattle.rpe.specs.Language.{InLanguage}
 use Rattle.graph_spec.specs.DataGraph.{DataGraph}
 use Rattle.query_spec.specs.declared.Variable.{Variable}
-use Rattle.query_spec.specs.Query.{Chain, Operand, variable, constant, Condition, PathStep, arc_variable, expression}
+use Rattle.query_spec.specs.Query.{Chain, Operand, Condition, PathStep, arc_variable, expression}
 use Rattle.query_spec.specs.Query.{member, path, compare, one_of, kind, negation}
 use Rattle.query_spec.specs.Mentions.{IsDeclared, IsFlat, condition_positions}
 use Rattle.query_spec.specs.Holds.{Holds, operand_value}

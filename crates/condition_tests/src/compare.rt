@@ -8,11 +8,11 @@ ghost use Rattle.std.specs.Fmt.{signed_decimal};
 ghost use Rattle.condition_tests.specs.Meaning.{IsOneOf};
 ghost use Rattle.condition_tests.specs.Comparing.{IsInRange, Allows};
 
+use crate::value_set::ValueSet;
 use query_spec::{Op, Test};
 use sd_value::{Datum, NoMemory, Str, Value, copy};
 use std::alloc::Global;
 use std::cmp::Ordering;
-use struql_ast::Constants;
 
 pub(crate) fn has_kind(test: Test, v: &Value) -> bool
     ensures { IsTrue result ↔ HasKind test v.now }
@@ -85,21 +85,22 @@ fn is_equal(alloc: Global, version: u8, u: &Value, v: &Value) -> Result<bool, No
     Ok(same || twins)
 }
 
-// Whether the value equals one of the constants.
+// Whether the value equals one of the constants: it is there, or its twin is.
 pub(crate) fn is_one_of(
     alloc: Global,
     version: u8,
-    constants: &Constants,
+    constants: &ValueSet,
     v: &Value,
 ) -> Result<bool, NoMemory>
     ensures { IfOk result (λ b. IsTrue b ↔ IsOneOf version constants.now v.now) }
 {
-    for constant in constants.items() {
-        if is_equal(alloc, version, v, constant)? {
-            return Ok(true);
-        }
+    if constants.has(v) {
+        return Ok(true);
     }
-    Ok(false)
+    match twin_of(alloc, version, v)? {
+        Some(twin) => Ok(constants.has(&twin)),
+        None => Ok(false),
+    }
 }
 
 fn compare_numbers(m: &i64, n: &i64) -> Ordering
@@ -298,7 +299,7 @@ fn add_all(values: &mut Vec<Value>, more: Vec<Value>) -> Result<(), NoMemory>
 pub fn equals_of_any(
     alloc: Global,
     version: u8,
-    constants: &Constants,
+    constants: &ValueSet,
 ) -> Result<Vec<Value>, NoMemory>
     ensures { IfOk result (λ values. (w : Item)
         → Contains values.items w ↔ IsOneOf version constants.now w) }

@@ -1,8 +1,8 @@
 //! Conditions with variables by number: what the search works on.
+use crate::value_set::ValueSet;
 use automaton::Automaton;
 use query_spec::{Op, Test};
 use sd_value::{Str, Value};
-use struql_ast::Constants;
 
 /// An end of a condition: a variable by its number in the chain, or a value.
 #[derive(Drop)]
@@ -15,7 +15,7 @@ pub enum Slot {
 #[derive(Drop)]
 pub enum Property {
     Member(Str),
-    OneOf(Constants),
+    OneOf(ValueSet),
     Kind(Test),
 }
 

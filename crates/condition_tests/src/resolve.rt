@@ -9,12 +9,13 @@ ghost use Rattle.condition_tests.specs.Resolved.{IsPlaceOf, IsAtomOf, IsRelation
 ghost use Rattle.condition_tests.specs.Places.{PlaceInRange, AtomInRange};
 
 use crate::literal::{Atom, Goal, Literal, Property, Relation, Slot};
+use crate::value_set::ValueSet;
 use automaton::{Automaton, RpeRefusal};
 use query_spec::{Variable, index_of};
 use rpe::Rpe;
 use sd_value::{NoMemory, copied_list, copy};
 use std::alloc::Global;
-use struql_ast::{Condition, Constants, Operand, PathStep};
+use struql_ast::{Condition, Operand, PathStep};
 
 // Where the operand's value is in a row.
 fn place_of(alloc: Global, variables: &[Variable], operand: &Operand) -> Result<Slot, NoMemory>
@@ -119,7 +120,7 @@ fn atom_of(alloc: Global, variables: &[Variable], condition: &Condition) -> Resu
             ..
         } => {
             let place = place_of(alloc, variables, operand)?;
-            let constants = Constants::new(copied_list(alloc, constants.items())?);
+            let constants = ValueSet::of(copied_list(alloc, constants.items())?);
             Ok(Atom::One(place, Property::OneOf(constants)))
         }
         Condition::Kind { test, variable, .. } => {

@@ -45,6 +45,7 @@ abbrev pub bib_told : BibRefusal → SourceRefusal
 bib_told (bib.Expected at) = Refused 121 (At at)
 bib_told (bib.UnknownMacro at) = Refused 122 (At at)
 bib_told (bib.TooDeep at) = Refused 123 (At at)
+bib_told (bib.TooLarge at) = Refused 124 (At at)
 bib_told (bib.TooManyEdges at) = Refused 11 (At at)
 bib_told (bib.TooManyNodes at) = Refused 12 (At at)
 bib_told bib.NoMemory = NoMemory

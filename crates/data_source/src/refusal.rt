@@ -94,6 +94,7 @@ impl From<BibRefusal> for SourceRefusal {
             BibRefusal::Expected(at) => refused(121, Place::At(at)),
             BibRefusal::UnknownMacro(at) => refused(122, Place::At(at)),
             BibRefusal::TooDeep(at) => refused(123, Place::At(at)),
+            BibRefusal::TooLarge(at) => refused(124, Place::At(at)),
             BibRefusal::TooManyEdges(at) => refused(11, Place::At(at)),
             BibRefusal::TooManyNodes(at) => refused(12, Place::At(at)),
             BibRefusal::NoMemory => SourceRefusal::NoMemory,

@@ -284,6 +284,30 @@ const REFUSALS: &[RefusalRow] = &[
         refusal: None,
     },
     RefusalRow {
+        text: b"@string{a={0123456789abcdef}}@string{b=a#a#a#a#a#a#a#a#a#a#a#a#a#a#a#a}@string{c=b#b#b#b#b#b#b#b#b#b#b#b#b#b#b#b}@string{d=c#c#c#c#c#c#c#c#c#c#c#c#c#c#c#c}@string{e=d#d#d#d#d#d#d#d#d#d#d#d#d#d#d#d}@misc{k, t = e # {}}",
+        nodes: 9,
+        edges: 9,
+        refusal: None,
+    },
+    RefusalRow {
+        text: b"@string{a={0123456789abcdef}}@string{b=a#a#a#a#a#a#a#a#a#a#a#a#a#a#a#a}@string{c=b#b#b#b#b#b#b#b#b#b#b#b#b#b#b#b}@string{d=c#c#c#c#c#c#c#c#c#c#c#c#c#c#c#c}@string{e=d#d#d#d#d#d#d#d#d#d#d#d#d#d#d#d}@misc{k, t = e # a}",
+        nodes: 9,
+        edges: 9,
+        refusal: Some(BibRefusal::TooLarge(214)),
+    },
+    RefusalRow {
+        text: b"@string{a={0123456789abcdef}}@string{b=a#a#a#a#a#a#a#a#a#a#a#a#a#a#a#a}@string{c=b#b#b#b#b#b#b#b#b#b#b#b#b#b#b#b}@string{d=c#c#c#c#c#c#c#c#c#c#c#c#c#c#c#c}@string{e=d#d#d#d#d#d#d#d#d#d#d#d#d#d#d#d}@string{f = e # {x} # e # y}",
+        nodes: 9,
+        edges: 9,
+        refusal: Some(BibRefusal::TooLarge(219)),
+    },
+    RefusalRow {
+        text: b"@string{a={0123456789abcdef}}@string{b=a#a#a#a#a#a#a#a#a#a#a#a#a#a#a#a}@string{c=b#b#b#b#b#b#b#b#b#b#b#b#b#b#b#b}@string{d=c#c#c#c#c#c#c#c#c#c#c#c#c#c#c#c}@string{e=d#d#d#d#d#d#d#d#d#d#d#d#d#d#d#d}@preamble{{x} # e}",
+        nodes: 9,
+        edges: 9,
+        refusal: Some(BibRefusal::TooLarge(213)),
+    },
+    RefusalRow {
         text: b"",
         nodes: 0,
         edges: 0,

@@ -1,5 +1,5 @@
-use Rattle.candidate_values.proofs.Kept.{among}
-use Rattle.candidate_values.proofs.reaches.is_among.Goals as goal
+use Rattle.condition_tests.proofs.Ascending.{among}
+use Rattle.condition_tests.proofs.value_set.is_among.Goals as goal
 
 pub returns : goal.returns
 returns c = among c.args.values.now c.args.value.now c.binary_search.result c.is_ok.result c.is_ok.ensures.value c.binary_search.ensures.bound c.binary_search.ensures.position
