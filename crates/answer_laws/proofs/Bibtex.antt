@@ -1,6 +1,6 @@
 -- Each BibTeX text has an answer over any graph. Its faults are those of the grammar.
 use Rattle.std.proofs.Common.{◌≡◌, ◌-◌, ℕ, zero, suc, List, [], ◌∷◌, length, refl, sym, subst, Result, Ok, Err}
-use Rattle.std.specs.Prelude.{◌==◌, Bool, true, false, nat_eq, ⊤, if◌then◌else◌}
+use Rattle.std.specs.Prelude.{◌==◌, Bool, true, false, nat_eq, map, Option, Some, None, ⊤, if◌then◌else◌}
 use Rattle.grammar.specs.Reading.{Outcome, Read, Stuck, Past, starts}
 use Rattle.graph_spec.specs.DataGraph.{Name}
 use Rattle.sd_graph.specs.Statement.{Building}
@@ -9,13 +9,13 @@ use Rattle.source_steps.specs.Names.{without_mark}
 use Rattle.bibtex_spec.specs.declared.Field.{Field}
 use Rattle.bibtex_spec.specs.declared.Item.{Item}
 use Rattle.bibtex_spec.specs.declared.Item.TheVariants.{Passes, Defines, Enters}
-use Rattle.bibtex_spec.specs.Bytes.{is_junk, behind}
+use Rattle.bibtex_spec.specs.Bytes.{is_junk, is_name_byte, lower, run, behind}
 use Rattle.bibtex_spec.specs.Values.{texts_of}
-use Rattle.bibtex_spec.specs.Macros.{MacroTexts, months}
+use Rattle.bibtex_spec.specs.Macros.{MacroTexts, text_of, months}
 use Rattle.bibtex_spec.specs.Reading.{read_item}
 use Rattle.bibtex_source.specs.declared.refusal.BibRefusal.{BibRefusal}
-use Rattle.bibtex_source.specs.declared.refusal.BibRefusal.TheVariants.{UnknownMacro, TooDeep, TooManyEdges, TooManyNodes, NoMemory}
-use Rattle.bibtex_source.specs.Text.{BibStep, text_step, texts_steps, field_steps, fields_steps, item_steps, macros_behind, limit_fault}
+use Rattle.bibtex_source.specs.declared.refusal.BibRefusal.TheVariants.{TooDeep, TooManyEdges, TooManyNodes, NoMemory}
+use Rattle.bibtex_source.specs.Text.{BibStep, text_step, texts_steps, field_steps, fields_steps, item_steps, macros_behind, macro_fault, limit_fault}
 use Rattle.bibtex_source.specs.Text.{read_steps, marked_steps, steps_within, text_steps, bib_ending}
 use Rattle.bibtex_source.specs.Reads.{Reads}
 use Rattle.answer_laws.proofs.Steps.{FailAs, fail_append, fail_choice, IsToldAs, ended}
@@ -34,12 +34,19 @@ fields_fail at key [] = tt
 fields_fail at key (field ∷ fields) =
     fail_append IsItself (field_steps at key field) _ (texts_fail at key field.name (texts_of field.name field.text)) (fields_fail at key fields)
 
-limit_fails : (whole : ℕ) (rest : List ℕ) → IsItself (limit_fault whole rest)
-limit_fails whole rest = by (starts (nat_eq 123) rest)
+macro_fails : (at : ℕ) (text : Option (List ℕ)) → IsItself (macro_fault at text)
+macro_fails at (Some text) = refl
+macro_fails at None = refl
+
+limit_fails : (whole : ℕ) (macros : MacroTexts) (rest : List ℕ) → IsItself (limit_fault whole macros rest)
+limit_fails whole macros rest = by (starts (nat_eq 123) rest)
   where
-    by : (b : Bool) → IsItself (if b then TooDeep (whole - length rest) else UnknownMacro (whole - length rest))
+    named : Option (List ℕ)
+    named = text_of macros (map lower (run is_name_byte rest))
+
+    by : (b : Bool) → IsItself (if b then TooDeep (whole - length rest) else macro_fault (whole - length rest) named)
     by true = refl
-    by false = refl
+    by false = macro_fails (whole - length rest) named
 
 module _ (stem : Name) (whole : ℕ) where
   item_fails : (item : Item) → FailAs IsItself (item_steps stem whole item)
@@ -52,7 +59,7 @@ module _ (stem : Name) (whole : ℕ) where
   read_fails macros later others (Read item rest) =
       fail_append IsItself (item_steps stem whole item) _ (item_fails item) (others (macros_behind macros item) rest)
   read_fails macros later others (Stuck rest) = (refl, tt)
-  read_fails macros later others (Past rest) = (limit_fails whole rest, tt)
+  read_fails macros later others (Past rest) = (limit_fails whole macros rest, tt)
 
   marked_fails : (macros : MacroTexts) (later : MacroTexts → List ℕ → List BibStep) → ((m : MacroTexts) (rest : List ℕ) → FailAs IsItself (later m rest))
       → (bytes : List ℕ) → FailAs IsItself (marked_steps stem whole macros later bytes)

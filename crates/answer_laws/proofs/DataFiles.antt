@@ -65,6 +65,7 @@ bib_tells (Ok u) settled = λ e. cc
 bib_tells (Err (bib.Expected at)) settled = λ e. cc
 bib_tells (Err (bib.UnknownMacro at)) settled = λ e. cc
 bib_tells (Err (bib.TooDeep at)) settled = λ e. cc
+bib_tells (Err (bib.TooLarge at)) settled = λ e. cc
 bib_tells (Err (bib.TooManyEdges at)) settled = λ e. cc
 bib_tells (Err (bib.TooManyNodes at)) settled = λ e. cc
 bib_tells (Err bib.NoMemory) settled = absurd (settled refl)
