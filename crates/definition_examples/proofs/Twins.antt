@@ -9,7 +9,7 @@ use Rattle.definition_examples.specs.Bibliography.{int}
 
 are_twins : AreTwins 2 (pos 7) (codes "7")
 unfolding digits
-are_twins = (refl, omega arith, omega arith, refl)
+are_twins = (omega arith, omega arith, omega arith, refl)
 
 pub equal_to_its_text : Compares 2 Eq (int 7) (text (codes "7"))
 equal_to_its_text = inr are_twins
