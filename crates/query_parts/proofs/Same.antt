@@ -50,6 +50,12 @@ op_decides Ge Ge = always refl
 op_decides (Texts Starts) (Texts Starts) = always refl
 op_decides (Texts Ends) (Texts Ends) = always refl
 op_decides (Texts Has) (Texts Has) = always refl
+op_decides o (Texts Starts) = never (λ e. cc)
+op_decides o (Texts Ends) = never (λ e. cc)
+op_decides o (Texts Has) = never (λ e. cc)
+op_decides (Texts Starts) p = never (λ e. cc)
+op_decides (Texts Ends) p = never (λ e. cc)
+op_decides (Texts Has) p = never (λ e. cc)
 op_decides o p = never (λ e. cc)
 
 pub test_decides : (o p : Test) → Decides (same_test o p) (o ≡ p)

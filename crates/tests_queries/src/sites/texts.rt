@@ -1,7 +1,8 @@
 // Sites whose queries test texts.
 use crate::sites::SiteRow;
 
-const HOME: &str = "<TEMPLATE R><SFMT @starts DELIM=','>|<SFMT @ends DELIM=','>|<SFMT @has DELIM=','></TEMPLATE>";
+const HOME: &str =
+    "<TEMPLATE R><SFMT @starts DELIM=','>|<SFMT @ends DELIM=','>|<SFMT @has DELIM=','></TEMPLATE>";
 
 /// Their sites, each with the outcomes of its pages.
 pub const SITES: &[SiteRow] = &[
