@@ -98,6 +98,11 @@ stricter S t Ge u = below S u t
 stricter S t Ne u = below S t u || below S u t
 stricter S t op u = false
 
+-- the comparison is there with its sides exchanged
+abbrev pub exchanged : List Condition → Operand → Option Op → Operand → Bool
+exchanged S t None u = false
+exchanged S t (Some p) u = contains S (compare u p t)
+
 module _ (tests : Tests) (version : ℕ) where
   -- the condition is a path or an edge from t to u, each word of which is one of r
   abbrev pub narrower : Operand → Regex → Operand → Condition → Bool
@@ -111,11 +116,6 @@ module _ (tests : Tests) (version : ℕ) where
   abbrev pub fewer : Operand → List Value → Condition → Bool
   fewer t values (one_of u vs) = same_operand u t && list_all (among tests version values) vs
   fewer t values c = false
-
-  -- the comparison is there with its sides exchanged
-  abbrev pub exchanged : List Condition → Operand → Option Op → Operand → Bool
-  exchanged S t None u = false
-  exchanged S t (Some p) u = contains S (compare u p t)
 
   -- the condition follows from others, negations aside
   abbrev pub follows : List Condition → Condition → Bool

@@ -81,7 +81,7 @@ fn path_shape(
 
 // How many values equal one at most.
 fn equals_of_one(version: u8) -> u128
-    ensures { result ≡ equals_of_one version }
+    ensures value { result ≡ equals_of_one version }
     ensures few { result ≤ 2 }
 {
     if version >= 2 { 2 } else { 1 }
