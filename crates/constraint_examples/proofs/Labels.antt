@@ -23,7 +23,7 @@ abbrev int_5 : Value
 int_5 = Data (Int (pos 5))
 
 differ : IsEqual 1 (text (codes "5")) int_5 → ⊥
-differ = elim [ inl e ↦ cc | inr t ↦ let v = t.0 in cc ]
+differ = elim [ inl e ↦ cc | inr t ↦ omega (arith, t.0) ]
 
 none_of_five : IsAmong 1 five (text (codes "5")) → ⊥
 none_of_five (v, m, e) = elim (IsOneOf-from_Contains five v m) [ inl is ↦ differ (subst (IsEqual 1 (text (codes "5"))) (sym is) e) | inr none ↦ none ]
