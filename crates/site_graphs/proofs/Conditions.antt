@@ -25,7 +25,7 @@ use Rattle.query_spec.specs.Query.{arc_variable, expression, Condition, member, 
 use Rattle.query_spec.specs.Holds.{Assignment, operand_value, AreTwins, IsTwinOf, IsEqual, StandIn, Compares, HasKind}
 use Rattle.query_spec.specs.Holds.{Holds}
 use Rattle.site_graphs.proofs.Decide.{Dec, yes, no, dec_as, dec_not, dec_both, dec_either, dec_some, dec_same, dec_in}
-use Rattle.site_graphs.proofs.Decide.{dec_nat, dec_below}
+use Rattle.site_graphs.proofs.Decide.{dec_below}
 use Rattle.site_graphs.proofs.Texts.{dec_texts}
 use Rattle.site_graphs.proofs.Reaching.{Reaches, dec_edge, dec_reaches}
 
