@@ -185,11 +185,7 @@ fn second_at(
 
 /// The end of `C(x)`.
 #[tactic(auto, unfolding(crate::specs::Reading::read_call_end))]
-fn call_end_at(
-    name: Word,
-    x: Word,
-    tokens: &[Token],
-) -> Result<(Condition, &[Token]), Halt<Token>>
+fn call_end_at(name: Word, x: Word, tokens: &[Token]) -> Result<(Condition, &[Token]), Halt<Token>>
     ensures { Gives (λ x. condition_written x.0) (λ x. x.1.now) result
         (read_call_end name x tokens.now) }
 {
