@@ -319,11 +319,7 @@ fn has_item(tokens: &[Token]) -> bool
 }
 
 /// The items between INPUT and OUTPUT.
-fn items_at(
-    alloc: Global,
-    version: u8,
-    tokens: &[Token],
-) -> Result<(Groups, &[Token]), Halt<Token>>
+fn items_at(alloc: Global, version: u8, tokens: &[Token]) -> Result<(Groups, &[Token]), Halt<Token>>
     ensures { Gives (λ x. groups_found x.0) (λ x. x.1.now) result
         (iterate begins_item (read_item_step version) no_groups tokens.now) }
 {

@@ -105,12 +105,7 @@ fn print_pair(
 }
 
 // The operator between the operands.
-fn print_infix(
-    left: &Operand,
-    op: Op,
-    right: &Operand,
-    out: &mut Vec<u8>,
-) -> Result<(), NoMemory>
+fn print_infix(left: &Operand, op: Op, right: &Operand, out: &mut Vec<u8>) -> Result<(), NoMemory>
     ensures { IfOk result (λ _. out.new.items ≡ out.old.items
         ++ infix_text op (operand_text (operand_of left.now))
         (operand_text (operand_of right.now))) }
