@@ -13,6 +13,7 @@ use query_spec::{Op, Test};
 use sd_value::{Datum, NoMemory, Str, Value, copy};
 use std::alloc::Global;
 use std::cmp::Ordering;
+use value_texts::texts_hold;
 
 pub(crate) fn has_kind(test: Test, v: &Value) -> bool
     ensures { IsTrue result ↔ HasKind test v.now }
@@ -31,7 +32,7 @@ pub(crate) fn has_kind(test: Test, v: &Value) -> bool
 fn are_twins(alloc: Global, version: u8, n: i64, text: &Str) -> Result<bool, NoMemory>
     ensures { IfOk result (λ b. IsTrue b ↔ AreTwins version n text.now) }
 {
-    if version != 2 {
+    if version < 2 {
         return Ok(false);
     }
     let spelled = format!(in alloc; "{n}")?;
@@ -228,6 +229,7 @@ pub(crate) fn compares(
             let order = order_of(alloc, version, u, v)?;
             Ok(allows(op, order))
         }
+        Op::Texts(test) => Ok(texts_hold(alloc, test, u, v)?),
     }
 }
 
@@ -249,7 +251,7 @@ fn text_twin(alloc: Global, version: u8, n: i64) -> Result<Option<Value>, NoMemo
     ensures { IfOk result (λ r. (w : Item) → IsTwinOf version (Value.Data (Datum.Int n)) w
         ↔ (r ≡ Some w)) }
 {
-    if version != 2 {
+    if version < 2 {
         return Ok(None);
     }
     let spelled = format!(in alloc; "{n}")?;

@@ -1,4 +1,4 @@
--- A link whose label is one of a list may carry the twin of one of them, under version 2 alone.
+-- A link whose label is one of a list may carry the twin of one of them, from version 2 on alone.
 use Rattle.std.specs.Prelude.{◌≡◌, List, [], pos, codes, Contains}
 use Rattle.std.specs.Fmt.{digits}
 use Rattle.std.proofs.Common.{refl, sym, subst, inl, inr, arith, lit<, lit≤}
@@ -23,7 +23,7 @@ abbrev int_5 : Value
 int_5 = Data (Int (pos 5))
 
 differ : IsEqual 1 (text (codes "5")) int_5 → ⊥
-differ = elim [ inl e ↦ cc | inr t ↦ let v = t.0 in cc ]
+differ = elim [ inl e ↦ cc | inr t ↦ omega (arith, t.0) ]
 
 none_of_five : IsAmong 1 five (text (codes "5")) → ⊥
 none_of_five (v, m, e) = elim (IsOneOf-from_Contains five v m) [ inl is ↦ differ (subst (IsEqual 1 (text (codes "5"))) (sym is) e) | inr none ↦ none ]
@@ -44,7 +44,7 @@ not_under_1 = (
 
 are_twins : AreTwins 2 (pos 5) (codes "5")
 unfolding digits
-are_twins = (refl, omega arith, omega arith, refl)
+are_twins = (omega arith, omega arith, omega arith, refl)
 
 one_of_five : IsAmong 2 five (text (codes "5"))
 one_of_five = (int_5, Contains-here int_5 [], inr are_twins)

@@ -172,7 +172,7 @@ all_reached =
 no_comparison : (y : Name) (w : Value) → IsEntailed 1 papers.papers.conditions (compare (variable y) Eq (constant w)) → ⊥
 no_comparison y w (inl (inl m)) = elim (IsOneOf-from_Contains papers.papers.conditions (compare (variable y) Eq (constant w)) m) [ inl e ↦ cc | inr (inl e) ↦ cc | inr (inr none) ↦ none ]
 no_comparison y w (inl (inr (inl e))) = let f = e.1 in cc
-no_comparison y w (inl (inr (inr (inl m)))) = elim (IsOneOf-from_Contains papers.papers.conditions (compare (constant w) Eq (variable y)) m) [ inl e ↦ cc | inr (inl e) ↦ cc | inr (inr none) ↦ none ]
+no_comparison y w (inl (inr (inr (inl (p, is, m))))) = elim (IsOneOf-from_Contains papers.papers.conditions (compare (constant w) p (variable y)) m) [ inl e ↦ cc | inr (inl e) ↦ cc | inr (inr none) ↦ none ]
 no_comparison y w (inl (inr (inr (inr none)))) = none
 no_comparison y w (inr none) = none
 

@@ -9,12 +9,12 @@ use Rattle.rpe.specs.Regex.{Regex, Word, any}
 use Rattle.rpe.specs.Language.{InLanguage}
 use Rattle.graph_spec.specs.DataGraph.{DataGraph, Name, text}
 use Rattle.query_spec.specs.declared.Op.{Op}
-use Rattle.query_spec.specs.declared.Op.TheVariants.{Eq, Ne, Lt, Le, Gt, Ge}
+use Rattle.query_spec.specs.declared.Op.TheVariants.{Eq, Ne, Lt, Le, Gt, Ge, Texts}
 use Rattle.query_spec.specs.declared.Test.{Test}
 use Rattle.query_spec.specs.Query.{Operand, variable, constant, arc_variable, expression, Condition, member, path, compare, one_of, kind, negation}
 use Rattle.query_spec.specs.Mentions.{operand_names, step_names, names, arc_names, IsFlat}
 use Rattle.query_spec.specs.Holds.{Assignment, operand_value, IsEqual, Compares, HasKind, Holds}
-use Rattle.constraint_spec.specs.Entailed.{IsIncluded, HasNarrowerPath, HasNarrowerStep, IsIdle, turned, HasBelow, HasStricter, HasConstant, IsAmong, HasFewer, HasOneOf, HasKnownKind, IsTextOfArc, Follows, IsPlainlyEntailed, IsEntailed}
+use Rattle.constraint_spec.specs.Entailed.{IsIncluded, HasNarrowerPath, HasNarrowerStep, IsIdle, HasTurned, HasBelow, HasStricter, HasConstant, IsAmong, HasFewer, HasOneOf, HasKnownKind, IsTextOfArc, Follows, IsPlainlyEntailed, IsEntailed}
 use Rattle.constraint_laws.proofs.Equality.{equal_turned, equal_through, equal_without_twin, compares_turned, below_differs}
 
 pub included : (a b : Regex) → IsIncluded a b → (word : Word) → InLanguage a word → InLanguage b word
@@ -59,21 +59,22 @@ module _ (G : DataGraph) (version : ℕ) (S : List Condition) (s : Assignment) (
   below t u (inl m) = satisfies.holds (compare t Lt u) m
   below t u (inr m) =
       let (b, a, ub, ta, greater) = satisfies.holds (compare u Gt t) m in
-      (a, b, ta, ub, compares_turned version Lt a b greater)
+      (a, b, ta, ub, compares_turned version Lt Gt a b refl greater)
 
   stricter : (t : Operand) (op : Op) (u : Operand) → HasStricter S t op u → Holds G version (compare t op u) s
   stricter t Le u h = let (a, b, ta, ub, less) = below t u h in (a, b, ta, ub, inl less)
-  stricter t Ge u h = let (b, a, ub, ta, less) = below u t h in (a, b, ta, ub, compares_turned version Ge a b (inl less))
+  stricter t Ge u h = let (b, a, ub, ta, less) = below u t h in (a, b, ta, ub, compares_turned version Ge Le a b refl (inl less))
   stricter t Ne u (inl h) = let (a, b, ta, ub, less) = below t u h in (a, b, ta, ub, below_differs version a b less)
   stricter t Ne u (inr h) = let (b, a, ub, ta, less) = below u t h in (a, b, ta, ub, λ e. below_differs version b a less (equal_turned version a b e))
   stricter t Eq u h = absurd h
   stricter t Lt u h = absurd h
   stricter t Gt u h = absurd h
+  stricter t (Texts test) u h = absurd h
 
-  exchanged : (t : Operand) (op : Op) (u : Operand) → Contains S (compare u (turned op) t) → Holds G version (compare t op u) s
-  exchanged t op u m =
-      let (b, a, ub, ta, h) = satisfies.holds (compare u (turned op) t) m in
-      (a, b, ta, ub, compares_turned version op a b h)
+  exchanged : (t : Operand) (op : Op) (u : Operand) → HasTurned S t op u → Holds G version (compare t op u) s
+  exchanged t op u (p, is, m) =
+      let (b, a, ub, ta, h) = satisfies.holds (compare u p t) m in
+      (a, b, ta, ub, compares_turned version op p a b is h)
 
   to_itself : (t : Operand) (op : Op) (u : Operand) → ((x : Name) → Contains (operand_names t) x → HasValue s x) → (op ≡ Eq) × (t ≡ u) → Holds G version (compare t op u) s
   to_itself t op u known h =

@@ -1,6 +1,6 @@
 -- Where nothing is against the names as they come, a use has these ends, and the reverse.
-use Rattle.std.proofs.Common.{◌≡◌, ◌⊎◌, ℕ, zero, suc, ◌≤◌, List, [], ◌∷◌, length, map, take, refl, ap, sym, ◌∙◌, subst, inl, inr, arith}
-use Rattle.std.specs.Prelude.{Bool, true, false, not, ◌&&◌, ◌||◌, ◌==◌, Contains, All, Option, Some, None}
+use Rattle.std.proofs.Common.{◌≡◌, ℕ, suc, ◌≤◌, List, [], ◌∷◌, length, map, take, refl, ap, sym, ◌∙◌, subst, arith}
+use Rattle.std.specs.Prelude.{Contains, All, Option, Some, None}
 use Rattle.std.specs.Bool.{Decides}
 use Rattle.std.specs.List.{AllZip, list_all}
 use Rattle.std.proofs.lemmas.List.Elements.{All-contains}
@@ -16,12 +16,12 @@ use Rattle.constraint_spec.specs.Use.{rename_operand, rename, rename_term, renam
 use Rattle.query_parts.specs.Same.{same_operand}
 use Rattle.constraint_recheck.specs.Entails.{Tests, IsKnown, AreTests, entails}
 use Rattle.constraint_recheck.specs.Recheck.{zip_all}
-use Rattle.query_parts.proofs.Bools.{never, always, as_well, both, every_in}
+use Rattle.query_parts.proofs.Bools.{never, as_well, both, every_in}
 use Rattle.query_parts.proofs.Same.{name_decides, operand_decides}
 use Rattle.constraint_recheck.proofs.Entails.{entails_decides, known_renamed, number_decides}
 use Rattle.constraint_recheck.proofs.Links.{zip_decides, implies, all_each}
 use Rattle.constraint_recheck.specs.Options.{Finds}
-use Rattle.constraint_recheck.specs.Search.{depth, is_due, due_arg, due_same, ends_fit, due_condition, may_go_on, find_names, extend}
+use Rattle.constraint_recheck.specs.Search.{depth, is_due, due_arg, due_same, ends_fit, due_condition, may_go_on, find_names}
 use Rattle.constraint_recheck.proofs.Options.{finds_as}
 use Rattle.constraint_recheck.proofs.Mapped.{depth_within, rename_first, operand_first}
 use Rattle.constraint_recheck.proofs.Extended.{Sorts, Always, names_find}

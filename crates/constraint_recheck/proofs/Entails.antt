@@ -1,6 +1,6 @@
 -- The tests of entailment decide it.
-use Rattle.std.proofs.Common.{◌≡◌, ◌⊎◌, ℕ, ℤ, List, [], ◌∷◌, refl, ap, sym, subst, inl, inr, arith}
-use Rattle.std.specs.Prelude.{Bool, ◌&&◌, ◌||◌, ◌==◌, Contains, All}
+use Rattle.std.proofs.Common.{◌≡◌, ◌⊎◌, ◌≤◌, ℕ, ℤ, List, [], ◌∷◌, refl, ap, sym, subst, inl, inr, arith}
+use Rattle.std.specs.Prelude.{Bool, ◌&&◌, ◌||◌, ◌==◌, leb, Contains, All, Option, Some, None}
 use Rattle.std.specs.Bool.{Decides}
 use Rattle.std.specs.List.{list_any, list_all, flat_map}
 use Rattle.std.proofs.lemmas.List.Elements.{All-nil, All-cons, All-contains}
@@ -11,7 +11,7 @@ use Rattle.sd_value.specs.declared.Value.TheVariants.{Data}
 use Rattle.rpe.specs.Regex.{Regex, any}
 use Rattle.graph_spec.specs.DataGraph.{Name}
 use Rattle.query_spec.specs.declared.Op.{Op}
-use Rattle.query_spec.specs.declared.Op.TheVariants.{Eq, Ne, Lt, Le, Gt, Ge}
+use Rattle.query_spec.specs.declared.Op.TheVariants.{Eq, Ne, Lt, Le, Gt, Ge, Texts}
 use Rattle.query_spec.specs.declared.Test.{Test}
 use Rattle.query_spec.specs.declared.Test.TheVariants.{IsInt, IsText, IsUrl, IsFile, IsNode}
 use Rattle.query_spec.specs.Query.{Operand, variable, constant, arc_variable, expression, Condition, member, path, compare, one_of, kind, negation}
@@ -20,12 +20,15 @@ use Rattle.query_spec.specs.Holds.{AreTwins, IsTwinOf, IsEqual, HasKind}
 use Rattle.constraint_spec.specs.Entailed.{IsIncluded, HasNarrowerPath, HasNarrowerStep, turned, HasBelow, HasStricter, HasConstant, IsAmong, HasFewer, HasOneOf, HasNoTwin, HasKnownKind, IsTextOfArc, Follows, IsPlainlyEntailed, FollowsTurned, IsEntailed}
 use Rattle.constraint_spec.specs.Use.{rename}
 use Rattle.query_parts.specs.Same.{same_value, same_op, same_test, same_operand, same_condition}
-use Rattle.constraint_recheck.specs.Entails.{Tests, IsKnown, AreTests, twins, equal, among, without_twin, has_kind, on_constant, fixes, contains, below, stricter, narrower, fewer, follows, plainly, negates, follows_turned, entails}
+use Rattle.constraint_recheck.specs.Entails.{Tests, IsKnown, AreTests, twins, equal, among, without_twin, has_kind, on_constant, fixes, contains, below, stricter, narrower, fewer, exchanged, follows, plainly, negates, follows_turned, entails}
 use Rattle.query_parts.proofs.Bools.{never, always, as_well, both, either, denied, some, some_in, every}
 use Rattle.query_parts.proofs.Same.{name_decides, value_decides, op_decides, test_decides, operand_decides, condition_decides}
 
 pub number_decides : (m n : ℕ) → Decides (m == n) (m ≡ n)
 number_decides m n = (λ t. grind (arith, nat_tests), λ e. grind (arith, nat_tests))
+
+least_decides : (m n : ℕ) → Decides (leb m n) (m ≤ n)
+least_decides m n = (λ t. grind (arith, nat_tests), λ e. grind (arith, nat_tests))
 
 -- ---- kinds
 
@@ -53,6 +56,14 @@ stricter_decides S t Ne u = either (below S t u) (below S u t) (below_decides S 
 stricter_decides S t Eq u = never (λ h. h)
 stricter_decides S t Lt u = never (λ h. h)
 stricter_decides S t Gt u = never (λ h. h)
+stricter_decides S t (Texts test) u = never (λ h. h)
+
+exchanged_decides : (S : List Condition) (t : Operand) (op : Option Op) (u : Operand) → Decides (exchanged S t op u) ((p : Op) × (op ≡ Some p) × Contains S (compare u p t))
+exchanged_decides S t None u = never (λ h. let e = h.1 in cc)
+exchanged_decides S t (Some o) u =
+    as_well (contains S (compare u o t)) (λ m. (o, refl, m))
+    (λ h. let e : o ≡ h.0 = (let g = h.1 in cc) in subst (λ p. Contains S (compare u p t)) (sym e) h.2)
+    (contains_decides S (compare u o t))
 
 module _ (f : Value → Bool) (P : Value → Type 0) (d : (k : Value) → Decides (f k) (P k)) where
   constant_decides : (o : Operand) → Decides (on_constant f o) ((k : Value) × (o ≡ constant k) × P k)
@@ -99,16 +110,26 @@ module _ (f : Value → Bool) (P : Value → Type 0) (d : (k : Value) → Decide
 
 -- ---- with tests that are built elsewhere
 
-twin_version : (version : ℕ) (v w : Value) → IsTwinOf version v w → version ≡ 2
+twin_version : (version : ℕ) (v w : Value) → IsTwinOf version v w → 2 ≤ version
 twin_version version (Data (Int n)) (Data (Text s)) h = h.0
 twin_version version (Data (Text s)) (Data (Int n)) h = h.0
 twin_version version v w h = absurd h
 
+twins_of_two : (version : ℕ) (v w : Value) → IsTwinOf version v w → IsTwinOf 2 v w
+twins_of_two version (Data (Int n)) (Data (Text s)) h = (omega arith, h.1, h.2, h.3)
+twins_of_two version (Data (Text s)) (Data (Int n)) h = (omega arith, h.1, h.2, h.3)
+twins_of_two version v w h = absurd h
+
+twins_from_two : (version : ℕ) (v w : Value) → 2 ≤ version → IsTwinOf 2 v w → IsTwinOf version v w
+twins_from_two version (Data (Int n)) (Data (Text s)) l h = (l, h.1, h.2, h.3)
+twins_from_two version (Data (Text s)) (Data (Int n)) l h = (l, h.1, h.2, h.3)
+twins_from_two version v w l h = absurd h
+
 module _ (known : Regex → Type 0) (tests : Tests) (are : AreTests known tests) (version : ℕ) where
-  spelled_decides : (n : ℤ) (s : Name) → Decides ((version == 2) && tests.spells n s) (AreTwins version n s)
+  spelled_decides : (n : ℤ) (s : Name) → Decides (leb 2 version && tests.spells n s) (AreTwins version n s)
   spelled_decides n s =
-      as_well ((version == 2) && tests.spells n s) (λ h. (h.0, h.1.1, h.1.2, h.1.3)) (λ h. (h.0, (refl, h.1, h.2, h.3)))
-      (both (version == 2) (tests.spells n s) (number_decides version 2) (are.spells n s))
+      as_well (leb 2 version && tests.spells n s) (λ h. (h.0, h.1.1, h.1.2, h.1.3)) (λ h. (h.0, (omega arith, h.1, h.2, h.3)))
+      (both (leb 2 version) (tests.spells n s) (least_decides 2 version) (are.spells n s))
 
   twins_decides : (v w : Value) → Decides (twins tests version v w) (IsTwinOf version v w)
   twins_decides (Data (Int n)) (Data (Text s)) = spelled_decides n s
@@ -124,9 +145,9 @@ module _ (known : Regex → Type 0) (tests : Tests) (are : AreTests known tests)
   no_twin_decides : (v : Value) → Decides (without_twin tests version v) (HasNoTwin version v)
   no_twin_decides v =
       as_well (without_twin tests version v)
-      (λ n w t. let e = twin_version version v w t in n (e, (w, subst (λ z. IsTwinOf z v w) e t)))
-      (λ n h. n h.1.0 (subst (λ z. IsTwinOf z v h.1.0) (sym h.0) h.1.1))
-      (denied ((version == 2) && tests.has_twin v) (both (version == 2) (tests.has_twin v) (number_decides version 2) (are.has_twin v)))
+      (λ n w t. n (twin_version version v w t, (w, twins_of_two version v w t)))
+      (λ n h. n h.1.0 (twins_from_two version v h.1.0 h.0 h.1.1))
+      (denied (leb 2 version && tests.has_twin v) (both (leb 2 version) (tests.has_twin v) (least_decides 2 version) (are.has_twin v)))
 
   -- ---- paths
 
@@ -222,9 +243,9 @@ module _ (known : Regex → Type 0) (tests : Tests) (are : AreTests known tests)
       (elim [ inl h ↦ inl (inl h) | inr (inl h) ↦ inl (inr h) | inr (inr h) ↦ inr h ])
       (either (list_any (narrower tests version t r u) S) (same_operand t u && tests.has_empty r) (paths_decide S ks t r u kc) (both (same_operand t u) (tests.has_empty r) (operand_decides t u) (are.has_empty r)))
   follows_decides S ks (compare t op u) kc =
-      either (same_op op Eq && same_operand t u) (contains S (compare u (turned op) t) || stricter S t op u)
+      either (same_op op Eq && same_operand t u) (exchanged S t (turned op) u || stricter S t op u)
       (both (same_op op Eq) (same_operand t u) (op_decides op Eq) (operand_decides t u))
-      (either (contains S (compare u (turned op) t)) (stricter S t op u) (contains_decides S (compare u (turned op) t)) (stricter_decides S t op u))
+      (either (exchanged S t (turned op) u) (stricter S t op u) (exchanged_decides S t (turned op) u) (stricter_decides S t op u))
   follows_decides S ks (one_of t values) kc =
       either (list_any (fewer tests version t values) S) (list_any (fixes (among tests version values) t) S) (lists_decide S t values) (constants_decide S t values)
   follows_decides S ks (kind test x) kc =

@@ -1,14 +1,14 @@
 -- Names for all variables are found one after another where there are any.
-use Rattle.std.proofs.Common.{◌≡◌, ◌⊎◌, ℕ, zero, suc, ◌<◌, ◌≤◌, List, [], ◌∷◌, ◌++◌, length, take, refl, ap, sym, ◌∙◌, subst, inl, inr, arith}
-use Rattle.std.specs.Prelude.{Bool, true, false, ◌&&◌, Contains, Option, Some, None, if◌then◌else◌}
+use Rattle.std.proofs.Common.{◌≡◌, ℕ, zero, suc, ◌<◌, ◌≤◌, List, [], ◌∷◌, ◌++◌, length, take, refl, ap, sym, ◌∙◌, subst, arith}
+use Rattle.std.specs.Prelude.{Bool, true, ◌&&◌, Contains, None, if◌then◌else◌}
 use Rattle.std.specs.Bool.{Decides}
 use Rattle.std.specs.List.{AllZip}
 use Rattle.sd_value.specs.Names.{Name}
 use Rattle.query_spec.specs.declared.Variable.{Variable}
 use Rattle.constraint_recheck.specs.Recheck.{same_sort}
-use Rattle.query_parts.proofs.Bools.{as_well, both, always}
+use Rattle.query_parts.proofs.Bools.{both}
 use Rattle.constraint_recheck.proofs.Links.{sort_decides}
-use Rattle.constraint_recheck.specs.Options.{Finds, first_of}
+use Rattle.constraint_recheck.specs.Options.{Finds}
 use Rattle.constraint_recheck.specs.Search.{extend}
 use Rattle.constraint_recheck.proofs.Options.{finds_as, finds_if, first_finds}
 

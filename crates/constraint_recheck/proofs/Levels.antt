@@ -2,7 +2,7 @@
 use Rattle.std.proofs.Common.{◌≡◌, ◌⊎◌, ℕ, zero, suc, ◌+◌, ◌≤◌, List, [], ◌∷◌, ◌++◌, length, map, take, drop, refl, ap, sym, ◌∙◌, subst, inl, inr, arith, length-append}
 use Rattle.std.specs.Prelude.{Bool, true, false, Contains, All, Option, Some, None, if◌then◌else◌}
 use Rattle.std.specs.Bool.{Decides}
-use Rattle.std.specs.List.{list_any, flat_map}
+use Rattle.std.specs.List.{list_any}
 use Rattle.std.proofs.lemmas.List.Elements.{Contains-append_left, Contains-append_right, Contains-append_cases}
 use Rattle.sd_value.specs.Members.{Contains-nil, Contains-cons_cases, Contains-here, Contains-there, Contains-mapped, Contains-flat_mapped}
 use Rattle.sd_value.specs.Names.{Name}
@@ -12,7 +12,7 @@ use Rattle.query_spec.specs.Query.{Operand, variable, constant, Condition, Skole
 use Rattle.query_spec.specs.Mentions.{variables_of}
 use Rattle.site_spec.specs.Site.{Scope}
 use Rattle.constraint_spec.specs.Placed.{PlacedLink, links_of, IsNumbered}
-use Rattle.constraint_spec.specs.Use.{LinkUse, name_for, naming, rename_operand, rename_term, rename_target, IsUseOf, source_of, target_of}
+use Rattle.constraint_spec.specs.Use.{LinkUse, name_for, rename_operand, rename_term, rename_target, IsUseOf, source_of, target_of}
 use Rattle.constraint_spec.specs.Certificate.{LeadBack}
 use Rattle.query_parts.specs.Same.{same_term}
 use Rattle.constraint_recheck.specs.Entails.{Tests, IsKnown, AreKnown, AreTests}
@@ -20,9 +20,9 @@ use Rattle.query_parts.proofs.Bools.{some}
 use Rattle.query_parts.proofs.Same.{term_decides}
 use Rattle.constraint_recheck.proofs.Recheck.{link_known}
 use Rattle.constraint_laws.proofs.Links.{numbered_within}
-use Rattle.constraint_recheck.specs.Options.{Finds, first_of, fold_over}
+use Rattle.constraint_recheck.specs.Options.{Finds, fold_over}
 use Rattle.constraint_recheck.specs.Search.{Numbered, numbered_from, arg_choices, choices, source_choices, Reached, root_term, add_found, add_source, add_sources, add_links, levels, find_back, find_names}
-use Rattle.constraint_recheck.proofs.Options.{finds_as, finds_if, first_finds, fold_keeps, fold_makes}
+use Rattle.constraint_recheck.proofs.Options.{finds_if, first_finds, fold_keeps, fold_makes}
 use Rattle.constraint_recheck.proofs.Mapped.{name_cases}
 use Rattle.constraint_recheck.proofs.Extended.{Sorts}
 use Rattle.constraint_recheck.proofs.Due.{IsUseWith, names_found}

@@ -1,15 +1,15 @@
 -- Names that the first variables are mapped to decide what mentions these variables alone.
-use Rattle.std.proofs.Common.{◌≡◌, ◌⊎◌, ℕ, zero, suc, ◌≤◌, List, [], ◌∷◌, ◌++◌, length, map, take, refl, ap, sym, ◌∙◌, subst, inl, inr, arith}
+use Rattle.std.proofs.Common.{◌≡◌, ◌⊎◌, ℕ, zero, suc, ◌≤◌, List, [], ◌∷◌, ◌++◌, length, take, refl, ap, sym, ◌∙◌, subst, inl, inr, arith}
 use Rattle.std.specs.Prelude.{Bool, true, false, Contains, if◌then◌else◌}
 use Rattle.std.specs.List.{list_any, AllZip}
 use Rattle.std.proofs.lemmas.List.Elements.{Contains-append_left, Contains-append_right}
-use Rattle.sd_value.specs.Members.{Contains-here, Contains-there, Contains-nil, Contains-cons_cases}
+use Rattle.sd_value.specs.Members.{Contains-here, Contains-nil, Contains-cons_cases}
 use Rattle.sd_value.specs.Names.{Name}
 use Rattle.query_spec.specs.declared.Variable.{Variable}
 use Rattle.query_spec.specs.Query.{Operand, variable, constant, PathStep, arc_variable, expression, Condition, member, path, compare, one_of, kind, negation}
 use Rattle.query_spec.specs.Mentions.{same_name, operand_names, step_names, names}
 use Rattle.constraint_spec.specs.Use.{rename_operand, rename_step, rename, name_for}
-use Rattle.constraint_laws.proofs.Names.{same_is, same_from, by_test, not_both}
+use Rattle.constraint_laws.proofs.Names.{by_test, not_both}
 use Rattle.constraint_recheck.specs.Search.{deeper, depth}
 
 -- ---- depths

@@ -1,6 +1,6 @@
 -- The search finds a certificate exactly where there is one.
-use Rattle.std.proofs.Common.{◌≡◌, ℕ, List, [], ◌∷◌, length, ◌≤◌, refl, subst, arith}
-use Rattle.std.specs.Prelude.{Bool, true, false, Contains, All, Option, Some, None, if◌then◌else◌}
+use Rattle.std.proofs.Common.{◌≡◌, ℕ, [], length, ◌≤◌, refl, subst, arith}
+use Rattle.std.specs.Prelude.{Bool, true, false, All, Some, None, if◌then◌else◌}
 use Rattle.std.specs.Bool.{Decides}
 use Rattle.std.specs.List.{AllZip}
 use Rattle.sd_value.specs.Names.{Name}
@@ -10,8 +10,7 @@ use Rattle.site_spec.specs.Site.{Scope}
 use Rattle.constraint_spec.specs.declared.Constraint.{Constraint}
 use Rattle.constraint_spec.specs.declared.Constraint.TheVariants.{Reachable, Each, Only, Never, One}
 use Rattle.constraint_spec.specs.Placed.{PlacedLink, Mention, links_of, mentions_of}
-use Rattle.constraint_spec.specs.Use.{LinkUse}
-use Rattle.constraint_spec.specs.Certificate.{Certificate, IsOf, MayCarry, ShowsLinkTo, ShowsLink, LeadBack, ShowsReached, IsSingle, IsCertificate}
+use Rattle.constraint_spec.specs.Certificate.{IsOf, MayCarry, ShowsLinkTo, ShowsLink, LeadBack, ShowsReached, IsSingle, IsCertificate}
 use Rattle.query_parts.specs.Same.{same_term}
 use Rattle.constraint_recheck.specs.Entails.{Tests, IsKnown, AreKnown, AreTests}
 use Rattle.constraint_recheck.specs.Recheck.{is_of, may_carry, single, determined, each_may}

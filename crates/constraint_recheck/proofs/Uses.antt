@@ -1,6 +1,6 @@
 -- A use from a mention's term is found where there is one.
-use Rattle.std.proofs.Common.{◌≡◌, List, [], ◌∷◌, refl}
-use Rattle.std.specs.Prelude.{Bool, true, ◌&&◌, Contains, All, Option, Some, None, option_map, if◌then◌else◌}
+use Rattle.std.proofs.Common.{◌≡◌, [], ◌∷◌, refl}
+use Rattle.std.specs.Prelude.{Bool, true, ◌&&◌, Contains, All, None, option_map, if◌then◌else◌}
 use Rattle.std.specs.Bool.{Decides}
 use Rattle.sd_value.specs.Names.{Name, Label}
 use Rattle.rpe.specs.Regex.{Regex}
@@ -15,7 +15,7 @@ use Rattle.query_parts.proofs.Bools.{both, always}
 use Rattle.constraint_recheck.proofs.Links.{of_decides, quoted_decides}
 use Rattle.constraint_recheck.proofs.Recheck.{link_known}
 use Rattle.constraint_laws.proofs.Links.{numbered_within}
-use Rattle.constraint_recheck.specs.Options.{Finds, first_of}
+use Rattle.constraint_recheck.specs.Options.{Finds}
 use Rattle.constraint_recheck.specs.Search.{Numbered, numbered_from, find_names, find_use, find_shown}
 use Rattle.constraint_recheck.proofs.Options.{finds_as, finds_map, finds_if, first_finds}
 use Rattle.constraint_recheck.proofs.Due.{IsUseWith, names_found}

@@ -1,5 +1,5 @@
 -- Whether the conditions of a chain entail a condition.
-use Rattle.std.specs.Prelude.{ℕ, ℤ, Bool, true, false, not, ◌&&◌, ◌||◌, ◌==◌, List, [], ◌∷◌, Contains, All}
+use Rattle.std.specs.Prelude.{ℕ, ℤ, Bool, true, false, not, leb, ◌&&◌, ◌||◌, List, [], ◌∷◌, Contains, All, Option, Some, None}
 use Rattle.std.specs.List.{list_any, list_all, flat_map}
 use Rattle.std.specs.Bool.{Decides}
 use Rattle.sd_value.specs.declared.Datum.TheVariants.{Int, Text, Url, File, Node}
@@ -24,8 +24,8 @@ use Rattle.query_parts.specs.Same.{same_value, same_op, same_test, same_operand,
 pub record Tests : Type 0 where
   pub included : Regex → Regex → Bool
   pub has_empty : Regex → Bool
-  -- whether the text spells the number of 64 bits, and whether the value has a twin, both under
-  -- version 2
+  -- whether the text spells the number of 64 bits, and whether the value has a twin, both from
+  -- version 2 on
   pub spells : ℤ → Name → Bool
   pub has_twin : Value → Bool
 
@@ -44,10 +44,10 @@ pub record AreTests (known : Regex → Type 0) (t : Tests) : Type 0 where
   pub has_twin : (v : Value) → Decides (t.has_twin v) ((w : Value) × IsTwinOf 2 v w)
 
 module _ (tests : Tests) (version : ℕ) where
-  -- under version 2 one is a number and the other the text that spells it
+  -- from version 2 on one is a number and the other the text that spells it
   abbrev pub twins : Value → Value → Bool
-  twins (Data (Int n)) (Data (Text s)) = (version == 2) && tests.spells n s
-  twins (Data (Text s)) (Data (Int n)) = (version == 2) && tests.spells n s
+  twins (Data (Int n)) (Data (Text s)) = leb 2 version && tests.spells n s
+  twins (Data (Text s)) (Data (Int n)) = leb 2 version && tests.spells n s
   twins v w = false
 
   -- equal, or twins
@@ -60,7 +60,7 @@ module _ (tests : Tests) (version : ℕ) where
 
   -- under version 2 the value has no twin
   abbrev pub without_twin : Value → Bool
-  without_twin v = not ((version == 2) && tests.has_twin v)
+  without_twin v = not (leb 2 version && tests.has_twin v)
 
 -- the value is of the kind that the test asks for
 abbrev pub has_kind : Test → Value → Bool
@@ -98,6 +98,11 @@ stricter S t Ge u = below S u t
 stricter S t Ne u = below S t u || below S u t
 stricter S t op u = false
 
+-- the comparison is there with its sides exchanged
+abbrev pub exchanged : List Condition → Operand → Option Op → Operand → Bool
+exchanged S t None u = false
+exchanged S t (Some p) u = contains S (compare u p t)
+
 module _ (tests : Tests) (version : ℕ) where
   -- the condition is a path or an edge from t to u, each word of which is one of r
   abbrev pub narrower : Operand → Regex → Operand → Condition → Bool
@@ -118,7 +123,7 @@ module _ (tests : Tests) (version : ℕ) where
       list_any (narrower t r u) S || (same_operand t u && tests.has_empty r)
   follows S (compare t op u) =
       (same_op op Eq && same_operand t u)
-      || (contains S (compare u (turned op) t) || stricter S t op u)
+      || (exchanged S t (turned op) u || stricter S t op u)
   follows S (one_of t values) =
       list_any (fewer t values) S || list_any (fixes (among tests version values) t) S
   follows S (kind test x) =

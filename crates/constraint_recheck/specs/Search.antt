@@ -18,7 +18,7 @@ use Rattle.constraint_spec.specs.Use.{rename_operand, rename, name_for, LinkUse}
 use Rattle.constraint_spec.specs.Certificate.{Certificate}
 use Rattle.query_parts.specs.Same.{same_operand, same_term}
 use Rattle.constraint_recheck.specs.Entails.{Tests, entails}
-use Rattle.constraint_recheck.specs.Recheck.{zip_all, same_sort, on_made, is_of, is_quoted}
+use Rattle.constraint_recheck.specs.Recheck.{zip_all, same_sort, is_of, is_quoted}
 use Rattle.constraint_recheck.specs.Recheck.{may_carry, single, determined, each_may}
 use Rattle.constraint_recheck.specs.Options.{first_of, for_each, fold_over}
 

@@ -1,6 +1,6 @@
 -- What a template's comparison says is what a query's says under version 1.
 use Rattle.std.specs.Prelude.{◌≡◌, ◌⊎◌, ◌↔◌, ℤ}
-use Rattle.std.proofs.Common.{refl, sym, ◌∙◌, inl, inr}
+use Rattle.std.proofs.Common.{arith, refl, sym, ◌∙◌, inl, inr}
 use Rattle.std.specs.Ordering.{int_cmp, ordering_then}
 use Rattle.std.specs.declared.cmp.Ordering.{Ordering}
 use Rattle.std.specs.declared.cmp.Ordering.TheVariants.{Less, Equal, Greater}
@@ -16,8 +16,8 @@ use Rattle.page_spec.specs.Pieces as page
 use Rattle.definition_examples.specs.Agreement.{op_of}
 
 no_twins : (v w : Value) → query.IsTwinOf 1 v w → ⊥
-no_twins (Data (Int m)) (Data (Text s)) h = let v = h.0 in cc
-no_twins (Data (Text s)) (Data (Int n)) h = let v = h.0 in cc
+no_twins (Data (Int m)) (Data (Text s)) h = omega (arith, h.0)
+no_twins (Data (Text s)) (Data (Int n)) h = omega (arith, h.0)
 no_twins v w h = absurd h
 
 then_equal : (o : Ordering) → ordering_then o Equal ≡ o
@@ -33,8 +33,8 @@ stand : (o : Ordering) (v w : Value) → query.StandIn 1 o v w ↔ (page.AreComp
 unfolding value_cmp datum_cmp
 stand o (Data (Int m)) (Data (Int n)) = (λ h. (tt, of_ints m n ∙ h), λ h. sym (of_ints m n) ∙ h.1)
 stand o (Data (Text s)) (Data (Text t)) = (λ h. (tt, h), λ h. h.1)
-stand o (Data (Int m)) (Data (Text t)) = (λ h. (let v = h.1 in cc), λ h. absurd h.0)
-stand o (Data (Text s)) (Data (Int n)) = (λ h. (let v = h.1 in cc), λ h. absurd h.0)
+stand o (Data (Int m)) (Data (Text t)) = (λ h. absurd (omega (arith, h.1.0)), λ h. absurd h.0)
+stand o (Data (Text s)) (Data (Int n)) = (λ h. absurd (omega (arith, h.1.0)), λ h. absurd h.0)
 stand o v w = (λ h. absurd h, λ h. absurd h.0)
 
 not_greater : (o : Ordering) → (o ≡ Greater → ⊥) → (o ≡ Less) ⊎ (o ≡ Equal)

@@ -9,7 +9,7 @@ use Rattle.definition_examples.specs.Bibliography.{int}
 
 are_twins : AreTwins 2 (pos 7) (codes "7")
 unfolding digits
-are_twins = (refl, omega arith, omega arith, refl)
+are_twins = (omega arith, omega arith, omega arith, refl)
 
 pub equal_to_its_text : Compares 2 Eq (int 7) (text (codes "7"))
 equal_to_its_text = inr are_twins
@@ -24,12 +24,12 @@ unlike_with_a_zero = elim [ inl h ↦ cc | inr h ↦ let s = h.3 in cc ]
 
 -- and under version 1 the two are different
 pub unlike_under_version_1 : Compares 1 Ne (int 7) (text (codes "7"))
-unlike_under_version_1 = elim [ inl h ↦ cc | inr h ↦ let v = h.0 in cc ]
+unlike_under_version_1 = elim [ inl h ↦ cc | inr h ↦ omega (arith, h.0) ]
 
 -- by number, and not by bytes: `10` is before `9` by bytes
 pub below_as_numbers : Compares 2 Lt (int 9) (text (codes "10"))
 unfolding digits
-below_as_numbers = (pos 10, (refl, omega arith, omega arith, refl), refl)
+below_as_numbers = (pos 10, (omega arith, omega arith, omega arith, refl), refl)
 
 pub texts_by_bytes : Compares 2 Lt (text (codes "10")) (text (codes "9"))
 texts_by_bytes = refl

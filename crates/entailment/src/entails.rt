@@ -12,6 +12,7 @@ ghost use Rattle.query_parts.specs.Same.{same_condition, same_operand};
 ghost use Rattle.query_spec.specs.declared.Test.TheVariants.{IsText};
 ghost use Rattle.constraint_recheck.specs.Entails.{Tests, twins, equal, among, without_twin, has_kind as kind_of};
 ghost use Rattle.constraint_recheck.specs.Entails.{contains, below, stricter, narrower, on_constant, fixes, fewer};
+ghost use Rattle.constraint_recheck.specs.Entails.{exchanged};
 ghost use Rattle.constraint_recheck.specs.Entails.{follows, plainly, negates, follows_turned, entails};
 
 use query_parts::{same_conditions, same_operands, same_ops, same_tests};
@@ -109,6 +110,7 @@ fn is_stricter(conditions: &[Condition], one: &Operand, op: Op, other: &Operand)
         Op::Eq => false,
         Op::Lt => false,
         Op::Gt => false,
+        Op::Texts(_) => false,
     }
 }
 
@@ -300,16 +302,27 @@ fn has_arc(condition: &Condition, name: &Str) -> bool
     }
 }
 
-fn turned_op(op: Op) -> Op
+fn turned_op(op: Op) -> Option<Op>
     ensures { result ≡ turned op }
 {
     match op {
-        Op::Eq => Op::Eq,
-        Op::Ne => Op::Ne,
-        Op::Lt => Op::Gt,
-        Op::Le => Op::Ge,
-        Op::Gt => Op::Lt,
-        Op::Ge => Op::Le,
+        Op::Eq => Some(Op::Eq),
+        Op::Ne => Some(Op::Ne),
+        Op::Lt => Some(Op::Gt),
+        Op::Le => Some(Op::Ge),
+        Op::Gt => Some(Op::Lt),
+        Op::Ge => Some(Op::Le),
+        Op::Texts(_) => None,
+    }
+}
+
+fn has_exchanged(conditions: &[Condition], one: &Operand, op: Op, other: &Operand) -> bool
+    ensures { result ≡ exchanged (map condition_of conditions.now) (operand_of one.now) (turned op)
+        (operand_of other.now) }
+{
+    match turned_op(op) {
+        Some(turned) => has_compare(conditions, other, turned, one),
+        None => false,
     }
 }
 
@@ -486,7 +499,7 @@ fn follows_from<J: Judge>(
             ..
         } => {
             (same_ops(*op, Op::Eq) && same_operands(left, right))
-                || (has_compare(conditions, right, turned_op(*op), left)
+                || (has_exchanged(conditions, left, *op, right)
                     || is_stricter(conditions, left, *op, right))
         }
         Condition::OneOf {

@@ -45,7 +45,7 @@ short_decides (negsuc k) = (λ t. (let l = below k t in (omega (arith, ints), om
 
 pub spells_right : (n : ℤ) (s : Name) → Decides (spells n s) (AreTwins 2 n s)
 spells_right n s =
-    as_well (spells n s) (λ h. (refl, h.0.0, h.0.1, h.1)) (λ h. ((h.1, h.2), h.3))
+    as_well (spells n s) (λ h. (omega arith, h.0.0, h.0.1, h.1)) (λ h. ((h.1, h.2), h.3))
     (both (is_short n) (same_name s (signed_decimal n)) (short_decides n) (name_decides s (signed_decimal n)))
 
 fits : (n : ℤ) → IsShort n → FitsSigned w64 n
@@ -126,7 +126,7 @@ same_tests P false false d e = refl
 
 pub spelled_is : (n : ℤ) (s : Name) (b : Bool) → FitsSigned w64 n → Decides b (signed_decimal n ≡ s) → b ≡ spells n s
 spelled_is n s b short d =
-    same_tests (AreTwins 2 n s) b (spells n s) (as_well b (λ e. (refl, (short_of n short).0, (short_of n short).1, sym e)) (λ h. sym h.3) d) (spells_right n s)
+    same_tests (AreTwins 2 n s) b (spells n s) (as_well b (λ e. (omega arith, (short_of n short).0, (short_of n short).1, sym e)) (λ h. sym h.3) d) (spells_right n s)
 
 -- the same of bytes that are compared one by one
 pub compared_is : (n : ℤ) (s : Name) (b : Bool) (xs ys : List ℕ) → FitsSigned w64 n → b ≡ same_list eqb xs ys → xs ≡ signed_decimal n → ys ≡ s → b ≡ spells n s

@@ -141,11 +141,11 @@ impl Judge for Inclusions {
     fn are_twins(&self, version: u8, one: &Value, other: &Value) -> bool {
         match one {
             Value::Data(Datum::Int(n)) => match other {
-                Value::Data(Datum::Text(s)) => version == 2 && spells(*n, s),
+                Value::Data(Datum::Text(s)) => version >= 2 && spells(*n, s),
                 _ => false,
             },
             Value::Data(Datum::Text(s)) => match other {
-                Value::Data(Datum::Int(n)) => version == 2 && spells(*n, s),
+                Value::Data(Datum::Int(n)) => version >= 2 && spells(*n, s),
                 _ => false,
             },
             _ => false,
@@ -153,6 +153,6 @@ impl Judge for Inclusions {
     }
 
     fn is_alone(&self, version: u8, value: &Value) -> bool {
-        !(version == 2 && has_twin(value))
+        !(version >= 2 && has_twin(value))
     }
 }

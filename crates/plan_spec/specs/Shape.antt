@@ -1,5 +1,5 @@
 -- What a plan sees of a condition: its kind, and its variables by number.
-use Rattle.std.specs.Prelude.{◌≡◌, ℕ, ◌*◌, List, [], ◌∷◌, length, map, Bool, Option, None, Some, if◌then◌else◌, option_map, Contains}
+use Rattle.std.specs.Prelude.{◌≡◌, ℕ, ◌*◌, List, [], ◌∷◌, length, map, Bool, leb, Option, None, Some, if◌then◌else◌, option_map, Contains}
 use Rattle.std.proofs.Common.{suc}
 use Rattle.sd_value.specs.Order.{value_cmp, bytes_cmp}
 use Rattle.rpe.specs.Regex.{Regex, label}
@@ -49,9 +49,13 @@ abbrev pub path_kind : Counts → Regex → Kind
 path_kind counts (label a) = Edges (count_of counts.labels.items a)
 path_kind counts r = Walk
 
+-- how many values equal one at most: itself, and from version 2 on its twin
+abbrev pub equals_of_one : ℕ → ℕ
+equals_of_one version = if leb 2 version then 2 else 1
+
 -- an equation can bind a side, and no other comparison can
 abbrev pub compare_kind : ℕ → Op → Kind
-compare_kind version Eq = Equal version
+compare_kind version Eq = Equal (equals_of_one version)
 compare_kind version op = Test
 
 -- the kind and the variables of a condition
@@ -70,7 +74,7 @@ shape_of counts version variables (path t (arc_variable l) u) =
 shape_of counts version variables (compare t op u) =
     two (compare_kind version op) (side_of variables t) (side_of variables u)
 shape_of counts version variables (one_of t constants) =
-    one (Listed (version * length constants)) (side_of variables t)
+    one (Listed (equals_of_one version * length constants)) (side_of variables t)
 shape_of counts version variables (kind test x) = one Test (number_of variables x)
 shape_of counts version variables (negation k) =
     let s = shape_of counts version variables k in record {

@@ -1,9 +1,10 @@
 //! What a plan sees of conditions.
-ghost use Rattle.std.specs.Prelude.{◌≡◌, ◌<◌, ◌^◌, IfOk, ℕ, length, map};
+ghost use Rattle.std.specs.Prelude.{◌≡◌, ◌<◌, ◌≤◌, ◌^◌, IfOk, ℕ, length, map};
 ghost use Rattle.query_spec.specs.Query.{path};
 ghost use Rattle.rpe.specs.Reading.{regex_of};
 ghost use Rattle.struql_ast.specs.Reading.{operand_of, step_of, condition_of};
-ghost use Rattle.plan_spec.specs.Shape.{number_of, side_of, one, path_kind, compare_kind, shape_of, shapes_of};
+ghost use Rattle.plan_spec.specs.Shape.{number_of, side_of, one, path_kind, compare_kind, equals_of_one};
+ghost use Rattle.plan_spec.specs.Shape.{shape_of, shapes_of};
 ghost use Rattle.planner.specs.Prices.{IsPriced};
 ghost use Rattle.planner.specs.Ranges.{ShapesInRange};
 
@@ -78,11 +79,19 @@ fn path_shape(
     }
 }
 
+// How many values equal one at most.
+fn equals_of_one(version: u8) -> u128
+    ensures value { result ≡ equals_of_one version }
+    ensures few { result ≤ 2 }
+{
+    if version >= 2 { 2 } else { 1 }
+}
+
 fn compare_kind(version: u8, op: Op) -> Kind
     ensures { result ≡ compare_kind version op }
 {
     match op {
-        Op::Eq => Kind::Equal(version as u128),
+        Op::Eq => Kind::Equal(equals_of_one(version)),
         _ => Kind::Test,
     }
 }
@@ -131,7 +140,7 @@ fn shape_of(prices: &Prices, version: u8, variables: &[Variable], condition: &Co
             constants,
             ..
         } => {
-            let count = version as u128 * constants.items().len() as u128;
+            let count = equals_of_one(version) * constants.items().len() as u128;
             one(Kind::Listed(count), side_of(variables, operand))
         }
         Condition::Kind { variable, .. } => one(Kind::Test, number_of(variables, variable)),

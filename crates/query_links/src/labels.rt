@@ -102,7 +102,7 @@ fn is_eq(op: Op) -> bool
 {
     match op {
         Op::Eq => true,
-        Op::Ne | Op::Lt | Op::Le | Op::Gt | Op::Ge => false,
+        _ => false,
     }
 }
 
@@ -111,7 +111,7 @@ fn is_ne(op: Op) -> bool
 {
     match op {
         Op::Ne => true,
-        Op::Eq | Op::Lt | Op::Le | Op::Gt | Op::Ge => false,
+        _ => false,
     }
 }
 

@@ -9,10 +9,11 @@ use Rattle.std.proofs.lemmas.Cmp.{tied_itself}
 use Rattle.sd_value.specs.declared.Value.{Value}
 use Rattle.sd_value.specs.Order.{bytes_cmp, value_cmp}
 use Rattle.sd_value.specs.OrderLaws.{bytes_cmp-exact, bytes_cmp-total, value_cmp-exact, value_cmp-total}
+use Rattle.value_texts.specs.declared.TextTest.TheVariants.{Starts, Ends, Has}
 use Rattle.rpe.specs.Regex.{Regex, label, any, empty, seq, alt, star}
 use Rattle.sd_value.specs.Names.{Name}
 use Rattle.query_spec.specs.declared.Op.{Op}
-use Rattle.query_spec.specs.declared.Op.TheVariants.{Eq, Ne, Lt, Le, Gt, Ge}
+use Rattle.query_spec.specs.declared.Op.TheVariants.{Eq, Ne, Lt, Le, Gt, Ge, Texts}
 use Rattle.query_spec.specs.declared.Test.{Test}
 use Rattle.query_spec.specs.declared.Test.TheVariants.{IsInt, IsText, IsUrl, IsFile, IsNode}
 use Rattle.query_spec.specs.Query.{Operand, variable, constant, PathStep, arc_variable, expression, Condition, member, path, compare, one_of, kind, negation, SkolemTerm, Target, plain, made}
@@ -46,6 +47,15 @@ op_decides Lt Lt = always refl
 op_decides Le Le = always refl
 op_decides Gt Gt = always refl
 op_decides Ge Ge = always refl
+op_decides (Texts Starts) (Texts Starts) = always refl
+op_decides (Texts Ends) (Texts Ends) = always refl
+op_decides (Texts Has) (Texts Has) = always refl
+op_decides o (Texts Starts) = never (λ e. cc)
+op_decides o (Texts Ends) = never (λ e. cc)
+op_decides o (Texts Has) = never (λ e. cc)
+op_decides (Texts Starts) p = never (λ e. cc)
+op_decides (Texts Ends) p = never (λ e. cc)
+op_decides (Texts Has) p = never (λ e. cc)
 op_decides o p = never (λ e. cc)
 
 pub test_decides : (o p : Test) → Decides (same_test o p) (o ≡ p)

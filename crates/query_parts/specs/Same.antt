@@ -4,9 +4,10 @@ use Rattle.std.specs.Cmp.Lexicographic.{pointwise}
 use Rattle.std.specs.Ordering.{eq_by_cmp}
 use Rattle.sd_value.specs.declared.Value.{Value}
 use Rattle.sd_value.specs.Order.{value_cmp}
+use Rattle.value_texts.specs.declared.TextTest.TheVariants.{Starts, Ends, Has}
 use Rattle.rpe.specs.Regex.{Regex, label, any, empty, seq, alt, star}
 use Rattle.query_spec.specs.declared.Op.{Op}
-use Rattle.query_spec.specs.declared.Op.TheVariants.{Eq, Ne, Lt, Le, Gt, Ge}
+use Rattle.query_spec.specs.declared.Op.TheVariants.{Eq, Ne, Lt, Le, Gt, Ge, Texts}
 use Rattle.query_spec.specs.declared.Test.{Test}
 use Rattle.query_spec.specs.declared.Test.TheVariants.{IsInt, IsText, IsUrl, IsFile, IsNode}
 use Rattle.query_spec.specs.Query.{Operand, variable, constant, PathStep, arc_variable, expression, Condition, member}
@@ -39,6 +40,9 @@ op_number Lt = 2
 op_number Le = 3
 op_number Gt = 4
 op_number Ge = 5
+op_number (Texts Starts) = 6
+op_number (Texts Ends) = 7
+op_number (Texts Has) = 8
 
 -- the operators are the same
 abbrev pub same_op : Op → Op → Bool

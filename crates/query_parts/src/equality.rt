@@ -10,6 +10,7 @@ use query_spec::{Op, Test};
 use rpe::Rpe;
 use sd_value::{Str, Value};
 use struql_ast::{Condition, Operand, PathStep, SkolemTerm};
+use value_texts::TextTest;
 
 /// Whether two expressions are the same.
 pub fn same_rpe(one: &Rpe, other: &Rpe) -> bool
@@ -85,6 +86,9 @@ fn number_of_op(op: Op) -> u8
         Op::Le => 3,
         Op::Gt => 4,
         Op::Ge => 5,
+        Op::Texts(TextTest::Starts) => 6,
+        Op::Texts(TextTest::Ends) => 7,
+        Op::Texts(TextTest::Has) => 8,
     }
 }
 

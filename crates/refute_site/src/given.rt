@@ -105,7 +105,7 @@ fn by_rule<'a>(
                 Rule::Constant => constant_in(name, left, right),
                 Rule::List => None,
             },
-            Op::Ne | Op::Lt | Op::Le | Op::Gt | Op::Ge => None,
+            _ => None,
         },
         Condition::OneOf {
             operand,

@@ -1,5 +1,5 @@
 -- Whether a condition holds under an assignment.
-use Rattle.std.proofs.Common.{◌≡◌, ◌⊎◌, ℕ, ℤ, pos, negsuc, ◌<◌, ◌^◌, ◌-◌, inl, inr, refl, ap}
+use Rattle.std.proofs.Common.{◌≡◌, ◌⊎◌, ◌≤◌, ℕ, zero, suc, ℤ, pos, negsuc, ◌<◌, ◌^◌, ◌-◌, inl, inr, refl, ap}
 use Rattle.std.proofs.Common.{subst, ◌∙◌, arith}
 use Rattle.std.specs.Prelude.{Contains, Option, Some, None, ◌≤ℤ◌}
 use Rattle.std.specs.declared.cmp.Ordering.{Ordering}
@@ -14,17 +14,19 @@ use Rattle.sd_value.specs.OrderLaws.{bytes_cmp-total, bytes_cmp-exact, value_cmp
 use Rattle.sd_value.specs.declared.Datum.TheVariants.{Int, Text, Url, File, Node}
 use Rattle.sd_value.specs.declared.Value.{Value}
 use Rattle.sd_value.specs.declared.Value.TheVariants.{Data, Page}
+use Rattle.value_texts.specs.Texts.{text_of}
 use Rattle.graph_spec.specs.DataGraph.{DataGraph, node, text, HasEdge, HasMember}
 use Rattle.graph_spec.specs.Orders.{member_cmp, member_cmp-total, member_cmp-exact}
 use Rattle.query_spec.specs.declared.Op.{Op}
-use Rattle.query_spec.specs.declared.Op.TheVariants.{Eq, Ne, Lt, Le, Gt, Ge}
+use Rattle.query_spec.specs.declared.Op.TheVariants.{Eq, Ne, Lt, Le, Gt, Ge, Texts}
 use Rattle.query_spec.specs.declared.Test.{Test}
 use Rattle.query_spec.specs.declared.Test.TheVariants.{IsInt, IsText, IsUrl, IsFile, IsNode}
 use Rattle.query_spec.specs.Query.{arc_variable, expression, Condition, member, path, compare, one_of, kind, negation}
 use Rattle.query_spec.specs.Holds.{Assignment, operand_value, AreTwins, IsTwinOf, IsEqual, StandIn, Compares, HasKind}
 use Rattle.query_spec.specs.Holds.{Holds}
 use Rattle.site_graphs.proofs.Decide.{Dec, yes, no, dec_as, dec_not, dec_both, dec_either, dec_some, dec_same, dec_in}
-use Rattle.site_graphs.proofs.Decide.{dec_nat, dec_below}
+use Rattle.site_graphs.proofs.Decide.{dec_below}
+use Rattle.site_graphs.proofs.Texts.{dec_texts}
 use Rattle.site_graphs.proofs.Reaching.{Reaches, dec_edge, dec_reaches}
 
 same_name : (a b : Name) → Dec (a ≡ b)
@@ -49,10 +51,15 @@ same_order Greater Greater = yes refl
 at_most : (a b : ℤ) → Dec (a ≤ℤ b)
 at_most a b = by_lt_z b a (λ lt. no (λ le. omega (arith, ints, lt, le))) (λ le. yes le)
 
+from_two : (version : ℕ) → Dec (2 ≤ version)
+from_two zero = no (λ l. omega (arith, l))
+from_two (suc zero) = no (λ l. omega (arith, l))
+from_two (suc (suc n)) = yes (omega arith)
+
 dec_twins : (version : ℕ) (n : ℤ) (s : Name) → Dec (AreTwins version n s)
 dec_twins version n s =
     dec_as (λ h. (h.0, h.1.0, h.1.1.0, h.1.1.1)) (λ h. (h.0, (h.1, (h.2, h.3))))
-    (dec_both (dec_nat version 2)
+    (dec_both (from_two version)
     (dec_both (at_most (negsuc (2 ^ 63 - 1)) n)
     (dec_both (at_most n (pos (2 ^ 63 - 1))) (same_name s (signed_decimal n)))))
 
@@ -112,6 +119,7 @@ dec_compares version Lt u v = dec_stand version Less u v
 dec_compares version Le u v = dec_either (dec_stand version Less u v) (dec_stand version Equal u v)
 dec_compares version Gt u v = dec_stand version Greater u v
 dec_compares version Ge u v = dec_either (dec_stand version Greater u v) (dec_stand version Equal u v)
+dec_compares version (Texts test) u v = dec_texts test (text_of u) (text_of v)
 
 -- ---- values
 

@@ -1,5 +1,6 @@
 pub mod Decide
 pub mod Reaching
+pub mod Texts
 pub mod Conditions
 pub mod Lists
 pub mod Rows

@@ -85,7 +85,7 @@ const EXAMPLES: &[Example] = &[
         plans: "block 1\n  use 'isInt'(x) cost 1\n  use '3166-1'(x) cost 0\n  use isNode(x) cost 0\n",
         rows: "| &a;",
     },
-    // An equation costs 1, and under version 2, where a value has a twin, 2.
+    // An equation costs 1, and from version 2 on, where a value has a twin, 2.
     Example {
         data_text: SEVENS,
         query: "STRUQL 2 INPUT D WHERE x -> 'v' -> y, y = 7 CREATE F(y) OUTPUT S",
@@ -98,7 +98,7 @@ const EXAMPLES: &[Example] = &[
         plans: "block 1\n  use y = 7 cost 1\n  use x -> 'v' -> y cost 4\n",
         rows: "| &o 7;",
     },
-    // A list costs its constants, and under version 2 twice as many, which is more than 3 edges.
+    // A list costs its constants, and from version 2 on twice as many, which is more than 3 edges.
     Example {
         data_text: SEVENS,
         query: "INPUT D WHERE x -> 'v' -> y, y in {7, '07'} CREATE F(y) OUTPUT S",

@@ -5,6 +5,7 @@ mod embeds;
 mod large;
 mod outcomes;
 mod shown;
+mod texts;
 mod weight;
 
 use crate::inputs::{asker_of, builder_of, push_terms, scopes_of, templates_of};
@@ -75,6 +76,7 @@ fn pages_of_each_kind(rt: HostRuntime) -> Result<(), Fail> {
         conditions::SITES,
         shown::SITES,
         embeds::SITES,
+        texts::SITES,
     ] {
         check_sites(&rt, rows)?;
     }

@@ -93,7 +93,7 @@ fn is_equality(op: Op) -> bool
 {
     match op {
         Op::Eq | Op::Ne => true,
-        Op::Lt | Op::Le | Op::Gt | Op::Ge => false,
+        _ => false,
     }
 }
 

@@ -7,6 +7,7 @@ use std::alloc::Global;
 use std::cmp::Ordering;
 use std::str;
 use struql_ast::{Condition, Operand, PathStep};
+use value_texts::TextTest;
 
 /// A value for each variable, and the data over which conditions are tested.
 #[derive(Clone, Copy)]
@@ -95,7 +96,7 @@ fn spelled(alloc: Global, bytes: &[u8]) -> Result<Option<i64>, NoMemory> {
 fn number_of(alloc: Global, version: u8, value: &Value) -> Result<Option<i64>, NoMemory> {
     match value {
         Value::Data(Datum::Int(number)) => Ok(Some(*number)),
-        Value::Data(Datum::Text(text)) if version == 2 => spelled(alloc, text.bytes()),
+        Value::Data(Datum::Text(text)) if version >= 2 => spelled(alloc, text.bytes()),
         _ => Ok(None),
     }
 }
@@ -120,6 +121,38 @@ fn is_equal(alloc: Global, version: u8, a: &Value, b: &Value) -> Result<bool, No
     Ok(order(alloc, version, a, b)? == Some(Ordering::Equal))
 }
 
+// The bytes of the value's text, if it has one.
+fn text_of(alloc: Global, value: &Value) -> Result<Option<Vec<u8>>, NoMemory> {
+    match value {
+        Value::Data(Datum::Int(number)) => {
+            let decimals = number.to_string(alloc)?;
+            Ok(Some(Vec::from_slice(alloc, decimals.as_bytes())?))
+        }
+        Value::Data(Datum::Text(text) | Datum::Url(text) | Datum::File(text)) => {
+            match str::from_utf8(text.bytes()) {
+                Ok(text) => Ok(Some(Vec::from_slice(alloc, text.as_bytes())?)),
+                Err(_) => Ok(None),
+            }
+        }
+        _ => Ok(None),
+    }
+}
+
+fn has_part(text: &[u8], part: &[u8]) -> bool {
+    part.is_empty() || text.windows(part.len()).any(|window| window == part)
+}
+
+fn tests(alloc: Global, a: &Value, test: TextTest, b: &Value) -> Result<bool, NoMemory> {
+    let (Some(text), Some(part)) = (text_of(alloc, a)?, text_of(alloc, b)?) else {
+        return Ok(false);
+    };
+    Ok(match test {
+        TextTest::Starts => text.as_slice().starts_with(part.as_slice()),
+        TextTest::Ends => text.as_slice().ends_with(part.as_slice()),
+        TextTest::Has => has_part(text.as_slice(), part.as_slice()),
+    })
+}
+
 fn compares(alloc: Global, version: u8, a: &Value, op: Op, b: &Value) -> Result<bool, NoMemory> {
     let equal = is_equal(alloc, version, a, b)?;
     let order = order(alloc, version, a, b)?;
@@ -130,6 +163,7 @@ fn compares(alloc: Global, version: u8, a: &Value, op: Op, b: &Value) -> Result<
         Op::Le => order == Some(Ordering::Less) || order == Some(Ordering::Equal),
         Op::Gt => order == Some(Ordering::Greater),
         Op::Ge => order == Some(Ordering::Greater) || order == Some(Ordering::Equal),
+        Op::Texts(test) => tests(alloc, a, test, b)?,
     })
 }
 
