@@ -12,7 +12,7 @@ use Rattle.struql_check.specs.declared.faults.Fault.{Fault}
 use Rattle.struql_check.specs.declared.mentions.VariableUse.{VariableUse}
 use Rattle.struql_check.specs.declared.terms.SeenTerm.{SeenTerm}
 use Rattle.struql_check.specs.Scope.{sort_of, ScopedBlock, scoped, chain_mentions, block_mentions, terms}
-use Rattle.struql_check.specs.Faults.{SomeIn, MentionFault, IsPast, ChainFault, large_place, ConditionFault, is_plain, LinkFault, is_test, CollectFault, BlockFault}
+use Rattle.struql_check.specs.Faults.{SomeIn, MentionFault, IsPast, ChainFault, large_place, ConditionFault, is_plain, LinkFault, is_reserved, CollectFault, BlockFault}
 use Rattle.struql_check.specs.Faults.{is_created, first_arity, is_index, TermFault, Faulty}
 use Rattle.struql_check.specs.First.{IsFirst, earlier, fault_at, broken_role}
 use Rattle.struql_check.specs.Known.{names_of, differs, broken_term}
@@ -78,11 +78,11 @@ in_link k = if_so (LinkFault k) (is_plain k.source) (record { check = LinkFromDa
     told LinkFromData at h = (h.0, ap (λ p. Some (record { check = LinkFromData; at = p })) (sym h.1))
     told check at h = absurd h
 
-in_collect : (o : Collect) → HasFirst (CollectFault o)
-in_collect o = if_so (CollectFault o) (is_test o.collection) (record { check = Reserved; at = o.span.start }) (λ is. (is, refl)) told
+in_collect : (version : ℕ) (o : Collect) → HasFirst (CollectFault version o)
+in_collect version o = if_so (CollectFault version o) (is_reserved version o.collection) (record { check = Reserved; at = o.span.start }) (λ is. (is, refl)) told
   where
-    told : (check : Check) (at : ℕ) → CollectFault o check at
-        → (is_test o.collection ≡ true) × (◌≡◌ {A = Option Fault} (Some (record { check = Reserved; at = o.span.start })) (Some (record { check = check; at = at })))
+    told : (check : Check) (at : ℕ) → CollectFault version o check at
+        → (is_reserved version o.collection ≡ true) × (◌≡◌ {A = Option Fault} (Some (record { check = Reserved; at = o.span.start })) (Some (record { check = check; at = at })))
     told Reserved at h = (h.0, ap (λ p. Some (record { check = Reserved; at = p })) (sym h.1))
     told check at h = absurd h
 
@@ -119,22 +119,23 @@ in_chain ms = by (few_or_past [] ms (omega arith))
 
 -- ---- blocks, terms and the query
 
-in_block : (b : ScopedBlock) → HasFirst (BlockFault b)
-in_block b =
+in_block : (version : ℕ) (b : ScopedBlock) → HasFirst (BlockFault version b)
+in_block version b =
     both (SomeIn (MentionFault b.round) (block_mentions b.clauses)) _
     (in_all (MentionFault b.round) (in_mention b.round) (block_mentions b.clauses))
     (both (ChainFault (chain_mentions b)) _ (in_chain (chain_mentions b))
     (both (SomeIn ConditionFault b.clauses.conditions) _ (in_all ConditionFault in_condition b.clauses.conditions)
-    (both (SomeIn LinkFault b.clauses.links) (SomeIn CollectFault b.clauses.collects) (in_all LinkFault in_link b.clauses.links)
-    (in_all CollectFault in_collect b.clauses.collects))))
+    (both (SomeIn LinkFault b.clauses.links) (SomeIn (CollectFault version) b.clauses.collects) (in_all LinkFault in_link b.clauses.links)
+    (in_all (CollectFault version) (in_collect version) b.clauses.collects))))
 
-in_term : (all : List SeenTerm) (t : SeenTerm) → HasFirst (TermFault all t)
-in_term all t = (
-  fault_at (broken_term (t.linked && not (is_created all t.function)) (differs (first_arity all t.function) t.arity) (is_index t.function || is_test t.function)) t.at,
-  term_first all t,
+in_term : (version : ℕ) (all : List SeenTerm) (t : SeenTerm) → HasFirst (TermFault version all t)
+in_term version all t = (
+  fault_at (broken_term (t.linked && not (is_created all t.function)) (differs (first_arity all t.function) t.arity) (is_index t.function || is_reserved version t.function)) t.at,
+  term_first version all t,
 )
 
 pub first_fault : (q : Query) → HasFirst (Faulty q)
 first_fault q =
-    both (SomeIn BlockFault (scoped q)) (SomeIn (TermFault (terms q)) (terms q)) (in_all BlockFault in_block (scoped q))
-    (in_all (TermFault (terms q)) (in_term (terms q)) (terms q))
+    both (SomeIn (BlockFault q.version) (scoped q)) (SomeIn (TermFault q.version (terms q)) (terms q))
+    (in_all (BlockFault q.version) (in_block q.version) (scoped q))
+    (in_all (TermFault q.version (terms q)) (in_term q.version (terms q)) (terms q))

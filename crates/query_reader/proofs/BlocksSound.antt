@@ -75,13 +75,13 @@ room_grows true inner bounded (suc n) state last tokens (a, b, next, e, step, re
     (omega (arith, one.0, more.0, whole), λ all. more.1 (one.1 all))
 room_grows false inner bounded (suc n) state last tokens (a, b, next, e, step, rest) = absurd step
 
-module _ (expression : List Token → Counted → Type 0) where
-  body_of_bounded : (room : Bool) (inner : List Token → Body → Type 0) → Bounded body_size GoodBody inner → Bounded body_size GoodBody (body_of expression room inner)
+module _ (version : ℕ) (expression : List Token → Counted → Type 0) where
+  body_of_bounded : (room : Bool) (inner : List Token → Body → Type 0) → Bounded body_size GoodBody inner → Bounded body_size GoodBody (body_of version expression room inner)
   body_of_bounded room inner bounded tokens b
       (a1, b1, cs, e1, p1, (a2, b2, ts, e2, p2, (a3, b3, ks, e3, p3, (a4, b4, os, e4, p4, (a5, b5, bs, e5, (n, turns), (nil, is)))))) =
       let s1 = split_length tokens a1 b1 e1 in let s2 = split_length b1 a2 b2 e2 in let s3 = split_length b2 a3 b3 e3 in
       let s4 = split_length b3 a4 b4 e4 in let s5 = split_length b4 a5 b5 e5 in
-      let c = optional_bounded one_each GoodCondition words.Where (condition expression) (condition_bounded expression) a1 cs p1 in
+      let c = optional_bounded one_each GoodCondition words.Where (condition version expression) (condition_bounded version expression) a1 cs p1 in
       let t = optional_bounded one_each GoodTerm words.Create term term_bounded a2 ts p2 in
       let k = optional_bounded link_size GoodLink words.Link link link_bounded a3 ks p3 in
       let o = optional_bounded collect_size GoodCollect words.Collect collect collect_bounded a4 os p4 in
@@ -91,9 +91,9 @@ module _ (expression : List Token → Counted → Type 0) where
         subst GoodBody (sym is) (record { conditions = c.1; creates = t.1; links = k.1; collects = o.1 }, r.1 tt),
       )
 
-  pub body_bounded : (depth : ℕ) → Bounded body_size GoodBody (body expression depth)
+  pub body_bounded : (depth : ℕ) → Bounded body_size GoodBody (body version expression depth)
   body_bounded zero = body_of_bounded false _ (λ tokens b none. absurd none)
-  body_bounded (suc depth) = body_of_bounded true (body expression depth) (body_bounded depth)
+  body_bounded (suc depth) = body_of_bounded true (body version expression depth) (body_bounded depth)
 
 -- ---- the top of a query
 
@@ -174,9 +174,9 @@ item_grows m Q k item_of P bounded weight good g h tokens (a, b, place, e, (t, w
     let grown = joined_grows g.closed g.bare place (item_of xs) (good xs found.1) in let same = ap groups_size is in
     (omega (arith, whole, two, one, found.0, sized, grown.0, same), λ all. subst GoodGroups (sym is) (grown.1 all))
 
-module _ (expression : List Token → Counted → Type 0) (inner : Groups → List Token → Body → Type 0) (bounded : (g : Groups) → Bounded body_size GoodBody (inner g)) where
-  step_grows : (g h : Groups) (tokens : List Token) → item_step expression inner g tokens h → GroupsGrow g h (length tokens)
-  step_grows g h tokens (inl step) = item_grows one_each GoodCondition words.Where conditions_item (condition expression) (condition_bounded expression) (λ xs. refl) (λ xs all. all) g h tokens step
+module _ (version : ℕ) (expression : List Token → Counted → Type 0) (inner : Groups → List Token → Body → Type 0) (bounded : (g : Groups) → Bounded body_size GoodBody (inner g)) where
+  step_grows : (g h : Groups) (tokens : List Token) → item_step version expression inner g tokens h → GroupsGrow g h (length tokens)
+  step_grows g h tokens (inl step) = item_grows one_each GoodCondition words.Where conditions_item (condition version expression) (condition_bounded version expression) (λ xs. refl) (λ xs all. all) g h tokens step
   step_grows g h tokens (inr (inl step)) = item_grows one_each GoodTerm words.Create creates_item term term_bounded (λ xs. refl) (λ xs all. all) g h tokens step
   step_grows g h tokens (inr (inr (inl step))) = item_grows link_size GoodLink words.Link links_item link link_bounded (λ xs. refl) (λ xs all. all) g h tokens step
   step_grows g h tokens (inr (inr (inr (inl step)))) = item_grows collect_size GoodCollect words.Collect collects_item collect collect_bounded (λ xs. refl) (λ xs all. all) g h tokens step
@@ -187,7 +187,7 @@ module _ (expression : List Token → Counted → Type 0) (inner : Groups → Li
       let same = ap groups_size is in let weight = ap (λ q. body_size q.body) same_p in
       (omega (arith, whole, two, three, one, good.0, grown.0, same, weight), λ all. subst GoodGroups (sym is) (grown.1 all))
 
-  pub groups_grow : (n : ℕ) (g h : Groups) (tokens : List Token) → steps (item_step expression inner) n g tokens h → GroupsGrow g h (length tokens)
+  pub groups_grow : (n : ℕ) (g h : Groups) (tokens : List Token) → steps (item_step version expression inner) n g tokens h → GroupsGrow g h (length tokens)
   groups_grow zero g h tokens (nil, is) = (let same = ap groups_size is in omega (arith, same), λ all. subst GoodGroups (sym is) all)
   groups_grow (suc n) g h tokens (a, b, next, e, step, rest) =
       let one = step_grows g next a step in let more = groups_grow n next h b rest in let whole = split_length tokens a b e in

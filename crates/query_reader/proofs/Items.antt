@@ -10,6 +10,7 @@ use Rattle.sd_lex.specs.declared.token.Span.{Span}
 use Rattle.sd_lex.specs.declared.token.Token.{Token}
 use Rattle.sd_lex.specs.declared.token.TokenKind.{TokenKind}
 use Rattle.sd_lex.specs.declared.token.TokenKind.TheVariants as kinds
+use Rattle.value_texts.specs.declared.TextTest.{TextTest}
 use Rattle.query_spec.specs.declared.Test.{Test}
 use Rattle.query_spec.specs.Mentions.{IsFlat}
 use Rattle.query_spec.specs.Query as plain
@@ -19,7 +20,7 @@ use Rattle.struql_ast.specs.Reading.{operand_of}
 use Rattle.struql_ast.specs.Written as tree
 use Rattle.struql_text.specs.declared.keyword.Keyword.{Keyword}
 use Rattle.struql_text.specs.declared.keyword.Word.{Word}
-use Rattle.struql_text.specs.Terminals.{named, operand_kind_value, operand_value, constant_kind_value, constant_value, keyword_of, test_of, from_to, operand_span}
+use Rattle.struql_text.specs.Terminals.{named, operand_kind_value, operand_value, constant_kind_value, constant_value, keyword_of, test_of, pair_test, from_to, operand_span}
 use Rattle.struql_text.specs.Expression.{Counted}
 use Rattle.struql_text.specs.Grammar.{operand, term_of, no_arguments, some_arguments, arguments, term, made, variable_of, named_target, source, operand_target, target, link, collect, call_with, call, membership, comparison, path, relation, behind, negated, condition}
 use Rattle.grammar.specs.Grammar.{one}
@@ -164,7 +165,21 @@ call_good : (test : Option Test) (c x : Word) (close : Span) → GoodPlain (call
 call_good None c x close = record { writable = tt; under_not = tt; flat = tt }
 call_good (Some test) c x close = record { writable = tt; under_not = tt; flat = tt }
 
-module _ (expression : List Token → Counted → Type 0) where
+-- a test of two texts, from its comma on
+second_good : (test : TextTest) (n : Word) (t : Operand) (tokens : List Token) (c : tree.Condition) → GoodOperand t → grammar.second test n t tokens c → GoodPlain c
+second_good test n t tokens c good (a, b, s, e, comma, (d, f, u, g, other, (h, i, close, j, closing, (nil, is)))) =
+    subst GoodPlain (sym is) (record { writable = both_writable (operand_constants (operand_of t)) (operand_constants (operand_of u)) good (operand_bounded d u other).1; under_not = tt; flat = tt })
+
+pair_end_good : (test : TextTest) (n : Word) (t : Operand) (tokens : List Token) (c : tree.Condition) → GoodOperand t → grammar.pair_end test n t tokens c → GoodPlain c
+pair_end_good test n (Variable x span) tokens c good (inl rest) = second_good test n (Variable x span) tokens c good rest
+pair_end_good test n (Variable x span) tokens c good (inr (a, b, close, e, closing, (nil, is))) = subst GoodPlain (sym is) (call_good None n (record { text = x; span = span }) close)
+pair_end_good test n (Constant v span) tokens c good rest = second_good test n (Constant v span) tokens c good rest
+
+name_call_good : (test : Option TextTest) (n : Word) (tokens : List Token) (c : tree.Condition) → grammar.name_call test n tokens c → GoodPlain c
+name_call_good None n tokens c (a, b, s, e, opening, (d, f, y, g, phrase, (h, i, close, j, closing, (nil, is)))) = subst GoodPlain (sym is) (call_good (test_of n.text) n y close)
+name_call_good (Some test) n tokens c (a, b, s, e, opening, (d, f, t, g, phrase, rest)) = pair_end_good test n t f c (operand_bounded d t phrase).1 rest
+
+module _ (version : ℕ) (expression : List Token → Counted → Type 0) where
   relation_good : (t : Operand) (tokens : List Token) (c : tree.Condition) → GoodOperand t → relation expression t tokens c → GoodPlain c
   relation_good t tokens c good (inl (a, b, span, e, arrow, (d, f, s, g, step, (h, i, span2, j, arrow2, (k, l, u, m, to, (nil, is)))))) =
       subst GoodPlain (sym is) (record { writable = both_writable (operand_constants (operand_of t)) (operand_constants (operand_of u)) good (operand_bounded k u to).1; under_not = tt; flat = tt })
@@ -173,9 +188,8 @@ module _ (expression : List Token → Counted → Type 0) where
   relation_good t tokens c good (inr (inr (a, b, op, e, sign, (d, f, u, g, to, (nil, is))))) =
       subst GoodPlain (sym is) (record { writable = both_writable (operand_constants (operand_of t)) (operand_constants (operand_of u)) good (operand_bounded d u to).1; under_not = tt; flat = tt })
 
-  behind_good : (t : Operand) (tokens : List Token) (c : tree.Condition) → GoodOperand t → behind expression t tokens c → GoodPlain c
-  behind_good (Variable x span) tokens c good (inl (a, b, s, e, opening, (d, f, y, g, phrase, (h, i, close, j, closing, (nil, is))))) =
-      subst GoodPlain (sym is) (call_good (test_of x) (record { text = x; span = span }) y close)
+  behind_good : (t : Operand) (tokens : List Token) (c : tree.Condition) → GoodOperand t → behind version expression t tokens c → GoodPlain c
+  behind_good (Variable x span) tokens c good (inl rest) = name_call_good (pair_test version x) (record { text = x; span = span }) tokens c rest
   behind_good (Constant (Data (datum.Text q)) span) tokens c good (inl (a, b, s, e, opening, (d, f, y, g, phrase, (h, i, close, j, closing, (nil, is))))) =
       subst GoodPlain (sym is) (call_good None (record { text = q; span = span }) y close)
   behind_good (Constant (Data (datum.Text q)) span) tokens c good (inr rest) = relation_good (Constant (Data (datum.Text q)) span) tokens c good rest
@@ -186,12 +200,12 @@ module _ (expression : List Token → Counted → Type 0) where
   behind_good (Constant (Data (datum.Node u)) span) tokens c good rest = relation_good (Constant (Data (datum.Node u)) span) tokens c good rest
   behind_good (Constant (Page p) span) tokens c good rest = relation_good (Constant (Page p) span) tokens c good rest
 
-  plain_good : (tokens : List Token) (c : tree.Condition) → grammar.plain expression tokens c → (1 ≤ length tokens) × GoodPlain c
+  plain_good : (tokens : List Token) (c : tree.Condition) → grammar.plain version expression tokens c → (1 ≤ length tokens) × GoodPlain c
   plain_good tokens c (a, b, t, e, phrase, rest) =
       let whole = split_length tokens a b e in let one = operand_bounded a t phrase in
       (omega (arith, whole, one.0), behind_good t b c one.1 rest)
 
-  pub condition_bounded : Bounded one_each GoodCondition (condition expression)
+  pub condition_bounded : Bounded one_each GoodCondition (condition version expression)
   condition_bounded tokens c (inl (a, b, n, e, (x, word, u), (d, f, s, g, opening, (h, i, p, j, phrase, (k, l, close, m, closing, (nil, is)))))) =
       let whole = split_length tokens a b e in let one = ap length word in
       let good = (plain_good h p phrase).1 in

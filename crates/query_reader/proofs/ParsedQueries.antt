@@ -1,5 +1,5 @@
 -- What the grammar of queries spells is what a check asks of a query.
-use Rattle.std.proofs.Common.{◌∙◌, ◌≡◌, ◌⊎◌, ℕ, zero, suc, ◌+◌, ◌≤◌, ◌<◌, ◌^◌, ℤ, pos, List, [], ◌∷◌, ◌++◌, length, Bool, true, false, arith, ap, sym, refl, subst, inl, inr}
+use Rattle.std.proofs.Common.{◌∙◌, ◌≡◌, ℕ, zero, suc, ◌+◌, ◌≤◌, ◌<◌, ◌^◌, ℤ, pos, List, [], ◌∷◌, ◌++◌, length, Bool, true, false, arith, ap, sym, refl, subst, inl, inr}
 use Rattle.std.specs.Prelude.{Option, Some, None, Result, Ok, Err, map, All, if◌then◌else◌}
 use Rattle.std.specs.Ordering.{int_eq}
 use Rattle.std.specs.List.{flat_map}
@@ -9,7 +9,7 @@ use Rattle.sd_lex.specs.declared.token.Span.{Span}
 use Rattle.sd_lex.specs.declared.token.Token.{Token}
 use Rattle.sd_lex.specs.declared.token.TokenKind.{TokenKind}
 use Rattle.sd_lex.specs.declared.token.TokenKind.TheVariants as kinds
-use Rattle.query_spec.specs.Mentions.{IsFlat}
+use Rattle.query_spec.specs.Mentions.{IsFlat, IsVersion}
 use Rattle.query_spec.specs.Query as plain
 use Rattle.struql_ast.specs.declared.Query as declared
 use Rattle.struql_ast.specs.Written.{Condition, Term, Link, Collect, Clauses, Blocks, no_blocks, block, Query, query_written}
@@ -80,24 +80,25 @@ clauses_writable c good =
 
 -- ---- the version
 
-int_version : (i : ℤ) (n : ℕ) (x y : Bool) → int_eq i (pos 1) ≡ x → int_eq i (pos 2) ≡ y → version_kind_value (kinds.Int i) ≡ Some n → (n ≡ 1) ⊎ (n ≡ 2)
-int_version i n true y is other e = inl (let h : Some 1 ≡ Some n = rw is at e in cc)
-int_version i n false true is other e = inr (let h : Some 2 ≡ Some n = rw (is, other) at e in cc)
-int_version i n false false is other e = let h : ◌≡◌ {A = Option ℕ} None (Some n) = rw (is, other) at e in absurd (none_is n h)
+int_version : (i : ℤ) (n : ℕ) (x y z : Bool) → int_eq i (pos 1) ≡ x → int_eq i (pos 2) ≡ y → int_eq i (pos 3) ≡ z → version_kind_value (kinds.Int i) ≡ Some n → IsVersion n
+int_version i n true y z is other more e = inl (let h : Some 1 ≡ Some n = rw is at e in cc)
+int_version i n false true z is other more e = inr (inl (let h : Some 2 ≡ Some n = rw (is, other) at e in cc))
+int_version i n false false true is other more e = inr (inr (let h : Some 3 ≡ Some n = rw (is, other, more) at e in cc))
+int_version i n false false false is other more e = let h : ◌≡◌ {A = Option ℕ} None (Some n) = rw (is, other, more) at e in absurd (none_is n h)
 
-kind_version : (k : TokenKind) (n : ℕ) → version_kind_value k ≡ Some n → (n ≡ 1) ⊎ (n ≡ 2)
+kind_version : (k : TokenKind) (n : ℕ) → version_kind_value k ≡ Some n → IsVersion n
 kind_version (kinds.Name m) n e = absurd (none_is n e)
 kind_version (kinds.Quoted q) n e = absurd (none_is n e)
-kind_version (kinds.Int i) n e = int_version i n _ _ refl refl e
+kind_version (kinds.Int i) n e = int_version i n _ _ _ refl refl refl e
 kind_version (kinds.Sign s) n e = absurd (none_is n e)
 
-head_version : (tokens : List Token) (n : ℕ) → head false tokens n → (n ≡ 1) ⊎ (n ≡ 2)
+head_version : (tokens : List Token) (n : ℕ) → head false tokens n → IsVersion n
 head_version tokens n (inl (a, b, span, e, word, (t, is, found))) = kind_version t.kind n found
 head_version tokens n (inr (nil, is)) = inl is
 
 -- ---- the whole
 
-blocks_parsed : (bs : Blocks) (n : ℕ) → GoodBlocks bs → size bs ≤ n → n < 2 ^ 32 → (version : ℕ) (input output : List ℕ) → (version ≡ 1) ⊎ (version ≡ 2)
+blocks_parsed : (bs : Blocks) (n : ℕ) → GoodBlocks bs → size bs ≤ n → n < 2 ^ 32 → (version : ℕ) (input output : List ℕ) → IsVersion version
     → IsParsed (record { version = version; input = input; blocks = blocks_plain bs; output = output })
 blocks_parsed bs n good fits small version input output known = record {
   version = known;
@@ -113,7 +114,7 @@ blocks_parsed bs n good fits small version input output known = record {
 pub within_parsed : (tokens : List Token) (q : Query) → query_within tokens q → length tokens < 2 ^ 32 → IsParsed (query_plain q)
 within_parsed tokens q
     (a, b, n, e1, begin, (c, d, s1, e2, word, (f, g, input, e3, name, (h, i, groups, e4, (k, turns), (j, l, s2, e5, ending, (m, o, output, e6, last, (nil, is))))))) small =
-    let grown = groups_grow expression_within (λ (x : Groups). body expression_within (levels x.bare)) (λ x. body_bounded expression_within (levels x.bare)) k no_groups groups h turns in
+    let grown = groups_grow n expression_within (λ (x : Groups). body n expression_within (levels x.bare)) (λ x. body_bounded n expression_within (levels x.bare)) k no_groups groups h turns in
     let good = grown.1 (tt, tt) in
     let sized = closing_size groups.closed groups.bare in
     let w1 = split_length tokens a b e1 in let w2 = split_length b c d e2 in let w3 = split_length d f g e3 in let w4 = split_length g h i e4 in

@@ -1,5 +1,5 @@
 -- Each block of a query without faults is safe.
-use Rattle.std.proofs.Common.{◌≡◌, ℕ, ◌<◌, ◌≤◌, ◌^◌, ◌⊎◌, List, [], ◌∷◌, ◌++◌, length, refl, sym, ap, ◌∙◌, subst, ⊎_elim, inl, inr, arith}
+use Rattle.std.proofs.Common.{◌≡◌, ℕ, ◌<◌, ◌≤◌, ◌^◌, List, [], ◌∷◌, ◌++◌, length, refl, sym, ap, ◌∙◌, subst, ⊎_elim, inl, inr, arith}
 use Rattle.std.specs.Prelude.{true, nat_lt, map, Contains, All, Some, None, if◌then◌else◌}
 use Rattle.std.specs.List.{flat_map, list_any}
 use Rattle.std.proofs.lemmas.Bool.Decides.{nat_tests}
@@ -9,7 +9,7 @@ use Rattle.sd_value.specs.Members.{Contains-nil, Contains-cons_cases, Contains-h
 use Rattle.rpe.specs.Language.{positions}
 use Rattle.query_spec.specs.declared.Variable.{Variable}
 use Rattle.query_spec.specs.Query as plain
-use Rattle.query_spec.specs.Mentions.{same_name, names, variables_of, IsDeclared, IsFlat, condition_positions}
+use Rattle.query_spec.specs.Mentions.{same_name, names, variables_of, IsDeclared, IsFlat, condition_positions, IsVersion}
 use Rattle.site_spec.specs.Site as site
 use Rattle.struql_ast.specs.declared.Operand.{Operand}
 use Rattle.struql_ast.specs.declared.Operand.TheVariants as operands
@@ -39,8 +39,8 @@ pub record IsKept (levels : List (List Condition)) : Type 0 where
   pub small : All (λ k. condition_positions k ≤ 256) (chain_conditions levels)
   pub flat : All IsFlat (chain_conditions levels)
 
-pub record IsFine (p : Placed) : Type 0 where
-  pub faultless : NoFault p
+pub record IsFine (version : ℕ) (p : Placed) : Type 0 where
+  pub faultless : NoFault version p
   pub flat : All IsFlat (map condition_plain p.clauses.conditions)
 
 small_positions : (n place : ℕ) → ((at : ℕ) → (if nat_lt 256 n then Some place else None) ≡ Some at → ⊥) → n ≤ 256
@@ -61,8 +61,8 @@ small_condition (negation c span) h = small_condition c h
 chain_push : (levels : List (List Condition)) (cs : List Condition) → chain_conditions (levels ++ cs ∷ []) ≡ chain_conditions levels ++ map condition_plain cs
 chain_push levels cs = ap (map condition_plain) (joined_push levels cs) ∙ map-append condition_plain (joined levels) cs
 
-pub kept_step : (levels : List (List Condition)) (c : Clauses) → IsKept levels → IsFine (record { levels = levels ++ c.conditions ∷ []; clauses = c }) → IsKept (levels ++ c.conditions ∷ [])
-kept_step levels c k n =
+pub kept_step : (version : ℕ) (levels : List (List Condition)) (c : Clauses) → IsKept levels → IsFine version (record { levels = levels ++ c.conditions ∷ []; clauses = c }) → IsKept (levels ++ c.conditions ∷ [])
+kept_step version levels c k n =
     let here = levels ++ c.conditions ∷ [] in
     let own = flat_map mentions c.conditions in
     let e : round_of here ≡ round_of levels ++ own ∷ [] = map-append (flat_map mentions) levels (c.conditions ∷ []) in
@@ -136,25 +136,25 @@ terms_declared vs c ks t h u =
 
 -- ---- a block whose chain is known
 
-used_named : (p : Placed) → NoFault p → (m : VariableUse) → Contains (uses p.clauses) m → Contains (flat_map names (chain_conditions p.levels)) m.name
-used_named p n m h =
+used_named : (version : ℕ) (p : Placed) → NoFault version p → (m : VariableUse) → Contains (uses p.clauses) m → Contains (flat_map names (chain_conditions p.levels)) m.name
+used_named version p n m h =
     let own = flat_map mentions p.clauses.conditions in
     let sorted = sorted_in (round_of p.levels) m.name (λ e. n Unbound m.at (inl (m, Contains-append_right own (uses p.clauses) m h, (e, refl)))) in
     let among : list_any (same_name m.name) (map name_of (joined (round_of p.levels))) ≡ true = sym (in_names (joined (round_of p.levels)) m.name) ∙ sorted in
     let same : map name_of (joined (round_of p.levels)) ≡ flat_map names (chain_conditions p.levels) = ap (map name_of) (round_joined p.levels) ∙ sym (all_names_same (joined p.levels)) in
     subst (λ (xs : List Name). Contains xs m.name) same (any_contains m.name (map name_of (joined (round_of p.levels))) among)
 
-source_made : (p : Placed) → NoFault p → (k : Link) → Contains p.clauses.links k → IsMade (target_plain k.source)
-source_made p n k h = by_source k.source refl where
+source_made : (version : ℕ) (p : Placed) → NoFault version p → (k : Link) → Contains p.clauses.links k → IsMade (target_plain k.source)
+source_made version p n k h = by_source k.source refl where
   by_source : (g : written.Target) → k.source ≡ g → IsMade (target_plain g)
   by_source (made t) e = (term_plain t, refl)
   by_source (written.plain o) e = absurd (n LinkFromData k.span.start (inr (inr (inr (inl (k, h, (rw e refl, refl)))))))
 
-pub placed_safe : (version : ℕ) (p : Placed) → (version ≡ 1) ⊎ (version ≡ 2) → NoFault p → IsKept p.levels → length (chain_conditions p.levels) < 2 ^ 32 → IsSafe version (body_at p)
+pub placed_safe : (version : ℕ) (p : Placed) → IsVersion version → NoFault version p → IsKept p.levels → length (chain_conditions p.levels) < 2 ^ 32 → IsSafe version (body_at p)
 placed_safe version p v n k few =
     let chain = well_made version p.levels v k.sound (λ at past. n TooManyVariables at (inr (inl past))) k.flat k.small few in
     record {
       well_made = chain;
-      terms = λ t h. terms_declared (variables_of (chain_conditions p.levels)) p.clauses (chain_conditions p.levels) t h (λ m u. chain.declared m.name (used_named p n m u));
-      sources = λ l h. (let o = Contains-map link_plain p.clauses.links l h in subst (λ (q : plain.Link). IsMade q.source) o.1 (source_made p n o.0 o.2));
+      terms = λ t h. terms_declared (variables_of (chain_conditions p.levels)) p.clauses (chain_conditions p.levels) t h (λ m u. chain.declared m.name (used_named version p n m u));
+      sources = λ l h. (let o = Contains-map link_plain p.clauses.links l h in subst (λ (q : plain.Link). IsMade q.source) o.1 (source_made version p n o.0 o.2));
     }

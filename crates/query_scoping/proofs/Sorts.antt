@@ -53,8 +53,8 @@ pub record IsSound (round : List (List VariableUse)) : Type 0 where
   pub ends : (m : VariableUse) → Contains (joined round) m → m.role ≡ End → sort_of round m.name ≡ Some false
   pub arcs : (m : VariableUse) → Contains (joined round) m → m.role ≡ Arc → sort_of round m.name ≡ Some true
 
-abbrev pub NoFault : Placed → Type 0
-NoFault p = (check : Check) (at : ℕ) → BlockFault (scoped_of p) check at → ⊥
+abbrev pub NoFault : ℕ → Placed → Type 0
+NoFault version p = (check : Check) (at : ℕ) → BlockFault version (scoped_of p) check at → ⊥
 
 joined_push : {X : Type 0} (xss : List (List X)) (xs : List X) → joined (xss ++ xs ∷ []) ≡ joined xss ++ xs
 joined_push [] xs = append-nil xs

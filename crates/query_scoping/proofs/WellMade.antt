@@ -1,5 +1,5 @@
 -- The chain of each block of a query without faults is well made.
-use Rattle.std.proofs.Common.{◌≡◌, ◌≢◌, ℕ, ◌<◌, ◌≤◌, ◌^◌, ◌⊎◌, List, [], ◌∷◌, ◌++◌, length, get_or, refl, sym, ap, ◌∙◌, subst, append_assoc, length-append, arith}
+use Rattle.std.proofs.Common.{◌≡◌, ◌≢◌, ℕ, ◌<◌, ◌≤◌, ◌^◌, List, [], ◌∷◌, ◌++◌, length, get_or, refl, sym, ap, ◌∙◌, subst, append_assoc, length-append, arith}
 use Rattle.std.specs.Prelude.{true, false, not, map, filter, Contains, All, AllPairs, IsTrue}
 use Rattle.std.specs.List.{flat_map, list_any}
 use Rattle.std.proofs.lemmas.List.{append-nil, length-map, get_or-map}
@@ -8,7 +8,7 @@ use Rattle.std.proofs.lemmas.List.Kept.{AllPairs-cons, AllPairs-filter}
 use Rattle.sd_value.specs.Members.{Contains-map, Contains-mapped}
 use Rattle.query_spec.specs.declared.Variable.{Variable}
 use Rattle.query_spec.specs.Query as plain
-use Rattle.query_spec.specs.Mentions.{same_name, names, arc_names, node_names, first_mentions, chain_of, IsFlat, condition_positions, IsWellMade}
+use Rattle.query_spec.specs.Mentions.{same_name, names, arc_names, node_names, first_mentions, chain_of, IsFlat, condition_positions, IsVersion, IsWellMade}
 use Rattle.struql_ast.specs.Written.{Name, Condition}
 use Rattle.struql_check.specs.declared.mentions.VariableUse.{VariableUse}
 use Rattle.struql_check.specs.Faults.{IsPast}
@@ -63,7 +63,7 @@ chain_conditions levels = map condition_plain (joined levels)
 pub chain_names : (levels : List (List Condition)) → first_mentions (flat_map names (chain_conditions levels)) ≡ names_of (joined (round_of levels))
 chain_names levels = ap first_mentions (all_names_same (joined levels) ∙ ap (map name_of) (sym (round_joined levels)))
 
-pub well_made : (version : ℕ) (levels : List (List Condition)) → (version ≡ 1) ⊎ (version ≡ 2) → IsSound (round_of levels)
+pub well_made : (version : ℕ) (levels : List (List Condition)) → IsVersion version → IsSound (round_of levels)
     → ((at : ℕ) → IsPast (joined (round_of levels)) at → ⊥) → All IsFlat (chain_conditions levels) → All (λ k. condition_positions k ≤ 256) (chain_conditions levels) → length (chain_conditions levels) < 2 ^ 32
     → IsWellMade (chain_of version (chain_conditions levels))
 well_made version levels v s never flat small few =

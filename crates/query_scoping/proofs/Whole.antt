@@ -73,11 +73,11 @@ all_safe q faultless parsed b h =
     let plainly : IsParsed (query_plain (query_written q)) = subst IsParsed (sym same) parsed in
     let k : Contains (map body_at (placed_within [] bs)) b = subst (λ (xs : List Body). Contains xs b) (bodies_same [] bs) (subst (λ (r : plain.Query). Contains (blocks_in_scope r) b) (sym same) h) in
     let found = Contains-map body_at (placed_within [] bs) b k in
-    let fine : (p : Placed) → Contains (placed_within [] bs) p → IsFine p = λ p m. record {
+    let fine : (p : Placed) → Contains (placed_within [] bs) p → IsFine q.version p = λ p m. record {
       faultless = λ check at f. faultless check at (inl (scoped_of p, subst (λ (xs : List ScopedBlock). Contains xs (scoped_of p)) (sym (scoped_same [] bs)) (Contains-mapped scoped_of (placed_within [] bs) p m), f));
       flat = All-contains (λ (c : Body). All IsFlat c.conditions) (bodies (query_plain (query_written q))) (clauses_plain p.clauses) plainly.flat (placed_body [] bs p m);
     } in
-    let kept = walk_keeps IsKept IsFine kept_step [] bs kept_none fine found.0 found.2 in
+    let kept = walk_keeps IsKept (IsFine q.version) (kept_step q.version) [] bs kept_none fine found.0 found.2 in
     let count = counted [] bs found.0 found.2 in
     let total = plainly.few_conditions in
     let few : length (chain_conditions found.0.levels) < 2 ^ 32 = (let e = length-map (joined found.0.levels) condition_plain in omega arith) in

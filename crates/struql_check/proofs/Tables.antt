@@ -10,7 +10,7 @@ use Rattle.struql_ast.specs.Written.{Name}
 use Rattle.struql_check.specs.declared.faults.Check.{Check}
 use Rattle.struql_check.specs.declared.faults.Check.TheVariants.{NeverCreated, Arity, Reserved}
 use Rattle.struql_check.specs.declared.terms.SeenTerm.{SeenTerm}
-use Rattle.struql_check.specs.Faults.{is_created, first_arity, TermFault, number, is_index, is_test}
+use Rattle.struql_check.specs.Faults.{is_created, first_arity, TermFault, number, is_index, is_reserved}
 use Rattle.struql_check.specs.First.{IsFirst, fault_at}
 use Rattle.struql_check.specs.Known.{or_else, differs, broken_term}
 use Rattle.query_spec.proofs.MentionLaws.{same_is, same_turned}
@@ -93,46 +93,46 @@ differ_false : (o : Option ℕ) (a n : ℕ) → differs o a ≡ false → o ≡ 
 differ_false None a n e is ne = cc
 differ_false (Some m) a n e is ne = (let same : m ≡ n = cc in let f : nat_eq n a ≡ false = nat_apart n a ne in let g : differs (Some n) a ≡ false = subst (λ (k : ℕ). differs (Some k) a ≡ false) same e in let h : not (nat_eq n a) ≡ true = ap not f in cc)
 
-term_at : (all : List SeenTerm) (t : SeenTerm) (other : Check) (place : ℕ) → TermFault all t other place → (t.at ≡ place) × (62 ≤ number other)
-term_at all t NeverCreated place p = (sym p.2, omega arith)
-term_at all t Arity place p = (sym p.3, omega arith)
-term_at all t Reserved place p = (sym p.1, omega arith)
-term_at all t other place p = absurd p
+term_at : (version : ℕ) (all : List SeenTerm) (t : SeenTerm) (other : Check) (place : ℕ) → TermFault version all t other place → (t.at ≡ place) × (62 ≤ number other)
+term_at version all t NeverCreated place p = (sym p.2, omega arith)
+term_at version all t Arity place p = (sym p.3, omega arith)
+term_at version all t Reserved place p = (sym p.1, omega arith)
+term_at version all t other place p = absurd p
 
-term_but_created : (all : List SeenTerm) (t : SeenTerm) → (t.linked && not (is_created all t.function)) ≡ false → (other : Check) (place : ℕ) → TermFault all t other place → 63 ≤ number other
-term_but_created all t u NeverCreated place p = absurd (and_not_false t.linked (is_created all t.function) u p.0 p.1)
-term_but_created all t u Arity place p = omega arith
-term_but_created all t u Reserved place p = omega arith
-term_but_created all t u other place p = absurd p
+term_but_created : (version : ℕ) (all : List SeenTerm) (t : SeenTerm) → (t.linked && not (is_created all t.function)) ≡ false → (other : Check) (place : ℕ) → TermFault version all t other place → 63 ≤ number other
+term_but_created version all t u NeverCreated place p = absurd (and_not_false t.linked (is_created all t.function) u p.0 p.1)
+term_but_created version all t u Arity place p = omega arith
+term_but_created version all t u Reserved place p = omega arith
+term_but_created version all t u other place p = absurd p
 
-term_reserved : (all : List SeenTerm) (t : SeenTerm) → (t.linked && not (is_created all t.function)) ≡ false → differs (first_arity all t.function) t.arity ≡ false → (other : Check) (place : ℕ) → TermFault all t other place → (67 ≤ number other) × ((is_index t.function || is_test t.function) ≡ true)
-term_reserved all t u d NeverCreated place p = absurd (and_not_false t.linked (is_created all t.function) u p.0 p.1)
-term_reserved all t u d Arity place p = absurd (differ_false (first_arity all t.function) t.arity p.0 d p.1 p.2)
-term_reserved all t u d Reserved place p = (omega arith, p.0)
-term_reserved all t u d other place p = absurd p
+term_reserved : (version : ℕ) (all : List SeenTerm) (t : SeenTerm) → (t.linked && not (is_created all t.function)) ≡ false → differs (first_arity all t.function) t.arity ≡ false → (other : Check) (place : ℕ) → TermFault version all t other place → (67 ≤ number other) × ((is_index t.function || is_reserved version t.function) ≡ true)
+term_reserved version all t u d NeverCreated place p = absurd (and_not_false t.linked (is_created all t.function) u p.0 p.1)
+term_reserved version all t u d Arity place p = absurd (differ_false (first_arity all t.function) t.arity p.0 d p.1 p.2)
+term_reserved version all t u d Reserved place p = (omega arith, p.0)
+term_reserved version all t u d other place p = absurd p
 
 term_test : (b : Bool) (P : Bool → Type 0) → (b ≡ true → P true) → (b ≡ false → P false) → P b
 term_test true P t f = t refl
 term_test false P t f = f refl
 
 -- the fault of a term
-pub term_first : (all : List SeenTerm) (t : SeenTerm) → IsFirst (TermFault all t) (fault_at (broken_term (t.linked && not (is_created all t.function)) (differs (first_arity all t.function) t.arity) (is_index t.function || is_test t.function)) t.at)
-term_first all t =
+pub term_first : (version : ℕ) (all : List SeenTerm) (t : SeenTerm) → IsFirst (TermFault version all t) (fault_at (broken_term (t.linked && not (is_created all t.function)) (differs (first_arity all t.function) t.arity) (is_index t.function || is_reserved version t.function)) t.at)
+term_first version all t =
     let d = differs (first_arity all t.function) t.arity in
-    let r = is_index t.function || is_test t.function in
-    term_test (t.linked && not (is_created all t.function)) (λ b. IsFirst (TermFault all t) (fault_at (broken_term b d r) t.at))
+    let r = is_index t.function || is_reserved version t.function in
+    term_test (t.linked && not (is_created all t.function)) (λ b. IsFirst (TermFault version all t) (fault_at (broken_term b d r) t.at))
     (λ u. record {
       is = (let parts = and_not t.linked (is_created all t.function) u in (parts.0, parts.1, refl));
-      least = λ other place p. (let e = term_at all t other place p in inr (e.0, e.1));
+      least = λ other place p. (let e = term_at version all t other place p in inr (e.0, e.1));
     })
-    (λ u. term_test d (λ b. IsFirst (TermFault all t) (fault_at (broken_term false b r) t.at))
+    (λ u. term_test d (λ b. IsFirst (TermFault version all t) (fault_at (broken_term false b r) t.at))
     (λ e. record {
       is = (let parts = differ_true (first_arity all t.function) t.arity e in (parts.0, parts.1, parts.2, refl));
-      least = λ other place p. inr ((term_at all t other place p).0, term_but_created all t u other place p);
+      least = λ other place p. inr ((term_at version all t other place p).0, term_but_created version all t u other place p);
     })
-    (λ n. term_test r (λ b. IsFirst (TermFault all t) (fault_at (broken_term false false b) t.at))
+    (λ n. term_test r (λ b. IsFirst (TermFault version all t) (fault_at (broken_term false false b) t.at))
     (λ y. record {
       is = (y, refl);
-      least = λ other place p. inr ((term_at all t other place p).0, (term_reserved all t u n other place p).0);
+      least = λ other place p. inr ((term_at version all t other place p).0, (term_reserved version all t u n other place p).0);
     })
-    (λ z. λ other place p. (let y = (term_reserved all t u n other place p).1 in let c : true ≡ false = sym y ∙ z in cc))))
+    (λ z. λ other place p. (let y = (term_reserved version all t u n other place p).1 in let c : true ≡ false = sym y ∙ z in cc))))

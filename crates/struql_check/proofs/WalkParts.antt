@@ -12,18 +12,18 @@ use Rattle.struql_check.specs.Faults.{SomeIn, MentionFault, ChainFault, Conditio
 use Rattle.struql_check.specs.First.{IsFirst, earlier}
 use Rattle.struql_check.proofs.Firsts.{first_both, first_append, first_one}
 
-pub block_first : (round : List (List VariableUse)) (c : Clauses) (own used : List VariableUse) (a b d e f g : Option Fault)
+pub block_first : (version : ℕ) (round : List (List VariableUse)) (c : Clauses) (own used : List VariableUse) (a b d e f g : Option Fault)
     → own ≡ flat_map mentions c.conditions → used ≡ uses c
     → IsFirst (SomeIn (MentionFault round) own) a → IsFirst (SomeIn (MentionFault round) used) b
     → IsFirst (ChainFault (flat_map (λ ms. ms) round)) d → IsFirst (SomeIn ConditionFault c.conditions) e
-    → IsFirst (SomeIn LinkFault c.links) f → IsFirst (SomeIn CollectFault c.collects) g
-    → IsFirst (BlockFault (record { round = round; clauses = c })) (earlier (earlier a b) (earlier d (earlier e (earlier f g))))
-block_first round c own used a b d e f g is_own is_used pa pb pd pe pf pg =
+    → IsFirst (SomeIn LinkFault c.links) f → IsFirst (SomeIn (CollectFault version) c.collects) g
+    → IsFirst (BlockFault version (record { round = round; clauses = c })) (earlier (earlier a b) (earlier d (earlier e (earlier f g))))
+block_first version round c own used a b d e f g is_own is_used pa pb pd pe pf pg =
     let by_mention : IsFirst (SomeIn (MentionFault round) (flat_map mentions c.conditions ++ uses c)) (earlier a b) =
     subst (λ (ms : List VariableUse). IsFirst (SomeIn (MentionFault round) (ms ++ uses c)) (earlier a b)) is_own
     (subst (λ (ms : List VariableUse). IsFirst (SomeIn (MentionFault round) (own ++ ms)) (earlier a b)) is_used
     (first_append (MentionFault round) own used a b pa pb)) in
-    let by_link = first_both (SomeIn LinkFault c.links) (SomeIn CollectFault c.collects) f g pf pg in
+    let by_link = first_both (SomeIn LinkFault c.links) (SomeIn (CollectFault version) c.collects) f g pf pg in
     let by_condition = first_both (SomeIn ConditionFault c.conditions) _ e (earlier f g) pe by_link in
     let by_chain = first_both (ChainFault (flat_map (λ ms. ms) round)) _ d (earlier e (earlier f g)) pd by_condition in
     first_both (SomeIn (MentionFault round) (flat_map mentions c.conditions ++ uses c)) _ (earlier a b) (earlier d (earlier e (earlier f g))) by_mention by_chain

@@ -1,6 +1,7 @@
 -- What a query that is spelled has to keep besides, and where it is if it doesn't.
 use Rattle.std.specs.Prelude.{◌≡◌, ◌≢◌, ◌⊎◌, ℕ, ◌<◌, ◌≤◌, Bool, true, false, not, ◌&&◌, ◌||◌, List, ◌∷◌, ◌++◌, length}
-use Rattle.std.specs.Prelude.{map, find, Contains, if◌then◌else◌, nat_lt, Option, Some, None, option_map, codes}
+use Rattle.std.specs.Prelude.{map, find, Contains, if◌then◌else◌, nat_lt, nat_eq, Option, Some, None, option_map}
+use Rattle.std.specs.Prelude.{codes}
 use Rattle.std.specs.List.{list_any}
 use Rattle.std.specs.Str.{bytes_eq}
 use Rattle.rpe.specs.Language.{positions}
@@ -83,19 +84,57 @@ is_test n =
     bytes_eq n (codes "isInt") || bytes_eq n (codes "isText") || bytes_eq n
     (codes "isUrl") || bytes_eq n (codes "isFile") || bytes_eq n (codes "isNode")
 
--- Reserved: a collected collection with a test's name
-abbrev pub CollectFault : Collect → Check → ℕ → Type 0
-CollectFault o Reserved at = (is_test o.collection ≡ true) × (at ≡ o.span.start)
-CollectFault o check at = ⊥
+-- tests of texts
+unfoldable pub is_text_test : Name → Bool
+is_text_test n =
+    bytes_eq n (codes "starts") || bytes_eq n (codes "ends") || bytes_eq n
+    (codes "has") || bytes_eq n (codes "matches")
 
--- a fault of a block, given the blocks round it
-abbrev pub BlockFault : ScopedBlock → Check → ℕ → Type 0
-BlockFault b check at =
+-- functions that make a text of another
+unfoldable pub is_text_function : Name → Bool
+is_text_function n =
+    bytes_eq n (codes "lower") || bytes_eq n (codes "upper") || bytes_eq n
+    (codes "fold") || bytes_eq n (codes "slug") || bytes_eq n (codes "trim") || bytes_eq n
+    (codes "first") || bytes_eq n (codes "last") || bytes_eq n (codes "rest") || bytes_eq n
+    (codes "before") || bytes_eq n (codes "after") || bytes_eq n (codes "replace") || bytes_eq n
+    (codes "join")
+
+-- functions of numbers and dates
+unfoldable pub is_number_function : Name → Bool
+is_number_function n =
+    bytes_eq n (codes "length") || bytes_eq n (codes "number") || bytes_eq n
+    (codes "decimal") || bytes_eq n (codes "plus") || bytes_eq n (codes "minus") || bytes_eq n
+    (codes "times") || bytes_eq n (codes "div") || bytes_eq n (codes "mod") || bytes_eq n
+    (codes "date") || bytes_eq n (codes "dated")
+
+-- functions that make many values of one, or one of many
+unfoldable pub is_list_function : Name → Bool
+is_list_function n =
+    bytes_eq n (codes "split") || bytes_eq n (codes "count") || bytes_eq n
+    (codes "min") || bytes_eq n (codes "max") || bytes_eq n (codes "sum")
+
+-- the names that version 3 keeps for tests and functions of its own
+abbrev pub is_kept : Name → Bool
+is_kept n = is_text_test n || is_text_function n || is_number_function n || is_list_function n
+
+-- in each version the names of the tests of kinds, and in version 3 those that it keeps
+abbrev pub is_reserved : ℕ → Name → Bool
+is_reserved version n = is_test n || (nat_eq version 3 && is_kept n)
+
+-- Reserved: a collected collection with a reserved name
+abbrev pub CollectFault : ℕ → Collect → Check → ℕ → Type 0
+CollectFault version o Reserved at =
+    (is_reserved version o.collection ≡ true) × (at ≡ o.span.start)
+CollectFault version o check at = ⊥
+
+-- a fault of a block, given the version and the blocks round it
+abbrev pub BlockFault : ℕ → ScopedBlock → Check → ℕ → Type 0
+BlockFault version b check at =
     SomeIn (MentionFault b.round) (block_mentions b.clauses) check at
     ⊎ ChainFault (chain_mentions b) check at
     ⊎ SomeIn ConditionFault b.clauses.conditions check at
     ⊎ SomeIn LinkFault b.clauses.links check at
-    ⊎ SomeIn CollectFault b.clauses.collects check at
+    ⊎ SomeIn (CollectFault version) b.clauses.collects check at
 
 -- ---- terms
 
@@ -112,21 +151,23 @@ unfoldable pub is_index : Name → Bool
 is_index n = bytes_eq n (codes "index")
 
 -- NeverCreated: a function in LINK or COLLECT that is in no CREATE of the query. Arity: another number of arguments
--- than the function's first term in the text. Reserved: a function named `index`, or with a test's name.
-abbrev pub TermFault : List SeenTerm → SeenTerm → Check → ℕ → Type 0
-TermFault all t NeverCreated at =
+-- than the function's first term in the text. Reserved: a function named `index`, or with a reserved name.
+abbrev pub TermFault : ℕ → List SeenTerm → SeenTerm → Check → ℕ → Type 0
+TermFault version all t NeverCreated at =
     (t.linked ≡ true) × (is_created all t.function ≡ false) × (at ≡ t.at)
-TermFault all t Arity at =
+TermFault version all t Arity at =
     (n : ℕ) × (first_arity all t.function ≡ Some n) × (n ≢ t.arity) × (at ≡ t.at)
-TermFault all t Reserved at = ((is_index t.function || is_test t.function) ≡ true) × (at ≡ t.at)
-TermFault all t check at = ⊥
+TermFault version all t Reserved at =
+    ((is_index t.function || is_reserved version t.function) ≡ true) × (at ≡ t.at)
+TermFault version all t check at = ⊥
 
 -- ---- the faults of a query, and the first of them
 
 -- a fault of a query: one of a block, or one of a term
 abbrev pub Faulty : Query → Check → ℕ → Type 0
 Faulty q check at =
-    SomeIn BlockFault (scoped q) check at ⊎ SomeIn (TermFault (terms q)) (terms q) check at
+    SomeIn (BlockFault q.version) (scoped q) check at
+    ⊎ SomeIn (TermFault q.version (terms q)) (terms q) check at
 
 -- the checks' numbers
 abbrev pub number : Check → ℕ

@@ -1,5 +1,5 @@
 -- What a check asks of a query besides: what each text gives.
-use Rattle.std.specs.Prelude.{◌≡◌, ◌⊎◌, ◌<◌, ◌^◌, List, [], ◌∷◌, ◌++◌, length, All}
+use Rattle.std.specs.Prelude.{◌<◌, ◌^◌, List, [], ◌∷◌, ◌++◌, length, All}
 use Rattle.std.specs.List.{flat_map}
 use Rattle.sd_value.specs.declared.Datum.TheVariants.{Int, Text}
 use Rattle.sd_value.specs.declared.Value.{Value}
@@ -7,7 +7,7 @@ use Rattle.sd_value.specs.declared.Value.TheVariants.{Data}
 use Rattle.query_spec.specs.Query.{Operand, variable, constant, Condition, member, path, compare, one_of, kind}
 use Rattle.query_spec.specs.Query.{negation, SkolemTerm, Target, plain, made, Link, Body, Blocks, no_blocks, block}
 use Rattle.query_spec.specs.Query.{Query}
-use Rattle.query_spec.specs.Mentions.{IsFlat}
+use Rattle.query_spec.specs.Mentions.{IsFlat, IsVersion}
 
 -- the constant that an operand is
 abbrev pub operand_constants : Operand → List Value
@@ -71,7 +71,7 @@ IsWritable v = ⊥
 -- Its version is one that there is, a negation holds no negation, constants are numbers and texts, and there are fewer
 -- blocks, conditions, terms, links and collects than 32 bits can number.
 pub record IsParsed (q : Query) : Type 0 where
-  pub version : (q.version ≡ 1) ⊎ (q.version ≡ 2)
+  pub version : IsVersion q.version
   pub flat : All (λ b. All IsFlat b.conditions) (bodies q)
   pub writable : All (λ b. All IsWritable (constants b)) (bodies q)
   pub few_blocks : length (bodies q) < 2 ^ 32

@@ -5,13 +5,13 @@ ghost use Rattle.std.specs.BTreeMap as tree;
 ghost use Rattle.std.specs.BTreeSet as set;
 ghost use Rattle.sd_value.specs.Order.{bytes_cmp};
 ghost use Rattle.query_spec.specs.Mentions.{same_name};
-ghost use Rattle.struql_check.specs.Faults.{SomeIn, TermFault, is_index, is_test};
+ghost use Rattle.struql_check.specs.Faults.{SomeIn, TermFault, is_index, is_reserved};
 ghost use Rattle.struql_check.specs.First.{IsFirst};
 ghost use Rattle.struql_check.specs.Known.{AreCreated, AreArities, or_else, differs, broken_term};
 ghost use Rattle.struql_check.specs.declared.terms.SeenTerm.{SeenTerm as Seen};
 
 use crate::faults::{Check, Fault, earlier};
-use crate::passes::{fault_at, is_index, is_test};
+use crate::passes::{fault_at, is_index, is_reserved};
 use crate::terms::SeenTerm;
 use sd_value::{NoMemory, Str};
 use std::alloc::Global;
@@ -99,38 +99,44 @@ fn is_uncreated(created: &BTreeSet<Str>, term: &SeenTerm) -> bool
     term.linked && !created.contains(&term.function)
 }
 
-fn is_reserved(name: &Str) -> bool
-    ensures { result ≡ (is_index name.now || is_test name.now) }
+fn is_taken(version: u8, name: &Str) -> bool
+    ensures { result ≡ (is_index name.now || is_reserved version name.now) }
 {
-    is_index(name) || is_test(name)
+    is_index(name) || is_reserved(version, name)
 }
 
 fn term_fault(
+    version: u8,
     created: &BTreeSet<Str>,
     arities: &BTreeMap<Str, usize>,
     term: &SeenTerm,
 ) -> Option<Fault>
     ensures { (all : List Seen) → AreCreated all (set.contains bytes_cmp created.now)
         → AreArities all (tree.get bytes_cmp arities.now)
-        → IsFirst (TermFault all term.now) result }
+        → IsFirst (TermFault version all term.now) result }
 {
     let uncreated = is_uncreated(created, term);
     let first = arities.get(&term.function).copied();
     let differing = differs(first, term.arity);
-    let reserved = is_reserved(&term.function);
+    let reserved = is_taken(version, &term.function);
     let check = broken_term(uncreated, differing, reserved);
     fault_at(check, term.at)
 }
 
 /// The first fault of the functions of these terms, which are all terms of a query.
-pub(crate) fn first_of_terms(alloc: Global, terms: &[SeenTerm]) -> Result<Option<Fault>, NoMemory>
-    ensures { IfOk result (λ first. IsFirst (SomeIn (TermFault terms.now) terms.now) first) }
+pub(crate) fn first_of_terms(
+    alloc: Global,
+    version: u8,
+    terms: &[SeenTerm],
+) -> Result<Option<Fault>, NoMemory>
+    ensures { IfOk result (λ first. IsFirst
+        (SomeIn (TermFault version terms.now) terms.now) first) }
 {
     let created = created_of(alloc, terms)?;
     let arities = arities_of(alloc, terms)?;
     let mut first = None;
     for term in terms {
-        first = earlier(first, term_fault(&created, &arities, term));
+        first = earlier(first, term_fault(version, &created, &arities, term));
     }
     Ok(first)
 }

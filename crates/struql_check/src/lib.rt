@@ -83,10 +83,10 @@ fn first_fault(alloc: Global, query: &Query) -> Result<Option<Fault>, NoMemory>
 {
     let mut levels = Vec::new(alloc);
     let names = no_names(alloc);
-    let by_block = first_of_blocks(alloc, &query.blocks, &mut levels, &names)?;
+    let by_block = first_of_blocks(alloc, query.version, &query.blocks, &mut levels, &names)?;
     let mut terms = Vec::new(alloc);
     push_terms(alloc, &mut terms, &query.blocks)?;
-    let by_term = first_of_terms(alloc, &terms)?;
+    let by_term = first_of_terms(alloc, query.version, &terms)?;
     Ok(earlier(by_block, by_term))
 }
 

@@ -1,6 +1,6 @@
 //! The checks of one block.
 
-ghost use Rattle.std.specs.Prelude.{◌≡◌, ◌||◌, List, if◌then◌else◌, min, map};
+ghost use Rattle.std.specs.Prelude.{◌≡◌, ◌||◌, ◌&&◌, nat_eq, List, if◌then◌else◌, min, map};
 ghost use Rattle.std.specs.Str.{bytes_eq};
 ghost use Rattle.rpe.specs.Language.{positions};
 ghost use Rattle.rpe.specs.Reading.{regex_of};
@@ -8,6 +8,8 @@ ghost use Rattle.struql_ast.specs.Written.{condition_written, link_written, coll
 ghost use Rattle.struql_check.specs.Scope.{sort_of};
 ghost use Rattle.struql_check.specs.Faults.{SomeIn, MentionFault, ChainFault, ConditionFault, LinkFault};
 ghost use Rattle.struql_check.specs.Faults.{CollectFault, large_place, is_plain, is_test, is_index};
+ghost use Rattle.struql_check.specs.Faults.{is_text_test, is_text_function, is_number_function, is_list_function};
+ghost use Rattle.struql_check.specs.Faults.{is_kept, is_reserved};
 ghost use Rattle.struql_check.specs.First.{IsFirst, fault_at, broken_role};
 ghost use Rattle.struql_check.specs.Known.{AreNames};
 ghost use Rattle.struql_check.specs.declared.mentions.VariableUse.{VariableUse as Seen};
@@ -176,7 +178,7 @@ fn is_word(name: &Str, word: &[u8]) -> bool
 
 /// Whether the name is that of a test of kinds.
 #[tactic(auto, unfolding(crate::specs::Faults::is_test))]
-pub(crate) fn is_test(name: &Str) -> bool
+fn is_test(name: &Str) -> bool
     ensures { result ≡ is_test name.now }
 {
     is_word(name, b"isInt")
@@ -184,6 +186,78 @@ pub(crate) fn is_test(name: &Str) -> bool
         || is_word(name, b"isUrl")
         || is_word(name, b"isFile")
         || is_word(name, b"isNode")
+}
+
+#[tactic(auto, unfolding(crate::specs::Faults::is_text_test))]
+fn is_text_test(name: &Str) -> bool
+    ensures { result ≡ is_text_test name.now }
+{
+    is_word(name, b"starts")
+        || is_word(name, b"ends")
+        || is_word(name, b"has")
+        || is_word(name, b"matches")
+}
+
+#[tactic(auto, unfolding(crate::specs::Faults::is_text_function))]
+fn is_text_function(name: &Str) -> bool
+    ensures { result ≡ is_text_function name.now }
+{
+    is_word(name, b"lower")
+        || is_word(name, b"upper")
+        || is_word(name, b"fold")
+        || is_word(name, b"slug")
+        || is_word(name, b"trim")
+        || is_word(name, b"first")
+        || is_word(name, b"last")
+        || is_word(name, b"rest")
+        || is_word(name, b"before")
+        || is_word(name, b"after")
+        || is_word(name, b"replace")
+        || is_word(name, b"join")
+}
+
+#[tactic(auto, unfolding(crate::specs::Faults::is_number_function))]
+fn is_number_function(name: &Str) -> bool
+    ensures { result ≡ is_number_function name.now }
+{
+    is_word(name, b"length")
+        || is_word(name, b"number")
+        || is_word(name, b"decimal")
+        || is_word(name, b"plus")
+        || is_word(name, b"minus")
+        || is_word(name, b"times")
+        || is_word(name, b"div")
+        || is_word(name, b"mod")
+        || is_word(name, b"date")
+        || is_word(name, b"dated")
+}
+
+#[tactic(auto, unfolding(crate::specs::Faults::is_list_function))]
+fn is_list_function(name: &Str) -> bool
+    ensures { result ≡ is_list_function name.now }
+{
+    is_word(name, b"split")
+        || is_word(name, b"count")
+        || is_word(name, b"min")
+        || is_word(name, b"max")
+        || is_word(name, b"sum")
+}
+
+/// Whether version 3 keeps the name for a test or function of its own.
+fn is_kept(name: &Str) -> bool
+    ensures { result ≡ is_kept name.now }
+{
+    is_text_test(name)
+        || is_text_function(name)
+        || is_number_function(name)
+        || is_list_function(name)
+}
+
+/// Whether the name is reserved in this version.
+pub(crate) fn is_reserved(version: u8, name: &Str) -> bool
+    ensures { result ≡ is_reserved version name.now }
+{
+    is_test(name) || (version == 3 && is_kept(name))
 }
 
 /// Whether the name is that of the root page's address.
@@ -194,20 +268,20 @@ pub(crate) fn is_index(name: &Str) -> bool
     is_word(name, b"index")
 }
 
-fn collect_fault(collect: &Collect) -> Option<Fault>
-    ensures { IsFirst (CollectFault (collect_written collect.now)) result }
+fn collect_fault(version: u8, collect: &Collect) -> Option<Fault>
+    ensures { IsFirst (CollectFault version (collect_written collect.now)) result }
 {
-    let broken = is_test(&collect.collection);
+    let broken = is_reserved(version, &collect.collection);
     fault_if(broken, Check::Reserved, collect.span.start)
 }
 
 /// The first fault of these collections' names.
-pub(crate) fn first_of_collects(collects: &[Collect]) -> Option<Fault>
-    ensures { IsFirst (SomeIn CollectFault (map collect_written collects.now)) result }
+pub(crate) fn first_of_collects(version: u8, collects: &[Collect]) -> Option<Fault>
+    ensures { IsFirst (SomeIn (CollectFault version) (map collect_written collects.now)) result }
 {
     let mut first = None;
     for collect in collects {
-        first = earlier(first, collect_fault(collect));
+        first = earlier(first, collect_fault(version, collect));
     }
     first
 }

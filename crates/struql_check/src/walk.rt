@@ -23,12 +23,13 @@ use struql_ast::Block;
 /// are the last.
 fn first_of_clauses(
     alloc: Global,
+    version: u8,
     block: &Block,
     levels: &[Level],
     names: &Names,
 ) -> Result<Option<Fault>, NoMemory>
     requires { AreNames (flat_map (λ ms. ms) levels.now) names.now }
-    ensures { IfOk result (λ first. IsFirst (BlockFault
+    ensures { IfOk result (λ first. IsFirst (BlockFault version
         (record { round = levels.now; clauses = block_clauses block.now })) first) }
 {
     let own = mentions_of(alloc, &block.conditions)?;
@@ -37,7 +38,7 @@ fn first_of_clauses(
         first_of_mentions(levels, &own),
         first_of_mentions(levels, &uses),
     );
-    let by_collect = first_of_collects(&block.collects);
+    let by_collect = first_of_collects(version, &block.collects);
     let by_link = earlier(first_of_links(&block.links), by_collect);
     let by_condition = earlier(first_of_conditions(&block.conditions), by_link);
     let by_chain = earlier(first_of_chain(names), by_condition);
@@ -66,6 +67,7 @@ fn enter(
 #[cycle(walk)]
 fn first_of_block(
     alloc: Global,
+    version: u8,
     block: &Block,
     levels: &mut Vec<Level>,
     names: &Names,
@@ -73,13 +75,13 @@ fn first_of_block(
     requires { AreNames (flat_map (λ ms. ms) levels.old.items) names.now }
     ensures levels { IfOk result (λ _. levels.new.items ≡ levels.old.items) }
     ensures first { IfOk result (λ first. IsFirst
-        (SomeIn BlockFault (record
+        (SomeIn (BlockFault version) (record
         { round = here levels.old.items block.now; clauses = block_clauses block.now }
         ∷ within (here levels.old.items block.now) (block_inner block.now))) first) }
 {
     let names = enter(alloc, block, levels, names)?;
-    let by_clause = first_of_clauses(alloc, block, levels, &names)?;
-    let by_block = first_of_blocks(alloc, &block.blocks, levels, &names)?;
+    let by_clause = first_of_clauses(alloc, version, block, levels, &names)?;
+    let by_block = first_of_blocks(alloc, version, &block.blocks, levels, &names)?;
     let _level = levels.pop();
     Ok(earlier(by_clause, by_block))
 }
@@ -88,6 +90,7 @@ fn first_of_block(
 #[cycle(walk)]
 pub(crate) fn first_of_blocks(
     alloc: Global,
+    version: u8,
     blocks: &[Block],
     levels: &mut Vec<Level>,
     names: &Names,
@@ -95,11 +98,11 @@ pub(crate) fn first_of_blocks(
     requires { AreNames (flat_map (λ ms. ms) levels.old.items) names.now }
     ensures levels { IfOk result (λ _. levels.new.items ≡ levels.old.items) }
     ensures first { IfOk result (λ first. IsFirst
-        (SomeIn BlockFault (within levels.old.items (blocks_written blocks.now))) first) }
+        (SomeIn (BlockFault version) (within levels.old.items (blocks_written blocks.now))) first) }
 {
     let mut first = None;
     for block in blocks {
-        first = earlier(first, first_of_block(alloc, block, levels, names)?);
+        first = earlier(first, first_of_block(alloc, version, block, levels, names)?);
     }
     Ok(first)
 }

@@ -30,8 +30,8 @@ pub blocks_written-snoc : (bs : List Block) (c : Block) → blocks_written (bs +
 blocks_written-snoc [] c = first_block c
 blocks_written-snoc (b ∷ bs) c = ap (block_written b) (blocks_written-snoc bs c) ∙ block_onto_end b c (blocks_written bs)
 
-module _ (depth : ℕ) where
-  step_is : (room : Bool) (s : Blocks) (ts : List Token) → guard room (read_braces (read_below depth) s) ts ≡ and_then {A = Placed} (guard room (read_block (read_below depth)) ts) (λ p rest. Read (onto_end s p.body p.span) rest)
+module _ (version depth : ℕ) where
+  step_is : (room : Bool) (s : Blocks) (ts : List Token) → guard room (read_braces (read_below version depth) s) ts ≡ and_then {A = Placed} (guard room (read_block (read_below version depth)) ts) (λ p rest. Read (onto_end s p.body p.span) rest)
   unfolding read_braces read_block
   step_is false s ts = refl
   step_is true s ts = behind (read_sign signs.OpenBrace ts)
@@ -46,49 +46,49 @@ module _ (depth : ℕ) where
       inner opening (Stuck rest) = refl
       inner opening (Past rest) = refl
 
-      behind : (o : Outcome Token Span) → and_then o (λ opening r. and_then (read_below depth r) (λ b r. and_then (read_sign signs.CloseBrace r) (λ close rest. Read (onto_end s b (record { start = opening.start; «end» = close.«end» })) rest)))
-          ≡ and_then {A = Placed} (and_then o (λ opening r. and_then (read_below depth r) (λ b r. and_then (read_sign signs.CloseBrace r) (λ close rest. Read (record { body = b; span = record { start = opening.start; «end» = close.«end» } }) rest)))) (λ p rest. Read (onto_end s p.body p.span) rest)
-      behind (Read opening rest) = inner opening (read_below depth rest)
+      behind : (o : Outcome Token Span) → and_then o (λ opening r. and_then (read_below version depth r) (λ b r. and_then (read_sign signs.CloseBrace r) (λ close rest. Read (onto_end s b (record { start = opening.start; «end» = close.«end» })) rest)))
+          ≡ and_then {A = Placed} (and_then o (λ opening r. and_then (read_below version depth r) (λ b r. and_then (read_sign signs.CloseBrace r) (λ close rest. Read (record { body = b; span = record { start = opening.start; «end» = close.«end» } }) rest)))) (λ p rest. Read (onto_end s p.body p.span) rest)
+      behind (Read opening rest) = inner opening (read_below version depth rest)
       behind (Stuck rest) = refl
       behind (Past rest) = refl
 
   abbrev pub step : Blocks → List Token → Outcome Token Blocks
-  step s = guard (has_room depth) (read_braces (read_below depth) s)
+  step s = guard (has_room depth) (read_braces (read_below version depth) s)
 
-  pub block_step : (s : Blocks) (ts : List Token) (p : Placed) (rest : List Token) → guard (has_room depth) (read_block (read_below depth)) ts ≡ Read p rest → step s ts ≡ Read (onto_end s p.body p.span) rest
+  pub block_step : (s : Blocks) (ts : List Token) (p : Placed) (rest : List Token) → guard (has_room depth) (read_block (read_below version depth)) ts ≡ Read p rest → step s ts ≡ Read (onto_end s p.body p.span) rest
   block_step s ts p rest was = step_is (has_room depth) s ts ∙ ap (λ (o : Outcome Token Placed). and_then o (λ p rest. Read (onto_end s p.body p.span) rest)) was
 
-  step_fails : (e : Halt Token) (s : Blocks) (ts : List Token) → Fails e (guard (has_room depth) (read_block (read_below depth)) ts) → Fails e (step s ts)
+  step_fails : (e : Halt Token) (s : Blocks) (ts : List Token) → Fails e (guard (has_room depth) (read_block (read_below version depth)) ts) → Fails e (step s ts)
   step_fails NoMemory s ts was = tt
   step_fails (Expected rest) s ts was = step_is (has_room depth) s ts ∙ ap (λ (o : Outcome Token Placed). and_then o (λ p rest. Read (onto_end s p.body p.span) rest)) was
   step_fails (TooDeep rest) s ts was = step_is (has_room depth) s ts ∙ ap (λ (o : Outcome Token Placed). and_then o (λ p rest. Read (onto_end s p.body p.span) rest)) was
 
-  pub blocks_end : (e : Halt Token) (s : Blocks) (ts : List Token) (total : Outcome Token Blocks) → starts (is_sign signs.OpenBrace) ts ≡ true → Fails e (guard (has_room depth) (read_block (read_below depth)) ts)
-      → read_blocks (has_room depth) (read_below depth) s ts ≡ total → Fails e total
-  blocks_end e s ts total is was so_far = ends (is_sign signs.OpenBrace) step (braces_shrinks depth) e s ts total is (step_fails e s ts was) so_far
+  pub blocks_end : (e : Halt Token) (s : Blocks) (ts : List Token) (total : Outcome Token Blocks) → starts (is_sign signs.OpenBrace) ts ≡ true → Fails e (guard (has_room depth) (read_block (read_below version depth)) ts)
+      → read_blocks (has_room depth) (read_below version depth) s ts ≡ total → Fails e total
+  blocks_end e s ts total is was so_far = ends (is_sign signs.OpenBrace) step (braces_shrinks version depth) e s ts total is (step_fails e s ts was) so_far
 
-  pub blocks_go_on : (s : Blocks) (ts : List Token) (p : Placed) (after : List Token) (total : Outcome Token Blocks) → starts (is_sign signs.OpenBrace) ts ≡ true → guard (has_room depth) (read_block (read_below depth)) ts ≡ Read p after
-      → read_blocks (has_room depth) (read_below depth) s ts ≡ total → read_blocks (has_room depth) (read_below depth) (onto_end s p.body p.span) after ≡ total
-  blocks_go_on s ts p after total is was so_far = goes_on (is_sign signs.OpenBrace) step (braces_shrinks depth) s ts (onto_end s p.body p.span) after total is (block_step s ts p after was) so_far
+  pub blocks_go_on : (s : Blocks) (ts : List Token) (p : Placed) (after : List Token) (total : Outcome Token Blocks) → starts (is_sign signs.OpenBrace) ts ≡ true → guard (has_room depth) (read_block (read_below version depth)) ts ≡ Read p after
+      → read_blocks (has_room depth) (read_below version depth) s ts ≡ total → read_blocks (has_room depth) (read_below version depth) (onto_end s p.body p.span) after ≡ total
+  blocks_go_on s ts p after total is was so_far = goes_on (is_sign signs.OpenBrace) step (braces_shrinks version depth) s ts (onto_end s p.body p.span) after total is (block_step s ts p after was) so_far
 
-  pub blocks_smaller : (ts : List Token) (p : Placed) (after : List Token) → starts (is_sign signs.OpenBrace) ts ≡ true → guard (has_room depth) (read_block (read_below depth)) ts ≡ Read p after → length after < length ts
-  blocks_smaller ts p after is was = braces_shrinks depth no_blocks ts (onto_end no_blocks p.body p.span) after is (block_step no_blocks ts p after was)
+  pub blocks_smaller : (ts : List Token) (p : Placed) (after : List Token) → starts (is_sign signs.OpenBrace) ts ≡ true → guard (has_room depth) (read_block (read_below version depth)) ts ≡ Read p after → length after < length ts
+  blocks_smaller ts p after is was = braces_shrinks version depth no_blocks ts (onto_end no_blocks p.body p.span) after is (block_step no_blocks ts p after was)
 
-  pub blocks_done : (s : Blocks) (ts : List Token) (total : Outcome Token Blocks) → starts (is_sign signs.OpenBrace) ts ≡ false → read_blocks (has_room depth) (read_below depth) s ts ≡ total → total ≡ Read s ts
-  blocks_done s ts total is so_far = is_done (is_sign signs.OpenBrace) step (braces_shrinks depth) s ts total is so_far
+  pub blocks_done : (s : Blocks) (ts : List Token) (total : Outcome Token Blocks) → starts (is_sign signs.OpenBrace) ts ≡ false → read_blocks (has_room depth) (read_below version depth) s ts ≡ total → total ≡ Read s ts
+  blocks_done s ts total is so_far = is_done (is_sign signs.OpenBrace) step (braces_shrinks version depth) s ts total is so_far
 
 -- reading by what is left to open
 
-pub body_by_room : (depth : ℕ) → read_body depth ≡ read_body_of (has_room depth) (read_below depth)
+pub body_by_room : (version depth : ℕ) → read_body version depth ≡ read_body_of version (has_room depth) (read_below version depth)
 unfolding read_body read_below
-body_by_room zero = refl
-body_by_room (suc depth) = refl
+body_by_room version zero = refl
+body_by_room version (suc depth) = refl
 
-pub block_by_room : (depth : ℕ) (ts : List Token) → (depth ≡ 0 → ⊥) → guard (has_room depth) (read_block (read_below depth)) ts ≡ read_block (read_body_of (has_room (depth - 1)) (read_below (depth - 1))) ts
+pub block_by_room : (version depth : ℕ) (ts : List Token) → (depth ≡ 0 → ⊥) → guard (has_room depth) (read_block (read_below version depth)) ts ≡ read_block (read_body_of version (has_room (depth - 1)) (read_below version (depth - 1))) ts
 unfolding read_below
-block_by_room zero ts some = absurd (some refl)
-block_by_room (suc depth) ts some = rw (sub-one, body_by_room depth) refl
+block_by_room version zero ts some = absurd (some refl)
+block_by_room version (suc depth) ts some = rw (sub-one, body_by_room version depth) refl
 
-pub block_past : (depth : ℕ) (ts : List Token) → depth ≡ 0 → guard (has_room depth) (read_block (read_below depth)) ts ≡ Past ts
-block_past zero ts none = refl
-block_past (suc depth) ts none = absurd cc
+pub block_past : (version depth : ℕ) (ts : List Token) → depth ≡ 0 → guard (has_room depth) (read_block (read_below version depth)) ts ≡ Past ts
+block_past version zero ts none = refl
+block_past version (suc depth) ts none = absurd cc

@@ -142,8 +142,8 @@ module _ {A : Type 0} {P U : List Token → A → Type 0} {F : List Token → Ty
       (opens_then (keyword k) _ _ (keyword_opens k _ (λ t is. is)))
       (stops_by after (is_keyword k) no_word)
 
-wheres : Part IsReal (optional words.Where (condition E)) (optional words.Where (condition S)) (Begins behind_where) (read_optional words.Where read_condition)
-wheres = optional_part words.Where where_part condition_part (λ _ _ _. tt) behind_where (λ _ _. tt) (no_sign_1 signs.Comma refl refl) (λ t. no_word_1 t words.Where refl refl refl)
+wheres : (version : ℕ) → Part IsReal (optional words.Where (condition version E)) (optional words.Where (condition version S)) (Begins behind_where) (read_optional words.Where (read_condition version))
+wheres version = optional_part words.Where where_part (condition_part version) (λ _ _ _. tt) behind_where (λ _ _. tt) (no_sign_1 signs.Comma refl refl) (λ t. no_word_1 t words.Where refl refl refl)
 
 creates : Part IsReal (optional words.Create term) (optional words.Create term) (Begins behind_create) (read_optional words.Create read_term)
 creates = optional_part words.Create create_part term_part (λ _ _ _. tt) behind_create (λ _ _. tt) (no_sign_2 signs.Comma refl refl) (λ t. no_word_2 t words.Create refl refl)
@@ -165,8 +165,8 @@ AfterBody = Begins (is_sign signs.CloseBrace)
 abbrev pub empty_body : Body
 empty_body = record { clauses = empty_clauses; blocks = no_blocks }
 
-nothing_in : (room : Bool) (inner : List Token → Body → Type 0) → body_of S room inner [] empty_body
-nothing_in room inner = (
+nothing_in : (version : ℕ) (room : Bool) (inner : List Token → Body → Type 0) → body_of version S room inner [] empty_body
+nothing_in version room inner = (
   [],
   [],
   [],
@@ -196,9 +196,9 @@ nothing_in room inner = (
   ),
 )
 
-pub nothing_spelled : (depth : ℕ) → body S depth [] empty_body
-nothing_spelled zero = nothing_in false never
-nothing_spelled (suc depth) = nothing_in true (body S depth)
+pub nothing_spelled : (version depth : ℕ) → body version S depth [] empty_body
+nothing_spelled version zero = nothing_in version false never
+nothing_spelled version (suc depth) = nothing_in version true (body version S depth)
 
 braces_opens : (inner : List Token → Body → Type 0) (so_far : Blocks) → Opens (braces inner so_far) (λ t. is_sign signs.OpenBrace t ≡ true)
 braces_opens inner so_far = opens_then (sign signs.OpenBrace) _ _ (sign_opens signs.OpenBrace _ (λ t is. is))
@@ -292,11 +292,11 @@ module _ (V : List Token → Body → Type 0) where
   begins_2 : (cs : List Condition) (y : List Token) (w : Body) (rest : List Token) → tail_2 cs y w → AfterBody rest → Begins behind_where (y ++ rest)
   begins_2 cs = begins_optional words.Create term (tail_3 cs) behind_create behind_where (λ t. or_left (is_keyword words.Create t) (behind_create t)) (λ t. or_right (is_keyword words.Create t) (behind_create t)) (begins_3 cs)
 
-module _ (room : Bool) (I V : List Token → Body → Type 0) (read : List Token → Outcome Token Body) (blocks : Part IsReal (iterated (λ s. guarded room (braces I s)) no_blocks) (iterated (λ s. braces V s) no_blocks) AfterBody (read_blocks room read no_blocks)) where
-  body_of_part : Part IsReal (body_of E room I) (body_of S true V) AfterBody (read_body_of room read)
+module _ (version : ℕ) (room : Bool) (I V : List Token → Body → Type 0) (read : List Token → Outcome Token Body) (blocks : Part IsReal (iterated (λ s. guarded room (braces I s)) no_blocks) (iterated (λ s. braces V s) no_blocks) AfterBody (read_blocks room read no_blocks)) where
+  body_of_part : Part IsReal (body_of version E room I) (body_of version S true V) AfterBody (read_body_of version room read)
   unfolding read_body_of
   body_of_part =
-      then_part wheres
+      then_part (wheres version)
       (λ cs. then_part creates
       (λ ts. then_part links
       (λ ks. then_part collects
@@ -309,22 +309,22 @@ module _ (room : Bool) (I V : List Token → Body → Type 0) (read : List Token
       (λ cs y w rest h f. begins_2 V cs y w rest h f)
 
 -- with so many blocks one within another at most within the limits, and more of them beyond
-pub body_part : (depth deeper : ℕ) → depth < deeper → Part IsReal (body E depth) (body S deeper) AfterBody (read_body depth)
+pub body_part : (version depth deeper : ℕ) → depth < deeper → Part IsReal (body version E depth) (body version S deeper) AfterBody (read_body version depth)
 unfolding read_body
-body_part zero zero less = absurd (omega arith)
-body_part (suc depth) zero less = absurd (omega arith)
-body_part zero (suc deeper) less = body_of_part false never (body S deeper) Past (blocks_without_room never (body S deeper) Past (nothing_spelled deeper) no_blocks)
-body_part (suc depth) (suc deeper) less =
-    let inner = body_part depth deeper (omega arith) in
-    body_of_part true (body E depth) (body S deeper) (read_body depth) (blocks_with_room inner (nothing_spelled deeper) no_blocks)
+body_part version zero zero less = absurd (omega arith)
+body_part version (suc depth) zero less = absurd (omega arith)
+body_part version zero (suc deeper) less = body_of_part version false never (body version S deeper) Past (blocks_without_room never (body version S deeper) Past (nothing_spelled version deeper) no_blocks)
+body_part version (suc depth) (suc deeper) less =
+    let inner = body_part version depth deeper (omega arith) in
+    body_of_part version true (body version E depth) (body version S deeper) (read_body version depth) (blocks_with_room inner (nothing_spelled version deeper) no_blocks)
 
 -- more of them spell more
 
 braces_map : (I J : List Token → Body → Type 0) → ((x : List Token) (v : Body) → I x v → J x v) → (s : Blocks) (x : List Token) (v : Blocks) → braces I s x v → braces J s x v
 braces_map I J more s x v h = (h.0, h.1, h.2, h.3, h.4, (h.5.0, h.5.1, h.5.2, h.5.3, more h.5.0 h.5.2 h.5.4, h.5.5))
 
-body_of_map : (a b : Bool) (I J : List Token → Body → Type 0) → ((s : Blocks) (x : List Token) (v : Blocks) → guarded a (braces I s) x v → guarded b (braces J s) x v) → (x : List Token) (v : Body) → body_of S a I x v → body_of S b J x v
-body_of_map a b I J more x v h =
+body_of_map : (version : ℕ) (a b : Bool) (I J : List Token → Body → Type 0) → ((s : Blocks) (x : List Token) (v : Blocks) → guarded a (braces I s) x v → guarded b (braces J s) x v) → (x : List Token) (v : Body) → body_of version S a I x v → body_of version S b J x v
+body_of_map version a b I J more x v h =
     let h1 = h.5 in let h2 = h1.5 in let h3 = h2.5 in let h4 = h3.5 in (
       h.0,
       h.1,
@@ -355,19 +355,19 @@ body_of_map a b I J more x v h =
       ),
     )
 
-body_grows : (d e : ℕ) (x : List Token) (v : Body) → d ≤ e → body S d x v → body S e x v
-body_grows zero zero x v le h = h
-body_grows zero (suc e) x v le h = body_of_map false true never (body S e) (λ s x v k. absurd k) x v h
-body_grows (suc d) zero x v le h = absurd (omega arith)
-body_grows (suc d) (suc e) x v le h = body_of_map true true (body S d) (body S e) (braces_map (body S d) (body S e) (λ x v. body_grows d e x v (omega arith))) x v h
+body_grows : (version d e : ℕ) (x : List Token) (v : Body) → d ≤ e → body version S d x v → body version S e x v
+body_grows version zero zero x v le h = h
+body_grows version zero (suc e) x v le h = body_of_map version false true never (body version S e) (λ s x v k. absurd k) x v h
+body_grows version (suc d) zero x v le h = absurd (omega arith)
+body_grows version (suc d) (suc e) x v le h = body_of_map version true true (body version S d) (body version S e) (braces_map (body version S d) (body version S e) (λ x v. body_grows version d e x v (omega arith))) x v h
 
 -- a body within the limits, and at any depth
-pub some_body_part : (depth : ℕ) → Part IsReal (body E depth) (Some_of (body S)) AfterBody (read_body depth)
-some_body_part depth = some_part (body E depth) (body S) AfterBody (read_body depth) (suc depth) (λ n le. body_part depth n (omega arith)) (λ n m x v le h. body_grows n m x v le h)
+pub some_body_part : (version depth : ℕ) → Part IsReal (body version E depth) (Some_of (body version S)) AfterBody (read_body version depth)
+some_body_part version depth = some_part (body version E depth) (body version S) AfterBody (read_body version depth) (suc depth) (λ n le. body_part version depth n (omega arith)) (λ n m x v le h. body_grows version n m x v le h)
 
 -- the loop over blocks shrinks its text
-pub braces_shrinks : (depth : ℕ) (s : Blocks) (ts : List Token) (next : Blocks) (rest : List Token) → starts (is_sign signs.OpenBrace) ts ≡ true → guard (has_room depth) (read_braces (read_below depth) s) ts ≡ Read next rest → length rest < length ts
+pub braces_shrinks : (version depth : ℕ) (s : Blocks) (ts : List Token) (next : Blocks) (rest : List Token) → starts (is_sign signs.OpenBrace) ts ≡ true → guard (has_room depth) (read_braces (read_below version depth) s) ts ≡ Read next rest → length rest < length ts
 unfolding read_below
-braces_shrinks zero s ts next rest is was = absurd cc
-braces_shrinks (suc depth) s ts next rest is was =
-    shrinks (is_sign signs.OpenBrace) (λ _. true) (read_braces (read_body depth)) (braces_part (body_part depth (suc depth) (omega arith))) (braces_opens (body S (suc depth))) s ts next rest is was
+braces_shrinks version zero s ts next rest is was = absurd cc
+braces_shrinks version (suc depth) s ts next rest is was =
+    shrinks (is_sign signs.OpenBrace) (λ _. true) (read_braces (read_body version depth)) (braces_part (body_part version depth (suc depth) (omega arith))) (braces_opens (body version S (suc depth))) s ts next rest is was

@@ -38,11 +38,11 @@ abbrev pub AfterItem : List Token → Type 0
 AfterItem rest = Stops (is_sign signs.OpenParen) rest × Stops (is_sign signs.Comma) rest
 
 -- what stands in the braces of a block at the top
-abbrev pub inner_within : Groups → List Token → Body → Type 0
-inner_within g = body E (levels g.bare)
+abbrev pub inner_within : ℕ → Groups → List Token → Body → Type 0
+inner_within version g = body version E (levels g.bare)
 
-abbrev pub inner_spelled : Groups → List Token → Body → Type 0
-inner_spelled g tokens b = (depth : ℕ) × body S depth tokens b
+abbrev pub inner_spelled : ℕ → Groups → List Token → Body → Type 0
+inner_spelled version g tokens b = (depth : ℕ) × body version S depth tokens b
 
 module _ {A : Type 0} {P U : List Token → A → Type 0} {F : List Token → Type 0} {p : List Token → Outcome Token A} (k : Keyword) (item_of : List A → Item) (word : Part IsReal (keyword k) (keyword k) Always (read_keyword k)) (part : Part IsReal P U F p)
     (may : (t : Token) (later : List Token) → is_sign signs.Comma t ≡ true → F (t ∷ later)) (follow : (rest : List Token) → AfterItem rest → F rest) where
@@ -57,28 +57,28 @@ module _ {A : Type 0} {P U : List Token → A → Type 0} {F : List Token → Ty
 item_opens : {A : Type 0} (k : Keyword) (item_of : List A → Item) (U : List Token → A → Type 0) (W : Token → Type 0) → ((t : Token) → is_keyword k t ≡ true → W t) → (g : Groups) → Opens (item k item_of U g) W
 item_opens k item_of U W known g = opens_then (keyword k) _ W (keyword_opens k W known)
 
-top_opens : (W : Token → Type 0) → ((t : Token) → is_sign signs.OpenBrace t ≡ true → W t) → (g : Groups) → Opens (top_braces (inner_spelled g) g) W
-top_opens W known g = opens_then (placed (inner_spelled g)) _ W (opens_then (sign signs.OpenBrace) _ W (sign_opens signs.OpenBrace W known))
+top_opens : (W : Token → Type 0) → ((t : Token) → is_sign signs.OpenBrace t ≡ true → W t) → (version : ℕ) (g : Groups) → Opens (top_braces (inner_spelled version g) g) W
+top_opens W known version g = opens_then (placed (inner_spelled version g)) _ W (opens_then (sign signs.OpenBrace) _ W (sign_opens signs.OpenBrace W known))
 
-placed_part : (g : Groups) → Part IsReal (placed (inner_within g)) (placed (inner_spelled g)) Always (read_block (read_body (levels g.bare)))
+placed_part : (version : ℕ) (g : Groups) → Part IsReal (placed (inner_within version g)) (placed (inner_spelled version g)) Always (read_block (read_body version (levels g.bare)))
 unfolding read_block
-placed_part g = do
+placed_part version g = do
   opening ← sign_part signs.OpenBrace refl
-  then_opens (λ t. is_sign signs.CloseBrace t ≡ true) (some_body_part (levels g.bare))
+  then_opens (λ t. is_sign signs.CloseBrace t ≡ true) (some_body_part version (levels g.bare))
       (λ b. do
         close ← sign_part signs.CloseBrace refl
         give_part (record { body = b; span = from_to opening close }))
       (λ b. opens_then (sign signs.CloseBrace) _ _ (sign_opens signs.CloseBrace _ (λ t is. is)))
       (λ t later is. is)
 
-top_part : (g : Groups) → Part IsReal (top_braces (inner_within g) g) (top_braces (inner_spelled g) g) Always (read_top_braces g)
+top_part : (version : ℕ) (g : Groups) → Part IsReal (top_braces (inner_within version g) g) (top_braces (inner_spelled version g) g) Always (read_top_braces version g)
 unfolding read_top_braces
-top_part g = do
-  p ← placed_part g
+top_part version g = do
+  p ← placed_part version g
   give_part (nest g p.body p.span)
 
-wheres : (g : Groups) → Part IsReal (item words.Where conditions_item (condition E) g) (item words.Where conditions_item (condition S) g) AfterItem (read_item words.Where conditions_item read_condition g)
-wheres = item_part words.Where conditions_item where_part condition_part (λ _ _ _. tt) (λ _ _. tt)
+wheres : (version : ℕ) (g : Groups) → Part IsReal (item words.Where conditions_item (condition version E) g) (item words.Where conditions_item (condition version S) g) AfterItem (read_item words.Where conditions_item (read_condition version) g)
+wheres version = item_part words.Where conditions_item where_part (condition_part version) (λ _ _ _. tt) (λ _ _. tt)
 
 creates : (g : Groups) → Part IsReal (item words.Create creates_item term g) (item words.Create creates_item term g) AfterItem (read_item words.Create creates_item read_term g)
 creates = item_part words.Create creates_item create_part term_part (λ _ _ _. tt) (λ _ _. tt)
@@ -102,9 +102,9 @@ second t = or_right (is_keyword words.Where t) (is_keyword words.Create t || thi
 
 -- by the sorts of items, from the last on
 
-module _ (g : Groups) where
+module _ (version : ℕ) (g : Groups) where
   abbrev from_collects : List Token → Groups → Type 0
-  from_collects = either (item words.Collect collects_item collect g) (top_braces (inner_spelled g) g)
+  from_collects = either (item words.Collect collects_item collect g) (top_braces (inner_spelled version g) g)
 
   abbrev from_links : List Token → Groups → Type 0
   from_links = either (item words.Link links_item link g) from_collects
@@ -113,7 +113,7 @@ module _ (g : Groups) where
   from_creates = either (item words.Create creates_item term g) from_links
 
   opens_4 : (W : Token → Type 0) → ((t : Token) → is_keyword words.Collect t ≡ true → W t) → ((t : Token) → is_sign signs.OpenBrace t ≡ true → W t) → Opens from_collects W
-  opens_4 W a b = opens_either (item words.Collect collects_item collect g) (top_braces (inner_spelled g) g) W (item_opens words.Collect collects_item collect W a g) (top_opens W b g)
+  opens_4 W a b = opens_either (item words.Collect collects_item collect g) (top_braces (inner_spelled version g) g) W (item_opens words.Collect collects_item collect W a g) (top_opens W b version g)
 
   opens_3 : (W : Token → Type 0) → ((t : Token) → is_keyword words.Link t ≡ true → W t) → ((t : Token) → is_keyword words.Collect t ≡ true → W t) → ((t : Token) → is_sign signs.OpenBrace t ≡ true → W t) → Opens from_links W
   opens_3 W l a b = opens_either (item words.Link links_item link g) from_collects W (item_opens words.Link links_item link W l g) (opens_4 W a b)
@@ -121,26 +121,26 @@ module _ (g : Groups) where
   opens_2 : (W : Token → Type 0) → ((t : Token) → is_keyword words.Create t ≡ true → W t) → ((t : Token) → is_keyword words.Link t ≡ true → W t) → ((t : Token) → is_keyword words.Collect t ≡ true → W t) → ((t : Token) → is_sign signs.OpenBrace t ≡ true → W t) → Opens from_creates W
   opens_2 W c l a b = opens_either (item words.Create creates_item term g) from_links W (item_opens words.Create creates_item term W c g) (opens_3 W l a b)
 
-  pub item_step_part : Part IsReal (item_step E inner_within g) (item_step S inner_spelled g) AfterItem (read_item_step g)
+  pub item_step_part : Part IsReal (item_step version E (inner_within version) g) (item_step version S (inner_spelled version) g) AfterItem (read_item_step version g)
   unfolding read_item_step
   item_step_part =
-      either_part (is_keyword words.Where) (wheres g)
+      either_part (is_keyword words.Where) (wheres version g)
       (either_part (is_keyword words.Create) (creates g)
       (either_part (is_keyword words.Link) (links g)
-      (either_part (is_keyword words.Collect) (collects g) (weaken_part AfterItem (λ _ _. tt) (top_part g))
+      (either_part (is_keyword words.Collect) (collects g) (weaken_part AfterItem (λ _ _. tt) (top_part version g))
       (item_opens words.Collect collects_item collect _ (λ t is. is) g)
-      (top_opens _ (λ t. sign_no_keyword signs.OpenBrace words.Collect t.kind) g))
+      (top_opens _ (λ t. sign_no_keyword signs.OpenBrace words.Collect t.kind) version g))
       (item_opens words.Link links_item link _ (λ t is. is) g)
       (opens_4 _ (λ t. other_keyword words.Collect words.Link t.kind refl) (λ t. sign_no_keyword signs.OpenBrace words.Link t.kind)))
       (item_opens words.Create creates_item term _ (λ t is. is) g)
       (opens_3 _ (λ t. other_keyword words.Link words.Create t.kind refl) (λ t. other_keyword words.Collect words.Create t.kind refl) (λ t. sign_no_keyword signs.OpenBrace words.Create t.kind)))
-      (item_opens words.Where conditions_item (condition S) _ (λ t is. is) g)
+      (item_opens words.Where conditions_item (condition version S) _ (λ t is. is) g)
       (opens_2 _ (λ t. other_keyword words.Create words.Where t.kind refl) (λ t. other_keyword words.Link words.Where t.kind refl) (λ t. other_keyword words.Collect words.Where t.kind refl) (λ t. sign_no_keyword signs.OpenBrace words.Where t.kind))
 
-  pub item_step_opens : Opens (item_step S inner_spelled g) (λ t. begins_item t ≡ true)
+  pub item_step_opens : Opens (item_step version S (inner_spelled version) g) (λ t. begins_item t ≡ true)
   item_step_opens =
-      opens_either (item words.Where conditions_item (condition S) g) from_creates _
-      (item_opens words.Where conditions_item (condition S) _ (λ t. or_left (is_keyword words.Where t) _) g)
+      opens_either (item words.Where conditions_item (condition version S) g) from_creates _
+      (item_opens words.Where conditions_item (condition version S) _ (λ t. or_left (is_keyword words.Where t) _) g)
       (opens_2 _
       (λ t is. second t (or_left (is_keyword words.Create t) (third t) is))
       (λ t is. second t (or_right (is_keyword words.Create t) (third t) (or_left (is_keyword words.Link t) (fourth t) is)))
@@ -165,10 +165,10 @@ either_way : (a b : Bool) (W : Type 0) → (a ≡ true → W) → (b ≡ true �
 either_way true b W f g e = f refl
 either_way false b W f g e = g e
 
-item_opened : (g : Groups) (t : Token) → begins_item t ≡ true → (x : List Token) × (v : Groups) × item_step S inner_spelled g (t ∷ x) v × Every IsReal x
-item_opened g t is = by_where (is_keyword words.Where t) refl
+item_opened : (version : ℕ) (g : Groups) (t : Token) → begins_item t ≡ true → (x : List Token) × (v : Groups) × item_step version S (inner_spelled version) g (t ∷ x) v × Every IsReal x
+item_opened version g t is = by_where (is_keyword words.Where t) refl
   where
-    by_brace : is_sign signs.OpenBrace t ≡ true → (x : List Token) × (v : Groups) × item_step S inner_spelled g (t ∷ x) v × Every IsReal x
+    by_brace : is_sign signs.OpenBrace t ≡ true → (x : List Token) × (v : Groups) × item_step version S (inner_spelled version) g (t ∷ x) v × Every IsReal x
     by_brace e =
         let close = made (kinds.Sign signs.CloseBrace) in (
           close ∷ [],
@@ -184,28 +184,28 @@ item_opened g t is = by_where (is_keyword words.Where t) refl
               t.span,
               refl,
               is_that signs.OpenBrace t e,
-              ([], close ∷ [], empty_body, refl, (0, nothing_spelled 0), (close ∷ [], [], somewhere, refl, (close, refl, refl), (refl, refl))),
+              ([], close ∷ [], empty_body, refl, (0, nothing_spelled version 0), (close ∷ [], [], somewhere, refl, (close, refl, refl), (refl, refl))),
             ),
             (refl, refl),
           )))),
           ((125 ∷ [], refl), tt),
         )
 
-    by_collect : (b : Bool) → is_keyword words.Collect t ≡ b → (b || is_sign signs.OpenBrace t) ≡ true → (x : List Token) × (v : Groups) × item_step S inner_spelled g (t ∷ x) v × Every IsReal x
+    by_collect : (b : Bool) → is_keyword words.Collect t ≡ b → (b || is_sign signs.OpenBrace t) ≡ true → (x : List Token) × (v : Groups) × item_step version S (inner_spelled version) g (t ∷ x) v × Every IsReal x
     by_collect false e o = by_brace o
     by_collect true e o = let p = opened words.Collect collects_item (listed_part collect_part (λ _ _ _. tt)) g t e in (p.0, p.1, inr (inr (inr (inl p.2))), p.3)
 
-    by_link : (b : Bool) → is_keyword words.Link t ≡ b → (b || fourth t) ≡ true → (x : List Token) × (v : Groups) × item_step S inner_spelled g (t ∷ x) v × Every IsReal x
+    by_link : (b : Bool) → is_keyword words.Link t ≡ b → (b || fourth t) ≡ true → (x : List Token) × (v : Groups) × item_step version S (inner_spelled version) g (t ∷ x) v × Every IsReal x
     by_link false e o = by_collect (is_keyword words.Collect t) refl o
     by_link true e o = let p = opened words.Link links_item (listed_part link_part (λ t later is. other_sign signs.Comma signs.OpenParen t.kind refl is)) g t e in (p.0, p.1, inr (inr (inl p.2)), p.3)
 
-    by_create : (b : Bool) → is_keyword words.Create t ≡ b → (b || third t) ≡ true → (x : List Token) × (v : Groups) × item_step S inner_spelled g (t ∷ x) v × Every IsReal x
+    by_create : (b : Bool) → is_keyword words.Create t ≡ b → (b || third t) ≡ true → (x : List Token) × (v : Groups) × item_step version S (inner_spelled version) g (t ∷ x) v × Every IsReal x
     by_create false e o = by_link (is_keyword words.Link t) refl o
     by_create true e o = let p = opened words.Create creates_item (listed_part term_part (λ _ _ _. tt)) g t e in (p.0, p.1, inr (inl p.2), p.3)
 
-    by_where : (b : Bool) → is_keyword words.Where t ≡ b → (x : List Token) × (v : Groups) × item_step S inner_spelled g (t ∷ x) v × Every IsReal x
+    by_where : (b : Bool) → is_keyword words.Where t ≡ b → (x : List Token) × (v : Groups) × item_step version S (inner_spelled version) g (t ∷ x) v × Every IsReal x
     by_where false e = by_create (is_keyword words.Create t) refl (behind_false (is_keyword words.Where t) (is_keyword words.Create t || third t) e is)
-    by_where true e = let p = opened words.Where conditions_item (listed_part condition_part (λ _ _ _. tt)) g t e in (p.0, p.1, inl p.2, p.3)
+    by_where true e = let p = opened words.Where conditions_item (listed_part (condition_part version) (λ _ _ _. tt)) g t e in (p.0, p.1, inl p.2, p.3)
 
 -- ---- the whole
 
@@ -235,10 +235,10 @@ after_items rest f = (
   stops_by (is_keyword words.Output) (is_sign signs.Comma) (λ t. keyword_no_sign words.Output signs.Comma t.kind) rest f,
 )
 
-items_part : Part IsReal (iterated (item_step E inner_within) no_groups) (iterated (item_step S inner_spelled) no_groups) (Begins (is_keyword words.Output)) (iterate begins_item read_item_step no_groups)
-items_part =
-    iterate_part begins_item (λ _. true) (item_step E inner_within) (item_step S inner_spelled) AfterItem (Begins (is_keyword words.Output)) read_item_step item_step_part item_step_opens no_item
-    (λ t later is. (no_begin signs.OpenParen t refl is, no_begin signs.Comma t refl is)) after_items item_opened no_groups
+items_part : (version : ℕ) → Part IsReal (iterated (item_step version E (inner_within version)) no_groups) (iterated (item_step version S (inner_spelled version)) no_groups) (Begins (is_keyword words.Output)) (iterate begins_item (read_item_step version) no_groups)
+items_part version =
+    iterate_part begins_item (λ _. true) (item_step version E (inner_within version)) (item_step version S (inner_spelled version)) AfterItem (Begins (is_keyword words.Output)) (read_item_step version) (item_step_part version) (item_step_opens version) no_item
+    (λ t later is. (no_begin signs.OpenParen t refl is, no_begin signs.Comma t refl is)) after_items (item_opened version) no_groups
 
 is_input : is_found words.Input (keyword_of (codes "INPUT")) ≡ true
 unfolding keyword_of
@@ -263,15 +263,16 @@ version_part =
     other_is : (k : TokenKind) (v : ℕ) → cond (is_other_kind k) (Some 0) None ≡ Some v → is_other_kind k ≡ true
     other_is k v e = other_if (is_other_kind k) v e
 
-    known_if : (a b : Bool) (v : ℕ) → cond a (Some 1) (cond b (Some 2) None) ≡ Some v → cond a false (cond b false true) ≡ false
-    known_if true b v e = refl
-    known_if false true v e = refl
-    known_if false false v e = absurd cc
+    known_if : (a b c : Bool) (v : ℕ) → cond a (Some 1) (cond b (Some 2) (cond c (Some 3) None)) ≡ Some v → cond a false (cond b false (cond c false true)) ≡ false
+    known_if true b c v e = refl
+    known_if false true c v e = refl
+    known_if false false true v e = refl
+    known_if false false false v e = absurd cc
 
     known_is : (k : TokenKind) (v : ℕ) → version_kind_value k ≡ Some v → is_other_kind k ≡ false
     known_is (kinds.Name n) v e = refl
     known_is (kinds.Quoted n) v e = refl
-    known_is (kinds.Int i) v e = known_if (int_eq i (pos 1)) (int_eq i (pos 2)) v e
+    known_is (kinds.Int i) v e = known_if (int_eq i (pos 1)) (int_eq i (pos 2)) (int_eq i (pos 3)) v e
     known_is (kinds.Sign n) v e = refl
 
 -- a text's head is no keyword
@@ -327,7 +328,7 @@ query_part =
     (λ n. do
       _ ← keyword_part words.Input (codes "INPUT") is_input (refl, (refl, (refl, (refl, (refl, tt)))))
       input ← name_part
-      then_opens (λ t. is_keyword words.Output t ≡ true) items_part
+      then_opens (λ t. is_keyword words.Output t ≡ true) (items_part n)
           (λ groups. do
             _ ← keyword_part words.Output (codes "OUTPUT") is_output (refl, (refl, (refl, (refl, (refl, (refl, tt))))))
             output ← name_part
@@ -338,5 +339,5 @@ query_part =
     (λ t later is. is)
 
 -- the loop over items shrinks its text
-pub items_shrink : (g : Groups) (ts : List Token) (next : Groups) (rest : List Token) → starts begins_item ts ≡ true → read_item_step g ts ≡ Read next rest → length rest < length ts
-items_shrink = shrinks begins_item (λ _. true) read_item_step item_step_part item_step_opens
+pub items_shrink : (version : ℕ) (g : Groups) (ts : List Token) (next : Groups) (rest : List Token) → starts begins_item ts ≡ true → read_item_step version g ts ≡ Read next rest → length rest < length ts
+items_shrink version = shrinks begins_item (λ _. true) (read_item_step version) (item_step_part version) (item_step_opens version)

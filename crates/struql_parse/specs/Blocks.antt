@@ -61,11 +61,11 @@ braces inner so_far = do
   close ← sign signs.CloseBrace
   nothing (onto_end so_far b (from_to opening close))
 
-module _ (expression : List Token → Counted → Type 0) where
+module _ (version : ℕ) (expression : List Token → Counted → Type 0) where
   -- a body, by whether there is room for blocks in it and by what they have in them
   abbrev pub body_of : Bool → (List Token → Body → Type 0) → List Token → Body → Type 0
   body_of room inner = do
-    cs ← optional words.Where (condition expression)
+    cs ← optional words.Where (condition version expression)
     ts ← optional words.Create term
     ks ← optional words.Link link
     os ← optional words.Collect collect
@@ -220,11 +220,11 @@ top_braces inner g = do
   p ← placed inner
   nothing (nest g p.body p.span)
 
--- one more item, by what a condition's expression is, and what is in braces
-abbrev pub item_step : (List Token → Counted → Type 0) → (Groups → List Token → Body → Type 0)
-    → Groups → List Token → Groups → Type 0
-item_step expression inner g =
-    either (item words.Where conditions_item (condition expression) g)
+-- one more item, by the version, what a condition's expression is, and what is in braces
+abbrev pub item_step : ℕ → (List Token → Counted → Type 0)
+    → (Groups → List Token → Body → Type 0) → Groups → List Token → Groups → Type 0
+item_step version expression inner g =
+    either (item words.Where conditions_item (condition version expression) g)
     (either (item words.Create creates_item term g)
     (either (item words.Link links_item link g)
     (either (item words.Collect collects_item collect g)
@@ -235,7 +235,7 @@ abbrev pub levels : Option Bare → ℕ
 levels None = 15
 levels (Some b) = 14
 
--- 1 or 2, and where `all` is true any other number
+-- 1, 2 or 3, and any other number if `all` is true
 abbrev pub version : Bool → List Token → ℕ → Type 0
 version false = one version_value
 version true = either (one other_version_value) (one version_value)
@@ -246,12 +246,12 @@ head all = either (one head_value >> version all) (nothing 1)
 
 -- a query, by what its expressions are and what is in braces at the top
 abbrev pub query_of : Bool → (List Token → Counted → Type 0)
-    → (Groups → List Token → Body → Type 0) → List Token → Query → Type 0
+    → (ℕ → Groups → List Token → Body → Type 0) → List Token → Query → Type 0
 query_of all expression inner = do
   n ← head all
   keyword words.Input
   input ← name
-  groups ← iterated (item_step expression inner) no_groups
+  groups ← iterated (item_step n expression (inner n)) no_groups
   keyword words.Output
   output ← name
   nothing (record {
@@ -263,10 +263,11 @@ query_of all expression inner = do
 
 -- within the limits of this program
 abbrev pub query_within : List Token → Query → Type 0
-query_within = query_of false expression_within (λ g. body expression_within (levels g.bare))
+query_within =
+    query_of false expression_within (λ version g. body version expression_within (levels g.bare))
 
 -- at all: any version, and blocks as deep as you like
 abbrev pub query_spelled : List Token → Query → Type 0
 query_spelled =
     query_of true expression_spelled
-    (λ g tokens b. (depth : ℕ) × body expression_spelled depth tokens b)
+    (λ version g tokens b. (depth : ℕ) × body version expression_spelled depth tokens b)

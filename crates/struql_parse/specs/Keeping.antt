@@ -1,18 +1,19 @@
 -- Reading an item of a clause leaves no more tokens than there were.
+use Rattle.std.specs.Prelude.{ℕ}
 use Rattle.struql_text.specs.Reading.{read_condition, read_term, read_link, read_collect}
 use Rattle.struql_text.proofs.Shorter.{Keeps}
 use Rattle.struql_text.proofs.ListParts.{part_keeps}
 use Rattle.struql_text.proofs.TermParts.{term_part, link_part, collect_part}
 use Rattle.struql_text.proofs.ConditionParts.{condition_part}
 
-pub condition_keeps : Keeps read_condition
-condition_keeps = part_keeps condition_part
+pub condition_keeps : (version : ℕ) → Keeps (read_condition version)
+condition_keeps version = part_keeps (condition_part version)
 
-pub term_keeps : Keeps read_term
-term_keeps = part_keeps term_part
+pub term_keeps : (version : ℕ) → Keeps read_term
+term_keeps version = part_keeps term_part
 
-pub link_keeps : Keeps read_link
-link_keeps = part_keeps link_part
+pub link_keeps : (version : ℕ) → Keeps read_link
+link_keeps version = part_keeps link_part
 
-pub collect_keeps : Keeps read_collect
-collect_keeps = part_keeps collect_part
+pub collect_keeps : (version : ℕ) → Keeps read_collect
+collect_keeps version = part_keeps collect_part

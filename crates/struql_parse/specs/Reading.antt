@@ -39,11 +39,11 @@ abbrev pub read_blocks : Bool → (List Token → Outcome Token Body) → Blocks
 read_blocks room inner =
     iterate (is_sign signs.OpenBrace) (λ so_far. guard room (read_braces inner so_far))
 
--- a body, by whether there is room for blocks in it
-unfoldable pub read_body_of : Bool → (List Token → Outcome Token Body) → List Token
+-- a body, by the version and by whether there is room for blocks in it
+unfoldable pub read_body_of : ℕ → Bool → (List Token → Outcome Token Body) → List Token
     → Outcome Token Body
-read_body_of room inner = do
-  cs ← read_optional words.Where read_condition
+read_body_of version room inner = do
+  cs ← read_optional words.Where (read_condition version)
   ts ← read_optional words.Create read_term
   ks ← read_optional words.Link read_link
   os ← read_optional words.Collect read_collect
@@ -54,9 +54,9 @@ read_body_of room inner = do
   })
 
 -- a body with at most `depth` blocks one within another in it
-unfoldable pub read_body : ℕ → List Token → Outcome Token Body
-read_body zero = read_body_of false Past
-read_body (suc depth) = read_body_of true (read_body depth)
+unfoldable pub read_body : ℕ → ℕ → List Token → Outcome Token Body
+read_body version zero = read_body_of version false Past
+read_body version (suc depth) = read_body_of version true (read_body version depth)
 
 -- one more block may be opened
 abbrev pub has_room : ℕ → Bool
@@ -64,9 +64,9 @@ has_room zero = false
 has_room (suc depth) = true
 
 -- what is in the braces of a block, with at most n blocks still to open
-unfoldable pub read_below : ℕ → List Token → Outcome Token Body
-read_below zero = Past
-read_below (suc depth) = read_body depth
+unfoldable pub read_below : ℕ → ℕ → List Token → Outcome Token Body
+read_below version zero = Past
+read_below version (suc depth) = read_body version depth
 
 -- a block in braces, with its place
 unfoldable pub read_block : (List Token → Outcome Token Body) → List Token → Outcome Token Placed
@@ -87,19 +87,20 @@ read_item k item_of p g = do
   give (join g place (item_of items))
 
 -- a block in braces at the top
-unfoldable pub read_top_braces : Groups → List Token → Outcome Token Groups
-read_top_braces g = do
-  p ← read_block (read_body (levels g.bare))
+unfoldable pub read_top_braces : ℕ → Groups → List Token → Outcome Token Groups
+read_top_braces version g = do
+  p ← read_block (read_body version (levels g.bare))
   give (nest g p.body p.span)
 
 -- one more item of the top
-unfoldable pub read_item_step : Groups → List Token → Outcome Token Groups
-read_item_step g =
-    choose (is_keyword words.Where) (read_item words.Where conditions_item read_condition g)
+unfoldable pub read_item_step : ℕ → Groups → List Token → Outcome Token Groups
+read_item_step version g =
+    choose (is_keyword words.Where)
+    (read_item words.Where conditions_item (read_condition version) g)
     (choose (is_keyword words.Create) (read_item words.Create creates_item read_term g)
     (choose (is_keyword words.Link) (read_item words.Link links_item read_link g)
     (choose (is_keyword words.Collect) (read_item words.Collect collects_item read_collect g)
-    (read_top_braces g))))
+    (read_top_braces version g))))
 
 -- the token begins an item of the top
 abbrev pub begins_item : Token → Bool
@@ -122,7 +123,7 @@ read_query = do
   n ← read_head
   read_keyword words.Input
   input ← read_name
-  groups ← iterate begins_item read_item_step no_groups
+  groups ← iterate begins_item (read_item_step n) no_groups
   read_keyword words.Output
   output ← read_name
   finish (record { version = n; input = input.text; blocks = grouped groups; output = output.text })

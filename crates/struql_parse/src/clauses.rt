@@ -29,17 +29,18 @@ pub struct Inner {
 #[tactic(auto, unfolding(crate::specs::Reading::read_body_of))]
 pub fn body_at<'a>(
     alloc: Global,
+    version: u8,
     depth: u32,
     tokens: &'a [Token],
 ) -> Result<(Inner, &'a [Token]), Halt<'a, Token>>
     ensures { Gives (λ x. body_found x.0) (λ x. x.1.now) result
-        (read_body_of (has_room depth) (read_below depth) tokens.now) }
+        (read_body_of version (has_room depth) (read_below version depth) tokens.now) }
 {
-    let (conditions, rest) = clause_at(alloc, Keyword::Where, tokens)?;
-    let (creates, rest) = clause_at(alloc, Keyword::Create, rest)?;
-    let (links, rest) = clause_at(alloc, Keyword::Link, rest)?;
-    let (collects, rest) = clause_at(alloc, Keyword::Collect, rest)?;
-    let (blocks, rest) = blocks_at(alloc, depth, rest)?;
+    let (conditions, rest) = clause_at(alloc, version, Keyword::Where, tokens)?;
+    let (creates, rest) = clause_at(alloc, version, Keyword::Create, rest)?;
+    let (links, rest) = clause_at(alloc, version, Keyword::Link, rest)?;
+    let (collects, rest) = clause_at(alloc, version, Keyword::Collect, rest)?;
+    let (blocks, rest) = blocks_at(alloc, version, depth, rest)?;
     Ok((
         Inner {
             conditions,
@@ -56,16 +57,17 @@ pub fn body_at<'a>(
 #[cycle(body)]
 fn blocks_at<'a>(
     alloc: Global,
+    version: u8,
     depth: u32,
     tokens: &'a [Token],
 ) -> Result<(Vec<Block>, &'a [Token]), Halt<'a, Token>>
     ensures { Gives (λ x. blocks_written x.0.items) (λ x. x.1.now) result
-        (read_blocks (has_room depth) (read_below depth) no_blocks tokens.now) }
+        (read_blocks (has_room depth) (read_below version depth) no_blocks tokens.now) }
 {
     let mut blocks = Vec::new(alloc);
     let mut rest = tokens;
     'list: while has_sign(rest, Sign::OpenBrace) {
-        let (block, after) = block_at(alloc, depth, rest)?;
+        let (block, after) = block_at(alloc, version, depth, rest)?;
         blocks.push(block)?;
         rest = after;
     }
@@ -76,16 +78,17 @@ fn blocks_at<'a>(
 #[cycle(body)]
 fn block_at<'a>(
     alloc: Global,
+    version: u8,
     depth: u32,
     tokens: &'a [Token],
 ) -> Result<(Block, &'a [Token]), Halt<'a, Token>>
     ensures { Gives (λ x. placed_found x.0) (λ x. x.1.now) result
-        (guard (has_room depth) (read_block (read_below depth)) tokens.now) }
+        (guard (has_room depth) (read_block (read_below version depth)) tokens.now) }
 {
     if depth == 0 {
         Err(Halt::TooDeep(tokens))
     } else {
-        braces_at(alloc, depth - 1, tokens)
+        braces_at(alloc, version, depth - 1, tokens)
     }
 }
 
@@ -94,14 +97,15 @@ fn block_at<'a>(
 #[tactic(auto, unfolding(crate::specs::Reading::read_block))]
 pub fn braces_at<'a>(
     alloc: Global,
+    version: u8,
     depth: u32,
     tokens: &'a [Token],
 ) -> Result<(Block, &'a [Token]), Halt<'a, Token>>
     ensures { Gives (λ x. placed_found x.0) (λ x. x.1.now) result
-        (read_block (read_body_of (has_room depth) (read_below depth)) tokens.now) }
+        (read_block (read_body_of version (has_room depth) (read_below version depth)) tokens.now) }
 {
     let (open, rest) = sign_at(tokens, Sign::OpenBrace)?;
-    let (inner, rest) = body_at(alloc, depth, rest)?;
+    let (inner, rest) = body_at(alloc, version, depth, rest)?;
     let (close, rest) = sign_at(rest, Sign::CloseBrace)?;
     let span = from_to(open, close);
     Ok((

@@ -18,8 +18,12 @@ impl Listed for Condition {
 
     ghost read = { read_condition };
 
-    fn item_at(alloc: Global, tokens: &[Token]) -> Result<(Condition, &[Token]), Halt<Token>> {
-        condition_at(alloc, tokens)
+    fn item_at(
+        alloc: Global,
+        version: u8,
+        tokens: &[Token],
+    ) -> Result<(Condition, &[Token]), Halt<Token>> {
+        condition_at(alloc, version, tokens)
     }
 
     ghost keeps = { condition_keeps };
@@ -30,9 +34,13 @@ impl Listed for SkolemTerm {
 
     ghost written = { tree.term_written };
 
-    ghost read = { read_term };
+    ghost read = { λ _. read_term };
 
-    fn item_at(alloc: Global, tokens: &[Token]) -> Result<(SkolemTerm, &[Token]), Halt<Token>> {
+    fn item_at(
+        alloc: Global,
+        _version: u8,
+        tokens: &[Token],
+    ) -> Result<(SkolemTerm, &[Token]), Halt<Token>> {
         term_at(alloc, tokens)
     }
 
@@ -44,9 +52,13 @@ impl Listed for Link {
 
     ghost written = { tree.link_written };
 
-    ghost read = { read_link };
+    ghost read = { λ _. read_link };
 
-    fn item_at(alloc: Global, tokens: &[Token]) -> Result<(Link, &[Token]), Halt<Token>> {
+    fn item_at(
+        alloc: Global,
+        _version: u8,
+        tokens: &[Token],
+    ) -> Result<(Link, &[Token]), Halt<Token>> {
         link_at(alloc, tokens)
     }
 
@@ -58,9 +70,13 @@ impl Listed for Collect {
 
     ghost written = { tree.collect_written };
 
-    ghost read = { read_collect };
+    ghost read = { λ _. read_collect };
 
-    fn item_at(alloc: Global, tokens: &[Token]) -> Result<(Collect, &[Token]), Halt<Token>> {
+    fn item_at(
+        alloc: Global,
+        _version: u8,
+        tokens: &[Token],
+    ) -> Result<(Collect, &[Token]), Halt<Token>> {
         collect_at(alloc, tokens)
     }
 

@@ -259,14 +259,15 @@ fn join(alloc: Global, groups: Groups, place: Span, item: Item) -> Result<Groups
 #[tactic(auto, using(crate::proofs::BlockLoop::body_by_room), unfolding(crate::specs::Reading::read_top_braces))]
 fn top_block_at(
     alloc: Global,
+    version: u8,
     groups: Groups,
     tokens: &[Token],
 ) -> Result<(Groups, &[Token]), Halt<Token>>
     ensures { Gives (λ x. groups_found x.0) (λ x. x.1.now) result
-        (read_top_braces (groups_found groups) tokens.now) }
+        (read_top_braces version (groups_found groups) tokens.now) }
 {
     let depth = if groups.bare.is_some() { 14 } else { 15 };
-    let (block, rest) = braces_at(alloc, depth, tokens)?;
+    let (block, rest) = braces_at(alloc, version, depth, tokens)?;
     let groups = nest(groups, block)?;
     Ok((groups, rest))
 }
@@ -275,34 +276,35 @@ fn top_block_at(
 #[tactic(auto, unfolding(crate::specs::Reading::read_item_step, crate::specs::Reading::read_item))]
 fn item_at(
     alloc: Global,
+    version: u8,
     groups: Groups,
     tokens: &[Token],
 ) -> Result<(Groups, &[Token]), Halt<Token>>
     ensures { Gives (λ x. groups_found x.0) (λ x. x.1.now) result
-        (read_item_step (groups_found groups) tokens.now) }
+        (read_item_step version (groups_found groups) tokens.now) }
 {
     if has_keyword(tokens, Keyword::Where) {
         let (place, rest) = keyword_at(tokens, Keyword::Where)?;
-        let (items, rest) = list_at(alloc, rest)?;
+        let (items, rest) = list_at(alloc, version, rest)?;
         let groups = join(alloc, groups, place, Item::Conditions(items))?;
         Ok((groups, rest))
     } else if has_keyword(tokens, Keyword::Create) {
         let (place, rest) = keyword_at(tokens, Keyword::Create)?;
-        let (items, rest) = list_at(alloc, rest)?;
+        let (items, rest) = list_at(alloc, version, rest)?;
         let groups = join(alloc, groups, place, Item::Creates(items))?;
         Ok((groups, rest))
     } else if has_keyword(tokens, Keyword::Link) {
         let (place, rest) = keyword_at(tokens, Keyword::Link)?;
-        let (items, rest) = list_at(alloc, rest)?;
+        let (items, rest) = list_at(alloc, version, rest)?;
         let groups = join(alloc, groups, place, Item::Links(items))?;
         Ok((groups, rest))
     } else if has_keyword(tokens, Keyword::Collect) {
         let (place, rest) = keyword_at(tokens, Keyword::Collect)?;
-        let (items, rest) = list_at(alloc, rest)?;
+        let (items, rest) = list_at(alloc, version, rest)?;
         let groups = join(alloc, groups, place, Item::Collects(items))?;
         Ok((groups, rest))
     } else {
-        top_block_at(alloc, groups, tokens)
+        top_block_at(alloc, version, groups, tokens)
     }
 }
 
@@ -317,9 +319,9 @@ fn has_item(tokens: &[Token]) -> bool
 }
 
 /// The items between INPUT and OUTPUT.
-fn items_at(alloc: Global, tokens: &[Token]) -> Result<(Groups, &[Token]), Halt<Token>>
+fn items_at(alloc: Global, version: u8, tokens: &[Token]) -> Result<(Groups, &[Token]), Halt<Token>>
     ensures { Gives (λ x. groups_found x.0) (λ x. x.1.now) result
-        (iterate begins_item read_item_step no_groups tokens.now) }
+        (iterate begins_item (read_item_step version) no_groups tokens.now) }
 {
     let mut groups = Groups {
         closed: Vec::new(alloc),
@@ -327,7 +329,7 @@ fn items_at(alloc: Global, tokens: &[Token]) -> Result<(Groups, &[Token]), Halt<
     };
     let mut rest = tokens;
     'list: while has_item(rest) {
-        let (more, after) = item_at(alloc, groups, rest)?;
+        let (more, after) = item_at(alloc, version, groups, rest)?;
         groups = more;
         rest = after;
     }
@@ -372,7 +374,7 @@ fn has_other_version(tokens: &[Token]) -> bool
     match tokens {
         [] => false,
         [first, ..] => match &first.kind {
-            TokenKind::Int(n) => *n != 1 && *n != 2,
+            TokenKind::Int(n) => *n != 1 && *n != 2 && *n != 3,
             TokenKind::Sign(_) | TokenKind::Quoted(_) | TokenKind::Name(_) => false,
         },
     }
@@ -393,6 +395,8 @@ fn version_at(tokens: &[Token]) -> Result<(u8, &[Token]), Halt<Token>>
         Ok((1, rest))
     } else if *n == 2 {
         Ok((2, rest))
+    } else if *n == 3 {
+        Ok((3, rest))
     } else {
         Err(Halt::TooDeep(tokens))
     }
@@ -416,7 +420,7 @@ fn whole_at(alloc: Global, tokens: &[Token]) -> Result<Query, Halt<Token>>
     let (version, rest) = head_at(tokens)?;
     let (_, rest) = keyword_at(rest, Keyword::Input)?;
     let (input, rest) = name_at(alloc, rest)?;
-    let (groups, rest) = items_at(alloc, rest)?;
+    let (groups, rest) = items_at(alloc, version, rest)?;
     let (_, rest) = keyword_at(rest, Keyword::Output)?;
     let (output, rest) = name_at(alloc, rest)?;
     match rest {

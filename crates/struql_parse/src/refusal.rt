@@ -15,7 +15,7 @@ pub enum ParseRefusal {
     /// 65th open parenthesis, the star that puts 65 stars one within another, or the 1,024th dot
     /// or bar of an expression.
     TooDeep(u64),
-    /// The number at this place, behind `STRUQL`, is neither 1 nor 2.
+    /// The number at this place, after `STRUQL`, is none of 1, 2 and 3.
     BadVersion(u64),
 }
 

@@ -14,6 +14,8 @@ use Rattle.query_spec.specs.declared.Op.{Op}
 use Rattle.query_spec.specs.declared.Op.TheVariants as op
 use Rattle.query_spec.specs.declared.Test.{Test}
 use Rattle.query_spec.specs.declared.Test.TheVariants as test
+use Rattle.value_texts.specs.declared.TextTest.{TextTest}
+use Rattle.value_texts.specs.declared.TextTest.TheVariants.{Starts, Ends, Has}
 use Rattle.query_spec.specs.Query.{Operand, variable, constant, PathStep, arc_variable, expression, Condition, member}
 use Rattle.query_spec.specs.Query.{path, compare, one_of, kind, negation, SkolemTerm, Target, plain, made, LinkLabel}
 use Rattle.query_spec.specs.Query.{quoted, label_variable, Link, Collect, Body, Blocks, no_blocks, block, Query}
@@ -131,6 +133,12 @@ abbrev pub step_text : PathStep → List ℕ
 step_text (arc_variable x) = x
 step_text (expression r) = regex_text r
 
+-- the name of a test of two texts
+abbrev pub text_test_text : TextTest → List ℕ
+text_test_text Starts = codes "starts"
+text_test_text Ends = codes "ends"
+text_test_text Has = codes "has"
+
 -- the text of an operator
 abbrev pub op_text : Op → List ℕ
 op_text op.Eq = codes "="
@@ -139,6 +147,20 @@ op_text op.Lt = codes "<"
 op_text op.Le = codes "<="
 op_text op.Gt = codes ">"
 op_text op.Ge = codes ">="
+op_text (op.Texts test) = text_test_text test
+
+-- `starts(t, u)` and its like
+abbrev pub pair_text : TextTest → List ℕ → List ℕ → List ℕ
+pair_text test t u = text_test_text test ++ (codes "(" ++ (t ++ (codes ", " ++ (u ++ codes ")"))))
+
+-- the operator between the operands
+abbrev pub infix_text : Op → List ℕ → List ℕ → List ℕ
+infix_text o t u = t ++ (codes " " ++ (op_text o ++ (codes " " ++ u)))
+
+-- a test of two texts, or the operator between the operands
+abbrev pub comparison_text : Op → List ℕ → List ℕ → List ℕ
+comparison_text (op.Texts test) t u = pair_text test t u
+comparison_text o t u = infix_text o t u
 
 -- the name of a test
 abbrev pub test_text : Test → List ℕ
@@ -153,8 +175,7 @@ abbrev pub condition_text : Condition → List ℕ
 condition_text (member c x) = collection_text c ++ (codes "(" ++ (x ++ codes ")"))
 condition_text (path t s u) =
     operand_text t ++ (codes " -> " ++ (step_text s ++ (codes " -> " ++ operand_text u)))
-condition_text (compare t o u) =
-    operand_text t ++ (codes " " ++ (op_text o ++ (codes " " ++ operand_text u)))
+condition_text (compare t o u) = comparison_text o (operand_text t) (operand_text u)
 condition_text (one_of t values) =
     operand_text t ++ (codes " in {" ++ (joined (map value_text values) ++ codes "}"))
 condition_text (kind test x) = test_text test ++ (codes "(" ++ (x ++ codes ")"))
@@ -183,10 +204,16 @@ block_texts (block b inner after) =
     ++ (flat_map (λ text. codes " " ++ text) (block_texts inner) ++ codes " }")))
     ∷ block_texts after
 
--- a line for the version where it is the second, one for the input, one for each block, and one for the output
+-- the line of a version that isn't the first
+abbrev pub version_text : ℕ → List ℕ
+version_text version =
+    if nat_eq version 2 then codes "STRUQL 2\n"
+    else (if nat_eq version 3 then codes "STRUQL 3\n" else [])
+
+-- a line for the version if it isn't the first, one for the input, one for each block, and one for the output
 abbrev pub query_text : Query → List ℕ
 query_text q =
-    (if nat_eq q.version 2 then codes "STRUQL 2\n" else [])
+    version_text q.version
     ++ (codes "INPUT " ++ (q.input ++ (codes "\n"
     ++ (flat_map (λ text. text ++ codes "\n") (block_texts q.blocks)
     ++ (codes "OUTPUT " ++ (q.output ++ codes "\n"))))))

@@ -3,7 +3,8 @@
 ghost use Rattle.std.specs.Prelude.{◌≡◌, ◌++◌, IfOk, ℕ, List, codes};
 ghost use Rattle.query_spec.specs.Query.{path, compare};
 ghost use Rattle.struql_ast.specs.Reading.{operand_of, step_of, condition_of};
-ghost use Rattle.struql_print.specs.Texts.{step_text, op_text, test_text, condition_text};
+ghost use Rattle.struql_print.specs.Texts.{operand_text, step_text, op_text, test_text, text_test_text, pair_text};
+ghost use Rattle.struql_print.specs.Texts.{infix_text, condition_text};
 
 use crate::collections::print_collection;
 use crate::listed::{Print, print_listed};
@@ -12,6 +13,7 @@ use query_spec::{Op, Test};
 use sd_value::{NoMemory, Str};
 use struql_ast::{Condition, Operand, PathStep};
 use token_writer::put;
+use value_texts::TextTest;
 
 fn print_step(step: &PathStep, out: &mut Vec<u8>) -> Result<(), NoMemory>
     ensures { IfOk result (λ _. out.new.items ≡ out.old.items ++ step_text (step_of step.now)) }
@@ -19,6 +21,16 @@ fn print_step(step: &PathStep, out: &mut Vec<u8>) -> Result<(), NoMemory>
     match step {
         PathStep::ArcVariable(name, _) => put(name.bytes(), out),
         PathStep::Expression(tree, _) => print_regex(tree, out),
+    }
+}
+
+fn text_test_word(test: TextTest) -> &'static [u8]
+    ensures { result.now ≡ text_test_text test }
+{
+    match test {
+        TextTest::Starts => b"starts",
+        TextTest::Ends => b"ends",
+        TextTest::Has => b"has",
     }
 }
 
@@ -32,6 +44,7 @@ fn print_op(op: Op, out: &mut Vec<u8>) -> Result<(), NoMemory>
         Op::Le => put(b"<=", out),
         Op::Gt => put(b">", out),
         Op::Ge => put(b">=", out),
+        Op::Texts(test) => put(text_test_word(test), out),
     }
 }
 
@@ -73,6 +86,37 @@ fn print_path(
     to.print(out)
 }
 
+fn print_pair(
+    test: TextTest,
+    left: &Operand,
+    right: &Operand,
+    out: &mut Vec<u8>,
+) -> Result<(), NoMemory>
+    ensures { IfOk result (λ _. out.new.items ≡ out.old.items
+        ++ pair_text test (operand_text (operand_of left.now))
+        (operand_text (operand_of right.now))) }
+{
+    put(text_test_word(test), out)?;
+    put(b"(", out)?;
+    left.print(out)?;
+    put(b", ", out)?;
+    right.print(out)?;
+    put(b")", out)
+}
+
+// The operator between the operands.
+fn print_infix(left: &Operand, op: Op, right: &Operand, out: &mut Vec<u8>) -> Result<(), NoMemory>
+    ensures { IfOk result (λ _. out.new.items ≡ out.old.items
+        ++ infix_text op (operand_text (operand_of left.now))
+        (operand_text (operand_of right.now))) }
+{
+    left.print(out)?;
+    put(b" ", out)?;
+    print_op(op, out)?;
+    put(b" ", out)?;
+    right.print(out)
+}
+
 fn print_comparison(
     left: &Operand,
     op: Op,
@@ -82,15 +126,14 @@ fn print_comparison(
     ensures { IfOk result (λ _. out.new.items ≡ out.old.items
         ++ condition_text (compare (operand_of left.now) op (operand_of right.now))) }
 {
-    left.print(out)?;
-    put(b" ", out)?;
-    print_op(op, out)?;
-    put(b" ", out)?;
-    right.print(out)
+    match op {
+        Op::Texts(test) => print_pair(test, left, right, out),
+        Op::Eq | Op::Ne | Op::Lt | Op::Le | Op::Gt | Op::Ge => print_infix(left, op, right, out),
+    }
 }
 
 /// Appends a condition's canonical text, as `C(x)`, `x -> "a".true* -> y`, `x = 1`,
-/// `x in {1, 2}`, `isInt(x)` or `not(C(x))`. After `NoMemory` what `out` holds is not said.
+/// `x in {1, 2}`, `isInt(x)`, `starts(x, "a")` or `not(C(x))`. After `NoMemory` what `out` holds is not said.
 pub fn print_condition(condition: &Condition, out: &mut Vec<u8>) -> Result<(), NoMemory>
     ensures { IfOk result (λ _. out.new.items
         ≡ out.old.items ++ condition_text (condition_of condition.now)) }

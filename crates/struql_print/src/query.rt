@@ -1,10 +1,10 @@
 //! Blocks and queries.
 
-ghost use Rattle.std.specs.Prelude.{◌≡◌, ◌++◌, IfOk, ℕ, List, [], map, codes, nat_eq, if◌then◌else◌};
+ghost use Rattle.std.specs.Prelude.{◌≡◌, ◌++◌, IfOk, ℕ, List, map, codes};
 ghost use Rattle.std.specs.List.{flat_map};
 ghost use Rattle.struql_ast.specs.declared.Block.{Block as AnyBlock};
 ghost use Rattle.struql_ast.specs.Reading.{blocks_of, query_of};
-ghost use Rattle.struql_print.specs.Texts.{clause_text, block_texts, query_text};
+ghost use Rattle.struql_print.specs.Texts.{clause_text, block_texts, version_text, query_text};
 ghost use Rattle.struql_print.specs.Block.{block_text, clauses_text};
 
 use crate::listed::{Print, print_listed};
@@ -74,11 +74,12 @@ fn print_lines(blocks: &[Block], out: &mut Vec<u8>) -> Result<(), NoMemory>
 }
 
 fn print_version(version: u8, out: &mut Vec<u8>) -> Result<(), NoMemory>
-    ensures { IfOk result (λ _. out.new.items
-        ≡ out.old.items ++ (if nat_eq version 2 then codes "STRUQL 2\n" else [])) }
+    ensures { IfOk result (λ _. out.new.items ≡ out.old.items ++ version_text version) }
 {
     if version == 2 {
         put(b"STRUQL 2\n", out)
+    } else if version == 3 {
+        put(b"STRUQL 3\n", out)
     } else {
         Ok(())
     }
@@ -94,7 +95,7 @@ fn print_line(word: &[u8], name: &Str, out: &mut Vec<u8>) -> Result<(), NoMemory
     put(b"\n", out)
 }
 
-/// Appends a query's canonical text: a line `STRUQL 2` where that is its version, a line for the
+/// Appends a query's canonical text: a line `STRUQL 2` or `STRUQL 3` if that is its version, a line for the
 /// input, one for each block and one for the output. Reading it gives the query again, places
 /// aside, where the grammar can spell the query at all. After `NoMemory` what `out` holds is not
 /// said.

@@ -70,8 +70,8 @@ inner_gapped : (texts : List (List ℕ)) → IsGapped (flat_map (λ text. codes 
 inner_gapped [] = tt
 inner_gapped (text ∷ texts) = (refl, refl, refl)
 
-expr_condition : (c : Condition) → IsCondition c → Lexing (Spelt (text.condition expression_within) condition_kept c) Safe (condition_text c)
-expr_condition c is = shown (λ tokens h. condition_spelt c tokens h) (condition_lexing c is)
+expr_condition : (version : ℕ) (c : Condition) → IsCondition version c → Lexing (Spelt (text.condition version expression_within) condition_kept c) Safe (condition_text c)
+expr_condition version c is = shown (λ tokens h. condition_spelt version c tokens h) (condition_lexing version c is)
 
 expr_term : (t : SkolemTerm) → IsTerm t → Lexing (Spelt text.term term_kept t) Safe (term_text t)
 expr_term t is = before (λ later w. tt) (term_lexing t is)
@@ -103,103 +103,104 @@ abbrev room : ℕ → Bool
 room zero = false
 room (suc depth) = true
 
-abbrev inner_of : ℕ → List Token → blocks.Body → Type 0
-inner_of zero = never
-inner_of (suc depth) = blocks.body expression_within depth
-
--- one more block in a body with room for so many, one within another
-abbrev step : ℕ → tree.Blocks → List Token → tree.Blocks → Type 0
-step depth so_far = guarded (room depth) (blocks.braces (inner_of depth) so_far)
-
--- the tokens spell these blocks behind others
-abbrev Behind : ℕ → Blocks → List Token → Type 0
-Behind depth bs tokens = (done : tree.Blocks) → (last : tree.Blocks) × iterated (step depth) done tokens last × (blocks_kept last ≡ appended (blocks_kept done) bs)
-
--- and a body with such clauses and blocks
-abbrev pub IsBodyOf : ℕ → Body → Blocks → List Token → Type 0
-IsBodyOf depth b inner tokens = (w : blocks.Body) × blocks.body expression_within depth tokens w × (clauses_kept w.clauses ≡ b) × (blocks_kept w.blocks ≡ inner)
-
-body_by_depth : (depth : ℕ) (tokens : List Token) (w : blocks.Body) → blocks.body_of expression_within (room depth) (inner_of depth) tokens w → blocks.body expression_within depth tokens w
-body_by_depth zero tokens w h = h
-body_by_depth (suc depth) tokens w h = h
-
-body_spelt : (depth : ℕ) (b : Body) (inner : Blocks) (tokens : List Token)
-    → Both (Spelt (blocks.optional words.Where (text.condition expression_within)) (map condition_kept) b.conditions)
-    (Both (Spelt (blocks.optional words.Create text.term) (map term_kept) b.creates)
-    (Both (Spelt (blocks.optional words.Link text.link) (map link_kept) b.links)
-    (Both (Spelt (blocks.optional words.Collect text.collect) (map collect_kept) b.collects) (Behind depth inner)))) tokens
-    → IsBodyOf depth b inner tokens
-body_spelt depth b inner tokens (f1, b1, e1, (cs, c, kept1), (f2, b2, e2, (ts, t, kept2), (f3, b3, e3, (ks, k, kept3), (f4, b4, e4, (os, o, kept4), behind)))) =
-    let all = behind tree.no_blocks in
-    let w : blocks.Body = record { clauses = record { conditions = cs; creates = ts; links = ks; collects = os }; blocks = all.0 } in (
-      w,
-      body_by_depth depth tokens w (f1, b1, cs, e1, c, (f2, b2, ts, e2, t, (f3, b3, ks, e3, k, (f4, b4, os, e4, o, (b4, [], all.0, sym (append-nil b4), all.1, (refl, refl)))))),
-      (λ i. record { conditions = kept1 i; creates = kept2 i; links = kept3 i; collects = kept4 i }),
-      all.2,
-    )
-
-body_lexing : (depth : ℕ) (b : Body) (inner : Blocks) → IsBody b → Lexing (Behind depth inner) Safe (inner_text inner) → Lexing (IsBodyOf depth b inner) Safe (body_text b ++ inner_text inner)
-body_lexing depth b inner is within =
-    let wheres = clause_text (codes "WHERE") (map condition_text b.conditions) in
-    let creates = clause_text (codes "CREATE") (map term_text b.creates) in
-    let links = clause_text (codes "LINK") (map link_text b.links) in
-    let collects = clause_text (codes "COLLECT") (map collect_text b.collects) in
-    let last = inner_text inner in
-    let gap4 : IsGapped (collects ++ last) = gapped_both collects last (clause_gapped (codes "COLLECT") (map collect_text b.collects)) (inner_gapped (block_texts inner)) in
-    let gap3 : IsGapped (links ++ (collects ++ last)) = gapped_both links (collects ++ last) (clause_gapped (codes "LINK") (map link_text b.links)) gap4 in
-    let gap2 : IsGapped (creates ++ (links ++ (collects ++ last))) = gapped_both creates (links ++ (collects ++ last)) (clause_gapped (codes "CREATE") (map term_text b.creates)) gap3 in
-    let text_is : wheres ++ (creates ++ (links ++ (collects ++ last))) ≡ (wheres ++ (creates ++ (links ++ collects))) ++ last =
-    sym (append_assoc wheres (creates ++ (links ++ collects)) last ∙ ap (λ x. wheres ++ x) (append_assoc creates (links ++ collects) last ∙ ap (λ x. creates ++ x) (append_assoc links collects last))) in
-    same_text (body_text b ++ inner_text inner) text_is
-    (shown (body_spelt depth b inner)
-    (both (clause_lexing words.Where (codes "WHERE") (refl, (refl, (refl, (refl, (refl, tt))))) where_shown (text.condition expression_within) condition_kept condition_text IsCondition expr_condition b.conditions is.0) (λ later w. gapped (creates ++ (links ++ (collects ++ last))) later gap2 w)
-    (both (clause_lexing words.Create (codes "CREATE") (refl, (refl, (refl, (refl, (refl, (refl, tt)))))) create_shown text.term term_kept term_text IsTerm expr_term b.creates is.1) (λ later w. gapped (links ++ (collects ++ last)) later gap3 w)
-    (both (clause_lexing words.Link (codes "LINK") (refl, (refl, (refl, (refl, tt)))) link_shown text.link link_kept link_text IsLink link_lexing b.links is.2) (λ later w. gapped (collects ++ last) later gap4 w)
-    (both (clause_lexing words.Collect (codes "COLLECT") (refl, (refl, (refl, (refl, (refl, (refl, (refl, tt))))))) collect_shown text.collect collect_kept collect_text IsCollect collect_lexing b.collects is.3) (λ later w. gapped (inner_text inner) later (inner_gapped (block_texts inner)) w)
-    within)))))
-
 abbrev Is : AnySign → Token → Type 0
 Is s t = is_sign s t ≡ true
-
--- a block in braces
-abbrev pub Braced : ℕ → Body → Blocks → List Token → Type 0
-Braced depth b inner = Cons (Is signs.OpenBrace) (Both (IsBodyOf depth b inner) (Cons (Is signs.CloseBrace) Nil))
 
 -- its text
 abbrev pub braced_text : Body → Blocks → List ℕ
 braced_text b inner = codes "{" ++ (body_text b ++ (flat_map (λ text. codes " " ++ text) (block_texts inner) ++ codes " }"))
 
-braced_lexing : (depth : ℕ) (b : Body) (inner : Blocks) → IsBody b → Lexing (Behind depth inner) Safe (inner_text inner) → Lexing (Braced depth b inner) Any (braced_text b inner)
-braced_lexing depth b inner is within =
-    same_text (braced_text b inner) (ap (λ x. codes "{" ++ x) (append_assoc (body_text b) (inner_text inner) (codes " }")))
-    (sign_then signs.OpenBrace (λ later w. tt) (both (body_lexing depth b inner is within) (λ later w. (refl, refl, refl)) (gap 32 refl (sign_last signs.CloseBrace (λ later w. tt)))))
+module _ (version : ℕ) where
+  abbrev inner_of : ℕ → List Token → blocks.Body → Type 0
+  inner_of zero = never
+  inner_of (suc depth) = blocks.body version expression_within depth
 
-one_behind : (depth : ℕ) (b : Body) (inner after : Blocks) (tokens : List Token) → Both (Braced depth b inner) (Behind (suc depth) after) tokens → Behind (suc depth) (block b inner after) tokens
-one_behind depth b inner after tokens (front, back, parts, (o, rest, is, opening, (f, k, cut, (w, body, same_clauses, same_blocks), (c, rest2, is2, closing, none))), later) done =
-    let span = from_to o.span c.span in
-    let next = blocks.onto_end done w span in
-    let more = later next in (
-      more.0,
-      (
-        suc more.1.0,
+  -- one more block in a body with room for so many, one within another
+  abbrev step : ℕ → tree.Blocks → List Token → tree.Blocks → Type 0
+  step depth so_far = guarded (room depth) (blocks.braces (inner_of depth) so_far)
+
+  -- the tokens spell these blocks behind others
+  abbrev Behind : ℕ → Blocks → List Token → Type 0
+  Behind depth bs tokens = (done : tree.Blocks) → (last : tree.Blocks) × iterated (step depth) done tokens last × (blocks_kept last ≡ appended (blocks_kept done) bs)
+
+  -- and a body with such clauses and blocks
+  abbrev pub IsBodyOf : ℕ → Body → Blocks → List Token → Type 0
+  IsBodyOf depth b inner tokens = (w : blocks.Body) × blocks.body version expression_within depth tokens w × (clauses_kept w.clauses ≡ b) × (blocks_kept w.blocks ≡ inner)
+
+  body_by_depth : (depth : ℕ) (tokens : List Token) (w : blocks.Body) → blocks.body_of version expression_within (room depth) (inner_of depth) tokens w → blocks.body version expression_within depth tokens w
+  body_by_depth zero tokens w h = h
+  body_by_depth (suc depth) tokens w h = h
+
+  body_spelt : (depth : ℕ) (b : Body) (inner : Blocks) (tokens : List Token)
+      → Both (Spelt (blocks.optional words.Where (text.condition version expression_within)) (map condition_kept) b.conditions)
+      (Both (Spelt (blocks.optional words.Create text.term) (map term_kept) b.creates)
+      (Both (Spelt (blocks.optional words.Link text.link) (map link_kept) b.links)
+      (Both (Spelt (blocks.optional words.Collect text.collect) (map collect_kept) b.collects) (Behind depth inner)))) tokens
+      → IsBodyOf depth b inner tokens
+  body_spelt depth b inner tokens (f1, b1, e1, (cs, c, kept1), (f2, b2, e2, (ts, t, kept2), (f3, b3, e3, (ks, k, kept3), (f4, b4, e4, (os, o, kept4), behind)))) =
+      let all = behind tree.no_blocks in
+      let w : blocks.Body = record { clauses = record { conditions = cs; creates = ts; links = ks; collects = os }; blocks = all.0 } in (
+        w,
+        body_by_depth depth tokens w (f1, b1, cs, e1, c, (f2, b2, ts, e2, t, (f3, b3, ks, e3, k, (f4, b4, os, e4, o, (b4, [], all.0, sym (append-nil b4), all.1, (refl, refl)))))),
+        (λ i. record { conditions = kept1 i; creates = kept2 i; links = kept3 i; collects = kept4 i }),
+        all.2,
+      )
+
+  body_lexing : (depth : ℕ) (b : Body) (inner : Blocks) → IsBody version b → Lexing (Behind depth inner) Safe (inner_text inner) → Lexing (IsBodyOf depth b inner) Safe (body_text b ++ inner_text inner)
+  body_lexing depth b inner is within =
+      let wheres = clause_text (codes "WHERE") (map condition_text b.conditions) in
+      let creates = clause_text (codes "CREATE") (map term_text b.creates) in
+      let links = clause_text (codes "LINK") (map link_text b.links) in
+      let collects = clause_text (codes "COLLECT") (map collect_text b.collects) in
+      let last = inner_text inner in
+      let gap4 : IsGapped (collects ++ last) = gapped_both collects last (clause_gapped (codes "COLLECT") (map collect_text b.collects)) (inner_gapped (block_texts inner)) in
+      let gap3 : IsGapped (links ++ (collects ++ last)) = gapped_both links (collects ++ last) (clause_gapped (codes "LINK") (map link_text b.links)) gap4 in
+      let gap2 : IsGapped (creates ++ (links ++ (collects ++ last))) = gapped_both creates (links ++ (collects ++ last)) (clause_gapped (codes "CREATE") (map term_text b.creates)) gap3 in
+      let text_is : wheres ++ (creates ++ (links ++ (collects ++ last))) ≡ (wheres ++ (creates ++ (links ++ collects))) ++ last =
+      sym (append_assoc wheres (creates ++ (links ++ collects)) last ∙ ap (λ x. wheres ++ x) (append_assoc creates (links ++ collects) last ∙ ap (λ x. creates ++ x) (append_assoc links collects last))) in
+      same_text (body_text b ++ inner_text inner) text_is
+      (shown (body_spelt depth b inner)
+      (both (clause_lexing words.Where (codes "WHERE") (refl, (refl, (refl, (refl, (refl, tt))))) where_shown (text.condition version expression_within) condition_kept condition_text (IsCondition version) (expr_condition version) b.conditions is.0) (λ later w. gapped (creates ++ (links ++ (collects ++ last))) later gap2 w)
+      (both (clause_lexing words.Create (codes "CREATE") (refl, (refl, (refl, (refl, (refl, (refl, tt)))))) create_shown text.term term_kept term_text IsTerm expr_term b.creates is.1) (λ later w. gapped (links ++ (collects ++ last)) later gap3 w)
+      (both (clause_lexing words.Link (codes "LINK") (refl, (refl, (refl, (refl, tt)))) link_shown text.link link_kept link_text IsLink link_lexing b.links is.2) (λ later w. gapped (collects ++ last) later gap4 w)
+      (both (clause_lexing words.Collect (codes "COLLECT") (refl, (refl, (refl, (refl, (refl, (refl, (refl, tt))))))) collect_shown text.collect collect_kept collect_text IsCollect collect_lexing b.collects is.3) (λ later w. gapped (inner_text inner) later (inner_gapped (block_texts inner)) w)
+      within)))))
+
+  -- a block in braces
+  abbrev pub Braced : ℕ → Body → Blocks → List Token → Type 0
+  Braced depth b inner = Cons (Is signs.OpenBrace) (Both (IsBodyOf depth b inner) (Cons (Is signs.CloseBrace) Nil))
+
+  braced_lexing : (depth : ℕ) (b : Body) (inner : Blocks) → IsBody version b → Lexing (Behind depth inner) Safe (inner_text inner) → Lexing (Braced depth b inner) Any (braced_text b inner)
+  braced_lexing depth b inner is within =
+      same_text (braced_text b inner) (ap (λ x. codes "{" ++ x) (append_assoc (body_text b) (inner_text inner) (codes " }")))
+      (sign_then signs.OpenBrace (λ later w. tt) (both (body_lexing depth b inner is within) (λ later w. (refl, refl, refl)) (gap 32 refl (sign_last signs.CloseBrace (λ later w. tt)))))
+
+  one_behind : (depth : ℕ) (b : Body) (inner after : Blocks) (tokens : List Token) → Both (Braced depth b inner) (Behind (suc depth) after) tokens → Behind (suc depth) (block b inner after) tokens
+  one_behind depth b inner after tokens (front, back, parts, (o, rest, is, opening, (f, k, cut, (w, body, same_clauses, same_blocks), (c, rest2, is2, closing, none))), later) done =
+      let span = from_to o.span c.span in
+      let next = blocks.onto_end done w span in
+      let more = later next in (
+        more.0,
         (
-          front,
-          back,
-          next,
-          parts,
-          (o ∷ [], rest, o.span, is, is_that signs.OpenBrace o opening, (f, k, w, cut, body, (k, [], c.span, sym (append-nil k), subst (λ ts. sign signs.CloseBrace ts c.span) (sym (is2 ∙ ap (λ y. c ∷ y) none)) (is_that signs.CloseBrace c closing), (refl, refl)))),
-          more.1.1,
+          suc more.1.0,
+          (
+            front,
+            back,
+            next,
+            parts,
+            (o ∷ [], rest, o.span, is, is_that signs.OpenBrace o opening, (f, k, w, cut, body, (k, [], c.span, sym (append-nil k), subst (λ ts. sign signs.CloseBrace ts c.span) (sym (is2 ∙ ap (λ y. c ∷ y) none)) (is_that signs.CloseBrace c closing), (refl, refl)))),
+            more.1.1,
+          ),
         ),
-      ),
-      more.2 ∙ one_kept done w span b inner after same_clauses same_blocks,
-    )
+        more.2 ∙ one_kept done w span b inner after same_clauses same_blocks,
+      )
 
-pub behind_lexing : (depth : ℕ) (bs : Blocks) → AreBlocks depth bs → Lexing (Behind depth bs) Safe (inner_text bs)
-behind_lexing depth no_blocks is = shown (λ tokens none done. (done, (0, (none, refl)), sym (none_behind (blocks_kept done)))) nothing_more
-behind_lexing zero (block b inner after) is = absurd is
-behind_lexing (suc depth) (block b inner after) is =
-    gap 32 refl (shown (one_behind depth b inner after)
-    (both (braced_lexing depth b inner is.0 (behind_lexing depth inner is.1)) (λ later w. tt) (behind_lexing (suc depth) after is.2)))
+  pub behind_lexing : (depth : ℕ) (bs : Blocks) → AreBlocks version depth bs → Lexing (Behind depth bs) Safe (inner_text bs)
+  behind_lexing depth no_blocks is = shown (λ tokens none done. (done, (0, (none, refl)), sym (none_behind (blocks_kept done)))) nothing_more
+  behind_lexing zero (block b inner after) is = absurd is
+  behind_lexing (suc depth) (block b inner after) is =
+      gap 32 refl (shown (one_behind depth b inner after)
+      (both (braced_lexing depth b inner is.0 (behind_lexing depth inner is.1)) (λ later w. tt) (behind_lexing (suc depth) after is.2)))
 
-pub block_lexing : (depth : ℕ) (b : Body) (inner : Blocks) → IsBody b → AreBlocks depth inner → Lexing (Braced depth b inner) Any (braced_text b inner)
-block_lexing depth b inner is within = braced_lexing depth b inner is (behind_lexing depth inner within)
+  pub block_lexing : (depth : ℕ) (b : Body) (inner : Blocks) → IsBody version b → AreBlocks version depth inner → Lexing (Braced depth b inner) Any (braced_text b inner)
+  block_lexing depth b inner is within = braced_lexing depth b inner is (behind_lexing depth inner within)

@@ -14,21 +14,24 @@ use Rattle.sd_lex.specs.declared.token.TokenKind.TheVariants as kinds
 use Rattle.sd_lex.specs.declared.token.Sign.TheVariants as signs
 use Rattle.sd_lex.specs.Bytes.{is_letter, is_name_byte, Each}
 use Rattle.sd_lex.specs.Lexing.{Spells, IsName}
+use Rattle.token_reader.specs.Terminals.{is_sign}
 use Rattle.rpe.specs.Regex.{Regex, label, any, empty, seq, alt, star}
 use Rattle.token_writer.specs.Writing.{quoted_text, escaped_byte}
 use Rattle.token_writer.proofs.Numbers.{number_spells}
 use Rattle.token_writer.proofs.Quotes.{text_spells}
+use Rattle.value_texts.specs.declared.TextTest.{TextTest}
+use Rattle.value_texts.specs.declared.TextTest.TheVariants.{Starts, Ends, Has}
 use Rattle.query_spec.specs.declared.Op.{Op}
 use Rattle.query_spec.specs.declared.Op.TheVariants as op
 use Rattle.query_spec.specs.declared.Test.{Test}
 use Rattle.query_spec.specs.declared.Test.TheVariants as test
 use Rattle.query_spec.specs.Query.{Operand, variable, constant, PathStep, arc_variable, expression, Condition, member, path, compare, one_of, kind, negation}
 use Rattle.struql_text.specs.declared.keyword.Keyword.TheVariants as words
-use Rattle.struql_text.specs.Terminals.{keyword_of, is_keyword, op_value, test_of}
-use Rattle.struql_print.specs.Texts.{is_alt, is_alt_or_seq, enclosed, regex_text, is_name, is_bare, collection_text, value_text, operand_text, further, joined, step_text, op_text, test_text, condition_text}
+use Rattle.struql_text.specs.Terminals.{keyword_of, is_keyword, op_value, test_of, text_test_of, pair_test}
+use Rattle.struql_print.specs.Texts.{is_alt, is_alt_or_seq, enclosed, regex_text, is_name, is_bare, collection_text, value_text, operand_text, further, joined, step_text, text_test_text, op_text, pair_text, infix_text, comparison_text, test_text, condition_text}
 use Rattle.struql_round.specs.Shown.{Wrapped, Shows}
-use Rattle.struql_round.specs.ShownParts.{ShowsName, ShowsCollection, ShowsValue, ShowsOperand, ShowsStep, ShowsMore, ShowsListed, ShowsPlain, ShowsCondition}
-use Rattle.struql_round.specs.Spellable.{Every, IsSome, IsWord, IsConstant, IsOperand, IsStep, IsPlain, IsCondition}
+use Rattle.struql_round.specs.ShownParts.{ShowsName, ShowsCollection, ShowsValue, ShowsOperand, ShowsStep, ShowsMore, ShowsListed, ShowsPair, ShowsInfix, ShowsComparison, ShowsPlain, ShowsCondition}
+use Rattle.struql_round.specs.Spellable.{Every, IsSome, IsWord, IsConstant, IsOperand, IsOperator, IsStep, IsPlain, IsCondition}
 use Rattle.struql_round.proofs.Lexing.{Lexing, Safe, Nil, Cons, shown, same_text, nothing_more, gap, both, token_then, cons_shown, token_last, sign_then, sign_last}
 
 -- ---- single tokens
@@ -145,13 +148,19 @@ listed_lexing : (vs : List Value) → IsSome IsConstant vs → Lexing (ShowsList
 listed_lexing [] is = absurd is
 listed_lexing (v ∷ vs) is = shown (λ tokens c. (c.0, c.1, c.2, c.3, c.4)) (value_then v is.0 (λ later w. further_safe (map value_text vs) later w) (more_lexing vs is.1))
 
-op_then : {T : List Token → Type 0} {W : List ℕ → Type 0} {others : List ℕ} (o : Op) → Lexing T W others → Lexing (Cons (λ t. op_value t ≡ Some o) T) W (op_text o ++ (32 ∷ others))
-op_then op.Eq h = cons_shown (λ t e. rw e refl) (token_then (kinds.Sign signs.Eq) (codes "=") refl (λ later w. tt) (gap 32 refl h))
-op_then op.Ne h = cons_shown (λ t e. rw e refl) (token_then (kinds.Sign signs.Ne) (codes "!=") refl (λ later w. tt) (gap 32 refl h))
-op_then op.Lt h = cons_shown (λ t e. rw e refl) (token_then (kinds.Sign signs.Lt) (codes "<") refl (λ later w. refl) (gap 32 refl h))
-op_then op.Le h = cons_shown (λ t e. rw e refl) (token_then (kinds.Sign signs.Le) (codes "<=") refl (λ later w. tt) (gap 32 refl h))
-op_then op.Gt h = cons_shown (λ t e. rw e refl) (token_then (kinds.Sign signs.Gt) (codes ">") refl (λ later w. refl) (gap 32 refl h))
-op_then op.Ge h = cons_shown (λ t e. rw e refl) (token_then (kinds.Sign signs.Ge) (codes ">=") refl (λ later w. tt) (gap 32 refl h))
+-- the operator is a sign
+abbrev IsSign : Op → Type 0
+IsSign (op.Texts test) = ⊥
+IsSign o = Unit {0}
+
+op_then : {T : List Token → Type 0} {W : List ℕ → Type 0} {others : List ℕ} (o : Op) → IsSign o → Lexing T W others → Lexing (Cons (λ t. op_value t ≡ Some o) T) W (op_text o ++ (32 ∷ others))
+op_then (op.Texts test) is h = absurd is
+op_then op.Eq is h = cons_shown (λ t e. rw e refl) (token_then (kinds.Sign signs.Eq) (codes "=") refl (λ later w. tt) (gap 32 refl h))
+op_then op.Ne is h = cons_shown (λ t e. rw e refl) (token_then (kinds.Sign signs.Ne) (codes "!=") refl (λ later w. tt) (gap 32 refl h))
+op_then op.Lt is h = cons_shown (λ t e. rw e refl) (token_then (kinds.Sign signs.Lt) (codes "<") refl (λ later w. refl) (gap 32 refl h))
+op_then op.Le is h = cons_shown (λ t e. rw e refl) (token_then (kinds.Sign signs.Le) (codes "<=") refl (λ later w. tt) (gap 32 refl h))
+op_then op.Gt is h = cons_shown (λ t e. rw e refl) (token_then (kinds.Sign signs.Gt) (codes ">") refl (λ later w. refl) (gap 32 refl h))
+op_then op.Ge is h = cons_shown (λ t e. rw e refl) (token_then (kinds.Sign signs.Ge) (codes ">=") refl (λ later w. tt) (gap 32 refl h))
 
 test_word : (k : Test) → IsWord (test_text k)
 unfolding keyword_of
@@ -177,32 +186,85 @@ not_shown : (t : Token) → t.kind ≡ kinds.Name (codes "not") → is_keyword w
 unfolding keyword_of
 not_shown t e = rw e refl
 
-plain_lexing : (k : Condition) → IsPlain k → Lexing (ShowsPlain k) Safe (condition_text k)
-plain_lexing (member c x) is =
+text_test_word : (test : TextTest) → IsWord (text_test_text test)
+unfolding keyword_of
+text_test_word Starts = ((refl, (refl, (refl, (refl, (refl, (refl, tt)))))), refl)
+text_test_word Ends = ((refl, (refl, (refl, (refl, tt)))), refl)
+text_test_word Has = ((refl, (refl, (refl, tt))), refl)
+
+text_test_known : (test : TextTest) → text_test_of (text_test_text test) ≡ Some test
+unfolding text_test_of
+text_test_known Starts = refl
+text_test_known Ends = refl
+text_test_known Has = refl
+
+pair_known : (version : ℕ) (test : TextTest) → version ≡ 3 → pair_test version (text_test_text test) ≡ Some test
+pair_known version test e = rw e (text_test_known test)
+
+-- the tokens of such a test, one after another
+abbrev PairTokens : TextTest → Operand → Operand → List Token → Type 0
+PairTokens test t u =
+    Cons (ShowsName (text_test_text test)) (Cons (λ k. is_sign signs.OpenParen k ≡ true) (Cons (ShowsOperand t) (Cons (λ k. is_sign signs.Comma k ≡ true) (Cons (ShowsOperand u) (Cons (λ k. is_sign signs.CloseParen k ≡ true) Nil)))))
+
+pair_shown : (version : ℕ) (test : TextTest) (t u : Operand) → version ≡ 3 → (tokens : List Token) → PairTokens test t u tokens → ShowsPair version test t u tokens
+pair_shown version test t u third tokens (name, r1, e1, shows, (opening, r2, e2, opens, (a, r3, e3, left, (comma, r4, e4, between, (b, r5, e5, right, (close, r6, e6, ends, none)))))) = (
+  text_test_text test,
+  name,
+  opening,
+  a,
+  comma,
+  b,
+  close,
+  e1 ∙ ap (λ y. name ∷ y) (e2 ∙ ap (λ y. opening ∷ y) (e3 ∙ ap (λ y. a ∷ y) (e4 ∙ ap (λ y. comma ∷ y) (e5 ∙ ap (λ y. b ∷ y) (e6 ∙ ap (λ y. close ∷ y) none))))),
+  shows,
+  pair_known version test third,
+  opens,
+  left,
+  between,
+  right,
+  ends,
+)
+
+pair_lexing : (version : ℕ) (test : TextTest) (t u : Operand) → version ≡ 3 → IsOperand t → IsOperand u → Lexing (ShowsPair version test t u) Safe (pair_text test (operand_text t) (operand_text u))
+pair_lexing version test t u third first second =
+    shown (pair_shown version test t u third)
+    (name_then (text_test_text test) (text_test_word test) (λ later w. (refl, refl, refl)) (sign_then signs.OpenParen (λ later w. tt)
+    (operand_then t first (λ later w. (refl, refl, refl)) (sign_then signs.Comma (λ later w. tt) (gap 32 refl
+    (operand_then u second (λ later w. (refl, refl, refl)) (sign_last signs.CloseParen (λ later w. tt))))))))
+
+infix_lexing : (t : Operand) (o : Op) (u : Operand) → IsSign o → IsOperand t → IsOperand u → Lexing (ShowsInfix o t u) Safe (infix_text o (operand_text t) (operand_text u))
+infix_lexing t o u sign first second =
+    shown (λ tokens h. (h.0, h.4.0, h.4.4.0, h.2 ∙ ap (λ y. h.0 ∷ y) (h.4.2 ∙ ap (λ y. h.4.0 ∷ y) (h.4.4.2 ∙ ap (λ y. h.4.4.0 ∷ y) h.4.4.4)), h.3, h.4.3, h.4.4.3))
+    (operand_then t first (λ later w. (refl, refl, refl)) (gap 32 refl (op_then o sign (operand_last u second))))
+
+comparison_lexing : (version : ℕ) (t : Operand) (o : Op) (u : Operand) → IsOperator version o → IsOperand t → IsOperand u → Lexing (ShowsComparison version o t u) Safe (comparison_text o (operand_text t) (operand_text u))
+comparison_lexing version t (op.Texts test) u known first second = pair_lexing version test t u known first second
+comparison_lexing version t o u known first second = infix_lexing t o u tt first second
+
+plain_lexing : (version : ℕ) (k : Condition) → IsPlain version k → Lexing (ShowsPlain version k) Safe (condition_text k)
+plain_lexing version (member c x) is =
     shown (λ tokens h. (h.0, h.4.0, h.4.4.0, h.4.4.4.0, h.2 ∙ ap (λ y. h.0 ∷ y) (h.4.2 ∙ ap (λ y. h.4.0 ∷ y) (h.4.4.2 ∙ ap (λ y. h.4.4.0 ∷ y) (h.4.4.4.2 ∙ ap (λ y. h.4.4.4.0 ∷ y) h.4.4.4.4))), h.3, h.4.3, h.4.4.3, h.4.4.4.3))
     (collection_then c (λ later w. (refl, refl, refl)) (sign_then signs.OpenParen (λ later w. tt) (name_then x is (λ later w. (refl, refl, refl)) (sign_last signs.CloseParen (λ later w. tt)))))
-plain_lexing (kind k x) is =
+plain_lexing version (kind k x) is =
     shown (λ tokens h. (test_text k, h.0, h.4.0, h.4.4.0, h.4.4.4.0, h.2 ∙ ap (λ y. h.0 ∷ y) (h.4.2 ∙ ap (λ y. h.4.0 ∷ y) (h.4.4.2 ∙ ap (λ y. h.4.4.0 ∷ y) (h.4.4.4.2 ∙ ap (λ y. h.4.4.4.0 ∷ y) h.4.4.4.4))), h.3, test_known k, h.4.3, h.4.4.3, h.4.4.4.3))
     (name_then (test_text k) (test_word k) (λ later w. (refl, refl, refl)) (sign_then signs.OpenParen (λ later w. tt) (name_then x is (λ later w. (refl, refl, refl)) (sign_last signs.CloseParen (λ later w. tt)))))
-plain_lexing (compare t o u) is =
-    shown (λ tokens h. (h.0, h.4.0, h.4.4.0, h.2 ∙ ap (λ y. h.0 ∷ y) (h.4.2 ∙ ap (λ y. h.4.0 ∷ y) (h.4.4.2 ∙ ap (λ y. h.4.4.0 ∷ y) h.4.4.4)), h.3, h.4.3, h.4.4.3))
-    (operand_then t is.0 (λ later w. (refl, refl, refl)) (gap 32 refl (op_then o (operand_last u is.1))))
-plain_lexing (path t s u) is =
+plain_lexing version (compare t o u) is = comparison_lexing version t o u is.0 is.1 is.2
+plain_lexing version (path t s u) is =
     shown (λ tokens h. (h.0, h.4.0, h.4.4.0, h.4.4.4.0, h.4.4.4.4.0, h.2 ∙ ap (λ y. h.0 ∷ y) (h.4.2 ∙ ap (λ y. h.4.0 ∷ y) (h.4.4.2 ∙ ap (λ y. h.4.4.0 ++ y) (h.4.4.4.2 ∙ ap (λ y. h.4.4.4.0 ∷ y) (h.4.4.4.4.2 ∙ ap (λ y. h.4.4.4.4.0 ∷ y) h.4.4.4.4.4)))), h.3, h.4.3, h.4.4.3, h.4.4.4.3, h.4.4.4.4.3))
     (operand_then t is.0 (λ later w. (refl, refl, refl)) (gap 32 refl (sign_then signs.Arrow (λ later w. tt) (gap 32 refl
     (both (step_lexing s is.1) (λ later w. (refl, refl, refl)) (gap 32 refl (sign_then signs.Arrow (λ later w. tt) (gap 32 refl (operand_last u is.2)))))))))
-plain_lexing (one_of t vs) is =
+plain_lexing version (one_of t vs) is =
     shown (λ tokens h. (h.0, h.4.0, h.4.4.0, h.4.4.4.0, h.4.4.4.4.0, h.2 ∙ ap (λ y. h.0 ∷ y) (h.4.2 ∙ ap (λ y. h.4.0 ∷ y) (h.4.4.2 ∙ ap (λ y. h.4.4.0 ∷ y) (h.4.4.4.2 ∙ ap (λ y. h.4.4.4.0 ++ y) (h.4.4.4.4.2 ∙ ap (λ y. h.4.4.4.4.0 ∷ y) h.4.4.4.4.4)))), h.3, in_shown h.4.0 h.4.3, h.4.4.3, h.4.4.4.3, h.4.4.4.4.3))
     (operand_then t is.0 (λ later w. (refl, refl, refl)) (gap 32 refl (word_then (codes "in") (refl, (refl, tt)) (λ later w. (refl, refl, refl)) (gap 32 refl
     (sign_then signs.OpenBrace (λ later w. tt) (both (listed_lexing vs is.1) (λ later w. (refl, refl, refl)) (sign_last signs.CloseBrace (λ later w. tt))))))))
-plain_lexing (negation c) is = absurd is
+plain_lexing version (negation c) is = absurd is
 
-pub condition_lexing : (k : Condition) → IsCondition k → Lexing (ShowsCondition k) Safe (condition_text k)
-condition_lexing (negation c) is =
+pub condition_lexing : (version : ℕ) (k : Condition) → IsCondition version k → Lexing (ShowsCondition version k) Safe (condition_text k)
+condition_lexing version (negation c) is =
     shown (λ tokens h. (h.0, h.4.0, h.4.4.0, h.4.4.4.0, h.2 ∙ ap (λ y. h.0 ∷ y) (h.4.2 ∙ ap (λ y. h.4.0 ∷ y) (h.4.4.2 ∙ ap (λ y. h.4.4.0 ++ y) (h.4.4.4.2 ∙ ap (λ y. h.4.4.4.0 ∷ y) h.4.4.4.4))), not_shown h.0 h.3, h.4.3, h.4.4.3, h.4.4.4.3))
-    (word_then (codes "not") (refl, (refl, (refl, tt))) (λ later w. (refl, refl, refl)) (sign_then signs.OpenParen (λ later w. tt) (both (plain_lexing c is) (λ later w. (refl, refl, refl)) (sign_last signs.CloseParen (λ later w. tt)))))
-condition_lexing (member c x) is = plain_lexing (member c x) is
-condition_lexing (path t s u) is = plain_lexing (path t s u) is
-condition_lexing (compare t o u) is = plain_lexing (compare t o u) is
-condition_lexing (one_of t vs) is = plain_lexing (one_of t vs) is
-condition_lexing (kind k x) is = plain_lexing (kind k x) is
+    (word_then (codes "not") (refl, (refl, (refl, tt))) (λ later w. (refl, refl, refl)) (sign_then signs.OpenParen (λ later w. tt) (both (plain_lexing version c is) (λ later w. (refl, refl, refl)) (sign_last signs.CloseParen (λ later w. tt)))))
+condition_lexing version (member c x) is = plain_lexing version (member c x) is
+condition_lexing version (path t s u) is = plain_lexing version (path t s u) is
+condition_lexing version (compare t o u) is = comparison_lexing version t o u is.0 is.1 is.2
+condition_lexing version (one_of t vs) is = plain_lexing version (one_of t vs) is
+condition_lexing version (kind k x) is = plain_lexing version (kind k x) is

@@ -1,6 +1,6 @@
 -- The canonical text of a query spells it.
 use Rattle.std.proofs.Common.{◌≡◌, ℕ, suc, true, false, List, [], ◌∷◌, ◌++◌, length, refl, sym, ap, subst, ◌∙◌, arith, inl, inr}
-use Rattle.std.specs.Prelude.{◌⊎◌, None, codes, pos}
+use Rattle.std.specs.Prelude.{None, codes, pos}
 use Rattle.std.specs.List.{flat_map}
 use Rattle.std.proofs.lemmas.List.{append-nil}
 use Rattle.sd_lex.specs.declared.token.Token.{Token}
@@ -8,6 +8,7 @@ use Rattle.sd_lex.specs.declared.token.TokenKind.TheVariants as kinds
 use Rattle.sd_lex.specs.declared.token.Sign.TheVariants as signs
 use Rattle.sd_lex.specs.Lexing.{Spells, Lexes, here, IsLexed, behind_mark, mark_len}
 use Rattle.grammar.specs.Grammar.{iterated}
+use Rattle.query_spec.specs.Mentions.{IsVersion}
 use Rattle.query_spec.specs.Query.{Body, Blocks, no_blocks, block, Query}
 use Rattle.struql_ast.specs.Written as tree
 use Rattle.struql_text.specs.declared.keyword.Keyword.TheVariants as words
@@ -28,41 +29,42 @@ use Rattle.struql_round.proofs.Blocks.{appended, one_kept, none_behind, Braced, 
 
 -- ---- the blocks at the top
 
-abbrev step : blocks.Groups → List Token → blocks.Groups → Type 0
-step = blocks.item_step expression_within (λ g. blocks.body expression_within (blocks.levels g.bare))
-
 abbrev closed : tree.Blocks → blocks.Groups
 closed bs = record { closed = bs; bare = None }
-
-abbrev TopBehind : Blocks → List Token → Type 0
-TopBehind bs tokens = (done : tree.Blocks) → (last : tree.Blocks) × iterated step (closed done) tokens (closed last) × (blocks_kept last ≡ appended (blocks_kept done) bs)
-
-one_top : (b : Body) (inner after : Blocks) (tokens : List Token) → Both (Braced 15 b inner) (TopBehind after) tokens → TopBehind (block b inner after) tokens
-one_top b inner after tokens (front, back, parts, (o, rest, is, opening, (f, k, cut, (w, body, same_clauses, same_blocks), (c, rest2, is2, closing, none))), later) done =
-    let span = from_to o.span c.span in
-    let next = blocks.onto_end done w span in
-    let more = later next in
-    let close : sign signs.CloseBrace k c.span = subst (λ ts. sign signs.CloseBrace ts c.span) (sym (is2 ∙ ap (λ y. c ∷ y) none)) (is_that signs.CloseBrace c closing) in
-    let placed : blocks.placed (blocks.body expression_within 15) front (record { body = w; span = span }) =
-    (o ∷ [], rest, o.span, is, is_that signs.OpenBrace o opening, (f, k, w, cut, body, (k, [], c.span, sym (append-nil k), close, (refl, refl)))) in
-    let braces : blocks.top_braces (blocks.body expression_within 15) (closed done) front (closed next) = (front, [], record { body = w; span = span }, sym (append-nil front), placed, (refl, refl)) in (
-      more.0,
-      (suc more.1.0, (front, back, closed next, parts, inr (inr (inr (inr braces))), more.1.1)),
-      more.2 ∙ one_kept done w span b inner after same_clauses same_blocks,
-    )
 
 abbrev lines_text : Blocks → List ℕ
 lines_text bs = flat_map (λ text. text ++ codes "\n") (block_texts bs)
 
-line_lexing : (b : Body) (inner : Blocks) → IsBody b → AreBlocks 15 inner → Lexing (Braced 15 b inner) Any (braced_text b inner ++ codes "\n")
-line_lexing b inner is within =
-    shown (λ tokens h. subst (Braced 15 b inner) (sym (h.2 ∙ (ap (λ x. h.0 ++ x) h.4 ∙ append-nil h.0))) h.3)
-    (both (block_lexing 15 b inner is within) (λ later w. tt) (gap 10 refl nothing_more))
+module _ (version : ℕ) where
+  abbrev step : blocks.Groups → List Token → blocks.Groups → Type 0
+  step = blocks.item_step version expression_within (λ g. blocks.body version expression_within (blocks.levels g.bare))
 
-top_lexing : (bs : Blocks) → AreBlocks 16 bs → Lexing (TopBehind bs) Any (lines_text bs)
-top_lexing no_blocks is = shown (λ tokens none done. (done, (0, (none, refl)), sym (none_behind (blocks_kept done)))) nothing_more
-top_lexing (block b inner after) is =
-    shown (one_top b inner after) (both (line_lexing b inner is.0 is.1) (λ later w. tt) (top_lexing after is.2))
+  abbrev TopBehind : Blocks → List Token → Type 0
+  TopBehind bs tokens = (done : tree.Blocks) → (last : tree.Blocks) × iterated step (closed done) tokens (closed last) × (blocks_kept last ≡ appended (blocks_kept done) bs)
+
+  one_top : (b : Body) (inner after : Blocks) (tokens : List Token) → Both (Braced version 15 b inner) (TopBehind after) tokens → TopBehind (block b inner after) tokens
+  one_top b inner after tokens (front, back, parts, (o, rest, is, opening, (f, k, cut, (w, body, same_clauses, same_blocks), (c, rest2, is2, closing, none))), later) done =
+      let span = from_to o.span c.span in
+      let next = blocks.onto_end done w span in
+      let more = later next in
+      let close : sign signs.CloseBrace k c.span = subst (λ ts. sign signs.CloseBrace ts c.span) (sym (is2 ∙ ap (λ y. c ∷ y) none)) (is_that signs.CloseBrace c closing) in
+      let placed : blocks.placed (blocks.body version expression_within 15) front (record { body = w; span = span }) =
+      (o ∷ [], rest, o.span, is, is_that signs.OpenBrace o opening, (f, k, w, cut, body, (k, [], c.span, sym (append-nil k), close, (refl, refl)))) in
+      let braces : blocks.top_braces (blocks.body version expression_within 15) (closed done) front (closed next) = (front, [], record { body = w; span = span }, sym (append-nil front), placed, (refl, refl)) in (
+        more.0,
+        (suc more.1.0, (front, back, closed next, parts, inr (inr (inr (inr braces))), more.1.1)),
+        more.2 ∙ one_kept done w span b inner after same_clauses same_blocks,
+      )
+
+  line_lexing : (b : Body) (inner : Blocks) → IsBody version b → AreBlocks version 15 inner → Lexing (Braced version 15 b inner) Any (braced_text b inner ++ codes "\n")
+  line_lexing b inner is within =
+      shown (λ tokens h. subst (Braced version 15 b inner) (sym (h.2 ∙ (ap (λ x. h.0 ++ x) h.4 ∙ append-nil h.0))) h.3)
+      (both (block_lexing version 15 b inner is within) (λ later w. tt) (gap 10 refl nothing_more))
+
+  top_lexing : (bs : Blocks) → AreBlocks version 16 bs → Lexing (TopBehind bs) Any (lines_text bs)
+  top_lexing no_blocks is = shown (λ tokens none done. (done, (0, (none, refl)), sym (none_behind (blocks_kept done)))) nothing_more
+  top_lexing (block b inner after) is =
+      shown (one_top b inner after) (both (line_lexing b inner is.0 is.1) (λ later w. tt) (top_lexing after is.2))
 
 -- ---- the whole text
 
@@ -76,7 +78,7 @@ output_shown t e = rw e refl
 
 -- the words and names round the blocks
 abbrev Framed : Query → List Token → Type 0
-Framed q = Cons (λ t. t.kind ≡ kinds.Name (codes "INPUT")) (Cons (ShowsName q.input) (Both (TopBehind q.blocks) (Cons (λ t. t.kind ≡ kinds.Name (codes "OUTPUT")) (Cons (ShowsName q.output) Nil))))
+Framed q = Cons (λ t. t.kind ≡ kinds.Name (codes "INPUT")) (Cons (ShowsName q.input) (Both (TopBehind q.version q.blocks) (Cons (λ t. t.kind ≡ kinds.Name (codes "OUTPUT")) (Cons (ShowsName q.output) Nil))))
 
 abbrev frame_text : Query → List ℕ
 frame_text q = codes "INPUT " ++ (q.input ++ (codes "\n" ++ (lines_text q.blocks ++ (codes "OUTPUT " ++ (q.output ++ codes "\n")))))
@@ -85,7 +87,7 @@ frame_lexing : (q : Query) → IsSpellable q → Lexing (Framed q) Any (frame_te
 frame_lexing q is =
     word_then (codes "INPUT") (refl, (refl, (refl, (refl, (refl, tt))))) (λ later w. (refl, refl, refl)) (gap 32 refl
     (name_then q.input is.input (λ later w. (refl, refl, refl)) (gap 10 refl
-    (both (top_lexing q.blocks is.blocks) (λ later w. tt)
+    (both (top_lexing q.version q.blocks is.blocks) (λ later w. tt)
     (word_then (codes "OUTPUT") (refl, (refl, (refl, (refl, (refl, (refl, tt)))))) (λ later w. (refl, refl, refl)) (gap 32 refl
     (name_then q.output is.output (λ later w. (refl, refl, refl)) (gap 10 refl nothing_more))))))))
 
@@ -98,14 +100,15 @@ Headed version tokens = blocks.head false tokens version
 framed_spelt : (q : Query) (version : ℕ) (tokens : List Token) → q.version ≡ version → Both (Headed version) (Framed q) tokens → SpeltQuery q tokens
 framed_spelt q version tokens same (front, back, parts, head, (i, rest, is, input, (n, rest2, is2, named, (f, k, cut, top, (o, rest3, is3, output, (m, rest4, is4, called, none)))))) =
     let all = top tree.no_blocks in
-    let w : tree.Query = record { version = version; input = q.input; blocks = all.0; output = q.output } in (
+    let begins = subst (λ n. Headed n front) (sym same) head in
+    let w : tree.Query = record { version = q.version; input = q.input; blocks = all.0; output = q.output } in (
       w,
       (
         front,
         back,
-        version,
+        q.version,
         parts,
-        head,
+        begins,
         (
           i ∷ [],
           rest,
@@ -136,26 +139,35 @@ framed_spelt q version tokens same (front, back, parts, head, (i, rest, is, inpu
           ),
         ),
       ),
-      (λ j. record { version = sym same j; input = q.input; blocks = all.2 j; output = q.output }),
+      (λ j. record { version = q.version; input = q.input; blocks = all.2 j; output = q.output }),
     )
 
 two_spells : Spells (codes "2") (kinds.Int (pos 2))
 two_spells = (inl (refl, tt), refl)
 
-query_lexing : (q : Query) → IsSpellable q → (q.version ≡ 1) ⊎ (q.version ≡ 2) → Lexing (SpeltQuery q) Any (query_text q)
+three_spells : Spells (codes "3") (kinds.Int (pos 3))
+three_spells = (inl (refl, tt), refl)
+
+query_lexing : (q : Query) → IsSpellable q → IsVersion q.version → Lexing (SpeltQuery q) Any (query_text q)
 query_lexing q is (inl one) =
     same_text (query_text q) (rw one refl)
     (shown (λ tokens h. framed_spelt q 1 tokens one ([], tokens, refl, inr (refl, refl), h)) (frame_lexing q is))
-query_lexing q is (inr two) =
+query_lexing q is (inr (inl two)) =
     same_text (query_text q) (rw two refl)
     (shown (λ tokens h. framed_spelt q 2 tokens two (h.0 ∷ h.4.0 ∷ [], h.4.1, h.2 ∙ ap (λ y. h.0 ∷ y) h.4.2, inl (h.0 ∷ [], h.4.0 ∷ [], h.0.span, refl, (h.0, refl, rw h.3 refl), (h.4.0, refl, rw h.4.3 refl)), h.4.4))
     (word_then (codes "STRUQL") (refl, (refl, (refl, (refl, (refl, (refl, tt)))))) (λ later w. (refl, refl, refl)) (gap 32 refl
     (token_then (kinds.Int (pos 2)) (codes "2") two_spells (λ later w. refl) (gap 10 refl (frame_lexing q is))))))
+query_lexing q is (inr (inr three)) =
+    same_text (query_text q) (rw three refl)
+    (shown (λ tokens h. framed_spelt q 3 tokens three (h.0 ∷ h.4.0 ∷ [], h.4.1, h.2 ∙ ap (λ y. h.0 ∷ y) h.4.2, inl (h.0 ∷ [], h.4.0 ∷ [], h.0.span, refl, (h.0, refl, rw h.3 refl), (h.4.0, refl, rw h.4.3 refl)), h.4.4))
+    (word_then (codes "STRUQL") (refl, (refl, (refl, (refl, (refl, (refl, tt)))))) (λ later w. (refl, refl, refl)) (gap 32 refl
+    (token_then (kinds.Int (pos 3)) (codes "3") three_spells (λ later w. refl) (gap 10 refl (frame_lexing q is))))))
 
 -- no byte order mark stands in front
-unmarked : (q : Query) (v : (q.version ≡ 1) ⊎ (q.version ≡ 2)) → behind_mark (query_text q) ≡ query_text q
+unmarked : (q : Query) (v : IsVersion q.version) → behind_mark (query_text q) ≡ query_text q
 unmarked q (inl one) = rw one refl
-unmarked q (inr two) = rw two refl
+unmarked q (inr (inl two)) = rw two refl
+unmarked q (inr (inr three)) = rw three refl
 
 pub query_again : (limit : ℕ) (q : Query) → QueryIsReadAgain limit q
 query_again limit q is within =

@@ -7,13 +7,16 @@ use Rattle.sd_value.specs.declared.Value.TheVariants.{Data, Page}
 use Rattle.sd_lex.specs.declared.token.Token.{Token}
 use Rattle.sd_lex.specs.declared.token.TokenKind.TheVariants as kinds
 use Rattle.sd_lex.specs.declared.token.Sign.TheVariants as signs
+use Rattle.value_texts.specs.declared.TextTest.{TextTest}
+use Rattle.query_spec.specs.declared.Op.{Op}
+use Rattle.query_spec.specs.declared.Op.TheVariants.{Texts}
 use Rattle.query_spec.specs.Query.{Operand, variable, constant, PathStep, arc_variable, expression, Condition, member}
 use Rattle.query_spec.specs.Query.{path, compare, one_of, kind, negation, SkolemTerm}
 use Rattle.token_reader.specs.Terminals.{is_sign}
 use Rattle.struql_ast.specs.Reading.{operand_of}
 use Rattle.struql_ast.specs.Written as tree
 use Rattle.struql_text.specs.declared.keyword.Keyword.TheVariants as words
-use Rattle.struql_text.specs.Terminals.{is_keyword, keyword_of, op_value, test_of}
+use Rattle.struql_text.specs.Terminals.{is_keyword, keyword_of, op_value, test_of, pair_test}
 use Rattle.struql_round.specs.Shown.{Shows, Fits}
 
 -- the parts without their places
@@ -67,44 +70,62 @@ ShowsListed [] tokens = ⊥
 ShowsListed (v ∷ values) tokens =
     (t : Token) × (rest : List Token) × (tokens ≡ t ∷ rest) × ShowsValue v t × ShowsMore values rest
 
+-- `starts(t, u)` and its like
+abbrev pub ShowsPair : ℕ → TextTest → Operand → Operand → List Token → Type 0
+ShowsPair version test t u tokens =
+    (w : List ℕ) × (name : Token) × (opening : Token) × (a : Token) × (comma : Token) × (b : Token)
+    × (close : Token) × (tokens ≡ name ∷ opening ∷ a ∷ comma ∷ b ∷ close ∷ []) × ShowsName w name
+    × (pair_test version w ≡ Some test) × (is_sign signs.OpenParen opening ≡ true)
+    × ShowsOperand t a × (is_sign signs.Comma comma ≡ true) × ShowsOperand u b
+    × (is_sign signs.CloseParen close ≡ true)
+
+-- the operator between the operands
+abbrev pub ShowsInfix : Op → Operand → Operand → List Token → Type 0
+ShowsInfix o t u tokens =
+    (a : Token) × (b : Token) × (c : Token) × (tokens ≡ a ∷ b ∷ c ∷ []) × ShowsOperand t a
+    × (op_value b ≡ Some o) × ShowsOperand u c
+
+-- a test of two texts, or the operator between the operands
+abbrev pub ShowsComparison : ℕ → Op → Operand → Operand → List Token → Type 0
+ShowsComparison version (Texts test) t u tokens = ShowsPair version test t u tokens
+ShowsComparison version o t u tokens = ShowsInfix o t u tokens
+
 -- a condition that is no negation
-abbrev pub ShowsPlain : Condition → List Token → Type 0
-ShowsPlain (member c x) tokens =
+abbrev pub ShowsPlain : ℕ → Condition → List Token → Type 0
+ShowsPlain version (member c x) tokens =
     (name : Token) × (opening : Token) × (inner : Token) × (close : Token)
     × (tokens ≡ name ∷ opening ∷ inner ∷ close ∷ []) × ShowsCollection c name
     × (is_sign signs.OpenParen opening ≡ true) × ShowsName x inner
     × (is_sign signs.CloseParen close ≡ true)
-ShowsPlain (kind k x) tokens =
+ShowsPlain version (kind k x) tokens =
     (w : List ℕ) × (name : Token) × (opening : Token) × (inner : Token) × (close : Token)
     × (tokens ≡ name ∷ opening ∷ inner ∷ close ∷ []) × ShowsName w name × (test_of w ≡ Some k)
     × (is_sign signs.OpenParen opening ≡ true) × ShowsName x inner
     × (is_sign signs.CloseParen close ≡ true)
-ShowsPlain (compare t o u) tokens =
-    (a : Token) × (b : Token) × (c : Token) × (tokens ≡ a ∷ b ∷ c ∷ []) × ShowsOperand t a
-    × (op_value b ≡ Some o) × ShowsOperand u c
-ShowsPlain (path t s u) tokens =
+ShowsPlain version (compare t o u) tokens = ShowsComparison version o t u tokens
+ShowsPlain version (path t s u) tokens =
     (a : Token) × (first : Token) × (inner : List Token) × (second : Token) × (c : Token)
     × (tokens ≡ a ∷ first ∷ (inner ++ second ∷ c ∷ [])) × ShowsOperand t a
     × (is_sign signs.Arrow first ≡ true) × ShowsStep s inner × (is_sign signs.Arrow second ≡ true)
     × ShowsOperand u c
-ShowsPlain (one_of t values) tokens =
+ShowsPlain version (one_of t values) tokens =
     (a : Token) × (word : Token) × (opening : Token) × (inner : List Token) × (close : Token)
     × (tokens ≡ a ∷ word ∷ opening ∷ (inner ++ close ∷ [])) × ShowsOperand t a
     × (is_keyword words.In word ≡ true) × (is_sign signs.OpenBrace opening ≡ true)
     × ShowsListed values inner × (is_sign signs.CloseBrace close ≡ true)
-ShowsPlain (negation c) tokens = ⊥
+ShowsPlain version (negation c) tokens = ⊥
 
-abbrev pub ShowsCondition : Condition → List Token → Type 0
-ShowsCondition (negation c) tokens =
+abbrev pub ShowsCondition : ℕ → Condition → List Token → Type 0
+ShowsCondition version (negation c) tokens =
     (word : Token) × (opening : Token) × (inner : List Token) × (close : Token)
     × (tokens ≡ word ∷ opening ∷ (inner ++ close ∷ [])) × (is_keyword words.Not word ≡ true)
-    × (is_sign signs.OpenParen opening ≡ true) × ShowsPlain c inner
+    × (is_sign signs.OpenParen opening ≡ true) × ShowsPlain version c inner
     × (is_sign signs.CloseParen close ≡ true)
-ShowsCondition (member c x) tokens = ShowsPlain (member c x) tokens
-ShowsCondition (path t s u) tokens = ShowsPlain (path t s u) tokens
-ShowsCondition (compare t o u) tokens = ShowsPlain (compare t o u) tokens
-ShowsCondition (one_of t values) tokens = ShowsPlain (one_of t values) tokens
-ShowsCondition (kind k x) tokens = ShowsPlain (kind k x) tokens
+ShowsCondition version (member c x) tokens = ShowsPlain version (member c x) tokens
+ShowsCondition version (path t s u) tokens = ShowsPlain version (path t s u) tokens
+ShowsCondition version (compare t o u) tokens = ShowsComparison version o t u tokens
+ShowsCondition version (one_of t values) tokens = ShowsPlain version (one_of t values) tokens
+ShowsCondition version (kind k x) tokens = ShowsPlain version (kind k x) tokens
 
 -- operands behind each other, each behind a comma
 abbrev pub ShowsMoreOperands : List Operand → List Token → Type 0

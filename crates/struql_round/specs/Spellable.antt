@@ -1,11 +1,14 @@
--- Which queries the grammar can spell: names are names and no keywords, constants are numbers of 64 bits and texts, and the
--- limits are kept. A collection may have any name: where it is none of the grammar, it is quoted.
-use Rattle.std.specs.Prelude.{◌≡◌, ℕ, zero, suc, ◌<◌, ◌^◌, ◌⊎◌, List, [], ◌∷◌, None}
+-- Which queries the grammar can spell: names are names and no keywords, constants are numbers of 64 bits and texts, tests
+-- of two texts are in version 3 alone, and the limits are kept. A collection may have any name: where it is none of the grammar, it is quoted.
+use Rattle.std.specs.Prelude.{◌≡◌, ℕ, zero, suc, ◌<◌, ◌^◌, List, [], ◌∷◌, None}
 use Rattle.std.specs.Int.Signed.{mag}
 use Rattle.sd_value.specs.declared.Datum.TheVariants as datum
 use Rattle.sd_value.specs.declared.Value.{Value}
 use Rattle.sd_value.specs.declared.Value.TheVariants.{Data, Page}
 use Rattle.sd_lex.specs.Lexing.{IsName}
+use Rattle.query_spec.specs.declared.Op.{Op}
+use Rattle.query_spec.specs.declared.Op.TheVariants.{Texts}
+use Rattle.query_spec.specs.Mentions.{IsVersion}
 use Rattle.query_spec.specs.Query.{Operand, variable, constant, PathStep, arc_variable, expression, Condition, member}
 use Rattle.query_spec.specs.Query.{path, compare, one_of, kind, negation, SkolemTerm, Target, plain, made, LinkLabel}
 use Rattle.query_spec.specs.Query.{quoted, label_variable, Link, Collect, Body, Blocks, no_blocks, block, Query}
@@ -40,21 +43,26 @@ abbrev pub IsSome : {A : Type 0} → (A → Type 0) → List A → Type 0
 IsSome P [] = ⊥
 IsSome P (x ∷ xs) = P x × Every P xs
 
-abbrev pub IsPlain : Condition → Type 0
-IsPlain (member c x) = IsWord x
-IsPlain (path t s u) = IsOperand t × IsStep s × IsOperand u
-IsPlain (compare t o u) = IsOperand t × IsOperand u
-IsPlain (one_of t vs) = IsOperand t × IsSome IsConstant vs
-IsPlain (kind k x) = IsWord x
-IsPlain (negation c) = ⊥
+-- a test of two texts is one of version 3
+abbrev pub IsOperator : ℕ → Op → Type 0
+IsOperator version (Texts test) = version ≡ 3
+IsOperator version o = Unit {0}
 
-abbrev pub IsCondition : Condition → Type 0
-IsCondition (member c x) = IsPlain (member c x)
-IsCondition (path t s u) = IsPlain (path t s u)
-IsCondition (compare t o u) = IsPlain (compare t o u)
-IsCondition (one_of t vs) = IsPlain (one_of t vs)
-IsCondition (kind k x) = IsPlain (kind k x)
-IsCondition (negation c) = IsPlain c
+abbrev pub IsPlain : ℕ → Condition → Type 0
+IsPlain version (member c x) = IsWord x
+IsPlain version (path t s u) = IsOperand t × IsStep s × IsOperand u
+IsPlain version (compare t o u) = IsOperator version o × IsOperand t × IsOperand u
+IsPlain version (one_of t vs) = IsOperand t × IsSome IsConstant vs
+IsPlain version (kind k x) = IsWord x
+IsPlain version (negation c) = ⊥
+
+abbrev pub IsCondition : ℕ → Condition → Type 0
+IsCondition version (member c x) = IsPlain version (member c x)
+IsCondition version (path t s u) = IsPlain version (path t s u)
+IsCondition version (compare t o u) = IsPlain version (compare t o u)
+IsCondition version (one_of t vs) = IsPlain version (one_of t vs)
+IsCondition version (kind k x) = IsPlain version (kind k x)
+IsCondition version (negation c) = IsPlain version c
 
 abbrev pub IsTerm : SkolemTerm → Type 0
 IsTerm f = IsWord f.function × Every IsOperand f.args
@@ -80,20 +88,20 @@ IsLink k = IsSource k.source × IsLabel k.label × IsTarget k.target
 abbrev pub IsCollect : Collect → Type 0
 IsCollect c = IsSource c.target
 
-abbrev pub IsBody : Body → Type 0
-IsBody b =
-    Every IsCondition b.conditions × Every IsTerm b.creates × Every IsLink b.links
+abbrev pub IsBody : ℕ → Body → Type 0
+IsBody version b =
+    Every (IsCondition version) b.conditions × Every IsTerm b.creates × Every IsLink b.links
     × Every IsCollect b.collects
 
 -- blocks one within another, at most this many
-abbrev pub AreBlocks : ℕ → Blocks → Type 0
-AreBlocks depth no_blocks = Unit {0}
-AreBlocks zero (block b inner after) = ⊥
-AreBlocks (suc depth) (block b inner after) =
-    IsBody b × AreBlocks depth inner × AreBlocks (suc depth) after
+abbrev pub AreBlocks : ℕ → ℕ → Blocks → Type 0
+AreBlocks version depth no_blocks = Unit {0}
+AreBlocks version zero (block b inner after) = ⊥
+AreBlocks version (suc depth) (block b inner after) =
+    IsBody version b × AreBlocks version depth inner × AreBlocks version (suc depth) after
 
 pub record IsSpellable (q : Query) : Type 0 where
-  pub version : (q.version ≡ 1) ⊎ (q.version ≡ 2)
+  pub version : IsVersion q.version
   pub input : IsWord q.input
-  pub blocks : AreBlocks 16 q.blocks
+  pub blocks : AreBlocks q.version 16 q.blocks
   pub output : IsWord q.output

@@ -1,7 +1,7 @@
 //! What is printed of a query is read again.
 #![tactic(auto)]
 
-ghost use Rattle.std.specs.Prelude.{◌≡◌, List};
+ghost use Rattle.std.specs.Prelude.{◌≡◌, ℕ, List};
 ghost use Rattle.sd_lex.specs.declared.token.Token.{Token};
 ghost use Rattle.sd_lex.specs.declared.token.Span.{Span};
 ghost use Rattle.rpe.specs.Regex.{Regex};
@@ -26,11 +26,12 @@ pub fn expressions_are_read_again()
         }) }
 {}
 
-/// Tokens that show a condition spell it, wherever they are: the tree that they spell is the
+/// Tokens that show a condition in a version spell it there, wherever they are: the tree that they spell is the
 /// condition, places aside.
 pub fn conditions_are_read_again()
-    ensures { (k : Condition) (tokens : List Token) → ShowsCondition k tokens → (w : Written)
-        × condition expression_within tokens w × (condition_kept w ≡ k) }
+    ensures { (version : ℕ) (k : Condition) (tokens : List Token)
+        → ShowsCondition version k tokens → (w : Written)
+        × condition version expression_within tokens w × (condition_kept w ≡ k) }
 {}
 
 /// Tokens that show a term spell it, wherever they are.

@@ -1,9 +1,11 @@
 -- Conditions, with their readers.
-use Rattle.std.proofs.Common.{◌≡◌, true, false, List, refl}
-use Rattle.std.specs.Prelude.{Option, None}
+use Rattle.std.proofs.Common.{◌≡◌, ℕ, true, false, List, refl}
+use Rattle.std.specs.Prelude.{Option, Some, None}
 use Rattle.sd_value.specs.declared.Datum.TheVariants as datum
 use Rattle.sd_value.specs.declared.Value.TheVariants.{Data, Page}
+use Rattle.query_spec.specs.declared.Op.TheVariants.{Texts}
 use Rattle.query_spec.specs.declared.Test.{Test}
+use Rattle.value_texts.specs.declared.TextTest.{TextTest}
 use Rattle.sd_lex.specs.declared.token.Token.{Token}
 use Rattle.sd_lex.specs.declared.token.Sign.TheVariants as signs
 use Rattle.struql_ast.specs.declared.Operand.{Operand}
@@ -14,11 +16,11 @@ use Rattle.grammar.proofs.Parts.{Opens, opens_then, opens_either, Part, ◌>>=�
 use Rattle.grammar.proofs.Laws.{Always}
 use Rattle.struql_text.specs.declared.keyword.Keyword.TheVariants as words
 use Rattle.struql_text.specs.declared.keyword.Word.{Word}
-use Rattle.struql_text.specs.Terminals.{from_to, is_name, is_keyword, operand_span, op_value, test_of}
+use Rattle.struql_text.specs.Terminals.{from_to, is_name, is_keyword, operand_span, op_value, test_of, pair_test}
 use Rattle.token_reader.specs.Terminals.{is_sign}
 use Rattle.struql_text.specs.Expression.{sign, keyword, Counted, expression_within, expression_spelled}
-use Rattle.struql_text.specs.Grammar.{name, operand, call_with, call, between, comparison, membership, arc_step, expression_step, step, path, relation, behind, plain, negated, condition}
-use Rattle.struql_text.specs.Reading.{read_call, read_comparison, read_membership, read_arc_step, read_path_step, read_step, read_path, read_relation, read_behind, read_plain, read_negated, read_condition}
+use Rattle.struql_text.specs.Grammar.{name, operand, call_with, call, second, call_end, pair_end, pair_or_call, name_call, between, comparison, membership, arc_step, expression_step, step, path, relation, behind, plain, negated, condition}
+use Rattle.struql_text.specs.Reading.{read_call, read_second, read_call_end, read_pair_end, read_pair_or_call, read_name_call, read_comparison, read_membership, read_arc_step, read_path_step, read_step, read_path, read_relation, read_behind, read_plain, read_negated, read_condition}
 use Rattle.struql_text.proofs.TokenParts.{sign_part, sign_opens, keyword_opens, keyword_no_sign, in_part, not_part, name_part, name_opens, operand_part, constant_part, op_part, operand_opens_no_keyword, op_opens_no_keyword, op_opens_no_sign}
 use Rattle.token_reader.proofs.Terminals.{other_sign}
 use Rattle.struql_text.proofs.ExpressionParts.{AfterAlt, limited_part, expression_opens_no_name}
@@ -41,6 +43,45 @@ call_part test c = do
   x ← name_part
   close ← sign_part signs.CloseParen refl
   give_part (call_with test c x close)
+
+second_part : (test : TextTest) (c : Word) (t : Operand) → Part IsReal (second test c t) (second test c t) Always (read_second test c t)
+unfolding read_second
+second_part test c t = do
+  _ ← sign_part signs.Comma refl
+  u ← operand_part
+  close ← sign_part signs.CloseParen refl
+  give_part (tree.compare t (Texts test) u (from_to c.span close))
+
+call_end_part : (c x : Word) → Part IsReal (call_end c x) (call_end c x) Always (read_call_end c x)
+unfolding read_call_end
+call_end_part c x = do
+  close ← sign_part signs.CloseParen refl
+  give_part (call_with None c x close)
+
+pair_end_part : (test : TextTest) (c : Word) (t : Operand) → Part IsReal (pair_end test c t) (pair_end test c t) Always (read_pair_end test c t)
+unfolding read_pair_end
+pair_end_part test c (Variable x span) =
+    either_part (is_sign signs.Comma) (second_part test c (Variable x span)) (call_end_part c (record { text = x; span = span }))
+    (opens_then (sign signs.Comma) _ _ (sign_opens signs.Comma _ (λ k is. is)))
+    (opens_then (sign signs.CloseParen) _ _ (sign_opens signs.CloseParen _ (λ k. other_sign signs.CloseParen signs.Comma k.kind refl)))
+pair_end_part test c (Constant v span) = second_part test c (Constant v span)
+
+pair_or_call_part : (test : TextTest) (c : Word) → Part IsReal (pair_or_call test c) (pair_or_call test c) Always (read_pair_or_call test c)
+unfolding read_pair_or_call
+pair_or_call_part test c = do
+  _ ← sign_part signs.OpenParen refl
+  t ← operand_part
+  pair_end_part test c t
+
+name_call_part : (test : Option TextTest) (c : Word) → Part IsReal (name_call test c) (name_call test c) Always (read_name_call test c)
+unfolding read_name_call
+name_call_part None c = call_part (test_of c.text) c
+name_call_part (Some test) c = pair_or_call_part test c
+
+-- a parenthesis opens what a name makes
+name_call_opens : (test : Option TextTest) (c : Word) → Opens (name_call test c) (λ k. is_sign signs.OpenParen k ≡ true)
+name_call_opens None c = opens_then (sign signs.OpenParen) _ _ (sign_opens signs.OpenParen _ (λ k is. is))
+name_call_opens (Some test) c = opens_then (sign signs.OpenParen) _ _ (sign_opens signs.OpenParen _ (λ k is. is))
 
 comparison_part : (t : Operand) → Part IsReal (comparison t) (comparison t) Always (read_comparison t)
 unfolding read_comparison
@@ -120,46 +161,47 @@ relation_opens t =
     (membership_opens t _ (λ k. keyword_no_sign words.In signs.OpenParen k.kind))
     (opens_then (one op_value) _ _ (op_opens_no_sign signs.OpenParen refl)))
 
-behind_part : (t : Operand) → Part IsReal (behind E t) (behind S t) Always (read_behind t)
-unfolding read_behind
-behind_part (Constant (Data (datum.Int n)) span) = relation_part (Constant (Data (datum.Int n)) span)
-behind_part (Constant (Data (datum.Url u)) span) = relation_part (Constant (Data (datum.Url u)) span)
-behind_part (Constant (Data (datum.File f)) span) = relation_part (Constant (Data (datum.File f)) span)
-behind_part (Constant (Data (datum.Node n)) span) = relation_part (Constant (Data (datum.Node n)) span)
-behind_part (Constant (Page p) span) = relation_part (Constant (Page p) span)
-behind_part (Constant (Data (datum.Text q)) span) =
-    either_part (is_sign signs.OpenParen) (call_part None (record { text = q; span = span })) (relation_part (Constant (Data (datum.Text q)) span))
-    (opens_then (sign signs.OpenParen) _ _ (sign_opens signs.OpenParen _ (λ k is. is)))
-    (relation_opens (Constant (Data (datum.Text q)) span))
-behind_part (Variable x span) =
-    either_part (is_sign signs.OpenParen) (call_part (test_of x) (record { text = x; span = span })) (relation_part (Variable x span))
-    (opens_then (sign signs.OpenParen) _ _ (sign_opens signs.OpenParen _ (λ k is. is)))
-    (relation_opens (Variable x span))
+module _ (version : ℕ) where
+  behind_part : (t : Operand) → Part IsReal (behind version E t) (behind version S t) Always (read_behind version t)
+  unfolding read_behind
+  behind_part (Constant (Data (datum.Int n)) span) = relation_part (Constant (Data (datum.Int n)) span)
+  behind_part (Constant (Data (datum.Url u)) span) = relation_part (Constant (Data (datum.Url u)) span)
+  behind_part (Constant (Data (datum.File f)) span) = relation_part (Constant (Data (datum.File f)) span)
+  behind_part (Constant (Data (datum.Node n)) span) = relation_part (Constant (Data (datum.Node n)) span)
+  behind_part (Constant (Page p) span) = relation_part (Constant (Page p) span)
+  behind_part (Constant (Data (datum.Text q)) span) =
+      either_part (is_sign signs.OpenParen) (call_part None (record { text = q; span = span })) (relation_part (Constant (Data (datum.Text q)) span))
+      (opens_then (sign signs.OpenParen) _ _ (sign_opens signs.OpenParen _ (λ k is. is)))
+      (relation_opens (Constant (Data (datum.Text q)) span))
+  behind_part (Variable x span) =
+      either_part (is_sign signs.OpenParen) (name_call_part (pair_test version x) (record { text = x; span = span })) (relation_part (Variable x span))
+      (name_call_opens (pair_test version x) (record { text = x; span = span }))
+      (relation_opens (Variable x span))
 
-plain_part : Part IsReal (plain E) (plain S) Always read_plain
-unfolding read_plain
-plain_part = do
-  t ← operand_part
-  behind_part t
+  plain_part : Part IsReal (plain version E) (plain version S) Always (read_plain version)
+  unfolding read_plain
+  plain_part = do
+    t ← operand_part
+    behind_part t
 
-negated_part : Part IsReal (negated E) (negated S) Always read_negated
-unfolding read_negated
-negated_part = do
-  n ← not_part
-  _ ← sign_part signs.OpenParen refl
-  c ← plain_part
-  close ← sign_part signs.CloseParen refl
-  give_part (tree.negation c (from_to n close))
+  negated_part : Part IsReal (negated version E) (negated version S) Always (read_negated version)
+  unfolding read_negated
+  negated_part = do
+    n ← not_part
+    _ ← sign_part signs.OpenParen refl
+    c ← plain_part
+    close ← sign_part signs.CloseParen refl
+    give_part (tree.negation c (from_to n close))
 
-pub condition_part : Part IsReal (condition E) (condition S) Always read_condition
-unfolding read_condition
-condition_part =
-    either_part (is_keyword words.Not) negated_part plain_part
-    (opens_then (keyword words.Not) _ _ (keyword_opens words.Not _ (λ k is. is)))
-    (opens_then operand _ _ (operand_opens_no_keyword words.Not))
+  pub condition_part : Part IsReal (condition version E) (condition version S) Always (read_condition version)
+  unfolding read_condition
+  condition_part =
+      either_part (is_keyword words.Not) negated_part plain_part
+      (opens_then (keyword words.Not) _ _ (keyword_opens words.Not _ (λ k is. is)))
+      (opens_then operand _ _ (operand_opens_no_keyword words.Not))
 
 -- a condition is read exactly where it is spelled
-pub read_as_spelled : (tokens : List Token) → IsReadAsSpelled tokens
-read_as_spelled tokens =
-    let r = condition_part.reads tokens in
+pub read_as_spelled : (version : ℕ) (tokens : List Token) → IsReadAsSpelled version tokens
+read_as_spelled version tokens =
+    let r = (condition_part version).reads tokens in
     (r.sound, λ front value rest is h. r.complete front value rest is h tt)

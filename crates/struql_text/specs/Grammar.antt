@@ -7,18 +7,21 @@
 --   operand := name | Int | Quoted
 --   cond    := plain | "not" "(" plain ")"
 --   plain   := collection "(" name ")" | operand "->" step "->" operand
---            | operand op operand | operand "in" "{" const { "," const } "}"
+--            | operand op operand | operand "in" "{" const { "," const } "}" | pair
+--   pair    := ( "starts" | "ends" | "has" ) "(" operand "," operand ")"        in version 3
 --   step    := name | expression
 --   collection := name | Quoted
 --
 -- What begins alike is said once: a name or a text, and then either what is in parentheses or not.
-use Rattle.std.specs.Prelude.{List, [], ◌∷◌, ◌++◌, Option, Some, None}
+use Rattle.std.specs.Prelude.{ℕ, List, [], ◌∷◌, ◌++◌, Option, Some, None}
 use Rattle.sd_value.specs.declared.Datum.TheVariants as datum
 use Rattle.sd_value.specs.declared.Value.TheVariants.{Data}
 use Rattle.sd_lex.specs.declared.token.Span.{Span}
 use Rattle.sd_lex.specs.declared.token.Token.{Token}
 use Rattle.sd_lex.specs.declared.token.Sign.TheVariants as signs
+use Rattle.query_spec.specs.declared.Op.TheVariants.{Texts}
 use Rattle.query_spec.specs.declared.Test.{Test}
+use Rattle.value_texts.specs.declared.TextTest.{TextTest}
 use Rattle.struql_ast.specs.declared.Operand.{Operand}
 use Rattle.struql_ast.specs.declared.Operand.TheVariants.{Variable, Constant}
 use Rattle.struql_ast.specs.Written as tree
@@ -27,7 +30,7 @@ use Rattle.grammar.specs.Grammar.{nothing, one, ◌>>=◌, ◌>>◌, either, ite
 use Rattle.struql_text.specs.declared.keyword.Keyword.TheVariants as words
 use Rattle.struql_text.specs.declared.keyword.Word.{Word}
 use Rattle.struql_text.specs.Terminals.{from_to, name_value, collection_value, operand_value, operand_span}
-use Rattle.struql_text.specs.Terminals.{constant_value, label_value, op_value, test_of}
+use Rattle.struql_text.specs.Terminals.{constant_value, label_value, op_value, test_of, pair_test}
 use Rattle.struql_text.specs.Expression.{sign, keyword, Counted}
 
 -- ---- lists
@@ -164,6 +167,38 @@ call test c = do
   close ← sign signs.CloseParen
   nothing (call_with test c x close)
 
+-- the second operand of a test of two texts, from the comma on
+abbrev pub second : TextTest → Word → Operand → List Token → Condition → Type 0
+second test c t = do
+  sign signs.Comma
+  u ← operand
+  close ← sign signs.CloseParen
+  nothing (tree.compare t (Texts test) u (from_to c.span close))
+
+-- the end of `C(x)`
+abbrev pub call_end : Word → Word → List Token → Condition → Type 0
+call_end c x = do
+  close ← sign signs.CloseParen
+  nothing (call_with None c x close)
+
+-- after the first operand: the second one, or the end of `C(x)`
+abbrev pub pair_end : TextTest → Word → Operand → List Token → Condition → Type 0
+pair_end test c (Variable x span) =
+    either (second test c (Variable x span)) (call_end c (record { text = x; span = span }))
+pair_end test c (Constant v span) = second test c (Constant v span)
+
+-- `starts(t, u)` and its like, or `C(x)`, after a name that may be either
+abbrev pub pair_or_call : TextTest → Word → List Token → Condition → Type 0
+pair_or_call test c = do
+  sign signs.OpenParen
+  t ← operand
+  pair_end test c t
+
+-- what a name in front of a parenthesis makes, by the test of two texts that it is
+abbrev pub name_call : Option TextTest → Word → List Token → Condition → Type 0
+name_call None c = call (test_of c.text) c
+name_call (Some test) c = pair_or_call test c
+
 -- from the first operand to the last
 abbrev pub between : Operand → Operand → Span
 between t u = from_to (operand_span t) (operand_span u)
@@ -190,7 +225,7 @@ arc_step = do
   x ← name
   nothing (tree.arc_variable x.text x.span)
 
--- conditions, by what an expression is
+-- paths and what else relates operands, by what an expression is
 module _ (expression : List Token → Counted → Type 0) where
   -- a path expression
   abbrev pub expression_step : List Token → Step → Type 0
@@ -215,17 +250,19 @@ module _ (expression : List Token → Counted → Type 0) where
   abbrev pub relation : Operand → List Token → Condition → Type 0
   relation t = either (path t) (either (membership t) (comparison t))
 
+-- conditions, by the version and by what an expression is
+module _ (version : ℕ) (expression : List Token → Counted → Type 0) where
   -- a name may be that of a test or of a collection, a quoted text that of a collection alone
   abbrev pub behind : Operand → List Token → Condition → Type 0
-  behind (Variable x span) = either (call (test_of x) (record {
+  behind (Variable x span) = either (name_call (pair_test version x) (record {
     text = x;
     span = span;
-  })) (relation (Variable x span))
+  })) (relation expression (Variable x span))
   behind (Constant (Data (datum.Text q)) span) = either (call None (record {
     text = q;
     span = span;
-  })) (relation (Constant (Data (datum.Text q)) span))
-  behind (Constant v span) = relation (Constant v span)
+  })) (relation expression (Constant (Data (datum.Text q)) span))
+  behind (Constant v span) = relation expression (Constant v span)
 
   -- a condition without `not`
   abbrev pub plain : List Token → Condition → Type 0

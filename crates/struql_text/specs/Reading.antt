@@ -1,5 +1,5 @@
 -- Reading the parts of a clause from left to right.
-use Rattle.std.specs.Prelude.{ℕ, zero, suc, ◌+◌, true, List, [], ◌∷◌, ◌++◌, Option, None}
+use Rattle.std.specs.Prelude.{ℕ, zero, suc, ◌+◌, true, List, [], ◌∷◌, ◌++◌, Option, Some, None}
 use Rattle.sd_value.specs.declared.Datum.TheVariants as datum
 use Rattle.sd_value.specs.declared.Value.TheVariants.{Data}
 use Rattle.sd_lex.specs.declared.token.Span.{Span}
@@ -7,7 +7,9 @@ use Rattle.sd_lex.specs.declared.token.Token.{Token}
 use Rattle.sd_lex.specs.declared.token.Sign.{Sign}
 use Rattle.sd_lex.specs.declared.token.Sign.TheVariants as signs
 use Rattle.rpe.specs.Regex.{empty, seq as seq_of, alt as alt_of, star as star_of}
+use Rattle.query_spec.specs.declared.Op.TheVariants.{Texts}
 use Rattle.query_spec.specs.declared.Test.{Test}
+use Rattle.value_texts.specs.declared.TextTest.{TextTest}
 use Rattle.struql_ast.specs.declared.Operand.{Operand}
 use Rattle.struql_ast.specs.declared.Operand.TheVariants.{Variable, Constant}
 use Rattle.struql_ast.specs.Written as tree
@@ -17,7 +19,7 @@ use Rattle.struql_text.specs.declared.keyword.Keyword.{Keyword}
 use Rattle.struql_text.specs.declared.keyword.Keyword.TheVariants as words
 use Rattle.struql_text.specs.declared.keyword.Word.{Word}
 use Rattle.struql_text.specs.Terminals.{from_to, sign_value, keyword_value, is_keyword, is_name, name_value, collection_value}
-use Rattle.struql_text.specs.Terminals.{operand_value, operand_span, constant_value, label_value, op_value, test_of}
+use Rattle.struql_text.specs.Terminals.{operand_value, operand_span, constant_value, label_value, op_value, test_of, pair_test}
 use Rattle.token_reader.specs.Terminals.{is_sign}
 use Rattle.struql_text.specs.Expression.{leaf_value, Counted, bounded}
 use Rattle.struql_text.specs.Grammar.{term_of, variable_of, target_span, call_with, between}
@@ -241,6 +243,39 @@ read_call test c = do
   close ← read_sign signs.CloseParen
   give (call_with test c x close)
 
+-- the second operand of a test of two texts
+unfoldable pub read_second : TextTest → Word → Operand → List Token → Outcome Token Condition
+read_second test c t = do
+  read_sign signs.Comma
+  u ← read_operand
+  close ← read_sign signs.CloseParen
+  give (tree.compare t (Texts test) u (from_to c.span close))
+
+-- the end of `C(x)`
+unfoldable pub read_call_end : Word → Word → List Token → Outcome Token Condition
+read_call_end c x = do
+  close ← read_sign signs.CloseParen
+  give (call_with None c x close)
+
+-- after the first operand
+unfoldable pub read_pair_end : TextTest → Word → Operand → List Token → Outcome Token Condition
+read_pair_end test c (Variable x span) =
+    choose (is_sign signs.Comma) (read_second test c (Variable x span))
+    (read_call_end c (record { text = x; span = span }))
+read_pair_end test c (Constant v span) = read_second test c (Constant v span)
+
+-- a test of two texts, or a collection's member
+unfoldable pub read_pair_or_call : TextTest → Word → List Token → Outcome Token Condition
+read_pair_or_call test c = do
+  read_sign signs.OpenParen
+  t ← read_operand
+  read_pair_end test c t
+
+-- what a name in front of a parenthesis makes
+unfoldable pub read_name_call : Option TextTest → Word → List Token → Outcome Token Condition
+read_name_call None c = read_call (test_of c.text) c
+read_name_call (Some test) c = read_pair_or_call test c
+
 -- an operator, and the right side
 unfoldable pub read_comparison : Operand → List Token → Outcome Token Condition
 read_comparison t = do
@@ -289,34 +324,35 @@ read_relation t =
     (choose (is_keyword words.In) (read_membership t) (read_comparison t))
 
 -- behind a name, behind a quoted text, or behind a number
-unfoldable pub read_behind : Operand → List Token → Outcome Token Condition
-read_behind (Variable x span) =
-    choose (is_sign signs.OpenParen) (read_call (test_of x) (record {
+unfoldable pub read_behind : ℕ → Operand → List Token → Outcome Token Condition
+read_behind version (Variable x span) =
+    choose (is_sign signs.OpenParen) (read_name_call (pair_test version x) (record {
       text = x;
       span = span;
     })) (read_relation (Variable x span))
-read_behind (Constant (Data (datum.Text q)) span) =
+read_behind version (Constant (Data (datum.Text q)) span) =
     choose (is_sign signs.OpenParen) (read_call None (record {
       text = q;
       span = span;
     })) (read_relation (Constant (Data (datum.Text q)) span))
-read_behind (Constant v span) = read_relation (Constant v span)
+read_behind version (Constant v span) = read_relation (Constant v span)
 
 -- a condition without `not`
-unfoldable pub read_plain : List Token → Outcome Token Condition
-read_plain = do
+unfoldable pub read_plain : ℕ → List Token → Outcome Token Condition
+read_plain version = do
   t ← read_operand
-  read_behind t
+  read_behind version t
 
 -- `not(..)`
-unfoldable pub read_negated : List Token → Outcome Token Condition
-read_negated = do
+unfoldable pub read_negated : ℕ → List Token → Outcome Token Condition
+read_negated version = do
   n ← read_keyword words.Not
   read_sign signs.OpenParen
-  c ← read_plain
+  c ← read_plain version
   close ← read_sign signs.CloseParen
   give (tree.negation c (from_to n close))
 
 -- a condition
-unfoldable pub read_condition : List Token → Outcome Token Condition
-read_condition = choose (is_keyword words.Not) read_negated read_plain
+unfoldable pub read_condition : ℕ → List Token → Outcome Token Condition
+read_condition version =
+    choose (is_keyword words.Not) (read_negated version) (read_plain version)

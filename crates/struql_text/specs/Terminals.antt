@@ -15,6 +15,8 @@ use Rattle.query_spec.specs.declared.Op.{Op}
 use Rattle.query_spec.specs.declared.Op.TheVariants as op
 use Rattle.query_spec.specs.declared.Test.{Test}
 use Rattle.query_spec.specs.declared.Test.TheVariants as test
+use Rattle.value_texts.specs.declared.TextTest.{TextTest}
+use Rattle.value_texts.specs.declared.TextTest.TheVariants.{Starts, Ends, Has}
 use Rattle.struql_ast.specs.declared.Operand.{Operand}
 use Rattle.struql_ast.specs.declared.Operand.TheVariants.{Variable, Constant}
 use Rattle.struql_ast.specs.declared.LinkLabel.{LinkLabel}
@@ -190,6 +192,18 @@ test_of w =
     else (if bytes_eq w (codes "isNode") then Some test.IsNode
     else None))))
 
+-- the test of two texts that a name is
+unfoldable pub text_test_of : List ℕ → Option TextTest
+text_test_of w =
+    if bytes_eq w (codes "starts") then Some Starts
+    else (if bytes_eq w (codes "ends") then Some Ends
+    else (if bytes_eq w (codes "has") then Some Has
+    else None))
+
+-- the same in a version: there are such tests in version 3
+abbrev pub pair_test : ℕ → List ℕ → Option TextTest
+pair_test version w = if nat_eq version 3 then text_test_of w else None
+
 -- `STRUQL`, in all upper or all lower case
 abbrev pub is_head_kind : TokenKind → Bool
 is_head_kind (kinds.Name n) = bytes_eq n (codes "STRUQL") || bytes_eq n (codes "struql")
@@ -205,12 +219,13 @@ is_head t = is_head_kind t.kind
 abbrev pub head_value : Token → Option Span
 head_value t = if is_head_kind t.kind then Some t.span else None
 
--- 1 or 2
+-- 1, 2 or 3
 abbrev pub version_kind_value : TokenKind → Option ℕ
 version_kind_value (kinds.Name n) = None
 version_kind_value (kinds.Quoted q) = None
 version_kind_value (kinds.Int i) =
-    if int_eq i (pos 1) then Some 1 else (if int_eq i (pos 2) then Some 2 else None)
+    if int_eq i (pos 1) then Some 1
+    else (if int_eq i (pos 2) then Some 2 else (if int_eq i (pos 3) then Some 3 else None))
 version_kind_value (kinds.Sign s) = None
 
 -- the version that a token is
@@ -222,7 +237,8 @@ abbrev pub is_other_kind : TokenKind → Bool
 is_other_kind (kinds.Name n) = false
 is_other_kind (kinds.Quoted q) = false
 is_other_kind (kinds.Int i) =
-    if int_eq i (pos 1) then false else (if int_eq i (pos 2) then false else true)
+    if int_eq i (pos 1) then false
+    else (if int_eq i (pos 2) then false else (if int_eq i (pos 3) then false else true))
 is_other_kind (kinds.Sign s) = false
 
 -- an integer that is no version

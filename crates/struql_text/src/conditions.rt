@@ -5,9 +5,10 @@ ghost use Rattle.grammar.specs.Reading.{iterate, take_one};
 ghost use Rattle.sd_lex.specs.declared.token.Sign.TheVariants as sign_kinds;
 ghost use Rattle.struql_ast.specs.Written.{step_written, condition_written};
 ghost use Rattle.token_reader.specs.Terminals.{is_sign};
-ghost use Rattle.struql_text.specs.Terminals.{test_of, constant_value, operand_span};
+ghost use Rattle.struql_text.specs.Terminals.{test_of, text_test_of, pair_test, constant_value, operand_span};
 ghost use Rattle.token_reader.specs.Gives.{Gives};
 ghost use Rattle.struql_text.specs.Reading.{read_further, read_next, read_listed, read_call, read_comparison};
+ghost use Rattle.struql_text.specs.Reading.{read_second, read_call_end, read_pair_end, read_pair_or_call, read_name_call};
 ghost use Rattle.struql_text.specs.Reading.{read_membership, read_arc_step, read_path_step, read_step};
 ghost use Rattle.struql_text.specs.Reading.{read_path, read_relation, read_behind, read_plain, read_negated};
 ghost use Rattle.struql_text.specs.Reading.{read_condition};
@@ -17,12 +18,13 @@ use crate::keyword::{Keyword, Word};
 use crate::tokens::{
     constant_at, has_keyword, has_name, keyword_at, name_at, op_at, operand_at, sign_at,
 };
-use query_spec::Test;
+use query_spec::{Op, Test};
 use sd_lex::{Sign, Span, Token};
 use sd_value::{Datum, Value};
 use std::alloc::Global;
 use struql_ast::{Condition, Constants, Operand, PathStep};
 use token_reader::{Halt, has_sign};
+use value_texts::TextTest;
 
 /// The test that a name is.
 #[tactic(auto, unfolding(crate::specs::Terminals::test_of))]
@@ -39,6 +41,32 @@ pub fn test_of(word: &[u8]) -> Option<Test>
         Some(Test::IsFile)
     } else if word == b"isNode".as_slice() {
         Some(Test::IsNode)
+    } else {
+        None
+    }
+}
+
+#[tactic(auto, unfolding(crate::specs::Terminals::text_test_of))]
+fn text_test_of(word: &[u8]) -> Option<TextTest>
+    ensures { result ≡ text_test_of word.now }
+{
+    if word == b"starts".as_slice() {
+        Some(TextTest::Starts)
+    } else if word == b"ends".as_slice() {
+        Some(TextTest::Ends)
+    } else if word == b"has".as_slice() {
+        Some(TextTest::Has)
+    } else {
+        None
+    }
+}
+
+/// The test of two texts that a name is in this version: in version 3 there are such tests.
+fn pair_test(version: u8, word: &[u8]) -> Option<TextTest>
+    ensures { result ≡ pair_test version word.now }
+{
+    if version == 3 {
+        text_test_of(word)
     } else {
         None
     }
@@ -125,6 +153,115 @@ fn call_at(
         },
     };
     Ok((condition, rest))
+}
+
+/// The second operand of a test of two texts, from the comma on.
+#[tactic(auto, unfolding(crate::specs::Reading::read_second))]
+fn second_at(
+    alloc: Global,
+    test: TextTest,
+    name: Word,
+    left: Operand,
+    tokens: &[Token],
+) -> Result<(Condition, &[Token]), Halt<Token>>
+    ensures { Gives (λ x. condition_written x.0) (λ x. x.1.now) result
+        (read_second test name left tokens.now) }
+{
+    let (_, rest) = sign_at(tokens, Sign::Comma)?;
+    let (right, rest) = operand_at(alloc, rest)?;
+    let (close, rest) = sign_at(rest, Sign::CloseParen)?;
+    let span = from_to(name.span, close);
+    let op = Op::Texts(test);
+    Ok((
+        Condition::Compare {
+            left,
+            op,
+            right,
+            span,
+        },
+        rest,
+    ))
+}
+
+/// The end of `C(x)`.
+#[tactic(auto, unfolding(crate::specs::Reading::read_call_end))]
+fn call_end_at(name: Word, x: Word, tokens: &[Token]) -> Result<(Condition, &[Token]), Halt<Token>>
+    ensures { Gives (λ x. condition_written x.0) (λ x. x.1.now) result
+        (read_call_end name x tokens.now) }
+{
+    let (close, rest) = sign_at(tokens, Sign::CloseParen)?;
+    let span = from_to(name.span, close);
+    Ok((
+        Condition::Member {
+            collection: name.text,
+            variable: x.text,
+            variable_span: x.span,
+            span,
+        },
+        rest,
+    ))
+}
+
+/// What comes after the first operand: the second one, or the end of `C(x)`.
+#[tactic(auto, unfolding(crate::specs::Reading::read_pair_end))]
+fn pair_end_at(
+    alloc: Global,
+    test: TextTest,
+    name: Word,
+    first: Operand,
+    tokens: &[Token],
+) -> Result<(Condition, &[Token]), Halt<Token>>
+    ensures { Gives (λ x. condition_written x.0) (λ x. x.1.now) result
+        (read_pair_end test name first tokens.now) }
+{
+    match first {
+        Operand::Variable(text, span) => {
+            if has_sign(tokens, Sign::Comma) {
+                second_at(alloc, test, name, Operand::Variable(text, span), tokens)
+            } else {
+                call_end_at(name, Word { text, span }, tokens)
+            }
+        }
+        Operand::Constant(value, span) => {
+            second_at(alloc, test, name, Operand::Constant(value, span), tokens)
+        }
+    }
+}
+
+/// A test of two texts, or else `C(x)`, after the name.
+#[tactic(auto, unfolding(crate::specs::Reading::read_pair_or_call))]
+fn pair_or_call_at(
+    alloc: Global,
+    test: TextTest,
+    name: Word,
+    tokens: &[Token],
+) -> Result<(Condition, &[Token]), Halt<Token>>
+    ensures { Gives (λ x. condition_written x.0) (λ x. x.1.now) result
+        (read_pair_or_call test name tokens.now) }
+{
+    let (_, rest) = sign_at(tokens, Sign::OpenParen)?;
+    let (first, rest) = operand_at(alloc, rest)?;
+    pair_end_at(alloc, test, name, first, rest)
+}
+
+/// What a name in front of a parenthesis makes.
+#[tactic(auto, unfolding(crate::specs::Reading::read_name_call))]
+fn name_call_at(
+    alloc: Global,
+    version: u8,
+    name: Word,
+    tokens: &[Token],
+) -> Result<(Condition, &[Token]), Halt<Token>>
+    ensures { Gives (λ x. condition_written x.0) (λ x. x.1.now) result
+        (read_name_call (pair_test version name.text) name tokens.now) }
+{
+    match pair_test(version, name.text.bytes()) {
+        Some(test) => pair_or_call_at(alloc, test, name, tokens),
+        None => {
+            let test = test_of(name.text.bytes());
+            call_at(alloc, test, name, tokens)
+        }
+    }
 }
 
 /// A comparison, behind its first operand.
@@ -238,17 +375,17 @@ fn relation_at(
 #[tactic(auto, unfolding(crate::specs::Reading::read_behind))]
 fn behind_at(
     alloc: Global,
+    version: u8,
     first: Operand,
     tokens: &[Token],
 ) -> Result<(Condition, &[Token]), Halt<Token>>
     ensures { Gives (λ x. condition_written x.0) (λ x. x.1.now) result
-        (read_behind first tokens.now) }
+        (read_behind version first tokens.now) }
 {
     match first {
         Operand::Variable(text, span) => {
             if has_sign(tokens, Sign::OpenParen) {
-                let test = test_of(text.bytes());
-                call_at(alloc, test, Word { text, span }, tokens)
+                name_call_at(alloc, version, Word { text, span }, tokens)
             } else {
                 relation_at(alloc, Operand::Variable(text, span), tokens)
             }
@@ -268,34 +405,49 @@ fn behind_at(
 
 /// A condition that is no negation.
 #[tactic(auto, unfolding(crate::specs::Reading::read_plain))]
-fn plain_at(alloc: Global, tokens: &[Token]) -> Result<(Condition, &[Token]), Halt<Token>>
-    ensures { Gives (λ x. condition_written x.0) (λ x. x.1.now) result (read_plain tokens.now) }
+fn plain_at(
+    alloc: Global,
+    version: u8,
+    tokens: &[Token],
+) -> Result<(Condition, &[Token]), Halt<Token>>
+    ensures { Gives (λ x. condition_written x.0) (λ x. x.1.now) result
+        (read_plain version tokens.now) }
 {
     let (first, rest) = operand_at(alloc, tokens)?;
-    behind_at(alloc, first, rest)
+    behind_at(alloc, version, first, rest)
 }
 
 /// A negation.
 #[tactic(auto, unfolding(crate::specs::Reading::read_negated))]
-fn negated_at(alloc: Global, tokens: &[Token]) -> Result<(Condition, &[Token]), Halt<Token>>
-    ensures { Gives (λ x. condition_written x.0) (λ x. x.1.now) result (read_negated tokens.now) }
+fn negated_at(
+    alloc: Global,
+    version: u8,
+    tokens: &[Token],
+) -> Result<(Condition, &[Token]), Halt<Token>>
+    ensures { Gives (λ x. condition_written x.0) (λ x. x.1.now) result
+        (read_negated version tokens.now) }
 {
     let (not, rest) = keyword_at(tokens, Keyword::Not)?;
     let (_, rest) = sign_at(rest, Sign::OpenParen)?;
-    let (inner, rest) = plain_at(alloc, rest)?;
+    let (inner, rest) = plain_at(alloc, version, rest)?;
     let (close, rest) = sign_at(rest, Sign::CloseParen)?;
     let span = from_to(not, close);
     Ok((Condition::Not(Box::new(alloc, inner)?, span), rest))
 }
 
-/// A condition.
+/// A condition of a query of this version.
 #[tactic(auto, unfolding(crate::specs::Reading::read_condition))]
-pub fn condition_at(alloc: Global, tokens: &[Token]) -> Result<(Condition, &[Token]), Halt<Token>>
-    ensures { Gives (λ x. condition_written x.0) (λ x. x.1.now) result (read_condition tokens.now) }
+pub fn condition_at(
+    alloc: Global,
+    version: u8,
+    tokens: &[Token],
+) -> Result<(Condition, &[Token]), Halt<Token>>
+    ensures { Gives (λ x. condition_written x.0) (λ x. x.1.now) result
+        (read_condition version tokens.now) }
 {
     if has_keyword(tokens, Keyword::Not) {
-        negated_at(alloc, tokens)
+        negated_at(alloc, version, tokens)
     } else {
-        plain_at(alloc, tokens)
+        plain_at(alloc, version, tokens)
     }
 }

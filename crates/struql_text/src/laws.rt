@@ -1,10 +1,10 @@
 // Laws of the readers of a query's parts: what each reads is what its grammar spells.
 
-ghost use Rattle.std.specs.Prelude.{List};
+ghost use Rattle.std.specs.Prelude.{ℕ, List};
 ghost use Rattle.sd_lex.specs.declared.token.Token.{Token};
 ghost use Rattle.struql_text.specs.SpelledConditions.{IsReadAsSpelled};
 
-/// A condition is read exactly where tokens in front spell it within the limits.
+/// In each version a condition is read exactly where tokens in front spell it within the limits.
 pub fn conditions_are_read_as_spelled()
-    ensures { (tokens : List Token) → IsReadAsSpelled tokens }
+    ensures { (version : ℕ) (tokens : List Token) → IsReadAsSpelled version tokens }
 {}

@@ -410,7 +410,7 @@ const PAGES: &[PageRow] = &[
     },
     PageRow {
         data_text: "",
-        query: "STRUQL 3",
+        query: "STRUQL 4",
         templates: LOOKS,
         address: "/",
         code: 3,

@@ -3,3 +3,4 @@ mod built;
 mod limits;
 mod parts;
 mod queries;
+mod version_3;

@@ -1,6 +1,7 @@
 // Queries that are refused, each with its number and place, worked out by hand from the grammar and the checks.
 mod long_rows;
 mod rows;
+mod version_3;
 
 use crate::inputs::LIMIT;
 use query_reader::{QueryRefusal, read_query};

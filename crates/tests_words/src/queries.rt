@@ -62,7 +62,7 @@ const ROWS: &[Row] = &[
         ..ROW
     },
     Row {
-        text: "STRUQL 3",
+        text: "STRUQL 4",
         refusal: ParseRefusal::BadVersion(7),
         ..ROW
     },

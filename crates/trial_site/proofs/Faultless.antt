@@ -11,7 +11,7 @@ use Rattle.struql_check.specs.declared.mentions.VariableUse.{VariableUse}
 use Rattle.struql_check.specs.declared.terms.SeenTerm.{SeenTerm}
 use Rattle.struql_check.specs.Scope.{sort_of, ScopedBlock, scoped, chain_mentions, block_mentions, terms}
 use Rattle.struql_check.specs.Faults.{SomeIn, MentionFault, ChainFault, large_place, ConditionFault}
-use Rattle.struql_check.specs.Faults.{is_plain, LinkFault, is_test, CollectFault, BlockFault}
+use Rattle.struql_check.specs.Faults.{is_plain, LinkFault, is_reserved, CollectFault, BlockFault}
 use Rattle.struql_check.specs.Faults.{is_created, first_arity, is_index, TermFault, IsFaultless}
 use Rattle.struql_check.specs.First.{IsFirst, earlier, fault_at, broken_role}
 use Rattle.struql_check.specs.Known.{names_of, differs, broken_term}
@@ -88,31 +88,31 @@ unfolding from_page
 from_page_never k e LinkFromData at h = let no = not_is (is_plain k.source) e in absurd cc
 from_page_never k e check at h = h
 
-unfoldable pub collects : Collect → Bool
-collects o = not (is_test o.collection)
+unfoldable pub collects : ℕ → Collect → Bool
+collects version o = not (is_reserved version o.collection)
 
-collects_never : (o : Collect) → collects o ≡ true → Never (CollectFault o)
+collects_never : (version : ℕ) (o : Collect) → collects version o ≡ true → Never (CollectFault version o)
 unfolding collects
-collects_never o e Reserved at h = let no = not_is (is_test o.collection) e in absurd cc
-collects_never o e check at h = h
+collects_never version o e Reserved at h = let no = not_is (is_reserved version o.collection) e in absurd cc
+collects_never version o e check at h = h
 
-unfoldable pub sound_block : ScopedBlock → Bool
-sound_block b =
+unfoldable pub sound_block : ℕ → ScopedBlock → Bool
+sound_block version b =
     each (plays b.round) (block_mentions b.clauses) &&
     (few (chain_mentions b) &&
-    (each small b.clauses.conditions && (each from_page b.clauses.links && each collects b.clauses.collects)))
+    (each small b.clauses.conditions && (each from_page b.clauses.links && each (collects version) b.clauses.collects)))
 
 mentions_never : (b : ScopedBlock) → each (plays b.round) (block_mentions b.clauses) ≡ true
     → Never (SomeIn (MentionFault b.round) (block_mentions b.clauses))
 mentions_never b = each_never (MentionFault b.round) (plays b.round) (plays_never b.round) (block_mentions b.clauses)
 
-block_never : (b : ScopedBlock) → sound_block b ≡ true → Never (BlockFault b)
+block_never : (version : ℕ) (b : ScopedBlock) → sound_block version b ≡ true → Never (BlockFault version b)
 unfolding sound_block
-block_never b e check at h =
+block_never version b e check at h =
     let one = both (each (plays b.round) (block_mentions b.clauses)) _ e in
     let two = both (few (chain_mentions b)) _ one.1 in
     let three = both (each small b.clauses.conditions) _ two.1 in
-    let four = both (each from_page b.clauses.links) (each collects b.clauses.collects) three.1 in
+    let four = both (each from_page b.clauses.links) (each (collects version) b.clauses.collects) three.1 in
     elim h as (λ _. ⊥) [
       | inl m ↦ mentions_never b one.0 check at m
       | inr h ↦ elim h as (λ _. ⊥) [
@@ -121,7 +121,7 @@ block_never b e check at h =
           | inl c ↦ each_never ConditionFault small small_never b.clauses.conditions three.0 check at c
           | inr h ↦ elim h as (λ _. ⊥) [
             | inl l ↦ each_never LinkFault from_page from_page_never b.clauses.links four.0 check at l
-            | inr o ↦ each_never CollectFault collects collects_never b.clauses.collects four.1 check at o
+            | inr o ↦ each_never (CollectFault version) (collects version) (collects_never version) b.clauses.collects four.1 check at o
           ]
         ]
       ]
@@ -129,29 +129,32 @@ block_never b e check at h =
 
 -- ---- terms
 
-unfoldable pub sound_term : List SeenTerm → SeenTerm → Bool
-sound_term all t =
+unfoldable pub sound_term : ℕ → List SeenTerm → SeenTerm → Bool
+sound_term version all t =
     is_none (broken_term (t.linked && not (is_created all t.function)) (differs (first_arity all t.function) t.arity)
-    (is_index t.function || is_test t.function))
+    (is_index t.function || is_reserved version t.function))
 
-term_never : (all : List SeenTerm) (t : SeenTerm) → sound_term all t ≡ true → Never (TermFault all t)
+term_never : (version : ℕ) (all : List SeenTerm) (t : SeenTerm) → sound_term version all t ≡ true
+    → Never (TermFault version all t)
 unfolding sound_term
-term_never all t e = never_by (TermFault all t) _ t.at (term_first all t) e
+term_never version all t e = never_by (TermFault version all t) _ t.at (term_first version all t) e
 
-terms_never : (all ts : List SeenTerm) → each (sound_term all) ts ≡ true → Never (SomeIn (TermFault all) ts)
-terms_never all = each_never (TermFault all) (sound_term all) (term_never all)
+terms_never : (version : ℕ) (all ts : List SeenTerm) → each (sound_term version all) ts ≡ true
+    → Never (SomeIn (TermFault version all) ts)
+terms_never version all = each_never (TermFault version all) (sound_term version all) (term_never version all)
 
 -- ---- the whole
 
 -- no check finds a fault
 unfoldable pub sound_query : Query → Bool
-sound_query q = each sound_block (scoped q) && each (sound_term (terms q)) (terms q)
+sound_query q =
+    each (sound_block q.version) (scoped q) && each (sound_term q.version (terms q)) (terms q)
 
 pub sound_faultless : (q : Query) → sound_query q ≡ true → IsFaultless q
 unfolding sound_query
 sound_faultless q e check at h =
-    let parts = both (each sound_block (scoped q)) (each (sound_term (terms q)) (terms q)) e in
+    let parts = both (each (sound_block q.version) (scoped q)) (each (sound_term q.version (terms q)) (terms q)) e in
     elim h as (λ _. ⊥) [
-      | inl b ↦ each_never BlockFault sound_block block_never (scoped q) parts.0 check at b
-      | inr t ↦ terms_never (terms q) (terms q) parts.1 check at t
+      | inl b ↦ each_never (BlockFault q.version) (sound_block q.version) (block_never q.version) (scoped q) parts.0 check at b
+      | inr t ↦ terms_never q.version (terms q) (terms q) parts.1 check at t
     ]

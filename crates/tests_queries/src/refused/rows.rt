@@ -3,10 +3,10 @@ use crate::refused::{Reported, check_reported};
 use std::process::Abort;
 use std::test::Fail;
 
-// Texts that are refused with the same number, each with `^` before the refused place and `'` for each quote, or queries.
-struct Refused {
-    number: Option<u32>,
-    texts: &'static [&'static str],
+/// Texts that are refused with the same number, each with `^` before the refused place and `'` for each quote, or queries.
+pub struct Refused {
+    pub number: Option<u32>,
+    pub texts: &'static [&'static str],
 }
 
 const REFUSED: &[Refused] = &[
@@ -57,7 +57,7 @@ const REFUSED: &[Refused] = &[
     Refused {
         number: Some(73),
         texts: &[
-            "STRUQL ^3 INPUT D OUTPUT S",
+            "STRUQL ^4 INPUT D OUTPUT S",
             "STRUQL ^0 D",
             "STRUQL ^-1 INPUT D OUTPUT S",
         ],
@@ -219,7 +219,8 @@ const REFUSED: &[Refused] = &[
     },
 ];
 
-fn check_texts<R: AllocGlobal + Abort>(rt: &R, row: &Refused) -> Result<(), Fail> {
+/// Compares what is reported of each text with its row.
+pub fn check_texts<R: AllocGlobal + Abort>(rt: &R, row: &Refused) -> Result<(), Fail> {
     for text in row.texts {
         let wanted = match (row.number, text.find('^')) {
             (Some(number), Some(place)) => Some(Reported {

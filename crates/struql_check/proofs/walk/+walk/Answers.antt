@@ -19,11 +19,11 @@ first_of_block-returns-clause-first t c =
     let round : c.enter.new.levels.items ≡ here c.args.levels.now.items b = c.in_ok-names.ensures.levels in
     let own : c.deref.result.now ≡ here c.args.levels.now.items b = c.deref.ensures.value ∙ round in
     let inner : c.deref-2.result.now ≡ (out-Block b).blocks.items = c.deref-2.ensures.value in
-    let by_clause : IsFirst (BlockFault (record { round = here c.args.levels.now.items b; clauses = block_clauses b })) c.in_ok-by_clause.by_clause =
-    subst (λ (r : List (List VariableUse)). IsFirst (BlockFault (record { round = r; clauses = block_clauses b })) c.in_ok-by_clause.by_clause) own c.in_ok-by_clause.ensures in
-    let by_block : IsFirst (SomeIn BlockFault (within (here c.args.levels.now.items b) (block_inner b))) c.in_ok-by_block.by_block =
-    rw (inner_of b, ← inner) (subst (λ (r : List (List VariableUse)). IsFirst (SomeIn BlockFault (within r (blocks_written c.deref-2.result.now))) c.in_ok-by_block.by_block) round c.in_ok-by_block.ensures.first) in
-    rw c.earlier.ensures (first_cons BlockFault _ _ c.in_ok-by_clause.by_clause c.in_ok-by_block.by_block by_clause by_block)
+    let by_clause : IsFirst (BlockFault c.args.version (record { round = here c.args.levels.now.items b; clauses = block_clauses b })) c.in_ok-by_clause.by_clause =
+    subst (λ (r : List (List VariableUse)). IsFirst (BlockFault c.args.version (record { round = r; clauses = block_clauses b })) c.in_ok-by_clause.by_clause) own c.in_ok-by_clause.ensures in
+    let by_block : IsFirst (SomeIn (BlockFault c.args.version) (within (here c.args.levels.now.items b) (block_inner b))) c.in_ok-by_block.by_block =
+    rw (inner_of b, ← inner) (subst (λ (r : List (List VariableUse)). IsFirst (SomeIn (BlockFault c.args.version) (within r (blocks_written c.deref-2.result.now))) c.in_ok-by_block.by_block) round c.in_ok-by_block.ensures.first) in
+    rw c.earlier.ensures (first_cons (BlockFault c.args.version) _ _ c.in_ok-by_clause.by_clause c.in_ok-by_block.by_block by_clause by_block)
 
 pub first_of_blocks-loop-block-preserved : goal.first_of_blocks-loop-block-preserved
 first_of_blocks-loop-block-preserved t c =
@@ -35,7 +35,7 @@ first_of_blocks-loop-block-preserved t c =
     record {
       levels = c.in_ok-first_of_block.ensures.levels ∙ c.loop-block.invariant.levels;
       first = rw (e, within_push round (take i bs) b, c.earlier-first.ensures)
-          (first_append BlockFault (within round (blocks_written (take i bs))) _ c.loop-block.first c.in_ok-first_of_block.field-0 c.loop-block.invariant.first
+          (first_append (BlockFault c.args.version) (within round (blocks_written (take i bs))) _ c.loop-block.first c.in_ok-first_of_block.field-0 c.loop-block.invariant.first
           (rw c.loop-block.invariant.levels at c.in_ok-first_of_block.ensures.first));
     }
 

@@ -8,5 +8,5 @@ use Rattle.struql_check.proofs.walk.+walk.Given as goal
 abbrev pub invariant-first_of_blocks-loop-block : goal.invariant-first_of_blocks-loop-block
 invariant-first_of_blocks-loop-block l = record {
   levels : l.levels.items ≡ l.initial.levels.items;
-  first : IsFirst (SomeIn BlockFault (within l.initial.levels.items (blocks_written (take l.block-index l.blocks)))) l.first;
+  first : IsFirst (SomeIn (BlockFault l.fn.version) (within l.initial.levels.items (blocks_written (take l.block-index l.blocks)))) l.first;
 }
