@@ -449,10 +449,52 @@ pub const VERDICTS: &[VerdictRow] = &[
     },
 ];
 
-#[test]
-fn each_constraint_has_its_verdict(rt: HostRuntime) -> Result<(), Fail> {
+const TESTED: &str = "STRUQL 3 INPUT D { CREATE R() } \
+    { WHERE C(x), x -> \"t\" -> t, starts(t, \"a\"), has(t, \"b\") CREATE F(x) } \
+    { WHERE C(y), y -> \"t\" -> u, starts(u, \"a\") LINK R() -> \"f\" -> F(y) } OUTPUT S";
+
+const EXCHANGED: &str = "STRUQL 3 INPUT D { CREATE R() } \
+    { WHERE C(x), x -> \"t\" -> t, has(t, \"a\") CREATE F(x) } \
+    { WHERE C(y), y -> \"t\" -> u, has(\"a\", u) LINK R() -> \"f\" -> F(y) } OUTPUT S";
+
+const OTHER_END: &str = "STRUQL 3 INPUT D { CREATE R() } \
+    { WHERE C(x), x -> \"t\" -> t, starts(t, \"a\") CREATE F(x) } \
+    { WHERE C(y), y -> \"t\" -> u, ends(u, \"a\") LINK R() -> \"f\" -> F(y) } OUTPUT S";
+
+const LISTED_3: &str =
+    "STRUQL 3 INPUT D WHERE C(x), x -> a -> y, a in {5} CREATE F(x) LINK F(x) -> a -> y OUTPUT S";
+
+/// Constraints of queries of version 3.
+const TEXT_VERDICTS: &[VerdictRow] = &[
+    VerdictRow {
+        query: TESTED,
+        constraint: "REACHABLE F FROM R",
+        yes: true,
+        reason: "The link asks for one of the two tests that hold of the page's row.",
+    },
+    VerdictRow {
+        query: EXCHANGED,
+        constraint: "REACHABLE F FROM R",
+        yes: false,
+        reason: "The sides of a test of texts can't be exchanged.",
+    },
+    VerdictRow {
+        query: OTHER_END,
+        constraint: "REACHABLE F FROM R",
+        yes: false,
+        reason: "A text that starts so may end otherwise.",
+    },
+    VerdictRow {
+        query: LISTED_3,
+        constraint: "NONE F LINKS \"5\"",
+        yes: false,
+        reason: "The Int 5 is the twin of a label from version 2 on.",
+    },
+];
+
+fn check_verdicts(rt: &HostRuntime, rows: &[VerdictRow]) -> Result<(), Fail> {
     let alloc = rt.alloc();
-    for row in VERDICTS {
+    for row in rows {
         let query = scoped_query(alloc, row.query.as_bytes())?;
         let constraints = parse_constraints(alloc, row.constraint.as_bytes(), 65_536, &query)?;
         let [constraint] = constraints.as_slice() else {
@@ -465,4 +507,14 @@ fn each_constraint_has_its_verdict(rt: HostRuntime) -> Result<(), Fail> {
         assert_eq!(rt; is_shown, row.yes, "{}: {}", row.constraint, row.reason);
     }
     Ok(())
+}
+
+#[test]
+fn each_constraint_has_its_verdict(rt: HostRuntime) -> Result<(), Fail> {
+    check_verdicts(&rt, VERDICTS)
+}
+
+#[test]
+fn tests_of_texts_entail_themselves_alone(rt: HostRuntime) -> Result<(), Fail> {
+    check_verdicts(&rt, TEXT_VERDICTS)
 }

@@ -98,6 +98,13 @@ const EXAMPLES: &[Example] = &[
         plans: "block 1\n  use y = 7 cost 1\n  use x -> 'v' -> y cost 4\n",
         rows: "| &o 7;",
     },
+    // A test of texts binds nothing, and costs nothing if its sides are known.
+    Example {
+        data_text: SEVENS,
+        query: "STRUQL 3 INPUT D WHERE starts(y, '0'), x -> 'v' -> y CREATE F(y) OUTPUT S",
+        plans: "block 1\n  use x -> 'v' -> y cost 3\n  use starts(y, '0') cost 0\n",
+        rows: "| &o '07';",
+    },
     // A list costs its constants, and from version 2 on twice as many, which is more than 3 edges.
     Example {
         data_text: SEVENS,
