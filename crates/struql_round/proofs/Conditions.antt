@@ -23,6 +23,7 @@ use Rattle.query_spec.specs.Query.{Operand, variable, constant, PathStep, arc_va
 use Rattle.grammar.specs.Grammar.{one, iterated}
 use Rattle.struql_text.specs.declared.keyword.Keyword.{Keyword}
 use Rattle.struql_text.specs.declared.keyword.Keyword.TheVariants as words
+use Rattle.struql_text.specs.declared.keyword.Word.{Word}
 use Rattle.struql_text.specs.Terminals.{from_to, is_keyword, name_value, collection_value, test_of, text_test_of, pair_test, operand_value, operand_span, constant_value}
 use Rattle.struql_text.specs.Expression.{expression_within, keyword}
 use Rattle.struql_text.specs.Grammar as text
@@ -180,7 +181,7 @@ pair_end_spelt test c span (constant v) place ts w h = h
 pair_spelt : (version : ℕ) (test : TextTest) (t u : Operand) (ts : List Token) → ShowsPair version test t u ts → Spelt (text.plain version expression_within) (compare t (Texts test) u) ts
 pair_spelt version test t u ts (word, name, opening, a, comma, b, close, is, shown, known, opens, first, between, other, ends) =
     let w = tree.compare (placed t a.span) (Texts test) (placed u b.span) (from_to name.span close.span) in
-    let c = record { text = word; span = name.span } in
+    let c : Word = record { text = word; span = name.span } in
     let later : text.pair_or_call test c (opening ∷ a ∷ comma ∷ b ∷ close ∷ []) w = (
       opening ∷ [],
       a ∷ comma ∷ b ∷ close ∷ [],

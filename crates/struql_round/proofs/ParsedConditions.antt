@@ -1,6 +1,6 @@
 -- Conditions that were read can be spelled.
 use Rattle.std.proofs.Common.{◌≡◌, ℕ, Bool, true, false, nat_eq, List, refl, sym, subst, inl, inr, arith}
-use Rattle.std.proofs.Math.Numerals.{nat_tests}
+use Rattle.std.proofs.lemmas.Bool.Decides.{nat_tests}
 use Rattle.std.specs.Prelude.{Option, Some, None}
 use Rattle.sd_value.specs.declared.Datum.TheVariants as datum
 use Rattle.sd_value.specs.declared.Value.TheVariants.{Data, Page}

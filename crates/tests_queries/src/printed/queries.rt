@@ -5,10 +5,10 @@ use std::test::Fail;
 use struql_parse::parse;
 use struql_print::print;
 
-// A query, and its canonical text, which is printed as it is, both with `'` for each quote.
-struct QueryRow {
-    text: &'static str,
-    canonical: &'static str,
+/// A query, and its canonical text, which is printed as it is, both with `'` for each quote.
+pub struct QueryRow {
+    pub text: &'static str,
+    pub canonical: &'static str,
 }
 
 const QUERIES: &[QueryRow] = &[
