@@ -103,7 +103,7 @@ const EXAMPLES: &[Example] = &[
         data_text: SEVENS,
         query: "STRUQL 3 INPUT D WHERE starts(y, '0'), x -> 'v' -> y CREATE F(y) OUTPUT S",
         plans: "block 1\n  use x -> 'v' -> y cost 3\n  use starts(y, '0') cost 0\n",
-        rows: "| &o '07';",
+        rows: "| '07' &o;",
     },
     // A list costs its constants, and from version 2 on twice as many, which is more than 3 edges.
     Example {
