@@ -92,7 +92,7 @@ twin_of_text s w h = absurd h
 
 pub twin_right : (v : Value) → Decides (has_twin v) ((w : Value) × IsTwinOf 2 v w)
 twin_right (Data (Int n)) =
-    as_well (is_short n) (λ h. (Data (Text (signed_decimal n)), (refl, h.0, h.1, refl))) (λ h. twin_of_number n h.0 h.1) (short_decides n)
+    as_well (is_short n) (λ h. (Data (Text (signed_decimal n)), (omega arith, h.0, h.1, refl))) (λ h. twin_of_number n h.0 h.1) (short_decides n)
 twin_right (Data (Text s)) =
     as_well (spells (signed_digits_value 10 s) s) (λ h. (Data (Int (signed_digits_value 10 s)), h)) (λ h. twin_of_text s h.0 h.1) (spells_right (signed_digits_value 10 s) s)
 twin_right (Data (Url s)) = never (λ h. h.1)
