@@ -3,6 +3,7 @@ use crate::checks::scoped_query;
 use constraint_prover::prove;
 use constraint_spec::Verdict;
 use constraints::parse_constraints;
+use std::process::Abort;
 use std::test::Fail;
 
 /// A constraint, and whether it has a certificate.
@@ -492,7 +493,7 @@ const TEXT_VERDICTS: &[VerdictRow] = &[
     },
 ];
 
-fn check_verdicts(rt: &HostRuntime, rows: &[VerdictRow]) -> Result<(), Fail> {
+fn check_verdicts<R: AllocGlobal + Abort>(rt: &R, rows: &[VerdictRow]) -> Result<(), Fail> {
     let alloc = rt.alloc();
     for row in rows {
         let query = scoped_query(alloc, row.query.as_bytes())?;
