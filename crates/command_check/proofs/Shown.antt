@@ -22,5 +22,6 @@ is_shown_broken q number c G h = record {
   below = refl;
   is_text = back true (graph_text G);
   is_read = is_read_again G h.well_formed h.integers;
+  within = h.within;
   broken = h.broken;
 }

@@ -12,6 +12,7 @@ use Rattle.constraint_spec.specs.declared.Constraint.{Constraint}
 use Rattle.constraint_spec.specs.Certificate.{Certificate, IsCertificate}
 use Rattle.constraint_spec.specs.Meets.{Meets}
 use Rattle.counterexample_spec.specs.First.{IsFirstBroken}
+use Rattle.sd_graph.specs.ProgramLimits.{IsWithinProgram}
 use Rattle.sd_ddl.specs.Written.{graph_text}
 use Rattle.ddl_laws.specs.RoundTrip.{HasI64s, IsReadAgain}
 use Rattle.certificate_text.specs.Lines.{yes_text, unknown_text}
@@ -28,17 +29,18 @@ pub data CheckAnswer : Type 0 where
 abbrev pub HasNoCertificate : Scope → Constraint → Type 0
 HasNoCertificate q c = (x : Certificate) → IsCertificate q c x → ⊥
 
--- A certificate of the constraint. Where it has none, the first candidate whose site breaks it, and
--- unknown where there is no such candidate.
+-- A certificate of the constraint. If it has none, the first candidate within the program's limits
+-- whose site breaks it, and unknown if there is no such candidate.
 abbrev pub IsCheckAnswer : Scope → Constraint → CheckAnswer → Type 0
 IsCheckAnswer q c (yes x) = IsCertificate q c x
-IsCheckAnswer q c (no G) = HasNoCertificate q c × IsFirstBroken q c (Some G)
-IsCheckAnswer q c unknown = HasNoCertificate q c × IsFirstBroken q c None
+IsCheckAnswer q c (no G) = HasNoCertificate q c × IsFirstBroken IsWithinProgram q c (Some G)
+IsCheckAnswer q c unknown = HasNoCertificate q c × IsFirstBroken IsWithinProgram q c None
 
--- a data graph as a program holds it, over which the query's site doesn't meet the constraint
+-- a data graph as the program holds it, over which the query's site doesn't meet the constraint
 pub record IsBrokenOver (q : Scope) (c : Constraint) (G : DataGraph) : Type 0 where
   pub well_formed : IsWellFormed G
   pub integers : HasI64s G
+  pub within : IsWithinProgram G
   pub broken : ¬ Meets G q c
 
 -- At a yes, the query's site over every data graph meets the constraint. At a no, its site over the
@@ -81,13 +83,15 @@ lines_of q number c (no G) = no_text number G
 lines_of q number c unknown = unknown_text number
 
 -- The lines are `K no` and, two spaces before each of its lines, a data text of a graph over which the
--- query's site doesn't meet the constraint: read into an empty builder with room it gives that graph.
+-- query's site doesn't meet the constraint. The graph is within the program's limits, and its text, read
+-- into an empty builder with room, gives it.
 pub record IsShownBroken (q : Query) (number : ℕ) (c : Constraint) (lines : List ℕ) : Type 0 where
   pub shown : List ℕ
   pub graph : DataGraph
   pub below : lines ≡ decimal number ++ codes " no\n" ++ shown
   pub is_text : unindented true shown ≡ graph_text graph
   pub is_read : IsReadAgain graph
+  pub within : IsWithinProgram graph
   pub broken : ¬ Meets graph (scope_of q) c
 
 -- the lines of these constraints, the first of which has this number

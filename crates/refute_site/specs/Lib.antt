@@ -1,4 +1,6 @@
+pub mod Adding
 pub mod Candidates
 pub mod Links
 pub mod Patterns
+pub mod Refuting
 pub mod Rules

@@ -1,9 +1,11 @@
 // Candidates, and the graphs that are made of them.
-ghost use Rattle.std.specs.Prelude.{◌≡◌, IfOk, OnOk, map};
+ghost use Rattle.std.specs.Prelude.{◌≡◌, IfOk, MatchOption, map};
 ghost use Rattle.struql_ast.specs.Reading.{operand_of, target_of};
 ghost use Rattle.counterexample_spec.specs.Candidates.{arguments_of};
 ghost use Rattle.counterexample_spec.specs.Values.{second_copy};
-ghost use Rattle.counterexample_spec.specs.Frozen.{with_all, stated};
+ghost use Rattle.counterexample_spec.specs.Frozen.{stated};
+ghost use Rattle.sd_graph.specs.ProgramLimits.{IsWithinProgram};
+ghost use Rattle.refute_site.specs.Adding.{AddsAll, IsBuiltWithin};
 ghost use Rattle.refute_site.specs.Patterns.{copy_of};
 ghost use Rattle.refute_site.specs.Candidates.{candidate_graph, HasItsVariables, in_copy, stated_beside};
 
@@ -43,8 +45,8 @@ impl Candidate<'_> {
         builder: &mut GraphBuilder,
     ) -> Result<(), GraphRefusal>
         requires { HasItsVariables self.now }
-        ensures { OnOk result (builder.new.graph
-            ≡ with_all builder.old.graph (stated (in_copy self.now (copy_of copy.entry)))) }
+        ensures { AddsAll (stated (in_copy self.now (copy_of copy.entry)))
+            builder.old builder.new result }
     {
         let pattern = Pattern {
             chain: self.chain,
@@ -63,8 +65,9 @@ impl Candidate<'_> {
         builder: &mut GraphBuilder,
     ) -> Result<(), GraphRefusal>
         requires { HasItsVariables self.now }
-        ensures { OnOk result (builder.new.graph ≡ with_all builder.old.graph
-            (stated (in_copy self.now (second_copy (arguments_of (target_of source.now)))))) }
+        ensures { AddsAll
+            (stated (in_copy self.now (second_copy (arguments_of (target_of source.now)))))
+            builder.old builder.new result }
     {
         self.add(alloc, ChainCopy::Second(arguments(source)), builder)
     }
@@ -72,8 +75,8 @@ impl Candidate<'_> {
     // Adds the second copy, if there is one.
     fn add_beside(&self, alloc: Global, builder: &mut GraphBuilder) -> Result<(), GraphRefusal>
         requires { HasItsVariables self.now }
-        ensures { OnOk result (builder.new.graph
-            ≡ with_all builder.old.graph (stated_beside self.now self.now.source)) }
+        ensures { AddsAll (stated_beside self.now self.now.source)
+            builder.old builder.new result }
     {
         match self.source {
             None => Ok(()),
@@ -81,27 +84,32 @@ impl Candidate<'_> {
         }
     }
 
-    // The candidate's graph, where it is within the program's limits.
+    // The candidate's graph, if it is within the program's limits.
     fn built(&self, alloc: Global) -> Result<GraphBuilder, GraphRefusal>
         requires { HasItsVariables self.now }
-        ensures { IfOk result (λ builder. builder.graph ≡ candidate_graph self.now) }
+        ensures { IsBuiltWithin (candidate_graph self.now) result }
     {
         let mut builder = GraphBuilder::new(alloc, PROGRAM_LIMITS);
         self.add(alloc, ChainCopy::First, &mut builder)?;
         self.add_beside(alloc, &mut builder)?;
+        // (this call reports that the graph is within them)
+        let _limits = builder.limits();
         Ok(builder)
     }
 
-    /// The candidate's graph.
+    /// The candidate's graph, if it is within the program's limits.
     /// # Errors
-    /// Out of memory. Queries are too short for a candidate past the program's limits, which is out of memory too.
-    pub(crate) fn graph(&self, alloc: Global) -> Result<GraphBuilder, NoMemory>
+    /// Out of memory.
+    pub(crate) fn graph(&self, alloc: Global) -> Result<Option<GraphBuilder>, NoMemory>
         requires { HasItsVariables self.now }
-        ensures { IfOk result (λ builder. builder.graph ≡ candidate_graph self.now) }
+        ensures { IfOk result (λ found.
+            MatchOption found (¬ IsWithinProgram (candidate_graph self.now)) (λ builder.
+            (builder.graph ≡ candidate_graph self.now)
+            × IsWithinProgram (candidate_graph self.now))) }
     {
         match self.built(alloc) {
-            Ok(builder) => Ok(builder),
-            Err(GraphRefusal::TooManyNodes | GraphRefusal::TooManyEdges) => Err(NoMemory),
+            Ok(builder) => Ok(Some(builder)),
+            Err(GraphRefusal::TooManyNodes | GraphRefusal::TooManyEdges) => Ok(None),
             Err(GraphRefusal::NoMemory) => Err(NoMemory),
         }
     }

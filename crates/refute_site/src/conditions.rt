@@ -1,9 +1,9 @@
 // What conditions ask for, added to a graph that is built.
-ghost use Rattle.std.specs.Prelude.{◌≡◌, OnOk};
 ghost use Rattle.query_spec.specs.Query.{path};
 ghost use Rattle.query_spec.specs.Rows.{value_in};
 ghost use Rattle.struql_ast.specs.Reading.{operand_of, step_of, condition_of};
-ghost use Rattle.counterexample_spec.specs.Frozen.{with_all, asked, all_asked};
+ghost use Rattle.counterexample_spec.specs.Frozen.{asked, all_asked};
+ghost use Rattle.refute_site.specs.Adding.{AddsAll};
 ghost use Rattle.refute_site.specs.Patterns.{copy_of};
 
 use crate::freezing::Pattern;
@@ -25,10 +25,11 @@ fn add_path(
     ends: (&Operand, &Operand),
     step: &PathStep,
 ) -> Result<(), GraphRefusal>
-    ensures { OnOk result (builder.new.graph ≡ with_all builder.old.graph
+    ensures { AddsAll
         (asked (value_in pattern.now.chain.now.variables values.now) (copy_of pattern.now.copy)
         pattern.now.repeats k
-        (path (operand_of ends.entry.0.now) (step_of step.now) (operand_of ends.entry.1.now)))) }
+        (path (operand_of ends.entry.0.now) (step_of step.now) (operand_of ends.entry.1.now)))
+        builder.old builder.new result }
 {
     let variables = pattern.chain.variables();
     let Some(from) = operand_value(variables, values, ends.0) else {
@@ -59,9 +60,9 @@ fn add_condition(
     k: usize,
     condition: &Condition,
 ) -> Result<(), GraphRefusal>
-    ensures { OnOk result (builder.new.graph ≡ with_all builder.old.graph
+    ensures { AddsAll
         (asked (value_in pattern.now.chain.now.variables values.now) (copy_of pattern.now.copy)
-        pattern.now.repeats k (condition_of condition.now))) }
+        pattern.now.repeats k (condition_of condition.now)) builder.old builder.new result }
 {
     match condition {
         Condition::Member {
@@ -89,9 +90,9 @@ pub(crate) fn add_conditions(
     pattern: &Pattern,
     values: &[Value],
 ) -> Result<(), GraphRefusal>
-    ensures { OnOk result (builder.new.graph ≡ with_all builder.old.graph
+    ensures { AddsAll
         (all_asked (value_in pattern.now.chain.now.variables values.now) (copy_of pattern.now.copy)
-        pattern.now.repeats 0 pattern.now.chain.now.conditions)) }
+        pattern.now.repeats 0 pattern.now.chain.now.conditions) builder.old builder.new result }
 {
     let conditions = pattern.chain.conditions();
     for (k, condition) in conditions.iter().enumerate() {

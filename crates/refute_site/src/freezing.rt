@@ -1,7 +1,8 @@
 // Data graphs in which the conditions of a chain are frozen: what they ask for of values that its
 // variables are given.
-ghost use Rattle.std.specs.Prelude.{OnOk, ◌≡◌};
-ghost use Rattle.counterexample_spec.specs.Frozen.{with_all, stated};
+ghost use Rattle.std.specs.Prelude.{◌≡◌};
+ghost use Rattle.counterexample_spec.specs.Frozen.{stated};
+ghost use Rattle.refute_site.specs.Adding.{AddsAll};
 ghost use Rattle.refute_site.specs.Patterns.{pattern_of, HasItsVariables};
 
 use crate::conditions::add_conditions;
@@ -41,15 +42,15 @@ pub(crate) struct Pattern<'a> {
 
 /// Adds what the chain asks for to the graph that is built.
 /// # Errors
-/// Those of the builder. The graph then has some part of it.
+/// Those of the builder. The graph then has some part of it. Too many come exactly if it would have too
+/// many with all of it.
 pub(crate) fn freeze(
     alloc: Global,
     builder: &mut GraphBuilder,
     pattern: &Pattern,
 ) -> Result<(), GraphRefusal>
     requires { HasItsVariables pattern.now }
-    ensures { OnOk result
-        (builder.new.graph ≡ with_all builder.old.graph (stated (pattern_of pattern.now))) }
+    ensures { AddsAll (stated (pattern_of pattern.now)) builder.old builder.new result }
 {
     let values = values_of(alloc, pattern)?;
     add_values(alloc, builder, &values)?;

@@ -3,6 +3,7 @@
 #![tactic(auto)]
 
 ghost use Rattle.std.specs.Prelude.{◌≡◌, IfOk, Some};
+ghost use Rattle.sd_graph.specs.ProgramLimits.{IsWithinProgram};
 ghost use Rattle.site_spec.specs.Site.{scope_of, Scope};
 ghost use Rattle.graph_spec.specs.DataGraph.{DataGraph};
 ghost use Rattle.constraint_spec.specs.declared.Constraint.{Constraint as TheConstraint};
@@ -30,8 +31,8 @@ use sd_graph::{Graph, GraphBuilder, PROGRAM_LIMITS};
 use sd_value::NoMemory;
 use std::alloc::Global;
 
-/// The first of the constraint's candidates over which the query's site doesn't meet the constraint,
-/// and none exactly where it meets it over each of them. The candidates are made one after another.
+/// The first of the constraint's candidates that are within the program's limits over which the query's site doesn't
+/// meet the constraint, and none exactly if it meets it over each of these. The candidates are made one after another.
 /// # Errors
 /// Out of memory.
 pub fn first_broken<T: Oracle>(
@@ -44,7 +45,8 @@ pub fn first_broken<T: Oracle>(
     requires scope { T.scope trial.old ≡ scope_of query.now }
     ensures own { T.Own trial.new }
     ensures scope { T.scope trial.new ≡ T.scope trial.old }
-    ensures first { IfOk result (IsFirstBroken (scope_of query.now) constraint.now) }
+    ensures first { IfOk result
+        (IsFirstBroken IsWithinProgram (scope_of query.now) constraint.now) }
 {
     let candidates = candidates_of(alloc, query.blocks(), constraint)?;
     let empty = GraphBuilder::new(alloc, PROGRAM_LIMITS);
@@ -54,8 +56,9 @@ pub fn first_broken<T: Oracle>(
     first_refuting(alloc, &candidates, constraint, trial)
 }
 
-/// The query's site over the graph that is found doesn't meet the constraint.
+/// The graph that is found is within the program's limits, and the query's site over it doesn't meet the constraint.
 pub fn what_is_found_is_a_counterexample()
-    ensures { (q : Scope) (c : TheConstraint) (G : DataGraph) → IsFirstBroken q c (Some G)
-        → Meets G q c → ⊥ }
+    ensures { (q : Scope) (c : TheConstraint) (G : DataGraph)
+        → IsFirstBroken IsWithinProgram q c (Some G)
+        → IsWithinProgram G × (Meets G q c → ⊥) }
 {}

@@ -1,10 +1,11 @@
 // Trials of data graphs, one after another.
-ghost use Rattle.std.specs.Prelude.{◌≡◌, ◌↔◌, IfOk, IsTrue, MatchOption, map};
+ghost use Rattle.std.specs.Prelude.{◌≡◌, IfOk, map};
 ghost use Rattle.graph_spec.specs.DataGraph.{DataGraph};
-ghost use Rattle.site_spec.specs.Site.{Scope};
+ghost use Rattle.sd_graph.specs.ProgramLimits.{IsWithinProgram};
 ghost use Rattle.constraint_spec.specs.Meets.{Meets};
 ghost use Rattle.counterexample_spec.specs.First.{IsFirstWithout};
-ghost use Rattle.refute_site.specs.Candidates.{candidate_graph, HaveTheirVariables};
+ghost use Rattle.refute_site.specs.Candidates.{candidate_graph, HasItsVariables, HaveTheirVariables};
+ghost use Rattle.refute_site.specs.Refuting.{IsRefuting};
 
 use crate::candidate::Candidate;
 use crate::oracle::Oracle;
@@ -23,12 +24,11 @@ pub(crate) fn refuting<T: Oracle>(
     trial: &mut T,
 ) -> Result<Option<Graph>, NoMemory>
     requires own { T.Own trial.old }
+    requires within { IsWithinProgram builder.graph }
     ensures own { T.Own trial.new }
     ensures scope { T.scope trial.new ≡ T.scope trial.old }
-    ensures first { IfOk result (λ found.
-        MatchOption found (Meets builder.graph (T.scope trial.old) constraint.now)
-        (λ graph. (graph ≡ builder.graph)
-        × (Meets builder.graph (T.scope trial.old) constraint.now → ⊥))) }
+    ensures first { IfOk result (IsRefuting IsWithinProgram
+        (λ (G : DataGraph). Meets G (T.scope trial.old) constraint.now) builder.graph) }
 {
     let same = builder.copy(alloc)?;
     let graph = builder.finish(alloc)?;
@@ -39,8 +39,30 @@ pub(crate) fn refuting<T: Oracle>(
     Ok(Some(graph))
 }
 
-/// The graph of the first of the candidates over which the query's site doesn't meet the constraint.
-/// No graph is made after it.
+// The candidate's graph, if it is within the program's limits and the query's site over it doesn't meet
+// the constraint.
+fn refuting_candidate<T: Oracle>(
+    alloc: Global,
+    candidate: &Candidate,
+    constraint: &Constraint,
+    trial: &mut T,
+) -> Result<Option<Graph>, NoMemory>
+    requires own { T.Own trial.old }
+    requires variables { HasItsVariables candidate.now }
+    ensures own { T.Own trial.new }
+    ensures scope { T.scope trial.new ≡ T.scope trial.old }
+    ensures first { IfOk result (IsRefuting IsWithinProgram
+        (λ (G : DataGraph). Meets G (T.scope trial.old) constraint.now)
+        (candidate_graph candidate.now)) }
+{
+    match candidate.graph(alloc)? {
+        None => Ok(None),
+        Some(builder) => refuting(alloc, builder, constraint, trial),
+    }
+}
+
+/// The graph of the first of the candidates that are within the program's limits over which the query's site doesn't
+/// meet the constraint. No graph is made after it.
 /// # Errors
 /// Out of memory.
 pub(crate) fn first_refuting<T: Oracle>(
@@ -53,13 +75,12 @@ pub(crate) fn first_refuting<T: Oracle>(
     requires variables { HaveTheirVariables candidates.now }
     ensures own { T.Own trial.new }
     ensures scope { T.scope trial.new ≡ T.scope trial.old }
-    ensures first { IfOk result (IsFirstWithout
+    ensures first { IfOk result (IsFirstWithout IsWithinProgram
         (λ (G : DataGraph). Meets G (T.scope trial.old) constraint.now)
         (map candidate_graph candidates.now)) }
 {
     for candidate in candidates {
-        let builder = candidate.graph(alloc)?;
-        if let Some(refuted) = refuting(alloc, builder, constraint, trial)? {
+        if let Some(refuted) = refuting_candidate(alloc, candidate, constraint, trial)? {
             return Ok(Some(refuted));
         }
     }

@@ -1,8 +1,9 @@
 // What is stated of values, added to a graph that is built.
-ghost use Rattle.std.specs.Prelude.{◌≡◌, ◌++◌, suc, IfOk, OnOk, codes};
+ghost use Rattle.std.specs.Prelude.{◌≡◌, ◌++◌, suc, IfOk, codes};
 ghost use Rattle.std.specs.List.{flat_map};
-ghost use Rattle.counterexample_spec.specs.Frozen.{with_all, declared, joined, edge, edge_by};
+ghost use Rattle.counterexample_spec.specs.Frozen.{declared, joined, edge, edge_by};
 ghost use Rattle.counterexample_spec.specs.Frozen.{ending as ending_of, step as step_of, along};
+ghost use Rattle.refute_site.specs.Adding.{AddsAll};
 ghost use Rattle.refute_site.specs.Patterns.{copy_of};
 
 use crate::freezing::ChainCopy;
@@ -13,14 +14,10 @@ use token_writer::{put, put_number};
 
 // Declares the value, if it is a node.
 fn add_value(alloc: Global, builder: &mut GraphBuilder, value: &Value) -> Result<(), GraphRefusal>
-    ensures { OnOk result
-        (builder.new.graph ≡ with_all builder.old.graph (declared value.now)) }
+    ensures { AddsAll (declared value.now) builder.old builder.new result }
 {
     match value {
-        Value::Data(Datum::Node(name)) => {
-            builder.add_node(alloc, name)?;
-            Ok(())
-        }
+        Value::Data(Datum::Node(name)) => builder.add_node(alloc, name),
         _ => Ok(()),
     }
 }
@@ -31,8 +28,7 @@ pub(crate) fn add_values(
     builder: &mut GraphBuilder,
     values: &[Value],
 ) -> Result<(), GraphRefusal>
-    ensures { OnOk result
-        (builder.new.graph ≡ with_all builder.old.graph (flat_map declared values.now)) }
+    ensures { AddsAll (flat_map declared values.now) builder.old builder.new result }
 {
     for value in values {
         add_value(alloc, builder, value)?;
@@ -47,14 +43,10 @@ pub(crate) fn add_member(
     collection: &Str,
     value: &Value,
 ) -> Result<(), GraphRefusal>
-    ensures { OnOk result
-        (builder.new.graph ≡ with_all builder.old.graph (joined collection.now value.now)) }
+    ensures { AddsAll (joined collection.now value.now) builder.old builder.new result }
 {
     match value {
-        Value::Data(Datum::Node(name)) => {
-            builder.add_member(alloc, collection, name)?;
-            Ok(())
-        }
+        Value::Data(Datum::Node(name)) => builder.add_member(alloc, collection, name),
         _ => Ok(()),
     }
 }
@@ -67,17 +59,13 @@ fn add_edge(
     label: &Str,
     to: &Value,
 ) -> Result<(), GraphRefusal>
-    ensures { OnOk result
-        (builder.new.graph ≡ with_all builder.old.graph (edge from.now label.now to.now)) }
+    ensures { AddsAll (edge from.now label.now to.now) builder.old builder.new result }
 {
     let Value::Data(Datum::Node(name)) = from else {
         return Ok(());
     };
     match to {
-        Value::Data(_) => {
-            builder.add_edge(alloc, name, label, to)?;
-            Ok(())
-        }
+        Value::Data(_) => builder.add_edge(alloc, name, label, to),
         Value::Page(_) => Ok(()),
     }
 }
@@ -90,8 +78,7 @@ pub(crate) fn add_edge_by(
     label: &Value,
     to: &Value,
 ) -> Result<(), GraphRefusal>
-    ensures { OnOk result
-        (builder.new.graph ≡ with_all builder.old.graph (edge_by from.now label.now to.now)) }
+    ensures { AddsAll (edge_by from.now label.now to.now) builder.old builder.new result }
 {
     match label {
         Value::Data(Datum::Text(text)) => add_edge(alloc, builder, from, text, to),
@@ -130,8 +117,8 @@ pub(crate) fn add_along(
     word: &[Str],
     to: &Value,
 ) -> Result<(), GraphRefusal>
-    ensures { OnOk result (builder.new.graph ≡ with_all builder.old.graph
-        (along (step_of (copy_of chain_copy.entry) k) 1 from.now word.now to.now)) }
+    ensures { AddsAll (along (step_of (copy_of chain_copy.entry) k) 1 from.now word.now to.now)
+        builder.old builder.new result }
 {
     let mut start = copy(alloc, from)?;
     for (j, label) in word.iter().enumerate() {
