@@ -1,0 +1,5 @@
+pub mod Cuts
+pub mod Words
+pub mod Characters
+pub mod Numbers
+pub mod Folding
