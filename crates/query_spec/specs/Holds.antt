@@ -1,5 +1,5 @@
 -- When a condition holds in a data graph, under an assignment of values to variables.
-use Rattle.std.specs.Prelude.{◌≡◌, ◌⊎◌, ℕ, ◌^◌, ◌-◌, ℤ, pos, negsuc, ◌≤ℤ◌, Contains}
+use Rattle.std.specs.Prelude.{◌≡◌, ◌⊎◌, ℕ, ◌≤◌, ◌^◌, ◌-◌, ℤ, pos, negsuc, ◌≤ℤ◌, Contains}
 use Rattle.std.specs.Fmt.{signed_decimal}
 use Rattle.std.specs.Prelude.{Option, Some}
 use Rattle.std.specs.declared.cmp.Ordering.{Ordering}
@@ -9,12 +9,13 @@ use Rattle.sd_value.specs.declared.Datum.TheVariants.{Int, Text, Url, File, Node
 use Rattle.sd_value.specs.declared.Value.{Value}
 use Rattle.sd_value.specs.declared.Value.TheVariants.{Data}
 use Rattle.sd_value.specs.Order.{bytes_cmp}
+use Rattle.value_texts.specs.Texts.{TextsHold}
 use Rattle.rpe.specs.Regex.{Word}
 use Rattle.rpe.specs.Language.{InLanguage}
 use Rattle.graph_spec.specs.DataGraph.{DataGraph, Name, node, text, HasEdge, HasMember}
 use Rattle.graph_spec.specs.Walk.{Walk}
 use Rattle.query_spec.specs.declared.Op.{Op}
-use Rattle.query_spec.specs.declared.Op.TheVariants.{Eq, Ne, Lt, Le, Gt, Ge}
+use Rattle.query_spec.specs.declared.Op.TheVariants.{Eq, Ne, Lt, Le, Gt, Ge, Texts}
 use Rattle.query_spec.specs.declared.Test.{Test}
 use Rattle.query_spec.specs.declared.Test.TheVariants.{IsInt, IsText, IsUrl, IsFile, IsNode}
 use Rattle.query_spec.specs.Query.{Operand, variable, constant, arc_variable, expression, Condition}
@@ -29,10 +30,10 @@ abbrev pub operand_value : Assignment → Operand → Option Value
 operand_value s (variable x) = s x
 operand_value s (constant v) = Some v
 
--- under version 2 a number of 64 bits and the text that spells it are twins
+-- from version 2 on a number of 64 bits and the text that spells it are twins
 abbrev pub AreTwins : ℕ → ℤ → Name → Type 0
 AreTwins version n s =
-    (version ≡ 2) × (negsuc (2 ^ 63 - 1) ≤ℤ n) × (n ≤ℤ pos (2 ^ 63 - 1)) × (s ≡ signed_decimal n)
+    (2 ≤ version) × (negsuc (2 ^ 63 - 1) ≤ℤ n) × (n ≤ℤ pos (2 ^ 63 - 1)) × (s ≡ signed_decimal n)
 
 -- one of the two is a number, and the other the text that spells it
 abbrev pub IsTwinOf : ℕ → Value → Value → Type 0
@@ -63,6 +64,7 @@ Compares version Lt u v = StandIn version Less u v
 Compares version Le u v = StandIn version Less u v ⊎ StandIn version Equal u v
 Compares version Gt u v = StandIn version Greater u v
 Compares version Ge u v = StandIn version Greater u v ⊎ StandIn version Equal u v
+Compares version (Texts test) u v = TextsHold test u v
 
 -- the value is of the kind that the test asks for
 abbrev pub HasKind : Test → Value → Type 0

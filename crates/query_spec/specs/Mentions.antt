@@ -81,10 +81,14 @@ condition_positions (path t (expression r) u) = positions r
 condition_positions (negation c) = condition_positions c
 condition_positions c = 0
 
+-- the versions of the language
+abbrev pub IsVersion : ℕ → Type 0
+IsVersion version = (version ≡ 1) ⊎ (version ≡ 2) ⊎ (version ≡ 3)
+
 -- what is asked of a chain: its variables are those of its conditions, each of the right kind, and
 -- its sizes are within their limits
 pub record IsWellMade (c : Chain) : Type 0 where
-  pub known_version : (c.version ≡ 1) ⊎ (c.version ≡ 2)
+  pub known_version : IsVersion c.version
   pub distinct : AllPairs (λ v w. v.name ≢ w.name) c.variables
   pub mentioned : (v : Variable) → Contains c.variables v
       → Contains (flat_map names c.conditions) v.name

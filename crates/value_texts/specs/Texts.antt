@@ -1,0 +1,34 @@
+-- The text of a value, and what tests of two texts ask.
+use Rattle.std.specs.Prelude.{◌≡◌, ℕ, List, ◌++◌, Option, Some, None, if◌then◌else◌}
+use Rattle.std.specs.Str.{is_utf8}
+use Rattle.std.specs.Fmt.{signed_decimal}
+use Rattle.sd_value.specs.declared.Datum.TheVariants.{Int, Text, Url, File, Node}
+use Rattle.sd_value.specs.declared.Value.{Value}
+use Rattle.sd_value.specs.declared.Value.TheVariants.{Data, Page}
+use Rattle.value_texts.specs.declared.TextTest.{TextTest}
+use Rattle.value_texts.specs.declared.TextTest.TheVariants.{Starts, Ends, Has}
+
+-- the bytes, if they are UTF-8
+abbrev pub as_utf8 : List ℕ → Option (List ℕ)
+as_utf8 s = if is_utf8 s then Some s else None
+
+-- the decimals of a number, and the bytes of a Text, Url or File, if they are UTF-8
+abbrev pub text_of : Value → Option (List ℕ)
+text_of (Data (Int n)) = Some (signed_decimal n)
+text_of (Data (Text s)) = as_utf8 s
+text_of (Data (Url s)) = as_utf8 s
+text_of (Data (File s)) = as_utf8 s
+text_of (Data (Node s)) = None
+text_of (Page t) = None
+
+-- the test holds of a text and another
+abbrev pub TextHolds : TextTest → List ℕ → List ℕ → Type 0
+TextHolds Starts text part = (after : List ℕ) × (text ≡ part ++ after)
+TextHolds Ends text part = (before : List ℕ) × (text ≡ before ++ part)
+TextHolds Has text part = (before after : List ℕ) × (text ≡ before ++ (part ++ after))
+
+-- both values have texts, and the test holds of these
+abbrev pub TextsHold : TextTest → Value → Value → Type 0
+TextsHold test u v =
+    (text part : List ℕ) × (text_of u ≡ Some text) × (text_of v ≡ Some part)
+    × TextHolds test text part
