@@ -1,0 +1,4 @@
+mod Passing
+mod Found
+mod Joining
+mod Letters

@@ -16,10 +16,10 @@ pub fn rest(text: &str, n: u64) -> &str
     let mut rest = text;
     for _i in 0..n {
         let mut characters = rest.chars();
-        if characters.next().is_none() {
-            return rest;
+        match characters.next() {
+            Some(_) => rest = characters.as_str(),
+            None => return rest,
         }
-        rest = characters.as_str();
     }
     rest
 }

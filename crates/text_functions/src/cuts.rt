@@ -1,13 +1,15 @@
 //! Where a text stands in another one.
 ghost use Rattle.std.specs.Prelude.{◌≡◌, ◌<◌, IfOk, MatchOption, length, map};
-ghost use Rattle.function_spec.specs.Cuts.{IsFirstAt, IsNowhere, AreParts};
+ghost use Rattle.value_texts.specs.Texts.{TextHolds};
+ghost use Rattle.value_texts.specs.declared.TextTest.TheVariants.{Has};
+ghost use Rattle.function_spec.specs.Cuts.{IsFirstAt, AreParts};
 
 use sd_value::NoMemory;
 use std::alloc::Global;
 
 /// What is before and after the first `by` in the text.
 pub fn cut<'a>(text: &'a str, by: &str) -> Option<(&'a str, &'a str)>
-    ensures { MatchOption result (IsNowhere by.now text.now)
+    ensures { MatchOption result (¬ (TextHolds Has text.now by.now))
         (λ r. IsFirstAt by.now text.now r.0.now r.1.now) }
 {
     text.split_once(by)

@@ -1,6 +1,7 @@
 //! Texts in which each run of some bytes is one mark.
-ghost use Rattle.std.specs.Prelude.{◌≡◌, IfOk, OnOk, ◌++◌, ◌∷◌, [], if◌then◌else◌, ◌==◌, length};
-ghost use Rattle.function_spec.specs.Words.{is_blank, is_other, trim, dashed, is_filled};
+ghost use Rattle.std.specs.Prelude.{◌≡◌, ◌++◌, ◌∷◌, ◌==◌, if◌then◌else◌, IfOk, OnOk, length, map};
+ghost use Rattle.std.specs.List.{filter, join_with_byte};
+ghost use Rattle.function_spec.specs.Words.{is_blank, is_other, is_filled, trim, dashed};
 
 use sd_value::NoMemory;
 use std::alloc::Global;
@@ -35,14 +36,24 @@ fn push_word(text: &mut Vec<u8>, word: &[u8], mark: u8) -> Result<(), NoMemory>
     Ok(())
 }
 
+// The words that are not empty, with a mark between each two.
+fn joined(alloc: Global, words: &[&[u8]], mark: u8) -> Result<Vec<u8>, NoMemory>
+    ensures { IfOk result (λ t.
+        t.items ≡ join_with_byte mark (filter is_filled (map (λ w. w.now) words.now))) }
+{
+    let mut text = Vec::new(alloc);
+    for word in words {
+        push_word(&mut text, word, mark)?;
+    }
+    Ok(text)
+}
+
 /// The text with each run of blanks as one space, and none at either end.
 pub fn trim(alloc: Global, text: &[u8]) -> Result<Vec<u8>, NoMemory>
     ensures { IfOk result (λ t. t.items ≡ trim text.now) }
 {
-    let mut trimmed = Vec::new(alloc);
-    for word in text.split(|byte| is_blank(*byte)) {
-        push_word(&mut trimmed, word, b' ')?;
-    }
+    let words: Vec<&[u8]> = text.split(|byte| is_blank(*byte)).collect(alloc)?;
+    let trimmed = joined(alloc, &words, b' ')?;
     Ok(trimmed)
 }
 
@@ -50,9 +61,7 @@ pub fn trim(alloc: Global, text: &[u8]) -> Result<Vec<u8>, NoMemory>
 pub fn dashed(alloc: Global, text: &[u8]) -> Result<Vec<u8>, NoMemory>
     ensures { IfOk result (λ t. t.items ≡ dashed text.now) }
 {
-    let mut dashed = Vec::new(alloc);
-    for word in text.split(|byte| is_other(*byte)) {
-        push_word(&mut dashed, word, b'-')?;
-    }
+    let words: Vec<&[u8]> = text.split(|byte| is_other(*byte)).collect(alloc)?;
+    let dashed = joined(alloc, &words, b'-')?;
     Ok(dashed)
 }

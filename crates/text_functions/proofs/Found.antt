@@ -1,0 +1,34 @@
+-- What `split_once` finds, and the parts of a text.
+use Rattle.std.proofs.Common.{◌≡◌, ℕ, ◌+◌, ◌<◌, ◌≤◌, List, [], ◌∷◌, ◌++◌, length, take, drop, map, refl, sym, ap, ◌∙◌, append_assoc, arith, Option, Some, None, MatchOption, ⊎_elim, subst}
+use denote.Ref.{Bor}
+use Rattle.std.specs.Str.Pattern.{FindsText}
+use Rattle.std.proofs.lemmas.Bool.{cases_lt}
+use Rattle.std.proofs.lemmas.List.{map-append}
+use Rattle.std.proofs.lemmas.Str.Pattern.{split_text_parts}
+use Rattle.std.proofs.Math.Seq.{drop-append_seam}
+use Rattle.value_texts.specs.Texts.{TextHolds}
+use Rattle.value_texts.specs.declared.TextTest.TheVariants.{Has}
+use Rattle.function_spec.specs.Cuts.{IsFirstAt, AreParts}
+
+abbrev Cuts : List ℕ → List ℕ → Option (Bor (List ℕ) × Bor (List ℕ)) → Type 0
+Cuts s t r = MatchOption r (FindsText s t None) (λ x. (i : ℕ) × (j : ℕ) × FindsText s t (Some (i, j)) × (x.0.now ≡ take i t) × (x.1.now ≡ drop j t) × (i ≤ j) × (length x.0.now ≡ i) × (length x.1.now + j ≡ length t))
+
+not_before : (s t : List ℕ) (i : ℕ) → ((k : ℕ) → k < i → (rest : List ℕ) → drop k t ≡ s ++ rest → ⊥) → (f b : List ℕ) → t ≡ f ++ (s ++ b) → i ≤ length f
+not_before s t i none f b e =
+    ⊎_elim (λ lt. absurd (none (length f) lt b (ap (drop (length f)) e ∙ drop-append_seam f (s ++ b)))) (λ le. le) (cases_lt (length f) i)
+
+-- what `split_once` gives is cut at the first place
+pub cut_at_first : (s t : List ℕ) (r : Option (Bor (List ℕ) × Bor (List ℕ))) → Cuts s t r → MatchOption r (¬ (TextHolds Has t s)) (λ x. IsFirstAt s t x.0.now x.1.now)
+cut_at_first s t None h = λ found. split_text_parts s t None h found.0 found.1 found.2
+cut_at_first s t (Some x) h = record {
+  whole = split_text_parts s t (Some x) h;
+  first = λ f b e. subst (λ n. n ≤ length f) (sym h.6) (not_before s t h.0 h.2.0 f b e);
+}
+
+-- a part in front of the parts of what is left
+pub parts_more : (s t front back : List ℕ) (ps : List (List ℕ)) → IsFirstAt s t front back → AreParts s back ps → AreParts s t (front ∷ ps)
+parts_more s t front back [] first none = absurd none
+parts_more s t front back (p ∷ ps) first more = (back, first, more)
+
+pub pushed : {X : Type 0} (f : X → List ℕ) (xs : List X) (x : X) (ps : List (List ℕ)) → map f (xs ++ x ∷ []) ++ ps ≡ map f xs ++ (f x ∷ ps)
+pushed f xs x ps = ap (λ l. l ++ ps) (map-append f xs (x ∷ [])) ∙ append_assoc (map f xs) (f x ∷ []) ps
