@@ -3,3 +3,4 @@ pub mod Words
 pub mod Characters
 pub mod Numbers
 pub mod Folding
+pub mod Functions

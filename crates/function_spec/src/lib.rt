@@ -24,7 +24,5 @@ pub enum Function {
     Times,
     Div,
     Mod,
-    Date,
-    Dated,
     Split,
 }

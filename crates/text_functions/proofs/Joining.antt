@@ -52,8 +52,9 @@ one_more m xs (b ∷ bs) =
     ∙ ap (join_with_byte m) (sym (filter-append is_filled xs ((b ∷ bs) ∷ [])))
 
 -- one word more of a list
-pub word_pushed : {X : Type 0} (f : X → List ℕ) (m : ℕ) (xs : List X) (i : ℕ) (x : X) (old new : List ℕ) → i < length xs → x ≡ get_or xs i x → old ≡ join_with_byte m (filter is_filled (map f (take i xs))) → new ≡ with_word m old (f x) → new ≡ join_with_byte m (filter is_filled (map f (take (i + 1) xs)))
-word_pushed f m xs i x old new lt here e is =
+pub word_pushed : {X : Type 0} (f : X → List ℕ) (m : ℕ) (xs : List X) (i : ℕ) (d : X) (old new : List ℕ) → i < length xs → old ≡ join_with_byte m (filter is_filled (map f (take i xs))) → new ≡ with_word m old (f (get_or xs i d)) → new ≡ join_with_byte m (filter is_filled (map f (take (i + 1) xs)))
+word_pushed f m xs i d old new lt e is =
+    let x = get_or xs i d in
     is ∙ ap (λ t. with_word m t (f x)) e ∙ one_more m (map f (take i xs)) (f x)
     ∙ ap (λ l. join_with_byte m (filter is_filled l)) (sym (map-append f (take i xs) (x ∷ [])))
-    ∙ ap (λ l. join_with_byte m (filter is_filled (map f l))) (ap (λ y. take i xs ++ y ∷ []) here ∙ sym (take_more xs i x lt))
+    ∙ ap (λ l. join_with_byte m (filter is_filled (map f l))) (sym (take_more xs i d lt))

@@ -2,3 +2,4 @@ mod Passing
 mod Found
 mod Joining
 mod Letters
+mod Digits

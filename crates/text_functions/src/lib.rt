@@ -6,6 +6,7 @@ mod cuts;
 mod folding;
 mod numbers;
 mod quotients;
+mod results;
 mod words;
 
 pub use characters::{count, first, last, rest};
