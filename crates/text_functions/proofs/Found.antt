@@ -3,9 +3,9 @@ use Rattle.std.proofs.Common.{◌≡◌, ℕ, ◌+◌, ◌<◌, ◌≤◌, List,
 use denote.Ref.{Bor}
 use Rattle.std.specs.Str.Pattern.{FindsText}
 use Rattle.std.proofs.lemmas.Bool.{cases_lt}
-use Rattle.std.proofs.lemmas.List.{map-append}
+use Rattle.std.proofs.lemmas.List.{map-append, append_cancel_left}
 use Rattle.std.proofs.lemmas.Str.Pattern.{split_text_parts}
-use Rattle.std.proofs.Math.Seq.{drop-append_seam}
+use Rattle.std.proofs.Math.Seq.{drop-append_seam, take-append_seam}
 use Rattle.value_texts.specs.Texts.{TextHolds}
 use Rattle.value_texts.specs.declared.TextTest.TheVariants.{Has}
 use Rattle.function_spec.specs.Cuts.{IsFirstAt, AreParts}
@@ -32,3 +32,19 @@ parts_more s t front back (p ∷ ps) first more = (back, first, more)
 
 pub pushed : {X : Type 0} (f : X → List ℕ) (xs : List X) (x : X) (ps : List (List ℕ)) → map f (xs ++ x ∷ []) ++ ps ≡ map f xs ++ (f x ∷ ps)
 pushed f xs x ps = ap (λ l. l ++ ps) (map-append f xs (x ∷ [])) ∙ append_assoc (map f xs) (f x ∷ []) ps
+
+take_front : (s t f b : List ℕ) → t ≡ f ++ (s ++ b) → take (length f) t ≡ f
+take_front s t f b e = ap (take (length f)) e ∙ take-append_seam f (s ++ b)
+
+-- there is one first place
+pub same_front : (s t f b f' b' : List ℕ) → IsFirstAt s t f b → IsFirstAt s t f' b' → f ≡ f'
+same_front s t f b f' b' h k =
+    let one : length f ≤ length f' = h.first f' b' k.whole in
+    let two : length f' ≤ length f = k.first f b h.whole in
+    let same : length f ≡ length f' = omega arith in
+    sym (take_front s t f b h.whole) ∙ ap (λ n. take n t) same ∙ take_front s t f' b' k.whole
+
+pub same_back : (s t f b f' b' : List ℕ) → IsFirstAt s t f b → IsFirstAt s t f' b' → b ≡ b'
+same_back s t f b f' b' h k =
+    let same = same_front s t f b f' b' h k in
+    append_cancel_left s b b' (append_cancel_left f (s ++ b) (s ++ b') (sym h.whole ∙ k.whole ∙ ap (λ x. x ++ (s ++ b')) (sym same)))

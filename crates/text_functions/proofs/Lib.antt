@@ -3,3 +3,5 @@ mod Found
 mod Joining
 mod Letters
 mod Digits
+mod Telling
+mod Texting

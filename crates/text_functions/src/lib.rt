@@ -1,12 +1,16 @@
 //! The functions of a query's conditions.
 #![tactic(auto)]
 
+mod arithmetic;
 mod characters;
 mod cuts;
 mod folding;
+mod joins;
 mod numbers;
+mod parts_of_texts;
 mod quotients;
 mod results;
+mod texts;
 mod words;
 
 pub use characters::{count, first, last, rest};

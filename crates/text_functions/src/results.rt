@@ -11,7 +11,7 @@ use std::alloc::Global;
 use value_texts::text_of;
 
 // How many bytes a Text has at most that a function gives.
-const LONGEST: usize = 1048576;
+pub(crate) const LONGEST: usize = 1048576;
 
 /// The Text of these bytes, if they are not too many.
 pub(crate) fn text_value(alloc: Global, text: &[u8]) -> Result<Option<Value>, NoMemory>

@@ -1,0 +1,11 @@
+//! Tests of the functions of conditions.
+#![tactic(auto)]
+
+#[cfg(test)]
+mod calls;
+#[cfg(test)]
+mod counts;
+#[cfg(test)]
+mod numbers;
+#[cfg(test)]
+mod texts;

@@ -1,0 +1,9 @@
+use Rattle.std.proofs.Common.{rules, Some}
+use Rattle.text_functions.proofs.Telling.{checked_none, checked_some}
+use Rattle.text_functions.proofs.arithmetic.checked_value.Goals as goal
+
+pub returns-in-None : goal.returns-in-None
+returns-in-None c = λ z h. checked_none c.args.n z c.in-None.is h
+
+pub returns-in-Some : goal.returns-in-Some
+returns-in-Some c = λ z h. checked_some c.args.n c.in-Some.n z c.int_value.result c.in-Some.is h ?
