@@ -101,3 +101,14 @@ pub fn check_rows(alloc: Global, rows: &[CallRow]) -> Result<(), Fail> {
     }
     Ok(())
 }
+
+// Fails if `split` of the values gives others.
+pub fn check_values(alloc: Global, given: &[Given], want: &[Given]) -> Result<(), Fail> {
+    let values_given = values(alloc, given)?;
+    let found = text_functions::split(alloc, &values_given)?;
+    let wanted = values(alloc, want)?;
+    if found.as_slice() == wanted.as_slice() {
+        return Ok(());
+    }
+    Err(Fail::new(format_args!("split of {given:?}")))
+}

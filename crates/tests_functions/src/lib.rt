@@ -8,4 +8,6 @@ mod counts;
 #[cfg(test)]
 mod numbers;
 #[cfg(test)]
+mod splits;
+#[cfg(test)]
 mod texts;

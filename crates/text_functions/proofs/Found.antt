@@ -1,6 +1,7 @@
 -- What `split_once` finds, and the parts of a text.
-use Rattle.std.proofs.Common.{◌≡◌, ℕ, ◌+◌, ◌<◌, ◌≤◌, List, [], ◌∷◌, ◌++◌, length, take, drop, map, refl, sym, ap, ◌∙◌, append_assoc, arith, Option, Some, None, MatchOption, ⊎_elim, subst}
+use Rattle.std.proofs.Common.{◌≡◌, ℕ, ◌+◌, ◌<◌, ◌≤◌, List, [], ◌∷◌, ◌++◌, length, take, drop, map, flat_map, length-append, refl, sym, ap, ◌∙◌, append_assoc, arith, Option, Some, None, MatchOption, ⊎_elim, subst}
 use denote.Ref.{Bor}
+use Rattle.std.specs.List.{join_by}
 use Rattle.std.specs.Str.Pattern.{FindsText}
 use Rattle.std.proofs.lemmas.Bool.{cases_lt}
 use Rattle.std.proofs.lemmas.List.{map-append, append_cancel_left}
@@ -48,3 +49,29 @@ pub same_back : (s t f b f' b' : List ℕ) → IsFirstAt s t f b → IsFirstAt s
 same_back s t f b f' b' h k =
     let same = same_front s t f b f' b' h k in
     append_cancel_left s b b' (append_cancel_left f (s ++ b) (s ++ b') (sym h.whole ∙ k.whole ∙ ap (λ x. x ++ (s ++ b')) (sym same)))
+
+-- a text has one list of parts
+pub parts_same : (s t : List ℕ) (ps qs : List (List ℕ)) → AreParts s t ps → AreParts s t qs → ps ≡ qs
+parts_same s t [] qs h k = absurd h
+parts_same s t (p ∷ []) [] h k = absurd k
+parts_same s t (p ∷ []) (q ∷ []) h k = ap (λ x. x ∷ []) (h.0 ∙ sym k.0)
+parts_same s t (p ∷ []) (q ∷ r ∷ qs) h k = absurd (h.1 (q, k.0, k.1.whole))
+parts_same s t (p ∷ o ∷ ps) [] h k = absurd k
+parts_same s t (p ∷ o ∷ ps) (q ∷ []) h k = absurd (k.1 (p, h.0, h.1.whole))
+parts_same s t (p ∷ o ∷ ps) (q ∷ r ∷ qs) h k =
+    let front = same_front s t p h.0 q k.0 h.1 k.1 in
+    let back = same_back s t p h.0 q k.0 h.1 k.1 in
+    let more = parts_same s k.0 (o ∷ ps) (r ∷ qs) (subst (λ b. AreParts s b (o ∷ ps)) back h.2) k.2 in
+    λ i. front i ∷ more i
+
+-- each part after a text is that text and the parts joined by it
+pub each_is : (u s t : List ℕ) (ps : List (List ℕ)) → AreParts s t ps → flat_map (λ y. u ++ y) ps ≡ u ++ join_by (λ y. y) u ps
+each_is u s t [] h = absurd h
+each_is u s t (p ∷ ps) h = append_assoc u p (flat_map (λ y. u ++ y) ps)
+
+module _ (u s t : List ℕ) (ps : List (List ℕ)) (h : AreParts s t ps) where
+  pub each_drop : drop (length u) (flat_map (λ y. u ++ y) ps) ≡ join_by (λ y. y) u ps
+  each_drop = ap (drop (length u)) (each_is u s t ps h) ∙ drop-append_seam u (join_by (λ y. y) u ps)
+
+  pub each_long : length (flat_map (λ y. u ++ y) ps) ≡ length u + length (join_by (λ y. y) u ps)
+  each_long = ap length (each_is u s t ps h) ∙ length-append u (join_by (λ y. y) u ps)

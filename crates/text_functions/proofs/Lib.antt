@@ -5,3 +5,4 @@ mod Letters
 mod Digits
 mod Telling
 mod Texting
+mod Parting

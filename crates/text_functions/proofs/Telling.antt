@@ -68,3 +68,9 @@ pub of_both : (f : ℤ → ℤ → ℤ) (a b : ℤ) (r : Option Value) → FitsS
 of_both f a b r fa fb h =
     int_as (f (to_z w64 (of_z w64 a)) (to_z w64 (of_z w64 b))) (f a b) r h
     (ap (λ x. f x (to_z w64 (of_z w64 b))) (to_z-of_z w64 a fa) ∙ ap (f a) (to_z-of_z w64 b fb))
+
+pub triple_as : {X Y Z : Type 0} (Q : (X × Y) × Z → Value → Type 0) (r : Option Value) (x x' : X) (y y' : Y) (z z' : Z) → Tells (Q ((x, y), z)) r → x ≡ x' → y ≡ y' → z ≡ z' → Tells (Q ((x', y'), z')) r
+triple_as Q r x x' y y' z z' h e d g = subst (λ a. Tells (Q ((a, y'), z')) r) e (subst (λ b. Tells (Q ((x, b), z')) r) d (subst (λ a. Tells (Q ((x, y), a)) r) g h))
+
+pub of_one : (n : ℤ) (r : Option Value) → FitsSigned w64 n → Tells (IsInt (to_z w64 (of_z w64 n))) r → Tells (IsInt n) r
+of_one n r f h = int_as (to_z w64 (of_z w64 n)) n r h (to_z-of_z w64 n f)

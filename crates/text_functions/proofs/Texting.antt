@@ -1,5 +1,5 @@
 -- Texts of values that are joined one after another.
-use Rattle.std.proofs.Common.{◌≡◌, ℕ, ◌+◌, ◌<◌, ◌≤◌, List, [], ◌∷◌, ◌++◌, length, take, drop, get_or, map, flat_map, refl, sym, ap, ◌∙◌, append_assoc, append-nil, arith, add-one, drop-cons, Option, Some, None}
+use Rattle.std.proofs.Common.{◌≡◌, ℕ, ◌+◌, ◌-◌, ◌<◌, ◌≤◌, List, [], ◌∷◌, ◌++◌, length, take, drop, get_or, map, flat_map, refl, sym, ap, ◌∙◌, append_assoc, append-nil, arith, add-one, drop-cons, Option, Some, None}
 use Rattle.std.specs.Fmt.{option_append}
 use Rattle.std.proofs.lemmas.List.{map-append, take_more, take-append-drop, length-append}
 use Rattle.std.proofs.lemmas.Grind.{flat_map-append}
@@ -30,19 +30,5 @@ pub text_whole : (vs : List Value) (i : ℕ) (a : List ℕ) → length vs ≤ i 
 text_whole vs i a le so =
     ap Some (sym (append-nil a)) ∙ ap (λ r. option_append (Some a) (joined r)) (sym (drop_of_length-le vs {i = i} le)) ∙ so
 
--- one part more, each after the other text
-pub each_more : {X : Type 0} (f : X → List ℕ) (by : List ℕ) (xs : List X) (i : ℕ) (d : X) (old new : List ℕ) → i < length xs → old ≡ flat_map (λ t. by ++ t) (map f (take i xs)) → new ≡ (old ++ by) ++ f (get_or xs i d) → new ≡ flat_map (λ t. by ++ t) (map f (take (i + 1) xs))
-each_more f by xs i d old new lt e is =
-    let x = get_or xs i d in
-    is ∙ append_assoc old by (f x) ∙ ap (λ o. o ++ (by ++ f x)) e
-    ∙ ap (λ z. flat_map (λ t. by ++ t) (map f (take i xs)) ++ z) (sym (append-nil (by ++ f x)))
-    ∙ sym (flat_map-append (λ t. by ++ t) (map f (take i xs)) (f x ∷ []))
-    ∙ ap (flat_map (λ t. by ++ t)) (sym (map-append f (take i xs) (x ∷ [])))
-    ∙ ap (λ l. flat_map (λ t. by ++ t) (map f l)) (sym (take_more xs i d lt))
-
--- what is made of some parts is no longer than what is made of all
-pub each_below : {X : Type 0} (f : X → List ℕ) (by : List ℕ) (xs : List X) (n : ℕ) → length (flat_map (λ t. by ++ t) (map f (take n xs))) ≤ length (flat_map (λ t. by ++ t) (map f xs))
-each_below f by xs n =
-    let g = flat_map (λ t. by ++ t) in
-    let whole : g (map f xs) ≡ g (map f (take n xs)) ++ g (map f (drop n xs)) = ap (λ l. g (map f l)) (sym (take-append-drop n xs)) ∙ ap g (map-append f (take n xs) (drop n xs)) ∙ flat_map-append (λ t. by ++ t) (map f (take n xs)) (map f (drop n xs)) in
-    omega (arith, ap length whole, length-append (g (map f (take n xs))) (g (map f (drop n xs))))
+pub more_as : (vs : List Value) (i : ℕ) (a b : List ℕ) → a ≡ b → option_append (Some b) (joined (drop (i + 1) vs)) ≡ joined vs → option_append (Some a) (joined (drop (i + 1) vs)) ≡ joined vs
+more_as vs i a b e h = ap (λ t. option_append (Some t) (joined (drop (i + 1) vs))) e ∙ h

@@ -21,7 +21,8 @@ fn checked_value(n: Option<i64>) -> Option<Value>
     }
 }
 
-pub(crate) fn plus(values: &[Value]) -> Option<Value>
+/// The sum of two numbers, if it has 64 bits.
+pub fn plus(values: &[Value]) -> Option<Value>
     ensures { Tells (Gives Plus values.now) result }
 {
     let Some((a, b)) = two_numbers(values) else {
@@ -31,7 +32,8 @@ pub(crate) fn plus(values: &[Value]) -> Option<Value>
     value
 }
 
-pub(crate) fn minus(values: &[Value]) -> Option<Value>
+/// The difference of two numbers, if it has 64 bits.
+pub fn minus(values: &[Value]) -> Option<Value>
     ensures { Tells (Gives Minus values.now) result }
 {
     let Some((a, b)) = two_numbers(values) else {
@@ -41,7 +43,8 @@ pub(crate) fn minus(values: &[Value]) -> Option<Value>
     value
 }
 
-pub(crate) fn times(values: &[Value]) -> Option<Value>
+/// The product of two numbers, if it has 64 bits.
+pub fn times(values: &[Value]) -> Option<Value>
     ensures { Tells (Gives Times values.now) result }
 {
     let Some((a, b)) = two_numbers(values) else {
@@ -51,7 +54,8 @@ pub(crate) fn times(values: &[Value]) -> Option<Value>
     value
 }
 
-pub(crate) fn div(values: &[Value]) -> Option<Value>
+/// The quotient of two numbers rounded down, if there is one that has 64 bits.
+pub fn div(values: &[Value]) -> Option<Value>
     ensures { Tells (Gives Div values.now) result }
 {
     let Some((a, b)) = two_numbers(values) else {
@@ -64,7 +68,8 @@ pub(crate) fn div(values: &[Value]) -> Option<Value>
     value
 }
 
-pub(crate) fn modulo(values: &[Value]) -> Option<Value>
+/// What is left of the first number by the second, which is not 0.
+pub fn modulo(values: &[Value]) -> Option<Value>
     ensures { Tells (Gives Mod values.now) result }
 {
     let Some((a, b)) = two_numbers(values) else {

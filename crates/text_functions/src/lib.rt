@@ -10,12 +10,12 @@ mod numbers;
 mod parts_of_texts;
 mod quotients;
 mod results;
+mod splits;
 mod texts;
 mod words;
 
-pub use characters::{count, first, last, rest};
-pub use cuts::{cut, parts};
-pub use folding::fold;
-pub use numbers::number;
-pub use quotients::{quotient, remainder};
-pub use words::{dashed, trim};
+pub use arithmetic::{div, minus, modulo, plus, times};
+pub use joins::join;
+pub use parts_of_texts::{after, before, first, last, rest};
+pub use splits::split;
+pub use texts::{fold, length, lower, number, slug, trim, upper};

@@ -10,7 +10,8 @@ use crate::results::{text_and_count, text_value, two_texts};
 use sd_value::{NoMemory, Value};
 use std::alloc::Global;
 
-pub(crate) fn first(alloc: Global, values: &[Value]) -> Result<Option<Value>, NoMemory>
+/// The first characters of a text, as many as the second value says.
+pub fn first(alloc: Global, values: &[Value]) -> Result<Option<Value>, NoMemory>
     ensures { IfOk result (Tells (Gives First values.now)) }
 {
     let Some((text, n)) = text_and_count(alloc, values)? else {
@@ -21,7 +22,8 @@ pub(crate) fn first(alloc: Global, values: &[Value]) -> Result<Option<Value>, No
     Ok(value)
 }
 
-pub(crate) fn last(alloc: Global, values: &[Value]) -> Result<Option<Value>, NoMemory>
+/// The last characters of a text, as many as the second value says.
+pub fn last(alloc: Global, values: &[Value]) -> Result<Option<Value>, NoMemory>
     ensures { IfOk result (Tells (Gives Last values.now)) }
 {
     let Some((text, n)) = text_and_count(alloc, values)? else {
@@ -32,7 +34,8 @@ pub(crate) fn last(alloc: Global, values: &[Value]) -> Result<Option<Value>, NoM
     Ok(value)
 }
 
-pub(crate) fn rest(alloc: Global, values: &[Value]) -> Result<Option<Value>, NoMemory>
+/// A text without its first characters, as many as the second value says.
+pub fn rest(alloc: Global, values: &[Value]) -> Result<Option<Value>, NoMemory>
     ensures { IfOk result (Tells (Gives Rest values.now)) }
 {
     let Some((text, n)) = text_and_count(alloc, values)? else {
@@ -63,7 +66,8 @@ fn after_in(alloc: Global, text: &str, part: &str) -> Result<Option<Value>, NoMe
     Ok(value)
 }
 
-pub(crate) fn before(alloc: Global, values: &[Value]) -> Result<Option<Value>, NoMemory>
+/// What is before the first of the second text in the first one.
+pub fn before(alloc: Global, values: &[Value]) -> Result<Option<Value>, NoMemory>
     ensures { IfOk result (Tells (Gives Before values.now)) }
 {
     let Some((text, part)) = two_texts(alloc, values)? else {
@@ -76,7 +80,8 @@ pub(crate) fn before(alloc: Global, values: &[Value]) -> Result<Option<Value>, N
     Ok(value)
 }
 
-pub(crate) fn after(alloc: Global, values: &[Value]) -> Result<Option<Value>, NoMemory>
+/// What is after the first of the second text in the first one.
+pub fn after(alloc: Global, values: &[Value]) -> Result<Option<Value>, NoMemory>
     ensures { IfOk result (Tells (Gives After values.now)) }
 {
     let Some((text, part)) = two_texts(alloc, values)? else {

@@ -3,7 +3,7 @@ ghost use Rattle.std.specs.Prelude.{◌≡◌, ◌<◌, ◌≤◌, IfOk, MatchOp
 ghost use Rattle.std.specs.Option.{option_map};
 ghost use Rattle.std.specs.String.{string_bytes};
 ghost use Rattle.value_texts.specs.Texts.{text_of};
-ghost use Rattle.function_spec.specs.Functions.{IsText, IsInt, longest, number_of, count_of, one_text, two, three};
+ghost use Rattle.function_spec.specs.Functions.{IsText, IsFilledText, IsInt, longest, number_of, count_of, one_text, two, three};
 ghost use Rattle.text_functions.specs.Told.{Tells};
 
 use sd_value::{Datum, NoMemory, Str, Value};
@@ -11,7 +11,7 @@ use std::alloc::Global;
 use value_texts::text_of;
 
 // How many bytes a Text has at most that a function gives.
-pub(crate) const LONGEST: usize = 1048576;
+const LONGEST: usize = 1048576;
 
 /// The Text of these bytes, if they are not too many.
 pub(crate) fn text_value(alloc: Global, text: &[u8]) -> Result<Option<Value>, NoMemory>
@@ -96,4 +96,15 @@ pub(crate) fn two_numbers(values: &[Value]) -> Option<(i64, i64)>
         return None;
     };
     number_of(first).zip(number_of(second))
+}
+
+/// The Text of these bytes, if there are some and not too many.
+pub(crate) fn filled_value(alloc: Global, text: &[u8]) -> Result<Option<Value>, NoMemory>
+    ensures { IfOk result (Tells (IsFilledText text.now)) }
+{
+    if text.is_empty() {
+        return Ok(None);
+    }
+    let value = text_value(alloc, text)?;
+    Ok(value)
 }

@@ -1,18 +1,19 @@
 //! Functions of one text.
 ghost use Rattle.std.specs.Prelude.{◌≡◌, ◌<◌, IfOk, length, pos};
 ghost use Rattle.function_spec.specs.declared.Function.TheVariants.{Lower, Upper, Fold, Slug, Trim, Length, Number};
-ghost use Rattle.function_spec.specs.Functions.{Gives, IsFilledText, IsInt};
+ghost use Rattle.function_spec.specs.Functions.{Gives, IsInt};
 ghost use Rattle.text_functions.specs.Told.{Tells};
 
 use crate::characters::count;
 use crate::folding::fold as folded;
 use crate::numbers::number as spelled;
-use crate::results::{int_value, one_text, text_value};
+use crate::results::{filled_value, int_value, one_text, text_value};
 use crate::words::{dashed, trim as trimmed};
 use sd_value::{NoMemory, Value};
 use std::alloc::Global;
 
-pub(crate) fn lower(alloc: Global, values: &[Value]) -> Result<Option<Value>, NoMemory>
+/// The text of the one value in lower case, if it has one that is not too long.
+pub fn lower(alloc: Global, values: &[Value]) -> Result<Option<Value>, NoMemory>
     ensures { IfOk result (Tells (Gives Lower values.now)) }
 {
     let Some(text) = one_text(alloc, values)? else {
@@ -23,7 +24,8 @@ pub(crate) fn lower(alloc: Global, values: &[Value]) -> Result<Option<Value>, No
     Ok(value)
 }
 
-pub(crate) fn upper(alloc: Global, values: &[Value]) -> Result<Option<Value>, NoMemory>
+/// The text of the one value in upper case, if it has one that is not too long.
+pub fn upper(alloc: Global, values: &[Value]) -> Result<Option<Value>, NoMemory>
     ensures { IfOk result (Tells (Gives Upper values.now)) }
 {
     let Some(text) = one_text(alloc, values)? else {
@@ -34,7 +36,8 @@ pub(crate) fn upper(alloc: Global, values: &[Value]) -> Result<Option<Value>, No
     Ok(value)
 }
 
-pub(crate) fn fold(alloc: Global, values: &[Value]) -> Result<Option<Value>, NoMemory>
+/// The text of the one value without marks and case, if it has one that is not too long.
+pub fn fold(alloc: Global, values: &[Value]) -> Result<Option<Value>, NoMemory>
     ensures { IfOk result (Tells (Gives Fold values.now)) }
 {
     let Some(text) = one_text(alloc, values)? else {
@@ -45,18 +48,8 @@ pub(crate) fn fold(alloc: Global, values: &[Value]) -> Result<Option<Value>, NoM
     Ok(value)
 }
 
-// The Text of these bytes, if there are some and not too many.
-fn filled_value(alloc: Global, text: &[u8]) -> Result<Option<Value>, NoMemory>
-    ensures { IfOk result (Tells (IsFilledText text.now)) }
-{
-    if text.is_empty() {
-        return Ok(None);
-    }
-    let value = text_value(alloc, text)?;
-    Ok(value)
-}
-
-pub(crate) fn slug(alloc: Global, values: &[Value]) -> Result<Option<Value>, NoMemory>
+/// The text of the one value as a slug, if something is left of it.
+pub fn slug(alloc: Global, values: &[Value]) -> Result<Option<Value>, NoMemory>
     ensures { IfOk result (Tells (Gives Slug values.now)) }
 {
     let Some(text) = one_text(alloc, values)? else {
@@ -68,7 +61,8 @@ pub(crate) fn slug(alloc: Global, values: &[Value]) -> Result<Option<Value>, NoM
     Ok(value)
 }
 
-pub(crate) fn trim(alloc: Global, values: &[Value]) -> Result<Option<Value>, NoMemory>
+/// The text of the one value trimmed, if it has one that is not too long.
+pub fn trim(alloc: Global, values: &[Value]) -> Result<Option<Value>, NoMemory>
     ensures { IfOk result (Tells (Gives Trim values.now)) }
 {
     let Some(text) = one_text(alloc, values)? else {
@@ -79,7 +73,8 @@ pub(crate) fn trim(alloc: Global, values: &[Value]) -> Result<Option<Value>, NoM
     Ok(value)
 }
 
-pub(crate) fn length(alloc: Global, values: &[Value]) -> Result<Option<Value>, NoMemory>
+/// How many characters the text of the one value has.
+pub fn length(alloc: Global, values: &[Value]) -> Result<Option<Value>, NoMemory>
     ensures { IfOk result (Tells (Gives Length values.now)) }
 {
     let Some(text) = one_text(alloc, values)? else {
@@ -99,7 +94,8 @@ fn count_value(count: usize) -> Option<Value>
     }
 }
 
-pub(crate) fn number(alloc: Global, values: &[Value]) -> Result<Option<Value>, NoMemory>
+/// The number that the text of the one value spells, if it spells one of 64 bits.
+pub fn number(alloc: Global, values: &[Value]) -> Result<Option<Value>, NoMemory>
     ensures { IfOk result (Tells (Gives Number values.now)) }
 {
     let Some(text) = one_text(alloc, values)? else {
