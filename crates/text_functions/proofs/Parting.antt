@@ -2,7 +2,7 @@
 use Rattle.std.proofs.Common.{◌≡◌, ℕ, ◌+◌, ◌<◌, ◌≤◌, List, [], ◌∷◌, ◌++◌, length, take, drop, map, get_or, IsSomeAnd, append-nil, refl, sym, ap, ◌∙◌, subst, arith, ⊎_elim, Option, Some, None}
 use Rattle.std.specs.Prelude.{Contains}
 use Rattle.std.specs.Option.{option_to_list}
-use Rattle.std.proofs.lemmas.List.{take_more}
+use Rattle.std.proofs.lemmas.List.{take_more, take_all}
 use Rattle.sd_value.specs.Ascending.{ListsExactly}
 use Rattle.sd_value.specs.AscendingLaws.{listed_as}
 use Rattle.sd_value.specs.Gathered.{Gathered}
@@ -46,7 +46,7 @@ pub parts_listed : {X : Type 0} (now : X → List ℕ) (s t : List ℕ) (from : 
 parts_listed now s t from ends out are g exact =
     listed_as (gathered_all value_cmp (λ p v. IsFilledText (trim (now p)) v) from ends out g exact)
     (λ v (x, within, e). (map now from, are, (now x, Contains-mapped now from x within, e)))
-    (λ v (ps, also, part, within, e).
+    (λ v (ps, also, (part, within, e)).
       let found = Contains-map now from part (subst (λ l. Contains l part) (parts_same s t ps (map now from) also are) within) in
       (found.0, found.2, subst (λ p. IsFilledText (trim p) v) (sym found.1) e))
 
@@ -57,10 +57,5 @@ listed_some o x P vs e h = subst (λ p. ListsExactly value_cmp (λ v. IsSomeAnd 
 pub listed_pair : {X Y : Type 0} (Q : X × Y → Value → Type 0) (vs : List Value) (x x' : X) (y y' : Y) → ListsExactly value_cmp (Q (x, y)) vs → x ≡ x' → y ≡ y' → ListsExactly value_cmp (Q (x', y')) vs
 listed_pair Q vs x x' y y' h e d = subst (λ a. ListsExactly value_cmp (Q (a, y')) vs) e (subst (λ b. ListsExactly value_cmp (Q (x, b)) vs) d h)
 
-take_whole : {X : Type 0} (xs : List X) (i : ℕ) → length xs ≤ i → take i xs ≡ xs
-take_whole [] i le = refl
-take_whole (x ∷ xs) ℕ.zero le = absurd (omega arith)
-take_whole (x ∷ xs) (ℕ.suc i) le = ap (λ l. x ∷ l) (take_whole xs i (omega arith))
-
 pub gathered_whole : {X : Type 0} (E : X → Value → Type 0) (xs : List X) (i : ℕ) (ends : List Value) → length xs ≤ i → Gathered E (take i xs) ends → Gathered E xs ends
-gathered_whole E xs i ends le g = subst (λ f. Gathered E f ends) (take_whole xs i le) g
+gathered_whole E xs i ends le g = subst (λ f. Gathered E f ends) (take_all i xs le) g

@@ -1,6 +1,7 @@
 //! The parts of a text around another one.
 ghost use Rattle.std.specs.Prelude.{◌<◌, IfOk, OnOk, length};
 ghost use Rattle.sd_value.specs.Ascending.{ListsExactly};
+ghost use Rattle.sd_value.specs.Gathered.{Gathered};
 ghost use Rattle.sd_value.specs.Order.{value_cmp};
 ghost use Rattle.function_spec.specs.declared.Function.TheVariants.{Split};
 ghost use Rattle.function_spec.specs.Functions.{Gives, OfTexts, IsFilledText};
@@ -25,16 +26,25 @@ fn push_trimmed(alloc: Global, part: &str, values: &mut Vec<Value>) -> Result<()
     Ok(())
 }
 
+// The trimmed parts, without empty ones.
+fn trimmed_values(alloc: Global, parts: &[&str]) -> Result<Vec<Value>, NoMemory>
+    ensures { IfOk result (λ vs.
+        Gathered (λ p v. IsFilledText (trim p.now) v) parts.now vs.items) }
+{
+    let mut values = Vec::new(alloc);
+    for part in parts {
+        push_trimmed(alloc, part, &mut values)?;
+    }
+    Ok(values)
+}
+
 fn split_in(alloc: Global, text: &str, part: &str) -> Result<Vec<Value>, NoMemory>
     requires { 0 < length part.now }
     ensures { IfOk result (λ vs.
         ListsExactly value_cmp (OfTexts Split (text.now, part.now)) vs.items) }
 {
     let found = parts(alloc, text, part)?;
-    let mut values = Vec::new(alloc);
-    for part in &found {
-        push_trimmed(alloc, part, &mut values)?;
-    }
+    let mut values = trimmed_values(alloc, found.as_slice())?;
     sort_and_dedup(&mut values);
     Ok(values)
 }
