@@ -59,6 +59,7 @@ fn answer(
         Function::Rest => text_functions::rest(alloc, values),
         Function::Before => text_functions::before(alloc, values),
         Function::After => text_functions::after(alloc, values),
+        Function::Replace => text_functions::replace(alloc, values),
         Function::Join => text_functions::join(alloc, values),
         Function::Plus => Ok(text_functions::plus(values)),
         Function::Minus => Ok(text_functions::minus(values)),

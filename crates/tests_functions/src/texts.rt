@@ -302,3 +302,66 @@ const JOINS: &[CallRow] = &[
 fn texts_joined(rt: HostRuntime) -> Result<(), Fail> {
     check_rows(rt.alloc(), JOINS)
 }
+
+const REPLACES: &[CallRow] = &[
+    CallRow {
+        call: Function::Replace,
+        given: &[Given::Text(b"aaa"), Given::Text(b"aa"), Given::Text(b"b")],
+        want: Some(Given::Text(b"ba")),
+    },
+    CallRow {
+        call: Function::Replace,
+        given: &[Given::Text(b"abc"), Given::Text(b""), Given::Text(b"x")],
+        want: None,
+    },
+    CallRow {
+        call: Function::Replace,
+        given: &[Given::Text(b"abc"), Given::Text(b"b"), Given::Text(b"")],
+        want: Some(Given::Text(b"ac")),
+    },
+    CallRow {
+        call: Function::Replace,
+        given: &[Given::Text(b"abc"), Given::Text(b"x"), Given::Text(b"y")],
+        want: Some(Given::Text(b"abc")),
+    },
+    CallRow {
+        call: Function::Replace,
+        given: &[Given::Text(b""), Given::Text(b"a"), Given::Text(b"b")],
+        want: Some(Given::Text(b"")),
+    },
+    CallRow {
+        call: Function::Replace,
+        given: &[Given::Text(b"a.b.c"), Given::Text(b"."), Given::Text(b"..")],
+        want: Some(Given::Text(b"a..b..c")),
+    },
+    CallRow {
+        call: Function::Replace,
+        given: &[Given::Int(1211), Given::Int(1), Given::Text(b"x")],
+        want: Some(Given::Text(b"x2xx")),
+    },
+    CallRow {
+        call: Function::Replace,
+        given: &[Given::Text(b"abc"), Given::Node(b"b"), Given::Text(b"x")],
+        want: None,
+    },
+    CallRow {
+        call: Function::Replace,
+        given: &[Given::Text(b"abc"), Given::Text(b"b")],
+        want: None,
+    },
+    CallRow {
+        call: Function::Replace,
+        given: &[Given::Text(b"aa"), Given::Text(b"a"), Given::Text(b"aa")],
+        want: Some(Given::Text(b"aaaa")),
+    },
+    CallRow {
+        call: Function::Replace,
+        given: &[Given::Text(b"Z\xc3\xbcrich"), Given::Text(b"\xc3\xbc"), Given::Text(b"ue")],
+        want: Some(Given::Text(b"Zuerich")),
+    },
+];
+
+#[test]
+fn texts_replaced(rt: HostRuntime) -> Result<(), Fail> {
+    check_rows(rt.alloc(), REPLACES)
+}

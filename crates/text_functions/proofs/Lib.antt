@@ -6,3 +6,4 @@ mod Digits
 mod Telling
 mod Texting
 mod Parting
+mod Replacements

@@ -11,7 +11,7 @@ use std::alloc::Global;
 use value_texts::text_of;
 
 // How many bytes a Text has at most that a function gives.
-const LONGEST: usize = 1048576;
+pub(crate) const LONGEST: usize = 1048576;
 
 /// The Text of these bytes, if they are not too many.
 pub(crate) fn text_value(alloc: Global, text: &[u8]) -> Result<Option<Value>, NoMemory>
@@ -107,4 +107,22 @@ pub(crate) fn filled_value(alloc: Global, text: &[u8]) -> Result<Option<Value>, 
     }
     let value = text_value(alloc, text)?;
     Ok(value)
+}
+
+/// Three texts.
+pub(crate) fn three_texts(
+    alloc: Global,
+    values: &[Value],
+) -> Result<Option<((String, String), String)>, NoMemory>
+    ensures { IfOk result (λ r.
+        option_map (λ p. ((string_bytes p.0.0, string_bytes p.0.1), string_bytes p.1)) r
+        ≡ three text_of values.now) }
+{
+    let [value, other, third] = values else {
+        return Ok(None);
+    };
+    let text = text_of(alloc, value)?;
+    let other = text_of(alloc, other)?;
+    let third = text_of(alloc, third)?;
+    Ok(text.zip(other).zip(third))
 }
