@@ -1,5 +1,5 @@
 -- The names of functions, and how many arguments they take.
-use Rattle.std.specs.Prelude.{◌≡◌, ◌≤◌, ℕ, List, codes}
+use Rattle.std.specs.Prelude.{◌≤◌, ℕ, List, codes}
 use Rattle.function_spec.specs.declared.Function.{Function}
 use Rattle.function_spec.specs.declared.Function.TheVariants.{Lower, Upper, Fold, Slug, Trim, First, Last, Rest, Before, After, Replace, Join, Length, Number, Decimal, Plus, Minus, Times, Div, Mod, Split}
 

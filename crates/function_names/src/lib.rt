@@ -1,10 +1,36 @@
 //! The names of the functions of a query's conditions, and how many arguments they take.
 #![tactic(auto)]
 
-ghost use Rattle.std.specs.Prelude.{◌≡◌, ◌↔◌, IsTrue};
+ghost use Rattle.std.specs.Prelude.{◌≡◌, ◌↔◌, IsTrue, MatchOption};
+ghost use Rattle.function_spec.specs.declared.Function.{Function as AnyFunction};
 ghost use Rattle.function_names.specs.Names.{name_of, arity_of, Takes};
 
 use function_spec::Function;
+
+// All functions.
+const ALL: [Function; 21] = [
+    Function::Lower,
+    Function::Upper,
+    Function::Fold,
+    Function::Slug,
+    Function::Trim,
+    Function::First,
+    Function::Last,
+    Function::Rest,
+    Function::Before,
+    Function::After,
+    Function::Replace,
+    Function::Join,
+    Function::Length,
+    Function::Number,
+    Function::Decimal,
+    Function::Plus,
+    Function::Minus,
+    Function::Times,
+    Function::Div,
+    Function::Mod,
+    Function::Split,
+];
 
 /// The name of a function, as a query has it.
 pub fn name(function: Function) -> &'static str
@@ -69,4 +95,17 @@ pub fn takes(function: Function, arguments: usize) -> bool
 {
     let (least, most) = arity(function);
     least <= arguments && arguments <= most
+}
+
+/// The function of this name, if there is one.
+pub fn named(text: &[u8]) -> Option<Function>
+    ensures { MatchOption result ((f : AnyFunction) → text.now ≡ name_of f → ⊥)
+        (λ f. text.now ≡ name_of f) }
+{
+    for function in &ALL {
+        if text == name(*function).as_bytes() {
+            return Some(*function);
+        }
+    }
+    None
 }

@@ -41,11 +41,7 @@ fn values(alloc: Global, given: &[Given]) -> Result<Vec<Value>, NoMemory> {
 }
 
 // What the function gives.
-fn answer(
-    alloc: Global,
-    function: Function,
-    values: &[Value],
-) -> Result<Option<Value>, NoMemory> {
+fn answer(alloc: Global, function: Function, values: &[Value]) -> Result<Option<Value>, NoMemory> {
     match function {
         Function::Lower => text_functions::lower(alloc, values),
         Function::Upper => text_functions::upper(alloc, values),

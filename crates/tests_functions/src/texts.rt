@@ -99,7 +99,9 @@ const FOLDS: &[CallRow] = &[
     },
     CallRow {
         call: Function::Fold,
-        given: &[Given::Text(b"\xc4\x90\xc4\x91 \xc3\x90\xc3\xb0 \xc3\x9e\xc3\xbe \xc3\x86\xc3\xa6 \xc5\x92\xc5\x93 \xc4\xb1")],
+        given: &[Given::Text(
+            b"\xc4\x90\xc4\x91 \xc3\x90\xc3\xb0 \xc3\x9e\xc3\xbe \xc3\x86\xc3\xa6 \xc5\x92\xc5\x93 \xc4\xb1",
+        )],
         want: Some(Given::Text(b"dd dd thth aeae oeoe i")),
     },
     CallRow {
@@ -288,12 +290,47 @@ const JOINS: &[CallRow] = &[
     },
     CallRow {
         call: Function::Join,
-        given: &[Given::Text(b"x"), Given::Text(b"x"), Given::Text(b"x"), Given::Text(b"x"), Given::Text(b"x"), Given::Text(b"x"), Given::Text(b"x"), Given::Text(b"x"), Given::Text(b"x"), Given::Text(b"x"), Given::Text(b"x"), Given::Text(b"x"), Given::Text(b"x"), Given::Text(b"x"), Given::Text(b"x"), Given::Text(b"x")],
+        given: &[
+            Given::Text(b"x"),
+            Given::Text(b"x"),
+            Given::Text(b"x"),
+            Given::Text(b"x"),
+            Given::Text(b"x"),
+            Given::Text(b"x"),
+            Given::Text(b"x"),
+            Given::Text(b"x"),
+            Given::Text(b"x"),
+            Given::Text(b"x"),
+            Given::Text(b"x"),
+            Given::Text(b"x"),
+            Given::Text(b"x"),
+            Given::Text(b"x"),
+            Given::Text(b"x"),
+            Given::Text(b"x"),
+        ],
         want: Some(Given::Text(b"xxxxxxxxxxxxxxxx")),
     },
     CallRow {
         call: Function::Join,
-        given: &[Given::Text(b"x"), Given::Text(b"x"), Given::Text(b"x"), Given::Text(b"x"), Given::Text(b"x"), Given::Text(b"x"), Given::Text(b"x"), Given::Text(b"x"), Given::Text(b"x"), Given::Text(b"x"), Given::Text(b"x"), Given::Text(b"x"), Given::Text(b"x"), Given::Text(b"x"), Given::Text(b"x"), Given::Text(b"x"), Given::Text(b"x")],
+        given: &[
+            Given::Text(b"x"),
+            Given::Text(b"x"),
+            Given::Text(b"x"),
+            Given::Text(b"x"),
+            Given::Text(b"x"),
+            Given::Text(b"x"),
+            Given::Text(b"x"),
+            Given::Text(b"x"),
+            Given::Text(b"x"),
+            Given::Text(b"x"),
+            Given::Text(b"x"),
+            Given::Text(b"x"),
+            Given::Text(b"x"),
+            Given::Text(b"x"),
+            Given::Text(b"x"),
+            Given::Text(b"x"),
+            Given::Text(b"x"),
+        ],
         want: None,
     },
 ];
@@ -356,7 +393,11 @@ const REPLACES: &[CallRow] = &[
     },
     CallRow {
         call: Function::Replace,
-        given: &[Given::Text(b"Z\xc3\xbcrich"), Given::Text(b"\xc3\xbc"), Given::Text(b"ue")],
+        given: &[
+            Given::Text(b"Z\xc3\xbcrich"),
+            Given::Text(b"\xc3\xbc"),
+            Given::Text(b"ue"),
+        ],
         want: Some(Given::Text(b"Zuerich")),
     },
 ];

@@ -1,5 +1,5 @@
 -- What `split_once` finds, and the parts of a text.
-use Rattle.std.proofs.Common.{◌≡◌, ℕ, ◌+◌, ◌<◌, ◌≤◌, List, [], ◌∷◌, ◌++◌, length, take, drop, map, flat_map, length-append, refl, sym, ap, ◌∙◌, append_assoc, arith, Option, Some, None, MatchOption, ⊎_elim, subst}
+use Rattle.std.proofs.Common.{◌≡◌, ℕ, ◌+◌, ◌<◌, ◌≤◌, List, [], ◌∷◌, ◌++◌, length, take, drop, map, flat_map, length-append, sym, ap, ◌∙◌, append_assoc, arith, Option, Some, None, MatchOption, ⊎_elim, subst}
 use denote.Ref.{Bor}
 use Rattle.std.specs.List.{join_by}
 use Rattle.std.specs.Str.Pattern.{FindsText}

@@ -1,5 +1,5 @@
 -- The values of the parts of a text.
-use Rattle.std.proofs.Common.{◌≡◌, ℕ, ◌+◌, ◌<◌, ◌≤◌, List, [], ◌∷◌, ◌++◌, length, take, drop, map, get_or, IsSomeAnd, append-nil, refl, sym, ap, ◌∙◌, subst, arith, ⊎_elim, Option, Some, None}
+use Rattle.std.proofs.Common.{◌≡◌, ℕ, ◌+◌, ◌<◌, ◌≤◌, List, [], ◌∷◌, ◌++◌, length, take, map, get_or, IsSomeAnd, append-nil, sym, ap, ◌∙◌, subst, ⊎_elim, Option, Some, None}
 use Rattle.std.specs.Prelude.{Contains}
 use Rattle.std.specs.Option.{option_to_list}
 use Rattle.std.proofs.lemmas.List.{take_more, take_all}
@@ -47,8 +47,8 @@ parts_listed now s t from ends out are g exact =
     listed_as (gathered_all value_cmp (λ p v. IsFilledText (trim (now p)) v) from ends out g exact)
     (λ v (x, within, e). (map now from, are, (now x, Contains-mapped now from x within, e)))
     (λ v (ps, also, (part, within, e)).
-      let found = Contains-map now from part (subst (λ l. Contains l part) (parts_same s t ps (map now from) also are) within) in
-      (found.0, found.2, subst (λ p. IsFilledText (trim p) v) (sym found.1) e))
+    let found = Contains-map now from part (subst (λ l. Contains l part) (parts_same s t ps (map now from) also are) within) in
+    (found.0, found.2, subst (λ p. IsFilledText (trim p) v) (sym found.1) e))
 
 -- the same, where the arguments have the kind
 pub listed_some : {X : Type 0} (o : Option X) (x : X) (P : X → Value → Type 0) (vs : List Value) → o ≡ Some x → ListsExactly value_cmp (P x) vs → ListsExactly value_cmp (λ v. IsSomeAnd o (λ y. P y v)) vs

@@ -1,5 +1,5 @@
 -- A text with another one in place of each of one in it.
-use Rattle.std.proofs.Common.{◌≡◌, ◌++◌, ◌+◌, ◌<◌, ◌≤◌, List, ℕ, length, drop, flat_map, ◌∙◌, sym, ap, subst, arith, Option}
+use Rattle.std.proofs.Common.{◌≡◌, ◌++◌, ◌+◌, ◌<◌, ◌≤◌, List, ℕ, length, drop, flat_map, ◌∙◌, ap, subst, arith, Option}
 use Rattle.std.specs.List.{join_by}
 use Rattle.sd_value.specs.declared.Value.{Value}
 use Rattle.function_spec.specs.Cuts.{AreParts}

@@ -29,12 +29,7 @@ fn each_after(alloc: Global, parts: &[&str], by: &str) -> Result<Option<String>,
     Ok(Some(text))
 }
 
-fn replace_in(
-    alloc: Global,
-    text: &str,
-    part: &str,
-    by: &str,
-) -> Result<Option<Value>, NoMemory>
+fn replace_in(alloc: Global, text: &str, part: &str, by: &str) -> Result<Option<Value>, NoMemory>
     requires { 0 < length part.now }
     ensures { IfOk result (Tells (Replaced ((text.now, part.now), by.now))) }
 {

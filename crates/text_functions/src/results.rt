@@ -64,7 +64,10 @@ pub(crate) fn one_text(alloc: Global, values: &[Value]) -> Result<Option<String>
 }
 
 /// A text and a count.
-pub(crate) fn text_and_count(alloc: Global, values: &[Value]) -> Result<Option<(String, u64)>, NoMemory>
+pub(crate) fn text_and_count(
+    alloc: Global,
+    values: &[Value],
+) -> Result<Option<(String, u64)>, NoMemory>
     ensures { IfOk result (λ r.
         option_map (λ p. (string_bytes p.0, p.1)) r ≡ two text_of count_of values.now) }
 {
@@ -76,7 +79,10 @@ pub(crate) fn text_and_count(alloc: Global, values: &[Value]) -> Result<Option<(
 }
 
 /// Two texts.
-pub(crate) fn two_texts(alloc: Global, values: &[Value]) -> Result<Option<(String, String)>, NoMemory>
+pub(crate) fn two_texts(
+    alloc: Global,
+    values: &[Value],
+) -> Result<Option<(String, String)>, NoMemory>
     ensures { IfOk result (λ r.
         option_map (λ p. (string_bytes p.0, string_bytes p.1)) r ≡ two text_of text_of values.now) }
 {

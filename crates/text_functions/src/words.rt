@@ -22,9 +22,9 @@ fn is_other(byte: u8) -> bool
 fn push_word(text: &mut Vec<u8>, word: &[u8], mark: u8) -> Result<(), NoMemory>
     ensures { OnOk result (text.new.items ≡
         (if is_filled word.now then
-            (if length text.old.items == 0 then word.now
-                else text.old.items ++ (mark ∷ word.now))
-            else text.old.items)) }
+        (if length text.old.items == 0 then word.now
+        else text.old.items ++ (mark ∷ word.now))
+        else text.old.items)) }
 {
     if word.is_empty() {
         return Ok(());

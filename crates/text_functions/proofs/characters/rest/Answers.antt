@@ -9,9 +9,11 @@ returns-in-None c =
     (sym (ap length c.chars-characters.ensures.rest) ∙ c.in-None.ensures.steps.0.0) c.loop-i.auto._i-end
 
 pub loop-i-preserved : goal.loop-i-preserved
-loop-i-preserved c =
-    (c.as_str-rest.utf8, passed c.args.text.now c.loop-i.rest.now c.as_str-rest.result.now c.loop-i._i c.in-Some.field-0 c.loop-i.invariant.0 c.loop-i.invariant.1
-    (sym c.chars-characters.ensures.rest ∙ c.in-Some.ensures.steps.0 ∙ ap (λ t. encode_utf8 c.in-Some.field-0 ++ t) (sym c.as_str-rest.ensures)))
+loop-i-preserved c = (
+  c.as_str-rest.utf8,
+  passed c.args.text.now c.loop-i.rest.now c.as_str-rest.result.now c.loop-i._i c.in-Some.field-0 c.loop-i.invariant.0 c.loop-i.invariant.1
+      (sym c.chars-characters.ensures.rest ∙ c.in-Some.ensures.steps.0 ∙ ap (λ t. encode_utf8 c.in-Some.field-0 ++ t) (sym c.as_str-rest.ensures)),
+)
 
 pub returns : goal.returns
 returns c =

@@ -1,7 +1,6 @@
-use Rattle.std.proofs.Common.{◌≡◌, List, ℕ, [], ◌∷◌, map, refl, sym, subst, ap, ◌∙◌}
+use Rattle.std.proofs.Common.{[], ◌∷◌, map, refl, sym, subst, ap, ◌∙◌}
 use Rattle.std.proofs.lemmas.List.{map-append}
 use Rattle.function_spec.specs.Cuts.{AreParts}
-use Rattle.text_functions.proofs.Found.{parts_more, pushed}
 use Rattle.text_functions.proofs.cuts.parts.Goals as goal
 
 pub returns : goal.returns

@@ -1,6 +1,6 @@
 use Rattle.std.proofs.Common.{rules, ◌≤◌, length, arith, string_bytes}
 use Rattle.function_spec.specs.Functions.{Gives, joined, IsText}
-use Rattle.text_functions.proofs.Telling.{told_none, told_some, told_as, none_from, some_from, text_as, with_yes}
+use Rattle.text_functions.proofs.Telling.{told_none, told_some, told_as, none_from, some_from, text_as}
 use Rattle.text_functions.proofs.joins.join.Goals as goal
 
 pub returns-then-values-lt2 : goal.returns-then-values-lt2

@@ -1,5 +1,4 @@
-use Rattle.std.proofs.Common.{◌++◌, sym, subst, ap, ◌∙◌, string_bytes, Some}
-use Rattle.std.specs.Fmt.{option_append}
+use Rattle.std.proofs.Common.{◌++◌, ap, ◌∙◌, string_bytes}
 use Rattle.text_functions.proofs.Telling.{none_from, some_from}
 use Rattle.text_functions.proofs.Texting.{text_more, text_missing, text_whole, more_as}
 use Rattle.text_functions.proofs.joins.joined.Goals as goal

@@ -1,4 +1,4 @@
-use Rattle.std.proofs.Common.{subst, ◌∙◌}
+use Rattle.std.proofs.Common.{subst}
 use Rattle.function_spec.specs.Functions.{IsText}
 use Rattle.text_functions.proofs.Found.{same_back}
 use Rattle.text_functions.proofs.Telling.{told_as, text_as}

@@ -1,8 +1,7 @@
-use Rattle.std.proofs.Common.{rules, arith, ap, sym, subst, ◌∙◌, string_bytes}
+use Rattle.std.proofs.Common.{rules, string_bytes}
 use Rattle.function_spec.specs.declared.Function.TheVariants.{Last}
-use Rattle.function_spec.specs.Functions.{Gives, OfCount, two, count_of, longest}
+use Rattle.function_spec.specs.Functions.{Gives, OfCount, two, count_of}
 use Rattle.value_texts.specs.Texts.{text_of}
-use Rattle.function_spec.specs.Characters.{last}
 use Rattle.text_functions.proofs.Telling.{told_none, told_some, none_from, some_from, text_as}
 use Rattle.text_functions.proofs.parts_of_texts.last.Goals as goal
 

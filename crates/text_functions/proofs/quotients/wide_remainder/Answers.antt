@@ -1,5 +1,4 @@
 use Rattle.std.proofs.Common.{arith}
-
 use Rattle.std.proofs.lemmas.Int.{ints, to_z-of_z}
 use Rattle.text_functions.proofs.quotients.wide_remainder.Goals as goal
 

@@ -1,4 +1,4 @@
-use Rattle.std.proofs.Common.{◌+◌, ◌<◌, ◌-◌, length, string_bytes, arith, ap}
+use Rattle.std.proofs.Common.{◌+◌, length, string_bytes, arith, ap}
 use Rattle.function_spec.specs.Functions.{longest}
 use Rattle.text_functions.proofs.Texting.{each_more, each_over, each_all}
 use Rattle.text_functions.proofs.replacing.each_after.Goals as goal

@@ -1,8 +1,7 @@
 use Rattle.std.proofs.Common.{rules, ◌<◌, length, string_bytes, None}
 use Rattle.value_texts.specs.Texts.{text_of}
-use Rattle.function_spec.specs.declared.Function.TheVariants.{Replace}
 use Rattle.function_spec.specs.Functions.{Gives, Replaced, three}
-use Rattle.text_functions.proofs.Telling.{told_none, told_some, none_from, some_from, with_yes, pair_as, triple_as, filled_from, unfilled_from}
+use Rattle.text_functions.proofs.Telling.{told_none, told_some, none_from, some_from, with_yes, triple_as, filled_from, unfilled_from}
 use Rattle.text_functions.proofs.replacing.replace.Goals as goal
 
 pub returns-in_default : goal.returns-in_default

@@ -1,6 +1,5 @@
-use Rattle.std.proofs.Common.{◌≡◌, ◌++◌, ◌+◌, ◌<◌, ◌≤◌, List, ℕ, length, map, flat_map, drop, subst, sym, ap, ◌∙◌, arith, string_bytes, MatchOption}
+use Rattle.std.proofs.Common.{◌≡◌, ◌++◌, ◌+◌, ◌<◌, List, ℕ, length, map, flat_map, subst, ap, ◌∙◌, string_bytes, MatchOption}
 use Rattle.function_spec.specs.Functions.{longest}
-use Rattle.text_functions.proofs.Found.{each_drop, each_long}
 use Rattle.text_functions.proofs.Replacements.{replaced_none, replaced_some, made_long, made_rest}
 use Rattle.text_functions.proofs.replacing.replace_in.Goals as goal
 

@@ -1,4 +1,4 @@
-use Rattle.std.proofs.Common.{rules, ap, sym, subst, ◌∙◌, string_bytes, ◌≡◌, None}
+use Rattle.std.proofs.Common.{rules, ap, sym, subst, ◌∙◌, string_bytes, None}
 use Rattle.std.specs.Int.{w64}
 use Rattle.std.specs.Int.RustNames.{FitsSigned}
 use Rattle.function_spec.specs.declared.Function.TheVariants.{Number}

@@ -1,4 +1,4 @@
-use Rattle.std.proofs.Common.{rules, arith, ap, sym, subst, ◌∙◌, string_bytes}
+use Rattle.std.proofs.Common.{rules, ap, ◌∙◌, string_bytes}
 use Rattle.function_spec.specs.declared.Function.TheVariants.{Trim}
 use Rattle.function_spec.specs.Functions.{Gives, OfText, one_text}
 use Rattle.function_spec.specs.Words.{trim}
