@@ -1,4 +1,5 @@
--- Where a text stands in another one. A text is the list of its bytes; s is not empty wherever these are used.
+-- Where a text stands in another one. A text is the list of its bytes; s is not empty wherever
+-- these are used.
 use Rattle.std.specs.Prelude.{◌≡◌, ◌≤◌, ℕ, List, [], ◌∷◌, ◌++◌, length}
 use Rattle.value_texts.specs.Texts.{TextHolds}
 use Rattle.value_texts.specs.declared.TextTest.TheVariants.{Has}

@@ -47,7 +47,8 @@ one_text [] = None
 one_text (a ∷ b ∷ vs) = None
 
 -- what the first and the second of two values are read as
-abbrev pub two : {X Y : Type 0} → (Value → Option X) → (Value → Option Y) → List Value → Option (X × Y)
+abbrev pub two : {X Y : Type 0}
+    → (Value → Option X) → (Value → Option Y) → List Value → Option (X × Y)
 two f g (a ∷ b ∷ []) = option_zip (f a) (g b)
 two f g [] = None
 two f g (a ∷ []) = None

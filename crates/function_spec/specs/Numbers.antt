@@ -17,10 +17,12 @@ is_numeric b = (leb 48 b && leb b 57) || (b == 43) || (b == 45)
 abbrev pub IsMark : List ℕ → Type 0
 IsMark s = (0 < length s) × (list_any is_numeric s ≡ false)
 
--- the digits before and after the mark s in a text without its sign; none after it if there is no mark
+-- the digits before and after the mark s in a text without its sign; none after it if there is
+-- no mark
 abbrev pub HasDigits : List ℕ → List ℕ → List ℕ → List ℕ → Type 0
 HasDigits s t whole [] = (t ≡ whole) × IsNumeral 10 whole
-HasDigits s t whole (d ∷ ds) = (t ≡ whole ++ (s ++ d ∷ ds)) × IsNumeral 10 whole × IsNumeral 10 (d ∷ ds)
+HasDigits s t whole (d ∷ ds) =
+    (t ≡ whole ++ (s ++ d ∷ ds)) × IsNumeral 10 whole × IsNumeral 10 (d ∷ ds)
 
 -- the first n digits after the mark, filled up with zeros
 abbrev pub places : ℕ → List ℕ → List ℕ
