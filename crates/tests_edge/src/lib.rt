@@ -12,6 +12,8 @@ mod folder;
 #[cfg(test)]
 mod full;
 #[cfg(test)]
+mod logged;
+#[cfg(test)]
 mod sockets;
 #[cfg(test)]
 mod talk;
