@@ -1,5 +1,5 @@
 -- In a query without faults what a link names is bound.
-use Rattle.std.proofs.Common.{◌≡◌, List, [], ◌∷◌, ◌++◌, refl, sym, ap, ◌∙◌, subst, ⊎_elim, inl}
+use Rattle.std.proofs.Common.{◌≡◌, ℕ, List, [], ◌∷◌, ◌++◌, refl, sym, ap, ◌∙◌, subst, ⊎_elim, inl}
 use Rattle.std.specs.Prelude.{Bool, true, false, Option, Some, None, map, Contains, All}
 use Rattle.std.specs.List.{flat_map, list_any}
 use Rattle.std.proofs.lemmas.List.Elements.{All-nil, All-cons, All-contains, Contains-append_left, Contains-append_right, Contains-append_cases}
@@ -66,8 +66,8 @@ module _ (S : List plain.Condition) where
 
 -- ---- a block
 
-used_named : (p : Placed) → NoFault p → (m : VariableUse) → Contains (uses p.clauses) m → Contains (flat_map names (map condition_plain (joined p.levels))) m.name
-used_named p n m h =
+used_named : (version : ℕ) (p : Placed) → NoFault version p → (m : VariableUse) → Contains (uses p.clauses) m → Contains (flat_map names (map condition_plain (joined p.levels))) m.name
+used_named version p n m h =
     let own = flat_map mentions p.clauses.conditions in
     let sorted = sorted_in (round_of p.levels) m.name (λ e. n Unbound m.at (inl (m, Contains-append_right own (uses p.clauses) m h, (e, refl)))) in
     let among : list_any (same_name m.name) (map name_of (joined (round_of p.levels))) ≡ true = sym (in_names (joined (round_of p.levels)) m.name) ∙ sorted in
@@ -79,9 +79,9 @@ only_true None n f = absurd (n refl)
 only_true (Some true) n f = refl
 only_true (Some false) n f = absurd (f refl)
 
-bound_label : (p : Placed) → NoFault p → (l : LinkLabel) → ((m : VariableUse) → Contains (label_mentions l) m → Contains (uses p.clauses) m) → IsBoundLabel (map condition_plain (joined p.levels)) (label_of l)
-bound_label p n (labels.Quoted l) h = tt
-bound_label p n (labels.Variable x span) h =
+bound_label : (version : ℕ) (p : Placed) → NoFault version p → (l : LinkLabel) → ((m : VariableUse) → Contains (label_mentions l) m → Contains (uses p.clauses) m) → IsBoundLabel (map condition_plain (joined p.levels)) (label_of l)
+bound_label version p n (labels.Quoted l) h = tt
+bound_label version p n (labels.Variable x span) h =
     let m : VariableUse = record { name = x; role = Label; at = span.start } in
     let own = flat_map mentions p.clauses.conditions in
     let at = Contains-append_right own (uses p.clauses) m (h m (Contains-here m [])) in
@@ -106,8 +106,8 @@ link_writable b k h all v n =
     All-contains IsWritable (constants b) v all
     (Contains-append_left ((a ++ t) ++ l) c v (Contains-append_right (a ++ t) l v (Contains-flat_mapped link_constants b.links k v h n)))
 
-bound_link : (p : Placed) → NoFault p → All IsWritable (constants (clauses_plain p.clauses)) → (k : Link) → Contains p.clauses.links k → IsBoundLink (map condition_plain (joined p.levels)) (link_plain k)
-bound_link p n all k h =
+bound_link : (version : ℕ) (p : Placed) → NoFault version p → All IsWritable (constants (clauses_plain p.clauses)) → (k : Link) → Contains p.clauses.links k → IsBoundLink (map condition_plain (joined p.levels)) (link_plain k)
+bound_link version p n all k h =
     let S = map condition_plain (joined p.levels) in
     let s = target_mentions k.source in
     let l = label_mentions k.label in
@@ -117,15 +117,15 @@ bound_link p n all k h =
     let cs = target_constants (target_plain k.source) in
     let ct = target_constants (target_plain k.target) in
     record {
-      source = bound_target S k.source (λ m i. used_named p n m (used m (Contains-append_left (s ++ l) t m (Contains-append_left s l m i)))) (λ v i. writable v (Contains-append_left cs ct v i));
-      label = bound_label p n k.label (λ m i. used m (Contains-append_left (s ++ l) t m (Contains-append_right s l m i)));
-      target = bound_target S k.target (λ m i. used_named p n m (used m (Contains-append_right (s ++ l) t m i))) (λ v i. writable v (Contains-append_right cs ct v i));
+      source = bound_target S k.source (λ m i. used_named version p n m (used m (Contains-append_left (s ++ l) t m (Contains-append_left s l m i)))) (λ v i. writable v (Contains-append_left cs ct v i));
+      label = bound_label version p n k.label (λ m i. used m (Contains-append_left (s ++ l) t m (Contains-append_right s l m i)));
+      target = bound_target S k.target (λ m i. used_named version p n m (used m (Contains-append_right (s ++ l) t m i))) (λ v i. writable v (Contains-append_right cs ct v i));
     }
 
-checked_body : (p : Placed) → NoFault p → All IsWritable (constants (clauses_plain p.clauses)) → All IsFlat (body_at p).conditions → IsCheckedBody (body_at p)
-checked_body p n all flat = record {
+checked_body : (version : ℕ) (p : Placed) → NoFault version p → All IsWritable (constants (clauses_plain p.clauses)) → All IsFlat (body_at p).conditions → IsCheckedBody (body_at p)
+checked_body version p n all flat = record {
   flat = flat;
-  links = λ k h. let at = Contains-map link_plain p.clauses.links k h in subst (IsBoundLink (map condition_plain (joined p.levels))) at.1 (bound_link p n all at.0 at.2);
+  links = λ k h. let at = Contains-map link_plain p.clauses.links k h in subst (IsBoundLink (map condition_plain (joined p.levels))) at.1 (bound_link version p n all at.0 at.2);
 }
 
 -- ---- the whole query
@@ -152,9 +152,9 @@ all_checked q faultless parsed b h =
     let plainly : IsParsed (query_plain (query_written q)) = subst IsParsed (sym same) parsed in
     let k : Contains (map body_at (placed_within [] bs)) b = subst (λ (xs : List Body). Contains xs b) (bodies_same [] bs) (subst (λ (r : plain.Query). Contains (blocks_in_scope r) b) (sym same) h) in
     let found = Contains-map body_at (placed_within [] bs) b k in
-    let n : NoFault found.0 = λ check at f.
+    let n : NoFault q.version found.0 = λ check at f.
     faultless check at (inl (scoped_of found.0, subst (λ (xs : List ScopedBlock). Contains xs (scoped_of found.0)) (sym (scoped_same [] bs)) (Contains-mapped scoped_of (placed_within [] bs) found.0 found.2), f)) in
     let writable = All-contains (λ (c : Body). All IsWritable (constants c)) (bodies (query_plain (query_written q))) (clauses_plain found.0.clauses) plainly.writable (placed_body [] bs found.0 found.2) in
     let safe = all_safe q faultless parsed b h in
     let flat : All IsFlat (body_at found.0).conditions = subst (λ (c : Body). All IsFlat c.conditions) (sym found.1) safe.well_made.flat in
-    subst IsCheckedBody found.1 (checked_body found.0 n writable flat)
+    subst IsCheckedBody found.1 (checked_body q.version found.0 n writable flat)
