@@ -4,6 +4,7 @@
 mod arithmetic;
 mod characters;
 mod cuts;
+mod decimals;
 mod folding;
 mod joins;
 mod numbers;
@@ -16,6 +17,7 @@ mod texts;
 mod words;
 
 pub use arithmetic::{div, minus, modulo, plus, times};
+pub use decimals::decimal;
 pub use joins::join;
 pub use parts_of_texts::{after, before, first, last, rest};
 pub use replacing::replace;
