@@ -1,13 +1,13 @@
 -- Digits around a mark.
-use Rattle.std.proofs.Common.{rules, ◌≡◌, ℕ, ◌+◌, ◌<◌, ◌≤◌, List, [], ◌∷◌, ◌++◌, length, drop, get_or, Bool, true, false, cond, eqb, ℤ, refl, sym, ap, ◌∙◌, subst, append_assoc, append-nil, length-append, arith, Option, None}
-use Rattle.std.specs.Prelude.{◌||◌, ◌&&◌, ◌==◌, leb, ⊤}
+use Rattle.std.proofs.Common.{rules, ◌≡◌, ℕ, ◌<◌, ◌≤◌, List, [], ◌∷◌, ◌++◌, length, drop, get_or, Bool, true, false, cond, eqb, ℤ, refl, sym, ap, ◌∙◌, subst, append_assoc, append-nil, length-append, arith, Option}
+use Rattle.std.specs.Prelude.{◌||◌, ◌==◌, ⊤}
 use Rattle.std.specs.Bool.{MatchBool}
 use Rattle.std.specs.Char.{digit_value, is_ascii_digit}
 use Rattle.std.specs.List.{list_any, list_all}
 use Rattle.std.specs.Int.{w64}
 use Rattle.std.specs.Int.RustNames.{FitsSigned}
 use Rattle.std.specs.Str.Parse.{AllDigits, IsNumeral, digits_value, without_leading_sign}
-use Rattle.std.proofs.lemmas.Bool.{false≢true, eqb-true}
+use Rattle.std.proofs.lemmas.Bool.{false≢true}
 use Rattle.std.proofs.lemmas.Bool.Decides.{nat_tests}
 use Rattle.std.proofs.lemmas.Str.Parse.{digit_from_value, IsDigitsTest, IsNumeralModel, numerals_by_value}
 use Rattle.value_texts.specs.Texts.{TextHolds}
@@ -145,15 +145,6 @@ module _ (s t front back : List ℕ) (mark : IsMark s) (h : IsFirstAt s t front 
   part_none non w p has =
       let same = cut_same s (without_leading_sign t) (without_leading_sign front) back w p mark (first_unsigned s t front back mark h) has in
       non (subst (IsNumeral 10) (same.1 ∙ sym bis) same.3)
-
-has_cons : (s u w p : List ℕ) → IsNumeral 10 w → IsNumeral 10 p → u ≡ w ++ (s ++ p) → HasDigits s u w p
-has_cons s u w [] m n e = absurd (omega (arith, n.0))
-has_cons s u w (d ∷ ds) m n e = (e, m, n)
-
-pub both_has : (s t front back a b : List ℕ) → IsMark s → IsFirstAt s t front back → a ≡ without_leading_sign front → b ≡ back → IsNumeral 10 a → IsNumeral 10 b → HasDigits s (without_leading_sign t) a b
-both_has s t front back a b mark h is bis m n =
-    has_cons s (without_leading_sign t) a b m n
-    ((first_unsigned s t front back mark h).whole ∙ ap (λ x. x ++ (s ++ back)) (sym is) ∙ ap (λ x. a ++ (s ++ x)) (sym bis))
 
 -- ---- the decimal
 

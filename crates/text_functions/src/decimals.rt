@@ -140,12 +140,7 @@ fn moved(
 }
 
 // The Int of a decimal with its mark n places on.
-fn decimal_in(
-    alloc: Global,
-    text: &str,
-    mark: &str,
-    n: usize,
-) -> Result<Option<Value>, NoMemory>
+fn decimal_in(alloc: Global, text: &str, mark: &str, n: usize) -> Result<Option<Value>, NoMemory>
     requires mark { IsMark mark.now }
     requires few { n ≤ 18 }
     ensures { IfOk result (Tells (λ v.

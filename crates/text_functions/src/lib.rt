@@ -2,6 +2,7 @@
 #![tactic(auto)]
 
 mod arithmetic;
+mod calls;
 mod characters;
 mod cuts;
 mod decimals;
@@ -16,10 +17,4 @@ mod splits;
 mod texts;
 mod words;
 
-pub use arithmetic::{div, minus, modulo, plus, times};
-pub use decimals::decimal;
-pub use joins::join;
-pub use parts_of_texts::{after, before, first, last, rest};
-pub use replacing::replace;
-pub use splits::split;
-pub use texts::{fold, length, lower, number, slug, trim, upper};
+pub use calls::values;

@@ -1,6 +1,6 @@
 use Rattle.std.proofs.Common.{ap, ◌∙◌, refl}
 use Rattle.std.specs.Str.Parse.{without_leading_sign}
-use Rattle.text_functions.proofs.Marks.{alone_none, whole_none, part_none, both_has}
+use Rattle.text_functions.proofs.Marks.{alone_none, whole_none, part_none}
 use Rattle.text_functions.proofs.decimals.digits.Goals as goal
 
 pub returns-then-not-is_numeral : goal.returns-then-not-is_numeral
