@@ -6,6 +6,8 @@ mod calls;
 #[cfg(test)]
 mod counts;
 #[cfg(test)]
+mod decimals;
+#[cfg(test)]
 mod names;
 #[cfg(test)]
 mod numbers;

@@ -7,3 +7,4 @@ mod Telling
 mod Texting
 mod Parting
 mod Replacements
+mod Marks

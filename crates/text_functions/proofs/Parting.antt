@@ -1,7 +1,8 @@
 -- The values of the parts of a text.
 use Rattle.std.proofs.Common.{◌≡◌, ℕ, ◌+◌, ◌<◌, ◌≤◌, List, [], ◌∷◌, ◌++◌, length, take, map, get_or, IsSomeAnd, append-nil, sym, ap, ◌∙◌, subst, ⊎_elim, Option, Some, None}
-use Rattle.std.specs.Prelude.{Contains}
+use Rattle.std.specs.Prelude.{Contains, IfOk, Result, Ok, Err}
 use Rattle.std.specs.Option.{option_to_list}
+use Rattle.std.specs.List.Sorted.{IsStrictlySortedBy}
 use Rattle.std.proofs.lemmas.List.{take_more, take_all}
 use Rattle.sd_value.specs.Ascending.{ListsExactly}
 use Rattle.sd_value.specs.AscendingLaws.{listed_as}
@@ -11,7 +12,8 @@ use Rattle.sd_value.specs.Order.{value_cmp}
 use Rattle.sd_value.specs.declared.Value.{Value}
 use Rattle.sd_value.proofs.Gathering.{gathered_push, gathered_all}
 use Rattle.function_spec.specs.Cuts.{AreParts}
-use Rattle.function_spec.specs.Functions.{IsFilledText}
+use Rattle.function_spec.specs.declared.Function.{Function}
+use Rattle.function_spec.specs.Functions.{Gives, IsFilledText}
 use Rattle.function_spec.specs.Words.{trim}
 use Rattle.text_functions.specs.Told.{Tells, Adds}
 use Rattle.text_functions.proofs.Found.{parts_same}
@@ -59,3 +61,23 @@ listed_pair Q vs x x' y y' h e d = subst (λ a. ListsExactly value_cmp (Q (a, y'
 
 pub gathered_whole : {X : Type 0} (E : X → Value → Type 0) (xs : List X) (i : ℕ) (ends : List Value) → length xs ≤ i → Gathered E (take i xs) ends → Gathered E xs ends
 gathered_whole E xs i ends le g = subst (λ f. Gathered E f ends) (take_all i xs le) g
+
+one_ascends : (o : Option Value) → IsStrictlySortedBy value_cmp (option_to_list o)
+unfolding IsStrictlySortedBy
+one_ascends None = tt
+one_ascends (Some w) = (tt, tt)
+
+-- the list of the one value, or of none
+pub one_listed : (P : Value → Type 0) (o : Option Value) (vs : List Value) → Tells P o → vs ≡ option_to_list o → ListsExactly value_cmp P vs
+one_listed P o vs h e =
+    let all_of : ListsExactly value_cmp P (option_to_list o) = record {
+      ascending = one_ascends o;
+      sound = only P o h;
+      complete = all P o h;
+    } in
+    subst (ListsExactly value_cmp P) (sym e) all_of
+
+-- the same, as a call has it
+pub call_listed : {V E : Type 0} (items : V → List Value) (f g : Function) (vs : List Value) (o : Option Value) (r : Result V E) → f ≡ g → Tells (Gives g vs) o → IfOk r (λ v. items v ≡ option_to_list o) → IfOk r (λ v. ListsExactly value_cmp (Gives f vs) (items v))
+call_listed items f g vs o (Ok v) same told e = subst (λ x. ListsExactly value_cmp (Gives x vs) (items v)) (sym same) (one_listed (Gives g vs) o (items v) told e)
+call_listed items f g vs o (Err e) same told h = h

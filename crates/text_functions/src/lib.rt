@@ -2,8 +2,10 @@
 #![tactic(auto)]
 
 mod arithmetic;
+mod calls;
 mod characters;
 mod cuts;
+mod decimals;
 mod folding;
 mod joins;
 mod numbers;
@@ -15,9 +17,4 @@ mod splits;
 mod texts;
 mod words;
 
-pub use arithmetic::{div, minus, modulo, plus, times};
-pub use joins::join;
-pub use parts_of_texts::{after, before, first, last, rest};
-pub use replacing::replace;
-pub use splits::split;
-pub use texts::{fold, length, lower, number, slug, trim, upper};
+pub use calls::values;

@@ -132,3 +132,20 @@ pub(crate) fn three_texts(
     let third = text_of(alloc, third)?;
     Ok(text.zip(other).zip(third))
 }
+
+/// Two texts and a count.
+pub(crate) fn two_texts_and_count(
+    alloc: Global,
+    values: &[Value],
+) -> Result<Option<((String, String), u64)>, NoMemory>
+    ensures { IfOk result (λ r.
+        option_map (λ p. ((string_bytes p.0.0, string_bytes p.0.1), p.1)) r
+        ≡ three count_of values.now) }
+{
+    let [value, other, count] = values else {
+        return Ok(None);
+    };
+    let text = text_of(alloc, value)?;
+    let other = text_of(alloc, other)?;
+    Ok(text.zip(other).zip(count_of(count)))
+}
