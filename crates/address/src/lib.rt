@@ -13,4 +13,4 @@ pub use active::is_active;
 pub use laws::addresses_differ;
 pub use named::term_of;
 pub use places::{FileRefusal, file_of};
-pub use written::{address, push_shown, show};
+pub use written::{address, hex_digit, push_shown, show};

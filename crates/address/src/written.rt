@@ -121,7 +121,8 @@ fn is_plain(b: u8) -> bool
     b.is_ascii_uppercase() || b.is_ascii_lowercase() || b.is_ascii_digit() || b == b'-' || b == b'_'
 }
 
-fn hex_digit(d: u8) -> u8
+/// The digit in upper-case hexadecimal.
+pub fn hex_digit(d: u8) -> u8
     requires { d < 16 }
     ensures { result ≡ spec.hex_digit d }
 {

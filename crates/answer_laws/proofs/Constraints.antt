@@ -27,8 +27,8 @@ use Rattle.constraints.specs.Known.{first_from}
 use Rattle.constraints.specs.Constraints.{IsSpelled, Reads, IsSettled}
 use Rattle.constraints.proofs.Names.{first_is}
 use Rattle.constraints.proofs.Parts.{phrases_part}
-use Rattle.answer_laws.proofs.Lexed.{each_text}
-use Rattle.answer_laws.proofs.Endings.{Ending, spelled, stuck, past, Closes, finish_closes, then_closes, ending}
+use Rattle.source_laws.proofs.Lexed.{each_text}
+use Rattle.source_laws.proofs.Endings.{Ending, spelled, stuck, past, Closes, finish_closes, then_closes, ending}
 
 reads_all : Closes read_phrases
 unfolding read_phrases

@@ -12,8 +12,8 @@ use Rattle.edit_reader.specs.EditText.{edit}
 use Rattle.edit_reader.specs.Reading.{read_phrase, read_whole}
 use Rattle.edit_reader.specs.Reads.{Reads, IsSettled}
 use Rattle.edit_reader.proofs.Parts.{edit_part}
-use Rattle.answer_laws.proofs.Lexed.{each_text}
-use Rattle.answer_laws.proofs.Endings.{Ending, spelled, stuck, past, Closes, finish_closes, then_closes, ending}
+use Rattle.source_laws.proofs.Lexed.{each_text}
+use Rattle.source_laws.proofs.Endings.{Ending, spelled, stuck, past, Closes, finish_closes, then_closes, ending}
 
 reads_all : Closes read_whole
 unfolding read_whole

@@ -1,15 +1,7 @@
-pub mod Lexed
-pub mod Endings
 pub mod Scripts
 pub mod Edits
-pub mod Steps
-pub mod DataTexts
 pub mod Templates
 pub mod Constraints
-pub mod Csv
-pub mod Json
-pub mod Bibtex
 pub mod FirstFaults
 pub mod Queries
-pub mod DataFiles
 pub mod Trials

@@ -26,8 +26,8 @@ use Rattle.query_reader.specs.declared.QueryRefusal.{QueryRefusal}
 use Rattle.query_reader.specs.declared.QueryRefusal.TheVariants.{NotSpelled, NotChecked}
 use Rattle.query_reader.specs.Reads.{Spells}
 use Rattle.answer_laws.specs.Queries.{AnswersWritten}
-use Rattle.answer_laws.proofs.Lexed.{each_text}
-use Rattle.answer_laws.proofs.Endings.{Ending, spelled, stuck, past, Closes, finish_closes, then_closes, ending}
+use Rattle.source_laws.proofs.Lexed.{each_text}
+use Rattle.source_laws.proofs.Endings.{Ending, spelled, stuck, past, Closes, finish_closes, then_closes, ending}
 use Rattle.answer_laws.proofs.FirstFaults.{first_fault}
 
 reads_all : Closes read_query

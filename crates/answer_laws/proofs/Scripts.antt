@@ -13,8 +13,8 @@ use Rattle.script_reader.specs.ScriptText.{script, events}
 use Rattle.script_reader.specs.Reading.{begins_phrase, read_phrase, read_phrases}
 use Rattle.script_reader.specs.Script.{Reads, IsSettled}
 use Rattle.script_reader.proofs.Parts.{script_part}
-use Rattle.answer_laws.proofs.Lexed.{each_text}
-use Rattle.answer_laws.proofs.Endings.{Ending, spelled, stuck, past, Closes, finish_closes, then_closes, ending}
+use Rattle.source_laws.proofs.Lexed.{each_text}
+use Rattle.source_laws.proofs.Endings.{Ending, spelled, stuck, past, Closes, finish_closes, then_closes, ending}
 
 reads_all : Closes read_phrases
 unfolding read_phrases

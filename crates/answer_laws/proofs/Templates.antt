@@ -1,6 +1,6 @@
 -- Each file of templates has an answer: its bytes split into items, and these are templates, don't fit, or pass a limit.
-use Rattle.std.proofs.Common.{◌≡◌, ◌≢◌, ℕ, zero, suc, ◌+◌, ◌≤◌, ◌<◌, Bool, true, false, List, [], ◌∷◌, length, drop, refl, ap, inl, inr, arith, Option, Some, None, Result, Ok, Err}
-use Rattle.std.specs.Prelude.{codes, nat_eq, nat_lt, ⊤, if◌then◌else◌}
+use Rattle.std.proofs.Common.{◌≡◌, ◌≢◌, ℕ, zero, suc, ◌+◌, ◌≤◌, ◌<◌, Bool, true, false, List, [], ◌∷◌, ◌++◌, length, drop, refl, ap, inl, inr, arith, Option, Some, None, Result, Ok, Err}
+use Rattle.std.specs.Prelude.{◌⊎◌, codes, nat_eq, nat_lt, ⊤, if◌then◌else◌}
 use Rattle.std.proofs.lemmas.Bool.Decides.{nat_tests}
 use Rattle.std.proofs.lemmas.List.{length-drop}
 use Rattle.sd_lex.specs.declared.token.Token.{Token}
@@ -19,19 +19,30 @@ use Rattle.template_items.specs.declared.item.Mode.TheVariants.{Between, Body, I
 use Rattle.template_items.specs.declared.item.State.{State}
 use Rattle.template_items.specs.declared.item.Front.{Front}
 use Rattle.template_items.specs.declared.item.Front.TheVariants.{Passes, Finds, Ends}
-use Rattle.template_items.specs.Scanning.{begins, tag_at, text_before, text_run, opens, front_between, behind_tag, front_tag, front_body, front_token}
+use Rattle.template_items.specs.Scanning.{begins, note_run, noted, front_mark, further_tag, tag_of, tag_at, text_before, text_run, opens, front_between, behind_tag, front_tag, front_body, front_token}
 use Rattle.template_items.specs.Scanning.{front_inside, front_in, front, last_items, first_state, Scans, passes, finds, ends}
 use Rattle.tmpl.specs.Body.{TemplateFile}
-use Rattle.template_tags.specs.Terminals.{is_mark, IsReal}
+use Rattle.template_tags.specs.Terminals.{is_mark, name_value, label_value, IsReal}
 use Rattle.template_reader.specs.declared.refusal.TmplRefusal.{TmplRefusal}
-use Rattle.template_reader.specs.declared.refusal.TmplRefusal.TheVariants.{TooLong, Expected, Unclosed, Twice, TooDeep, UnknownVariable, NoMemory}
+use Rattle.template_reader.specs.declared.refusal.TmplRefusal.TheVariants.{TooLong, Expected, Unclosed, TooDeep, UnknownVariable, TooLarge, NoMemory}
 use Rattle.template_reader.specs.Template.{within, spelled}
 use Rattle.template_reader.specs.Reading.{is_block, read_template, read_file}
-use Rattle.template_reader.specs.Faults as answers
-use Rattle.template_reader.specs.Faults.{Whole, Unfit, Beyond, IsEnding, twice, innermost, past_at, whole_answer, unless_before, unless_twice, beyond_answer, IsItemsAnswer, IsTemplatesAnswer}
+use Rattle.template_reader.specs.Faults.{Whole, Unfit, Beyond, twice, innermost, past_at, unfit_at, twice_met, stopped, earlier, met, templates_of, written, unless_before, unless_met, unfit_answer, beyond_answer, IsMade, IsWholeAnswer, IsWrittenAnswer, IsTemplatesAnswer}
+use Rattle.template_reader.specs.declared.met.Met.{Met}
+use Rattle.template_reader.specs.declared.written.Act.{Act}
+use Rattle.template_reader.specs.declared.written.Role.{Role}
+use Rattle.template_reader.specs.declared.written.Role.TheVariants as roles
+use Rattle.template_reader.specs.declared.written.Sort.{Sort}
+use Rattle.template_reader.specs.declared.written.Sort.TheVariants as sorts
+use Rattle.template_reader.specs.Written.{acts, first_view}
+use Rattle.template_reader.specs.Measures.{is_too_deep, is_too_large, sum}
+use Rattle.template_reader.specs.Together.{Fragment, Open, Above, Reading, find, titled_by, titles_by, titles, with_items, included_by, includes_by, includes, ends_template, ends_by, ends as ends_here, with_open, with_above, step_by, step, and_run, run, nothing_read, together}
+use Rattle.template_reader.specs.Entries.{file_from, AreRead}
+use Rattle.template_reader.specs.Template.{Entry}
+use Rattle.template_reader.proofs.Made.{decided}
 use Rattle.template_reader.proofs.FileParts.{file_part}
-use Rattle.answer_laws.proofs.Endings as items_end
-use Rattle.answer_laws.proofs.Endings.{Closes, finish_closes, then_closes, ending}
+use Rattle.source_laws.proofs.Endings as items_end
+use Rattle.source_laws.proofs.Endings.{Closes, finish_closes, then_closes, ending}
 
 -- ---- each step of scanning goes on, where bytes are left
 
@@ -47,11 +58,18 @@ either_moves s rest false f g h k = k
 some : (b : ℕ) (bytes : List ℕ) → (b ∷ bytes) ≢ []
 some b bytes = λ none. cc
 
+note_moves : (s : State) (b : ℕ) (bytes : List ℕ) (o : Option ℕ) → Moves s (b ∷ bytes) (noted s o)
+note_moves s b bytes (Some n) = (some b bytes, omega arith)
+note_moves s b bytes None = tt
+
 between_moves : (s : State) (bytes : List ℕ) → Moves s bytes (front_between s bytes)
 between_moves s [] = tt
 between_moves s (b ∷ bytes) =
     either_moves s (b ∷ bytes) (is_blank b) _ _ (some b bytes, omega arith)
-    (either_moves s (b ∷ bytes) (opens (codes "<TEMPLATE") (b ∷ bytes)) _ _ (some b bytes, omega arith) tt)
+    (either_moves s (b ∷ bytes) (begins (codes "<SNOTE>") (b ∷ bytes)) _ _ (note_moves s b bytes (note_run (drop 7 (b ∷ bytes))))
+    (either_moves s (b ∷ bytes) (opens (codes "<TEMPLATE") (b ∷ bytes)) _ _ (some b bytes, omega arith)
+    (either_moves s (b ∷ bytes) (opens (codes "<LAYOUT") (b ∷ bytes)) _ _ (some b bytes, omega arith)
+    (either_moves s (b ∷ bytes) (opens (codes "<FRAGMENT") (b ∷ bytes)) _ _ (some b bytes, omega arith) tt))))
 
 -- a tag has a byte
 abbrev HasLength : Option (Mark × ℕ) → Type 0
@@ -62,26 +80,50 @@ tag_or : (b : Bool) (m : Mark) (n : ℕ) (o : Option (Mark × ℕ)) → HasLengt
 tag_or true m n o h = omega arith
 tag_or false m n o h = h
 
-tag_some : (bytes : List ℕ) → HasLength (tag_at bytes)
-tag_some bytes =
+further_some : (bytes : List ℕ) → HasLength (further_tag bytes)
+further_some bytes =
+    tag_or (begins (codes "</SNOTE>") bytes) marks.EndNote 7 _
+    (tag_or (opens (codes "<SINCLUDE") bytes) marks.OpenInclude 8 _
+    (tag_or (begins (codes "<SBODY>") bytes) marks.Hole 6 _
+    (tag_or (begins (codes "</LAYOUT>") bytes) marks.EndLayout 8 _
+    (tag_or (begins (codes "</FRAGMENT>") bytes) marks.EndFragment 10 None tt))))
+
+of_some : (bytes : List ℕ) → HasLength (tag_of bytes)
+of_some bytes =
     tag_or (opens (codes "<SFMT") bytes) marks.OpenFormat 4 _
     (tag_or (opens (codes "<SIF") bytes) marks.OpenChoice 3 _
     (tag_or (opens (codes "<SFOR") bytes) marks.OpenRepeat 4 _
     (tag_or (begins (codes "<SELSE>") bytes) marks.Otherwise 6 _
     (tag_or (begins (codes "</SIF>") bytes) marks.EndChoice 5 _
     (tag_or (begins (codes "</SFOR>") bytes) marks.EndRepeat 6 _
-    (tag_or (begins (codes "</TEMPLATE>") bytes) marks.EndTemplate 10 None tt))))))
+    (tag_or (begins (codes "</TEMPLATE>") bytes) marks.EndTemplate 10 _
+    (tag_or (begins (codes "<SNOTE>") bytes) marks.OpenNote 6 _ (further_some bytes))))))))
+
+if_tag : (b : Bool) (o : Option (Mark × ℕ)) → HasLength o → HasLength (if b then o else None)
+if_tag true o h = h
+if_tag false o h = tt
+
+tag_some : (bytes : List ℕ) → HasLength (tag_at bytes)
+tag_some [] = tt
+tag_some (b ∷ bytes) = if_tag (nat_eq b 60) (tag_of (b ∷ bytes)) (of_some (b ∷ bytes))
 
 behind_place : (s : State) (m : Mark) (n : ℕ) → (behind_tag s m n).place ≡ s.place + n
 behind_place s marks.OpenFormat n = refl
 behind_place s marks.OpenChoice n = refl
 behind_place s marks.OpenRepeat n = refl
+behind_place s marks.OpenInclude n = refl
 behind_place s marks.EndTemplate n = refl
+behind_place s marks.EndLayout n = refl
+behind_place s marks.EndFragment n = refl
 behind_place s m n = refl
+
+mark_moves : (s : State) (b : ℕ) (bytes : List ℕ) (m : Mark) (n : ℕ) → 0 < n → Moves s (b ∷ bytes) (front_mark s (b ∷ bytes) m n)
+mark_moves s b bytes marks.OpenNote n long = note_moves s b bytes (note_run (drop 7 (b ∷ bytes)))
+mark_moves s b bytes m n long = (some b bytes, (let there = behind_place s m n in omega (arith, there, long)))
 
 tag_moves : (s : State) (b : ℕ) (bytes : List ℕ) (tag : Option (Mark × ℕ)) → tag_at (b ∷ bytes) ≡ tag → HasLength tag
     → Moves s (b ∷ bytes) (front_tag s (b ∷ bytes) tag)
-tag_moves s b bytes (Some (m, n)) is long = (some b bytes, (let there = behind_place s m n in omega (arith, there, long)))
+tag_moves s b bytes (Some (m, n)) is long = mark_moves s b bytes m n long
 tag_moves s b bytes None is long =
     let run : text_run (b ∷ bytes) ≡ text_run bytes + 1 = ap (λ t. text_before t (text_run bytes)) is in
     (some b bytes, omega (arith, run))
@@ -148,17 +190,35 @@ reads_all = then_closes (reading.repeat (is_mark marks.OpenTemplate) read_templa
 abbrev IsTold : Result TemplateFile TmplRefusal → Type 0
 IsTold r = r ≡ Err NoMemory → ⊥
 
-before_told : (doubled : Option ℕ) (at : ℕ) (e : TmplRefusal) → IsTold (Err e) → IsTold (Err (unless_before doubled at e))
-before_told None at e told = told
-before_told (Some twice_at) at e told = by (nat_lt twice_at at)
+-- what is met is told
+abbrev IsToldMet : Option Met → Type 0
+IsToldMet None = ⊤
+IsToldMet (Some m) = IsTold (Err m.refusal)
+
+before_told : (first : Option Met) (at : ℕ) (e : TmplRefusal) → IsToldMet first → IsTold (Err e) → IsTold (Err (unless_before first at e))
+before_told None at e all told = told
+before_told (Some m) at e all told = by (nat_lt m.place at)
   where
-    by : (b : Bool) → IsTold (Err (if b then Twice twice_at else e))
-    by true = λ is. cc
+    by : (b : Bool) → IsTold (Err (if b then m.refusal else e))
+    by true = all
     by false = told
 
-twice_told : (doubled : Option ℕ) (e : TmplRefusal) → IsTold (Err e) → IsTold (Err (unless_twice doubled e))
-twice_told None e told = told
-twice_told (Some at) e told = λ is. cc
+met_told : (first : Option Met) (e : TmplRefusal) → IsToldMet first → IsTold (Err e) → IsTold (Err (unless_met first e))
+met_told None e all told = told
+met_told (Some m) e all told = all
+
+twice_told : (doubled : Option ℕ) → IsToldMet (twice_met doubled)
+twice_told None = tt
+twice_told (Some at) = λ is. cc
+
+earlier_told : (one other : Option Met) → IsToldMet one → IsToldMet other → IsToldMet (earlier one other)
+earlier_told None other h k = k
+earlier_told (Some m) None h k = h
+earlier_told (Some m) (Some n) h k = by (nat_lt n.place m.place)
+  where
+    by : (b : Bool) → IsToldMet (if b then Some n else Some m)
+    by true = k
+    by false = h
 
 past_told : (i : Item) → IsTold (Err (past_at i))
 past_told i = by (is_block i)
@@ -167,23 +227,108 @@ past_told i = by (is_block i)
     by true = λ is. cc
     by false = λ is. cc
 
-module _ (items : List Item) where
-  abbrev HasAnswer : Type 0
-  HasAnswer = (r : Result TemplateFile TmplRefusal) × IsItemsAnswer items r × IsTold r
+-- what stops the putting in of fragments is told
 
-  answer_of : (e : answers.Ending) → IsEnding items e → IsTold (answers.answer (twice items) items e) → HasAnswer
-  answer_of e is told = (answers.answer (twice items) items e, (e, is, refl), told)
+abbrev IsToldStop : {A : Type 0} → Result A Met → Type 0
+IsToldStop (Ok x) = ⊤
+IsToldStop (Err m) = IsTold (Err m.refusal)
+
+titled_told : (s : Sort) (f : Option Fragment) (o : Open) (name : List ℕ) (i : Item) → IsToldStop (titled_by s f o name i)
+titled_told sorts.Fragment (Some f) o name i = λ is. cc
+titled_told sorts.Fragment None o name i = tt
+titled_told sorts.Template f o name i = tt
+
+titles_told : (l : Option (List ℕ)) (a : Above) (o : Open) (i : Item) → IsToldStop (titles_by l a o i)
+titles_told None a o i = tt
+titles_told (Some name) a o i = titled_told o.sort (find a.fragments name) o name i
+
+included_told : (f : Option Fragment) (o : Open) (i : Item) → IsToldStop (included_by f o i)
+included_told None o i = λ is. cc
+included_told (Some f) o i = by (is_too_deep (sum o.measure.depth f.measure.deepest))
+  where
+    by : (b : Bool) → IsToldStop (if b then Err (record { place = i.place; refusal = TooDeep o.measure.from }) else Ok (with_items o f))
+    by true = λ is. cc
+    by false = tt
+
+includes_told : (l : Option (List ℕ)) (a : Above) (o : Open) (i : Item) → IsToldStop (includes_by l a o i)
+includes_told None a o i = tt
+includes_told (Some name) a o i = included_told (find a.fragments name) o i
+
+template_told : (bytes : ℕ) (a : Above) (o : Open) (i : Item) → IsToldStop (ends_template bytes a o i)
+template_told bytes a o i = by (is_too_large bytes)
+  where
+    by : (b : Bool) → IsToldStop {A = Above} (if b then Err (record { place = i.place; refusal = TooLarge o.place }) else Ok (record {
+      fragments = a.fragments;
+      bytes = bytes;
+      templates = a.templates ++ (o.items ++ i ∷ []) ∷ [];
+    }))
+    by true = λ is. cc
+    by false = tt
+
+ends_told : (s : Sort) (a : Above) (o : Open) (i : Item) → IsToldStop (ends_by s a o i)
+ends_told sorts.Template a o i = template_told (sum a.bytes o.measure.bytes) a o i
+ends_told sorts.Fragment a o i = tt
+
+open_told : (a : Above) (r : Result Open Met) → IsToldStop r → IsToldStop (with_open a r)
+open_told a (Ok o) h = tt
+open_told a (Err m) h = h
+
+above_told : (r : Result Above Met) → IsToldStop r → IsToldStop (with_above r)
+above_told (Ok a) h = tt
+above_told (Err m) h = h
+
+step_told : (r : Role) (a : Above) (o : Open) (i : Item) → IsToldStop (step_by r a o i)
+step_told roles.Kept a o i = tt
+step_told roles.Opens a o i = tt
+step_told roles.Titles a o i = open_told a (titles a o i) (titles_told (label_value i) a o i)
+step_told roles.Closes a o i = tt
+step_told roles.Precedes a o i = tt
+step_told roles.Includes a o i = open_told a (includes a o i) (includes_told (name_value i) a o i)
+step_told roles.Ends a o i = above_told (ends_here a o i) (ends_told o.sort a o i)
+step_told roles.Follows a o i = tt
+step_told roles.Misplaced a o i = tt
+
+and_told : (s : Result Reading Met) (go : Reading → Result Above Met) → IsToldStop s → ((next : Reading) → IsToldStop (go next)) → IsToldStop (and_run s go)
+and_told (Ok next) go h k = k next
+and_told (Err m) go h k = h
+
+run_told : (acts : List Act) (r : Reading) → IsToldStop (run r acts)
+run_told [] r = tt
+run_told (act ∷ acts) r = and_told (step r act) (λ next. run next acts) (step_told act.role r.above r.current act.item) (run_told acts)
+
+stopped_told : (r : Result Above Met) → IsToldStop r → IsToldMet (stopped r)
+stopped_told (Ok a) h = tt
+stopped_told (Err m) h = h
+
+module _ (first : Option Met) (all : IsToldMet first) (templates : List (List Item)) (items : List Item) where
+  abbrev HasAnswer : Type 0
+  HasAnswer = (r : Result TemplateFile TmplRefusal) × IsWrittenAnswer first templates items r × IsTold r
+
+  made_answer : ((entries : List Entry) × AreRead templates entries) ⊎ ((entries : List Entry) → AreRead templates entries → ⊥)
+      → (r : Result TemplateFile TmplRefusal) × IsMade templates r × IsTold r
+  made_answer (inl (entries, h)) = (Ok (file_from entries), inl (entries, h, refl), λ is. cc)
+  made_answer (inr none) = (Err (Expected 0), inr (none, refl), λ is. cc)
+
+  whole_by : (f : Option Met) → IsToldMet f → (r : Result TemplateFile TmplRefusal) × IsWholeAnswer f templates r × IsTold r
+  whole_by None told = made_answer (decided templates)
+  whole_by (Some m) told = (Err m.refusal, refl, told)
+
+  unfit_told : (i : Item) → IsTold (Err (unfit_at i))
+  unfit_told i = by (is_mark marks.OpenNote i)
+    where
+      by : (b : Bool) → IsTold (Err (if b then Unclosed i.place else Expected i.place))
+      by true = λ is. cc
+      by false = λ is. cc
 
   of_ending : items_end.Ending IsReal within spelled items → HasAnswer
-  of_ending (items_end.spelled entries h) = answer_of (Whole entries) h (by (twice items))
-    where
-      by : (doubled : Option ℕ) → IsTold (whole_answer doubled entries)
-      by None = λ is. cc
-      by (Some at) = λ is. cc
-  of_ending (items_end.stuck [] f) = answer_of (Unfit []) f (twice_told (twice items) (Unclosed (innermost items)) (λ is. cc))
-  of_ending (items_end.stuck (i ∷ rest) f) = answer_of (Unfit (i ∷ rest)) f (before_told (twice items) i.place (Expected i.place) (λ is. cc))
+  of_ending (items_end.spelled entries h) = let w = whole_by first all in (w.0, (Whole entries, h, w.1), w.2)
+  of_ending (items_end.stuck [] f) =
+      (Err (unfit_answer first items []), (Unfit [], f, refl), met_told first (Unclosed (innermost items)) all (λ is. cc))
+  of_ending (items_end.stuck (i ∷ rest) f) =
+      (Err (unfit_answer first items (i ∷ rest)), (Unfit (i ∷ rest), f, refl), before_told first i.place (unfit_at i) all (unfit_told i))
   of_ending (items_end.past [] f) = let is = f.is in absurd cc
-  of_ending (items_end.past (i ∷ rest) f) = answer_of (Beyond (i ∷ rest)) f (before_told (twice items) i.place (past_at i) (past_told i))
+  of_ending (items_end.past (i ∷ rest) f) =
+      (Err (beyond_answer first (i ∷ rest)), (Beyond (i ∷ rest), f, refl), before_told first i.place (past_at i) all (past_told i))
 
 module _ (limit : ℕ) (bytes : List ℕ) where
   pub templates_answer : (r : Result TemplateFile TmplRefusal) × (r ≡ Err NoMemory → ⊥) × IsTemplatesAnswer limit bytes r
@@ -194,6 +339,8 @@ module _ (limit : ℕ) (bytes : List ℕ) where
       by true is = let over : limit < length bytes = grind (arith, nat_tests) in (Err (TooLong limit), (λ none. cc), inl (over, refl))
       by false is =
           let few : length bytes ≤ limit = grind (arith, nat_tests) in
-          let items = scanned bytes (length bytes) first_state (omega arith) in
-          let answer = of_ending items.0 (ending IsReal within spelled read_file file_part.reads reads_all items.0) in
-          (answer.0, answer.2, inr (few, items.0, items.1, answer.1))
+          let items = scanned bytes (length bytes) (first_state bytes) (omega arith) in
+          let here = items.0 in
+          let all = earlier_told (twice_met (twice here)) (stopped (together here)) (twice_told (twice here)) (stopped_told (together here) (run_told (acts first_view here) nothing_read)) in
+          let answer = of_ending (met here) all (templates_of (together here)) (written here) (ending IsReal within spelled read_file file_part.reads reads_all (written here)) in
+          (answer.0, answer.2, inr (few, here, items.1, answer.1))

@@ -11,16 +11,11 @@ ghost use Rattle.template_reader.specs.declared.refusal.TmplRefusal.TheVariants.
 ghost use Rattle.template_reader.specs.Faults.{IsTemplatesAnswer};
 ghost use Rattle.command_trial.specs.Ends.{IsTrial};
 
-mod sources;
 mod tokens;
 
-pub use sources::{
-    each_bibtex_text_has_an_answer, each_csv_text_has_an_answer, each_data_file_has_an_answer,
-    each_json_text_has_an_answer,
-};
 pub use tokens::{
-    each_data_text_has_an_answer, each_edit_has_an_answer, each_query_has_an_answer,
-    each_script_has_an_answer, each_text_of_constraints_has_an_answer,
+    each_edit_has_an_answer, each_query_has_an_answer, each_script_has_an_answer,
+    each_text_of_constraints_has_an_answer,
 };
 
 /// Each text has tokens, or a first fault of the lexer.

@@ -1,6 +1,6 @@
 //! The texts that are read token by token.
 
-ghost use Rattle.std.specs.Prelude.{ℕ, List, Result, ⊤};
+ghost use Rattle.std.specs.Prelude.{ℕ, List, Result};
 ghost use Rattle.token_reader.specs.declared.refusal.TextRefusal.{TextRefusal};
 ghost use Rattle.happenings.specs.declared.event.WireEvent.{WireEvent};
 ghost use Rattle.script_reader.specs.Script as script;
@@ -13,10 +13,6 @@ ghost use Rattle.answer_laws.specs.Queries.{AnswersWritten};
 ghost use Rattle.constraint_spec.specs.declared.Constraint.{Constraint};
 ghost use Rattle.constraints.specs.declared.refusal.ConstraintRefusal.{ConstraintRefusal};
 ghost use Rattle.constraints.specs.Constraints as constraints;
-ghost use Rattle.sd_graph.specs.Statement.{Building};
-ghost use Rattle.sd_ddl.specs.declared.refusal.DdlRefusal.{DdlRefusal};
-ghost use Rattle.sd_ddl.specs.Reads as ddl;
-ghost use Rattle.ddl_laws.specs.OneAnswer.{IsSettled};
 
 /// Each query's text has an answer besides out of memory: the query without faults that it spells, as
 /// it is written, or its first fault.
@@ -43,11 +39,4 @@ pub fn each_text_of_constraints_has_an_answer()
     ensures { (q : Query) (limit : ℕ) (bytes : List ℕ)
         → (r : Result (List Constraint) ConstraintRefusal)
         × constraints.IsSettled r × constraints.Reads q limit bytes r }
-{}
-
-/// Each data text has an answer besides out of memory, whatever graph it is read into, and leaves a
-/// graph: it is taken whole, or has a first fault.
-pub fn each_data_text_has_an_answer()
-    ensures { (limit : ℕ) (bytes : List ℕ) (b : Building) → (c : Building)
-        × (r : Result ⊤ DdlRefusal) × IsSettled r × ddl.Reads limit bytes b c r }
 {}

@@ -1,6 +1,6 @@
 -- Answers of the readers, and the format of a path.
 use Rattle.std.specs.Prelude.{◌≡◌, ◌||◌, ℕ, Bool, true, false, List, [], ◌∷◌, Err, if◌then◌else◌}
-use Rattle.std.proofs.Common.{refl, inl}
+use Rattle.std.proofs.Common.{refl, inl, inr}
 use Rattle.std.specs.List.{list_any}
 use Rattle.sd_graph.specs.Statement.{Building}
 use Rattle.token_reader.specs.declared.refusal.TextRefusal.TheVariants as text
@@ -11,9 +11,12 @@ use Rattle.json_source.specs.declared.refusal.JsonRefusal.TheVariants as json
 use Rattle.json_source.specs.Text as json_text
 use Rattle.bibtex_source.specs.declared.refusal.BibRefusal.TheVariants as bib
 use Rattle.bibtex_source.specs.Text as bib_text
+use Rattle.sqlite_source.specs.declared.refusal.DbRefusal.TheVariants as db
+use Rattle.sqlite_source.specs.File.{is_headed}
+use Rattle.sqlite_source.specs.Reads as db_file
 use Rattle.data_source.specs.declared.rules.SourceRules.{SourceRules}
 use Rattle.data_source.specs.declared.format.Format.{Format}
-use Rattle.data_source.specs.declared.format.Format.TheVariants.{DataText, Csv, Json, BibTex}
+use Rattle.data_source.specs.declared.format.Format.TheVariants.{DataText, Csv, Json, BibTex, Database}
 use Rattle.data_source.specs.declared.refusal.SourceRefusal.TheVariants.{NoMemory}
 use Rattle.data_source.specs.Formats.{is_slash, behind_slashes}
 use Rattle.data_source.specs.Takes.{TakesAs}
@@ -24,6 +27,11 @@ no_memory_first rules DataText limit bytes b = (Err (ddl.Text text.NoMemory), in
 no_memory_first rules (Csv stem) limit bytes b = (Err csv.NoMemory, ([], csv_text.text_steps rules.csv stem bytes, refl, refl), refl)
 no_memory_first rules (Json stem) limit bytes b = (Err json.NoMemory, ([], json_text.text_steps rules.json stem bytes, refl, refl), refl)
 no_memory_first rules (BibTex stem) limit bytes b = (Err bib.NoMemory, ([], bib_text.text_steps stem bytes, refl, refl), refl)
+no_memory_first rules (Database stem) limit bytes b = (Err db.NoMemory, by (is_headed bytes) refl, refl)
+  where
+    by : (headed : Bool) → is_headed bytes ≡ headed → db_file.Reads stem bytes b b (Err db.NoMemory)
+    by true is = inl (is, inr (refl, inl refl))
+    by false is = inr (is, (refl, inl refl))
 
 -- the name, where the bytes of the rest are still to be seen
 abbrev pub name_so_far : List ℕ → List ℕ → List ℕ

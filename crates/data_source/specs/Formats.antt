@@ -1,10 +1,11 @@
 -- The format that a path reports.
-use Rattle.std.specs.Prelude.{◌-◌, ◌&&◌, ◌||◌, ℕ, Bool, nat_eq, List, [], ◌∷◌, length, drop, take, codes, if◌then◌else◌}
+use Rattle.std.specs.Prelude.{◌-◌, ◌&&◌, ◌||◌, ℕ, Bool, nat_eq, List, [], ◌∷◌, length, drop, take, codes}
+use Rattle.std.specs.Prelude.{Option, Some, None, if◌then◌else◌}
 use Rattle.std.specs.List.{list_any}
 use Rattle.std.specs.Cmp.Lexicographic.{pointwise}
 use Rattle.data_source.specs.declared.rules.SourceRules.{SourceRules}
 use Rattle.data_source.specs.declared.format.Format.{Format}
-use Rattle.data_source.specs.declared.format.Format.TheVariants.{DataText, Csv, Json, BibTex}
+use Rattle.data_source.specs.declared.format.Format.TheVariants.{DataText, Csv, Json, BibTex, Database}
 
 abbrev pub is_slash : ℕ → Bool
 is_slash b = nat_eq b 47
@@ -27,6 +28,25 @@ abbrev pub ends_in : SourceRules → List ℕ → (small capital : List ℕ) →
 ends_in rules path small capital =
     ends_with path small || (rules.capitals && ends_with path capital)
 
+-- what is before this end of the path
+abbrev pub front : List ℕ → List ℕ → List ℕ
+front path suffix = take (length path - length suffix) path
+
+-- what is before the end of a database's path, if it is one
+abbrev pub front_in_database : SourceRules → List ℕ → Option (List ℕ)
+front_in_database rules path =
+    if ends_in rules path (codes ".db") (codes ".DB") then Some (front path (codes ".db"))
+    else if ends_in rules path (codes ".sqlite") (codes ".SQLITE")
+    then Some (front path (codes ".sqlite"))
+    else if ends_in rules path (codes ".sqlite3") (codes ".SQLITE3")
+    then Some (front path (codes ".sqlite3"))
+    else None
+
+-- a database whose path has this before its end, or else a data text
+abbrev pub format_of_front : Option (List ℕ) → Format
+format_of_front None = DataText
+format_of_front (Some path) = Database (behind_slashes path)
+
 abbrev pub format_of : SourceRules → List ℕ → Format
 format_of rules path =
     if ends_in rules path (codes ".csv") (codes ".CSV") then Csv (stem_of path (codes ".csv"))
@@ -34,4 +54,4 @@ format_of rules path =
     then Json (stem_of path (codes ".json"))
     else if ends_in rules path (codes ".bib") (codes ".BIB")
     then BibTex (stem_of path (codes ".bib"))
-    else DataText
+    else format_of_front (front_in_database rules path)

@@ -5,12 +5,13 @@ use Rattle.sd_ddl.specs.Reads as ddl
 use Rattle.csv_source.specs.Reads as csv
 use Rattle.json_source.specs.Reads as json
 use Rattle.bibtex_source.specs.Reads as bib
+use Rattle.sqlite_source.specs.Reads as db
 use Rattle.data_source.specs.declared.rules.SourceRules.{SourceRules}
 use Rattle.data_source.specs.declared.format.Format.{Format}
-use Rattle.data_source.specs.declared.format.Format.TheVariants.{DataText, Csv, Json, BibTex}
+use Rattle.data_source.specs.declared.format.Format.TheVariants.{DataText, Csv, Json, BibTex, Database}
 use Rattle.data_source.specs.declared.refusal.SourceRefusal.{SourceRefusal}
 use Rattle.data_source.specs.Formats.{format_of}
-use Rattle.data_source.specs.Told.{ddl_told, csv_told, json_told, bib_told, answer_told}
+use Rattle.data_source.specs.Told.{ddl_told, csv_told, json_told, bib_told, db_told, answer_told}
 
 -- the answer reports one of these answers of a reader
 abbrev pub Tells : {E : Type 0} → (Result ⊤ E → Type 0) → (E → SourceRefusal)
@@ -29,6 +30,8 @@ TakesAs rules (Json stem) limit bytes b c result =
     Tells (json.Reads rules.json stem bytes b c) json_told result
 TakesAs rules (BibTex stem) limit bytes b c result =
     Tells (bib.Reads stem bytes b c) bib_told result
+TakesAs rules (Database stem) limit bytes b c result =
+    Tells (db.Reads stem bytes b c) db_told result
 
 -- the bytes of the file of this path are read by its format
 abbrev pub Takes : SourceRules → List ℕ → ℕ → List ℕ → Building → Building

@@ -9,6 +9,8 @@ use Rattle.json_source.specs.declared.refusal.JsonRefusal.{JsonRefusal}
 use Rattle.json_source.specs.declared.refusal.JsonRefusal.TheVariants as json
 use Rattle.bibtex_source.specs.declared.refusal.BibRefusal.{BibRefusal}
 use Rattle.bibtex_source.specs.declared.refusal.BibRefusal.TheVariants as bib
+use Rattle.sqlite_source.specs.declared.refusal.DbRefusal.{DbRefusal}
+use Rattle.sqlite_source.specs.declared.refusal.DbRefusal.TheVariants as db
 use Rattle.data_source.specs.Numbered.{text_told}
 use Rattle.data_source.specs.declared.numbered.NumberedFault.{NumberedFault}
 use Rattle.data_source.specs.declared.refusal.SourceRefusal.{SourceRefusal}
@@ -49,6 +51,16 @@ bib_told (bib.TooLarge at) = Refused 124 (At at)
 bib_told (bib.TooManyEdges at) = Refused 11 (At at)
 bib_told (bib.TooManyNodes at) = Refused 12 (At at)
 bib_told bib.NoMemory = NoMemory
+
+abbrev pub db_told : DbRefusal → SourceRefusal
+db_told db.NotDatabase = Refused 171 (At 0)
+db_told (db.Damaged path) = Refused 172 (Path path)
+db_told (db.NotRead path) = Refused 173 (Path path)
+db_told (db.IsBlob path) = Refused 174 (Path path)
+db_told (db.NotUtf8 path) = Refused 41 (Path path)
+db_told (db.TooManyEdges path) = Refused 11 (Path path)
+db_told (db.TooManyNodes path) = Refused 12 (Path path)
+db_told db.NoMemory = NoMemory
 
 -- a reader's answer, with its refusal reported
 abbrev pub answer_told : {E : Type 0} → (E → SourceRefusal) → Result ⊤ E → Result ⊤ SourceRefusal

@@ -1,6 +1,7 @@
 // The format of a data file.
 ghost use Rattle.std.specs.Prelude.{◌≡◌, IfOk, if◌then◌else◌, ◌-◌, Some, None, option_map, length, take};
-ghost use Rattle.data_source.specs.Formats.{behind_slashes as name_in, ends_in, format_of as format_named};
+ghost use Rattle.data_source.specs.Formats.{behind_slashes as name_in, ends_in, front_in_database};
+ghost use Rattle.data_source.specs.Formats.{format_of as format_named};
 
 use crate::rules::SourceRules;
 use sd_value::{NoMemory, Str};
@@ -13,6 +14,7 @@ pub enum Format {
     Csv(Str),
     Json(Str),
     BibTex(Str),
+    Database(Str),
 }
 
 // What is behind the last slash.
@@ -48,8 +50,21 @@ fn front_of<'a>(
     None
 }
 
-/// The format that a path's end reports: `.csv`, `.json`, `.bib`, by the rules in capitals too, or
-/// any other for the data text. The stem is what is between the last slash and that end.
+// What is before the end of a database's path.
+fn front_of_database(rules: SourceRules, path: &[u8]) -> Option<&[u8]>
+    ensures { option_map (λ front. front.now) result ≡ front_in_database rules path.now }
+{
+    if let Some(front) = front_of(rules, path, b".db", b".DB") {
+        return Some(front);
+    }
+    if let Some(front) = front_of(rules, path, b".sqlite", b".SQLITE") {
+        return Some(front);
+    }
+    front_of(rules, path, b".sqlite3", b".SQLITE3")
+}
+
+/// The format that a path's end reports: `.csv`, `.json`, `.bib`, a database's `.db`, `.sqlite` or
+/// `.sqlite3`, by the rules in capitals too, or any other for the data text. The stem is what is between the last slash and that end.
 pub fn format_of(alloc: Global, rules: SourceRules, path: &Str) -> Result<Format, NoMemory>
     ensures { IfOk result (λ format. format ≡ format_named rules path.now) }
 {
@@ -61,6 +76,9 @@ pub fn format_of(alloc: Global, rules: SourceRules, path: &Str) -> Result<Format
     }
     if let Some(front) = front_of(rules, path.bytes(), b".bib", b".BIB") {
         return Ok(Format::BibTex(Str::new(alloc, behind_slashes(front))?));
+    }
+    if let Some(front) = front_of_database(rules, path.bytes()) {
+        return Ok(Format::Database(Str::new(alloc, behind_slashes(front))?));
     }
     Ok(Format::DataText)
 }

@@ -1,6 +1,6 @@
 // The numbers and places of refusals.
 ghost use Rattle.std.specs.Prelude.{◌≡◌};
-ghost use Rattle.data_source.specs.Told.{ddl_told, csv_told, json_told, bib_told};
+ghost use Rattle.data_source.specs.Told.{ddl_told, csv_told, json_told, bib_told, db_told};
 ghost use Rattle.data_source.specs.declared.refusal.SourceRefusal.TheVariants.{NoMemory as OutOfMemory};
 
 use crate::numbered::told_of_text;
@@ -10,6 +10,7 @@ use json_source::JsonRefusal;
 use run_report::Place;
 use sd_ddl::DdlRefusal;
 use sd_value::NoMemory;
+use sqlite_source::DbRefusal;
 use token_reader::TextRefusal;
 
 /// Why a data file is refused: the number of the refusal and its place.
@@ -98,6 +99,23 @@ impl From<BibRefusal> for SourceRefusal {
             BibRefusal::TooManyEdges(at) => refused(11, Place::At(at)),
             BibRefusal::TooManyNodes(at) => refused(12, Place::At(at)),
             BibRefusal::NoMemory => SourceRefusal::NoMemory,
+        }
+    }
+}
+
+impl From<DbRefusal> for SourceRefusal {
+    ghost from_gives = { λ e told. told ≡ db_told e };
+
+    fn from(refusal: DbRefusal) -> SourceRefusal {
+        match refusal {
+            DbRefusal::NotDatabase => refused(171, Place::At(0)),
+            DbRefusal::Damaged(path) => refused(172, Place::Path(path)),
+            DbRefusal::NotRead(path) => refused(173, Place::Path(path)),
+            DbRefusal::IsBlob(path) => refused(174, Place::Path(path)),
+            DbRefusal::NotUtf8(path) => refused(41, Place::Path(path)),
+            DbRefusal::TooManyEdges(path) => refused(11, Place::Path(path)),
+            DbRefusal::TooManyNodes(path) => refused(12, Place::Path(path)),
+            DbRefusal::NoMemory => SourceRefusal::NoMemory,
         }
     }
 }

@@ -23,7 +23,8 @@ use Rattle.page_spec.specs.Pieces.{Item, byte, embed, bytes, delimiter, Formatte
 use Rattle.page_spec.specs.Page.{Embeds, Leads, nowhere, on}
 use Rattle.page_spec.specs.Question.{Question, out, template, collected}
 use Rattle.page_spec.proofs.Unique.{template_unique}
-use Rattle.tmpl.specs.declared.Mode.TheVariants.{Plain, Link as Linked_to}
+use Rattle.tmpl.specs.declared.Mode.TheVariants.{Written, Link as Linked_to}
+use Rattle.tmpl.specs.declared.Writing.TheVariants.{Escaped}
 use Rattle.site_spec.specs.Site.{InSite, Linked, SiteEdge, IsTermUnder, IsTargetUnder, Joins}
 use Rattle.weight_spec.specs.Site.{site_of}
 use Rattle.tmpl.specs.Expressions.{Use, uses}
@@ -74,7 +75,7 @@ joined_bytes P d (w ∷ []) ps each j = each w ps j
 joined_bytes P d (w ∷ u ∷ vs) ps each (a, b, p, j, e) =
     subst AreBytes (sym e) (append_bytes (a ++ delimiter d) b (append_bytes a (delimiter d) (each w a p) (delimiter_bytes d)) (joined_bytes P d (u ∷ vs) b each j))
 
-plain_bytes : (w : Value) (a : List Item) → Formatted site templates Plain w a → AreBytes a
+plain_bytes : (w : Value) (a : List Item) → Formatted site templates (Written Escaped) w a → AreBytes a
 plain_bytes w a h = subst AreBytes (sym h) (text_bytes (escaped (show w)))
 
 link_bytes : (word : List Name) (w : Value) (a : List Item) → Formatted site templates (Linked_to (Some word)) w a → AreBytes a
@@ -86,7 +87,7 @@ year_bytes ps (b1, (vs, a2, b2, sorted, j, (b3, (ws, a4, b4, sorted', j', none, 
     let last : AreBytes b4 = subst AreBytes (sym none) (λ m h. Contains-nil (embed m) h) in
     let p3 : AreBytes b3 = subst AreBytes (sym e4) (append_bytes a4 b4 (joined_bytes (Formatted site templates (Linked_to (Some (title ∷ [])))) (Some (codes ", ")) ws a4 (link_bytes (title ∷ [])) j') last) in
     let p2 : AreBytes b2 = subst AreBytes (sym e3) (append_bytes (bytes (codes "</h1>")) b3 (text_bytes (codes "</h1>")) p3) in
-    let p1 : AreBytes b1 = subst AreBytes (sym e2) (append_bytes a2 b2 (joined_bytes (Formatted site templates Plain) None vs a2 plain_bytes j) p2) in
+    let p1 : AreBytes b1 = subst AreBytes (sym e2) (append_bytes a2 b2 (joined_bytes (Formatted site templates (Written Escaped)) None vs a2 plain_bytes j) p2) in
     subst AreBytes (sym e1) (append_bytes (bytes (codes "<h1>")) b1 (text_bytes (codes "<h1>")) p1)
 
 embeds_nothing : (k : Value) → Embeds site templates (Page asked) k → ⊥

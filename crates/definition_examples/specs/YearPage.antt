@@ -7,7 +7,8 @@ use Rattle.sd_value.specs.declared.Term.{Term}
 use Rattle.sd_value.specs.declared.Value.{Value}
 use Rattle.tmpl.specs.declared.Expr.{Expr}
 use Rattle.tmpl.specs.declared.Order as orders
-use Rattle.tmpl.specs.declared.Mode.TheVariants.{Plain, Link}
+use Rattle.tmpl.specs.declared.Mode.TheVariants.{Written, Link}
+use Rattle.tmpl.specs.declared.Writing.TheVariants.{Escaped}
 use Rattle.tmpl.specs.declared.WordRoot.TheVariants.{Here}
 use Rattle.tmpl.specs.Body.{Body, done, text, format, TemplateFile}
 use Rattle.graph_spec.specs.DataGraph.{Name, node}
@@ -40,13 +41,13 @@ root_body = text (codes "<h1>Home</h1>") papers_by_title
 -- the template of a paper's page
 abbrev pub paper_body : Body
 paper_body =
-    text (codes "<h1>") (format (ends title) Plain plain_order
-    (text (codes "</h1>") (format (ends author) Plain (apart_by (codes " and ")) done)))
+    text (codes "<h1>") (format (ends title) (Written Escaped) plain_order
+    (text (codes "</h1>") (format (ends author) (Written Escaped) (apart_by (codes " and ")) done)))
 
 -- the template of a year's page
 abbrev pub year_body : Body
 year_body =
-    text (codes "<h1>") (format (ends (codes "Year")) Plain plain_order
+    text (codes "<h1>") (format (ends (codes "Year")) (Written Escaped) plain_order
     (text (codes "</h1>") papers_by_title))
 
 -- the file of the three templates

@@ -5,6 +5,8 @@ ghost use Rattle.graph_spec.specs.DataGraph.{node};
 ghost use Rattle.page_spec.specs.Site.{Arranged};
 ghost use Rattle.page_spec.specs.Show.{address};
 ghost use Rattle.page_spec.specs.Address.{path};
+ghost use Rattle.page_spec.specs.Written.{written};
+ghost use Rattle.tmpl.specs.declared.Writing.TheVariants.{Escaped, Raw, Lines, Url, Json};
 ghost use Rattle.page_spec.specs.declared.Outcome.TheVariants.{Cyclic};
 ghost use Rattle.page_spec.specs.Page.{IsOutcome};
 ghost use Rattle.definition_examples.specs.Keys as keys;
@@ -42,4 +44,19 @@ pub fn worked_addresses()
     ensures absolute { path (codes "HTTP://a/YearPage/i1998.html") ≡ codes "/YearPage/i1998.html" }
     ensures no_path { path (codes "http://a") ≡ codes "/" }
     ensures no_escape { path (codes "/%5?%41") ≡ codes "/%5" }
+{}
+
+/// Texts as pages show them: escaped, as it stands, with the breaks of CR LF, LF and CR, as an
+/// address with a `%` that is one already, and in JSON.
+pub fn worked_texts()
+    ensures escaped { written Escaped (codes "<b>\"&'") ≡ codes "&lt;b&gt;&quot;&amp;&#39;" }
+    ensures raw { written Raw (codes "<b>\"&'") ≡ codes "<b>\"&'" }
+    ensures lines { written Lines (codes "a\r\nb\nc\rd\n\r<")
+        ≡ codes "a<br>\nb<br>\nc<br>\nd<br>\n<br>\n&lt;" }
+    ensures url { written Url (codes "http://x/a b?q=\"1\"&%20")
+        ≡ codes "http://x/a%20b?q=%221%22&amp;%20" }
+    ensures percent { written Url (codes "100% %zz %2 %20 %fF%")
+        ≡ codes "100%25%20%25zz%20%252%20%20%20%fF%25" }
+    ensures json { written Json (1 ∷ 31 ∷ 32 ∷ codes "<b>\"&\n2\\")
+        ≡ codes "\\u0001\\u001f \\u003cb>\\\"&\\n2\\\\" }
 {}

@@ -15,6 +15,7 @@ mod tables;
 mod values;
 
 use document::read_value;
+pub use names::place_of_member;
 use records::add_top;
 pub use refusal::JsonRefusal;
 pub use rules::JsonRules;

@@ -79,8 +79,9 @@ fn push_name_key(out: &mut Vec<u8>, key: &[u8]) -> Result<(), AllocError>
     Ok(())
 }
 
-/// A member's place.
-pub(crate) fn place_of_member(alloc: Global, at: &Str, key: &Str) -> Result<Str, NoMemory>
+/// The place of what is under this key, as a JSON Pointer: `~` is written `~0` there, and `/` is
+/// written `~1`.
+pub fn place_of_member(alloc: Global, at: &Str, key: &Str) -> Result<Str, NoMemory>
     ensures { IfOk result (λ s. s ≡ member_place at.now key.now) }
 {
     let mut place = Vec::from_slice(alloc, at.bytes())?;
@@ -93,7 +94,10 @@ pub(crate) fn place_of_member(alloc: Global, at: &Str, key: &Str) -> Result<Str,
 pub(crate) fn name_of_member(alloc: Global, name: &Str, key: &Str) -> Result<Str, NoMemory>
     ensures { IfOk result (λ s. s ≡ member_name name.now key.now) }
 {
-    let mut member = Vec::from_slice(alloc, name.bytes())?;
+    // Room for all of it, where no byte of the key is escaped: the names of deep objects are most of what a file takes.
+    let length = name.bytes().len().saturating_add(key.bytes().len());
+    let mut member = Vec::with_capacity(alloc, length.saturating_add(1))?;
+    member.extend_from_slice(name.bytes())?;
     member.extend_from_slice(b"_")?;
     push_name_key(&mut member, key.bytes())?;
     Str::of(alloc, member)

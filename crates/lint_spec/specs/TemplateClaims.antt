@@ -150,10 +150,12 @@ item_claims s k at items = []
 abbrev pub known : Before → (labelled : Bool) → Markup → Before
 known s labelled place = record { function = s.function; labelled = labelled; markup = place }
 
--- what is known behind an item
+-- What is known behind an item. A fragment is of no function: it presents what the templates that it is put into do.
 abbrev pub before_next : Before → ItemKind → List Item → Before
 before_next s (kinds.Mark marks.OpenTemplate) items =
     record { function = title_function items; labelled = false; markup = Content }
+before_next s (kinds.Mark marks.OpenFragment) items =
+    record { function = None; labelled = false; markup = Content }
 before_next s (kinds.Mark marks.OpenFormat) items = known s false (after_value s.markup)
 before_next s (kinds.Mark marks.HereOf) items = known s true s.markup
 before_next s (kinds.Mark marks.Hash) items = known s true s.markup

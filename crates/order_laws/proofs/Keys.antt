@@ -19,8 +19,8 @@ use Rattle.order_spec.specs.Order.{Order, same, folded_cmp, turned_cmp, keyed_cm
 use Rattle.sd_graph.proofs.Gathering.{all_inserted-cases, all_inserted-ascends, all_inserted-here}
 use Rattle.order_laws.proofs.Ordered.{kept_to, kept_from, same_is, same_itself}
 
-module _ {R : Value → Value → Ordering} (o : IsTotalOrder R) where
-  turned_total : (b : Bool) → IsTotalOrder (turned_cmp b R)
+module _ {X : Type 0} {R : X → X → Ordering} (o : IsTotalOrder R) where
+  pub turned_total : (b : Bool) → IsTotalOrder (turned_cmp b R)
   turned_total false = record { antisymm = o.antisymm; trans = o.trans; congr = o.congr }
   turned_total true = record {
     antisymm = λ x y. o.antisymm y x;
@@ -28,13 +28,13 @@ module _ {R : Value → Value → Ordering} (o : IsTotalOrder R) where
     congr = λ x y z e. o.antisymm z x ∙ ap ordering_reverse (sym (o.congr y x z e)) ∙ sym (o.antisymm z y);
   }
 
-  keyed_antisymm : (x y : Option Value) → keyed_cmp R x y ≡ ordering_reverse (keyed_cmp R y x)
+  keyed_antisymm : (x y : Option X) → keyed_cmp R x y ≡ ordering_reverse (keyed_cmp R y x)
   keyed_antisymm (Some a) (Some b) = o.antisymm a b
   keyed_antisymm (Some a) None = refl
   keyed_antisymm None (Some b) = refl
   keyed_antisymm None None = refl
 
-  keyed_trans : (x y z : Option Value) → keyed_cmp R x y ≡ Less → keyed_cmp R y z ≡ Less → keyed_cmp R x z ≡ Less
+  keyed_trans : (x y z : Option X) → keyed_cmp R x y ≡ Less → keyed_cmp R y z ≡ Less → keyed_cmp R x z ≡ Less
   keyed_trans (Some a) (Some b) (Some c) p q = o.trans a b c p q
   keyed_trans (Some a) (Some b) None p q = refl
   keyed_trans (Some a) None (Some c) p q = cc
@@ -43,17 +43,17 @@ module _ {R : Value → Value → Ordering} (o : IsTotalOrder R) where
   keyed_trans None None (Some c) p q = cc
   keyed_trans None None None p q = cc
 
-  keyed_congr : (x y z : Option Value) → keyed_cmp R x y ≡ Equal → keyed_cmp R x z ≡ keyed_cmp R y z
+  keyed_congr : (x y z : Option X) → keyed_cmp R x y ≡ Equal → keyed_cmp R x z ≡ keyed_cmp R y z
   keyed_congr (Some a) (Some b) (Some c) p = o.congr a b c p
   keyed_congr (Some a) (Some b) None p = refl
   keyed_congr (Some a) None z p = cc
   keyed_congr None (Some b) z p = cc
   keyed_congr None None z p = refl
 
-  keyed_total : IsTotalOrder (keyed_cmp R)
+  pub keyed_total : IsTotalOrder (keyed_cmp R)
   keyed_total = record { antisymm = keyed_antisymm; trans = keyed_trans; congr = keyed_congr }
 
-folded_total : (f : Name → Name) (b : Bool) → IsTotalOrder (folded_cmp f b)
+pub folded_total : (f : Name → Name) (b : Bool) → IsTotalOrder (folded_cmp f b)
 folded_total f false = value_cmp-total
 folded_total f true = then_total (on_total _ value_cmp-total) value_cmp-total
 
@@ -66,12 +66,12 @@ module _ (f : Name → Name) (G : DataGraph) (o : Order) where
   pub order_exact : IsAntisymmetric (order_cmp f G o)
   order_exact m n h = bytes_cmp-exact m n (both_tie _ (bytes_cmp m n) h).1
 
-  member : (n : Name) → HasMember G o.collection n → Contains (nodes_in G o.collection) n
+  pub member : (n : Name) → HasMember G o.collection n → Contains (nodes_in G o.collection) n
   member n m =
       Contains-mapped (λ (k : Member). k.node) (filter (λ k. same k.collection o.collection) G.members) (record { collection = o.collection; node = n })
       (kept_to (λ (k : Member). same k.collection o.collection) G.members (record { collection = o.collection; node = n }) m (same_itself o.collection))
 
-  of_member : (n : Name) → Contains (nodes_in G o.collection) n → HasMember G o.collection n
+  pub of_member : (n : Name) → Contains (nodes_in G o.collection) n → HasMember G o.collection n
   of_member n c =
       let at = Contains-map (λ (k : Member). k.node) (filter (λ k. same k.collection o.collection) G.members) n c in
       let kept = kept_from (λ (k : Member). same k.collection o.collection) G.members at.0 at.2 in

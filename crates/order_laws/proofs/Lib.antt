@@ -1,2 +1,2 @@
-mod Ordered
-mod Keys
+pub mod Ordered
+pub mod Keys

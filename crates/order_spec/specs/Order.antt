@@ -57,22 +57,23 @@ least R (v ∷ vs) = Some (fold (λ a b. if is_lt (R b a) then b else a) v vs)
 
 -- ---- the order of members
 
+-- where a value stands: a Text where its folded text does
+abbrev pub folded : (Name → Name) → Value → Value
+folded f (Data (Text t)) = Data (Text (f t))
+folded f v = v
+
 -- of texts: as a fold makes them, ties by bytes
 abbrev pub folded_cmp : (Name → Name) → Bool → Value → Value → Ordering
 folded_cmp f false = value_cmp
 folded_cmp f true = then_cmp (on (folded f) value_cmp) value_cmp
-  where
-    folded : (Name → Name) → Value → Value
-    folded f (Data (Text t)) = Data (Text (f t))
-    folded f v = v
 
 -- the order, or that turned round
-abbrev pub turned_cmp : Bool → (Value → Value → Ordering) → Value → Value → Ordering
+abbrev pub turned_cmp : {X : Type 0} → Bool → (X → X → Ordering) → X → X → Ordering
 turned_cmp false R a b = R a b
 turned_cmp true R a b = R b a
 
 -- those without a key come last
-abbrev pub keyed_cmp : (Value → Value → Ordering) → Option Value → Option Value → Ordering
+abbrev pub keyed_cmp : {X : Type 0} → (X → X → Ordering) → Option X → Option X → Ordering
 keyed_cmp R (Some a) (Some b) = R a b
 keyed_cmp R (Some a) None = Less
 keyed_cmp R None (Some b) = Greater

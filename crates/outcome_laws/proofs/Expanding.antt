@@ -8,11 +8,12 @@ use Rattle.sd_value.specs.Members.{Contains-nil, Contains-cons_cases, Contains-h
 use Rattle.sd_value.specs.declared.Value.{Value}
 use Rattle.tmpl.specs.declared.Expr.{Expr}
 use Rattle.tmpl.specs.declared.Mode.{Mode}
-use Rattle.tmpl.specs.declared.Mode.TheVariants.{Plain, Embed, Link}
+use Rattle.tmpl.specs.declared.Mode.TheVariants.{Written, Embed, Link}
 use Rattle.tmpl.specs.declared.WordRoot.{WordRoot}
 use Rattle.tmpl.specs.declared.WordRoot.TheVariants.{Here, Loop, Collection}
 use Rattle.tmpl.specs.Body.{Body, done, text, format, choice, repeat, TemplateFile}
 use Rattle.page_spec.specs.Show.{show, escaped, link}
+use Rattle.page_spec.specs.Written.{written}
 use Rattle.page_spec.specs.Site.{Site, IsBound, Env, Reaches, Starts, InRange, HasKey}
 use Rattle.page_spec.specs.Pieces.{Item, byte, embed, bytes, delimiter, Joined, binding, TestHolds, Taken, HasTemplate}
 use Rattle.page_spec.specs.Pieces.{Formatted, Expands, Pieces}
@@ -84,7 +85,7 @@ module _ (site : Site) (listed : IsListed site) (templates : TemplateFile) (P : 
   bound e a k v p = (a.0, λ j w h. elim h [ inl here ↦ subst P here.1 p | inr outer ↦ a.1 j w outer.1 ])
 
   formatted : (m : Mode) (v : Value) → P v → Made P (Formatted site templates m v)
-  formatted Plain v p = (bytes (escaped (show v)), refl, of_bytes P (escaped (show v)))
+  formatted (Written w) v p = (bytes (written w (show v)), refl, of_bytes P (written w (show v)))
   formatted (Link None) v p = (bytes (link v v), refl, of_bytes P (link v v))
   formatted (Link (Some word)) v p = by (key_of site listed (Some word) v).0 (key_of site listed (Some word) v).1
     where

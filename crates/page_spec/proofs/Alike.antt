@@ -10,7 +10,7 @@ use Rattle.sd_value.specs.Members.{Contains-here, Contains-there}
 use Rattle.sd_value.specs.Names.{Word}
 use Rattle.tmpl.specs.declared.Order.{Order}
 use Rattle.tmpl.specs.declared.Mode.{Mode}
-use Rattle.tmpl.specs.declared.Mode.TheVariants.{Plain, Embed, Link}
+use Rattle.tmpl.specs.declared.Mode.TheVariants.{Written, Embed, Link}
 use Rattle.tmpl.specs.declared.Against.{Against}
 use Rattle.tmpl.specs.Body.{Body, done, text, format, choice, repeat, TemplateFile}
 use Rattle.tmpl.specs.Expressions.{Use, uses, key_words, link_words, is_embed}
@@ -75,7 +75,7 @@ taken_to true P Q to from h = λ x. h (from x)
 formatted_to : (s r : Site) (n : Value) (f : TemplateFile) (m : Mode) (x : Use)
     → ((w : Word) → Contains (link_words m) w → Contains x.onward w) → (is_embed m ≡ false) → UsesAlike s r n x
     → (v : Value) (ps : List Item) → Formatted s f m v ps → Formatted r f m v ps
-formatted_to s r n f Plain x inside bare a v ps h = h
+formatted_to s r n f (Written w) x inside bare a v ps h = h
 formatted_to s r n f (Link None) x inside bare a v ps h = h
 formatted_to s r n f (Link (Some word)) x inside bare a v ps (inl (label, key, is)) =
     inl (label, keys_to s r n x (Some word) inside a v (Some label) key, is)
@@ -167,7 +167,7 @@ joined_bytes a b (t, is) (u, are) = (t ++ u, (λ i. is i ++ are i) ∙ sym (map-
 
 formatted_bytes : (s : Site) (f : TemplateFile) (m : Mode) → (is_embed m ≡ false) → (v : Value) (ps : List Item)
     → Formatted s f m v ps → AreBytes ps
-formatted_bytes s f Plain bare v ps h = (_, h)
+formatted_bytes s f (Written w) bare v ps h = (_, h)
 formatted_bytes s f (Link None) bare v ps h = (_, h)
 formatted_bytes s f (Link (Some word)) bare v ps (inl (label, key, is)) = (_, is)
 formatted_bytes s f (Link (Some word)) bare v ps (inr (key, is)) = (_, is)

@@ -1,5 +1,5 @@
 -- What a template asks at given values of its loops is what it may ask.
-use Rattle.std.proofs.Common.{◌≡◌, ◌⊎◌, ℕ, zero, suc, ◌<◌, List, [], ◌∷◌, ◌++◌, Option, Some, None, length, get_or, inl, inr, ⊎_elim, sym, ap, ◌∙◌, refl, subst, arith, true}
+use Rattle.std.proofs.Common.{◌≡◌, false, ◌⊎◌, ℕ, zero, suc, ◌<◌, List, [], ◌∷◌, ◌++◌, Option, Some, None, length, get_or, inl, inr, ⊎_elim, sym, ap, ◌∙◌, refl, subst, arith, true}
 use Rattle.std.specs.Prelude.{Contains}
 use Rattle.std.proofs.lemmas.List.Elements.{Contains-append_left, Contains-append_right, Contains-append_cases}
 use Rattle.sd_value.specs.declared.Value.{Value}
@@ -16,7 +16,7 @@ use Rattle.tmpl.proofs.Bodies.{choice_body, repeat_body}
 use Rattle.tmpl.specs.declared.Expr.{Expr}
 use Rattle.tmpl.specs.declared.Order.{Order}
 use Rattle.tmpl.specs.declared.Mode.{Mode}
-use Rattle.tmpl.specs.declared.Mode.TheVariants.{Plain, Embed, Link}
+use Rattle.tmpl.specs.declared.Mode.TheVariants.{Written, Embed, Link}
 use Rattle.tmpl.specs.declared.WordRoot.{WordRoot}
 use Rattle.tmpl.specs.declared.WordRoot.TheVariants.{Here, Loop, Collection}
 use Rattle.tmpl.specs.Expressions.{Use, LoopOver, uses, loops, key_words, link_words, is_embed}
@@ -92,7 +92,7 @@ module _ (s : Site) (b : Body) (n : Value) where
   arranged_asks e x o q fits among onward (inr (v, r, h)) = key_asks e x o.key v q fits among onward r h
 
   mode_asks : (e : Env) (x : Expr) (m : Mode) (o : Order) (v : Value) (q : Question) → Fits e → Contains (uses b) record { expr = x; onward = key_words o.key ++ link_words m; embeds = is_embed m } → InRange s e x v → ModeAsks s m v q → BodyAsks s b n q
-  mode_asks e x Plain o v q fits among r h = absurd h
+  mode_asks e x (Written w) o v q fits among r h = absurd h
   mode_asks e x Embed o v q fits among r h =
       let usage : Use = record { expr = x; onward = key_words o.key ++ []; embeds = true } in
       subst (BodyAsks s b n) (sym h) (usage, among, refl, ranges e x v fits r)
@@ -126,34 +126,34 @@ module _ (s : Site) (b : Body) (n : Value) where
       let usage : Use = record { expr = x; onward = key_words o.key ++ link_words m; embeds = is_embed m } in
       scene_asks e rest q fits (λ y k. us y (Contains-there usage (uses rest) y k)) ls h
   scene_asks e (choice neg x a taken other rest) q fits us ls (inl (inl h)) =
-      let usage : Use = record { expr = x; onward = []; embeds = is_embed Plain } in
+      let usage : Use = record { expr = x; onward = []; embeds = false } in
       range_asks e usage q fits (us usage (Contains-here usage (uses taken ++ uses other ++ uses rest))) h
   scene_asks e (choice neg x a taken other rest) q fits us ls (inl (inr (inl h))) =
-      let usage : Use = record { expr = x; onward = []; embeds = is_embed Plain } in
+      let usage : Use = record { expr = x; onward = []; embeds = false } in
       scene_asks e taken q fits
       (λ y k. us y (Contains-there usage (uses taken ++ uses other ++ uses rest) y (Contains-append_left (uses taken ++ uses other) (uses rest) y (Contains-append_left (uses taken) (uses other) y k))))
       (λ l k. ls l (Contains-append_left (loops taken ++ loops other) (loops rest) l (Contains-append_left (loops taken) (loops other) l k))) h
   scene_asks e (choice neg x a taken other rest) q fits us ls (inl (inr (inr h))) =
-      let usage : Use = record { expr = x; onward = []; embeds = is_embed Plain } in
+      let usage : Use = record { expr = x; onward = []; embeds = false } in
       scene_asks e other q fits
       (λ y k. us y (Contains-there usage (uses taken ++ uses other ++ uses rest) y (Contains-append_left (uses taken ++ uses other) (uses rest) y (Contains-append_right (uses taken) (uses other) y k))))
       (λ l k. ls l (Contains-append_left (loops taken ++ loops other) (loops rest) l (Contains-append_right (loops taken) (loops other) l k))) h
   scene_asks e (choice neg x a taken other rest) q fits us ls (inr h) =
-      let usage : Use = record { expr = x; onward = []; embeds = is_embed Plain } in
+      let usage : Use = record { expr = x; onward = []; embeds = false } in
       scene_asks e rest q fits
       (λ y k. us y (Contains-there usage (uses taken ++ uses other ++ uses rest) y (Contains-append_right (uses taken ++ uses other) (uses rest) y k)))
       (λ l k. ls l (Contains-append_right (loops taken ++ loops other) (loops rest) l k)) h
   scene_asks e (repeat k x o body rest) q fits us ls (inl (inl h)) =
-      let usage : Use = record { expr = x; onward = key_words o.key; embeds = is_embed Plain } in
+      let usage : Use = record { expr = x; onward = key_words o.key; embeds = false } in
       arranged_asks e usage o q fits (us usage (Contains-here usage (uses body ++ uses rest))) (λ w z. z) h
   scene_asks e (repeat k x o body rest) q fits us ls (inl (inr (v, r, h))) =
-      let usage : Use = record { expr = x; onward = key_words o.key; embeds = is_embed Plain } in
+      let usage : Use = record { expr = x; onward = key_words o.key; embeds = false } in
       let over : LoopOver = record { number = k; expr = x } in
       scene_asks (binding e k v) body q (bound_more e k x v fits (ls over (Contains-here over (loops body ++ loops rest))) r)
       (λ y z. us y (Contains-there usage (uses body ++ uses rest) y (Contains-append_left (uses body) (uses rest) y z)))
       (λ l z. ls l (Contains-there over (loops body ++ loops rest) l (Contains-append_left (loops body) (loops rest) l z))) h
   scene_asks e (repeat k x o body rest) q fits us ls (inr h) =
-      let usage : Use = record { expr = x; onward = key_words o.key; embeds = is_embed Plain } in
+      let usage : Use = record { expr = x; onward = key_words o.key; embeds = false } in
       let over : LoopOver = record { number = k; expr = x } in
       scene_asks e rest q fits
       (λ y z. us y (Contains-there usage (uses body ++ uses rest) y (Contains-append_right (uses body) (uses rest) y z)))
@@ -185,7 +185,7 @@ joined_embed P d (v ∷ w ∷ vs) ps m (a, b, p, j, e) h =
     (Contains-append_cases (a ++ delimiter d) b (embed m) (subst (λ l. Contains l (embed m)) e h))
 
 formatted_embed : (s : Site) (f : TemplateFile) (mode : Mode) (v : Value) (ps : List Item) (m : Value) → Formatted s f mode v ps → Contains ps (embed m) → ModeAsks s mode v (template m)
-formatted_embed s f Plain v ps m h c = absurd (no_embed _ m (subst (λ l. Contains l (embed m)) h c))
+formatted_embed s f (Written w) v ps m h c = absurd (no_embed _ m (subst (λ l. Contains l (embed m)) h c))
 formatted_embed s f (Link None) v ps m h c = absurd (no_embed _ m (subst (λ l. Contains l (embed m)) h c))
 formatted_embed s f (Link (Some word)) v ps m (inl (label, key, h)) c = absurd (no_embed _ m (subst (λ l. Contains l (embed m)) h c))
 formatted_embed s f (Link (Some word)) v ps m (inr (key, h)) c = absurd (no_embed _ m (subst (λ l. Contains l (embed m)) h c))

@@ -5,7 +5,7 @@ use Rattle.tmpl.specs.Body.{Body, done, text, format, choice, repeat, TemplateFi
 use Rattle.tmpl.specs.declared.Expr.{Expr}
 use Rattle.tmpl.specs.declared.Order.{Order}
 use Rattle.tmpl.specs.declared.Mode.{Mode}
-use Rattle.tmpl.specs.declared.Mode.TheVariants.{Plain, Embed, Link}
+use Rattle.tmpl.specs.declared.Mode.TheVariants.{Written, Embed, Link}
 use Rattle.tmpl.specs.declared.WordRoot.{WordRoot}
 use Rattle.tmpl.specs.declared.WordRoot.TheVariants.{Collection}
 use Rattle.page_spec.specs.Site.{Site, Env, Starts, InRange}
@@ -33,7 +33,7 @@ abbrev pub ArrangedAsks : Site → Env → Expr → Order → Question → Type 
 ArrangedAsks s e x o q = RangeAsks s e x q ⊎ ((v : Value) × InRange s e x v × KeyAsks s o.key v q)
 
 abbrev pub ModeAsks : Site → Mode → Value → Question → Type 0
-ModeAsks s Plain v q = ⊥
+ModeAsks s (Written w) v q = ⊥
 ModeAsks s Embed v q = q ≡ template v
 ModeAsks s (Link word) v q = KeyAsks s word v q
 

@@ -22,8 +22,8 @@ pub fn push_escaped(out: &mut Vec<u8>, text: &[u8]) -> Result<(), NoMemory>
     push(out, &text[start..])
 }
 
-// The entity that stands for the byte in HTML, if it may not stand for itself.
-fn entity_of(byte: u8) -> Option<&'static [u8]>
+/// The entity that stands for the byte in HTML, if it may not stand for itself.
+pub fn entity_of(byte: u8) -> Option<&'static [u8]>
     ensures { MatchOption result (spec.byte_in_html byte ≡ byte ∷ [])
         (λ entity. spec.byte_in_html byte ≡ entity.now) }
 {
@@ -81,7 +81,8 @@ pub fn push_link(
     }
 }
 
-fn push(out: &mut Vec<u8>, text: &[u8]) -> Result<(), NoMemory>
+/// The bytes.
+pub fn push(out: &mut Vec<u8>, text: &[u8]) -> Result<(), NoMemory>
     ensures { OnOk result (out.new.items ≡ out.old.items ++ text.now) }
 {
     out.extend_from_slice(text)?;

@@ -8,6 +8,7 @@ mod laws;
 mod page;
 mod pieces;
 mod values;
+mod written;
 
-pub use laws::one_outcome;
+pub use laws::{one_outcome, written_texts_open_no_tag};
 pub use page::render;

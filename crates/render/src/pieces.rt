@@ -1,6 +1,7 @@
 // What a template makes of a value.
 ghost use Rattle.std.specs.Prelude.{◌≡◌, ◌∷◌, [], List, Contains, IfOk, if◌then◌else◌, nat_lt, not};
-ghost use Rattle.page_spec.specs.Show.{escaped, show, link};
+ghost use Rattle.page_spec.specs.Show.{show, link};
+ghost use Rattle.page_spec.specs.Written.{written};
 ghost use Rattle.page_spec.specs.Pieces.{Item, Formatted, Joined, Expands, bytes, embed, delimiter as delimiter_items};
 ghost use Rattle.tmpl.specs.Body.{body_of, done, part_before};
 ghost use Rattle.sd_value.specs.declared.Value.{Value};
@@ -10,13 +11,14 @@ ghost use Rattle.render.specs.Room.{Adds};
 ghost use Rattle.render.specs.Rows.{PartExpands};
 
 use crate::expansion::Expansion;
-use crate::html::{push_escaped_value, push_link};
+use crate::html::push_link;
 use crate::values::{arranged, holds, key};
+use crate::written::push_written;
 use page_spec::Bound;
 use sd_value::{NoMemory, Str, Value, copy};
 use site_view::SiteView;
 use std::alloc::Global;
-use tmpl::{Mode, Part};
+use tmpl::{Mode, Part, Writing};
 
 fn add_embed(alloc: Global, value: &Value, out: &mut Expansion) -> Result<(), NoMemory>
     ensures { IfOk result (λ _. Adds out.old out.new (embed value.now ∷ [])) }
@@ -32,11 +34,16 @@ fn add_copy(alloc: Global, text: &Str, out: &mut Expansion) -> Result<(), NoMemo
     out.add_text(text)
 }
 
-fn add_plain(alloc: Global, value: &Value, out: &mut Expansion) -> Result<(), NoMemory>
-    ensures { IfOk result (λ _. Adds out.old out.new (bytes (escaped (show value.now)))) }
+fn add_written(
+    alloc: Global,
+    writing: Writing,
+    value: &Value,
+    out: &mut Expansion,
+) -> Result<(), NoMemory>
+    ensures { IfOk result (λ _. Adds out.old out.new (bytes (written writing (show value.now)))) }
 {
     let mut text = Vec::new(alloc);
-    push_escaped_value(alloc, &mut text, value)?;
+    push_written(alloc, &mut text, writing, value)?;
     out.add_text(Str::of(alloc, text)?)
 }
 
@@ -73,14 +80,14 @@ fn formatted<V: SiteView>(
         (V.templates (V.fixed view.old)) mode.now value.now ps × Adds out.old out.new ps) }
 {
     match mode {
-        Mode::Plain => add_plain(alloc, value, out),
+        Mode::Written(writing) => add_written(alloc, *writing, value, out),
         Mode::Link(word) => match key(alloc, view, value, word)? {
             Some(label) => add_link(alloc, value, &label, out),
             None => add_link(alloc, value, value, out),
         },
         Mode::Embed => match view.template_of(alloc, value)? {
             Some(_) => add_embed(alloc, value, out),
-            None => add_plain(alloc, value, out),
+            None => add_written(alloc, Writing::Escaped, value, out),
         },
     }
 }

@@ -25,7 +25,7 @@ code NoMemory = 8
 code NotFound = 9
 code TurnsSpent = 10
 
--- the names of refusals of CSV, JSON and BibTeX, of graphs, and of tokens and data text
+-- the names of refusals of CSV, JSON, BibTeX and databases, of graphs, and of tokens and data text
 abbrev pub source_refusal_name : ℕ → List ℕ
 source_refusal_name number =
     if number == 11 then codes "TooManyEdges"
@@ -46,6 +46,10 @@ source_refusal_name number =
     else if number == 122 then codes "UnknownMacro"
     else if number == 123 then codes "TooDeep"
     else if number == 124 then codes "TooLarge"
+    else if number == 171 then codes "NotDatabase"
+    else if number == 172 then codes "Damaged"
+    else if number == 173 then codes "NotRead"
+    else if number == 174 then codes "IsBlob"
     else []
 
 -- those of queries, templates, constraints and scripts
@@ -68,6 +72,8 @@ site_refusal_name number =
     else if number == 83 then codes "Twice"
     else if number == 84 then codes "TooDeep"
     else if number == 85 then codes "UnknownVariable"
+    else if number == 86 then codes "Unknown"
+    else if number == 87 then codes "TooLarge"
     else if number == 101 then codes "Expected"
     else if number == 102 then codes "UnknownFunction"
     else if number == 103 then codes "RootHasArguments"

@@ -39,6 +39,10 @@ fn source_refusal_name(number: u32) -> &'static [u8]
         122 => b"UnknownMacro",
         123 => b"TooDeep",
         124 => b"TooLarge",
+        171 => b"NotDatabase",
+        172 => b"Damaged",
+        173 => b"NotRead",
+        174 => b"IsBlob",
         _ => b"",
     }
 }
@@ -64,6 +68,8 @@ fn site_refusal_name(number: u32) -> &'static [u8]
         83 => b"Twice",
         84 => b"TooDeep",
         85 => b"UnknownVariable",
+        86 => b"Unknown",
+        87 => b"TooLarge",
         101 => b"Expected",
         102 => b"UnknownFunction",
         103 => b"RootHasArguments",

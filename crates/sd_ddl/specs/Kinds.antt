@@ -44,6 +44,16 @@ collection_by object (Edge o l v) = []
 abbrev pub collections : List Part → Name → List Name
 collections parts object = flat_map (collection_by object) parts
 
+abbrev pub giver_by : Name → Part → List Name
+giver_by attribute (Gives g) = if same_name g.attribute attribute then g.collection ∷ [] else []
+giver_by attribute (Node n) = []
+giver_by attribute (Member c n) = []
+giver_by attribute (Edge o l v) = []
+
+-- the collections whose directives give the attribute a kind
+abbrev pub givers : List Part → Name → List Name
+givers parts attribute = flat_map (giver_by attribute) parts
+
 -- the kinds that directives of the object's collections give the attribute
 abbrev pub kinds_of : List Part → Name → Name → List Kind
 kinds_of parts object attribute = flat_map (λ c. given parts c attribute) (collections parts object)

@@ -1,5 +1,6 @@
 -- The tables in which kinds and collections are looked up.
-use Rattle.std.specs.Prelude.{◌≡◌, Bool, true, false, List, [], ◌∷◌, Option, Some, None, if◌then◌else◌, ℕ}
+use Rattle.std.specs.Prelude.{◌≡◌, Bool, true, false, List, [], ◌∷◌, length, Option, Some, None, if◌then◌else◌, ℕ, nat_lt}
+use Rattle.std.specs.List.{list_any}
 use Rattle.std.specs.declared.cmp.Ordering.{Ordering}
 use Rattle.std.specs.Ordering.{ordering_then}
 use Rattle.std.specs.BTreeMap.{get}
@@ -14,7 +15,7 @@ use Rattle.sd_ddl.specs.declared.kinds.StatedKinds.TheVariants.{Nothing, One, Se
 use Rattle.sd_ddl.specs.declared.kinds.Givings.{Givings}
 use Rattle.sd_ddl.specs.declared.kinds.Kinds.{Kinds}
 use Rattle.sd_ddl.specs.declared.collections.Collections.{Collections}
-use Rattle.sd_ddl.specs.Kinds.{Name, same_kind, given, collections, kinds_of, told}
+use Rattle.sd_ddl.specs.Kinds.{Name, same_name, same_kind, given, givers, collections, kinds_of, told}
 
 -- what two report together
 abbrev pub both : StatedKinds → StatedKinds → StatedKinds
@@ -44,7 +45,7 @@ abbrev pub names_in : Option (BTreeSet (List ℕ)) → List Name
 names_in (Some names) = names.keys
 names_in None = []
 
--- the collections of an object
+-- the collections of an object, or of an attribute
 abbrev pub names_of : Collections → Name → List Name
 names_of table object = names_in (get bytes_cmp table.of object)
 
@@ -60,14 +61,29 @@ HasGivings parts table = (c a : Name) → told_in table c a ≡ told (given part
 abbrev pub HasCollections : List Part → Collections → Type 0
 HasCollections parts table = (o : Name) → names_of table o ≡ insert_all [] (collections parts o)
 
+-- the table has the collections that give each attribute a kind
+abbrev pub HasGivers : List Part → Collections → Type 0
+HasGivers parts table = (a : Name) → names_of table a ≡ insert_all [] (givers parts a)
+
 -- what is reported of each of the names, one after another
 abbrev pub tell : (Name → StatedKinds) → StatedKinds → List Name → StatedKinds
 tell f t [] = t
 tell f t (n ∷ ns) = tell f (both t (f n)) ns
 
+-- what is reported of one of the names alone
+abbrev pub told_within : Givings → List Name → Name → Name → StatedKinds
+told_within givings names attribute collection =
+    if list_any (same_name collection) names then told_in givings collection attribute else Nothing
+
+-- what the collections of an object tell an attribute: it is asked of the object's, or, where these are
+-- fewer, of those that give the attribute a kind
 abbrev pub told_of : Kinds → Name → Name → StatedKinds
 told_of kinds object attribute =
-    tell (λ c. told_in kinds.givings c attribute) Nothing (names_of kinds.collections object)
+    let names = names_of kinds.collections object in
+    let found = names_of kinds.givers attribute in
+    if nat_lt (length found) (length names)
+    then tell (told_within kinds.givings names attribute) Nothing found
+    else tell (λ c. told_in kinds.givings c attribute) Nothing names
 
 -- the tables report of each object's attributes what these parts report
 abbrev pub Knows : List Part → Kinds → Type 0

@@ -1,24 +1,24 @@
-// The collections of objects.
+// The collections of objects, and those of attributes.
 ghost use Rattle.std.specs.Prelude.{◌≡◌, ◌∷◌, ◌++◌, OnOk, IfSome, IfNone, List, [], false};
 ghost use Rattle.std.specs.BTreeSet.{insert_key};
 ghost use Rattle.sd_value.specs.Order.{bytes_cmp};
 ghost use Rattle.sd_ddl.specs.declared.part.Part.{Part as AnyPart};
 ghost use Rattle.sd_ddl.specs.Kinds.{Name, same_name};
-ghost use Rattle.sd_ddl.specs.Tables.{names_of, HasCollections};
+ghost use Rattle.sd_ddl.specs.Tables.{names_of, HasCollections, HasGivers};
 
 use crate::part::Part;
 use sd_value::{NoMemory, Str};
 use std::alloc::Global;
 use std::collections::{BTreeMap, BTreeSet};
 
-/// The collections of each object, as far as they were reported.
+/// The collections of each object, or those whose directives give each attribute a kind, as far as they were reported.
 #[derive(Drop)]
 pub(crate) struct Collections {
     of: BTreeMap<Str, BTreeSet<Str>>,
 }
 
 impl Collections {
-    /// No object is in a collection.
+    /// No name has a collection.
     pub(crate) fn new(alloc: Global) -> Collections
         ensures { (object : Name) → names_of result object ≡ [] }
     {
@@ -27,7 +27,7 @@ impl Collections {
         }
     }
 
-    /// One more collection of an object.
+    /// One more collection of a name.
     pub(crate) fn add(
         &mut self,
         alloc: Global,
@@ -61,7 +61,19 @@ impl Collections {
         }
     }
 
-    /// The collections of an object.
+    /// Adds the collection whose directive gives an attribute a kind.
+    pub(crate) fn add_giver(&mut self, alloc: Global, part: &Part) -> Result<(), NoMemory>
+        ensures { OnOk result
+            ((front : List AnyPart) → HasGivers front self.old
+            → HasGivers (front ++ part.now ∷ []) self.new) }
+    {
+        match part {
+            Part::Gives(giving) => self.add(alloc, &giving.attribute, &giving.collection),
+            Part::Member(_, _) | Part::Node(_) | Part::Edge(_, _, _) => Ok(()),
+        }
+    }
+
+    /// The collections of a name.
     pub(crate) fn names(&self, object: &Str) -> Option<&BTreeSet<Str>>
         ensures some { IfSome result (λ names. names.now.keys ≡ names_of self.now object.now) }
         ensures none { IfNone result (names_of self.now object.now ≡ []) }

@@ -4,14 +4,15 @@ ghost use Rattle.sd_ddl.specs.declared.part.Part.{Part as AnyPart};
 ghost use Rattle.sd_ddl.specs.declared.part.Part.TheVariants.{Gives};
 ghost use Rattle.sd_ddl.specs.declared.kinds.StatedKinds.TheVariants.{Nothing as NothingTold, One as OneTold};
 ghost use Rattle.sd_ddl.specs.Kinds.{Name, given_by, told};
-ghost use Rattle.sd_ddl.specs.Tables.{told_in, told_of, both, is_several, tell, HasGivings, HasCollections, Knows, names_of, is_conflict};
+ghost use Rattle.sd_ddl.specs.Tables.{told_in, told_within, told_of, both, is_several, tell, HasGivings, HasCollections, HasGivers};
+ghost use Rattle.sd_ddl.specs.Tables.{Knows, names_of, is_conflict};
 
 use crate::collections::Collections;
 use crate::part::{Giving, Part};
 use ddl_text::{Content, Kind};
 use sd_value::{NoMemory, Str};
 use std::alloc::Global;
-use std::collections::BTreeMap;
+use std::collections::{BTreeMap, BTreeSet};
 
 /// Which kinds are reported.
 #[derive(Clone, Copy)]
@@ -130,6 +131,9 @@ impl Givings {
 #[derive(Drop)]
 pub(crate) struct Kinds {
     givings: Givings,
+    /// By attribute.
+    givers: Collections,
+    /// By object.
     collections: Collections,
 }
 
@@ -141,17 +145,75 @@ impl Kinds {
         let givings = givings_of(alloc, parts)?;
         if givings.is_empty() {
             // Collections report nothing then.
+            let givers = Collections::new(alloc);
             let collections = Collections::new(alloc);
             return Ok(Kinds {
                 givings,
+                givers,
                 collections,
             });
         }
+        let givers = givers_of(alloc, parts)?;
         let collections = collections_of(alloc, parts)?;
         Ok(Kinds {
             givings,
+            givers,
             collections,
         })
+    }
+
+    // The kinds that directives of these collections give the attribute.
+    fn told_by_names(
+        &self,
+        alloc: Global,
+        names: &BTreeSet<Str>,
+        attribute: &Str,
+    ) -> Result<StatedKinds, NoMemory>
+        ensures { IfOk result (λ t. t ≡ tell
+            (λ c. told_in self.now.givings c attribute.now) NothingTold names.now.keys) }
+    {
+        let mut told = StatedKinds::Nothing;
+        for name in names.iter() {
+            told = told.and(self.givings.told(alloc, name, attribute)?);
+        }
+        Ok(told)
+    }
+
+    // The kinds that the directive of the collection gives the attribute, if it is one of the names.
+    fn told_within(
+        &self,
+        alloc: Global,
+        names: &BTreeSet<Str>,
+        attribute: &Str,
+        collection: &Str,
+    ) -> Result<StatedKinds, NoMemory>
+        ensures { IfOk result (λ t. t
+            ≡ told_within self.now.givings names.now.keys attribute.now collection.now) }
+    {
+        if names.contains(collection) {
+            self.givings.told(alloc, collection, attribute)
+        } else {
+            Ok(StatedKinds::Nothing)
+        }
+    }
+
+    // The kinds that these collections give the attribute, those of them that are among the names.
+    fn told_by_givers(
+        &self,
+        alloc: Global,
+        names: &BTreeSet<Str>,
+        givers: &BTreeSet<Str>,
+        attribute: &Str,
+    ) -> Result<StatedKinds, NoMemory>
+        ensures { IfOk result (λ t. t ≡ tell
+            (told_within self.now.givings names.now.keys attribute.now) NothingTold
+            givers.now.keys) }
+    {
+        let mut told = StatedKinds::Nothing;
+        for giver in givers.iter() {
+            told = told.and(self.told_within(alloc, names, attribute, giver)?);
+        }
+        Ok(told)
     }
 
     /// The kinds that directives of the object's collections give the attribute.
@@ -163,14 +225,17 @@ impl Kinds {
     ) -> Result<StatedKinds, NoMemory>
         ensures { IfOk result (λ t. t ≡ told_of self.now object.now attribute.now) }
     {
-        let mut told = StatedKinds::Nothing;
         let Some(names) = self.collections.names(object) else {
-            return Ok(told);
+            return Ok(StatedKinds::Nothing);
         };
-        for name in names.iter() {
-            told = told.and(self.givings.told(alloc, name, attribute)?);
+        let Some(givers) = self.givers.names(attribute) else {
+            return Ok(StatedKinds::Nothing);
+        };
+        if givers.len() < names.len() {
+            self.told_by_givers(alloc, names, givers, attribute)
+        } else {
+            self.told_by_names(alloc, names, attribute)
         }
-        Ok(told)
     }
 
     /// Whether the part is a conflict of kinds, where `seen` has what the parts before it give.
@@ -205,6 +270,17 @@ fn givings_of(alloc: Global, parts: &[Part]) -> Result<Givings, NoMemory>
         givings.add_part(alloc, part)?;
     }
     Ok(givings)
+}
+
+// The collections whose directives give attributes kinds.
+fn givers_of(alloc: Global, parts: &[Part]) -> Result<Collections, NoMemory>
+    ensures { IfOk result (HasGivers parts.now) }
+{
+    let mut givers = Collections::new(alloc);
+    for part in parts {
+        givers.add_giver(alloc, part)?;
+    }
+    Ok(givers)
 }
 
 // The collections that these parts report.

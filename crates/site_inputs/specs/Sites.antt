@@ -148,6 +148,8 @@ templates_told (templates.Unclosed at) = Some (record { number = 82; at = at })
 templates_told (templates.Twice at) = Some (record { number = 83; at = at })
 templates_told (templates.TooDeep at) = Some (record { number = 84; at = at })
 templates_told (templates.UnknownVariable at) = Some (record { number = 85; at = at })
+templates_told (templates.Unknown at) = Some (record { number = 86; at = at })
+templates_told (templates.TooLarge at) = Some (record { number = 87; at = at })
 templates_told templates.NoMemory = None
 
 -- what is said of a text of templates that is refused so, unless it was out of memory

@@ -110,6 +110,14 @@ pub fn told_of_templates(refusal: &TmplRefusal) -> Result<NumberedFault, NoMemor
             number: 85,
             at: *at,
         }),
+        TmplRefusal::Unknown(at) => Ok(NumberedFault {
+            number: 86,
+            at: *at,
+        }),
+        TmplRefusal::TooLarge(at) => Ok(NumberedFault {
+            number: 87,
+            at: *at,
+        }),
         TmplRefusal::NoMemory => Err(NoMemory),
     }
 }

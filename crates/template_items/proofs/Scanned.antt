@@ -13,7 +13,7 @@ use Rattle.template_items.specs.declared.item.Item.{Item}
 use Rattle.template_items.specs.declared.item.State.{State}
 use Rattle.template_items.specs.declared.item.Front.{Front}
 use Rattle.template_items.specs.declared.item.Front.TheVariants.{Passes, Finds, Ends}
-use Rattle.template_items.specs.Scanning.{front, last_items, first_state, GoesOn, IsWithin, EndsWithin, AreItems, Scans, passes, finds, ends}
+use Rattle.template_items.specs.Scanning.{front, last_items, order_mark, first_state, GoesOn, IsWithin, EndsWithin, AreItems, Scans, passes, finds, ends}
 
 pub token_within : (at : ℕ) (bytes : List ℕ) (r : Result Token LexRefusal) → at < length bytes → UnlessNoMemory (IsTokenOrFault at (drop at bytes)) r → IfOk r (λ t. (at < t.span.«end») × (t.span.«end» ≤ length bytes))
 token_within at bytes (Ok t) before h =
@@ -29,10 +29,10 @@ pub record Reached (bytes : List ℕ) (s : State) (items : List Item) : Type 0 w
   pub few : s.loops ≤ s.place
   pub apart : length items ≤ s.place
   pub within : All (EndsWithin (length bytes)) items
-  pub goes_on : (more : List Item) → Scans bytes s more → Scans bytes first_state (items ++ more)
+  pub goes_on : (more : List Item) → Scans bytes s more → Scans bytes (first_state bytes) (items ++ more)
 
-pub first_reached : (bytes : List ℕ) → Reached bytes first_state []
-first_reached bytes = record { place = omega arith; few = omega arith; apart = omega arith; within = All-nil (EndsWithin (length bytes)); goes_on = λ more h. h }
+pub first_reached : (bytes : List ℕ) → order_mark bytes ≤ length bytes → Reached bytes (first_state bytes) []
+first_reached bytes within = record { place = within; few = omega arith; apart = omega arith; within = All-nil (EndsWithin (length bytes)); goes_on = λ more h. h }
 
 pub passes_reached : (bytes : List ℕ) (s next : State) (items : List Item) → Reached bytes s items → (f : Front) → f ≡ Passes next → f ≡ front bytes s → GoesOn (length bytes) s f → Reached bytes next items
 passes_reached bytes s next items so_far f here is on =
@@ -57,11 +57,11 @@ finds_reached bytes s next items item so_far f here is on = let both : GoesOn (l
   few = step.2;
   apart = omega (arith, so_far.apart, step.0, length-append items (item ∷ []));
   within = All-push (EndsWithin (length bytes)) items item so_far.within both.1;
-  goes_on = λ more h. subst (Scans bytes first_state) (sym (append_assoc items (item ∷ []) more)) (so_far.goes_on (item ∷ more) (finds item next more (sym is ∙ here) refl h));
+  goes_on = λ more h. subst (Scans bytes (first_state bytes)) (sym (append_assoc items (item ∷ []) more)) (so_far.goes_on (item ∷ more) (finds item next more (sym is ∙ here) refl h));
 }
 
-pub ends_reached : (bytes : List ℕ) (s : State) (items : List Item) (last : Option Item) → (total : List Item) → total ≡ items ++ last_items last → Reached bytes s items → (f : Front) → f ≡ Ends last → f ≡ front bytes s → Scans bytes first_state total
-ends_reached bytes s items last total all so_far f here is = subst (Scans bytes first_state) (sym all) (so_far.goes_on (last_items last) (ends last (sym is ∙ here) refl))
+pub ends_reached : (bytes : List ℕ) (s : State) (items : List Item) (last : Option Item) → (total : List Item) → total ≡ items ++ last_items last → Reached bytes s items → (f : Front) → f ≡ Ends last → f ≡ front bytes s → Scans bytes (first_state bytes) total
+ends_reached bytes s items last total all so_far f here is = subst (Scans bytes (first_state bytes)) (sym all) (so_far.goes_on (last_items last) (ends last (sym is ∙ here) refl))
 
 last_length : (last : Option Item) → length (last_items last) ≤ 1
 last_length None = omega arith

@@ -6,18 +6,24 @@ use sd_value::Str;
 /// An item that has no text of its own.
 #[derive(Clone, Copy, Debug, PartialEq, Eq)]
 pub enum Mark {
-    /// `<TEMPLATE`, `<SFMT`, `<SIF` and `<SFOR`, each before a blank.
+    /// `<TEMPLATE`, `<LAYOUT`, `<FRAGMENT`, `<SFMT`, `<SIF`, `<SFOR` and `<SINCLUDE`, each before a blank.
     OpenTemplate,
+    OpenLayout,
+    OpenFragment,
     OpenFormat,
     OpenChoice,
     OpenRepeat,
+    OpenInclude,
     /// The `>` of an opening tag.
     Close,
-    /// `<SELSE>`, `</SIF>`, `</SFOR>` and `</TEMPLATE>`.
+    /// `<SBODY>`, `<SELSE>`, `</SIF>`, `</SFOR>`, `</TEMPLATE>`, `</LAYOUT>` and `</FRAGMENT>`.
+    Hole,
     Otherwise,
     EndChoice,
     EndRepeat,
     EndTemplate,
+    EndLayout,
+    EndFragment,
     /// An `@` that no label follows at once.
     Here,
     /// An `@` right before a label.
@@ -26,6 +32,10 @@ pub enum Mark {
     Hash,
     /// What can't be here: no token, no opening tag, or the end of the text within an opening tag.
     Fault,
+    /// A `<SNOTE>` that no `</SNOTE>` is behind.
+    OpenNote,
+    /// A `</SNOTE>` that ends no note.
+    EndNote,
 }
 
 /// What an item is.
@@ -46,7 +56,7 @@ pub struct Item {
     pub place: u64,
     /// Whether a blank is before it, within an opening tag.
     pub apart: bool,
-    /// How many `<SFOR` are before it in its template.
+    /// How many `<SFOR` are before it in the file.
     pub loops: u32,
 }
 
@@ -65,7 +75,7 @@ pub struct State {
     pub place: u64,
     /// Whether the byte before is a blank of an opening tag.
     pub apart: bool,
-    /// How many `<SFOR` the template had so far.
+    /// How many `<SFOR` the file had so far.
     pub loops: u32,
 }
 

@@ -6,9 +6,9 @@ ghost use Rattle.sd_lex.specs.Bytes.{is_blank, is_letter};
 ghost use Rattle.sd_lex.specs.Lexing.{GivesTokens};
 ghost use Rattle.sd_lex.specs.Reading.{lexeme};
 ghost use Rattle.template_items.specs.declared.item.Item.{Item as AnyItem};
-ghost use Rattle.template_items.specs.Scanning.{begins, starts_blank, opens, tag_at, text_run, made, fault_at, moved};
-ghost use Rattle.template_items.specs.Scanning.{front_between, behind_tag, front_tag, front_body, front_token};
-ghost use Rattle.template_items.specs.Scanning.{starts_label, fault_place, front_inside, front, first_state};
+ghost use Rattle.template_items.specs.Scanning.{begins, starts_blank, opens, tag_of, further_tag, tag_at, text_run, made, fault_at, moved};
+ghost use Rattle.template_items.specs.Scanning.{front_between, behind_tag, front_tag, front_body, front_token, note_run, front_note};
+ghost use Rattle.template_items.specs.Scanning.{starts_label, fault_place, front_inside, front, first_state, order_mark};
 ghost use Rattle.template_items.specs.Scanning.{last_items, AreItems, GoesOn, EndsWithin, Scans};
 
 use crate::item::{Front, Item, ItemKind, Mark, Mode, State};
@@ -59,9 +59,29 @@ fn opens(word: &[u8], bytes: &[u8]) -> bool
     begins(word, bytes) && starts_blank(skip(bytes, word.len()))
 }
 
-/// The tag of a body with which the bytes begin, and how many of its bytes to pass.
-fn tag_at(bytes: &[u8]) -> Option<(Mark, usize)>
-    ensures is { result ≡ tag_at bytes.now }
+/// The same of tags that put a body in, or end what may be put in.
+fn further_tag(bytes: &[u8]) -> Option<(Mark, usize)>
+    ensures is { result ≡ further_tag bytes.now }
+    ensures within { IfSome result (λ tag. (0 < tag.1) × (tag.1 ≤ length bytes.now)) }
+{
+    if begins(b"</SNOTE>", bytes) {
+        Some((Mark::EndNote, 8))
+    } else if opens(b"<SINCLUDE", bytes) {
+        Some((Mark::OpenInclude, 9))
+    } else if begins(b"<SBODY>", bytes) {
+        Some((Mark::Hole, 7))
+    } else if begins(b"</LAYOUT>", bytes) {
+        Some((Mark::EndLayout, 9))
+    } else if begins(b"</FRAGMENT>", bytes) {
+        Some((Mark::EndFragment, 11))
+    } else {
+        None
+    }
+}
+
+/// The tag of a body with which the bytes begin, of which the first is `<`, and how many of its bytes to pass.
+fn tag_of(bytes: &[u8]) -> Option<(Mark, usize)>
+    ensures is { result ≡ tag_of bytes.now }
     ensures within { IfSome result (λ tag. (0 < tag.1) × (tag.1 ≤ length bytes.now)) }
 {
     if opens(b"<SFMT", bytes) {
@@ -78,8 +98,21 @@ fn tag_at(bytes: &[u8]) -> Option<(Mark, usize)>
         Some((Mark::EndRepeat, 7))
     } else if begins(b"</TEMPLATE>", bytes) {
         Some((Mark::EndTemplate, 11))
+    } else if begins(b"<SNOTE>", bytes) {
+        Some((Mark::OpenNote, 7))
     } else {
-        None
+        further_tag(bytes)
+    }
+}
+
+/// The tag of a body with which the bytes begin, and how many of its bytes to pass.
+fn tag_at(bytes: &[u8]) -> Option<(Mark, usize)>
+    ensures is { result ≡ tag_at bytes.now }
+    ensures within { IfSome result (λ tag. (0 < tag.1) × (tag.1 ≤ length bytes.now)) }
+{
+    match bytes {
+        [] => None,
+        [b, ..] => { if *b == b'<' { tag_of(bytes) } else { None } }
     }
 }
 
@@ -144,6 +177,39 @@ fn moved(state: State, mode: Mode, n: usize) -> State
     }
 }
 
+/// How many bytes there are up to the end of a note in which these bytes are.
+fn note_run(bytes: &[u8]) -> Option<usize>
+    ensures is { result ≡ note_run bytes.now }
+    ensures within { IfSome result (λ n. n ≤ length bytes.now) }
+{
+    let mut rest = bytes;
+    let mut n = 0;
+    'note: loop {
+        let [_, later @ ..] = rest else {
+            return None;
+        };
+        if begins(b"</SNOTE>", rest) {
+            return Some(n + 8);
+        }
+        rest = later;
+        n += 1;
+    }
+}
+
+/// What is at a `<SNOTE>` with which the bytes begin.
+fn front_note(bytes: &[u8], state: State) -> Front
+    requires place { state.place + length bytes.now < 2 ^ 32 }
+    requires few { state.loops ≤ state.place }
+    requires note { 7 ≤ length bytes.now }
+    ensures is { result ≡ front_note state bytes.now }
+    ensures on { GoesOn (state.place + length bytes.now) state result }
+{
+    match note_run(skip(bytes, 7)) {
+        Some(n) => Front::Passes(moved(state, state.mode, n + 7)),
+        None => Front::Ends(Some(made(ItemKind::Mark(Mark::OpenNote), state))),
+    }
+}
+
 /// What is between templates.
 fn front_between(bytes: &[u8], state: State) -> Front
     requires place { state.place + length bytes.now < 2 ^ 32 }
@@ -156,14 +222,17 @@ fn front_between(bytes: &[u8], state: State) -> Front
         [b, ..] => {
             if is_blank(*b) {
                 Front::Passes(moved(state, Mode::Between, 1))
+            } else if begins(b"<SNOTE>", bytes) {
+                front_note(bytes, state)
             } else if opens(b"<TEMPLATE", bytes) {
-                let next = State {
-                    mode: Mode::Inside,
-                    place: state.place + 9,
-                    apart: false,
-                    loops: 0,
-                };
+                let next = moved(state, Mode::Inside, 9);
                 Front::Finds(made(ItemKind::Mark(Mark::OpenTemplate), state), next)
+            } else if opens(b"<LAYOUT", bytes) {
+                let next = moved(state, Mode::Inside, 7);
+                Front::Finds(made(ItemKind::Mark(Mark::OpenLayout), state), next)
+            } else if opens(b"<FRAGMENT", bytes) {
+                let next = moved(state, Mode::Inside, 9);
+                Front::Finds(made(ItemKind::Mark(Mark::OpenFragment), state), next)
             } else {
                 Front::Ends(Some(fault_at(state, state.place)))
             }
@@ -180,14 +249,14 @@ fn behind_tag(state: State, mark: Mark, n: usize) -> State
     ensures few { result.loops ≤ state.loops + 1 }
 {
     match mark {
-        Mark::OpenFormat | Mark::OpenChoice => moved(state, Mode::Inside, n),
+        Mark::OpenFormat | Mark::OpenChoice | Mark::OpenInclude => moved(state, Mode::Inside, n),
         Mark::OpenRepeat => State {
             mode: Mode::Inside,
             place: state.place + n as u64,
             apart: false,
             loops: state.loops + 1,
         },
-        Mark::EndTemplate => moved(state, Mode::Between, n),
+        Mark::EndTemplate | Mark::EndLayout | Mark::EndFragment => moved(state, Mode::Between, n),
         _ => moved(state, Mode::Body, n),
     }
 }
@@ -203,6 +272,7 @@ fn front_body(alloc: Global, bytes: &[u8], state: State) -> Result<Front, NoMemo
         return Ok(Front::Ends(None));
     }
     match tag_at(bytes) {
+        Some((Mark::OpenNote, _)) => Ok(front_note(bytes, state)),
         Some((mark, n)) => Ok(Front::Finds(
             made(ItemKind::Mark(mark), state),
             behind_tag(state, mark, n),
@@ -339,6 +409,14 @@ fn ended(mut items: Vec<Item>, last: Option<Item>) -> Result<Vec<Item>, NoMemory
     Ok(items)
 }
 
+/// How many bytes a byte order mark at the start takes.
+fn order_mark(bytes: &[u8]) -> u64
+    ensures is { result ≡ order_mark bytes.now }
+    ensures within { result ≤ length bytes.now }
+{
+    if begins(b"\xEF\xBB\xBF", bytes) { 3 } else { 0 }
+}
+
 /// The items of a file of templates. They end with the first fault that no item can pass.
 pub fn items(alloc: Global, bytes: &[u8]) -> Result<Vec<Item>, NoMemory>
     requires { length bytes.now < 2 ^ 32 }
@@ -351,7 +429,7 @@ pub fn items(alloc: Global, bytes: &[u8]) -> Result<Vec<Item>, NoMemory>
     let mut items = Vec::new(alloc);
     let mut state = State {
         mode: Mode::Between,
-        place: 0,
+        place: order_mark(bytes),
         apart: false,
         loops: 0,
     };

@@ -1,33 +1,41 @@
--- The answer to items.
-use Rattle.std.proofs.Common.{◌≡◌, ℕ, List, [], Option, Result, Ok, Err, refl, sym, ap, subst, ◌∙◌}
+-- The answer to items where nothing is put in.
+use Rattle.std.proofs.Common.{◌≡◌, List, [], Option, Result, Ok, Err, refl, sym, ap, subst}
 use Rattle.grammar.specs.Reading.{Read, Stuck, Past}
 use Rattle.template_items.specs.declared.item.Item.{Item}
+use Rattle.tmpl.specs.Body.{TemplateFile}
 use Rattle.tmpl.specs.declared.Templates.{Templates}
 use Rattle.template_reader.specs.declared.refusal.TmplRefusal.{TmplRefusal}
-use Rattle.template_reader.specs.declared.refusal.TmplRefusal.TheVariants.{TooLong, Expected, Unclosed, Twice, TooDeep, UnknownVariable, NoMemory}
-use Rattle.template_reader.specs.Template.{Entry, within}
+use Rattle.template_reader.specs.declared.refusal.TmplRefusal.TheVariants.{TooLong, Expected, Unclosed, Twice, TooDeep, UnknownVariable, Unknown, TooLarge, NoMemory}
+use Rattle.template_reader.specs.declared.met.Met.{Met}
+use Rattle.template_reader.specs.Template.{Entry}
 use Rattle.template_reader.specs.Reading.{read_file}
-use Rattle.template_reader.specs.Faults.{Ending, Whole, Unfit, Beyond, IsEnding, twice, answer, whole_answer, unfit_answer, beyond_answer, IsItemsAnswer, UnlessNoMemory, GivesTemplates, OrNoMemory}
-use Rattle.template_reader.proofs.FileParts.{is_spelled, is_only, is_fault, is_past}
+use Rattle.template_reader.specs.Faults.{Whole, Unfit, Beyond, IsWholeAnswer, IsWrittenAnswer, unfit_answer, beyond_answer, UnlessNoMemory, GivesTemplates, OrNoMemory}
+use Rattle.template_reader.proofs.FileParts.{is_spelled, is_fault, is_past}
 
-found : (items : List Item) (ending : Ending) (result : Result Templates TmplRefusal) → IsEnding items ending → GivesTemplates (answer (twice items) items ending) result → UnlessNoMemory (IsItemsAnswer items) result
-found items ending (Ok t) is h = (ending, is, sym h)
-found items ending (Err (TooLong at)) is h = (ending, is, sym h)
-found items ending (Err (Expected at)) is h = (ending, is, sym h)
-found items ending (Err (Unclosed at)) is h = (ending, is, sym h)
-found items ending (Err (Twice at)) is h = (ending, is, sym h)
-found items ending (Err (TooDeep at)) is h = (ending, is, sym h)
-found items ending (Err (UnknownVariable at)) is h = (ending, is, sym h)
-found items ending (Err NoMemory) is h = tt
+-- what is said of an answer goes over to what follows from it
+pub unless_map : (P Q : Result TemplateFile TmplRefusal → Type 0) → ((r : Result TemplateFile TmplRefusal) → P r → Q r) → (r : Result Templates TmplRefusal) → UnlessNoMemory P r → UnlessNoMemory Q r
+unless_map P Q more (Ok t) h = more _ h
+unless_map P Q more (Err (TooLong at)) h = more _ h
+unless_map P Q more (Err (Expected at)) h = more _ h
+unless_map P Q more (Err (Unclosed at)) h = more _ h
+unless_map P Q more (Err (Twice at)) h = more _ h
+unless_map P Q more (Err (TooDeep at)) h = more _ h
+unless_map P Q more (Err (UnknownVariable at)) h = more _ h
+unless_map P Q more (Err (Unknown at)) h = more _ h
+unless_map P Q more (Err (TooLarge at)) h = more _ h
+unless_map P Q more (Err NoMemory) h = tt
 
-refused : (r told : TmplRefusal) → OrNoMemory r told → GivesTemplates (Err told) (Err r)
-refused (TooLong at) told h = ap Err (sym h)
-refused (Expected at) told h = ap Err (sym h)
-refused (Unclosed at) told h = ap Err (sym h)
-refused (Twice at) told h = ap Err (sym h)
-refused (TooDeep at) told h = ap Err (sym h)
-refused (UnknownVariable at) told h = ap Err (sym h)
-refused NoMemory told h = tt
+-- what is said of the refusal that is told
+pub or_told : (P : Result TemplateFile TmplRefusal → Type 0) (r told : TmplRefusal) → OrNoMemory r told → P (Err told) → UnlessNoMemory P (Err r)
+or_told P (TooLong at) told h p = subst (λ e. P (Err e)) (sym h) p
+or_told P (Expected at) told h p = subst (λ e. P (Err e)) (sym h) p
+or_told P (Unclosed at) told h p = subst (λ e. P (Err e)) (sym h) p
+or_told P (Twice at) told h p = subst (λ e. P (Err e)) (sym h) p
+or_told P (TooDeep at) told h p = subst (λ e. P (Err e)) (sym h) p
+or_told P (UnknownVariable at) told h p = subst (λ e. P (Err e)) (sym h) p
+or_told P (Unknown at) told h p = subst (λ e. P (Err e)) (sym h) p
+or_told P (TooLarge at) told h p = subst (λ e. P (Err e)) (sym h) p
+or_told P NoMemory told h p = tt
 
 told_itself : (r : TmplRefusal) → OrNoMemory r r
 told_itself (TooLong at) = refl
@@ -36,28 +44,35 @@ told_itself (Unclosed at) = refl
 told_itself (Twice at) = refl
 told_itself (TooDeep at) = refl
 told_itself (UnknownVariable at) = refl
+told_itself (Unknown at) = refl
+told_itself (TooLarge at) = refl
 told_itself NoMemory = tt
 
-module _ (items : List Item) (doubled : Option ℕ) (is : doubled ≡ twice items) where
-  pub whole_exact : (entries : List Entry) (result : Result Templates TmplRefusal) → read_file items ≡ Read entries [] → GivesTemplates (whole_answer doubled entries) result → UnlessNoMemory (IsItemsAnswer items) result
-  whole_exact entries result e h = found items (Whole entries) result (is_spelled items entries e) (subst (λ d. GivesTemplates (whole_answer d entries) result) is h)
+pub is_told : (P : Result TemplateFile TmplRefusal → Type 0) (r : TmplRefusal) → P (Err r) → UnlessNoMemory P (Err r)
+is_told P r p = or_told P r r (told_itself r) p
 
-  pub whole_only : (entries : List Entry) (result : Result Templates TmplRefusal) → read_file items ≡ Read entries [] → GivesTemplates (whole_answer doubled entries) result → (others : List Entry) → within items others → GivesTemplates (whole_answer (twice items) others) result
-  whole_only entries result e h others k =
-      let again : read_file items ≡ Read others [] = is_only items others k in
-      let same : entries ≡ others = cc in
-      subst (λ es. GivesTemplates (whole_answer (twice items) es) result) same (subst (λ d. GivesTemplates (whole_answer d entries) result) is h)
+-- an answer that must be this one
+pub gives : (P : Result TemplateFile TmplRefusal → Type 0) (s : Result TemplateFile TmplRefusal) → ((r : Result TemplateFile TmplRefusal) → P r → s ≡ r) → (r : Result Templates TmplRefusal) → UnlessNoMemory P r → GivesTemplates s r
+gives P s one (Ok t) h = one _ h
+gives P s one (Err (TooLong at)) h = one _ h
+gives P s one (Err (Expected at)) h = one _ h
+gives P s one (Err (Unclosed at)) h = one _ h
+gives P s one (Err (Twice at)) h = one _ h
+gives P s one (Err (TooDeep at)) h = one _ h
+gives P s one (Err (UnknownVariable at)) h = one _ h
+gives P s one (Err (Unknown at)) h = one _ h
+gives P s one (Err (TooLarge at)) h = one _ h
+gives P s one (Err NoMemory) h = tt
 
-  pub unfit_exact : (rest : List Item) (r : TmplRefusal) → read_file items ≡ Stuck rest → OrNoMemory r (unfit_answer doubled items rest) → UnlessNoMemory (IsItemsAnswer items) (Err r)
-  unfit_exact rest r e h = found items (Unfit rest) (Err r) (is_fault items rest e) (refused r (unfit_answer (twice items) items rest) (subst (λ d. OrNoMemory r (unfit_answer d items rest)) is h))
+module _ (first : Option Met) (templates : List (List Item)) (items : List Item) where
+  abbrev IsAnswer : Result TemplateFile TmplRefusal → Type 0
+  IsAnswer = IsWrittenAnswer first templates items
 
-  pub beyond_exact : (rest : List Item) (r : TmplRefusal) → read_file items ≡ Past rest → r ≡ beyond_answer doubled rest → UnlessNoMemory (IsItemsAnswer items) (Err r)
-  beyond_exact rest r e h =
-      let told : r ≡ beyond_answer (twice items) rest = h ∙ ap (λ d. beyond_answer d rest) is in
-      found items (Beyond rest) (Err r) (is_past items rest e) (refused r (beyond_answer (twice items) rest) (subst (OrNoMemory r) told (told_itself r)))
+  pub whole_exact : (entries : List Entry) (result : Result Templates TmplRefusal) → read_file items ≡ Read entries [] → UnlessNoMemory (IsWholeAnswer first templates) result → UnlessNoMemory IsAnswer result
+  whole_exact entries result e h = unless_map (IsWholeAnswer first templates) IsAnswer (λ r k. (Whole entries, is_spelled items entries e, k)) result h
 
-  pub unfit_only : (rest : List Item) (result : Result Templates TmplRefusal) → read_file items ≡ Stuck rest → (others : List Entry) → within items others → GivesTemplates (whole_answer (twice items) others) result
-  unfit_only rest result e others k = let again : read_file items ≡ Read others [] = is_only items others k in absurd cc
+  pub unfit_exact : (rest : List Item) (r : TmplRefusal) → read_file items ≡ Stuck rest → OrNoMemory r (unfit_answer first items rest) → UnlessNoMemory IsAnswer (Err r)
+  unfit_exact rest r e h = or_told IsAnswer r (unfit_answer first items rest) h (Unfit rest, is_fault items rest e, refl)
 
-  pub beyond_only : (rest : List Item) (result : Result Templates TmplRefusal) → read_file items ≡ Past rest → (others : List Entry) → within items others → GivesTemplates (whole_answer (twice items) others) result
-  beyond_only rest result e others k = let again : read_file items ≡ Read others [] = is_only items others k in absurd cc
+  pub beyond_exact : (rest : List Item) (r : TmplRefusal) → read_file items ≡ Past rest → r ≡ beyond_answer first rest → UnlessNoMemory IsAnswer (Err r)
+  beyond_exact rest r e h = is_told IsAnswer r (Beyond rest, is_past items rest e, ap Err h)

@@ -22,7 +22,7 @@ use Rattle.template_tags.specs.declared.settings.Setting.{Setting}
 use Rattle.template_tags.specs.declared.settings.Setting.TheVariants as setting
 use Rattle.template_tags.specs.declared.settings.Settings.{Settings}
 use Rattle.template_tags.specs.Terminals.{number, is_mark_kind, text_value, dot_value, equals_value, name_value, quoted_value, label_value, joined_value, constant_value, direction_value, not_value, in_value, compare_value, setting_value, mode_of, order_of, no_settings, loop_settings, variable_value, known_value}
-use Rattle.template_tags.specs.Tag.{mark, dotted, word, joined_word, from, here, here_of, collection, of_loop, expr, setting_key, setting_order, setting_delimiter, setting_label, with_embed, with_link, set, no_more_settings, settings}
+use Rattle.template_tags.specs.Tag.{mark, dotted, word, joined_word, from, here, here_of, collection, of_loop, expr, setting_key, setting_order, setting_delimiter, setting_label, with_embed, with_link, with_writing, set, no_more_settings, settings}
 use Rattle.template_reader.specs.Template.{text_part, chain, body_of, compared, not_compared, comparison, no_other, other_branch, branches, format_part, leaf, tested, negated_test, choice_rest, repeat_rest, block, body, Entry, is_sort, named_value, collection_head, function_head, head_rest, template, within}
 
 -- an item that marks no fault
@@ -187,6 +187,7 @@ set_kept s setting.Order = order_kept s
 set_kept s setting.Delimiter = delimiter_kept s
 set_kept s setting.Embed = give (with_embed s)
 set_kept s setting.Link = or (label_kept s) (give (with_link s))
+set_kept s (setting.Writing w) = give (with_writing s w)
 
 close_kept : (s : Settings) → Keeps (no_more_settings s)
 close_kept s = do

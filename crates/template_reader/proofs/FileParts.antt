@@ -1,5 +1,5 @@
 -- The parts of a whole file.
-use Rattle.std.proofs.Common.{◌≡◌, ℕ, ◌+◌, ◌<◌, ◌≤◌, arith, Bool, true, false, List, [], ◌∷◌, length, None, refl, sym, ap, subst, ◌∙◌, length-append}
+use Rattle.std.proofs.Common.{◌≡◌, ℕ, ◌<◌, ◌≤◌, arith, Bool, true, false, List, [], None, refl, sym, ap, subst, ◌∙◌}
 use Rattle.std.proofs.lemmas.List.{append-nil}
 use Rattle.std.specs.Option.{is_some}
 use Rattle.std.specs.Prelude.{if◌then◌else◌}
@@ -99,23 +99,6 @@ is_fault = is_first_fault IsReal within spelled read_file file_part.reads
 
 pub is_past : (items rest : List Item) → read_file items ≡ Past rest → FirstPast IsReal within spelled items rest
 is_past = is_first_past IsReal within spelled read_file file_part.reads
-
--- ---- no file has more templates than items
-
-template_some : (B : List Item → Body → Type 0) (x : List Item) (v : Entry) → template B x v → 1 ≤ length x
-template_some B x v h =
-    let parts : length x ≡ length h.0 + length h.1 = ap length h.3 ∙ length-append h.0 h.1 in
-    let first : length h.0 ≡ 1 = ap length h.4.1 in
-    omega (arith, parts, first)
-
-many_few : (B : List Item → Body → Type 0) (x : List Item) (vs : List Entry) → many (template B) x vs → length vs ≤ length x
-many_few B x [] h = omega arith
-many_few B x (v ∷ vs) h =
-    let parts : length x ≡ length h.0 + length h.1 = ap length h.2 ∙ length-append h.0 h.1 in
-    omega (arith, parts, template_some B h.0 v h.3, many_few B h.1 vs h.4)
-
-pub are_few : (items : List Item) (found : List Entry) → read_file items ≡ Read found [] → length found ≤ length items
-are_few items found e = many_few (body expr 32 []) items found (is_spelled items found e)
 
 -- the loop over templates
 pub entry_part : Part IsReal (template (body expr 32 [])) (template (body any_expr 33 [])) Always read_template

@@ -7,3 +7,4 @@ pub mod Answer
 pub mod Faultless
 pub mod Scanned
 pub mod TemplateFiles
+pub mod Made

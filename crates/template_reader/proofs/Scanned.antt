@@ -9,14 +9,19 @@ use Rattle.sd_lex.specs.Lexing.{IsTokenOrFault}
 use Rattle.sd_lex.proofs.Lexemes.{lexeme_found}
 use Rattle.grammar.specs.Fault.{Every}
 use Rattle.template_items.specs.declared.item.Mark.{Mark}
+use Rattle.template_items.specs.declared.item.Mark.TheVariants.{OpenNote}
 use Rattle.template_items.specs.declared.item.Item.{Item}
 use Rattle.template_items.specs.declared.item.Mode.{Mode}
 use Rattle.template_items.specs.declared.item.Mode.TheVariants.{Between, Body, Inside}
 use Rattle.template_items.specs.declared.item.State.{State}
 use Rattle.template_items.specs.declared.item.Front.{Front}
 use Rattle.template_items.specs.declared.item.Front.TheVariants.{Passes, Finds, Ends}
-use Rattle.template_items.specs.Scanning.{tag_at, text_before, text_run, opens, front_between, front_tag, front_body, front_token, front_inside, front_in, front, last_items, Scans, passes, finds, ends}
+use Rattle.template_items.specs.Scanning.{begins, note_run, noted, front_mark, tag_at, text_before, text_run, opens, front_between, front_tag, front_body, front_token, front_inside, front_in, front, last_items, Scans, passes, finds, ends}
 use Rattle.template_tags.specs.Terminals.{IsReal}
+use Rattle.template_reader.specs.declared.written.View.{View}
+use Rattle.template_reader.specs.declared.written.Role.{Role}
+use Rattle.template_reader.specs.declared.written.Role.TheVariants as roles
+use Rattle.template_reader.specs.Written.{role_of, next, acts, shown_by, and_item, viewed}
 use Rattle.template_reader.proofs.Faultless.{IsNoFault}
 
 -- an item that a text can have, unless it marks a fault
@@ -34,16 +39,28 @@ either_way : (b : Bool) (f g : Front) → IsUsualFront f → IsUsualFront g → 
 either_way true f g h k = h
 either_way false f g h k = k
 
+usual_note : (s : State) (o : Option ℕ) → IsUsualFront (noted s o)
+usual_note s (Some n) = tt
+usual_note s None = λ none. none
+
 usual_between : (s : State) (bytes : List ℕ) → IsUsualFront (front_between s bytes)
 usual_between s [] = tt
-usual_between s (b ∷ bytes) = either_way (is_blank b) _ _ tt (either_way (opens (codes "<TEMPLATE") (b ∷ bytes)) _ _ (λ none. none) (λ none. none))
+usual_between s (b ∷ bytes) =
+    either_way (is_blank b) _ _ tt (either_way (begins (codes "<SNOTE>") (b ∷ bytes)) _ _ (usual_note s (note_run (drop 7 (b ∷ bytes))))
+    (either_way (opens (codes "<TEMPLATE") (b ∷ bytes)) _ _ (λ none. none)
+    (either_way (opens (codes "<LAYOUT") (b ∷ bytes)) _ _ (λ none. none)
+    (either_way (opens (codes "<FRAGMENT") (b ∷ bytes)) _ _ (λ none. none) (λ none. none)))))
 
 -- where no tag stands, there is some text
 some_text : (b : ℕ) (bytes : List ℕ) (n : ℕ) → n ≡ text_run bytes + 1 → take n (b ∷ bytes) ≡ [] → ⊥
 some_text b bytes n is e = let more : take n (b ∷ bytes) ≡ b ∷ take (text_run bytes) bytes = ap (λ m. take m (b ∷ bytes)) (is ∙ add-one (text_run bytes)) in cc
 
+usual_mark : (s : State) (bytes : List ℕ) (m : Mark) (n : ℕ) → IsUsualFront (front_mark s bytes m n)
+usual_mark s bytes OpenNote n = usual_note s (note_run (drop 7 bytes))
+usual_mark s bytes m n = λ none. none
+
 usual_tag : (s : State) (b : ℕ) (bytes : List ℕ) (tag : Option (Mark × ℕ)) → tag_at (b ∷ bytes) ≡ tag → IsUsualFront (front_tag s (b ∷ bytes) tag)
-usual_tag s b bytes (Some (m, n)) is = λ none. none
+usual_tag s b bytes (Some (m, n)) is = usual_mark s (b ∷ bytes) m n
 usual_tag s b bytes None is = λ none. some_text b bytes (text_run (b ∷ bytes)) (ap (λ t. text_before t (text_run bytes)) is)
 
 usual_body : (s : State) (bytes : List ℕ) → IsUsualFront (front_body s bytes)
@@ -76,3 +93,20 @@ pub items_usual : (bytes : List ℕ) {s : State} {items : List Item} → Scans b
 items_usual bytes (passes next e h) = items_usual bytes h
 items_usual bytes {s} (finds item next more e is h) = subst (Every IsUsual) (sym is) (usual_front bytes s (Finds item next) e, items_usual bytes h)
 items_usual bytes {s} (ends last e is) = subst (Every IsUsual) (sym is) (usual_last last (usual_front bytes s (Ends last) e))
+
+-- ---- the same where nothing is put in
+
+usual_and : (r : Role) (i : Item) (rest : List Item) → IsUsual i → Every IsUsual rest → Every IsUsual (and_item (shown_by r i) rest)
+usual_and roles.Kept i rest h k = (h, k)
+usual_and roles.Opens i rest h k = ((λ none. none), k)
+usual_and roles.Titles i rest h k = (h, k)
+usual_and roles.Closes i rest h k = (h, k)
+usual_and roles.Precedes i rest h k = k
+usual_and roles.Includes i rest h k = k
+usual_and roles.Follows i rest h k = k
+usual_and roles.Ends i rest h k = ((λ none. none), k)
+usual_and roles.Misplaced i rest h k = ((λ none. none), k)
+
+pub viewed_usual : (v : View) (items : List Item) → Every IsUsual items → Every IsUsual (viewed (acts v items))
+viewed_usual v [] h = tt
+viewed_usual v (i ∷ items) h = usual_and (role_of v i) i (viewed (acts (next v i (role_of v i)) items)) h.0 (viewed_usual (next v i (role_of v i)) items h.1)

@@ -1,5 +1,5 @@
 -- Templates as they are in the file, and the file that they make.
-use Rattle.std.specs.Prelude.{◌≡◌, ℕ, ◌+◌, Bool, true, false, List, [], ◌∷◌, map, if◌then◌else◌, Result, Ok, Err}
+use Rattle.std.specs.Prelude.{◌≡◌, ℕ, ◌+◌, Bool, true, false, List, [], ◌∷◌, map, if◌then◌else◌, Option, Some, None, Result, Ok, Err}
 use Rattle.std.specs.Global.{Vec}
 use Rattle.grammar.specs.Reading.{Outcome, Read}
 use Rattle.template_items.specs.declared.item.Item.{Item}
@@ -8,7 +8,8 @@ use Rattle.template_reader.specs.declared.file.Head as declared_head
 use Rattle.template_reader.specs.declared.file.Entry as declared_entry
 use Rattle.token_reader.specs.declared.halt.Halt.{Halt}
 use Rattle.token_reader.specs.Gives.{Fails}
-use Rattle.template_reader.specs.Template.{Head, Entry}
+use Rattle.template_tags.specs.Tag.{expr}
+use Rattle.template_reader.specs.Template.{body, template, Head, Entry}
 
 -- the head that the reader found
 abbrev pub head_of : declared_head.Head → Head
@@ -44,3 +45,15 @@ file_from entries = record {
   functions = named_from false 0 entries;
   collections = named_from true 0 entries;
 }
+
+-- The items of each of these are a template.
+abbrev pub AreRead : List (List Item) → List Entry → Type 0
+AreRead [] [] = Unit {0}
+AreRead (t ∷ templates) (e ∷ entries) =
+    template (body expr 32 []) t e × AreRead templates entries
+AreRead templates entries = ⊥
+
+-- the templates that the reader found, if each of these is one
+abbrev pub AreEntries : List (List Item) → Option (Vec declared_entry.Entry) → Type 0
+AreEntries templates None = (entries : List Entry) → AreRead templates entries → ⊥
+AreEntries templates (Some v) = AreRead templates (map entry_of v.items)

@@ -17,9 +17,12 @@ use Rattle.template_reader.specs.declared.refusal.TmplRefusal.{TmplRefusal}
 use Rattle.template_reader.specs.declared.refusal.TmplRefusal.TheVariants.{TooLong, Expected, Unclosed, Twice}
 use Rattle.template_reader.specs.declared.refusal.TmplRefusal.TheVariants.{TooDeep, UnknownVariable, NoMemory}
 use Rattle.template_tags.specs.Terminals.{is_mark, name_value, IsReal}
+use Rattle.template_reader.specs.declared.met.Met.{Met}
 use Rattle.template_reader.specs.Template.{Entry, named_value, within, spelled}
+use Rattle.template_reader.specs.Together.{Above, together}
+use Rattle.template_reader.specs.Written.{acts, first_view, viewed}
 use Rattle.template_reader.specs.Reading.{is_block}
-use Rattle.template_reader.specs.Entries.{file_from}
+use Rattle.template_reader.specs.Entries.{file_from, AreRead}
 
 -- ---- names that occur twice
 
@@ -159,45 +162,91 @@ IsEnding items (Whole entries) = within items entries
 IsEnding items (Unfit rest) = FirstFault IsReal within spelled items rest
 IsEnding items (Beyond rest) = FirstPast IsReal within spelled items rest
 
--- the fault at this place, unless a name occurs twice before it
-abbrev pub unless_before : Option ℕ → ℕ → TmplRefusal → TmplRefusal
-unless_before None place refusal = refusal
-unless_before (Some at) place refusal = if nat_lt at place then Twice at else refusal
+-- a name that occurs twice, and where it is met
+abbrev pub twice_met : Option ℕ → Option Met
+twice_met None = None
+twice_met (Some at) = Some (record { place = at; refusal = Twice at })
 
--- a title that occurs twice comes first
-abbrev pub unless_twice : Option ℕ → TmplRefusal → TmplRefusal
-unless_twice None refusal = refusal
-unless_twice (Some at) refusal = Twice at
+-- what is met while fragments are put in
+abbrev pub stopped : Result Above Met → Option Met
+stopped (Ok above) = None
+stopped (Err m) = Some m
+
+-- the one that is met first
+abbrev pub earlier : Option Met → Option Met → Option Met
+earlier None other = other
+earlier (Some m) None = Some m
+earlier (Some m) (Some n) = if nat_lt n.place m.place then Some n else Some m
+
+-- what is met first: a name that occurs twice, or a fragment that can't be put in
+abbrev pub met : List Item → Option Met
+met items = earlier (twice_met (twice items)) (stopped (together items))
+
+-- the templates with each fragment put in
+abbrev pub templates_of : Result Above Met → List (List Item)
+templates_of (Ok above) = above.templates
+templates_of (Err m) = []
+
+-- the items where nothing is put in
+abbrev pub written : List Item → List Item
+written items = viewed (acts first_view items)
+
+-- the fault at this place, unless another is met before it
+abbrev pub unless_before : Option Met → ℕ → TmplRefusal → TmplRefusal
+unless_before None place refusal = refusal
+unless_before (Some m) place refusal = if nat_lt m.place place then m.refusal else refusal
+
+-- a fault that is met comes first
+abbrev pub unless_met : Option Met → TmplRefusal → TmplRefusal
+unless_met None refusal = refusal
+unless_met (Some m) refusal = m.refusal
 
 -- a tag goes too deep, and a name is an unknown variable
 abbrev pub past_at : Item → TmplRefusal
 past_at i = if is_block i then TooDeep i.place else UnknownVariable i.place
 
--- the answer to items that are whole
-abbrev pub whole_answer : Option ℕ → List Entry → Result TemplateFile TmplRefusal
-whole_answer None entries = Ok (file_from entries)
-whole_answer (Some at) entries = Err (Twice at)
+-- a note is never closed, and any other item doesn't fit
+abbrev pub unfit_at : Item → TmplRefusal
+unfit_at i = if is_mark marks.OpenNote i then Unclosed i.place else Expected i.place
+
+-- The file of these templates. Bodies that fit are put into bodies that fit, and tags don't go too deep with them, so
+-- the second case doesn't occur.
+abbrev pub IsMade : List (List Item) → Result TemplateFile TmplRefusal → Type 0
+IsMade templates r =
+    ((entries : List Entry) × AreRead templates entries × (r ≡ Ok (file_from entries)))
+    ⊎ (((entries : List Entry) → AreRead templates entries → ⊥) × (r ≡ Err (Expected 0)))
+
+-- the answer where all items fit
+abbrev pub IsWholeAnswer : Option Met → List (List Item) → Result TemplateFile TmplRefusal → Type 0
+IsWholeAnswer None templates r = IsMade templates r
+IsWholeAnswer (Some m) templates r = r ≡ Err m.refusal
 
 -- the answer where an item doesn't fit
-abbrev pub unfit_answer : Option ℕ → List Item → List Item → TmplRefusal
-unfit_answer doubled items [] = unless_twice doubled (Unclosed (innermost items))
-unfit_answer doubled items (i ∷ rest) = unless_before doubled i.place (Expected i.place)
+abbrev pub unfit_answer : Option Met → List Item → List Item → TmplRefusal
+unfit_answer first items [] = unless_met first (Unclosed (innermost items))
+unfit_answer first items (i ∷ rest) = unless_before first i.place (unfit_at i)
 
 -- the answer where an item passes a limit
-abbrev pub beyond_answer : Option ℕ → List Item → TmplRefusal
-beyond_answer doubled [] = NoMemory
-beyond_answer doubled (i ∷ rest) = unless_before doubled i.place (past_at i)
+abbrev pub beyond_answer : Option Met → List Item → TmplRefusal
+beyond_answer first [] = NoMemory
+beyond_answer first (i ∷ rest) = unless_before first i.place (past_at i)
 
--- what items that end so are answered, where a name occurs twice at this place or none does
-abbrev pub answer : Option ℕ → List Item → Ending → Result TemplateFile TmplRefusal
-answer doubled items (Whole entries) = whole_answer doubled entries
-answer doubled items (Unfit rest) = Err (unfit_answer doubled items rest)
-answer doubled items (Beyond rest) = Err (beyond_answer doubled rest)
+-- what items that end so are answered, where `first` is met first and these are the templates
+abbrev pub IsAnswerBy : Option Met → List (List Item) → List Item → Ending
+    → Result TemplateFile TmplRefusal → Type 0
+IsAnswerBy first templates items (Whole entries) r = IsWholeAnswer first templates r
+IsAnswerBy first templates items (Unfit rest) r = r ≡ Err (unfit_answer first items rest)
+IsAnswerBy first templates items (Beyond rest) r = r ≡ Err (beyond_answer first rest)
 
--- the answer to items, if there is memory
+-- the answer to the items where nothing is put in
+abbrev pub IsWrittenAnswer : Option Met → List (List Item) → List Item
+    → Result TemplateFile TmplRefusal → Type 0
+IsWrittenAnswer first templates items r =
+    (ending : Ending) × IsEnding items ending × IsAnswerBy first templates items ending r
+
+-- The answer to items, if there is memory. Their own ending is that where nothing is put in.
 abbrev pub IsItemsAnswer : List Item → Result TemplateFile TmplRefusal → Type 0
-IsItemsAnswer items r =
-    (ending : Ending) × IsEnding items ending × (r ≡ answer (twice items) items ending)
+IsItemsAnswer items = IsWrittenAnswer (met items) (templates_of (together items)) (written items)
 
 -- the items of bytes that are no more than the limit; each text among them ends within the bytes
 pub record AreItemsOf (limit : ℕ) (bytes : List ℕ) (items : List Item) : Type 0 where

@@ -1,6 +1,6 @@
 -- Reading a file of templates from left to right.
 use Rattle.std.specs.Prelude.{ℕ, zero, suc, Bool, true, false, ◌||◌, List, [], ◌∷◌, ◌++◌, Option, Some, None}
-use Rattle.grammar.specs.Reading.{Outcome, Past, and_then, ◌>>=◌, ◌>>◌, give, finish, take_one, choose}
+use Rattle.grammar.specs.Reading.{Outcome, Read, Past, and_then, ◌>>=◌, ◌>>◌, give, finish, take_one, choose}
 use Rattle.grammar.specs.Reading as reading
 use Rattle.std.specs.Option.{is_some}
 use Rattle.template_items.specs.declared.item.Item.{Item}
@@ -202,6 +202,11 @@ read_template = do
   b ← read_body 32 []
   read_mark marks.EndTemplate
   give (record { of_collection = h.of_collection; name = h.name; body = b })
+
+-- the template, if all items were read
+abbrev pub whole_of : Outcome Item Entry → Option Entry
+whole_of (Read e []) = Some e
+whole_of outcome = None
 
 -- a whole file
 unfoldable pub read_file : List Item → Outcome Item (List Entry)

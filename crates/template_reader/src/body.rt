@@ -22,7 +22,7 @@ use template_tags::{
     Bound, Settings, compare_at, constant_at, expression_at, has_compare, has_mark, has_not,
     has_text, in_at, mark_at, mode_and_order, not_at, settings_at, text_at, variable_at,
 };
-use tmpl::{Against, Choice, Expr, Format, Mode, Order, Part, Repeat};
+use tmpl::{Against, Choice, Expr, Format, Mode, Order, Part, Repeat, Writing};
 use token_reader::Halt;
 
 #[tactic(auto, unfolding(crate::specs::Reading::read_text))]
@@ -53,7 +53,7 @@ fn loop_settings() -> Settings
         key: None,
         descend: None,
         delimiter: None,
-        mode: Some(Mode::Plain),
+        mode: Some(Mode::Written(Writing::Escaped)),
     }
 }
 

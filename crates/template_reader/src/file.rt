@@ -1,6 +1,6 @@
 //! Templates, one after another.
 
-ghost use Rattle.std.specs.Prelude.{◌≡◌, true, map, option_copied};
+ghost use Rattle.std.specs.Prelude.{◌≡◌, true, map, option_copied, option_map, IfOk};
 ghost use Rattle.grammar.specs.Reading.{take_one, starts};
 ghost use Rattle.grammar.specs.Reading as reading;
 ghost use Rattle.template_items.specs.declared.item.Mark.TheVariants as marks;
@@ -9,11 +9,11 @@ ghost use Rattle.template_tags.specs.Terminals.{is_mark, label_value};
 ghost use Rattle.template_reader.specs.Template.{is_sort, named_value};
 ghost use Rattle.template_reader.specs.Entries.{head_of, entry_of, GivesAll};
 ghost use Rattle.template_reader.specs.Reading.{read_collection_head, read_function_head, read_named_head, is_named};
-ghost use Rattle.template_reader.specs.Reading.{read_head_rest, read_template, read_file};
+ghost use Rattle.template_reader.specs.Reading.{read_head_rest, read_template, whole_of, read_file};
 
 use crate::body::body_at;
 use sd_lex::TokenKind;
-use sd_value::Str;
+use sd_value::{NoMemory, Str};
 use std::alloc::Global;
 use template_items::{Item, ItemKind, Mark};
 use template_tags::{has_mark, mark_at, name_at};
@@ -162,6 +162,21 @@ fn templates_at(alloc: Global, items: &[Item]) -> Result<(Vec<Entry>, &[Item]), 
         rest = after;
     }
     Ok((entries, rest))
+}
+
+/// A template alone, if the items are one.
+pub fn alone(alloc: Global, items: &[Item]) -> Result<Option<Entry>, NoMemory>
+    ensures { IfOk result (λ o. option_map entry_of o ≡ whole_of (read_template items.now)) }
+{
+    match template_at(alloc, items) {
+        Ok((entry, rest)) => match rest {
+            [] => Ok(Some(entry)),
+            [_, ..] => Ok(None),
+        },
+        Err(Halt::Expected(_)) => Ok(None),
+        Err(Halt::TooDeep(_)) => Ok(None),
+        Err(Halt::NoMemory) => Err(NoMemory),
+    }
 }
 
 /// A whole file.

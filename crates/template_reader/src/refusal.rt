@@ -14,12 +14,16 @@ pub enum TmplRefusal {
     Expected(u64),
     /// The text ends in a body; here is the innermost tag that is still open.
     Unclosed(u64),
-    /// A template of the same sort has this name before.
+    /// A template of the same sort, or a fragment, has this name before.
     Twice(u64),
     /// More than 32 tags `<SIF` and `<SFOR` are open at once.
     TooDeep(u64),
     /// No loop round it has this variable.
     UnknownVariable(u64),
+    /// No fragment above has this name.
+    Unknown(u64),
+    /// The templates up to the one of this name have more bytes than the limit, with what is put in.
+    TooLarge(u64),
     NoMemory,
 }
 

@@ -1,20 +1,27 @@
 //! The reader of a file of templates.
 
-ghost use Rattle.std.specs.Prelude.{◌≡◌, ◌≢◌, ◌<◌, ◌≤◌, ◌^◌, ◌++◌, ◌∷◌, [], List, length, map, IfErr, IfOk};
+ghost use Rattle.std.specs.Prelude.{◌≡◌, ◌≢◌, ℕ, ◌<◌, ◌≤◌, ◌^◌, ◌++◌, ◌∷◌, [], List, length, map, IfErr, IfOk, Result};
 ghost use Rattle.template_items.specs.declared.item.Item.{Item as AnyItem};
 ghost use Rattle.template_items.specs.Scanning.{AreItems};
+ghost use Rattle.tmpl.specs.Body.{TemplateFile};
 ghost use Rattle.tmpl.specs.Reading.{file_of};
-ghost use Rattle.template_reader.specs.Template.{Entry as PlainEntry, within};
+ghost use Rattle.template_reader.specs.Template.{Entry as PlainEntry};
 ghost use Rattle.template_reader.specs.Reading.{is_block};
-ghost use Rattle.template_reader.specs.Entries.{entry_of, file_from};
-ghost use Rattle.template_reader.specs.Faults.{twice, unless_before, unless_twice, past_at, whole_answer};
-ghost use Rattle.template_reader.specs.Faults.{unfit_answer, beyond_answer, IsItemsAnswer, IsTemplatesAnswer, UnlessNoMemory};
+ghost use Rattle.template_reader.specs.Written.{acts, first_view};
+ghost use Rattle.template_reader.specs.Together.{items_of, together};
+ghost use Rattle.template_reader.specs.Entries.{entry_of, file_from, AreEntries};
+ghost use Rattle.template_reader.specs.Faults.{twice_met, earlier, met, templates_of, unless_before, unless_met};
+ghost use Rattle.template_reader.specs.Faults.{past_at, unfit_at, unfit_answer, beyond_answer, IsMade, IsWholeAnswer};
+ghost use Rattle.template_reader.specs.Faults.{IsWrittenAnswer, IsItemsAnswer, IsTemplatesAnswer, UnlessNoMemory};
 ghost use Rattle.template_reader.specs.Faults.{GivesTemplates, OrNoMemory, AreItemsOf, IsTooLong};
 ghost use Rattle.template_reader.specs.Filed.{Filed};
 
-use crate::file::{Entry, file_at};
+use crate::file::{Entry, alone, file_at};
+use crate::met::{Halted, Met};
 use crate::refusal::TmplRefusal;
 use crate::titles::{innermost, is_mark, twice};
+use crate::together::together;
+use crate::written::{Act, acts, viewed};
 use sd_value::NoMemory;
 use std::alloc::Global;
 use template_items::{Item, Mark, items};
@@ -73,14 +80,40 @@ fn filed(alloc: Global, entries: Vec<Entry>) -> Result<Templates, NoMemory>
     Ok(Templates::of(functions, collections, bodies))
 }
 
-/// The fault at this place, unless a name occurs twice before it.
-fn unless_before(doubled: Option<u64>, place: u64, refusal: TmplRefusal) -> TmplRefusal
-    ensures { result ≡ unless_before doubled place refusal }
+/// A name that occurs twice, and where it is met.
+fn twice_met(doubled: Option<u64>) -> Option<Met>
+    ensures { result ≡ twice_met doubled }
 {
     match doubled {
-        Some(at) => {
-            if at < place {
-                TmplRefusal::Twice(at)
+        Some(place) => Some(Met {
+            place,
+            refusal: TmplRefusal::Twice(place),
+        }),
+        None => None,
+    }
+}
+
+/// The one that is met first.
+fn earlier(one: Option<Met>, other: Option<Met>) -> Option<Met>
+    ensures { result ≡ earlier one other }
+{
+    match one {
+        None => other,
+        Some(m) => match other {
+            None => Some(m),
+            Some(n) => { if n.place < m.place { Some(n) } else { Some(m) } }
+        },
+    }
+}
+
+/// The fault at this place, unless another is met before it.
+fn unless_before(first: Option<Met>, place: u64, refusal: TmplRefusal) -> TmplRefusal
+    ensures { result ≡ unless_before first place refusal }
+{
+    match first {
+        Some(met) => {
+            if met.place < place {
+                met.refusal
             } else {
                 refusal
             }
@@ -89,11 +122,11 @@ fn unless_before(doubled: Option<u64>, place: u64, refusal: TmplRefusal) -> Tmpl
     }
 }
 
-fn unless_twice(doubled: Option<u64>, refusal: TmplRefusal) -> TmplRefusal
-    ensures { result ≡ unless_twice doubled refusal }
+fn unless_met(first: Option<Met>, refusal: TmplRefusal) -> TmplRefusal
+    ensures { result ≡ unless_met first refusal }
 {
-    match doubled {
-        Some(at) => TmplRefusal::Twice(at),
+    match first {
+        Some(met) => met.refusal,
         None => refusal,
     }
 }
@@ -115,57 +148,128 @@ fn past_at(item: &Item) -> TmplRefusal
     }
 }
 
-/// The answer to a whole file.
-fn whole(alloc: Global, doubled: Option<u64>, entries: Vec<Entry>) -> Result<Templates, TmplRefusal>
-    requires { length entries.items ≤ 2 ^ 32 }
-    ensures { GivesTemplates (whole_answer doubled (map entry_of entries.items)) result }
+/// What is told of an item that doesn't fit: a note is never closed, and any other item isn't expected.
+fn unfit_at(item: &Item) -> TmplRefusal
+    ensures { result ≡ unfit_at item.now }
 {
-    if let Some(at) = doubled {
-        return Err(TmplRefusal::Twice(at));
+    if is_mark(item, Mark::OpenNote) {
+        TmplRefusal::Unclosed(item.place)
+    } else {
+        TmplRefusal::Expected(item.place)
     }
-    match filed(alloc, entries) {
-        Ok(templates) => Ok(templates),
-        Err(NoMemory) => Err(TmplRefusal::NoMemory),
+}
+
+/// The templates that these are, if each is one.
+fn entries_of(alloc: Global, templates: &[Vec<Item>]) -> Result<Option<Vec<Entry>>, NoMemory>
+    ensures { IfOk result (AreEntries (map items_of templates.now)) }
+{
+    let mut entries = Vec::new(alloc);
+    for items in templates {
+        match alone(alloc, items)? {
+            Some(entry) => entries.push(entry)?,
+            None => return Ok(None),
+        }
+    }
+    Ok(Some(entries))
+}
+
+/// The file of templates that these are.
+fn made(alloc: Global, templates: &[Vec<Item>]) -> Result<Templates, TmplRefusal>
+    requires { length templates.now ≤ 2 ^ 32 }
+    ensures { UnlessNoMemory (IsMade (map items_of templates.now)) result }
+{
+    match entries_of(alloc, templates)? {
+        Some(entries) => {
+            let templates = filed(alloc, entries)?;
+            Ok(templates)
+        }
+        None => Err(TmplRefusal::Expected(0)),
+    }
+}
+
+/// The answer where all items fit.
+fn whole(
+    alloc: Global,
+    first: Option<Met>,
+    templates: &[Vec<Item>],
+) -> Result<Templates, TmplRefusal>
+    requires { length templates.now ≤ 2 ^ 32 }
+    ensures { UnlessNoMemory (IsWholeAnswer first (map items_of templates.now)) result }
+{
+    match first {
+        Some(met) => Err(met.refusal),
+        None => made(alloc, templates),
     }
 }
 
 /// The refusal of items of which the first of `rest` doesn't fit.
-fn unfit(alloc: Global, doubled: Option<u64>, items: &[Item], rest: &[Item]) -> TmplRefusal
-    ensures { OrNoMemory result (unfit_answer doubled items.now rest.now) }
+fn unfit(alloc: Global, first: Option<Met>, items: &[Item], rest: &[Item]) -> TmplRefusal
+    ensures { OrNoMemory result (unfit_answer first items.now rest.now) }
 {
     match rest {
         [] => match innermost(alloc, items) {
-            Ok(place) => unless_twice(doubled, TmplRefusal::Unclosed(place)),
+            Ok(place) => unless_met(first, TmplRefusal::Unclosed(place)),
             Err(NoMemory) => TmplRefusal::NoMemory,
         },
-        [first, ..] => unless_before(doubled, first.place, TmplRefusal::Expected(first.place)),
+        [item, ..] => unless_before(first, item.place, unfit_at(item)),
     }
 }
 
 /// The refusal of items of which the first of `rest` passes a limit.
-fn beyond(doubled: Option<u64>, rest: &[Item]) -> TmplRefusal
+fn beyond(first: Option<Met>, rest: &[Item]) -> TmplRefusal
     requires { rest.now ≢ [] }
-    ensures { result ≡ beyond_answer doubled rest.now }
+    ensures { result ≡ beyond_answer first rest.now }
 {
     match rest {
         [] => unreachable!(),
-        [first, ..] => unless_before(doubled, first.place, past_at(first)),
+        [item, ..] => unless_before(first, item.place, past_at(item)),
     }
 }
 
-/// The answer to items among which a name occurs twice at `doubled`, or none does.
-fn answer(alloc: Global, items: &[Item], doubled: Option<u64>) -> Result<Templates, TmplRefusal>
-    requires doubled { doubled ≡ twice items.now }
-    requires few { length items.now ≤ 2 ^ 32 }
-    ensures exact { UnlessNoMemory (IsItemsAnswer items.now) result }
-    ensures only { (entries : List PlainEntry) → within items.now entries
-        → GivesTemplates (whole_answer (twice items.now) entries) result }
+/// The answer to items where nothing is put in, where `first` is met first and these are the templates.
+fn answer(
+    alloc: Global,
+    items: &[Item],
+    first: Option<Met>,
+    templates: &[Vec<Item>],
+) -> Result<Templates, TmplRefusal>
+    requires { length templates.now ≤ 2 ^ 32 }
+    ensures { UnlessNoMemory
+        (IsWrittenAnswer first (map items_of templates.now) items.now) result }
 {
     match file_at(alloc, items) {
-        Ok(entries) => whole(alloc, doubled, entries),
-        Err(Halt::Expected(rest)) => Err(unfit(alloc, doubled, items, rest)),
-        Err(Halt::TooDeep(rest)) => Err(beyond(doubled, rest)),
+        Ok(_entries) => whole(alloc, first, templates),
+        Err(Halt::Expected(rest)) => Err(unfit(alloc, first, items, rest)),
+        Err(Halt::TooDeep(rest)) => Err(beyond(first, rest)),
         Err(Halt::NoMemory) => Err(TmplRefusal::NoMemory),
+    }
+}
+
+/// What is met first, and the templates with each fragment put in.
+#[derive(Drop)]
+struct Put {
+    first: Option<Met>,
+    templates: Vec<Vec<Item>>,
+}
+
+/// What is met first among items where these are for this, and their templates.
+fn put_in(alloc: Global, items: &[Item], list: &[Act]) -> Result<Put, NoMemory>
+    requires { list.now ≡ acts first_view items.now }
+    ensures first { IfOk result (λ f. f.first ≡ met items.now) }
+    ensures templates { IfOk result
+        (λ f. map items_of f.templates.items ≡ templates_of (together items.now)) }
+{
+    let doubled = twice_met(twice(alloc, items)?);
+    match together(alloc, list) {
+        Ok(above) => Ok(Put {
+            first: earlier(doubled, None),
+            templates: above.templates,
+        }),
+        Err(Halted::Met(met)) => Ok(Put {
+            first: earlier(doubled, Some(met)),
+            templates: Vec::new(alloc),
+        }),
+        Err(Halted::NoMemory) => Err(NoMemory),
     }
 }
 
@@ -185,17 +289,19 @@ pub fn read_items(alloc: Global, bytes: &[u8], limit: u64) -> Result<Vec<Item>, 
     Ok(items(alloc, bytes)?)
 }
 
-/// The templates of a file of these items, each SFOR of a template numbered from 0 in the order of the text.
+/// The templates of a file of these items, with each fragment put in.
 /// # Errors
-/// The fault with the least place, but that a body is not closed only if there is no other; or out of memory.
+/// The first fault, but that a body or a note is not closed only if there is no other; or out of memory.
 pub fn templates_of(alloc: Global, items: &[Item]) -> Result<Templates, TmplRefusal>
     requires few { length items.now ≤ 2 ^ 32 }
     ensures exact { UnlessNoMemory (IsItemsAnswer items.now) result }
-    ensures only { (entries : List PlainEntry) → within items.now entries
-        → GivesTemplates (whole_answer (twice items.now) entries) result }
+    ensures only { (bytes : List ℕ) (r : Result TemplateFile TmplRefusal) → AreItems bytes items.now
+        → IsItemsAnswer items.now r → GivesTemplates r result }
 {
-    let doubled = twice(alloc, items)?;
-    answer(alloc, items, doubled)
+    let acts = acts(alloc, items)?;
+    let put = put_in(alloc, items, &acts)?;
+    let written = viewed(alloc, &acts)?;
+    answer(alloc, &written, put.first, &put.templates)
 }
 
 /// The templates of a file of at most `limit` bytes, as `templates_of` has them of its items.
@@ -204,9 +310,8 @@ pub fn templates_of(alloc: Global, items: &[Item]) -> Result<Templates, TmplRefu
 pub fn read_templates(alloc: Global, bytes: &[u8], limit: u64) -> Result<Templates, TmplRefusal>
     requires { limit < 2 ^ 32 }
     ensures exact { UnlessNoMemory (IsTemplatesAnswer limit bytes.now) result }
-    ensures only { (items : List AnyItem) (entries : List PlainEntry) → length bytes.now ≤ limit
-        → AreItems bytes.now items → within items entries
-        → GivesTemplates (whole_answer (twice items) entries) result }
+    ensures only { (r : Result TemplateFile TmplRefusal) → IsTemplatesAnswer limit bytes.now r
+        → GivesTemplates r result }
 {
     let items = read_items(alloc, bytes, limit)?;
     templates_of(alloc, &items)

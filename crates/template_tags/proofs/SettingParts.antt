@@ -15,7 +15,7 @@ use Rattle.template_tags.specs.declared.settings.Setting.{Setting}
 use Rattle.template_tags.specs.declared.settings.Setting.TheVariants as setting
 use Rattle.template_tags.specs.declared.settings.Settings.{Settings}
 use Rattle.template_tags.specs.Terminals.{is_mark, is_equals, equals_value, has_keyword, setting_value, is_setting, IsReal}
-use Rattle.template_tags.specs.Tag.{mark, setting_key, setting_order, setting_delimiter, setting_label, with_embed, with_link, set, no_more_settings, settings}
+use Rattle.template_tags.specs.Tag.{mark, setting_key, setting_order, setting_delimiter, setting_label, with_embed, with_link, with_writing, set, no_more_settings, settings}
 use Rattle.template_tags.specs.Reading.{read_key, read_order, read_delimiter, read_label, read_link, read_set, read_close, read_next, read_settings}
 use Rattle.template_tags.proofs.Known.{known_or}
 use Rattle.template_tags.proofs.ItemFacts.{guard, has_value, some_value, mark_part, equals_part, direction_part, quoted_part, mark_opens, mark_no_dot, mark_no_equals, keyword_no_dot, keyword_no_equals, mark_is_no_setting, setting_is_keyword}
@@ -86,6 +86,7 @@ set_part s setting.Order = weaken_part AfterSetting (λ _ _. tt) (order_part s)
 set_part s setting.Delimiter = weaken_part AfterSetting (λ _ _. tt) (delimiter_part s)
 set_part s setting.Embed = weaken_part AfterSetting (λ _ _. tt) (give_part (with_embed s))
 set_part s setting.Link = link_part s
+set_part s (setting.Writing w) = weaken_part AfterSetting (λ _ _. tt) (give_part (with_writing s w))
 
 close_part : (s : Settings) → Part IsReal (no_more_settings s) (no_more_settings s) Always (read_close s)
 unfolding read_close

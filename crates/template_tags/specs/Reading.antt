@@ -15,7 +15,7 @@ use Rattle.template_tags.specs.declared.settings.Settings.{Settings}
 use Rattle.template_tags.specs.Terminals.{is_mark, mark_value, is_dot, dot_value, is_equals, equals_value}
 use Rattle.template_tags.specs.Terminals.{quoted_value, label_value, joined_value, direction_value, is_setting}
 use Rattle.template_tags.specs.Terminals.{setting_value, is_known, known_value, is_unknown}
-use Rattle.template_tags.specs.Tag.{from, with_embed, with_link}
+use Rattle.template_tags.specs.Tag.{from, with_embed, with_link, with_writing}
 
 -- the reader of a mark
 unfoldable pub read_mark : Mark → List Item → Outcome Item ℕ
@@ -134,6 +134,7 @@ read_set s setting.Key = read_key s
 read_set s setting.Order = read_order s
 read_set s setting.Delimiter = read_delimiter s
 read_set s setting.Embed = give (with_embed s)
+read_set s (setting.Writing w) = give (with_writing s w)
 read_set s setting.Link = read_link s
 
 -- the end of the settings

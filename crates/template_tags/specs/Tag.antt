@@ -1,6 +1,7 @@
 -- The grammar of what stands within a tag, over items: expressions and settings.
 --
---   setting  := "EMBED" | "LINK" [ "=" word ] | order
+--   setting  := mode | order                                      (at most one mode)
+--   mode     := "EMBED" | "LINK" [ "=" word ] | "RAW" | "PLAIN" | "LINES" | "URL" | "JSON"
 --   order    := "KEY" "=" word | "ORDER" "=" ( "ascend" | "descend" ) | "DELIM" "=" Quoted
 --   expr     := "@" [ word ] | "#" label [ "." word ] | Name [ "." word ]
 --   word     := label { "." label }
@@ -10,7 +11,8 @@ use Rattle.template_items.specs.declared.item.Item.{Item}
 use Rattle.template_items.specs.declared.item.Mark.{Mark}
 use Rattle.template_items.specs.declared.item.Mark.TheVariants as marks
 use Rattle.tmpl.specs.declared.Expr.{Expr}
-use Rattle.tmpl.specs.declared.Mode.TheVariants.{Embed, Link}
+use Rattle.tmpl.specs.declared.Mode.TheVariants.{Written, Embed, Link}
+use Rattle.tmpl.specs.declared.Writing.{Writing}
 use Rattle.tmpl.specs.declared.WordRoot.{WordRoot}
 use Rattle.tmpl.specs.declared.WordRoot.TheVariants.{Here, Loop, Collection}
 use Rattle.template_tags.specs.declared.words.Bound.{Bound}
@@ -142,12 +144,22 @@ with_link s = record {
   mode = Some (Link None);
 }
 
+-- the settings, with the mode that shows a text written so
+abbrev pub with_writing : Settings → Writing → Settings
+with_writing s w = record {
+  key = s.key;
+  descend = s.descend;
+  delimiter = s.delimiter;
+  mode = Some (Written w);
+}
+
 -- what is behind the word of a setting, where the tag has these settings so far
 abbrev pub set : Settings → Setting → List Item → Settings → Type 0
 set s setting.Key = setting_key s
 set s setting.Order = setting_order s
 set s setting.Delimiter = setting_delimiter s
 set s setting.Embed = nothing (with_embed s)
+set s (setting.Writing w) = nothing (with_writing s w)
 set s setting.Link = either (setting_label s) (nothing (with_link s))
 
 -- the end of the settings

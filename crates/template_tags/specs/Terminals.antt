@@ -19,7 +19,8 @@ use Rattle.token_reader.specs.Terminals.{is_sign_kind}
 use Rattle.tmpl.specs.declared.Cmp.{Cmp}
 use Rattle.tmpl.specs.declared.Cmp.TheVariants as cmp
 use Rattle.tmpl.specs.declared.Mode.{Mode}
-use Rattle.tmpl.specs.declared.Mode.TheVariants.{Plain}
+use Rattle.tmpl.specs.declared.Mode.TheVariants.{Written}
+use Rattle.tmpl.specs.declared.Writing.TheVariants as writing
 use Rattle.tmpl.specs.declared.Order.{Order}
 use Rattle.template_tags.specs.declared.words.Keyword.{Keyword}
 use Rattle.template_tags.specs.declared.words.Keyword.TheVariants as words
@@ -30,6 +31,24 @@ use Rattle.template_tags.specs.declared.settings.Settings.{Settings}
 
 -- ---- words
 
+-- a word of the grammar that no tag has
+unfoldable pub is_later_word : List ℕ → Bool
+is_later_word w =
+    bytes_eq w (codes "COUNT") || (bytes_eq w (codes "LIMIT") || (bytes_eq w (codes "LABEL") ||
+    (bytes_eq w (codes "MARKDOWN") || (bytes_eq w (codes "FOLD") || (bytes_eq w (codes "DESCEND") ||
+    (bytes_eq w (codes "SAME") || (bytes_eq w (codes "AS") || (bytes_eq w (codes "AT") ||
+    bytes_eq w (codes "FILE")))))))))
+
+-- the keyword that a word is of those that say how a text is written, or of those that no tag has
+unfoldable pub writing_word : List ℕ → Option Keyword
+writing_word w =
+    if bytes_eq w (codes "RAW") || bytes_eq w (codes "PLAIN") then Some (words.Writing writing.Raw)
+    else (
+    if bytes_eq w (codes "LINES") then Some (words.Writing writing.Lines) else (
+    if bytes_eq w (codes "URL") then Some (words.Writing writing.Url) else (
+    if bytes_eq w (codes "JSON") then Some (words.Writing writing.Json) else (
+    if is_later_word w then Some words.Later else None))))
+
 -- the keyword of a setting that a word is
 unfoldable pub setting_word : List ℕ → Option Keyword
 setting_word w =
@@ -37,7 +56,7 @@ setting_word w =
     if bytes_eq w (codes "ORDER") then Some words.Order else (
     if bytes_eq w (codes "DELIM") then Some words.Delimiter else (
     if bytes_eq w (codes "EMBED") then Some words.Embed else (
-    if bytes_eq w (codes "LINK") then Some words.Link else None))))
+    if bytes_eq w (codes "LINK") then Some words.Link else writing_word w))))
 
 -- the keyword of a comparison, or of a setting, that a word is
 unfoldable pub compare_word : List ℕ → Option Keyword
@@ -49,13 +68,24 @@ compare_word w =
     if bytes_eq w (codes "GT") then Some words.Gt else (
     if bytes_eq w (codes "GE") then Some words.Ge else setting_word w)))))
 
+-- the word is the name of a tag that holds or shows something
+abbrev pub is_part_word : List ℕ → Bool
+is_part_word w =
+    bytes_eq w (codes "TEMPLATE") ||
+    (bytes_eq w (codes "SFMT") ||
+    (bytes_eq w (codes "SIF") || (bytes_eq w (codes "SFOR") || bytes_eq w (codes "SELSE"))))
+
+-- the word is the name of a tag that puts something in, or of a note's
+abbrev pub is_put_word : List ℕ → Bool
+is_put_word w =
+    bytes_eq w (codes "LAYOUT") ||
+    (bytes_eq w (codes "FRAGMENT") ||
+    (bytes_eq w (codes "SNOTE") || (bytes_eq w (codes "SBODY") || bytes_eq w (codes "SINCLUDE"))))
+
 -- the keyword that a word is
 unfoldable pub keyword_of : List ℕ → Option Keyword
 keyword_of w =
-    if bytes_eq w (codes "TEMPLATE") ||
-    (bytes_eq w (codes "SFMT") ||
-    (bytes_eq w (codes "SIF") || (bytes_eq w (codes "SFOR") || bytes_eq w (codes "SELSE")))) then
-    Some words.Tag else (
+    if is_part_word w || is_put_word w then Some words.Tag else (
     if bytes_eq w (codes "COLLECTION") then Some words.Collection else (
     if bytes_eq w (codes "NOT") then Some words.Not else (
     if bytes_eq w (codes "IN") then Some words.In else compare_word w)))
@@ -83,6 +113,14 @@ number marks.Here = 9
 number marks.HereOf = 10
 number marks.Hash = 11
 number marks.Fault = 12
+number marks.OpenNote = 13
+number marks.EndNote = 14
+number marks.OpenLayout = 15
+number marks.OpenFragment = 16
+number marks.OpenInclude = 17
+number marks.Hole = 18
+number marks.EndLayout = 19
+number marks.EndFragment = 20
 
 -- the kind of an item is this mark
 abbrev pub is_mark_kind : Mark → ItemKind → Bool
@@ -270,15 +308,17 @@ setting_of (Some words.Order) = Some setting.Order
 setting_of (Some words.Delimiter) = Some setting.Delimiter
 setting_of (Some words.Embed) = Some setting.Embed
 setting_of (Some words.Link) = Some setting.Link
+setting_of (Some (words.Writing w)) = Some (setting.Writing w)
 setting_of k = None
 
--- each setting at most once, and EMBED or LINK
+-- each setting at most once, and at most one mode
 abbrev pub allows : Settings → Setting → Bool
 allows s setting.Key = is_none s.key
 allows s setting.Order = is_none s.descend
 allows s setting.Delimiter = is_none s.delimiter
 allows s setting.Embed = is_none s.mode
 allows s setting.Link = is_none s.mode
+allows s (setting.Writing w) = is_none s.mode
 
 -- the setting, where it is not yet
 abbrev pub if_allowed : Settings → Option Setting → Option Setting
@@ -300,7 +340,7 @@ or_else None y = y
 
 -- how values are shown under these settings
 abbrev pub mode_of : Settings → Mode
-mode_of s = or_else s.mode Plain
+mode_of s = or_else s.mode (Written writing.Escaped)
 
 -- ascending where the tag does not say otherwise
 abbrev pub order_of : Settings → Order
@@ -312,7 +352,12 @@ no_settings = record { key = None; descend = None; delimiter = None; mode = None
 
 -- a loop's tag takes no mode
 abbrev pub loop_settings : Settings
-loop_settings = record { key = None; descend = None; delimiter = None; mode = Some Plain }
+loop_settings = record {
+  key = None;
+  descend = None;
+  delimiter = None;
+  mode = Some (Written writing.Escaped);
+}
 
 -- ---- variables
 

@@ -301,6 +301,7 @@ fn set_at(
         Setting::Delimiter => delimiter_at(alloc, settings, items),
         Setting::Embed => Ok((with_mode(settings, Mode::Embed), items)),
         Setting::Link => link_at(alloc, settings, items),
+        Setting::Writing(writing) => Ok((with_mode(settings, Mode::Written(writing)), items)),
     }
 }
 

@@ -4,7 +4,7 @@ ghost use Rattle.std.specs.Prelude.{◌≡◌};
 ghost use Rattle.template_tags.specs.Terminals.{allows, order_of, mode_of};
 
 use sd_value::Str;
-use tmpl::{Mode, Order, Word};
+use tmpl::{Mode, Order, Word, Writing};
 
 /// What a setting is about.
 #[derive(Clone, Copy, Debug, PartialEq, Eq)]
@@ -14,9 +14,10 @@ pub enum Setting {
     Delimiter,
     Embed,
     Link,
+    Writing(Writing),
 }
 
-/// The settings that a tag has so far. A loop's tag has the mode `Plain` from the start.
+/// The settings that a tag has so far. A loop's tag has a mode from the start.
 #[derive(Drop)]
 pub struct Settings {
     pub key: Option<Word>,
@@ -33,7 +34,7 @@ pub fn allows(settings: &Settings, setting: Setting) -> bool
         Setting::Key => settings.key.is_none(),
         Setting::Order => settings.descend.is_none(),
         Setting::Delimiter => settings.delimiter.is_none(),
-        Setting::Embed | Setting::Link => settings.mode.is_none(),
+        Setting::Embed | Setting::Link | Setting::Writing(_) => settings.mode.is_none(),
     }
 }
 
@@ -50,6 +51,6 @@ pub fn mode_and_order(settings: Settings) -> (Mode, Order)
     };
     match settings.mode {
         Some(mode) => (mode, order),
-        None => (Mode::Plain, order),
+        None => (Mode::Written(Writing::Escaped), order),
     }
 }

@@ -329,6 +329,7 @@ fn setting_of(keyword: Option<Keyword>) -> Option<Setting>
         Some(Keyword::Delimiter) => Some(Setting::Delimiter),
         Some(Keyword::Embed) => Some(Setting::Embed),
         Some(Keyword::Link) => Some(Setting::Link),
+        Some(Keyword::Writing(writing)) => Some(Setting::Writing(writing)),
         _ => None,
     }
 }

@@ -1,9 +1,11 @@
 //! The words of the grammar, and the loops whose variables are in scope.
 
 ghost use Rattle.std.specs.Prelude.{◌≡◌, None};
-ghost use Rattle.template_tags.specs.Terminals.{keyword_of, compare_word, setting_word, find};
+ghost use Rattle.template_tags.specs.Terminals.{is_part_word, is_put_word, keyword_of, compare_word};
+ghost use Rattle.template_tags.specs.Terminals.{setting_word, writing_word, is_later_word, find};
 
 use sd_value::Str;
+use tmpl::Writing;
 
 /// A word of the grammar; none of them is a variable.
 #[derive(Clone, Copy, Debug, PartialEq, Eq)]
@@ -24,6 +26,32 @@ pub enum Keyword {
     Delimiter,
     Embed,
     Link,
+    /// The mode that shows the text written so.
+    Writing(Writing),
+    /// A word that no tag has.
+    Later,
+}
+
+/// Whether the word is the name of a tag that holds or shows something.
+fn is_part_word(word: &[u8]) -> bool
+    ensures { result ≡ is_part_word word.now }
+{
+    word == b"TEMPLATE".as_slice()
+        || word == b"SFMT".as_slice()
+        || word == b"SIF".as_slice()
+        || word == b"SFOR".as_slice()
+        || word == b"SELSE".as_slice()
+}
+
+/// Whether the word is the name of a tag that puts something in, or of a note's.
+fn is_put_word(word: &[u8]) -> bool
+    ensures { result ≡ is_put_word word.now }
+{
+    word == b"LAYOUT".as_slice()
+        || word == b"FRAGMENT".as_slice()
+        || word == b"SNOTE".as_slice()
+        || word == b"SBODY".as_slice()
+        || word == b"SINCLUDE".as_slice()
 }
 
 /// The keyword that this word is.
@@ -31,12 +59,7 @@ pub enum Keyword {
 pub fn keyword_of(word: &[u8]) -> Option<Keyword>
     ensures { result ≡ keyword_of word.now }
 {
-    if word == b"TEMPLATE".as_slice()
-        || word == b"SFMT".as_slice()
-        || word == b"SIF".as_slice()
-        || word == b"SFOR".as_slice()
-        || word == b"SELSE".as_slice()
-    {
+    if is_part_word(word) || is_put_word(word) {
         Some(Keyword::Tag)
     } else if word == b"COLLECTION".as_slice() {
         Some(Keyword::Collection)
@@ -87,8 +110,46 @@ fn setting_word(word: &[u8]) -> Option<Keyword>
     } else if word == b"LINK".as_slice() {
         Some(Keyword::Link)
     } else {
+        writing_word(word)
+    }
+}
+
+/// The keyword that this word is of those that say how a text is written, or of those that no tag
+/// has.
+#[tactic(auto, unfolding(crate::specs::Terminals::writing_word))]
+fn writing_word(word: &[u8]) -> Option<Keyword>
+    ensures { result ≡ writing_word word.now }
+{
+    if word == b"RAW".as_slice() || word == b"PLAIN".as_slice() {
+        Some(Keyword::Writing(Writing::Raw))
+    } else if word == b"LINES".as_slice() {
+        Some(Keyword::Writing(Writing::Lines))
+    } else if word == b"URL".as_slice() {
+        Some(Keyword::Writing(Writing::Url))
+    } else if word == b"JSON".as_slice() {
+        Some(Keyword::Writing(Writing::Json))
+    } else if is_later_word(word) {
+        Some(Keyword::Later)
+    } else {
         None
     }
+}
+
+/// A word of the grammar that no tag has.
+#[tactic(auto, unfolding(crate::specs::Terminals::is_later_word))]
+fn is_later_word(word: &[u8]) -> bool
+    ensures { result ≡ is_later_word word.now }
+{
+    word == b"COUNT".as_slice()
+        || word == b"LIMIT".as_slice()
+        || word == b"LABEL".as_slice()
+        || word == b"MARKDOWN".as_slice()
+        || word == b"FOLD".as_slice()
+        || word == b"DESCEND".as_slice()
+        || word == b"SAME".as_slice()
+        || word == b"AS".as_slice()
+        || word == b"AT".as_slice()
+        || word == b"FILE".as_slice()
 }
 
 /// A loop's variable, and the number of the loop.

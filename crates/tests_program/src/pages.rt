@@ -28,6 +28,11 @@ const CYCLE: &str =
 const BRACKETS: &str =
     "<TEMPLATE A>[<SFMT @e EMBED>]</TEMPLATE><TEMPLATE B>(<SFMT @e EMBED>)</TEMPLATE>";
 
+// (of what is put in, `@` is the page)
+const FRAGMENTS: &str =
+    "<SNOTE>notes</SNOTE><FRAGMENT a>(<SFMT @a>)</FRAGMENT><FRAGMENT b>[<SINCLUDE a><SNOTE>\
+    </FRAGMENT></SNOTE><SFMT @a>]</FRAGMENT><TEMPLATE F><SINCLUDE b> <SINCLUDE a></TEMPLATE>";
+
 const SEVENS: &str = "object o { v 7 v \"7\" v \"07\" }";
 
 const EQUAL_TO_SEVEN: &str = "STRUQL 2 INPUT D WHERE x -> \"v\" -> y, y = 7 CREATE F(y) OUTPUT S";
@@ -193,6 +198,33 @@ const PAGES: &[PageRow] = &[
         address: "/F/no.html",
         code: 0,
         out: "q p",
+        err: "",
+    },
+    PageRow {
+        data_text: "object o { a \"100% %zz %2 %20 %fF%\" }",
+        query: VALUES,
+        templates: "<TEMPLATE F><SFMT @a URL></TEMPLATE>",
+        address: "/F/no.html",
+        code: 0,
+        out: "100%25%20%25zz%20%252%20%20%20%fF%25",
+        err: "",
+    },
+    PageRow {
+        data_text: "object o { a \"a\\r\\nb\\nc\\rd\\n\\r<\" }",
+        query: VALUES,
+        templates: "<TEMPLATE F><SFMT @a LINES></TEMPLATE>",
+        address: "/F/no.html",
+        code: 0,
+        out: "a<br>\nb<br>\nc<br>\nd<br>\n<br>\n&lt;",
+        err: "",
+    },
+    PageRow {
+        data_text: "object o { a \"<b>\\\"&\\n2\\\\\" }",
+        query: VALUES,
+        templates: "<TEMPLATE F>{\"a\": \"<SFMT @a JSON>\"} <SFMT @a RAW></TEMPLATE>",
+        address: "/F/no.html",
+        code: 0,
+        out: "{\"a\": \"\\u003cb>\\\"&\\n2\\\\\"} <b>\"&\n2\\",
         err: "",
     },
     PageRow {
@@ -416,6 +448,24 @@ const PAGES: &[PageRow] = &[
         code: 3,
         out: "",
         err: "strudel: q: 73 BadVersion at 7\n",
+    },
+    PageRow {
+        data_text: "object o { a \"B\" }",
+        query: VALUES,
+        templates: FRAGMENTS,
+        address: "/F/no.html",
+        code: 0,
+        out: "[(B)B] (B)",
+        err: "",
+    },
+    PageRow {
+        data_text: "",
+        query: SITE,
+        templates: "<TEMPLATE F><SINCLUDE a></TEMPLATE>",
+        address: "/",
+        code: 3,
+        out: "",
+        err: "strudel: t: 86 Unknown at 22\n",
     },
     PageRow {
         data_text: "",

@@ -118,6 +118,11 @@ fn next(alloc: Global, before: Before, item: &Item, later: &[Item]) -> Result<Be
                 labelled: false,
                 markup: Markup::Content,
             }),
+            Mark::OpenFragment => Ok(Before {
+                function: None,
+                labelled: false,
+                markup: Markup::Content,
+            }),
             Mark::OpenFormat => Ok(known(before, false, after_value(place))),
             Mark::HereOf | Mark::Hash => Ok(known(before, true, place)),
             _ => Ok(known(before, false, place)),

@@ -18,3 +18,4 @@ mod texts;
 mod words;
 
 pub use calls::values;
+pub use folding::fold;

@@ -6,7 +6,7 @@ use Rattle.std.specs.Borrow.{Bor}
 use Rattle.sd_value.specs.Names.{Word}
 use Rattle.tmpl.specs.declared.Expr.{Expr}
 use Rattle.tmpl.specs.declared.Mode.{Mode}
-use Rattle.tmpl.specs.declared.Mode.TheVariants.{Plain, Embed, Link}
+use Rattle.tmpl.specs.declared.Mode.TheVariants.{Written, Embed, Link}
 use Rattle.tmpl.specs.declared.Part.{Part}
 use Rattle.tmpl.specs.declared.uses.ExprUse.{ExprUse}
 use Rattle.tmpl.specs.Body.{Body, done, text, format, choice, repeat, part_before}
@@ -18,13 +18,13 @@ key_words (Some word) = word ∷ []
 
 -- the words by which a value's link finds its label
 abbrev pub link_words : Mode → List Word
-link_words Plain = []
+link_words (Written w) = []
 link_words Embed = []
 link_words (Link word) = key_words word
 
 -- the mode is EMBED
 abbrev pub is_embed : Mode → Bool
-is_embed Plain = false
+is_embed (Written w) = false
 is_embed Embed = true
 is_embed (Link word) = false
 

@@ -33,7 +33,7 @@ impl Word {
 }
 
 /// Where an expression's words begin: at the value that the template presents, at a loop's value,
-/// the loops of a template being numbered from 0 in the order of the text, or at each value of a
+/// the loops of a file being numbered from 0 in the order of the text, or at each value of a
 /// collection.
 #[derive(Drop)]
 pub enum WordRoot {
@@ -58,11 +58,26 @@ pub struct Order {
     pub delimiter: Option<Str>,
 }
 
+/// How a text is written.
+#[derive(Clone, Copy, Debug, PartialEq, Eq)]
+pub enum Writing {
+    /// Within HTML, where each byte that HTML reads as its own is an entity.
+    Escaped,
+    /// As it stands.
+    Raw,
+    /// Within HTML, with a break at the end of each line.
+    Lines,
+    /// Within an attribute of HTML, as an address.
+    Url,
+    /// Within a string of JSON.
+    Json,
+}
+
 /// How a value is shown.
 #[derive(Drop)]
 pub enum Mode {
-    /// As its text.
-    Plain,
+    /// As its text, written so.
+    Written(Writing),
     /// By its own template, in place.
     Embed,
     /// As a link, whose label the word finds from the value; without a word the value is the label.

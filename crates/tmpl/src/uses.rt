@@ -22,7 +22,7 @@ fn label_of(mode: &Mode) -> Option<&Word>
     ensures { key_words (option_copied result) ≡ link_words mode.now }
 {
     match mode {
-        Mode::Plain | Mode::Embed => None,
+        Mode::Written(_) | Mode::Embed => None,
         Mode::Link(word) => word.as_ref(),
     }
 }
@@ -32,7 +32,7 @@ fn is_embed(mode: &Mode) -> bool
 {
     match mode {
         Mode::Embed => true,
-        Mode::Plain | Mode::Link(_) => false,
+        Mode::Written(_) | Mode::Link(_) => false,
     }
 }
 

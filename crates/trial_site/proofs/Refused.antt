@@ -12,7 +12,7 @@ use Rattle.query_reader.specs.Reads.{Reads}
 use Rattle.tmpl.specs.declared.Templates.{Templates}
 use Rattle.template_reader.specs.declared.refusal.TmplRefusal.{TmplRefusal}
 use Rattle.template_reader.specs.declared.refusal.TmplRefusal.TheVariants.{TooLong, Expected, Unclosed, Twice}
-use Rattle.template_reader.specs.declared.refusal.TmplRefusal.TheVariants.{TooDeep, UnknownVariable, NoMemory}
+use Rattle.template_reader.specs.declared.refusal.TmplRefusal.TheVariants.{TooDeep, UnknownVariable, Unknown, TooLarge, NoMemory}
 use Rattle.template_reader.specs.Faults.{IsTemplatesAnswer, UnlessNoMemory}
 use Rattle.command_spec.specs.Limits.{text_limit}
 use Rattle.trial_spec.specs.Texts.{query_text, templates_text}
@@ -47,6 +47,8 @@ by_refusal (Unclosed at) other h = templates_accepted.never_refused (Unclosed at
 by_refusal (Twice at) other h = templates_accepted.never_refused (Twice at) h
 by_refusal (TooDeep at) other h = templates_accepted.never_refused (TooDeep at) h
 by_refusal (UnknownVariable at) other h = templates_accepted.never_refused (UnknownVariable at) h
+by_refusal (Unknown at) other h = templates_accepted.never_refused (Unknown at) h
+by_refusal (TooLarge at) other h = templates_accepted.never_refused (TooLarge at) h
 by_refusal NoMemory other h = other refl
 
 pub never_other : (r : Result Templates TmplRefusal) (e : TmplRefusal) → r ≡ Err e → (e ≡ NoMemory → ⊥)

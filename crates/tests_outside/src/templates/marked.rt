@@ -36,6 +36,8 @@ pub fn report_of(alloc: Global, text: &[u8]) -> Option<Reported> {
         Err(TmplRefusal::Twice(place)) => (83, place),
         Err(TmplRefusal::TooDeep(place)) => (84, place),
         Err(TmplRefusal::UnknownVariable(place)) => (85, place),
+        Err(TmplRefusal::Unknown(place)) => (86, place),
+        Err(TmplRefusal::TooLarge(place)) => (87, place),
     };
     Some(Reported { number, place })
 }

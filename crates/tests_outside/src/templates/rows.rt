@@ -89,6 +89,12 @@ const ROWS: &[Row] = &[
             "<TEMPLATE F><SFMT @a DELIM='x' ^DELIM='y'></TEMPLATE>",
             "<TEMPLATE F><SFMT @a KEY=b ^KEY=c></TEMPLATE>",
             "<TEMPLATE F><SFMT @a ^foo></TEMPLATE>",
+            "<TEMPLATE F><SFMT @a RAW ^URL></TEMPLATE>",
+            "<TEMPLATE F><SFMT @a LINK ^JSON></TEMPLATE>",
+            "<TEMPLATE F><SFMT @a PLAIN^=b></TEMPLATE>",
+            "<TEMPLATE F><SFOR v IN @a ^LINES>x</SFOR></TEMPLATE>",
+            "<TEMPLATE F><SFOR ^URL IN @a>x</SFOR></TEMPLATE>",
+            "<TEMPLATE F><SFOR ^LIMIT IN @a>x</SFOR></TEMPLATE>",
             "<TEMPLATE F><SFOR v IN @a ^EMBED>x</SFOR></TEMPLATE>",
         ],
     },
@@ -151,6 +157,81 @@ const ROWS: &[Row] = &[
                 @a></SIF><SFOR v IN @a><SFOR v IN @a>^<SFOR v IN v>",
         ],
     },
+    // Notes, fragments, and what is put in.
+    Row {
+        number: 81,
+        texts: &[
+            "<TEMPLATE F>a^</FRAGMENT></TEMPLATE>",
+            "<TEMPLATE F>a^</LAYOUT></TEMPLATE>",
+            "<TEMPLATE F>a^<SBODY></TEMPLATE>",
+            "<TEMPLATE F>a^</SNOTE></TEMPLATE>",
+            "<SNOTE>a</SNOTE>^x",
+            "<FRAGMENT f>x^</TEMPLATE>",
+            "<FRAGMENT ^'f'>x</FRAGMENT>",
+            "<FRAGMENT f ^g>x</FRAGMENT>",
+            "<FRAGMENT COLLECTION ^g>x</FRAGMENT>",
+            "<FRAGMENT f>x</FRAGMENT><TEMPLATE F><SINCLUDE ^'f'></TEMPLATE>",
+            "<FRAGMENT f>x</FRAGMENT><TEMPLATE F><SINCLUDE f ^g></TEMPLATE>",
+            "<FRAGMENT f>x</FRAGMENT><TEMPLATE F><SIF @a><SINCLUDE f>^</TEMPLATE>",
+            "<TEMPLATE F><SFOR ^SINCLUDE IN @a>x</SFOR></TEMPLATE>",
+        ],
+    },
+    Row {
+        number: 82,
+        texts: &[
+            "<TEMPLATE F>x^<SNOTE>y</TEMPLATE>",
+            "^<SNOTE>y",
+            "^<FRAGMENT f>x",
+        ],
+    },
+    Row {
+        number: 83,
+        texts: &[
+            "<FRAGMENT a>1</FRAGMENT><TEMPLATE a>2</TEMPLATE><FRAGMENT ^a>3</FRAGMENT>",
+            "<FRAGMENT a>1</FRAGMENT><FRAGMENT ^a b>3</FRAGMENT>",
+        ],
+    },
+    Row {
+        number: 84,
+        texts: &[
+            "<FRAGMENT f><SIF @a><SIF @a><SIF @a><SIF @a><SIF @a><SIF @a><SIF @a><SIF @a><SIF @a><SIF @a>\
+                <SIF @a><SIF @a><SIF @a><SIF @a><SIF @a><SIF @a><SIF @a><SIF @a><SIF @a><SIF @a></SIF></SIF>\
+                </SIF></SIF></SIF></SIF></SIF></SIF></SIF></SIF></SIF></SIF></SIF></SIF></SIF></SIF></SIF>\
+                </SIF></SIF></SIF></FRAGMENT><TEMPLATE F><SIF @a><SIF @a><SIF @a><SIF @a><SIF @a><SIF @a>\
+                <SIF @a><SIF @a><SIF @a><SIF @a><SIF @a><SIF @a><SIF @a>^<SINCLUDE f>",
+        ],
+    },
+    Row {
+        number: 85,
+        texts: &[
+            "<FRAGMENT f><SFMT ^v.t></FRAGMENT><TEMPLATE F><SFOR v IN @a><SINCLUDE f></SFOR></TEMPLATE>",
+        ],
+    },
+    Row {
+        number: 86,
+        texts: &[
+            "<FRAGMENT b><SINCLUDE ^a></FRAGMENT><FRAGMENT a>1</FRAGMENT>",
+            "<TEMPLATE F><SINCLUDE ^a></TEMPLATE><FRAGMENT a>1</FRAGMENT>",
+            "<FRAGMENT a><SINCLUDE ^a></FRAGMENT>",
+            "<TEMPLATE F><SINCLUDE ^F><SFMT v></TEMPLATE>",
+        ],
+    },
+    Row {
+        number: 0,
+        texts: &[
+            "<SNOTE>of the file</SNOTE><FRAGMENT a>1</FRAGMENT><FRAGMENT b><SINCLUDE a>2<SNOTE></TEMPLATE></SNOTE>\
+                </FRAGMENT><TEMPLATE R><SINCLUDE b>3<SNOTE> <SFMT> </SNOTE>4</TEMPLATE>",
+            "<TEMPLATE R><SBODYx> <SNOTES> <LAYOUT x> <FRAGMENT y> <sbody> <SINCLUDE></TEMPLATE>",
+            "<TEMPLATE R>a<SNOTE>b<SNOTE>c</SNOTE>d</TEMPLATE>",
+            "<FRAGMENT f><SFOR v IN @f><SFMT v></SFOR></FRAGMENT><TEMPLATE R><SFOR v IN @f><SINCLUDE f></SFOR></TEMPLATE>",
+            "<FRAGMENT f><SIF @a><SIF @a><SIF @a><SIF @a><SIF @a><SIF @a><SIF @a><SIF @a><SIF @a><SIF @a>\
+                <SIF @a><SIF @a><SIF @a><SIF @a><SIF @a><SIF @a><SIF @a><SIF @a><SIF @a><SIF @a></SIF></SIF>\
+                </SIF></SIF></SIF></SIF></SIF></SIF></SIF></SIF></SIF></SIF></SIF></SIF></SIF></SIF></SIF>\
+                </SIF></SIF></SIF></FRAGMENT><TEMPLATE F><SIF @a><SIF @a><SIF @a><SIF @a><SIF @a><SIF @a>\
+                <SIF @a><SIF @a><SIF @a><SIF @a><SIF @a><SIF @a><SINCLUDE f></SIF></SIF></SIF></SIF></SIF>\
+                </SIF></SIF></SIF></SIF></SIF></SIF></SIF></TEMPLATE>",
+        ],
+    },
     // Files of templates that are near to those, and are not refused.
     Row {
         number: 0,
@@ -161,6 +242,7 @@ const ROWS: &[Row] = &[
             "<TEMPLATE COLLECTION'F'>a</TEMPLATE><TEMPLATE COLLECTION '3166-1' ><SFMT #'my file'.'a'></TEMPLATE>",
             "<TEMPLATE F><SFMT @>=x <b>bold</b> <SIFT> <SFMT</TEMPLATE>",
             "<TEMPLATE F><SFMT @a.'b c' DELIM=', ' KEY=b.c ORDER=descend LINK=d></TEMPLATE>",
+            "<TEMPLATE F><SFMT @RAW LINES KEY=JSON DELIM=','><SFMT @a.URL PLAIN></TEMPLATE>",
             "<TEMPLATE F><SIF NOT #C.a LE -1>x<SELSE>y</SIF></TEMPLATE>",
             "<TEMPLATE F><SFOR v IN #C><SFOR v IN v.a><SFMT v EMBED></SFOR></SFOR></TEMPLATE>",
             "<TEMPLATE F><SIF @a><SIF @a><SIF @a><SIF @a><SIF @a><SIF @a><SIF @a><SIF @a><SIF @a><SIF @a><SIF \
@@ -220,6 +302,107 @@ fn a_text_is_read_up_to_the_limit(rt: HostRuntime) -> Result<(), Fail> {
     for row in SIGNS {
         let text = b"$".repeat(rt.alloc(), row.count)?;
         check(report_of(rt.alloc(), &text) == Some(row.reported), row.name)?;
+    }
+    Ok(())
+}
+
+// Behind a fragment of 2,048 bytes others, of which the last has as many bytes as the templates of a file may have
+// together.
+const LARGE: &str = "</FRAGMENT><FRAGMENT a1><SINCLUDE a0><SINCLUDE a0></FRAGMENT>\
+    <FRAGMENT a2><SINCLUDE a1><SINCLUDE a1></FRAGMENT>\
+    <FRAGMENT a3><SINCLUDE a2><SINCLUDE a2></FRAGMENT>\
+    <FRAGMENT a4><SINCLUDE a3><SINCLUDE a3></FRAGMENT>\
+    <FRAGMENT a5><SINCLUDE a4><SINCLUDE a4></FRAGMENT>\
+    <FRAGMENT a6><SINCLUDE a5><SINCLUDE a5></FRAGMENT>\
+    <FRAGMENT a7><SINCLUDE a6><SINCLUDE a6></FRAGMENT>\
+    <FRAGMENT a8><SINCLUDE a7><SINCLUDE a7></FRAGMENT>\
+    <FRAGMENT a9><SINCLUDE a8><SINCLUDE a8></FRAGMENT>\
+    <FRAGMENT a10><SINCLUDE a9><SINCLUDE a9></FRAGMENT>\
+    <FRAGMENT a11><SINCLUDE a10><SINCLUDE a10></FRAGMENT>\
+    <FRAGMENT a12><SINCLUDE a11><SINCLUDE a11></FRAGMENT>";
+
+// Templates behind these fragments, and what is reported of the file: its number, and the place behind the fragments.
+struct LargeRow {
+    text: &'static str,
+    place: Option<u64>,
+}
+
+const LARGE_ROWS: &[LargeRow] = &[
+    LargeRow {
+        text: "<TEMPLATE R>x</TEMPLATE>",
+        place: None,
+    },
+    LargeRow {
+        text: "<TEMPLATE F>x<SINCLUDE a12></TEMPLATE>",
+        place: Some(10),
+    },
+    LargeRow {
+        text: "<TEMPLATE R>x</TEMPLATE><TEMPLATE COLLECTION F><SINCLUDE a12></TEMPLATE>",
+        place: Some(45),
+    },
+    LargeRow {
+        text: "<TEMPLATE R><SFMT @></TEMPLATE><TEMPLATE F><SINCLUDE a12></TEMPLATE><TEMPLATE ",
+        place: Some(41),
+    },
+];
+
+#[test]
+fn templates_have_so_many_bytes_together(rt: HostRuntime) -> Result<(), Fail> {
+    for row in LARGE_ROWS {
+        let mut text = Vec::new(rt.alloc());
+        text.extend_from_slice(b"<FRAGMENT a0>")?;
+        text.extend_from_slice(&b"x".repeat(rt.alloc(), 2048)?)?;
+        text.extend_from_slice(LARGE.as_bytes())?;
+        let behind = text.len() as u64;
+        text.extend_from_slice(row.text.as_bytes())?;
+        let reported = match row.place {
+            Some(place) => Some(Reported {
+                number: 87,
+                place: behind.saturating_add(place),
+            }),
+            None => None,
+        };
+        check(report_of(rt.alloc(), &text) == reported, row.text)?;
+    }
+    Ok(())
+}
+
+// A text, and what is reported of it.
+struct OrderMarkRow {
+    text: &'static [u8],
+    place: Option<u64>,
+}
+
+const ORDER_MARKS: &[OrderMarkRow] = &[
+    OrderMarkRow {
+        text: b"\xEF\xBB\xBF<TEMPLATE R>x</TEMPLATE>",
+        place: None,
+    },
+    OrderMarkRow {
+        text: b"\xEF\xBB\xBF<TEMPLATE R>x</SIF></TEMPLATE>",
+        place: Some(16),
+    },
+    OrderMarkRow {
+        text: b"\xEF\xBB\xBF\xEF\xBB\xBF<TEMPLATE R>x</TEMPLATE>",
+        place: Some(3),
+    },
+    OrderMarkRow {
+        text: b"\xEF\xBB<TEMPLATE R>x</TEMPLATE>",
+        place: Some(0),
+    },
+];
+
+#[test]
+fn a_byte_order_mark_is_skipped(rt: HostRuntime) -> Result<(), Fail> {
+    for row in ORDER_MARKS {
+        let reported = match row.place {
+            Some(place) => Some(Reported { number: 81, place }),
+            None => None,
+        };
+        check(
+            report_of(rt.alloc(), row.text) == reported,
+            "a byte order mark",
+        )?;
     }
     Ok(())
 }

@@ -53,6 +53,15 @@ pub const SITES: &[SiteRow] = &[
         outside: &["/F/nc.html"],
         outcomes: "/F/na.html f;/F/nb.html f;/R.html f;/F/nc.html -;",
     },
+    // A text in each way of writing it.
+    SiteRow {
+        data_text: "object a { t '<b>\\'&\\n2\\\\' u 'http://x/a b?q=\\'1\\'&%20%zz%2' w 'x\\r\\ny\\nz\\n\\r<' n 7 }",
+        query: "INPUT D WHERE x -> l -> v CREATE R() LINK R() -> l -> v OUTPUT S",
+        templates: "<TEMPLATE R><SFMT @t>|<SFMT @t RAW>|<SFMT @t PLAIN>|<SFMT @w LINES>|<SFMT @u URL>|<SFMT @t JSON>|<SFMT @n JSON></TEMPLATE>",
+        outside: &[],
+        outcomes: "/R.html &lt;b&gt;&quot;&amp;\n2\\|<b>'&\n2\\|<b>'&\n2\\|x<br>\ny<br>\nz<br>\n<br>\n&lt;|\
+            http://x/a%20b?q=%221%22&amp;%20%25zz%252|\\u003cb>\\'&\\n2\\\\|7;",
+    },
     // Loops, branches and keys.
     SiteRow {
         data_text: "object o { a 1 a 2 } object s { a &p a &q a &r } object p { k 2 } object q { k 1 } object r { }",

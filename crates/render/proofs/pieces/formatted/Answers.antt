@@ -1,6 +1,7 @@
 use Rattle.std.proofs.Common.{refl, sym, subst, [], ◌∷◌}
 use Rattle.page_spec.specs.Pieces.{Formatted, bytes, embed}
 use Rattle.page_spec.specs.Show.{escaped, show, link}
+use Rattle.page_spec.specs.Written.{written}
 use Rattle.sd_value.specs.declared.Value.{Value}
 use Rattle.page_spec.specs.Site.{HasKey}
 use Rattle.std.proofs.Common.{Option, inl, inr}
@@ -21,13 +22,13 @@ pub returns-in-None-2-clause-kept : goal.returns-in-None-2-clause-kept
 returns-in-None-2-clause-kept g c =
     rw c.in-Embed.is (keeps_one refl c.template_of.ensures.kept)
 
-pub returns-in-Plain-clause-answer : goal.returns-in-Plain-clause-answer
-returns-in-Plain-clause-answer g c =
+pub returns-in-Written-clause-answer : goal.returns-in-Written-clause-answer
+returns-in-Written-clause-answer g c =
     let fixed = g.V.SiteView.fixed c.args.view.now in
     let s = g.V.SiteView.site fixed in
     let f = g.V.SiteView.templates fixed in
     let v = c.args.value.now in
-    ok_then _ _ c.add_plain.result (λ x adds. (bytes (escaped (show v)), subst (λ m. Formatted s f m v (bytes (escaped (show v)))) (sym c.in-Plain.is) refl, adds)) c.add_plain.ensures
+    ok_then _ _ c.add_written.result (λ x adds. (bytes (written c.in-Written.writing (show v)), subst (λ m. Formatted s f m v (bytes (written c.in-Written.writing (show v)))) (sym c.in-Written.is) refl, adds)) c.add_written.ensures
 
 pub returns-in-Some-clause-answer : goal.returns-in-Some-clause-answer
 returns-in-Some-clause-answer g c =
@@ -59,4 +60,4 @@ returns-in-None-2-clause-answer g c =
     let s = g.V.SiteView.site fixed in
     let f = g.V.SiteView.templates fixed in
     let v = c.args.value.now in
-    ok_then _ _ c.add_plain-in-None-2.result (λ x adds. (bytes (escaped (show v)), subst (λ m. Formatted s f m v (bytes (escaped (show v)))) (sym c.in-Embed.is) (inr (rw c.in-None-2.is at c.in_ok-template_of-in-Embed.ensures.answer, refl)), adds)) c.add_plain-in-None-2.ensures
+    ok_then _ _ c.add_written-in-None-2.result (λ x adds. (bytes (escaped (show v)), subst (λ m. Formatted s f m v (bytes (escaped (show v)))) (sym c.in-Embed.is) (inr (rw c.in-None-2.is at c.in_ok-template_of-in-Embed.ensures.answer, refl)), adds)) c.add_written-in-None-2.ensures

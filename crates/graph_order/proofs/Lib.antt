@@ -1,0 +1,10 @@
+mod Folds
+mod Growth
+mod Along
+mod ByNode
+mod Copies
+mod Least
+mod Ends
+mod Keyed
+mod Ranks
+mod Whole

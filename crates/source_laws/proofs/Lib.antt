@@ -1,0 +1,9 @@
+pub mod Lexed
+pub mod Endings
+pub mod Steps
+pub mod DataTexts
+pub mod Csv
+pub mod Json
+pub mod Bibtex
+pub mod Databases
+pub mod DataFiles

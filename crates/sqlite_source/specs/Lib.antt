@@ -1,0 +1,10 @@
+pub mod File
+pub mod Shown
+pub mod Tables
+pub mod Names
+pub mod Rows
+pub mod Sheets
+pub mod Schema
+pub mod Database
+pub mod Reads
+pub mod Once
