@@ -185,6 +185,21 @@ const FORMATS: &[FormatRow] = &[
         lenient: Some("BibTeX p"),
     },
     FormatRow {
+        path: "d/library.db",
+        strict: "database library",
+        lenient: Some("database library"),
+    },
+    FormatRow {
+        path: "p.sqlite",
+        strict: "database p",
+        lenient: None,
+    },
+    FormatRow {
+        path: "p.SQLITE3",
+        strict: "data text",
+        lenient: Some("database p"),
+    },
+    FormatRow {
         path: "p.Csv",
         strict: "data text",
         lenient: Some("data text"),
@@ -198,6 +213,7 @@ fn name_of(alloc: Global, format: &Format) -> Result<Vec<u8>, NoMemory> {
         Format::Csv(stem) => (b"CSV ".as_slice(), stem.bytes()),
         Format::Json(stem) => (b"JSON ".as_slice(), stem.bytes()),
         Format::BibTex(stem) => (b"BibTeX ".as_slice(), stem.bytes()),
+        Format::Database(stem) => (b"database ".as_slice(), stem.bytes()),
     };
     let mut text = Vec::from_slice(alloc, name)?;
     text.extend_from_slice(stem)?;
