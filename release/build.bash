@@ -13,13 +13,22 @@ clone_commit() {
   git -C "$1" checkout -q --detach "$(git -C "$top" rev-parse HEAD)"
 }
 
+# Whether the kit's `rt ci` keeps what passes, for later runs.
+kit_keeps() { rt help 2>&1 | grep -q -e --anew; }
+
 # build_in FOLDER [--anew]: has the gate pass in the clone, and leaves its program there, stripped, in FOLDER/released.
 # --anew takes nothing of what earlier runs on this machine proved.
 build_in() {
-  local folder=$1 kit last
+  local folder=$1 kit last gate=(rt ci)
   shift
   kit=$(dirname "$(rt doc)")
-  (cd "$folder" && rt ci "$@") 2>&1 | tee "$folder.log" || stop "rt ci failed"
+  if [ "${1:-}" = --anew ]; then
+    # (where nothing is kept, each run is one from nothing, and there is no such word)
+    ! kit_keeps || gate+=(--anew)
+  elif ! kit_keeps; then
+    gate=(tools/gate)
+  fi
+  (cd "$folder" && "${gate[@]}") 2>&1 | tee "$folder.log" || stop "rt ci failed"
   last=$(tail -n 1 "$folder.log")
   [[ $last =~ ^[0-9]+\ passed,\ 0\ failed$ ]] || stop "rt ci ended with: $last"
   cp "$folder/crates/strudel/out/strudel" "$folder/released"

@@ -1,6 +1,6 @@
 """What the tools of this folder share: the checkout, the kit, and the store of built libraries over which they check.
 
-The store is a folder of libraries that a run of the gate has built (`tools/harvest` fills it). A crate is checked over
+The store is a folder of libraries that a run of the gate has built (`tools/harvest` or `tools/gate` fills it). A crate is checked over
 them without proving anything below it again. STRUDEL_STORE names the folder, else it is `/tmp/strudel-store`. Libraries
 that were changed in a checkout and built there by `tools/prove CRATE --build` are in the checkout's own part of it, and
 come first.
