@@ -23,20 +23,21 @@ use Rattle.template_items.specs.Scanning.{begins, note_run, noted, front_mark, f
 use Rattle.template_items.specs.Scanning.{front_inside, front_in, front, last_items, first_state, Scans, passes, finds, ends}
 use Rattle.tmpl.specs.Body.{TemplateFile}
 use Rattle.template_tags.specs.Terminals.{is_mark, name_value, label_value, IsReal}
-use Rattle.template_reader.specs.declared.refusal.TmplRefusal.{TmplRefusal}
-use Rattle.template_reader.specs.declared.refusal.TmplRefusal.TheVariants.{TooLong, Expected, Unclosed, TooDeep, UnknownVariable, TooLarge, NoMemory}
+use Rattle.template_layouts.specs.declared.refusal.TmplRefusal.{TmplRefusal}
+use Rattle.template_layouts.specs.declared.refusal.TmplRefusal.TheVariants.{TooLong, Expected, Unclosed, Twice, TooDeep, UnknownVariable, Unknown, TooLarge, NoMemory}
 use Rattle.template_reader.specs.Template.{within, spelled}
 use Rattle.template_reader.specs.Reading.{is_block, read_template, read_file}
 use Rattle.template_reader.specs.Faults.{Whole, Unfit, Beyond, twice, innermost, past_at, unfit_at, twice_met, stopped, earlier, met, templates_of, written, unless_before, unless_met, unfit_answer, beyond_answer, IsMade, IsWholeAnswer, IsWrittenAnswer, IsTemplatesAnswer}
-use Rattle.template_reader.specs.declared.met.Met.{Met}
-use Rattle.template_reader.specs.declared.written.Act.{Act}
-use Rattle.template_reader.specs.declared.written.Role.{Role}
-use Rattle.template_reader.specs.declared.written.Role.TheVariants as roles
-use Rattle.template_reader.specs.declared.written.Sort.{Sort}
-use Rattle.template_reader.specs.declared.written.Sort.TheVariants as sorts
-use Rattle.template_reader.specs.Written.{acts, first_view}
-use Rattle.template_reader.specs.Measures.{is_too_deep, is_too_large, sum}
-use Rattle.template_reader.specs.Together.{Fragment, Open, Above, Reading, find, titled_by, titles_by, titles, with_items, included_by, includes_by, includes, ends_template, ends_by, ends as ends_here, with_open, with_above, step_by, step, and_run, run, nothing_read, together}
+use Rattle.template_layouts.specs.declared.met.Met.{Met}
+use Rattle.template_layouts.specs.declared.written.Act.{Act}
+use Rattle.template_layouts.specs.declared.written.Role.{Role}
+use Rattle.template_layouts.specs.declared.written.Role.TheVariants as roles
+use Rattle.template_layouts.specs.declared.written.Sort.{Sort}
+use Rattle.template_layouts.specs.declared.written.Sort.TheVariants as sorts
+use Rattle.template_layouts.specs.Written.{acts, first_view}
+use Rattle.template_layouts.specs.Measures.{is_too_deep, is_too_large, sum, within_layout}
+use Rattle.template_layouts.specs.declared.measure.Measure.{Measure}
+use Rattle.template_layouts.specs.Together.{Fragment, Layout, Open, Above, Reading, find, is_above, met_at, named, titles_by, titles, frames_by, frames, with_items, included_by, includes_by, includes, frame_of, framed_measure, whole_items, ends_template, ends_by, and_ends, ends as ends_here, with_open, with_above, step_by, step, and_run, run, nothing_read, together}
 use Rattle.template_reader.specs.Entries.{file_from, AreRead}
 use Rattle.template_reader.specs.Template.{Entry}
 use Rattle.template_reader.proofs.Made.{decided}
@@ -233,20 +234,27 @@ abbrev IsToldStop : {A : Type 0} → Result A Met → Type 0
 IsToldStop (Ok x) = ⊤
 IsToldStop (Err m) = IsTold (Err m.refusal)
 
-titled_told : (s : Sort) (f : Option Fragment) (o : Open) (name : List ℕ) (i : Item) → IsToldStop (titled_by s f o name i)
-titled_told sorts.Fragment (Some f) o name i = λ is. cc
-titled_told sorts.Fragment None o name i = tt
-titled_told sorts.Template f o name i = tt
-
 titles_told : (l : Option (List ℕ)) (a : Above) (o : Open) (i : Item) → IsToldStop (titles_by l a o i)
 titles_told None a o i = tt
-titles_told (Some name) a o i = titled_told o.sort (find a.fragments name) o name i
+titles_told (Some name) a o i = by (is_above o.sort a name)
+  where
+    by : (b : Bool) → IsToldStop (if b then met_at i Twice else Ok (named o name i))
+    by true = λ is. cc
+    by false = tt
+
+frames_told : (l : Option (List ℕ)) (a : Above) (o : Open) (i : Item) → IsToldStop (frames_by l a o i)
+frames_told None a o i = tt
+frames_told (Some name) a o i = by (is_above sorts.Layout a name)
+  where
+    by : (b : Bool) → IsToldStop (if b then Ok (record o { frame = Some name }) else met_at i Unknown)
+    by true = tt
+    by false = λ is. cc
 
 included_told : (f : Option Fragment) (o : Open) (i : Item) → IsToldStop (included_by f o i)
 included_told None o i = λ is. cc
 included_told (Some f) o i = by (is_too_deep (sum o.measure.depth f.measure.deepest))
   where
-    by : (b : Bool) → IsToldStop (if b then Err (record { place = i.place; refusal = TooDeep o.measure.from }) else Ok (with_items o f))
+    by : (b : Bool) → IsToldStop (if b then met_at i (λ _. TooDeep o.measure.from) else Ok (with_items o f))
     by true = λ is. cc
     by false = tt
 
@@ -254,20 +262,29 @@ includes_told : (l : Option (List ℕ)) (a : Above) (o : Open) (i : Item) → Is
 includes_told None a o i = tt
 includes_told (Some name) a o i = included_told (find a.fragments name) o i
 
-template_told : (bytes : ℕ) (a : Above) (o : Open) (i : Item) → IsToldStop (ends_template bytes a o i)
-template_told bytes a o i = by (is_too_large bytes)
+measure_told : (l : Option Layout) (m : Measure) (i : Item) → IsToldStop (framed_measure l m i)
+measure_told None m i = tt
+measure_told (Some l) m i = by (is_too_deep (sum l.measure.hole_depth m.deepest))
   where
-    by : (b : Bool) → IsToldStop {A = Above} (if b then Err (record { place = i.place; refusal = TooLarge o.place }) else Ok (record {
-      fragments = a.fragments;
-      bytes = bytes;
-      templates = a.templates ++ (o.items ++ i ∷ []) ∷ [];
-    }))
+    by : (b : Bool) → IsToldStop (if b then met_at i (λ _. TooDeep l.measure.hole_place) else Ok (within_layout l.measure m))
     by true = λ is. cc
     by false = tt
 
-ends_told : (s : Sort) (a : Above) (o : Open) (i : Item) → IsToldStop (ends_by s a o i)
-ends_told sorts.Template a o i = template_told (sum a.bytes o.measure.bytes) a o i
-ends_told sorts.Fragment a o i = tt
+template_told : (bytes : ℕ) (a : Above) (o : Open) (i : Item) → IsToldStop (ends_template bytes a o i)
+template_told bytes a o i = by (is_too_large bytes)
+  where
+    by : (b : Bool) → IsToldStop {A = Above} (if b then met_at i (λ _. TooLarge o.place) else Ok (record a { bytes = bytes; templates = a.templates ++ whole_items a o i ∷ [] }))
+    by true = λ is. cc
+    by false = tt
+
+ends_told : (s : Sort) (m : Measure) (a : Above) (o : Open) (i : Item) → IsToldStop (ends_by s m a o i)
+ends_told sorts.Template m a o i = template_told (sum a.bytes m.bytes) a o i
+ends_told sorts.Layout m a o i = tt
+ends_told sorts.Fragment m a o i = tt
+
+and_ends_told : (r : Result Measure Met) (a : Above) (o : Open) (i : Item) → IsToldStop r → IsToldStop (and_ends r a o i)
+and_ends_told (Ok m) a o i h = ends_told o.sort m a o i
+and_ends_told (Err m) a o i h = h
 
 open_told : (a : Above) (r : Result Open Met) → IsToldStop r → IsToldStop (with_open a r)
 open_told a (Ok o) h = tt
@@ -281,11 +298,13 @@ step_told : (r : Role) (a : Above) (o : Open) (i : Item) → IsToldStop (step_by
 step_told roles.Kept a o i = tt
 step_told roles.Opens a o i = tt
 step_told roles.Titles a o i = open_told a (titles a o i) (titles_told (label_value i) a o i)
+step_told roles.Frames a o i = open_told a (frames a o i) (frames_told (name_value i) a o i)
+step_told roles.Holds a o i = tt
 step_told roles.Closes a o i = tt
 step_told roles.Precedes a o i = tt
 step_told roles.Includes a o i = open_told a (includes a o i) (includes_told (name_value i) a o i)
-step_told roles.Ends a o i = above_told (ends_here a o i) (ends_told o.sort a o i)
-step_told roles.Follows a o i = tt
+step_told roles.Ends a o i = above_told (ends_here a o i) (and_ends_told (framed_measure (frame_of a o.frame) o.measure i) a o i (measure_told (frame_of a o.frame) o.measure i))
+step_told roles.Passed a o i = tt
 step_told roles.Misplaced a o i = tt
 
 and_told : (s : Result Reading Met) (go : Reading → Result Above Met) → IsToldStop s → ((next : Reading) → IsToldStop (go next)) → IsToldStop (and_run s go)

@@ -6,8 +6,8 @@ ghost use Rattle.sd_lex.specs.declared.token.Token.{Token};
 ghost use Rattle.sd_lex.specs.declared.refusal.LexRefusal.{LexRefusal};
 ghost use Rattle.sd_lex.specs.Lexing.{IsTextOrFault};
 ghost use Rattle.tmpl.specs.Body.{TemplateFile};
-ghost use Rattle.template_reader.specs.declared.refusal.TmplRefusal.{TmplRefusal};
-ghost use Rattle.template_reader.specs.declared.refusal.TmplRefusal.TheVariants.{NoMemory as OutOfMemory};
+ghost use Rattle.template_layouts.specs.declared.refusal.TmplRefusal.{TmplRefusal};
+ghost use Rattle.template_layouts.specs.declared.refusal.TmplRefusal.TheVariants.{NoMemory as OutOfMemory};
 ghost use Rattle.template_reader.specs.Faults.{IsTemplatesAnswer};
 ghost use Rattle.command_trial.specs.Ends.{IsTrial};
 

@@ -19,7 +19,7 @@ use Rattle.query_reader.specs.declared.QueryRefusal.TheVariants.{NotSpelled, Not
 use Rattle.query_reader.specs.OneAnswer as query_text
 use Rattle.query_reader.proofs.QueryText as query_text_law
 use Rattle.tmpl.specs.Body.{TemplateFile}
-use Rattle.template_reader.specs.declared.refusal.TmplRefusal.{TmplRefusal}
+use Rattle.template_layouts.specs.declared.refusal.TmplRefusal.{TmplRefusal}
 use Rattle.template_reader.proofs.TemplateFiles as templates_law
 use Rattle.run_report.specs.declared.status.Place.{Place}
 use Rattle.run_report.specs.declared.status.Place.TheVariants.{At}

@@ -22,8 +22,8 @@ use Rattle.struql_check.specs.declared.refusal.CheckRefusal.TheVariants as check
 use Rattle.query_reader.specs.declared.QueryRefusal.{QueryRefusal}
 use Rattle.query_reader.specs.declared.QueryRefusal.TheVariants.{NotSpelled, NotChecked}
 use Rattle.query_reader.specs.Reads.{Spells, IsWritten, IsAccepted, IsRefused}
-use Rattle.template_reader.specs.declared.refusal.TmplRefusal.{TmplRefusal}
-use Rattle.template_reader.specs.declared.refusal.TmplRefusal.TheVariants as templates
+use Rattle.template_layouts.specs.declared.refusal.TmplRefusal.{TmplRefusal}
+use Rattle.template_layouts.specs.declared.refusal.TmplRefusal.TheVariants as templates
 use Rattle.template_reader.specs.Faults.{IsTemplatesAnswer}
 use Rattle.run_report.specs.declared.status.Place.TheVariants.{At}
 use Rattle.site_inputs.specs.declared.data.DataInputs.{DataInputs}

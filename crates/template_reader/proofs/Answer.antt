@@ -4,9 +4,9 @@ use Rattle.grammar.specs.Reading.{Read, Stuck, Past}
 use Rattle.template_items.specs.declared.item.Item.{Item}
 use Rattle.tmpl.specs.Body.{TemplateFile}
 use Rattle.tmpl.specs.declared.Templates.{Templates}
-use Rattle.template_reader.specs.declared.refusal.TmplRefusal.{TmplRefusal}
-use Rattle.template_reader.specs.declared.refusal.TmplRefusal.TheVariants.{TooLong, Expected, Unclosed, Twice, TooDeep, UnknownVariable, Unknown, TooLarge, NoMemory}
-use Rattle.template_reader.specs.declared.met.Met.{Met}
+use Rattle.template_layouts.specs.declared.refusal.TmplRefusal.{TmplRefusal}
+use Rattle.template_layouts.specs.declared.refusal.TmplRefusal.TheVariants.{TooLong, Expected, Unclosed, Twice, TooDeep, UnknownVariable, Unknown, TooLarge, NoMemory}
+use Rattle.template_layouts.specs.declared.met.Met.{Met}
 use Rattle.template_reader.specs.Template.{Entry}
 use Rattle.template_reader.specs.Reading.{read_file}
 use Rattle.template_reader.specs.Faults.{Whole, Unfit, Beyond, IsWholeAnswer, IsWrittenAnswer, unfit_answer, beyond_answer, UnlessNoMemory, GivesTemplates, OrNoMemory}

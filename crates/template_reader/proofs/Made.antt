@@ -9,20 +9,21 @@ use Rattle.grammar.proofs.Parts.{Part, whole_part}
 use Rattle.template_items.specs.declared.item.Item.{Item}
 use Rattle.template_tags.specs.Terminals.{IsReal}
 use Rattle.template_tags.specs.Tag.{expr, any_expr}
-use Rattle.template_reader.specs.declared.met.Met.{Met}
-use Rattle.template_reader.specs.declared.refusal.TmplRefusal.TheVariants.{TooLarge}
-use Rattle.template_reader.specs.declared.written.Act.{Act}
-use Rattle.template_reader.specs.declared.written.View.{View}
-use Rattle.template_reader.specs.declared.written.Role.{Role}
-use Rattle.template_reader.specs.declared.written.Role.TheVariants as roles
-use Rattle.template_reader.specs.declared.written.Sort.{Sort}
-use Rattle.template_reader.specs.declared.written.Sort.TheVariants as sorts
+use Rattle.template_layouts.specs.declared.met.Met.{Met}
+use Rattle.template_layouts.specs.declared.refusal.TmplRefusal.TheVariants.{TooLarge}
+use Rattle.template_layouts.specs.declared.written.Act.{Act}
+use Rattle.template_layouts.specs.declared.written.View.{View}
+use Rattle.template_layouts.specs.declared.written.Role.{Role}
+use Rattle.template_layouts.specs.declared.written.Role.TheVariants as roles
+use Rattle.template_layouts.specs.declared.written.Sort.{Sort}
+use Rattle.template_layouts.specs.declared.written.Sort.TheVariants as sorts
 use Rattle.template_reader.specs.Template.{body, template, Entry}
 use Rattle.template_reader.specs.Reading.{read_template, whole_of}
 use Rattle.template_reader.specs.Entries.{AreRead}
-use Rattle.template_reader.specs.Measures.{is_too_large, sum}
-use Rattle.template_reader.specs.Together.{Above, Open, Reading, with_open, with_above, titles, includes, ends_template, ends_by, ends, step_by, step, and_run, run, nothing_read, together}
-use Rattle.template_reader.specs.Written.{role_of, next, acts, first_view}
+use Rattle.template_layouts.specs.Measures.{is_too_large, sum}
+use Rattle.template_layouts.specs.Together.{Above, Open, Reading, with_open, with_above, titles, frames, includes, met_at, whole_items, frame_of, framed_measure, ends_template, ends_by, and_ends, ends, step_by, step, and_run, run, nothing_read, together}
+use Rattle.template_layouts.specs.declared.measure.Measure.{Measure}
+use Rattle.template_layouts.specs.Written.{role_of, next, acts, first_view}
 use Rattle.template_reader.specs.Faults.{templates_of}
 use Rattle.template_reader.proofs.FileParts.{entry_part}
 
@@ -113,13 +114,18 @@ above_few n (Err m) h = tt
 template_few : (bytes : ℕ) (a : Above) (o : Open) (i : Item) → AtMost (length a.templates + 1) (ends_template bytes a o i)
 template_few bytes a o i = by (is_too_large bytes)
   where
-    by : (b : Bool) → AtMost (length a.templates + 1) (if b then Err (record { place = i.place; refusal = TooLarge o.place }) else Ok (record { fragments = a.fragments; bytes = bytes; templates = a.templates ++ (o.items ++ i ∷ []) ∷ [] }))
+    by : (b : Bool) → AtMost (length a.templates + 1) (if b then met_at i (λ _. TooLarge o.place) else Ok (record a { bytes = bytes; templates = a.templates ++ whole_items a o i ∷ [] }))
     by true = tt
-    by false = omega (arith, length-append a.templates ((o.items ++ i ∷ []) ∷ []))
+    by false = omega (arith, length-append a.templates (whole_items a o i ∷ []))
 
-ends_few : (s : Sort) (a : Above) (o : Open) (i : Item) → AtMost (length a.templates + 1) (ends_by s a o i)
-ends_few sorts.Template a o i = template_few (sum a.bytes o.measure.bytes) a o i
-ends_few sorts.Fragment a o i = omega arith
+ends_few : (s : Sort) (m : Measure) (a : Above) (o : Open) (i : Item) → AtMost (length a.templates + 1) (ends_by s m a o i)
+ends_few sorts.Template m a o i = template_few (sum a.bytes m.bytes) a o i
+ends_few sorts.Layout m a o i = omega arith
+ends_few sorts.Fragment m a o i = omega arith
+
+and_ends_few : (r : Result Measure Met) (a : Above) (o : Open) (i : Item) → AtMost (length a.templates + 1) (and_ends r a o i)
+and_ends_few (Ok m) a o i = ends_few o.sort m a o i
+and_ends_few (Err m) a o i = tt
 
 one_over : (n : ℕ) → n ≤ n + 1
 one_over n = omega arith
@@ -128,11 +134,13 @@ step_few : (r : Role) (a : Above) (o : Open) (i : Item) → AtMostRead (length a
 step_few roles.Kept a o i = one_over (length a.templates)
 step_few roles.Opens a o i = one_over (length a.templates)
 step_few roles.Titles a o i = opened_few a (length a.templates + 1) (titles a o i) (one_over (length a.templates))
+step_few roles.Frames a o i = opened_few a (length a.templates + 1) (frames a o i) (one_over (length a.templates))
+step_few roles.Holds a o i = one_over (length a.templates)
 step_few roles.Closes a o i = one_over (length a.templates)
 step_few roles.Precedes a o i = one_over (length a.templates)
 step_few roles.Includes a o i = opened_few a (length a.templates + 1) (includes a o i) (one_over (length a.templates))
-step_few roles.Ends a o i = above_few (length a.templates + 1) (ends a o i) (ends_few o.sort a o i)
-step_few roles.Follows a o i = one_over (length a.templates)
+step_few roles.Ends a o i = above_few (length a.templates + 1) (ends a o i) (and_ends_few (framed_measure (frame_of a o.frame) o.measure i) a o i)
+step_few roles.Passed a o i = one_over (length a.templates)
 step_few roles.Misplaced a o i = one_over (length a.templates)
 
 more_few : (n m : ℕ) (r : Result Above Met) → n ≤ m → AtMost n r → AtMost m r
@@ -206,7 +214,7 @@ all_dropped ts j over = let left = length-drop j ts in no_length (drop j ts) (om
 
 acts_length : (v : View) (items : List Item) → length (acts v items) ≡ length items
 acts_length v [] = refl
-acts_length v (i ∷ items) = ap (λ n. suc n) (acts_length (next v i (role_of v i)) items)
+acts_length v (i ∷ items) = ap (λ n. suc n) (acts_length (next v i (role_of v i items)) items)
 
 few_of : (n : ℕ) (r : Result Above Met) → AtMost n r → length (templates_of r) ≤ n
 few_of n (Ok a) h = h

@@ -18,10 +18,10 @@ use Rattle.template_items.specs.declared.item.Front.{Front}
 use Rattle.template_items.specs.declared.item.Front.TheVariants.{Passes, Finds, Ends}
 use Rattle.template_items.specs.Scanning.{begins, note_run, noted, front_mark, tag_at, text_before, text_run, opens, front_between, front_tag, front_body, front_token, front_inside, front_in, front, last_items, Scans, passes, finds, ends}
 use Rattle.template_tags.specs.Terminals.{IsReal}
-use Rattle.template_reader.specs.declared.written.View.{View}
-use Rattle.template_reader.specs.declared.written.Role.{Role}
-use Rattle.template_reader.specs.declared.written.Role.TheVariants as roles
-use Rattle.template_reader.specs.Written.{role_of, next, acts, shown_by, and_item, viewed}
+use Rattle.template_layouts.specs.declared.written.View.{View}
+use Rattle.template_layouts.specs.declared.written.Role.{Role}
+use Rattle.template_layouts.specs.declared.written.Role.TheVariants as roles
+use Rattle.template_layouts.specs.Written.{role_of, next, acts, shown_by, and_item, viewed}
 use Rattle.template_reader.proofs.Faultless.{IsNoFault}
 
 -- an item that a text can have, unless it marks a fault
@@ -103,10 +103,12 @@ usual_and roles.Titles i rest h k = (h, k)
 usual_and roles.Closes i rest h k = (h, k)
 usual_and roles.Precedes i rest h k = k
 usual_and roles.Includes i rest h k = k
-usual_and roles.Follows i rest h k = k
+usual_and roles.Passed i rest h k = k
+usual_and roles.Frames i rest h k = k
+usual_and roles.Holds i rest h k = k
 usual_and roles.Ends i rest h k = ((λ none. none), k)
 usual_and roles.Misplaced i rest h k = ((λ none. none), k)
 
 pub viewed_usual : (v : View) (items : List Item) → Every IsUsual items → Every IsUsual (viewed (acts v items))
 viewed_usual v [] h = tt
-viewed_usual v (i ∷ items) h = usual_and (role_of v i) i (viewed (acts (next v i (role_of v i)) items)) h.0 (viewed_usual (next v i (role_of v i)) items h.1)
+viewed_usual v (i ∷ items) h = usual_and (role_of v i items) i (viewed (acts (next v i (role_of v i items)) items)) h.0 (viewed_usual (next v i (role_of v i items)) items h.1)

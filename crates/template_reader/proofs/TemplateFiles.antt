@@ -8,14 +8,14 @@ use Rattle.template_items.specs.declared.item.Item.{Item}
 use Rattle.template_items.specs.Scanning.{AreItems}
 use Rattle.template_items.proofs.Scanned.{one_list}
 use Rattle.tmpl.specs.Body.{TemplateFile}
-use Rattle.template_reader.specs.declared.met.Met.{Met}
-use Rattle.template_reader.specs.declared.refusal.TmplRefusal.{TmplRefusal}
+use Rattle.template_layouts.specs.declared.met.Met.{Met}
+use Rattle.template_layouts.specs.declared.refusal.TmplRefusal.{TmplRefusal}
 use Rattle.template_tags.specs.Terminals.{IsReal}
 use Rattle.template_reader.specs.Template.{Entry, within, spelled}
 use Rattle.template_reader.specs.Entries.{file_from}
 use Rattle.template_reader.specs.Reading.{read_file}
-use Rattle.template_reader.specs.Written.{first_view}
-use Rattle.template_reader.specs.Together.{together}
+use Rattle.template_layouts.specs.Written.{first_view}
+use Rattle.template_layouts.specs.Together.{together}
 use Rattle.template_reader.specs.Faults.{Ending, Whole, Unfit, Beyond, IsEnding, met, templates_of, written, IsMade, IsWholeAnswer, IsAnswerBy, IsWrittenAnswer, IsItemsAnswer}
 use Rattle.template_reader.proofs.FileParts.{file_part}
 use Rattle.template_reader.proofs.Made.{one_reading}

@@ -13,14 +13,14 @@ use Rattle.tmpl.specs.Reading.{file_of}
 use Rattle.tmpl.specs.declared.Templates.{Templates}
 use Rattle.template_reader.specs.declared.titles.Title.{Title}
 use Rattle.template_reader.specs.declared.titles.Names.{Names}
-use Rattle.template_reader.specs.declared.refusal.TmplRefusal.{TmplRefusal}
-use Rattle.template_reader.specs.declared.refusal.TmplRefusal.TheVariants.{TooLong, Expected, Unclosed, Twice}
-use Rattle.template_reader.specs.declared.refusal.TmplRefusal.TheVariants.{TooDeep, UnknownVariable, NoMemory}
+use Rattle.template_layouts.specs.declared.refusal.TmplRefusal.{TmplRefusal}
+use Rattle.template_layouts.specs.declared.refusal.TmplRefusal.TheVariants.{TooLong, Expected, Unclosed, Twice}
+use Rattle.template_layouts.specs.declared.refusal.TmplRefusal.TheVariants.{TooDeep, UnknownVariable, NoMemory}
 use Rattle.template_tags.specs.Terminals.{is_mark, name_value, IsReal}
-use Rattle.template_reader.specs.declared.met.Met.{Met}
+use Rattle.template_layouts.specs.declared.met.Met.{Met}
 use Rattle.template_reader.specs.Template.{Entry, named_value, within, spelled}
-use Rattle.template_reader.specs.Together.{Above, together}
-use Rattle.template_reader.specs.Written.{acts, first_view, viewed}
+use Rattle.template_layouts.specs.Together.{Above, together}
+use Rattle.template_layouts.specs.Written.{leads, acts, first_view, viewed}
 use Rattle.template_reader.specs.Reading.{is_block}
 use Rattle.template_reader.specs.Entries.{file_from, AreRead}
 
@@ -31,10 +31,11 @@ abbrev pub placed : Option (List ℕ) → ℕ → Option (List ℕ × ℕ)
 placed None place = None
 placed (Some name) place = Some (name, place)
 
--- the name behind the word COLLECTION, and its place
+-- the name after the word COLLECTION, and its place; an `IN` before `=` leads to a layout
 abbrev pub second_name : List ℕ → List Item → Option (List ℕ × ℕ)
 second_name word [] = None
-second_name word (i ∷ items) = placed (named_value word i) i.place
+second_name word (i ∷ items) =
+    if leads i items then None else placed (named_value word i) i.place
 
 -- that of a function's template, or of a collection's
 abbrev pub title_of_sort : List ℕ → ℕ → Option (List ℕ × ℕ) → Title

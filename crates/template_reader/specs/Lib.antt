@@ -1,9 +1,6 @@
 pub mod Template
 pub mod Reading
 pub mod Entries
-pub mod Written
-pub mod Measures
-pub mod Together
 pub mod Faults
 pub mod Filed
 pub mod OneAnswer

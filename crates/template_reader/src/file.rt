@@ -1,21 +1,21 @@
 //! Templates, one after another.
 
-ghost use Rattle.std.specs.Prelude.{◌≡◌, true, map, option_copied, option_map, IfOk};
+ghost use Rattle.std.specs.Prelude.{◌≡◌, true, map, option_map, IfOk};
 ghost use Rattle.grammar.specs.Reading.{take_one, starts};
 ghost use Rattle.grammar.specs.Reading as reading;
 ghost use Rattle.template_items.specs.declared.item.Mark.TheVariants as marks;
 ghost use Rattle.token_reader.specs.Gives.{Gives};
-ghost use Rattle.template_tags.specs.Terminals.{is_mark, label_value};
+ghost use Rattle.template_tags.specs.Terminals.{is_mark};
 ghost use Rattle.template_reader.specs.Template.{is_sort, named_value};
 ghost use Rattle.template_reader.specs.Entries.{head_of, entry_of, GivesAll};
 ghost use Rattle.template_reader.specs.Reading.{read_collection_head, read_function_head, read_named_head, is_named};
 ghost use Rattle.template_reader.specs.Reading.{read_head_rest, read_template, whole_of, read_file};
 
 use crate::body::body_at;
-use sd_lex::TokenKind;
 use sd_value::{NoMemory, Str};
 use std::alloc::Global;
-use template_items::{Item, ItemKind, Mark};
+use template_items::{Item, Mark};
+use template_layouts::label_of;
 use template_tags::{has_mark, mark_at, name_at};
 use tmpl::Part;
 use token_reader::Halt;
@@ -42,26 +42,13 @@ pub fn is_sort(word: &[u8]) -> bool
     word == b"COLLECTION".as_slice()
 }
 
-/// The name of a collection that the item is: a name, or a quoted text.
-pub fn collection_name(item: &Item) -> Option<&Str>
-    ensures { option_copied result ≡ label_value item.now }
-{
-    match &item.kind {
-        ItemKind::Token(token) => match token {
-            TokenKind::Name(text) | TokenKind::Quoted(text) => Some(text),
-            TokenKind::Int(_) | TokenKind::Sign(_) => None,
-        },
-        ItemKind::Text(_) | ItemKind::Mark(_) => None,
-    }
-}
-
 /// Whether a collection's name is next, behind the word COLLECTION.
 fn has_named(items: &[Item], word: &[u8]) -> bool
     ensures { result ≡ starts (is_named word.now) items.now }
 {
     match items {
         [] => false,
-        [first, ..] => is_sort(word) && collection_name(first).is_some(),
+        [first, ..] => is_sort(word) && label_of(first).is_some(),
     }
 }
 
@@ -76,7 +63,7 @@ fn named_at<'a>(
 {
     if let [first, rest @ ..] = items {
         if is_sort(word) {
-            if let Some(name) = collection_name(first) {
+            if let Some(name) = label_of(first) {
                 return Ok((name.copy(alloc)?, rest));
             }
         }

@@ -7,8 +7,8 @@ ghost use Rattle.tmpl.specs.Body.{TemplateFile};
 ghost use Rattle.tmpl.specs.Reading.{file_of};
 ghost use Rattle.template_reader.specs.Template.{Entry as PlainEntry};
 ghost use Rattle.template_reader.specs.Reading.{is_block};
-ghost use Rattle.template_reader.specs.Written.{acts, first_view};
-ghost use Rattle.template_reader.specs.Together.{items_of, together};
+ghost use Rattle.template_layouts.specs.Written.{acts, first_view};
+ghost use Rattle.template_layouts.specs.Together.{items_of, together};
 ghost use Rattle.template_reader.specs.Entries.{entry_of, file_from, AreEntries};
 ghost use Rattle.template_reader.specs.Faults.{twice_met, earlier, met, templates_of, unless_before, unless_met};
 ghost use Rattle.template_reader.specs.Faults.{past_at, unfit_at, unfit_answer, beyond_answer, IsMade, IsWholeAnswer};
@@ -17,14 +17,13 @@ ghost use Rattle.template_reader.specs.Faults.{GivesTemplates, OrNoMemory, AreIt
 ghost use Rattle.template_reader.specs.Filed.{Filed};
 
 use crate::file::{Entry, alone, file_at};
-use crate::met::{Halted, Met};
-use crate::refusal::TmplRefusal;
-use crate::titles::{innermost, is_mark, twice};
-use crate::together::together;
-use crate::written::{Act, acts, viewed};
+use crate::titles::{innermost, twice};
 use sd_value::NoMemory;
 use std::alloc::Global;
 use template_items::{Item, Mark, items};
+use template_layouts::{
+    Act, Halted, Met, TmplRefusal, acts, is_mark, put_together, viewed,
+};
 use tmpl::{NamedTemplate, Template, Templates};
 use token_reader::Halt;
 
@@ -260,7 +259,7 @@ fn put_in(alloc: Global, items: &[Item], list: &[Act]) -> Result<Put, NoMemory>
         (λ f. map items_of f.templates.items ≡ templates_of (together items.now)) }
 {
     let doubled = twice_met(twice(alloc, items)?);
-    match together(alloc, list) {
+    match put_together(alloc, list) {
         Ok(above) => Ok(Put {
             first: earlier(doubled, None),
             templates: above.templates,

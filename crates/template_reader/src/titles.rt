@@ -1,17 +1,17 @@
 //! Names of templates, and tags that are never closed.
 
 ghost use Rattle.std.specs.Prelude.{◌≡◌, not, IfOk, None, []};
-ghost use Rattle.template_tags.specs.Terminals.{is_mark};
 ghost use Rattle.template_reader.specs.Faults.{second_name, title_of, titles, Seen, is_seen, see, first_twice};
 ghost use Rattle.template_reader.specs.Faults.{nothing_seen, HoldNames, twice, opens_body, closes_body, open_tags};
 ghost use Rattle.template_reader.specs.Faults.{last_of, innermost};
 
-use crate::file::{collection_name, is_sort};
+use crate::file::is_sort;
 use sd_lex::TokenKind;
 use sd_value::{NoMemory, Str};
 use std::alloc::Global;
 use std::collections::BTreeSet;
 use template_items::{Item, ItemKind, Mark};
+use template_layouts::{is_mark, label_of, leads};
 use template_tags::has_mark;
 
 /// The sort, name and place of what a template presents.
@@ -26,9 +26,9 @@ pub struct Title {
 fn second_name(alloc: Global, word: &[u8], items: &[Item]) -> Result<Option<(Str, u64)>, NoMemory>
     ensures { IfOk result (λ o. o ≡ second_name word.now items.now) }
 {
-    if let [first, ..] = items {
-        if is_sort(word) {
-            if let Some(name) = collection_name(first) {
+    if let [first, rest @ ..] = items {
+        if is_sort(word) && !leads(first, rest) {
+            if let Some(name) = label_of(first) {
                 return Ok(Some((name.copy(alloc)?, first.place)));
             }
         }
@@ -125,16 +125,6 @@ pub fn twice(alloc: Global, items: &[Item]) -> Result<Option<u64>, NoMemory>
 {
     let titles = titles(alloc, items)?;
     first_twice(alloc, titles.as_slice())
-}
-
-/// Whether the item is this mark.
-pub fn is_mark(item: &Item, mark: Mark) -> bool
-    ensures { result ≡ is_mark mark item.now }
-{
-    match &item.kind {
-        ItemKind::Mark(found) => *found == mark,
-        ItemKind::Text(_) | ItemKind::Token(_) => false,
-    }
 }
 
 fn opens_body(item: &Item) -> bool

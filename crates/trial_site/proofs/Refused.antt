@@ -10,9 +10,9 @@ use Rattle.query_reader.specs.declared.QueryRefusal.{QueryRefusal}
 use Rattle.query_reader.specs.declared.QueryRefusal.TheVariants.{NotSpelled, NotChecked}
 use Rattle.query_reader.specs.Reads.{Reads}
 use Rattle.tmpl.specs.declared.Templates.{Templates}
-use Rattle.template_reader.specs.declared.refusal.TmplRefusal.{TmplRefusal}
-use Rattle.template_reader.specs.declared.refusal.TmplRefusal.TheVariants.{TooLong, Expected, Unclosed, Twice}
-use Rattle.template_reader.specs.declared.refusal.TmplRefusal.TheVariants.{TooDeep, UnknownVariable, Unknown, TooLarge, NoMemory}
+use Rattle.template_layouts.specs.declared.refusal.TmplRefusal.{TmplRefusal}
+use Rattle.template_layouts.specs.declared.refusal.TmplRefusal.TheVariants.{TooLong, Expected, Unclosed, Twice}
+use Rattle.template_layouts.specs.declared.refusal.TmplRefusal.TheVariants.{TooDeep, UnknownVariable, Unknown, TooLarge, NoMemory}
 use Rattle.template_reader.specs.Faults.{IsTemplatesAnswer, UnlessNoMemory}
 use Rattle.command_spec.specs.Limits.{text_limit}
 use Rattle.trial_spec.specs.Texts.{query_text, templates_text}

@@ -5,7 +5,7 @@ use Rattle.grammar.specs.Reading.{Outcome, Read, Stuck, Past, repeat}
 use Rattle.template_items.specs.declared.item.Item.{Item}
 use Rattle.template_items.specs.Scanning.{first_state}
 use Rattle.tmpl.specs.Body.{TemplateFile}
-use Rattle.template_reader.specs.declared.refusal.TmplRefusal.{TmplRefusal}
+use Rattle.template_layouts.specs.declared.refusal.TmplRefusal.{TmplRefusal}
 use Rattle.template_reader.specs.Template.{Entry, within}
 use Rattle.template_reader.specs.Reading.{read_text, read_format, read_leaf, read_compared, read_not_compared}
 use Rattle.template_reader.specs.Reading.{read_comparing, read_comparison, read_no_other, read_other_branch}
@@ -20,7 +20,7 @@ use Rattle.template_tags.specs.Reading.{read_expr, read_key, read_order, read_de
 use Rattle.template_tags.specs.Reading.{read_close, read_next, read_settings}
 use Rattle.template_tags.specs.Terminals.{writing_word, is_later_word, setting_word, compare_word, keyword_of}
 use Rattle.template_reader.specs.Entries.{file_from, AreRead}
-use Rattle.template_reader.specs.Together.{together}
+use Rattle.template_layouts.specs.Together.{together}
 use Rattle.template_reader.specs.Faults.{Whole, met, templates_of, written, IsWholeAnswer, IsTemplatesAnswer}
 use Rattle.template_reader.proofs.FileParts.{is_spelled}
 use Rattle.template_reader.proofs.Made.{alone_is}

@@ -9,7 +9,7 @@ use Rattle.query_reader.specs.declared.QueryRefusal.{QueryRefusal}
 use Rattle.query_reader.specs.declared.QueryRefusal.TheVariants.{NotSpelled, NotChecked}
 use Rattle.query_reader.specs.Reads.{Spells, IsRefused}
 use Rattle.tmpl.specs.Body.{TemplateFile}
-use Rattle.template_reader.specs.declared.refusal.TmplRefusal.{TmplRefusal}
+use Rattle.template_layouts.specs.declared.refusal.TmplRefusal.{TmplRefusal}
 use Rattle.template_reader.specs.Faults.{IsTemplatesAnswer}
 
 -- the reader of queries was out of memory

@@ -232,6 +232,97 @@ const ROWS: &[Row] = &[
                 </SIF></SIF></SIF></SIF></SIF></SIF></SIF></TEMPLATE>",
         ],
     },
+    // Layouts.
+    Row {
+        number: 81,
+        texts: &[
+            "<LAYOUT a>x^</LAYOUT>",
+            "<LAYOUT a><SBODY>^</TEMPLATE>",
+            "<FRAGMENT a>x^<SBODY></FRAGMENT>",
+            "<LAYOUT ^'a'><SBODY></LAYOUT>",
+            "<LAYOUT a ^b><SBODY></LAYOUT>",
+            "<LAYOUT a><SBODY></LAYOUT><FRAGMENT f ^IN=a>x</FRAGMENT>",
+            "<LAYOUT a><SBODY></LAYOUT><TEMPLATE F IN=^'a'>x</TEMPLATE>",
+            "<LAYOUT a><SBODY></LAYOUT><TEMPLATE F IN=a ^b>x</TEMPLATE>",
+            "<LAYOUT a><SBODY></LAYOUT><TEMPLATE F ^IN>x</TEMPLATE>",
+            "<LAYOUT a><SIF @a><SBODY>^</LAYOUT>",
+            "<LAYOUT a><SBODY></LAYOUT>^<SBODY>",
+            "<LAYOUT a><SBODY></LAYOUT>^</LAYOUT>",
+        ],
+    },
+    Row {
+        number: 82,
+        texts: &[
+            "^<LAYOUT a><SBODY>",
+            "<LAYOUT a>^<SIF @a><SBODY>",
+        ],
+    },
+    Row {
+        number: 83,
+        texts: &[
+            "<LAYOUT a><SBODY></LAYOUT><FRAGMENT a>1</FRAGMENT><LAYOUT ^a><SBODY></LAYOUT>",
+            "<LAYOUT a><SBODY></LAYOUT><TEMPLATE F IN=a>1</TEMPLATE><TEMPLATE ^F IN=b>2</TEMPLATE>",
+            "<TEMPLATE COLLECTION R>1</TEMPLATE><TEMPLATE R>2</TEMPLATE><FRAGMENT R>4</FRAGMENT>\
+                <LAYOUT R><SBODY></LAYOUT><TEMPLATE COLLECTION ^'R'>5</TEMPLATE>",
+        ],
+    },
+    Row {
+        number: 84,
+        texts: &[
+            "<LAYOUT a><SIF @f>^<SBODY></SIF></LAYOUT><TEMPLATE R IN=a><SIF @><SIF @><SIF @><SIF @>\
+                <SIF @><SIF @><SIF @><SIF @><SIF @><SIF @><SIF @><SIF @><SIF @><SIF @><SIF @><SIF @><SIF @>\
+                <SIF @><SIF @><SIF @><SIF @><SIF @><SIF @><SIF @><SIF @><SIF @><SIF @><SIF @><SIF @><SIF @>\
+                <SIF @><SIF @>x</SIF></SIF></SIF></SIF></SIF></SIF></SIF></SIF></SIF></SIF></SIF></SIF>\
+                </SIF></SIF></SIF></SIF></SIF></SIF></SIF></SIF></SIF></SIF></SIF></SIF></SIF></SIF></SIF>\
+                </SIF></SIF></SIF></SIF></SIF></TEMPLATE>",
+            "<LAYOUT a><SIF @f><SBODY></SIF></LAYOUT><LAYOUT b IN=a><SIF @f><SBODY><SIF @f>^<SBODY></SIF>\
+                </SIF></LAYOUT><TEMPLATE R IN=b><SIF @><SIF @><SIF @><SIF @><SIF @><SIF @><SIF @><SIF @>\
+                <SIF @><SIF @><SIF @><SIF @><SIF @><SIF @><SIF @><SIF @><SIF @><SIF @><SIF @><SIF @><SIF @>\
+                <SIF @><SIF @><SIF @><SIF @><SIF @><SIF @><SIF @><SIF @><SIF @>x</SIF></SIF></SIF></SIF>\
+                </SIF></SIF></SIF></SIF></SIF></SIF></SIF></SIF></SIF></SIF></SIF></SIF></SIF></SIF></SIF>\
+                </SIF></SIF></SIF></SIF></SIF></SIF></SIF></SIF></SIF></SIF></SIF></TEMPLATE>",
+            "<LAYOUT a><SIF @f>^<SBODY></SIF></LAYOUT><LAYOUT b IN=a><SIF @><SIF @><SIF @><SIF @><SIF @>\
+                <SIF @><SIF @><SIF @><SIF @><SIF @><SIF @><SIF @><SIF @><SIF @><SIF @><SIF @><SIF @><SIF @>\
+                <SIF @><SIF @><SIF @><SIF @><SIF @><SIF @><SIF @><SIF @><SIF @><SIF @><SIF @><SIF @><SIF @>\
+                <SIF @>x</SIF></SIF></SIF></SIF></SIF></SIF></SIF></SIF></SIF></SIF></SIF></SIF></SIF></SIF>\
+                </SIF></SIF></SIF></SIF></SIF></SIF></SIF></SIF></SIF></SIF></SIF></SIF></SIF></SIF></SIF>\
+                </SIF></SIF></SIF><SBODY></LAYOUT>",
+        ],
+    },
+    Row {
+        number: 85,
+        texts: &[
+            "<LAYOUT a><SFOR v IN @f><SBODY></SFOR></LAYOUT><TEMPLATE R IN=a><SFMT ^v></TEMPLATE>",
+            "<LAYOUT a><SFMT ^b.c><SBODY></LAYOUT><TEMPLATE R IN=a>x</TEMPLATE>",
+        ],
+    },
+    Row {
+        number: 86,
+        texts: &[
+            "<TEMPLATE R IN=^main>x</TEMPLATE>",
+            "<TEMPLATE R IN=^a>x</TEMPLATE><LAYOUT a><SBODY></LAYOUT>",
+            "<LAYOUT a IN=^a><SBODY></LAYOUT>",
+            "<FRAGMENT a>x</FRAGMENT><TEMPLATE R IN=^a>x</TEMPLATE>",
+            "<LAYOUT a><SBODY></LAYOUT><TEMPLATE R><SINCLUDE ^a></TEMPLATE>",
+        ],
+    },
+    Row {
+        number: 0,
+        texts: &[
+            "<LAYOUT outer>[<SBODY>]</LAYOUT><LAYOUT inner IN=outer>(<SBODY><SFMT @t>)</LAYOUT>\
+                <TEMPLATE F IN=inner>x</TEMPLATE>",
+            "<LAYOUT a>(<SBODY>)</LAYOUT><TEMPLATE COLLECTION IN=a>x</TEMPLATE><TEMPLATE COLLECTION IN>y</TEMPLATE>\
+                <TEMPLATE COLLECTION A IN = a>z</TEMPLATE><TEMPLATE IN IN=a>w</TEMPLATE>",
+            "<LAYOUT a><SFOR v IN @f><SBODY>:<SFMT v.n> </SFOR></LAYOUT><TEMPLATE R IN=a><SFOR v IN @f.n><SFMT v></SFOR>\
+                </TEMPLATE>",
+            "<LAYOUT a><SIF @f><SBODY></SIF></LAYOUT><TEMPLATE R IN=a><SIF @><SIF @><SIF @><SIF @><SIF @>\
+                <SIF @><SIF @><SIF @><SIF @><SIF @><SIF @><SIF @><SIF @><SIF @><SIF @><SIF @><SIF @><SIF @>\
+                <SIF @><SIF @><SIF @><SIF @><SIF @><SIF @><SIF @><SIF @><SIF @><SIF @><SIF @><SIF @><SIF @>x\
+                </SIF></SIF></SIF></SIF></SIF></SIF></SIF></SIF></SIF></SIF></SIF></SIF></SIF></SIF></SIF>\
+                </SIF></SIF></SIF></SIF></SIF></SIF></SIF></SIF></SIF></SIF></SIF></SIF></SIF></SIF></SIF>\
+                </SIF></TEMPLATE>",
+        ],
+    },
     // Files of templates that are near to those, and are not refused.
     Row {
         number: 0,
@@ -339,6 +430,18 @@ const LARGE_ROWS: &[LargeRow] = &[
     LargeRow {
         text: "<TEMPLATE R>x</TEMPLATE><TEMPLATE COLLECTION F><SINCLUDE a12></TEMPLATE>",
         place: Some(45),
+    },
+    LargeRow {
+        text: "<LAYOUT l><SBODY><SBODY></LAYOUT><TEMPLATE R IN=l><SINCLUDE a11></TEMPLATE>",
+        place: None,
+    },
+    LargeRow {
+        text: "<LAYOUT l><SBODY>x<SBODY></LAYOUT><TEMPLATE R IN=l><SINCLUDE a11></TEMPLATE>",
+        place: Some(44),
+    },
+    LargeRow {
+        text: "<LAYOUT l><SBODY>x</LAYOUT><LAYOUT m IN=l><SINCLUDE a12><SBODY></LAYOUT><TEMPLATE R IN=m></TEMPLATE>",
+        place: Some(82),
     },
     LargeRow {
         text: "<TEMPLATE R><SFMT @></TEMPLATE><TEMPLATE F><SINCLUDE a12></TEMPLATE><TEMPLATE ",

@@ -1,6 +1,6 @@
 use Rattle.std.proofs.Common.{map}
 use Rattle.template_reader.specs.Entries.{entry_of}
-use Rattle.template_reader.specs.Together.{items_of}
+use Rattle.template_layouts.specs.Together.{items_of}
 use Rattle.template_reader.proofs.Answer.{whole_exact, unfit_exact, beyond_exact}
 use Rattle.template_reader.proofs.FileParts.{is_past}
 use Rattle.template_reader.proofs.templates.answer.Goals as goal

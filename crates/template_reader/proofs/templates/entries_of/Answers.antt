@@ -3,7 +3,7 @@ use Rattle.std.specs.Prelude.{option_map}
 use Rattle.std.proofs.lemmas.List.{map-append}
 use Rattle.template_reader.specs.Entries.{entry_of}
 use Rattle.template_reader.specs.Reading.{read_template, whole_of}
-use Rattle.template_reader.specs.Together.{items_of}
+use Rattle.template_layouts.specs.Together.{items_of}
 use Rattle.template_reader.proofs.Seen.{split_at}
 use Rattle.template_reader.proofs.Made.{alone_some, alone_none, one_more, none_more, all_read, all_dropped}
 use Rattle.template_reader.proofs.templates.entries_of.Goals as goal

@@ -1,6 +1,6 @@
 use Rattle.std.proofs.Common.{drop, map}
 use Rattle.template_reader.specs.Entries.{entry_of}
-use Rattle.template_reader.specs.Together.{items_of}
+use Rattle.template_layouts.specs.Together.{items_of}
 use Rattle.template_reader.proofs.Made.{Progress}
 use Rattle.template_reader.proofs.templates.entries_of.Given as goal
 

@@ -1,7 +1,7 @@
 use Rattle.std.proofs.Common.{◌≡◌, length, map, arith, subst}
 use Rattle.std.proofs.lemmas.List.{length-map}
 use Rattle.template_reader.specs.Entries.{entry_of, AreRead, AreEntries}
-use Rattle.template_reader.specs.Together.{items_of}
+use Rattle.template_layouts.specs.Together.{items_of}
 use Rattle.template_reader.proofs.Made.{read_length}
 use Rattle.template_reader.proofs.templates.made.Goals as goal
 

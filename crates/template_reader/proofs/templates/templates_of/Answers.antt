@@ -1,6 +1,6 @@
 use Rattle.std.proofs.Common.{rules, ◌≡◌, length, map, arith, ap}
 use Rattle.std.proofs.lemmas.List.{length-map}
-use Rattle.template_reader.specs.Together.{items_of, together}
+use Rattle.template_layouts.specs.Together.{items_of, together}
 use Rattle.template_reader.specs.Faults.{templates_of, IsItemsAnswer, UnlessNoMemory}
 use Rattle.template_reader.proofs.Answer.{gives}
 use Rattle.template_reader.proofs.Made.{templates_few}

@@ -1,6 +1,0 @@
-use Rattle.std.proofs.Common.{◌≡◌, drop}
-use Rattle.template_reader.specs.Together.{reading_of, run, nothing_read}
-use Rattle.template_reader.proofs.together.together.Given as goal
-
-abbrev pub invariant-loop-act : goal.invariant-loop-act
-invariant-loop-act l = run (reading_of l.reading) (drop l.act-index l.acts) ≡ run nothing_read l.acts
