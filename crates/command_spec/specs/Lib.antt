@@ -8,3 +8,4 @@ pub mod Words
 pub mod Ranges
 pub mod Inputs
 pub mod Waits
+pub mod AccessLog

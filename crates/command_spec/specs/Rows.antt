@@ -5,7 +5,7 @@ use Rattle.std.specs.Option.{option_copied}
 use Rattle.std.specs.Str.{bytes_eq}
 use Rattle.command_spec.specs.declared.numbers.NumberOption.TheVariants.{Port, Connections, Requests}
 use Rattle.command_spec.specs.declared.numbers.NumberOption.TheVariants.{Turns, Cache, CacheBytes, Idle, Stall, OpenAtOnce, Every}
-use Rattle.command_spec.specs.declared.options.TextOption.TheVariants.{Host, Watch, Over}
+use Rattle.command_spec.specs.declared.options.TextOption.TheVariants.{Host, Watch, Log, Over}
 use Rattle.command_spec.specs.declared.options.ValueOption.{ValueOption}
 use Rattle.command_spec.specs.declared.options.ValueOption.TheVariants.{Number, Text}
 use Rattle.command_spec.specs.declared.rows.CommandRow.{CommandRow}
@@ -28,7 +28,7 @@ abbrev pub options_of_serve : List ValueOption
 options_of_serve =
     Number Port ∷ Text Host ∷ Number Connections ∷ Number Requests ∷ Number Turns ∷ Number Cache
     ∷ Number CacheBytes ∷ Number Idle ∷ Number Stall ∷ Number OpenAtOnce ∷ Text Watch ∷ Number Every
-    ∷ Text Over ∷ []
+    ∷ Text Log ∷ Text Over ∷ []
 
 -- the options of `replay`
 abbrev pub options_of_replay : List ValueOption
@@ -197,6 +197,7 @@ serve_row = record {
       ++ codes "  --open N         connections that are open at once, 1 to 16384 (16384)\n"
       ++ codes "  --watch PATH     a file of data text that replaces the data when it has changed\n"
       ++ codes "  --every N        connections after which it is read, 1 to 4294967296 (1)\n"
+      ++ codes "  --log FILE       a file that a line of each reply is added to\n"
       ++ codes "  --over FILE      a first query, whose site over the data files is the data\n"
       ++ codes "  --whole          makes the whole site first and takes its pages from there\n"
       ++ codes "  --lenient        reads CSV and JSON by the lenient rules\n";

@@ -6,7 +6,7 @@ use Rattle.std.specs.Str.{bytes_eq, is_utf8}
 use Rattle.command_spec.specs.Limits.{entry_limit}
 use Rattle.command_spec.specs.declared.numbers.NumberOption.TheVariants.{Port, Connections, Requests}
 use Rattle.command_spec.specs.declared.numbers.NumberOption.TheVariants.{Turns, Cache, CacheBytes, Idle, Stall, OpenAtOnce, Every}
-use Rattle.command_spec.specs.declared.options.TextOption.TheVariants.{Host, Watch, Over}
+use Rattle.command_spec.specs.declared.options.TextOption.TheVariants.{Host, Watch, Log, Over}
 use Rattle.command_spec.specs.declared.options.ValueOption.TheVariants as values
 use Rattle.command_spec.specs.declared.rows.CommandName.{CommandName}
 use Rattle.command_spec.specs.declared.rows.CommandName.TheVariants as names
@@ -134,8 +134,9 @@ version_command words = None
 
 -- the words of `serve`, its options aside
 abbrev pub serve_command
-    : ServeOptions → Option WatchOptions → Bool → Option (List ℕ) → List (List ℕ) → Option Command
-serve_command options watch lenient over (query ∷ templates ∷ source ∷ sources) =
+    : ServeOptions → Option WatchOptions → (log : Option (List ℕ)) → (lenient : Bool)
+    → (over : Option (List ℕ)) → List (List ℕ) → Option Command
+serve_command options watch log lenient over (query ∷ templates ∷ source ∷ sources) =
     Some (Serve (record {
       query = query;
       templates = templates;
@@ -143,8 +144,9 @@ serve_command options watch lenient over (query ∷ templates ∷ source ∷ sou
       over = over;
       options = options;
       watch = watch;
+      log = log;
     }))
-serve_command options watch lenient over words = None
+serve_command options watch log lenient over words = None
 
 -- the words of `replay`, its options aside
 abbrev pub replay_command
@@ -237,6 +239,10 @@ watch_by (Some path) text =
 abbrev pub serve_watch : Given → Option (Option WatchOptions)
 serve_watch given = watch_by (given (values.Text Watch)) (given (values.Number Every))
 
+-- the file that a line of each reply is added to, if there is one
+abbrev pub log_file : Given → Option (List ℕ)
+log_file given = given (values.Text Log)
+
 -- the file of the first query, if there is one
 abbrev pub first_query : Given → Option (List ℕ)
 first_query given = given (values.Text Over)
@@ -246,7 +252,7 @@ abbrev pub serve_with_words : Flags → Given → List (List ℕ) → Option Com
 serve_with_words flags given words = do
   options ← serve_options flags.own given
   watch ← serve_watch given
-  serve_command options watch flags.lenient (first_query given) words
+  serve_command options watch (log_file given) flags.lenient (first_query given) words
 
 -- `replay` with these options and words
 abbrev pub replay_with_words : Flags → Given → List (List ℕ) → Option Command

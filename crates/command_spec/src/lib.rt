@@ -201,6 +201,8 @@ pub struct ServeCommand {
     pub options: ServeOptions,
     /// The file that is watched, if one is.
     pub watch: Option<WatchOptions>,
+    /// The file that a line of each reply is added to, if there is one.
+    pub log: Option<Str>,
 }
 
 /// `replay [--lenient] [--over FILE] QUERY TEMPLATES SCRIPT DATA..`: the same over the events of a script.

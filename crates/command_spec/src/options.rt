@@ -9,6 +9,7 @@ use crate::numbers::NumberOption;
 pub enum TextOption {
     Host,
     Watch,
+    Log,
     Over,
 }
 
@@ -20,6 +21,7 @@ impl TextOption {
         match self {
             TextOption::Host => "host",
             TextOption::Watch => "watch",
+            TextOption::Log => "log",
             TextOption::Over => "over",
         }
     }

@@ -75,6 +75,7 @@ const SERVE_OPTIONS: &[ValueOption] = &[
     ValueOption::Number(NumberOption::OpenAtOnce),
     ValueOption::Text(TextOption::Watch),
     ValueOption::Number(NumberOption::Every),
+    ValueOption::Text(TextOption::Log),
     ValueOption::Text(TextOption::Over),
 ];
 
@@ -235,6 +236,7 @@ Serves the pages of the site on 127.0.0.1 over HTTP.\n\
 \x20 --open N         connections that are open at once, 1 to 16384 (16384)\n\
 \x20 --watch PATH     a file of data text that replaces the data when it has changed\n\
 \x20 --every N        connections after which it is read, 1 to 4294967296 (1)\n\
+\x20 --log FILE       a file that a line of each reply is added to\n\
 \x20 --over FILE      a first query, whose site over the data files is the data\n\
 \x20 --whole          makes the whole site first and takes its pages from there\n\
 \x20 --lenient        reads CSV and JSON by the lenient rules\n",

@@ -7,7 +7,7 @@ use Rattle.clap.specs.Walk.{Rule, Text, arg_by_id, arg_by_long, arg_by_short, ha
 use Rattle.clap.specs.declared.builder.value_parser.ValueParser.TheVariants.{String}
 use Rattle.command_spec.specs.declared.options.ValueOption.{ValueOption}
 use Rattle.command_spec.specs.declared.numbers.NumberOption.TheVariants.{Port, Connections, Requests, Turns, Cache, CacheBytes, Idle, Stall, OpenAtOnce, Every}
-use Rattle.command_spec.specs.declared.options.TextOption.TheVariants.{Host, Watch, Over}
+use Rattle.command_spec.specs.declared.options.TextOption.TheVariants.{Host, Watch, Log, Over}
 use Rattle.command_spec.specs.declared.options.ValueOption.TheVariants.{Number, Text as Texted}
 use Rattle.command_spec.specs.Values.{option_name, option_word, is_among}
 use Rattle.command_words.specs.Parsed.{option_rule, words_rule}
@@ -65,6 +65,7 @@ dashed (Number Stall) = refl
 dashed (Number OpenAtOnce) = refl
 dashed (Texted Watch) = refl
 dashed (Number Every) = refl
+dashed (Texted Log) = refl
 dashed (Texted Over) = refl
 
 pub own_name : (option : ValueOption) → bytes_eq (codes "words") (option_name option) ≡ false
@@ -80,6 +81,7 @@ own_name (Number Stall) = refl
 own_name (Number OpenAtOnce) = refl
 own_name (Texted Watch) = refl
 own_name (Number Every) = refl
+own_name (Texted Log) = refl
 own_name (Texted Over) = refl
 
 -- the option of a name
@@ -97,6 +99,7 @@ which name =
     else if bytes_eq name (codes "open") then Some (Number OpenAtOnce)
     else if bytes_eq name (codes "watch") then Some (Texted Watch)
     else if bytes_eq name (codes "every") then Some (Number Every)
+    else if bytes_eq name (codes "log") then Some (Texted Log)
     else if bytes_eq name (codes "over") then Some (Texted Over)
     else None
 
@@ -114,6 +117,7 @@ which_own (Number Stall) = refl
 which_own (Number OpenAtOnce) = refl
 which_own (Texted Watch) = refl
 which_own (Number Every) = refl
+which_own (Texted Log) = refl
 which_own (Texted Over) = refl
 
 -- options of one name are one

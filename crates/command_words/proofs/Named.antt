@@ -6,7 +6,7 @@ use Rattle.std.specs.Str.{bytes_eq}
 use Rattle.clap.specs.Walk.{Row, Text}
 use Rattle.command_spec.specs.declared.options.ValueOption.{ValueOption}
 use Rattle.command_spec.specs.declared.numbers.NumberOption.TheVariants.{Port, Connections, Requests, Turns, Cache, CacheBytes, Idle, Stall, OpenAtOnce, Every}
-use Rattle.command_spec.specs.declared.options.TextOption.TheVariants.{Host, Watch, Over}
+use Rattle.command_spec.specs.declared.options.TextOption.TheVariants.{Host, Watch, Log, Over}
 use Rattle.command_spec.specs.declared.options.ValueOption.TheVariants.{Number, Text as Texted}
 use Rattle.command_spec.specs.declared.RunLimits.{RunLimits}
 use Rattle.command_spec.specs.declared.ServeOptions.{ServeOptions}
@@ -19,7 +19,7 @@ use Rattle.command_spec.specs.declared.Command.{Command}
 use Rattle.command_spec.specs.Rows.{row}
 use Rattle.command_spec.specs.Options.{Parts, Setting}
 use Rattle.command_spec.specs.Values.{Given, are_among, are_options, first_value, given_in, is_once, is_among, option_word, values_of}
-use Rattle.command_spec.specs.Words.{run_limits, serve_waits, serve_options, serve_watch, watch_by, first_query, page_command, build_command, data_command}
+use Rattle.command_spec.specs.Words.{run_limits, serve_waits, serve_options, serve_watch, watch_by, log_file, first_query, page_command, build_command, data_command}
 use Rattle.command_spec.specs.Words.{serve_command, replay_command, command_of, named_command}
 use Rattle.command_words.specs.Parsed.{found, command_in_rows}
 use Rattle.command_words.proofs.Lookups.{IsIn, same, two}
@@ -28,8 +28,8 @@ use Rattle.command_words.proofs.Behind.{Agrees, Slot, set, unset}
 
 -- ---- the same texts of options give the same command
 
-abbrev serving : Flags → List Text → Option ServeOptions → Option (Option WatchOptions) → Option Text → Option Command
-serving flags words options watch over = option_and_then (λ o. option_and_then (λ w. serve_command o w flags.lenient over words) watch) options
+abbrev serving : Flags → List Text → Option ServeOptions → Option (Option WatchOptions) → (log over : Option Text) → Option Command
+serving flags words options watch log over = option_and_then (λ o. option_and_then (λ w. serve_command o w log flags.lenient over words) watch) options
 
 abbrev replaying : Flags → List Text → Option RunLimits → Option Text → Option Command
 replaying flags words limits over = option_and_then (λ l. replay_command l flags.lenient over words) limits
@@ -49,8 +49,8 @@ module _ (f g : Given) (equal : (o : ValueOption) → f o ≡ g o) where
 
   same_serve : (flags : Flags) (words : List Text) → command_of Serve flags f words ≡ command_of Serve flags g words
   same_serve flags words =
-      ap₂ (λ o w. serving flags words o w (first_query f)) (same_options flags.own) same_watch
-      ∙ ap (serving flags words (serve_options flags.own g) (serve_watch g)) (equal (Texted Over))
+      ap₂ (λ o w. serving flags words o w (log_file f) (first_query f)) (same_options flags.own) same_watch
+      ∙ ap₂ (serving flags words (serve_options flags.own g) (serve_watch g)) (equal (Texted Log)) (equal (Texted Over))
 
   same_replay : (flags : Flags) (words : List Text) → command_of Replay flags f words ≡ command_of Replay flags g words
   same_replay flags words = ap₂ (replaying flags words) same_limits (equal (Texted Over))

@@ -13,7 +13,7 @@ use Rattle.clap.specs.Walk.{Text}
 use Rattle.clap.specs.Lexer.{has_byte, long_of, name_and_value, short_of}
 use Rattle.command_spec.specs.declared.options.ValueOption.{ValueOption}
 use Rattle.command_spec.specs.declared.numbers.NumberOption.TheVariants.{Port, Connections, Requests, Turns, Cache, CacheBytes, Idle, Stall, OpenAtOnce, Every}
-use Rattle.command_spec.specs.declared.options.TextOption.TheVariants.{Host, Watch, Over}
+use Rattle.command_spec.specs.declared.options.TextOption.TheVariants.{Host, Watch, Log, Over}
 use Rattle.command_spec.specs.declared.options.ValueOption.TheVariants.{Number, Text as Texted}
 use Rattle.command_spec.specs.Values.{option_word, is_among}
 use Rattle.command_spec.specs.Options.{Setting, Role, Complete, Open, Misplaced, is_equals, is_option, joined, option_role, word_role}
@@ -139,6 +139,7 @@ one_dash first rest d (Number Stall) = rw d refl
 one_dash first rest d (Number OpenAtOnce) = rw d refl
 one_dash first rest d (Texted Watch) = rw d refl
 one_dash first rest d (Number Every) = rw d refl
+one_dash first rest d (Texted Log) = rw d refl
 one_dash first rest d (Texted Over) = rw d refl
 
 dash_alone : (o : ValueOption) → bytes_eq (45 ∷ []) (option_word o) ≡ false
@@ -154,6 +155,7 @@ dash_alone (Number Stall) = refl
 dash_alone (Number OpenAtOnce) = refl
 dash_alone (Texted Watch) = refl
 dash_alone (Number Every) = refl
+dash_alone (Texted Log) = refl
 dash_alone (Texted Over) = refl
 
 dash_before : (first : ℕ) (rest : Text) → nat_eq first 45 ≡ false → (n : ℕ) → IsNoOption (take n (first ∷ rest)) → IsNoOption (45 ∷ take n (first ∷ rest))

@@ -375,6 +375,17 @@ fn serve_watch(
     }
 }
 
+// The file that a line of each reply is added to, if the option is given.
+fn log_file(alloc: Global, matches: &ArgMatches<'_>) -> Result<Option<Str>, NoMemory>
+    ensures { IfOk result
+        (λ log. log ≡ specs.log_file (parsed.found (rows_of (found_of matches.now)))) }
+{
+    match text_in(ValueOption::Text(TextOption::Log), matches) {
+        Some(path) => Ok(Some(Str::new(alloc, path.as_bytes())?)),
+        None => Ok(None),
+    }
+}
+
 // The file of the first query, if the option is given.
 fn first_query(alloc: Global, matches: &ArgMatches<'_>) -> Result<Option<Str>, NoMemory>
     ensures { IfOk result
@@ -390,6 +401,7 @@ fn serve_command(
     alloc: Global,
     options: ServeOptions,
     watch: Option<WatchOptions>,
+    log: Option<Str>,
     lenient: bool,
     over: Option<Str>,
     words: &[&str],
@@ -397,7 +409,7 @@ fn serve_command(
     requires options { AreServeOptions options }
     requires watch { IfSome watch IsWatchInRange }
     ensures exact { IfOk result (λ given. given
-        ≡ specs.serve_command options watch lenient over (texts words.now)) }
+        ≡ specs.serve_command options watch log lenient over (texts words.now)) }
     ensures ranges { IfOk result (λ given. IfSome given IsInRange) }
 {
     let [query, templates, sources @ ..] = words else {
@@ -413,6 +425,7 @@ fn serve_command(
         over,
         options,
         watch,
+        log,
     })))
 }
 
@@ -461,8 +474,9 @@ fn serve_with_words(
     let Some(watch) = serve_watch(alloc, matches)? else {
         return Ok(None);
     };
+    let log = log_file(alloc, matches)?;
     let over = first_query(alloc, matches)?;
-    serve_command(alloc, options, watch, flags.lenient, over, words)
+    serve_command(alloc, options, watch, log, flags.lenient, over, words)
 }
 
 fn replay_with_words(
@@ -658,8 +672,8 @@ fn texts_of<'a>(alloc: Global, words: &'a [Str]) -> Result<Option<Vec<&'a str>>,
 /// The first word is a command's name. Of the words behind it, those before `--` that have two bytes or more and begin
 /// with a dash are options: `--name=value`, or `--name` with the next word as its value, which is no option itself. The
 /// first `--` is dropped, and the words behind it are no options. Each option is one of the command's, occurs at most
-/// once, and has a number of 1 to 10 digits within its range, but for `--over` and `--watch`, whose values are paths, and
-/// `--host`, whose value is names between commas, none of them empty;
+/// once, and has a number of 1 to 10 digits within its range, but for `--over`, `--watch` and `--log`, whose values are paths,
+/// and `--host`, whose value is names between commas, none of them empty;
 /// `--every` doesn't stand without `--watch`. `--lenient` of every command that reads data, `--dot` of `schema`, `--whole` of
 /// `serve`, and `--here` of `check`, which `check` wants exactly where it has data, have no value. The other words are as
 /// many as the command wants. Every word is a text, and none is empty.

@@ -1,6 +1,7 @@
 -- A body whose expressions read the same in two sites makes the same of a value, and one without
 -- EMBED makes bytes alone: what else depends on a body depends on its expressions.
-use Rattle.std.specs.Prelude.{◌≡◌, ℕ, Bool, true, false, List, [], ◌∷◌, ◌++◌, Option, Some, None, Contains}
+use Rattle.std.specs.Prelude.{◌≡◌, ℕ, Bool, true, false, List, [], ◌∷◌, ◌++◌, Option, Some, None, Contains, length}
+use Rattle.std.specs.Fmt.{decimal}
 use Rattle.std.proofs.Common.{refl, sym, ◌∙◌, subst, inl, inr}
 use Rattle.std.proofs.lemmas.List.{map-append}
 use Rattle.std.proofs.lemmas.List.Elements.{Contains-append_left, Contains-append_right}
@@ -10,9 +11,9 @@ use Rattle.sd_value.specs.Members.{Contains-here, Contains-there}
 use Rattle.sd_value.specs.Names.{Word}
 use Rattle.tmpl.specs.declared.Order.{Order}
 use Rattle.tmpl.specs.declared.Mode.{Mode}
-use Rattle.tmpl.specs.declared.Mode.TheVariants.{Written, Embed, Link}
+use Rattle.tmpl.specs.declared.Mode.TheVariants.{Written, Embed, Link, Labelled}
 use Rattle.tmpl.specs.declared.Against.{Against}
-use Rattle.tmpl.specs.Body.{Body, done, text, format, choice, repeat, TemplateFile}
+use Rattle.tmpl.specs.Body.{Body, done, text, format, count, choice, repeat, TemplateFile}
 use Rattle.tmpl.specs.Expressions.{Use, uses, key_words, link_words, is_embed}
 use Rattle.page_spec.specs.Site.{Site, Reaches, Env, InRange, HasKey, Arranged}
 use Rattle.page_spec.specs.Pieces.{Item, byte, bytes, TestHolds, Taken, Formatted, delimiter, Joined, binding, Expands}
@@ -81,6 +82,7 @@ formatted_to s r n f (Link (Some word)) x inside bare a v ps (inl (label, key, i
     inl (label, keys_to s r n x (Some word) inside a v (Some label) key, is)
 formatted_to s r n f (Link (Some word)) x inside bare a v ps (inr (key, is)) =
     inr (keys_to s r n x (Some word) inside a v None key, is)
+formatted_to s r n f (Labelled label) x inside bare a v ps h = h
 formatted_to s r n f Embed x inside bare a v ps h = let impossible : ⊥ = cc in absurd impossible
 
 joined_to : (P Q : Value → List Item → Type 0) (between : List Item) → ((v : Value) (ps : List Item) → P v ps → Q v ps)
@@ -107,6 +109,15 @@ expands_to s r n f (format x m o rest) alike e at ps (vs, a, b, arranged, joined
       joined_to (Formatted s f m) (Formatted r f m) (delimiter o.delimiter)
           (formatted_to s r n f m u (λ w c. Contains-append_right (key_words o.key) (link_words m) w c) here.plain here)
           vs a joined,
+      expands_to s r n f rest (λ y c. alike y (Contains-there u (uses rest) y c)) e at b h,
+      is,
+    )
+expands_to s r n f (count x rest) alike e at ps (vs, b, listing, h, is) =
+    let u : Use = record { expr = x; onward = []; embeds = false } in
+    let here = alike u (Contains-here u (uses rest)) in (
+      vs,
+      b,
+      listed_as listing (here.to.range e at) (here.from.range e at),
       expands_to s r n f rest (λ y c. alike y (Contains-there u (uses rest) y c)) e at b h,
       is,
     )
@@ -171,6 +182,7 @@ formatted_bytes s f (Written w) bare v ps h = (_, h)
 formatted_bytes s f (Link None) bare v ps h = (_, h)
 formatted_bytes s f (Link (Some word)) bare v ps (inl (label, key, is)) = (_, is)
 formatted_bytes s f (Link (Some word)) bare v ps (inr (key, is)) = (_, is)
+formatted_bytes s f (Labelled label) bare v ps h = (_, h)
 formatted_bytes s f Embed bare v ps h = let impossible : ⊥ = cc in absurd impossible
 
 delimiter_bytes : (d : Option (List ℕ)) → AreBytes (delimiter d)
@@ -197,6 +209,11 @@ expands_bytes s f (format x m o rest) bare e ps (vs, a, b, arranged, joined, h, 
     (joined_bytes a b
     (all_joined_bytes (Formatted s f m) (delimiter o.delimiter) (delimiter_bytes o.delimiter)
     (formatted_bytes s f m (bare u (Contains-here u (uses rest)))) vs a joined)
+    (expands_bytes s f rest (λ y c. bare y (Contains-there u (uses rest) y c)) e b h))
+expands_bytes s f (count x rest) bare e ps (vs, b, listing, h, is) =
+    let u : Use = record { expr = x; onward = []; embeds = false } in
+    subst AreBytes (sym is)
+    (joined_bytes (bytes (decimal (length vs))) b (decimal (length vs), refl)
     (expands_bytes s f rest (λ y c. bare y (Contains-there u (uses rest) y c)) e b h))
 expands_bytes s f (choice negated x against taken other rest) bare e ps (a, b, branch, h, is) =
     let u : Use = record { expr = x; onward = []; embeds = false } in

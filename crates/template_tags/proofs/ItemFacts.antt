@@ -21,7 +21,7 @@ use Rattle.sd_value.specs.declared.Value.TheVariants.{Data}
 use Rattle.template_tags.specs.declared.words.Bound.{Bound}
 use Rattle.template_tags.specs.declared.words.Keyword.{Keyword}
 use Rattle.template_tags.specs.declared.settings.Settings.{Settings}
-use Rattle.template_tags.specs.Terminals.{keyword_of, compare_word, setting_word, writing_word, is_later_word, number, is_mark_kind, is_mark, mark_value, text_value, is_text, is_text_kind, token_of, name_of, name_value, quoted_value, label_value, joined_value, is_sign_of, is_dot, dot_value, is_equals, equals_value, constant_value, direction_value, word_of, keyword_at, has_keyword, is_not_word, is_not, not_value, in_value, compare_of, is_compare, setting_of, is_setting, if_allowed, free_name, unless_keyword, variable_value, number_of, known_value, is_known, is_unknown, IsReal}
+use Rattle.template_tags.specs.Terminals.{keyword_of, compare_word, setting_word, mode_word, writing_word, is_later_word, number, is_mark_kind, is_mark, mark_value, text_value, is_text, is_text_kind, token_of, name_of, name_value, quoted_value, label_value, joined_value, is_sign_of, is_dot, dot_value, is_equals, equals_value, constant_value, limit_value, direction_value, word_of, keyword_at, has_keyword, is_not_word, is_not, not_value, in_value, compare_of, is_compare, setting_of, is_setting, if_allowed, free_name, unless_keyword, variable_value, number_of, known_value, is_known, is_unknown, IsReal}
 use Rattle.template_tags.specs.Tag.{mark}
 use Rattle.template_tags.specs.Reading.{read_mark}
 
@@ -97,6 +97,9 @@ constant_part = one_part constant_value (made (kinds.Token (tokens.Int (pos 0)))
 pub direction_part : Part IsReal (one direction_value) (one direction_value) Always (take_one true direction_value)
 direction_part = one_part direction_value (named (codes "ascend")) false refl (codes "ascend", (refl, (refl, (refl, (refl, (refl, (refl, (refl, tt))))))))
 
+pub limit_part : Part IsReal (one limit_value) (one limit_value) Always (take_one true limit_value)
+limit_part = one_part limit_value (made (kinds.Token (tokens.Int (pos 1)))) 1 refl (49 ∷ [], (inl (refl, tt), refl))
+
 pub not_part : Part IsReal (one not_value) (one not_value) Always (take_one true not_value)
 unfolding keyword_of
 not_part = one_part not_value (named (codes "NOT")) 0 refl (codes "NOT", (refl, (refl, (refl, (refl, tt)))))
@@ -106,7 +109,7 @@ unfolding keyword_of
 in_part = one_part in_value (named (codes "IN")) 0 refl (codes "IN", (refl, (refl, (refl, tt))))
 
 pub variable_part : Part IsReal (one variable_value) (one variable_value) Always (take_one true variable_value)
-unfolding keyword_of compare_word setting_word writing_word is_later_word
+unfolding keyword_of compare_word setting_word mode_word writing_word is_later_word
 variable_part = one_part variable_value (named v) v refl real_v
 
 -- ---- what an item that has a value is

@@ -1,21 +1,22 @@
 -- Reading what stands within a tag, from left to right.
-use Rattle.std.specs.Prelude.{ℕ, zero, suc, true, List, [], ◌∷◌, Some}
+use Rattle.std.specs.Prelude.{ℕ, zero, suc, true, List, [], ◌∷◌, Some, None}
 use Rattle.grammar.specs.Reading.{Outcome, Past, and_then, ◌>>=◌, ◌>>◌, give, take_one, choose}
 use Rattle.grammar.specs.Reading as reading
 use Rattle.template_items.specs.declared.item.Item.{Item}
 use Rattle.template_items.specs.declared.item.Mark.{Mark}
 use Rattle.template_items.specs.declared.item.Mark.TheVariants as marks
 use Rattle.tmpl.specs.declared.Expr.{Expr}
-use Rattle.tmpl.specs.declared.Mode.TheVariants.{Link}
+use Rattle.tmpl.specs.declared.Mode.TheVariants.{Written, Embed, Link, Labelled}
 use Rattle.tmpl.specs.declared.WordRoot.TheVariants.{Here, Loop, Collection}
 use Rattle.template_tags.specs.declared.words.Bound.{Bound}
 use Rattle.template_tags.specs.declared.settings.Setting.{Setting}
 use Rattle.template_tags.specs.declared.settings.Setting.TheVariants as setting
 use Rattle.template_tags.specs.declared.settings.Settings.{Settings}
+use Rattle.template_tags.specs.declared.settings.Showing.TheVariants.{Each, HowMany}
 use Rattle.template_tags.specs.Terminals.{is_mark, mark_value, is_dot, dot_value, is_equals, equals_value}
-use Rattle.template_tags.specs.Terminals.{quoted_value, label_value, joined_value, direction_value, is_setting}
-use Rattle.template_tags.specs.Terminals.{setting_value, is_known, known_value, is_unknown}
-use Rattle.template_tags.specs.Tag.{from, with_embed, with_link, with_writing}
+use Rattle.template_tags.specs.Terminals.{quoted_value, label_value, joined_value, direction_value, limit_value}
+use Rattle.template_tags.specs.Terminals.{is_setting, setting_value, is_known, known_value, is_unknown}
+use Rattle.template_tags.specs.Tag.{from, with_key, with_order, with_limit, with_delimiter, with_mode}
 
 -- the reader of a mark
 unfoldable pub read_mark : Mark → List Item → Outcome Item ℕ
@@ -96,46 +97,58 @@ unfoldable pub read_key : Settings → List Item → Outcome Item Settings
 read_key s = do
   take_one true equals_value
   w ← read_word
-  give (record { key = Some w; descend = s.descend; delimiter = s.delimiter; mode = s.mode })
+  give (with_key s w)
 
 -- a direction
 unfoldable pub read_order : Settings → List Item → Outcome Item Settings
 read_order s = do
   take_one true equals_value
   d ← take_one true direction_value
-  give (record { key = s.key; descend = Some d; delimiter = s.delimiter; mode = s.mode })
+  give (with_order s d)
+
+-- how many values at most
+unfoldable pub read_limit : Settings → List Item → Outcome Item Settings
+read_limit s = do
+  take_one true equals_value
+  n ← take_one true limit_value
+  give (with_limit s n)
 
 -- a text between values
 unfoldable pub read_delimiter : Settings → List Item → Outcome Item Settings
 read_delimiter s = do
   take_one true equals_value
   q ← take_one true quoted_value
-  give (record { key = s.key; descend = s.descend; delimiter = Some q; mode = s.mode })
+  give (with_delimiter s q)
 
--- the word of a link's text
+-- the word by which a link finds its label
+unfoldable pub read_found : Settings → List Item → Outcome Item Settings
+read_found s = do
+  take_one true equals_value
+  w ← read_word
+  give (with_mode s (Each (Link (Some w))))
+
+-- a link, with a word or without
+unfoldable pub read_link : Settings → List Item → Outcome Item Settings
+read_link s = choose is_equals (read_found s) (give (with_mode s (Each (Link None))))
+
+-- the label of a link
 unfoldable pub read_label : Settings → List Item → Outcome Item Settings
 read_label s = do
   take_one true equals_value
-  w ← read_word
-  give (record {
-    key = s.key;
-    descend = s.descend;
-    delimiter = s.delimiter;
-    mode = Some (Link (Some w));
-  })
-
--- a link, with its text or without
-unfoldable pub read_link : Settings → List Item → Outcome Item Settings
-read_link s = choose is_equals (read_label s) (give (with_link s))
+  q ← take_one true quoted_value
+  give (with_mode s (Each (Labelled q)))
 
 -- the reader of one setting
 abbrev pub read_set : Settings → Setting → List Item → Outcome Item Settings
 read_set s setting.Key = read_key s
 read_set s setting.Order = read_order s
 read_set s setting.Delimiter = read_delimiter s
-read_set s setting.Embed = give (with_embed s)
-read_set s (setting.Writing w) = give (with_writing s w)
+read_set s setting.Limit = read_limit s
+read_set s setting.Embed = give (with_mode s (Each Embed))
 read_set s setting.Link = read_link s
+read_set s setting.Label = read_label s
+read_set s setting.Count = give (with_mode s HowMany)
+read_set s (setting.Writing w) = give (with_mode s (Each (Written w)))
 
 -- the end of the settings
 unfoldable pub read_close : Settings → List Item → Outcome Item Settings

@@ -1,26 +1,29 @@
 -- The grammar of what stands within a tag, over items: expressions and settings.
 --
---   setting  := mode | order                                      (at most one mode)
---   mode     := "EMBED" | "LINK" [ "=" word ] | "RAW" | "PLAIN" | "LINES" | "URL" | "JSON"
---   order    := "KEY" "=" word | "ORDER" "=" ( "ascend" | "descend" ) | "DELIM" "=" Quoted
+--   setting  := mode | order | "LABEL" "=" Quoted       (at most one mode; LABEL behind LINK alone)
+--   mode     := "EMBED" | "LINK" [ "=" word ] | "COUNT" | "RAW" | "PLAIN" | "LINES" | "URL" | "JSON"
+--   order    := "KEY" "=" word | "ORDER" "=" ( "ascend" | "descend" ) | "LIMIT" "=" Int
+--             | "DELIM" "=" Quoted
 --   expr     := "@" [ word ] | "#" label [ "." word ] | Name [ "." word ]
 --   word     := label { "." label }
-use Rattle.std.specs.Prelude.{ℕ, zero, suc, List, [], ◌∷◌, Some, None}
+use Rattle.std.specs.Prelude.{ℕ, zero, suc, Bool, List, [], ◌∷◌, Some, None}
 use Rattle.grammar.specs.Grammar.{nothing, one, ◌>>=◌, ◌>>◌, either, many}
 use Rattle.template_items.specs.declared.item.Item.{Item}
 use Rattle.template_items.specs.declared.item.Mark.{Mark}
 use Rattle.template_items.specs.declared.item.Mark.TheVariants as marks
 use Rattle.tmpl.specs.declared.Expr.{Expr}
-use Rattle.tmpl.specs.declared.Mode.TheVariants.{Written, Embed, Link}
-use Rattle.tmpl.specs.declared.Writing.{Writing}
+use Rattle.tmpl.specs.declared.Mode.TheVariants.{Written, Embed, Link, Labelled}
 use Rattle.tmpl.specs.declared.WordRoot.{WordRoot}
 use Rattle.tmpl.specs.declared.WordRoot.TheVariants.{Here, Loop, Collection}
 use Rattle.template_tags.specs.declared.words.Bound.{Bound}
 use Rattle.template_tags.specs.declared.settings.Setting.{Setting}
 use Rattle.template_tags.specs.declared.settings.Setting.TheVariants as setting
 use Rattle.template_tags.specs.declared.settings.Settings.{Settings}
+use Rattle.template_tags.specs.declared.settings.Showing.{Showing}
+use Rattle.template_tags.specs.declared.settings.Showing.TheVariants.{Each, HowMany}
 use Rattle.template_tags.specs.Terminals.{mark_value, dot_value, equals_value, quoted_value, label_value}
-use Rattle.template_tags.specs.Terminals.{joined_value, direction_value, setting_value, known_value, unknown_value}
+use Rattle.template_tags.specs.Terminals.{joined_value, direction_value, limit_value, setting_value, known_value}
+use Rattle.template_tags.specs.Terminals.{unknown_value}
 
 -- which lists of items spell which values
 abbrev pub Grammar : Type 0 → Type 1
@@ -93,74 +96,109 @@ any_expr scope = either (one (unknown_value scope) >>= of_loop) (expr scope)
 
 -- ---- settings
 
--- the setting `KEY`
+-- the settings, with the mode
+abbrev pub with_mode : Settings → Showing → Settings
+with_mode s mode = record {
+  key = s.key;
+  descend = s.descend;
+  limit = s.limit;
+  delimiter = s.delimiter;
+  mode = Some mode;
+}
+
+-- the settings, with `KEY`
+abbrev pub with_key : Settings → List (List ℕ) → Settings
+with_key s word = record {
+  key = Some word;
+  descend = s.descend;
+  limit = s.limit;
+  delimiter = s.delimiter;
+  mode = s.mode;
+}
+
+-- the settings, with `ORDER`
+abbrev pub with_order : Settings → Bool → Settings
+with_order s descend = record {
+  key = s.key;
+  descend = Some descend;
+  limit = s.limit;
+  delimiter = s.delimiter;
+  mode = s.mode;
+}
+
+-- the settings, with `LIMIT`
+abbrev pub with_limit : Settings → ℕ → Settings
+with_limit s limit = record {
+  key = s.key;
+  descend = s.descend;
+  limit = Some limit;
+  delimiter = s.delimiter;
+  mode = s.mode;
+}
+
+-- the settings, with `DELIM`
+abbrev pub with_delimiter : Settings → List ℕ → Settings
+with_delimiter s text = record {
+  key = s.key;
+  descend = s.descend;
+  limit = s.limit;
+  delimiter = Some text;
+  mode = s.mode;
+}
+
+-- what is behind `KEY`
 abbrev pub setting_key : Settings → List Item → Settings → Type 0
 setting_key s = do
   one equals_value
   w ← word
-  nothing (record { key = Some w; descend = s.descend; delimiter = s.delimiter; mode = s.mode })
+  nothing (with_key s w)
 
--- the setting `ORDER`
+-- what is behind `ORDER`
 abbrev pub setting_order : Settings → List Item → Settings → Type 0
 setting_order s = do
   one equals_value
   d ← one direction_value
-  nothing (record { key = s.key; descend = Some d; delimiter = s.delimiter; mode = s.mode })
+  nothing (with_order s d)
 
--- the setting `DELIM`
+-- what is behind `LIMIT`
+abbrev pub setting_limit : Settings → List Item → Settings → Type 0
+setting_limit s = do
+  one equals_value
+  n ← one limit_value
+  nothing (with_limit s n)
+
+-- what is behind `DELIM`
 abbrev pub setting_delimiter : Settings → List Item → Settings → Type 0
 setting_delimiter s = do
   one equals_value
   q ← one quoted_value
-  nothing (record { key = s.key; descend = s.descend; delimiter = Some q; mode = s.mode })
+  nothing (with_delimiter s q)
 
--- the text of a link
+-- the word by which a link finds its label
+abbrev pub setting_found : Settings → List Item → Settings → Type 0
+setting_found s = do
+  one equals_value
+  w ← word
+  nothing (with_mode s (Each (Link (Some w))))
+
+-- what is behind `LABEL`
 abbrev pub setting_label : Settings → List Item → Settings → Type 0
 setting_label s = do
   one equals_value
-  w ← word
-  nothing (record {
-    key = s.key;
-    descend = s.descend;
-    delimiter = s.delimiter;
-    mode = Some (Link (Some w));
-  })
-
--- the settings, with `EMBED`
-abbrev pub with_embed : Settings → Settings
-with_embed s = record {
-  key = s.key;
-  descend = s.descend;
-  delimiter = s.delimiter;
-  mode = Some Embed;
-}
-
--- the settings, with `LINK`
-abbrev pub with_link : Settings → Settings
-with_link s = record {
-  key = s.key;
-  descend = s.descend;
-  delimiter = s.delimiter;
-  mode = Some (Link None);
-}
-
--- the settings, with the mode that shows a text written so
-abbrev pub with_writing : Settings → Writing → Settings
-with_writing s w = record {
-  key = s.key;
-  descend = s.descend;
-  delimiter = s.delimiter;
-  mode = Some (Written w);
-}
+  q ← one quoted_value
+  nothing (with_mode s (Each (Labelled q)))
 
 -- what is behind the word of a setting, where the tag has these settings so far
 abbrev pub set : Settings → Setting → List Item → Settings → Type 0
 set s setting.Key = setting_key s
 set s setting.Order = setting_order s
 set s setting.Delimiter = setting_delimiter s
-set s setting.Embed = nothing (with_embed s)
-set s (setting.Writing w) = nothing (with_writing s w)
-set s setting.Link = either (setting_label s) (nothing (with_link s))
+set s setting.Limit = setting_limit s
+set s setting.Embed = nothing (with_mode s (Each Embed))
+set s setting.Link = either (setting_found s) (nothing (with_mode s (Each (Link None))))
+set s setting.Label = setting_label s
+set s setting.Count = nothing (with_mode s HowMany)
+set s (setting.Writing w) = nothing (with_mode s (Each (Written w)))
 
 -- the end of the settings
 abbrev pub no_more_settings : Settings → List Item → Settings → Type 0

@@ -1,5 +1,5 @@
 -- Single items, by what they stand for.
-use Rattle.std.specs.Prelude.{◌≡◌, ℕ, Bool, true, false, ◌||◌, ◌&&◌, not, List, [], ◌∷◌, nat_eq, if◌then◌else◌, Option, Some, None, codes}
+use Rattle.std.specs.Prelude.{◌≡◌, ℕ, Bool, true, false, ◌||◌, ◌&&◌, not, List, [], ◌∷◌, nat_eq, ◌==◌, if◌then◌else◌, Option, Some, None, codes, ℤ, pos, negsuc}
 use Rattle.std.specs.Str.{bytes_eq}
 use Rattle.std.specs.Option.{is_some, is_none}
 use Rattle.sd_lex.specs.declared.token.TokenKind.{TokenKind}
@@ -18,26 +18,28 @@ use Rattle.template_items.specs.declared.item.Item.{Item}
 use Rattle.token_reader.specs.Terminals.{is_sign_kind}
 use Rattle.tmpl.specs.declared.Cmp.{Cmp}
 use Rattle.tmpl.specs.declared.Cmp.TheVariants as cmp
-use Rattle.tmpl.specs.declared.Mode.{Mode}
-use Rattle.tmpl.specs.declared.Mode.TheVariants.{Written}
+use Rattle.tmpl.specs.declared.Expr.{Expr}
+use Rattle.tmpl.specs.declared.Mode.TheVariants.{Written, Link}
 use Rattle.tmpl.specs.declared.Writing.TheVariants as writing
 use Rattle.tmpl.specs.declared.Order.{Order}
+use Rattle.tmpl.specs.Body.{Body, done, format, count}
 use Rattle.template_tags.specs.declared.words.Keyword.{Keyword}
 use Rattle.template_tags.specs.declared.words.Keyword.TheVariants as words
 use Rattle.template_tags.specs.declared.words.Bound.{Bound}
 use Rattle.template_tags.specs.declared.settings.Setting.{Setting}
 use Rattle.template_tags.specs.declared.settings.Setting.TheVariants as setting
 use Rattle.template_tags.specs.declared.settings.Settings.{Settings}
+use Rattle.template_tags.specs.declared.settings.Showing.{Showing}
+use Rattle.template_tags.specs.declared.settings.Showing.TheVariants.{Each, HowMany}
 
 -- ---- words
 
 -- a word of the grammar that no tag has
 unfoldable pub is_later_word : List ℕ → Bool
 is_later_word w =
-    bytes_eq w (codes "COUNT") || (bytes_eq w (codes "LIMIT") || (bytes_eq w (codes "LABEL") ||
-    (bytes_eq w (codes "MARKDOWN") || (bytes_eq w (codes "FOLD") || (bytes_eq w (codes "DESCEND") ||
+    bytes_eq w (codes "MARKDOWN") || (bytes_eq w (codes "FOLD") || (bytes_eq w (codes "DESCEND") ||
     (bytes_eq w (codes "SAME") || (bytes_eq w (codes "AS") || (bytes_eq w (codes "AT") ||
-    bytes_eq w (codes "FILE")))))))))
+    bytes_eq w (codes "FILE"))))))
 
 -- the keyword that a word is of those that say how a text is written, or of those that no tag has
 unfoldable pub writing_word : List ℕ → Option Keyword
@@ -49,14 +51,21 @@ writing_word w =
     if bytes_eq w (codes "JSON") then Some (words.Writing writing.Json) else (
     if is_later_word w then Some words.Later else None))))
 
+-- the keyword of a mode, or of a link's label, that a word is
+unfoldable pub mode_word : List ℕ → Option Keyword
+mode_word w =
+    if bytes_eq w (codes "EMBED") then Some words.Embed else (
+    if bytes_eq w (codes "LINK") then Some words.Link else (
+    if bytes_eq w (codes "LABEL") then Some words.Label else (
+    if bytes_eq w (codes "COUNT") then Some words.Count else writing_word w)))
+
 -- the keyword of a setting that a word is
 unfoldable pub setting_word : List ℕ → Option Keyword
 setting_word w =
     if bytes_eq w (codes "KEY") then Some words.Key else (
     if bytes_eq w (codes "ORDER") then Some words.Order else (
     if bytes_eq w (codes "DELIM") then Some words.Delimiter else (
-    if bytes_eq w (codes "EMBED") then Some words.Embed else (
-    if bytes_eq w (codes "LINK") then Some words.Link else writing_word w))))
+    if bytes_eq w (codes "LIMIT") then Some words.Limit else mode_word w)))
 
 -- the keyword of a comparison, or of a setting, that a word is
 unfoldable pub compare_word : List ℕ → Option Keyword
@@ -229,6 +238,20 @@ constant_of k = None
 abbrev pub constant_value : Item → Option Value
 constant_value i = constant_of (token_of i.kind)
 
+-- a number from 1 on
+abbrev pub positive : ℤ → Option ℕ
+positive (pos n) = if n == 0 then None else Some n
+positive (negsuc n) = None
+
+-- the limit that a token is
+abbrev pub limit_of : Option TokenKind → Option ℕ
+limit_of (Some (tokens.Int n)) = positive n
+limit_of k = None
+
+-- a limit: an integer from 1 on
+abbrev pub limit_value : Item → Option ℕ
+limit_value i = limit_of (token_of i.kind)
+
 -- the direction that a word is
 abbrev pub direction_of : Option (List ℕ) → Option Bool
 direction_of None = None
@@ -306,18 +329,29 @@ abbrev pub setting_of : Option Keyword → Option Setting
 setting_of (Some words.Key) = Some setting.Key
 setting_of (Some words.Order) = Some setting.Order
 setting_of (Some words.Delimiter) = Some setting.Delimiter
+setting_of (Some words.Limit) = Some setting.Limit
 setting_of (Some words.Embed) = Some setting.Embed
 setting_of (Some words.Link) = Some setting.Link
+setting_of (Some words.Label) = Some setting.Label
+setting_of (Some words.Count) = Some setting.Count
 setting_of (Some (words.Writing w)) = Some (setting.Writing w)
 setting_of k = None
 
--- each setting at most once, and at most one mode
+-- a link whose label is not yet said
+abbrev pub is_bare_link : Option Showing → Bool
+is_bare_link (Some (Each (Link None))) = true
+is_bare_link m = false
+
+-- each setting at most once, at most one mode, and a label only behind a link without one
 abbrev pub allows : Settings → Setting → Bool
 allows s setting.Key = is_none s.key
 allows s setting.Order = is_none s.descend
 allows s setting.Delimiter = is_none s.delimiter
+allows s setting.Limit = is_none s.limit
 allows s setting.Embed = is_none s.mode
 allows s setting.Link = is_none s.mode
+allows s setting.Label = is_bare_link s.mode
+allows s setting.Count = is_none s.mode
 allows s (setting.Writing w) = is_none s.mode
 
 -- the setting, where it is not yet
@@ -338,25 +372,37 @@ abbrev pub or_else : {A : Type 0} → Option A → A → A
 or_else (Some x) y = x
 or_else None y = y
 
--- how values are shown under these settings
-abbrev pub mode_of : Settings → Mode
-mode_of s = or_else s.mode (Written writing.Escaped)
-
 -- ascending where the tag does not say otherwise
 abbrev pub order_of : Settings → Order
-order_of s = record { key = s.key; descend = or_else s.descend false; delimiter = s.delimiter }
+order_of s = record {
+  key = s.key;
+  descend = or_else s.descend false;
+  limit = s.limit;
+  delimiter = s.delimiter;
+}
+
+-- the part that shows values so
+abbrev pub showing : Expr → Option Showing → Order → Body
+showing x None o = format x (Written writing.Escaped) o done
+showing x (Some (Each m)) o = format x m o done
+showing x (Some HowMany) o = count x done
+
+-- the part that shows values under these settings
+abbrev pub shown : Expr → Settings → Body
+shown x s = showing x s.mode (order_of s)
 
 -- before the first setting
 abbrev pub no_settings : Settings
-no_settings = record { key = None; descend = None; delimiter = None; mode = None }
+no_settings = record { key = None; descend = None; limit = None; delimiter = None; mode = None }
 
 -- a loop's tag takes no mode
 abbrev pub loop_settings : Settings
 loop_settings = record {
   key = None;
   descend = None;
+  limit = None;
   delimiter = None;
-  mode = Some (Written writing.Escaped);
+  mode = Some (Each (Written writing.Escaped));
 }
 
 -- ---- variables

@@ -4,15 +4,17 @@ ghost use Rattle.std.specs.Prelude.{◌≡◌, true, Some};
 ghost use Rattle.grammar.specs.Reading.{take_one, repeat, with_front, choose};
 ghost use Rattle.token_reader.specs.Gives.{Gives};
 ghost use Rattle.template_tags.specs.Terminals.{is_dot, is_setting};
+ghost use Rattle.template_tags.specs.Tag.{with_mode};
 ghost use Rattle.template_tags.specs.Reading.{read_dotted, read_word, read_joined_word, read_here, read_here_of};
 ghost use Rattle.template_tags.specs.Reading.{read_collection, read_of_loop, read_loop, read_place, read_expr};
-ghost use Rattle.template_tags.specs.Reading.{read_key, read_order, read_delimiter, read_label, read_link, read_set};
+ghost use Rattle.template_tags.specs.Reading.{read_key, read_order, read_limit, read_delimiter, read_found};
+ghost use Rattle.template_tags.specs.Reading.{read_link, read_label, read_set};
 ghost use Rattle.template_tags.specs.Reading.{read_close, read_next, read_settings};
 
-use crate::settings::{Setting, Settings};
+use crate::settings::{Setting, Settings, Showing};
 use crate::tokens::{
     direction_at, dot_at, equals_at, has_dot, has_equals, has_known, has_mark, has_setting,
-    has_unknown, joined_at, known_at, label_at, mark_at, quoted_at, setting_at,
+    has_unknown, joined_at, known_at, label_at, limit_at, mark_at, quoted_at, setting_at,
 };
 use crate::words::Bound;
 use sd_value::Str;
@@ -172,105 +174,60 @@ pub fn expression_at<'a>(
 #[tactic(auto, unfolding(crate::specs::Reading::read_key))]
 fn key_at(
     alloc: Global,
-    settings: Settings,
+    mut settings: Settings,
     items: &[Item],
 ) -> Result<(Settings, &[Item]), Halt<Item>>
     ensures { Gives (λ x. x.0) (λ x. x.1.now) result (read_key settings items.now) }
 {
     let (_, rest) = equals_at(items)?;
     let (word, rest) = word_at(alloc, rest)?;
-    let Settings {
-        key: _,
-        descend,
-        delimiter,
-        mode,
-    } = settings;
-    Ok((
-        Settings {
-            key: Some(word),
-            descend,
-            delimiter,
-            mode,
-        },
-        rest,
-    ))
+    settings.key = Some(word);
+    Ok((settings, rest))
 }
 
 #[tactic(auto, unfolding(crate::specs::Reading::read_order))]
-fn order_at(settings: Settings, items: &[Item]) -> Result<(Settings, &[Item]), Halt<Item>>
+fn order_at(mut settings: Settings, items: &[Item]) -> Result<(Settings, &[Item]), Halt<Item>>
     ensures { Gives (λ x. x.0) (λ x. x.1.now) result (read_order settings items.now) }
 {
     let (_, rest) = equals_at(items)?;
     let (descend, rest) = direction_at(rest)?;
-    let Settings {
-        key,
-        descend: _,
-        delimiter,
-        mode,
-    } = settings;
-    Ok((
-        Settings {
-            key,
-            descend: Some(descend),
-            delimiter,
-            mode,
-        },
-        rest,
-    ))
+    settings.descend = Some(descend);
+    Ok((settings, rest))
+}
+
+#[tactic(auto, unfolding(crate::specs::Reading::read_limit))]
+fn limit_from(mut settings: Settings, items: &[Item]) -> Result<(Settings, &[Item]), Halt<Item>>
+    ensures { Gives (λ x. x.0) (λ x. x.1.now) result (read_limit settings items.now) }
+{
+    let (_, rest) = equals_at(items)?;
+    let (limit, rest) = limit_at(rest)?;
+    settings.limit = Some(limit);
+    Ok((settings, rest))
 }
 
 #[tactic(auto, unfolding(crate::specs::Reading::read_delimiter))]
 fn delimiter_at(
     alloc: Global,
-    settings: Settings,
+    mut settings: Settings,
     items: &[Item],
 ) -> Result<(Settings, &[Item]), Halt<Item>>
     ensures { Gives (λ x. x.0) (λ x. x.1.now) result (read_delimiter settings items.now) }
 {
     let (_, rest) = equals_at(items)?;
     let (text, rest) = quoted_at(alloc, rest)?;
-    let Settings {
-        key,
-        descend,
-        delimiter: _,
-        mode,
-    } = settings;
-    Ok((
-        Settings {
-            key,
-            descend,
-            delimiter: Some(text),
-            mode,
-        },
-        rest,
-    ))
+    settings.delimiter = Some(text);
+    Ok((settings, rest))
 }
 
 /// The same settings with this mode.
-fn with_mode(settings: Settings, mode: Mode) -> Settings
-    ensures { result ≡ record {
-      key = settings.key;
-      descend = settings.descend;
-      delimiter =
-          settings.delimiter;
-      mode = Some mode;
-    } }
+fn with_mode(mut settings: Settings, mode: Showing) -> Settings
+    ensures { result ≡ with_mode settings mode }
 {
-    let Settings {
-        key,
-        descend,
-        delimiter,
-        mode: _,
-    } = settings;
-    Settings {
-        key,
-        descend,
-        delimiter,
-        mode: Some(mode),
-    }
+    settings.mode = Some(mode);
+    settings
 }
 
-#[tactic(auto, unfolding(crate::specs::Reading::read_link, crate::specs::Reading::read_label))]
+#[tactic(auto, unfolding(crate::specs::Reading::read_link, crate::specs::Reading::read_found))]
 fn link_at(
     alloc: Global,
     settings: Settings,
@@ -279,11 +236,27 @@ fn link_at(
     ensures { Gives (λ x. x.0) (λ x. x.1.now) result (read_link settings items.now) }
 {
     if !has_equals(items) {
-        return Ok((with_mode(settings, Mode::Link(None)), items));
+        let mode = Showing::Each(Mode::Link(None));
+        return Ok((with_mode(settings, mode), items));
     }
     let (_, rest) = equals_at(items)?;
     let (word, rest) = word_at(alloc, rest)?;
-    Ok((with_mode(settings, Mode::Link(Some(word))), rest))
+    let mode = Showing::Each(Mode::Link(Some(word)));
+    Ok((with_mode(settings, mode), rest))
+}
+
+#[tactic(auto, unfolding(crate::specs::Reading::read_label))]
+fn link_label_at(
+    alloc: Global,
+    settings: Settings,
+    items: &[Item],
+) -> Result<(Settings, &[Item]), Halt<Item>>
+    ensures { Gives (λ x. x.0) (λ x. x.1.now) result (read_label settings items.now) }
+{
+    let (_, rest) = equals_at(items)?;
+    let (label, rest) = quoted_at(alloc, rest)?;
+    let mode = Showing::Each(Mode::Labelled(label));
+    Ok((with_mode(settings, mode), rest))
 }
 
 /// What is behind the word of a setting.
@@ -295,14 +268,18 @@ fn set_at(
 ) -> Result<(Settings, &[Item]), Halt<Item>>
     ensures { Gives (λ x. x.0) (λ x. x.1.now) result (read_set settings setting items.now) }
 {
-    match setting {
-        Setting::Key => key_at(alloc, settings, items),
-        Setting::Order => order_at(settings, items),
-        Setting::Delimiter => delimiter_at(alloc, settings, items),
-        Setting::Embed => Ok((with_mode(settings, Mode::Embed), items)),
-        Setting::Link => link_at(alloc, settings, items),
-        Setting::Writing(writing) => Ok((with_mode(settings, Mode::Written(writing)), items)),
-    }
+    let mode = match setting {
+        Setting::Key => return key_at(alloc, settings, items),
+        Setting::Order => return order_at(settings, items),
+        Setting::Delimiter => return delimiter_at(alloc, settings, items),
+        Setting::Limit => return limit_from(settings, items),
+        Setting::Link => return link_at(alloc, settings, items),
+        Setting::Label => return link_label_at(alloc, settings, items),
+        Setting::Embed => Showing::Each(Mode::Embed),
+        Setting::Count => Showing::HowMany,
+        Setting::Writing(writing) => Showing::Each(Mode::Written(writing)),
+    };
+    Ok((with_mode(settings, mode), items))
 }
 
 /// The end of a tag that has these settings.

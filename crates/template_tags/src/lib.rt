@@ -7,7 +7,7 @@ mod tokens;
 mod words;
 
 pub use expression::{expression_at, settings_at};
-pub use settings::{Setting, Settings, mode_and_order};
+pub use settings::{Setting, Settings, Showing, order_of, shown};
 pub use tokens::{
     compare_at, constant_at, has_compare, has_equals, has_mark, has_not, has_text, in_at, mark_at, name_at,
     not_at, text_at, variable_at,

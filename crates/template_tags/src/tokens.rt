@@ -6,10 +6,10 @@ ghost use Rattle.token_reader.specs.Gives.{Gives};
 ghost use Rattle.template_tags.specs.Reading.{read_mark};
 ghost use Rattle.template_tags.specs.Terminals.{is_mark, is_text, text_value, token_of, is_sign_of, name_value};
 ghost use Rattle.template_tags.specs.Terminals.{quoted_value, label_value, joined_value, is_dot, dot_value};
-ghost use Rattle.template_tags.specs.Terminals.{is_equals, equals_value, constant_value, direction_value, keyword_at};
+ghost use Rattle.template_tags.specs.Terminals.{is_equals, equals_value, constant_value, direction_value, keyword_at, positive};
 ghost use Rattle.template_tags.specs.Terminals.{is_not, not_value, is_in, in_value, is_compare, compare_of};
 ghost use Rattle.template_tags.specs.Terminals.{compare_value, setting_of, is_setting, setting_value, variable_value};
-ghost use Rattle.template_tags.specs.Terminals.{is_known, known_value, is_unknown};
+ghost use Rattle.template_tags.specs.Terminals.{is_known, known_value, is_unknown, limit_value};
 
 use crate::settings::{Setting, Settings, allows};
 use crate::words::{Bound, Keyword, find, keyword_of};
@@ -209,6 +209,32 @@ pub fn constant_at(alloc: Global, items: &[Item]) -> Result<(Value, &[Item]), Ha
     Err(Halt::Expected(items))
 }
 
+/// The number, if it is from 1 on.
+fn positive(number: i64) -> Option<usize>
+    ensures { result ≡ positive number }
+{
+    if number > 0 {
+        Some(number as usize)
+    } else {
+        None
+    }
+}
+
+/// An integer from 1 on at the front.
+pub fn limit_at(items: &[Item]) -> Result<(usize, &[Item]), Halt<Item>>
+    ensures { Gives (λ x. x.0) (λ x. x.1.now) result (take_one true limit_value items.now) }
+{
+    if let [first, rest @ ..] = items {
+        if let ItemKind::Token(TokenKind::Int(number)) = &first.kind {
+            return match positive(*number) {
+                Some(limit) => Ok((limit, rest)),
+                None => Err(Halt::Expected(items)),
+            };
+        }
+    }
+    Err(Halt::Expected(items))
+}
+
 /// `ascend` or `descend` at the front: whether it is the latter.
 pub fn direction_at(items: &[Item]) -> Result<(bool, &[Item]), Halt<Item>>
     ensures { Gives (λ x. x.0) (λ x. x.1.now) result (take_one true direction_value items.now) }
@@ -327,8 +353,11 @@ fn setting_of(keyword: Option<Keyword>) -> Option<Setting>
         Some(Keyword::Key) => Some(Setting::Key),
         Some(Keyword::Order) => Some(Setting::Order),
         Some(Keyword::Delimiter) => Some(Setting::Delimiter),
+        Some(Keyword::Limit) => Some(Setting::Limit),
         Some(Keyword::Embed) => Some(Setting::Embed),
         Some(Keyword::Link) => Some(Setting::Link),
+        Some(Keyword::Label) => Some(Setting::Label),
+        Some(Keyword::Count) => Some(Setting::Count),
         Some(Keyword::Writing(writing)) => Some(Setting::Writing(writing)),
         _ => None,
     }

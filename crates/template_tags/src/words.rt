@@ -2,7 +2,7 @@
 
 ghost use Rattle.std.specs.Prelude.{◌≡◌, None};
 ghost use Rattle.template_tags.specs.Terminals.{is_part_word, is_put_word, keyword_of, compare_word};
-ghost use Rattle.template_tags.specs.Terminals.{setting_word, writing_word, is_later_word, find};
+ghost use Rattle.template_tags.specs.Terminals.{setting_word, mode_word, writing_word, is_later_word, find};
 
 use sd_value::Str;
 use tmpl::Writing;
@@ -24,8 +24,11 @@ pub enum Keyword {
     Key,
     Order,
     Delimiter,
+    Limit,
     Embed,
     Link,
+    Label,
+    Count,
     /// The mode that shows the text written so.
     Writing(Writing),
     /// A word that no tag has.
@@ -105,10 +108,26 @@ fn setting_word(word: &[u8]) -> Option<Keyword>
         Some(Keyword::Order)
     } else if word == b"DELIM".as_slice() {
         Some(Keyword::Delimiter)
-    } else if word == b"EMBED".as_slice() {
+    } else if word == b"LIMIT".as_slice() {
+        Some(Keyword::Limit)
+    } else {
+        mode_word(word)
+    }
+}
+
+/// The keyword of a mode, or of a link's label, that this word is.
+#[tactic(auto, unfolding(crate::specs::Terminals::mode_word))]
+fn mode_word(word: &[u8]) -> Option<Keyword>
+    ensures { result ≡ mode_word word.now }
+{
+    if word == b"EMBED".as_slice() {
         Some(Keyword::Embed)
     } else if word == b"LINK".as_slice() {
         Some(Keyword::Link)
+    } else if word == b"LABEL".as_slice() {
+        Some(Keyword::Label)
+    } else if word == b"COUNT".as_slice() {
+        Some(Keyword::Count)
     } else {
         writing_word(word)
     }
@@ -140,10 +159,7 @@ fn writing_word(word: &[u8]) -> Option<Keyword>
 fn is_later_word(word: &[u8]) -> bool
     ensures { result ≡ is_later_word word.now }
 {
-    word == b"COUNT".as_slice()
-        || word == b"LIMIT".as_slice()
-        || word == b"LABEL".as_slice()
-        || word == b"MARKDOWN".as_slice()
+    word == b"MARKDOWN".as_slice()
         || word == b"FOLD".as_slice()
         || word == b"DESCEND".as_slice()
         || word == b"SAME".as_slice()

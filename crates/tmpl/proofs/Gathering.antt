@@ -2,7 +2,7 @@
 use Rattle.std.specs.Prelude.{◌≡◌, ℕ, false, List, [], ◌∷◌, ◌++◌, ◌+◌, ◌<◌, ◌≤◌, length, get_or, take, map, Ok, Err, Result, IfOk}
 use Rattle.std.proofs.Common.{refl, sym, ap, ◌∙◌, subst, append_assoc, append-nil}
 use Rattle.std.proofs.lemmas.List.{take_more, take_all}
-use Rattle.tmpl.specs.declared.Part.{Part, Text, Format, Choice', Repeat'}
+use Rattle.tmpl.specs.declared.Part.{Part, Text, Format, Count, Choice', Repeat'}
 use Rattle.tmpl.specs.declared.Part.TheVariants as variants
 use Rattle.tmpl.specs.declared.Choice as choices
 use Rattle.tmpl.specs.declared.Repeat as repeats
@@ -21,6 +21,7 @@ adds_then a b c us vs h k = k ∙ ap (λ (l : List Use). l ++ vs) h ∙ append_a
 pub part_first : (p : Part) (rest : Body) → uses (part_before p rest) ≡ part_uses p ++ uses rest
 part_first (Text t) rest = refl
 part_first (Format f) rest = refl
+part_first (Count x) rest = refl
 part_first (Choice' negated x against m taken n other) rest =
     let u : Use = record { expr = x; onward = []; embeds = false } in
     let inner : List Use = uses (row_body taken) ++ uses (row_body other) in

@@ -2,14 +2,13 @@
 -- reads, so that it doesn't depend on which tags there are.
 use Rattle.std.specs.Prelude.{ℕ, Bool, true, false, List, [], ◌∷◌, ◌++◌, Option, Some, None, map}
 use Rattle.std.specs.Prelude.{option_copied, ◌≡◌}
-use Rattle.std.specs.Borrow.{Bor}
 use Rattle.sd_value.specs.Names.{Word}
 use Rattle.tmpl.specs.declared.Expr.{Expr}
 use Rattle.tmpl.specs.declared.Mode.{Mode}
-use Rattle.tmpl.specs.declared.Mode.TheVariants.{Written, Embed, Link}
+use Rattle.tmpl.specs.declared.Mode.TheVariants.{Written, Embed, Link, Labelled}
 use Rattle.tmpl.specs.declared.Part.{Part}
 use Rattle.tmpl.specs.declared.uses.ExprUse.{ExprUse}
-use Rattle.tmpl.specs.Body.{Body, done, text, format, choice, repeat, part_before}
+use Rattle.tmpl.specs.Body.{Body, done, text, format, count, choice, repeat, part_before}
 
 -- the words of a key, if there is one
 abbrev pub key_words : Option Word → List Word
@@ -21,12 +20,14 @@ abbrev pub link_words : Mode → List Word
 link_words (Written w) = []
 link_words Embed = []
 link_words (Link word) = key_words word
+link_words (Labelled label) = []
 
 -- the mode is EMBED
 abbrev pub is_embed : Mode → Bool
 is_embed (Written w) = false
 is_embed Embed = true
 is_embed (Link word) = false
+is_embed (Labelled label) = false
 
 -- an expression of a template, the words that begin at each of its values, and whether these are
 -- embedded
@@ -41,6 +42,7 @@ uses done = []
 uses (text t rest) = uses rest
 uses (format x m o rest) =
     record { expr = x; onward = key_words o.key ++ link_words m; embeds = is_embed m } ∷ uses rest
+uses (count x rest) = record { expr = x; onward = []; embeds = false } ∷ uses rest
 uses (choice negated x against taken other rest) =
     record { expr = x; onward = []; embeds = false } ∷ (uses taken ++ uses other ++ uses rest)
 uses (repeat k x o body rest) =
@@ -56,6 +58,7 @@ abbrev pub loops : Body → List LoopOver
 loops done = []
 loops (text t rest) = loops rest
 loops (format x m o rest) = loops rest
+loops (count x rest) = loops rest
 loops (choice negated x against taken other rest) = loops taken ++ loops other ++ loops rest
 loops (repeat k x o body rest) = record { number = k; expr = x } ∷ (loops body ++ loops rest)
 

@@ -49,12 +49,13 @@ pub struct Expr {
     pub word: Word,
 }
 
-/// How the values of an expression are put in order: by a key if one is given, and with a text
-/// between two of them.
+/// How the values of an expression are put in order, by a key if one is given, how many of them
+/// are taken, all without a limit, and which text is between two of them.
 #[derive(Drop)]
 pub struct Order {
     pub key: Option<Word>,
     pub descend: bool,
+    pub limit: Option<usize>,
     pub delimiter: Option<Str>,
 }
 
@@ -82,6 +83,8 @@ pub enum Mode {
     Embed,
     /// As a link, whose label the word finds from the value; without a word the value is the label.
     Link(Option<Word>),
+    /// As a link with this label.
+    Labelled(Str),
 }
 
 /// An SFMT: the values of an expression, shown one after another.
@@ -110,12 +113,14 @@ pub struct Against {
     pub constant: Value,
 }
 
-/// A stretch of text, a value shown, a choice of two bodies, or a body for each value.
+/// A stretch of text, values shown, how many values there are, a choice of two bodies, or a body
+/// for each value.
 #[cycle(part)]
 #[derive(Drop)]
 pub enum Part {
     Text(Str),
     Format(Format),
+    Count(Expr),
     Choice(Choice),
     Repeat(Repeat),
 }

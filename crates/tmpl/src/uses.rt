@@ -22,7 +22,7 @@ fn label_of(mode: &Mode) -> Option<&Word>
     ensures { key_words (option_copied result) ≡ link_words mode.now }
 {
     match mode {
-        Mode::Written(_) | Mode::Embed => None,
+        Mode::Written(_) | Mode::Embed | Mode::Labelled(_) => None,
         Mode::Link(word) => word.as_ref(),
     }
 }
@@ -32,7 +32,7 @@ fn is_embed(mode: &Mode) -> bool
 {
     match mode {
         Mode::Embed => true,
-        Mode::Written(_) | Mode::Link(_) => false,
+        Mode::Written(_) | Mode::Link(_) | Mode::Labelled(_) => false,
     }
 }
 
@@ -93,6 +93,7 @@ fn push_part<'a>(found: &mut Vec<ExprUse<'a>>, part: &'a Part) -> Result<(), NoM
     match part {
         Part::Text(_) => Ok(()),
         Part::Format(format) => push_format(found, format),
+        Part::Count(values) => push_values(found, values, None),
         Part::Choice(choice) => {
             push_values(found, &choice.values, None)?;
             push_uses(found, choice.taken.as_slice())?;

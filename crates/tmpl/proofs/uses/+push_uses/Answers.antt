@@ -1,8 +1,8 @@
-use Rattle.std.proofs.Common.{◌∷◌, [], false, Option, List, ap, sym, subst}
+use Rattle.std.proofs.Common.{◌∷◌, [], false, Option, List, sym, subst}
 use Rattle.tmpl.specs.declared.Part.{Part}
 use Rattle.sd_value.specs.Names.{Word}
 use Rattle.tmpl.specs.Body.{body_of}
-use Rattle.tmpl.specs.Expressions.{Use, uses, part_uses, key_words, AddsUses}
+use Rattle.tmpl.specs.Expressions.{uses, part_uses, key_words, AddsUses}
 use Rattle.tmpl.proofs.Gathering.{adds_more, ok_then, choice_adds, repeat_adds}
 use Rattle.tmpl.proofs.uses.+push_uses.Goals as goal
 
@@ -15,7 +15,7 @@ pub push_part-returns-in_ok-push_uses-in-Choice : goal.push_part-returns-in_ok-p
 push_part-returns-in_ok-push_uses-in-Choice t c =
     let x = c.in-Choice.choice in
     let a = c.args.found.now.items in
-    let b = c.push_values.new.found.items in
+    let b = c.push_values-in-Choice.new.found.items in
     let m = c.push_uses.new.found.items in
     let d = c.push_uses-in-Choice.new.found.items in
     let first : AddsUses b m (uses (body_of x.taken.items)) = subst (λ (l : List Part). AddsUses b m (uses (body_of l)))
