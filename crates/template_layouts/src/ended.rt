@@ -86,11 +86,7 @@ fn frame_of<'a>(above: &'a Above, frame: Option<&Str>) -> Option<&'a Layout>
 }
 
 /// How much the body is with the layouts round it, unless tags go too deep there.
-fn framed_measure(
-    layout: Option<&Layout>,
-    measure: Measure,
-    item: &Item,
-) -> Result<Measure, Halted>
+fn framed_measure(layout: Option<&Layout>, measure: Measure, item: &Item) -> Result<Measure, Halted>
     ensures { Answers (λ m. m) result
         (framed_measure (option_map layout_of (option_copied layout.entry)) measure item.now) }
 {

@@ -142,12 +142,7 @@ fn is_above(sort: Sort, above: &Above, name: &Str) -> bool
 }
 
 /// A name in an opening tag.
-pub fn title(
-    alloc: Global,
-    above: &Above,
-    opened: &mut Open,
-    item: &Item,
-) -> Result<(), Halted>
+pub fn title(alloc: Global, above: &Above, opened: &mut Open, item: &Item) -> Result<(), Halted>
     ensures { Answers (λ _. open_of opened.new) result
         (titles (above_of above.now) (open_of opened.old) item.now) }
 {
@@ -166,12 +161,7 @@ pub fn title(
 }
 
 /// The layout's name in an opening tag.
-pub fn frame(
-    alloc: Global,
-    above: &Above,
-    opened: &mut Open,
-    item: &Item,
-) -> Result<(), Halted>
+pub fn frame(alloc: Global, above: &Above, opened: &mut Open, item: &Item) -> Result<(), Halted>
     ensures { Answers (λ _. open_of opened.new) result
         (frames (above_of above.now) (open_of opened.old) item.now) }
 {
@@ -228,12 +218,7 @@ fn included(
 }
 
 /// The name in `<SINCLUDE`.
-pub fn include(
-    alloc: Global,
-    above: &Above,
-    opened: &mut Open,
-    item: &Item,
-) -> Result<(), Halted>
+pub fn include(alloc: Global, above: &Above, opened: &mut Open, item: &Item) -> Result<(), Halted>
     ensures { Answers (λ _. open_of opened.new) result
         (includes (above_of above.now) (open_of opened.old) item.now) }
 {

@@ -134,13 +134,7 @@ fn end_layout(sort: Sort, holds: bool) -> Role
     ensures { result ≡ end_layout sort holds }
 {
     match sort {
-        Sort::Layout => {
-            if holds {
-                Role::Ends
-            } else {
-                Role::Misplaced
-            }
-        }
+        Sort::Layout => { if holds { Role::Ends } else { Role::Misplaced } }
         Sort::Template | Sort::Fragment => Role::Misplaced,
     }
 }

@@ -21,9 +21,7 @@ use crate::titles::{innermost, twice};
 use sd_value::NoMemory;
 use std::alloc::Global;
 use template_items::{Item, Mark, items};
-use template_layouts::{
-    Act, Halted, Met, TmplRefusal, acts, is_mark, put_together, viewed,
-};
+use template_layouts::{Act, Halted, Met, TmplRefusal, acts, is_mark, put_together, viewed};
 use tmpl::{NamedTemplate, Template, Templates};
 use token_reader::Halt;
 

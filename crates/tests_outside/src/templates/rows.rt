@@ -252,10 +252,7 @@ const ROWS: &[Row] = &[
     },
     Row {
         number: 82,
-        texts: &[
-            "^<LAYOUT a><SBODY>",
-            "<LAYOUT a>^<SIF @a><SBODY>",
-        ],
+        texts: &["^<LAYOUT a><SBODY>", "<LAYOUT a>^<SIF @a><SBODY>"],
     },
     Row {
         number: 83,
