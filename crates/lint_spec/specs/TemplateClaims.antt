@@ -1,5 +1,5 @@
 -- What a file of templates asks for, at each place of its text, in the text's order.
-use Rattle.std.specs.Prelude.{ℕ, ◌+◌, Bool, true, false, ◌&&◌, ◌||◌, List, [], ◌∷◌, ◌++◌}
+use Rattle.std.specs.Prelude.{ℕ, ◌+◌, Bool, true, false, not, ◌&&◌, ◌||◌, List, [], ◌∷◌, ◌++◌}
 use Rattle.std.specs.Prelude.{map, if◌then◌else◌, codes, Option, Some, None}
 use Rattle.std.specs.Char.{to_ascii_uppercase}
 use Rattle.std.specs.Option.{is_some}
@@ -12,6 +12,7 @@ use Rattle.template_items.specs.declared.item.ItemKind.{ItemKind}
 use Rattle.template_items.specs.declared.item.ItemKind.TheVariants as kinds
 use Rattle.template_items.specs.declared.item.Item.{Item}
 use Rattle.template_items.specs.Scanning.{tag_at}
+use Rattle.template_layouts.specs.Written.{leads}
 use Rattle.lint_spec.specs.declared.Asked.{Asked}
 use Rattle.lint_spec.specs.declared.Asked.TheVariants as asked
 use Rattle.lint_spec.specs.declared.Before.{Before}
@@ -101,10 +102,10 @@ further_labels (i ∷ items) = label_behind i.kind items ++ further_labels items
 
 -- ---- templates
 
--- the collection's name behind a first name, which is then the word COLLECTION
+-- the collection's name after a first name, which is then the word COLLECTION; an `IN` before `=` leads to a layout
 abbrev pub has_label : List Item → Bool
 has_label [] = false
-has_label (i ∷ items) = is_some (label_of i.kind)
+has_label (i ∷ items) = is_some (label_of i.kind) && not (leads i items)
 
 -- the function of a template whose first name is this: none where it is a collection's
 abbrev pub function_of : Name → List Item → Option Name
@@ -150,10 +151,13 @@ item_claims s k at items = []
 abbrev pub known : Before → (labelled : Bool) → Markup → Before
 known s labelled place = record { function = s.function; labelled = labelled; markup = place }
 
--- What is known behind an item. A fragment is of no function: it presents what the templates that it is put into do.
+-- What is known after an item. A layout and a fragment are of no function: they present what the templates that they are put
+-- round or into do.
 abbrev pub before_next : Before → ItemKind → List Item → Before
 before_next s (kinds.Mark marks.OpenTemplate) items =
     record { function = title_function items; labelled = false; markup = Content }
+before_next s (kinds.Mark marks.OpenLayout) items =
+    record { function = None; labelled = false; markup = Content }
 before_next s (kinds.Mark marks.OpenFragment) items =
     record { function = None; labelled = false; markup = Content }
 before_next s (kinds.Mark marks.OpenFormat) items = known s false (after_value s.markup)

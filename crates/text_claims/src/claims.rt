@@ -118,7 +118,7 @@ fn next(alloc: Global, before: Before, item: &Item, later: &[Item]) -> Result<Be
                 labelled: false,
                 markup: Markup::Content,
             }),
-            Mark::OpenFragment => Ok(Before {
+            Mark::OpenLayout | Mark::OpenFragment => Ok(Before {
                 function: None,
                 labelled: false,
                 markup: Markup::Content,

@@ -14,6 +14,7 @@ use sd_lex::{Sign, TokenKind};
 use sd_value::{NoMemory, Str};
 use std::alloc::Global;
 use template_items::{Item, ItemKind};
+use template_layouts::leads;
 
 /// Adds what is asked for at a byte.
 pub(crate) fn push(found: &mut Vec<Claim>, asked: Asked, at: u64) -> Result<(), NoMemory>
@@ -162,7 +163,7 @@ fn has_label(items: &[Item]) -> bool
 {
     match items {
         [] => false,
-        [first, ..] => label_of(first).is_some(),
+        [first, rest @ ..] => label_of(first).is_some() && !leads(first, rest),
     }
 }
 
