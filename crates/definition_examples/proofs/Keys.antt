@@ -1,5 +1,5 @@
--- A value without a key stands after those that have one.
-use Rattle.std.specs.Prelude.{◌≡◌, ◌⊎◌, List, [], ◌∷◌, Some, None}
+-- A value without a key stands after those that have one; how many values there are, and the first of them.
+use Rattle.std.specs.Prelude.{◌≡◌, ◌⊎◌, List, [], ◌∷◌, Some, None, codes}
 use Rattle.std.specs.List.Sorted.{IsStrictlySortedBy}
 use Rattle.std.specs.declared.cmp.Ordering.TheVariants.{Greater}
 use Rattle.std.proofs.Common.{refl, sym, ap, subst, inl, inr, lit<, ◌∙◌}
@@ -15,11 +15,13 @@ use Rattle.graph_spec.specs.declared.Edge.{Edge}
 use Rattle.graph_spec.specs.DataGraph.{Name, node, HasEdge}
 use Rattle.page_spec.specs.declared.Keyed.{Keyed}
 use Rattle.page_spec.specs.Site.{InRange, HasKey, keyed_cmp, Arranged}
+use Rattle.page_spec.specs.Pieces.{bytes, Expands}
 use Rattle.page_spec.proofs.Unique.{key_unique}
+use Rattle.tmpl.specs.Body.{done, count}
 use Rattle.definition_examples.specs.Tools.{edge}
 use Rattle.definition_examples.proofs.Tools.{listed, names_differ}
 use Rattle.definition_examples.specs.Bibliography.{int}
-use Rattle.definition_examples.specs.Keys.{a, b, c, e, k, graph, site, at_a, ends, ascending, descending}
+use Rattle.definition_examples.specs.Keys.{a, b, c, e, k, graph, site, at_a, ends, ascending, descending, up_to, no_templates}
 
 edges_are : (u : Value) (l : Name) (v : Value) → HasEdge graph u l v
     → ((u ≡ node a) × (l ≡ e) × (v ≡ node b)) ⊎ (((u ≡ node a) × (l ≡ e) × (v ≡ node c)) ⊎ ((u ≡ node c) × (l ≡ k) × (v ≡ int 5)))
@@ -93,3 +95,29 @@ last_ascending = (rows, rows_are, refl)
 
 pub first_descending : Arranged site at_a ends descending (node b ∷ node c ∷ [])
 first_descending = (rows, rows_are, refl)
+
+pub first_alone : Arranged site at_a ends (up_to 1) (node c ∷ [])
+first_alone = (rows, rows_are, refl)
+
+pub limit_past_all : Arranged site at_a ends (up_to 3) (node c ∷ node b ∷ [])
+limit_past_all = (rows, rows_are, refl)
+
+abbrev values : List Value
+values = node b ∷ node c ∷ []
+
+only_value : (v : Value) → InRange site at_a ends v → IsOneOf values v
+only_value v (u, starts, (m, step, is)) =
+    elim (edges_are u e m step) [
+      | inl h ↦ inl (sym h.2 ∙ is)
+      | inr (inl h) ↦ inr (inl (sym h.2 ∙ is))
+      | inr (inr h) ↦ absurd (names_differ e k refl h.1)
+    ]
+
+values_are : ListsExactly value_cmp (InRange site at_a ends) values
+unfolding IsStrictlySortedBy
+values_are =
+    listed value_cmp (InRange site at_a ends) values ((refl, tt), (tt, tt))
+    ((node a, refl, (node b, (0, lit< tt, refl), refl)), ((node a, refl, (node c, (1, lit< tt, refl), refl)), tt)) only_value
+
+pub two_of_them : Expands site no_templates at_a (count ends done) (bytes (codes "2"))
+two_of_them = (values, [], values_are, refl, refl)

@@ -1,7 +1,8 @@
 -- `&a` has an edge `e` to `&b` and to `&c`, and of these `&c` alone has a key, an edge `k` to 5.
-use Rattle.std.specs.Prelude.{[], ◌∷◌, Some, None, true, false, codes}
+use Rattle.std.specs.Prelude.{ℕ, [], ◌∷◌, Some, None, true, false, codes}
 use Rattle.tmpl.specs.declared.Expr.{Expr}
 use Rattle.tmpl.specs.declared.Order as orders
+use Rattle.tmpl.specs.Body.{TemplateFile}
 use Rattle.tmpl.specs.declared.WordRoot.TheVariants.{Here}
 use Rattle.graph_spec.specs.DataGraph.{DataGraph, Name, node, HasEdge}
 use Rattle.page_spec.specs.Site.{Site, Env}
@@ -50,8 +51,16 @@ ends = record { root = Here; word = e ∷ [] }
 
 -- `ORDER=ascend KEY=@k`, and `descend`
 abbrev pub ascending : orders.Order
-ascending = record { key = Some (k ∷ []); descend = false; delimiter = None }
+ascending = record { key = Some (k ∷ []); descend = false; limit = None; delimiter = None }
 
 -- the same, turned round
 abbrev pub descending : orders.Order
-descending = record { key = Some (k ∷ []); descend = true; delimiter = None }
+descending = record { key = Some (k ∷ []); descend = true; limit = None; delimiter = None }
+
+-- `KEY=k LIMIT=n`
+abbrev pub up_to : ℕ → orders.Order
+up_to n = record { key = Some (k ∷ []); descend = false; limit = Some n; delimiter = None }
+
+-- no templates
+abbrev pub no_templates : TemplateFile
+no_templates = record { bodies = []; functions = []; collections = [] }

@@ -26,7 +26,10 @@ mod pages;
 mod weights;
 
 pub use laws::{AnySite, comparisons_agree, one_answer};
-pub use pages::{cycle_of_pages, missing_keys, worked_addresses, worked_texts};
+pub use pages::{
+    cycle_of_pages, labels_of_links, limited_and_counted, missing_keys, worked_addresses,
+    worked_texts,
+};
 pub use weights::year_page_weighs_ten;
 
 /// `object a { e &a }`, `x -> * -> y`: exactly (a, a).

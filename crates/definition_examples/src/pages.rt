@@ -1,14 +1,19 @@
 // Pages of small sites.
 ghost use Rattle.std.specs.Prelude.{◌≡◌, [], ◌∷◌, codes};
-ghost use Rattle.sd_value.specs.declared.Datum.TheVariants.{Text, Node};
+ghost use Rattle.sd_value.specs.declared.Datum.TheVariants.{Text, Url as Address, File, Node};
+ghost use Rattle.sd_value.specs.declared.Value.TheVariants.{Data};
 ghost use Rattle.graph_spec.specs.DataGraph.{node};
 ghost use Rattle.page_spec.specs.Site.{Arranged};
 ghost use Rattle.page_spec.specs.Show.{address};
+ghost use Rattle.page_spec.specs.Pieces.{bytes, Formatted, Expands};
+ghost use Rattle.tmpl.specs.Body.{done, count};
+ghost use Rattle.tmpl.specs.declared.Mode.TheVariants.{Labelled};
 ghost use Rattle.page_spec.specs.Address.{path};
 ghost use Rattle.page_spec.specs.Written.{written};
 ghost use Rattle.tmpl.specs.declared.Writing.TheVariants.{Escaped, Raw, Lines, Url, Json};
 ghost use Rattle.page_spec.specs.declared.Outcome.TheVariants.{Cyclic};
 ghost use Rattle.page_spec.specs.Page.{IsOutcome};
+ghost use Rattle.definition_examples.specs.Bibliography.{int};
 ghost use Rattle.definition_examples.specs.Keys as keys;
 ghost use Rattle.definition_examples.specs.Cycle as cycle;
 
@@ -19,6 +24,27 @@ pub fn missing_keys()
         (node keys.c ∷ node keys.b ∷ []) }
     ensures descending { Arranged keys.site keys.at_a keys.ends keys.descending
         (node keys.b ∷ node keys.c ∷ []) }
+{}
+
+/// `@e KEY=k` with a limit: LIMIT=1 leaves `&c`, which is first, and LIMIT=3 leaves both; and
+/// `@e COUNT` shows that they are two.
+pub fn limited_and_counted()
+    ensures first { Arranged keys.site keys.at_a keys.ends (keys.up_to 1) (node keys.c ∷ []) }
+    ensures past_all { Arranged keys.site keys.at_a keys.ends (keys.up_to 3)
+        (node keys.c ∷ node keys.b ∷ []) }
+    ensures counted { Expands keys.site keys.no_templates keys.at_a (count keys.ends done)
+        (bytes (codes "2")) }
+{}
+
+/// `LINK LABEL="<n>"`: the label is the same whatever the value is, and it stands alone where no
+/// link can lead, as at an Int or at what a browser would run.
+pub fn labels_of_links()
+    ensures led { Formatted keys.site keys.no_templates (Labelled (codes "<n>"))
+        (Data (File (codes "a&b"))) (bytes (codes "<a href=\"a&amp;b\">&lt;n&gt;</a>")) }
+    ensures active { Formatted keys.site keys.no_templates (Labelled (codes "<n>"))
+        (Data (Address (codes "JavaScript:x"))) (bytes (codes "&lt;n&gt;")) }
+    ensures int { Formatted keys.site keys.no_templates (Labelled (codes "<n>")) (int 5)
+        (bytes (codes "&lt;n&gt;")) }
 {}
 
 /// P() embeds Q(), Q() embeds R(), and R() embeds Q(): asking for P() names Q(), the first page

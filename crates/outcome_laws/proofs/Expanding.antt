@@ -1,24 +1,25 @@
 -- A template makes items of each value that has one, and embeds only what has P: a property of where edges lead and of
 -- what is collected.
 use Rattle.std.proofs.Common.{◌≡◌, ℕ, List, [], ◌∷◌, ◌++◌, inl, inr, refl, subst, get_or}
-use Rattle.std.specs.Prelude.{Contains, Option, Some, None}
+use Rattle.std.specs.Prelude.{Contains, Option, Some, None, length}
+use Rattle.std.specs.Fmt.{decimal}
 use Rattle.std.proofs.lemmas.List.Elements.{Contains-append_cases}
 use Rattle.sd_value.specs.Names.{Name, Label, Word}
 use Rattle.sd_value.specs.Members.{Contains-nil, Contains-cons_cases, Contains-here, Contains-there}
 use Rattle.sd_value.specs.declared.Value.{Value}
 use Rattle.tmpl.specs.declared.Expr.{Expr}
 use Rattle.tmpl.specs.declared.Mode.{Mode}
-use Rattle.tmpl.specs.declared.Mode.TheVariants.{Written, Embed, Link}
+use Rattle.tmpl.specs.declared.Mode.TheVariants.{Written, Embed, Link, Labelled}
 use Rattle.tmpl.specs.declared.WordRoot.{WordRoot}
 use Rattle.tmpl.specs.declared.WordRoot.TheVariants.{Here, Loop, Collection}
-use Rattle.tmpl.specs.Body.{Body, done, text, format, choice, repeat, TemplateFile}
-use Rattle.page_spec.specs.Show.{show, escaped, link}
+use Rattle.tmpl.specs.Body.{Body, done, text, format, count, choice, repeat, TemplateFile}
+use Rattle.page_spec.specs.Show.{show, escaped, target, anchor, link}
 use Rattle.page_spec.specs.Written.{written}
 use Rattle.page_spec.specs.Site.{Site, IsBound, Env, Reaches, Starts, InRange, HasKey}
 use Rattle.page_spec.specs.Pieces.{Item, byte, embed, bytes, delimiter, Joined, binding, TestHolds, Taken, HasTemplate}
 use Rattle.page_spec.specs.Pieces.{Formatted, Expands, Pieces}
 use Rattle.site_graphs.proofs.Decide.{Dec, yes, no}
-use Rattle.outcome_laws.proofs.Listing.{IsListed, key_of, arranged}
+use Rattle.outcome_laws.proofs.Listing.{IsListed, key_of, values_of, arranged}
 use Rattle.outcome_laws.proofs.Choosing.{taken, has_template}
 
 -- what the items embed has P
@@ -92,6 +93,8 @@ module _ (site : Site) (listed : IsListed site) (templates : TemplateFile) (P : 
       by : (k : Option Value) → HasKey site (Some word) v k → Made P (Formatted site templates (Link (Some word)) v)
       by None h = (bytes (link v v), inr (h, refl), of_bytes P (link v v))
       by (Some label) h = (bytes (link v label), inl (label, h, refl), of_bytes P (link v label))
+  formatted (Labelled label) v p =
+      (bytes (anchor (target v) label), refl, of_bytes P (anchor (target v) label))
   formatted Embed v p = by (has_template site listed templates v)
     where
       by : Dec ((k : ℕ) × HasTemplate site templates v k) → Made P (Formatted site templates Embed v)
@@ -112,6 +115,11 @@ module _ (site : Site) (listed : IsListed site) (templates : TemplateFile) (P : 
         (vs.0, front.0, b.0, vs.1, front.1, b.1, refl),
         of_both P front.0 b.0 front.2 b.2,
       )
+  expanded e a (count x rest) =
+      let vs = values_of site listed e x in
+      let digits = decimal (length vs.0) in
+      let b = expanded e a rest in
+      (bytes digits ++ b.0, (vs.0, b.0, vs.1, b.1, refl), of_both P (bytes digits) b.0 (of_bytes P digits) b.2)
   expanded e a (choice negated x against then other rest) =
       by (taken site listed e negated x against) (expanded e a then) (expanded e a other) (expanded e a rest)
     where

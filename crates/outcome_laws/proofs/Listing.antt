@@ -26,8 +26,8 @@ use Rattle.page_spec.specs.declared.Bound.{Bound}
 use Rattle.page_spec.specs.declared.Keyed.{Keyed}
 use Rattle.page_spec.specs.KeyLaws.{keyed_cmp_total, keyed_same}
 use Rattle.page_spec.specs.Site.{Site, IsBound, Env, keyed_cmp, Reaches, Starts, InRange, HasKey, Arranged}
-use Rattle.page_spec.specs.Site.{values_of_rows}
-use Rattle.page_spec.proofs.Unique.{key_unique}
+use Rattle.page_spec.specs.Site.{values_of_rows, limited}
+use Rattle.page_spec.proofs.Unique.{key_unique, limited_in}
 use Rattle.site_graphs.proofs.Decide.{Dec, yes, no, dec_not, dec_same, dec_nat}
 use Rattle.site_graphs.proofs.Lists.{AllOf, all_none, all_one, all_as, all_either, all_from}
 use Rattle.site_graphs.proofs.Sites.{Joint, Named}
@@ -152,6 +152,9 @@ module _ (site : Site) (listed : IsListed site) where
       all_from (Starts site e x.root) (λ (u v : Value). Reaches site u x.word v) (all_starts e x.root)
       (λ u. all_reached u x.word)
 
+  pub values_of : (e : Env) (x : Expr) → (vs : List Value) × ListsExactly value_cmp (InRange site e x) vs
+  values_of e x = in_order value_cmp value_cmp-total value_cmp-exact (InRange site e x) (all_in_range e x)
+
   -- ---- keys, and the values in their order
 
   pub key_of : (word : Option Word) (v : Value) → (k : Option Value) × HasKey site word v k
@@ -189,14 +192,16 @@ module _ (site : Site) (listed : IsListed site) where
         (all_from (InRange site e x) (λ (v : Value) (r : Keyed). keyed v ≡ r) (all_in_range e x)
         (λ v. all_one (keyed v) (λ (r : Keyed). keyed v ≡ r) refl (λ r h. h)))
 
-    -- the expression's values in this order, each of which is one of them
+    -- the expression's values in this order up to its limit, each of which is one of them
     pub arranged : (vs : List Value) × Arranged site e x o vs × ((v : Value) → Contains vs v → InRange site e x v)
     arranged =
         let l = in_order keyed_cmp keyed_cmp_total keyed_same
         (λ (r : Keyed). InRange site e x r.value × HasKey site o.key r.value r.key) all_rows in (
-          values_of_rows o l.0,
+          limited o.limit (values_of_rows o l.0),
           (l.0, l.1, refl),
           λ v h.
-              let r = Contains-map (λ (r : Keyed). r.value) l.0 v (turned_back o.descend (map (λ (r : Keyed). r.value) l.0) v h) in
+              let turned = limited_in o.limit (values_of_rows o l.0) v h in
+              let r = Contains-map (λ (r : Keyed). r.value) l.0 v
+              (turned_back o.descend (map (λ (r : Keyed). r.value) l.0) v turned) in
               subst (InRange site e x) r.1 (l.1.sound r.0 r.2).0,
         )

@@ -2,11 +2,12 @@
 use Rattle.std.proofs.Common.{◌≡◌, ℕ, zero, suc, ◌<◌, List, [], ◌∷◌, length, get_or, take, inl, inr, ⊎_elim, sym, subst, arith}
 use Rattle.std.specs.Prelude.{Contains, map, reverse, if◌then◌else◌, Bool, true, false}
 use Rattle.std.proofs.lemmas.List.{reverse-reverse}
+use Rattle.page_spec.proofs.Unique.{limited_in}
 use Rattle.std.proofs.lemmas.List.Sorted.{Contains-permutation, IsPermutation-reverse}
 use Rattle.sd_value.specs.declared.Value.{Value}
 use Rattle.sd_value.specs.Members.{Contains-map}
 use Rattle.page_spec.specs.declared.Keyed.{Keyed}
-use Rattle.page_spec.specs.Site.{Site, Env, Reaches, InRange, Arranged}
+use Rattle.page_spec.specs.Site.{Site, Env, Reaches, InRange, values_of_rows, Arranged}
 use Rattle.page_spec.specs.Question.{Question, MayKeep}
 use Rattle.tmpl.specs.declared.Expr.{Expr}
 use Rattle.tmpl.specs.declared.Order.{Order}
@@ -53,6 +54,6 @@ turned_in false xs v h = h
 
 pub arranged_in : (s : Site) (e : Env) (x : Expr) (o : Order) (vs : List Value) (v : Value) → Arranged s e x o vs → Contains vs v → InRange s e x v
 arranged_in s e x o vs v (rows, exact, is) h =
-    let k = turned_in o.descend (map (λ (r : Keyed). r.value) rows) v (subst (λ (l : List Value). Contains l v) is h) in
+    let k = turned_in o.descend (map (λ (r : Keyed). r.value) rows) v (limited_in o.limit (values_of_rows o rows) v (subst (λ (l : List Value). Contains l v) is h)) in
     let r = Contains-map (λ (r : Keyed). r.value) rows v k in
     subst (InRange s e x) r.1 (exact.sound r.0 r.2).0

@@ -1,14 +1,15 @@
 -- What a template asks at given values of its loops is what it may ask.
 use Rattle.std.proofs.Common.{◌≡◌, false, ◌⊎◌, ℕ, zero, suc, ◌<◌, List, [], ◌∷◌, ◌++◌, Option, Some, None, length, get_or, inl, inr, ⊎_elim, sym, ap, ◌∙◌, refl, subst, arith, true}
 use Rattle.std.specs.Prelude.{Contains}
+use Rattle.std.specs.Fmt.{decimal}
 use Rattle.std.proofs.lemmas.List.Elements.{Contains-append_left, Contains-append_right, Contains-append_cases}
 use Rattle.sd_value.specs.declared.Value.{Value}
 use Rattle.sd_value.specs.Members.{Contains-here, Contains-there, Contains-nil, Contains-cons_cases}
 use Rattle.page_spec.specs.Site.{Site, Env, IsBound, Starts, InRange}
 use Rattle.page_spec.specs.Pieces.{Item, byte, embed, bytes, Expands, Joined, Formatted, delimiter, binding, HasTemplate}
 use Rattle.page_spec.specs.Question.{Question, template}
-use Rattle.tmpl.specs.Body.{Body, done, text, format, choice, repeat, TemplateFile, part_before, body_of}
-use Rattle.tmpl.specs.declared.Part.{Part, Text, Format, Choice', Repeat', Choice, Repeat}
+use Rattle.tmpl.specs.Body.{Body, done, text, format, count, choice, repeat, TemplateFile, part_before, body_of}
+use Rattle.tmpl.specs.declared.Part.{Part, Text, Format, Count, Choice', Repeat', Choice, Repeat}
 use Rattle.tmpl.specs.declared.Format as formats
 use Rattle.tmpl.specs.declared.Choice as choices
 use Rattle.tmpl.specs.declared.Repeat as repeats
@@ -16,7 +17,7 @@ use Rattle.tmpl.proofs.Bodies.{choice_body, repeat_body}
 use Rattle.tmpl.specs.declared.Expr.{Expr}
 use Rattle.tmpl.specs.declared.Order.{Order}
 use Rattle.tmpl.specs.declared.Mode.{Mode}
-use Rattle.tmpl.specs.declared.Mode.TheVariants.{Written, Embed, Link}
+use Rattle.tmpl.specs.declared.Mode.TheVariants.{Written, Embed, Link, Labelled}
 use Rattle.tmpl.specs.declared.WordRoot.{WordRoot}
 use Rattle.tmpl.specs.declared.WordRoot.TheVariants.{Here, Loop, Collection}
 use Rattle.tmpl.specs.Expressions.{Use, LoopOver, uses, loops, key_words, link_words, is_embed}
@@ -32,12 +33,14 @@ use Rattle.render.proofs.Asked.{arranged_in}
 pub part_here : (s : Site) (e : Env) (p : Part) (rest : Body) (q : Question) → SceneAsks s e (part_before p done) q → SceneAsks s e (part_before p rest) q
 part_here s e (Text t) rest q h = absurd h
 part_here s e (Format f) rest q h = ⊎_elim inl (λ k. absurd k) h
+part_here s e (Count x) rest q h = ⊎_elim inl (λ k. absurd k) h
 part_here s e (Choice' neg v a m taken n other) rest q h = ⊎_elim inl (λ k. absurd k) h
 part_here s e (Repeat' k v o n body) rest q h = ⊎_elim inl (λ k. absurd k) h
 
 part_later : (s : Site) (e : Env) (p : Part) (rest : Body) (q : Question) → SceneAsks s e rest q → SceneAsks s e (part_before p rest) q
 part_later s e (Text t) rest q h = h
 part_later s e (Format f) rest q h = inr h
+part_later s e (Count x) rest q h = inr h
 part_later s e (Choice' neg v a m taken n other) rest q h = inr h
 part_later s e (Repeat' k v o n body) rest q h = inr h
 
@@ -50,6 +53,9 @@ part_in s e (x ∷ parts) (suc i) p q l is h = part_later s e x (body_of parts) 
 
 pub format_asks : (s : Site) (e : Env) (part : Part) (f : formats.Format) (q : Question) → part ≡ Format f → (ArrangedAsks s e f.values f.order q ⊎ ((v : Value) × InRange s e f.values v × ModeAsks s f.mode v q)) → SceneAsks s e (part_before part done) q
 format_asks s e part f q is h = subst (λ (z : Part). SceneAsks s e (part_before z done) q) (sym is) (inl h)
+
+pub count_asks : (s : Site) (e : Env) (part : Part) (x : Expr) (q : Question) → part ≡ Count x → RangeAsks s e x q → SceneAsks s e (part_before part done) q
+count_asks s e part x q is h = subst (λ (z : Part). SceneAsks s e (part_before z done) q) (sym is) (inl h)
 
 pub choice_asks : (s : Site) (e : Env) (part : Part) (x : choices.Choice) (q : Question) → part ≡ Choice x → (RangeAsks s e x.values q ⊎ (SceneAsks s e (body_of x.taken.items) q ⊎ SceneAsks s e (body_of x.other.items) q)) → SceneAsks s e (part_before part done) q
 choice_asks s e part x q is h = subst (λ (z : Body). SceneAsks s e z q) (sym (ap (λ p. part_before p done) is ∙ choice_body x done)) (inl h)
@@ -93,6 +99,7 @@ module _ (s : Site) (b : Body) (n : Value) where
 
   mode_asks : (e : Env) (x : Expr) (m : Mode) (o : Order) (v : Value) (q : Question) → Fits e → Contains (uses b) record { expr = x; onward = key_words o.key ++ link_words m; embeds = is_embed m } → InRange s e x v → ModeAsks s m v q → BodyAsks s b n q
   mode_asks e x (Written w) o v q fits among r h = absurd h
+  mode_asks e x (Labelled label) o v q fits among r h = absurd h
   mode_asks e x Embed o v q fits among r h =
       let usage : Use = record { expr = x; onward = key_words o.key ++ []; embeds = true } in
       subst (BodyAsks s b n) (sym h) (usage, among, refl, ranges e x v fits r)
@@ -124,6 +131,12 @@ module _ (s : Site) (b : Body) (n : Value) where
       mode_asks e x m o v q fits (us usage (Contains-here usage (uses rest))) r h
   scene_asks e (format x m o rest) q fits us ls (inr h) =
       let usage : Use = record { expr = x; onward = key_words o.key ++ link_words m; embeds = is_embed m } in
+      scene_asks e rest q fits (λ y k. us y (Contains-there usage (uses rest) y k)) ls h
+  scene_asks e (count x rest) q fits us ls (inl h) =
+      let usage : Use = record { expr = x; onward = []; embeds = false } in
+      range_asks e usage q fits (us usage (Contains-here usage (uses rest))) h
+  scene_asks e (count x rest) q fits us ls (inr h) =
+      let usage : Use = record { expr = x; onward = []; embeds = false } in
       scene_asks e rest q fits (λ y k. us y (Contains-there usage (uses rest) y k)) ls h
   scene_asks e (choice neg x a taken other rest) q fits us ls (inl (inl h)) =
       let usage : Use = record { expr = x; onward = []; embeds = false } in
@@ -189,6 +202,7 @@ formatted_embed s f (Written w) v ps m h c = absurd (no_embed _ m (subst (λ l. 
 formatted_embed s f (Link None) v ps m h c = absurd (no_embed _ m (subst (λ l. Contains l (embed m)) h c))
 formatted_embed s f (Link (Some word)) v ps m (inl (label, key, h)) c = absurd (no_embed _ m (subst (λ l. Contains l (embed m)) h c))
 formatted_embed s f (Link (Some word)) v ps m (inr (key, h)) c = absurd (no_embed _ m (subst (λ l. Contains l (embed m)) h c))
+formatted_embed s f (Labelled label) v ps m h c = absurd (no_embed _ m (subst (λ l. Contains l (embed m)) h c))
 formatted_embed s f Embed v ps m (inl (k, has, h)) c = ap template (sym (same_embed v m (subst (λ l. Contains l (embed m)) h c)))
 formatted_embed s f Embed v ps m (inr (none, h)) c = absurd (no_embed _ m (subst (λ l. Contains l (embed m)) h c))
 
@@ -200,6 +214,8 @@ embed_asked s f e (format x mode o rest) ps m (vs, a, b, arranged, joined, h, is
     ⊎_elim
     (λ k. let (v, p, among, formatted, i) = joined_embed (Formatted s f mode) o.delimiter vs a m joined k in inl (inr (v, arranged_in s e x o vs v arranged among, formatted_embed s f mode v p m formatted i)))
     (λ k. inr (embed_asked s f e rest b m h k)) (Contains-append_cases a b (embed m) (subst (λ l. Contains l (embed m)) is c))
+embed_asked s f e (count x rest) ps m (vs, b, listing, h, is) c =
+    ⊎_elim (λ k. absurd (no_embed (decimal (length vs)) m k)) (λ k. inr (embed_asked s f e rest b m h k)) (Contains-append_cases (bytes (decimal (length vs))) b (embed m) (subst (λ l. Contains l (embed m)) is c))
 embed_asked s f e (choice neg x against taken other rest) ps m (a, b, inl (t, ha), h, is) c =
     ⊎_elim (λ k. inl (inr (inl (embed_asked s f e taken a m ha k)))) (λ k. inr (embed_asked s f e rest b m h k)) (Contains-append_cases a b (embed m) (subst (λ l. Contains l (embed m)) is c))
 embed_asked s f e (choice neg x against taken other rest) ps m (a, b, inr (t, ha), h, is) c =

@@ -1,11 +1,11 @@
 -- What the parts of a template ask of a site, at values of their loops that are given.
 use Rattle.std.specs.Prelude.{◌≡◌, ◌⊎◌, Option, Some, None}
 use Rattle.sd_value.specs.declared.Value.{Value}
-use Rattle.tmpl.specs.Body.{Body, done, text, format, choice, repeat, TemplateFile}
+use Rattle.tmpl.specs.Body.{Body, done, text, format, count, choice, repeat, TemplateFile}
 use Rattle.tmpl.specs.declared.Expr.{Expr}
 use Rattle.tmpl.specs.declared.Order.{Order}
 use Rattle.tmpl.specs.declared.Mode.{Mode}
-use Rattle.tmpl.specs.declared.Mode.TheVariants.{Written, Embed, Link}
+use Rattle.tmpl.specs.declared.Mode.TheVariants.{Written, Embed, Link, Labelled}
 use Rattle.tmpl.specs.declared.WordRoot.{WordRoot}
 use Rattle.tmpl.specs.declared.WordRoot.TheVariants.{Collection}
 use Rattle.page_spec.specs.Site.{Site, Env, Starts, InRange}
@@ -36,6 +36,7 @@ abbrev pub ModeAsks : Site → Mode → Value → Question → Type 0
 ModeAsks s (Written w) v q = ⊥
 ModeAsks s Embed v q = q ≡ template v
 ModeAsks s (Link word) v q = KeyAsks s word v q
+ModeAsks s (Labelled label) v q = ⊥
 
 abbrev pub SceneAsks : Site → Env → Body → Question → Type 0
 SceneAsks s e done q = ⊥
@@ -43,6 +44,7 @@ SceneAsks s e (text t rest) q = SceneAsks s e rest q
 SceneAsks s e (format x m o rest) q =
     (ArrangedAsks s e x o q ⊎ ((v : Value) × InRange s e x v × ModeAsks s m v q))
     ⊎ SceneAsks s e rest q
+SceneAsks s e (count x rest) q = RangeAsks s e x q ⊎ SceneAsks s e rest q
 SceneAsks s e (choice negated x against taken other rest) q =
     (RangeAsks s e x q ⊎ (SceneAsks s e taken q ⊎ SceneAsks s e other q)) ⊎ SceneAsks s e rest q
 SceneAsks s e (repeat k x o body rest) q =

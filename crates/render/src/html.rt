@@ -62,6 +62,27 @@ fn is_target(alloc: Global, value: &Value) -> Result<bool, NoMemory>
 }
 
 /// A link to the value with the label, or the label alone if nothing can lead there.
+pub fn push_anchor(
+    alloc: Global,
+    out: &mut Vec<u8>,
+    value: &Value,
+    label: &[u8],
+) -> Result<(), NoMemory>
+    ensures { OnOk result
+        (out.new.items ≡ out.old.items ++ spec.anchor (spec.target value.now) label.now) }
+{
+    if is_target(alloc, value)? {
+        push(out, b"<a href=\"")?;
+        push_escaped_value(alloc, out, value)?;
+        push(out, b"\">")?;
+        push_escaped(out, label)?;
+        push(out, b"</a>")
+    } else {
+        push_escaped(out, label)
+    }
+}
+
+/// The same with another value as the label.
 pub fn push_link(
     alloc: Global,
     out: &mut Vec<u8>,
@@ -70,15 +91,10 @@ pub fn push_link(
 ) -> Result<(), NoMemory>
     ensures { OnOk result (out.new.items ≡ out.old.items ++ spec.link value.now label.now) }
 {
-    if is_target(alloc, value)? {
-        push(out, b"<a href=\"")?;
-        push_escaped_value(alloc, out, value)?;
-        push(out, b"\">")?;
-        push_escaped_value(alloc, out, label)?;
-        push(out, b"</a>")
-    } else {
-        push_escaped_value(alloc, out, label)
-    }
+    // Most values have no more bytes.
+    let mut text = Vec::with_capacity(alloc, 64)?;
+    push_shown(alloc, label, &mut text)?;
+    push_anchor(alloc, out, value, text.as_slice())
 }
 
 /// The bytes.

@@ -1,7 +1,8 @@
 // What a template makes of a value.
 ghost use Rattle.std.specs.Prelude.{◌≡◌, ◌∷◌, [], List, Contains, IfOk, if◌then◌else◌, nat_lt, not};
-ghost use Rattle.page_spec.specs.Show.{show, link};
+ghost use Rattle.page_spec.specs.Show.{show, target, anchor, link};
 ghost use Rattle.page_spec.specs.Written.{written};
+ghost use Rattle.std.specs.Fmt.{decimal};
 ghost use Rattle.page_spec.specs.Pieces.{Item, Formatted, Joined, Expands, bytes, embed, delimiter as delimiter_items};
 ghost use Rattle.tmpl.specs.Body.{body_of, done, part_before};
 ghost use Rattle.sd_value.specs.declared.Value.{Value};
@@ -11,14 +12,15 @@ ghost use Rattle.render.specs.Room.{Adds};
 ghost use Rattle.render.specs.Rows.{PartExpands};
 
 use crate::expansion::Expansion;
-use crate::html::push_link;
-use crate::values::{arranged, holds, key};
+use crate::html::{push_anchor, push_link};
+use crate::values::{arranged, holds, key, range};
 use crate::written::push_written;
 use page_spec::Bound;
 use sd_value::{NoMemory, Str, Value, copy};
 use site_view::SiteView;
 use std::alloc::Global;
 use tmpl::{Mode, Part, Writing};
+use token_writer::put_number;
 
 fn add_embed(alloc: Global, value: &Value, out: &mut Expansion) -> Result<(), NoMemory>
     ensures { IfOk result (λ _. Adds out.old out.new (embed value.now ∷ [])) }
@@ -61,6 +63,29 @@ fn add_link(
     out.add_text(Str::of(alloc, text)?)
 }
 
+fn add_labelled(
+    alloc: Global,
+    value: &Value,
+    label: &Str,
+    out: &mut Expansion,
+) -> Result<(), NoMemory>
+    ensures { IfOk result
+        (λ _. Adds out.old out.new (bytes (anchor (target value.now) label.now))) }
+{
+    // Most links have no more bytes.
+    let mut text = Vec::with_capacity(alloc, 64)?;
+    push_anchor(alloc, &mut text, value, label.bytes())?;
+    out.add_text(Str::of(alloc, text)?)
+}
+
+fn add_count(alloc: Global, count: usize, out: &mut Expansion) -> Result<(), NoMemory>
+    ensures { IfOk result (λ _. Adds out.old out.new (bytes (decimal count))) }
+{
+    let mut text = Vec::new(alloc);
+    put_number(count as u128, &mut text)?;
+    out.add_text(Str::of(alloc, text)?)
+}
+
 /// One value of an SFMT.
 fn formatted<V: SiteView>(
     alloc: Global,
@@ -85,6 +110,7 @@ fn formatted<V: SiteView>(
             Some(label) => add_link(alloc, value, &label, out),
             None => add_link(alloc, value, value, out),
         },
+        Mode::Labelled(label) => add_labelled(alloc, value, label, out),
         Mode::Embed => match view.template_of(alloc, value)? {
             Some(_) => add_embed(alloc, value, out),
             None => add_written(alloc, Writing::Escaped, value, out),
@@ -224,6 +250,10 @@ fn expand_part<V: SiteView>(
             let values = arranged(alloc, view, here, loops, &format.values, &format.order)?;
             let delimiter = &format.order.delimiter;
             all_formatted(alloc, view, &format.mode, values.as_slice(), delimiter, out)
+        }
+        Part::Count(expr) => {
+            let values = range(alloc, view, here, loops, expr)?;
+            add_count(alloc, values.len(), out)
         }
         Part::Choice(choice) => {
             let holds = holds(alloc, view, here, loops, &choice.values, &choice.against)?;

@@ -3,7 +3,7 @@ ghost use Rattle.std.specs.Prelude.{◌≡◌, ◌↔◌, List, [], ◌∷◌, C
 ghost use Rattle.sd_value.specs.declared.Value.{Value};
 ghost use Rattle.sd_value.specs.Order.{value_cmp};
 ghost use Rattle.sd_value.specs.Ascending.{ListsExactly};
-ghost use Rattle.page_spec.specs.Site.{Reaches, InRange, HasKey, Starts, IsBound, keyed_cmp, Arranged};
+ghost use Rattle.page_spec.specs.Site.{Reaches, InRange, HasKey, Starts, IsBound, keyed_cmp, limited, Arranged};
 ghost use Rattle.page_spec.specs.Pieces.{HoldsBetween, TestHolds};
 ghost use Rattle.page_spec.specs.Question.{out as asks_out};
 ghost use Rattle.demand_spec.specs.Reads.{KeepsOnly};
@@ -254,7 +254,16 @@ pub fn arranged<V: SiteView>(
     let values = range(alloc, view, here, loops, expr)?;
     let rows = with_keys(alloc, view, values.as_slice(), &order.key)?;
     let arranged = without_keys(alloc, rows)?;
-    Ok(turned(arranged, order.descend))
+    Ok(limited(turned(arranged, order.descend), order.limit))
+}
+
+fn limited(mut values: Vec<Value>, limit: Option<usize>) -> Vec<Value>
+    ensures { result.items ≡ limited limit values.items }
+{
+    if let Some(limit) = limit {
+        values.truncate(limit);
+    }
+    values
 }
 
 fn turned(mut values: Vec<Value>, descend: bool) -> Vec<Value>

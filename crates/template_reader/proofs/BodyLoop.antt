@@ -7,7 +7,7 @@ use Rattle.std.proofs.Common.{Bor, Result, Ok, Err}
 use Rattle.grammar.proofs.RepeatLoop.{shrinks, goes_on, done}
 use Rattle.template_items.specs.declared.item.Item.{Item}
 use Rattle.tmpl.specs.Body.{Body, part_before, body_of}
-use Rattle.tmpl.specs.declared.Part.{Part, Text, Format, Choice', Repeat'}
+use Rattle.tmpl.specs.declared.Part.{Part, Text, Format, Count, Choice', Repeat'}
 use Rattle.token_reader.specs.declared.halt.Halt.{Halt}
 use Rattle.token_reader.specs.declared.halt.Halt.TheVariants.{Expected, TooDeep, NoMemory}
 use Rattle.template_tags.specs.declared.words.Bound.{Bound}
@@ -20,6 +20,7 @@ use Rattle.token_reader.proofs.Ends.{ends}
 before_single : (p : Part) (rest : Body) → before (single p) rest ≡ part_before p rest
 before_single (Text s) rest = refl
 before_single (Format f) rest = refl
+before_single (Count x) rest = refl
 before_single (Choice' negated values against m taken n other) rest = refl
 before_single (Repeat' number values order n body) rest = refl
 

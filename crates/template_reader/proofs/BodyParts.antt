@@ -10,12 +10,12 @@ use Rattle.grammar.proofs.Parts.{Part, Opens, ◌>>=◌, give_part, then_part, t
 use Rattle.template_items.specs.declared.item.Item.{Item}
 use Rattle.template_items.specs.declared.item.Mark.{Mark}
 use Rattle.template_items.specs.declared.item.Mark.TheVariants as marks
-use Rattle.tmpl.specs.Body.{Body, done, text, format, choice, repeat}
+use Rattle.tmpl.specs.Body.{Body, done, text, choice, repeat}
 use Rattle.tmpl.specs.declared.Against.{Against}
 use Rattle.tmpl.specs.declared.Cmp.{Cmp}
 use Rattle.tmpl.specs.declared.Expr.{Expr}
 use Rattle.template_tags.specs.declared.words.Bound.{Bound}
-use Rattle.template_tags.specs.Terminals.{number, is_mark, is_text, text_value, is_compare, compare_value, is_not, not_value, has_keyword, mode_of, order_of, no_settings, loop_settings, IsReal}
+use Rattle.template_tags.specs.Terminals.{number, is_mark, is_text, text_value, is_compare, compare_value, is_not, not_value, has_keyword, order_of, shown, no_settings, loop_settings, IsReal}
 use Rattle.template_tags.specs.Tag.{mark, expr, any_expr, settings}
 use Rattle.template_reader.specs.Template.{text_part, format_part, leaf, chain, compared, not_compared, comparison, other_branch, no_other, branches, tested, negated_test, choice_rest, repeat_rest, block, body_of, body}
 use Rattle.template_reader.specs.Reading.{read_text, read_format, read_leaf, read_compared, read_not_compared, read_comparing, read_comparison, read_other_branch, read_no_other, read_ending, read_branches, read_tested, read_negated, read_choice_rest, read_repeated, read_repeat_rest, read_choice, read_repeat, read_block, is_block, is_part, read_part, read_body_of, read_body, read_block_at}
@@ -38,9 +38,9 @@ format_part_part scope = do
   _ ← mark_part marks.OpenFormat refl
   then_opens (λ i. ends_setting i ≡ true) (expr_part scope)
       (λ e. do
-        s ← settings_part 4 no_settings
-        give_part (format e (mode_of s) (order_of s) done))
-      (λ e. opens_then (settings 4 no_settings) _ _ (settings_open 4 no_settings))
+        s ← settings_part 6 no_settings
+        give_part (shown e s))
+      (λ e. opens_then (settings 6 no_settings) _ _ (settings_open 6 no_settings))
       (λ i later e. setting_no_dot (i ∷ later) e)
 
 text_part_opens : (W : Item → Type 0) → ((i : Item) → is_text i ≡ true → W i) → Opens text_part W
@@ -164,14 +164,14 @@ module _ {I V : List Bound → List Item → Body → Type 0} {read : List Bound
     _ ← in_part
     then_opens (λ i. ends_setting i ≡ true) (expr_part scope)
         (λ e. do
-          s ← settings_part 3 loop_settings
+          s ← settings_part 4 loop_settings
           then_opens (λ i. is_mark marks.EndRepeat i ≡ true) (inner (scope ++ record { name = name; number = n } ∷ []))
               (λ b. do
                 _ ← mark_part marks.EndRepeat refl
                 give_part (repeat n e (order_of s) b done))
               (λ b. opens_then (mark marks.EndRepeat) _ _ (mark_opens marks.EndRepeat _ (λ i e. e)))
               (λ i later e. ends_body marks.EndRepeat refl refl refl i e))
-        (λ e. opens_then (settings 3 loop_settings) _ _ (settings_open 3 loop_settings))
+        (λ e. opens_then (settings 4 loop_settings) _ _ (settings_open 4 loop_settings))
         (λ i later e. setting_no_dot (i ∷ later) e)
 
   choice_part : (scope : List Bound) → Part IsReal (grammar.◌>>=◌ (mark marks.OpenChoice) (λ _. choice_rest expr I scope)) (grammar.◌>>=◌ (mark marks.OpenChoice) (λ _. choice_rest any_expr V scope)) Always (read_choice read scope)

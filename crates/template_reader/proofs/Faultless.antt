@@ -11,18 +11,19 @@ use Rattle.template_items.specs.declared.item.ItemKind.{ItemKind}
 use Rattle.template_items.specs.declared.item.ItemKind.TheVariants as kinds
 use Rattle.template_items.specs.declared.item.Mark.{Mark}
 use Rattle.template_items.specs.declared.item.Mark.TheVariants as marks
-use Rattle.tmpl.specs.Body.{Body, done, text, format, choice, repeat}
+use Rattle.tmpl.specs.Body.{Body, done, text, choice, repeat}
 use Rattle.tmpl.specs.declared.Against.{Against}
 use Rattle.tmpl.specs.declared.Cmp.{Cmp}
 use Rattle.tmpl.specs.declared.Expr.{Expr}
-use Rattle.tmpl.specs.declared.Mode.TheVariants.{Link}
+use Rattle.tmpl.specs.declared.Mode.TheVariants.{Written, Embed, Link, Labelled}
 use Rattle.tmpl.specs.declared.WordRoot.TheVariants.{Here, Loop, Collection}
 use Rattle.template_tags.specs.declared.words.Bound.{Bound}
 use Rattle.template_tags.specs.declared.settings.Setting.{Setting}
 use Rattle.template_tags.specs.declared.settings.Setting.TheVariants as setting
 use Rattle.template_tags.specs.declared.settings.Settings.{Settings}
-use Rattle.template_tags.specs.Terminals.{number, is_mark_kind, text_value, dot_value, equals_value, name_value, quoted_value, label_value, joined_value, constant_value, direction_value, not_value, in_value, compare_value, setting_value, mode_of, order_of, no_settings, loop_settings, variable_value, known_value}
-use Rattle.template_tags.specs.Tag.{mark, dotted, word, joined_word, from, here, here_of, collection, of_loop, expr, setting_key, setting_order, setting_delimiter, setting_label, with_embed, with_link, with_writing, set, no_more_settings, settings}
+use Rattle.template_tags.specs.declared.settings.Showing.TheVariants.{Each, HowMany}
+use Rattle.template_tags.specs.Terminals.{number, is_mark_kind, text_value, dot_value, equals_value, name_value, quoted_value, label_value, joined_value, constant_value, direction_value, not_value, in_value, compare_value, limit_value, setting_value, order_of, shown, no_settings, loop_settings, variable_value, known_value}
+use Rattle.template_tags.specs.Tag.{mark, dotted, word, joined_word, from, here, here_of, collection, of_loop, expr, with_mode, with_key, with_order, with_limit, with_delimiter, setting_key, setting_order, setting_limit, setting_delimiter, setting_found, setting_label, set, no_more_settings, settings}
 use Rattle.template_reader.specs.Template.{text_part, chain, body_of, compared, not_compared, comparison, no_other, other_branch, branches, format_part, leaf, tested, negated_test, choice_rest, repeat_rest, block, body, Entry, is_sort, named_value, collection_head, function_head, head_rest, template, within}
 
 -- an item that marks no fault
@@ -161,33 +162,48 @@ key_kept : (s : Settings) → Keeps (setting_key s)
 key_kept s = do
   _ ← equals
   w ← word_kept
-  give (record { key = Some w; descend = s.descend; delimiter = s.delimiter; mode = s.mode })
+  give (with_key s w)
 
 order_kept : (s : Settings) → Keeps (setting_order s)
 order_kept s = do
   _ ← equals
   d ← single direction_value (λ i m. refl)
-  give (record { key = s.key; descend = Some d; delimiter = s.delimiter; mode = s.mode })
+  give (with_order s d)
+
+limit_kept : (s : Settings) → Keeps (setting_limit s)
+limit_kept s = do
+  _ ← equals
+  n ← single limit_value (λ i m. refl)
+  give (with_limit s n)
 
 delimiter_kept : (s : Settings) → Keeps (setting_delimiter s)
 delimiter_kept s = do
   _ ← equals
   q ← single quoted_value (λ i m. refl)
-  give (record { key = s.key; descend = s.descend; delimiter = Some q; mode = s.mode })
+  give (with_delimiter s q)
+
+found_kept : (s : Settings) → Keeps (setting_found s)
+found_kept s = do
+  _ ← equals
+  w ← word_kept
+  give (with_mode s (Each (Link (Some w))))
 
 label_kept : (s : Settings) → Keeps (setting_label s)
 label_kept s = do
   _ ← equals
-  w ← word_kept
-  give (record { key = s.key; descend = s.descend; delimiter = s.delimiter; mode = Some (Link (Some w)) })
+  q ← single quoted_value (λ i m. refl)
+  give (with_mode s (Each (Labelled q)))
 
 set_kept : (s : Settings) (x : Setting) → Keeps (set s x)
 set_kept s setting.Key = key_kept s
 set_kept s setting.Order = order_kept s
 set_kept s setting.Delimiter = delimiter_kept s
-set_kept s setting.Embed = give (with_embed s)
-set_kept s setting.Link = or (label_kept s) (give (with_link s))
-set_kept s (setting.Writing w) = give (with_writing s w)
+set_kept s setting.Limit = limit_kept s
+set_kept s setting.Embed = give (with_mode s (Each Embed))
+set_kept s setting.Link = or (found_kept s) (give (with_mode s (Each (Link None))))
+set_kept s setting.Label = label_kept s
+set_kept s setting.Count = give (with_mode s HowMany)
+set_kept s (setting.Writing w) = give (with_mode s (Each (Written w)))
 
 close_kept : (s : Settings) → Keeps (no_more_settings s)
 close_kept s = do
@@ -209,8 +225,8 @@ format_kept : (scope : List Bound) → Keeps (format_part expr scope)
 format_kept scope = do
   _ ← marked marks.OpenFormat refl
   e ← expr_kept scope
-  s ← settings_kept 4 no_settings
-  give (format e (mode_of s) (order_of s) done)
+  s ← settings_kept 6 no_settings
+  give (shown e s)
 
 leaf_kept : (scope : List Bound) → Keeps (leaf expr scope)
 leaf_kept scope = or text_kept (format_kept scope)
@@ -273,7 +289,7 @@ module _ (B : List Bound → List Item → Body → Type 0) (kept : (scope : Lis
     name ← single variable_value (λ i m. refl)
     _ ← single in_value (λ i m. refl)
     e ← expr_kept scope
-    s ← settings_kept 3 loop_settings
+    s ← settings_kept 4 loop_settings
     inner ← kept (scope ++ record { name = name; number = number } ∷ [])
     _ ← marked marks.EndRepeat refl
     give (repeat number e (order_of s) inner done)

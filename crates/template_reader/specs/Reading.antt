@@ -5,14 +5,14 @@ use Rattle.grammar.specs.Reading as reading
 use Rattle.std.specs.Option.{is_some}
 use Rattle.template_items.specs.declared.item.Item.{Item}
 use Rattle.template_items.specs.declared.item.Mark.TheVariants as marks
-use Rattle.tmpl.specs.Body.{Body, done, text, format, choice, repeat}
+use Rattle.tmpl.specs.Body.{Body, done, text, choice, repeat}
 use Rattle.tmpl.specs.declared.Against.{Against}
 use Rattle.tmpl.specs.declared.Cmp.{Cmp}
 use Rattle.tmpl.specs.declared.Expr.{Expr}
 use Rattle.tmpl.specs.declared.Order.{Order}
 use Rattle.template_tags.specs.declared.words.Bound.{Bound}
 use Rattle.template_tags.specs.Terminals.{is_mark, is_text, text_value, name_value, constant_value, is_not, not_value}
-use Rattle.template_tags.specs.Terminals.{in_value, is_compare, compare_value, mode_of, order_of, no_settings}
+use Rattle.template_tags.specs.Terminals.{in_value, is_compare, compare_value, order_of, shown, no_settings}
 use Rattle.template_tags.specs.Terminals.{loop_settings, variable_value}
 use Rattle.template_reader.specs.Template.{chain, Entry, Head, named_value}
 use Rattle.template_tags.specs.Reading.{read_mark, read_expr, read_settings}
@@ -30,8 +30,8 @@ unfoldable pub read_format : List Bound → List Item → Outcome Item Body
 read_format scope = do
   read_mark marks.OpenFormat
   e ← read_expr scope
-  s ← read_settings 4 no_settings
-  give (format e (mode_of s) (order_of s) done)
+  s ← read_settings 6 no_settings
+  give (shown e s)
 
 -- a part without a body
 unfoldable pub read_leaf : List Bound → List Item → Outcome Item Body
@@ -117,7 +117,7 @@ module _ (body : List Bound → List Item → Outcome Item Body) where
     name ← take_one true variable_value
     take_one true in_value
     e ← read_expr scope
-    s ← read_settings 3 loop_settings
+    s ← read_settings 4 loop_settings
     read_repeated scope (record { name = name; number = number }) e (order_of s)
 
   -- a choice

@@ -3,8 +3,7 @@
 --   file     := { template }
 --   template := "<TEMPLATE" ( Name | "COLLECTION" label ) ">" body "</TEMPLATE>"
 --   body     := { text | format | choice | repeat }
---   format   := "<SFMT" expr { "EMBED" | "LINK" [ "=" word ] | order } ">"
---   order    := "KEY" "=" word | "ORDER" "=" ( "ascend" | "descend" ) | "DELIM" "=" Quoted
+--   format   := "<SFMT" expr { setting } ">"        (setting and order are those of a tag's grammar)
 --   choice   := "<SIF" [ "NOT" ] expr [ compare constant ] ">" body [ "<SELSE>" body ] "</SIF>"
 --   repeat   := "<SFOR" Name "IN" expr { order } ">" body "</SFOR>"
 --   expr     := "@" [ word ] | "#" label [ "." word ] | Name [ "." word ]
@@ -14,14 +13,14 @@ use Rattle.std.specs.Str.{bytes_eq}
 use Rattle.grammar.specs.Grammar.{nothing, one, ◌>>=◌, ◌>>◌, either, many}
 use Rattle.template_items.specs.declared.item.Item.{Item}
 use Rattle.template_items.specs.declared.item.Mark.TheVariants as marks
-use Rattle.tmpl.specs.Body.{Body, done, part_before, text, format, choice, repeat}
+use Rattle.tmpl.specs.Body.{Body, done, part_before, text, format, count, choice, repeat}
 use Rattle.tmpl.specs.declared.Against.{Against}
 use Rattle.tmpl.specs.declared.Cmp.{Cmp}
 use Rattle.tmpl.specs.declared.Expr.{Expr}
 use Rattle.tmpl.specs.declared.Part.{Part}
 use Rattle.template_tags.specs.declared.words.Bound.{Bound}
 use Rattle.template_tags.specs.Terminals.{text_value, name_value, label_value, constant_value, not_value, in_value, compare_value}
-use Rattle.template_tags.specs.Terminals.{mode_of, order_of, no_settings, loop_settings, variable_value}
+use Rattle.template_tags.specs.Terminals.{order_of, shown, no_settings, loop_settings, variable_value}
 use Rattle.template_tags.specs.Tag.{mark, expr, any_expr, settings}
 
 -- ---- bodies
@@ -37,6 +36,7 @@ abbrev pub before : Body → Body → Body
 before done rest = rest
 before (text t b) rest = text t (before b rest)
 before (format e m o b) rest = format e m o (before b rest)
+before (count e b) rest = count e (before b rest)
 before (choice n e a b c d) rest = choice n e a b c (before d rest)
 before (repeat n e o b c) rest = repeat n e o b (before c rest)
 
@@ -102,8 +102,8 @@ module _ (E : List Bound → List Item → Expr → Type 0) where
   format_part scope = do
     mark marks.OpenFormat
     e ← E scope
-    s ← settings 4 no_settings
-    nothing (format e (mode_of s) (order_of s) done)
+    s ← settings 6 no_settings
+    nothing (shown e s)
 
   -- a part without a body
   abbrev pub leaf : List Bound → List Item → Body → Type 0
@@ -134,7 +134,7 @@ module _ (E : List Bound → List Item → Expr → Type 0) where
       name ← one variable_value
       one in_value
       e ← E scope
-      s ← settings 3 loop_settings
+      s ← settings 4 loop_settings
       inner ← body (scope ++ record { name = name; number = number } ∷ [])
       mark marks.EndRepeat
       nothing (repeat number e (order_of s) inner done)

@@ -19,10 +19,10 @@ use sd_value::{NoMemory, Str};
 use std::alloc::Global;
 use template_items::{Item, Mark};
 use template_tags::{
-    Bound, Settings, compare_at, constant_at, expression_at, has_compare, has_mark, has_not,
-    has_text, in_at, mark_at, mode_and_order, not_at, settings_at, text_at, variable_at,
+    Bound, Settings, Showing, compare_at, constant_at, expression_at, has_compare, has_mark,
+    has_not, has_text, in_at, mark_at, not_at, order_of, settings_at, shown, text_at, variable_at,
 };
-use tmpl::{Against, Choice, Expr, Format, Mode, Order, Part, Repeat, Writing};
+use tmpl::{Against, Choice, Expr, Mode, Order, Part, Repeat, Writing};
 use token_reader::Halt;
 
 #[tactic(auto, unfolding(crate::specs::Reading::read_text))]
@@ -40,6 +40,7 @@ fn no_settings() -> Settings
     Settings {
         key: None,
         descend: None,
+        limit: None,
         delimiter: None,
         mode: None,
     }
@@ -52,8 +53,9 @@ fn loop_settings() -> Settings
     Settings {
         key: None,
         descend: None,
+        limit: None,
         delimiter: None,
-        mode: Some(Mode::Written(Writing::Escaped)),
+        mode: Some(Showing::Each(Mode::Written(Writing::Escaped))),
     }
 }
 
@@ -68,16 +70,8 @@ fn format_at<'a>(
 {
     let (_, rest) = mark_at(items, Mark::OpenFormat)?;
     let (values, rest) = expression_at(alloc, scope, rest)?;
-    let (settings, rest) = settings_at(alloc, 4, no_settings(), rest)?;
-    let (mode, order) = mode_and_order(settings);
-    Ok((
-        Part::Format(Format {
-            values,
-            mode,
-            order,
-        }),
-        rest,
-    ))
+    let (settings, rest) = settings_at(alloc, 6, no_settings(), rest)?;
+    Ok((shown(values, settings), rest))
 }
 
 #[tactic(auto, unfolding(crate::specs::Reading::read_leaf))]
@@ -412,8 +406,8 @@ fn repeat_rest_at<'a>(
     let (name, rest) = variable_at(alloc, items)?;
     let (_, rest) = in_at(rest)?;
     let (values, rest) = expression_at(alloc, scope, rest)?;
-    let (settings, rest) = settings_at(alloc, 3, loop_settings(), rest)?;
-    let (_, order) = mode_and_order(settings);
+    let (settings, rest) = settings_at(alloc, 4, loop_settings(), rest)?;
+    let order = order_of(settings);
     repeated_at(
         alloc,
         depth,

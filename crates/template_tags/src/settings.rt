@@ -85,22 +85,11 @@ pub fn order_of(settings: Settings) -> Order
 }
 
 /// The part that shows the values.
-pub fn shown(values: Expr, settings: Settings) -> Part
+pub fn shown(values: Expr, mut settings: Settings) -> Part
     ensures { part_before result done ≡ shown values settings }
 {
-    let Settings {
-        key,
-        descend,
-        limit,
-        delimiter,
-        mode,
-    } = settings;
-    let order = Order {
-        key,
-        descend: descend.unwrap_or(false),
-        limit,
-        delimiter,
-    };
+    let mode = settings.mode.take();
+    let order = order_of(settings);
     match mode {
         Some(Showing::HowMany) => Part::Count(values),
         Some(Showing::Each(mode)) => Part::Format(Format {

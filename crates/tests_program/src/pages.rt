@@ -228,6 +228,16 @@ const PAGES: &[PageRow] = &[
         err: "",
     },
     PageRow {
+        data_text: "object o { a url \"http://x/\" a 3 a 1 a 2 }",
+        query: VALUES,
+        templates: "<TEMPLATE F><SFMT @a LIMIT=2 DELIM=\",\"> of <SFMT @a COUNT>: <SFOR v IN @a ORDER=descend \
+            LIMIT=1><SFMT v LINK LABEL=\"<x>\"></SFOR></TEMPLATE>",
+        address: "/F/no.html",
+        code: 0,
+        out: "1,2 of 4: <a href=\"http://x/\">&lt;x&gt;</a>",
+        err: "",
+    },
+    PageRow {
         data_text: "object o { a 1 }",
         query: VALUES,
         templates: "<TEMPLATE F><SFMT @a>=x</TEMPLATE>",

@@ -98,6 +98,33 @@ const ROWS: &[Row] = &[
             "<TEMPLATE F><SFOR v IN @a ^EMBED>x</SFOR></TEMPLATE>",
         ],
     },
+    // How many values, and labels of links.
+    Row {
+        number: 81,
+        texts: &[
+            "<TEMPLATE F><SFMT @a LIMIT=^0></TEMPLATE>",
+            "<TEMPLATE F><SFMT @a LIMIT=^-1></TEMPLATE>",
+            "<TEMPLATE F><SFMT @a LIMIT=^'2'></TEMPLATE>",
+            "<TEMPLATE F><SFMT @a LIMIT=^b></TEMPLATE>",
+            "<TEMPLATE F><SFMT @a LIMIT^></TEMPLATE>",
+            "<TEMPLATE F><SFMT @a LIMIT=2 ^LIMIT=3></TEMPLATE>",
+            "<TEMPLATE F><SFOR v IN @a LIMIT=^0>x</SFOR></TEMPLATE>",
+            "<TEMPLATE F><SFMT @a ^LABEL='x'></TEMPLATE>",
+            "<TEMPLATE F><SFMT @a ^LABEL='x' LINK></TEMPLATE>",
+            "<TEMPLATE F><SFMT @a LINK=b ^LABEL='x'></TEMPLATE>",
+            "<TEMPLATE F><SFMT @a EMBED ^LABEL='x'></TEMPLATE>",
+            "<TEMPLATE F><SFMT @a LINK LABEL^></TEMPLATE>",
+            "<TEMPLATE F><SFMT @a LINK LABEL=^x></TEMPLATE>",
+            "<TEMPLATE F><SFMT @a LINK LABEL='x' ^LABEL='y'></TEMPLATE>",
+            "<TEMPLATE F><SFMT @a LINK LABEL='x' ^LINK></TEMPLATE>",
+            "<TEMPLATE F><SFMT @a LINK ^COUNT></TEMPLATE>",
+            "<TEMPLATE F><SFMT @a COUNT^=2></TEMPLATE>",
+            "<TEMPLATE F><SFMT @a COUNT ^LABEL='x'></TEMPLATE>",
+            "<TEMPLATE F><SFOR v IN @a ^COUNT>x</SFOR></TEMPLATE>",
+            "<TEMPLATE F><SFOR v IN @a ^LABEL='x'>x</SFOR></TEMPLATE>",
+            "<TEMPLATE F><SFOR ^COUNT IN @a>x</SFOR></TEMPLATE>",
+        ],
+    },
     // Tags of branches and loops.
     Row {
         number: 81,
@@ -331,6 +358,8 @@ const ROWS: &[Row] = &[
             "<TEMPLATE F><SFMT @>=x <b>bold</b> <SIFT> <SFMT</TEMPLATE>",
             "<TEMPLATE F><SFMT @a.'b c' DELIM=', ' KEY=b.c ORDER=descend LINK=d></TEMPLATE>",
             "<TEMPLATE F><SFMT @RAW LINES KEY=JSON DELIM=','><SFMT @a.URL PLAIN></TEMPLATE>",
+            "<TEMPLATE F><SFMT @LIMIT ORDER=ascend LINK LIMIT=1 DELIM='' LABEL='>' KEY=LABEL></TEMPLATE>",
+            "<TEMPLATE F><SFOR v IN @a.COUNT LIMIT=9223372036854775807 KEY=n><SFMT v COUNT KEY=n></SFOR></TEMPLATE>",
             "<TEMPLATE F><SIF NOT #C.a LE -1>x<SELSE>y</SIF></TEMPLATE>",
             "<TEMPLATE F><SFOR v IN #C><SFOR v IN v.a><SFMT v EMBED></SFOR></SFOR></TEMPLATE>",
             "<TEMPLATE F><SIF @a><SIF @a><SIF @a><SIF @a><SIF @a><SIF @a><SIF @a><SIF @a><SIF @a><SIF @a><SIF \

@@ -62,6 +62,18 @@ pub const SITES: &[SiteRow] = &[
         outcomes: "/R.html &lt;b&gt;&quot;&amp;\n2\\|<b>'&\n2\\|<b>'&\n2\\|x<br>\ny<br>\nz<br>\n<br>\n&lt;|\
             http://x/a%20b?q=%221%22&amp;%20%25zz%252|\\u003cb>\\'&\\n2\\\\|7;",
     },
+    // The first values, how many there are, and labels of links.
+    SiteRow {
+        data_text: "object a in A { t 'B' n 1 } object b in A { t 'a' n 2 } object c in A { t 'A' n 2 } object d in A { n 10 }",
+        query: "INPUT D CREATE R() { WHERE A(x), x -> l -> v CREATE F(x) LINK F(x) -> l -> v, R() -> 'f' -> F(x) } OUTPUT S",
+        templates: "<TEMPLATE R><SFOR x IN @f KEY=n LIMIT=2 DELIM=' '><SFMT x.n></SFOR>|<SFMT @f EMBED LIMIT=3 \
+            ORDER=descend>|<SFMT @f LIMIT=9 DELIM=','>|<SFMT @f COUNT LIMIT=2> <SFMT @f COUNT KEY=n>|<SFMT @zz COUNT> \
+            <SFMT @f.n COUNT>|<SFMT @f LINK LABEL='<more>' LIMIT=1><SFMT @f.n LINK LABEL='n' LIMIT=1></TEMPLATE>\
+            <TEMPLATE F>(<SFMT @n>)</TEMPLATE>",
+        outside: &[],
+        outcomes: "/F/na.html (1);/F/nb.html (2);/F/nc.html (2);/F/nd.html (10);/R.html 1 2|(10)(2)(2)|\
+            /F/na.html,/F/nb.html,/F/nc.html,/F/nd.html|4 4|0 3|<a href='/F/na.html'>&lt;more&gt;</a>n;",
+    },
     // Loops, branches and keys.
     SiteRow {
         data_text: "object o { a 1 a 2 } object s { a &p a &q a &r } object p { k 2 } object q { k 1 } object r { }",

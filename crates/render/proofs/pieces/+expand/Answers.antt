@@ -13,11 +13,12 @@ use Rattle.render.proofs.Room.{ok_then, adds_none, adds_then}
 use Rattle.render.specs.Rows.{PartExpands}
 use Rattle.render.proofs.Joins.{joined_more, expands_more, expands_all, taken_by, not_taken_by, choice_taken, choice_other, repeated}
 use Rattle.std.proofs.Common.{rules, inl, inr, IfOk}
-use Rattle.std.specs.Prelude.{Contains}
+use Rattle.std.specs.Prelude.{Contains, length}
+use Rattle.std.specs.Fmt.{decimal}
 use Rattle.tmpl.specs.Body.{part_before, done}
 use Rattle.render.specs.Asks.{SceneAsks, ModeAsks}
 use Rattle.render.proofs.Asked.{keeps_as, keeps_then, arranged_in, item_in}
-use Rattle.render.proofs.Scenes.{part_in, format_asks, choice_asks, repeat_asks}
+use Rattle.render.proofs.Scenes.{part_in, format_asks, count_asks, choice_asks, repeat_asks}
 use Rattle.render.proofs.pieces.+expand.Goals as goal
 
 pub expand-returns-in_err-expand_part-clause-kept : goal.expand-returns-in_err-expand_part-clause-kept
@@ -175,6 +176,29 @@ expand_part-returns-in_ok-values-in-Format-clause-answer g t c =
     let j = subst (λ (l : List Value). Joined (Formatted s f x.mode) d l ps) c.as_slice.ensures.value joined in
     (ps, λ rest b h. rw c.in-Format.is (c.in_ok-values-in-Format.values.items, ps, b, c.in_ok-values-in-Format.ensures.answer, j, h, refl), adds))
     all
+
+pub expand_part-returns-in_err-values-in-Count-clause-kept : goal.expand_part-returns-in_err-values-in-Count-clause-kept
+expand_part-returns-in_err-values-in-Count-clause-kept g t c =
+    let s = g.V.SiteView.site (g.V.SiteView.fixed c.args.view.now) in
+    let sc : Env = record { here = c.args.here.now; loops = c.args.loops.now } in
+    keeps_as (λ q h. count_asks s sc c.args.part.now c.in-Count.expr q c.in-Count.is h) c.range.ensures.kept
+
+pub expand_part-returns-in_ok-values-in-Count-clause-kept : goal.expand_part-returns-in_ok-values-in-Count-clause-kept
+expand_part-returns-in_ok-values-in-Count-clause-kept g t c =
+    let s = g.V.SiteView.site (g.V.SiteView.fixed c.args.view.now) in
+    let sc : Env = record { here = c.args.here.now; loops = c.args.loops.now } in
+    keeps_as (λ q h. count_asks s sc c.args.part.now c.in-Count.expr q c.in-Count.is h) c.range.ensures.kept
+
+pub expand_part-returns-in_ok-values-in-Count-clause-answer : goal.expand_part-returns-in_ok-values-in-Count-clause-answer
+expand_part-returns-in_ok-values-in-Count-clause-answer g t c =
+    let fixed = g.V.SiteView.fixed c.args.view.now in
+    let s = g.V.SiteView.site fixed in
+    let f = g.V.SiteView.templates fixed in
+    let sc : Env = record { here = c.args.here.now; loops = c.args.loops.now } in
+    let vs = c.in_ok-values-in-Count.values.items in
+    ok_then _ _ c.add_count.result
+    (λ _ adds. (bytes (decimal (length vs)), λ rest b h. rw c.in-Count.is (vs, b, c.in_ok-values-in-Count.ensures.answer, h, refl), adds))
+    c.add_count.ensures
 
 pub expand_part-returns-then-is_taken-clause-kept : goal.expand_part-returns-then-is_taken-clause-kept
 expand_part-returns-then-is_taken-clause-kept g t c =

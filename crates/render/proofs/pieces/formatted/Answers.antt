@@ -1,6 +1,6 @@
 use Rattle.std.proofs.Common.{refl, sym, subst, [], ◌∷◌}
 use Rattle.page_spec.specs.Pieces.{Formatted, bytes, embed}
-use Rattle.page_spec.specs.Show.{escaped, show, link}
+use Rattle.page_spec.specs.Show.{escaped, show, target, anchor, link}
 use Rattle.page_spec.specs.Written.{written}
 use Rattle.sd_value.specs.declared.Value.{Value}
 use Rattle.page_spec.specs.Site.{HasKey}
@@ -29,6 +29,15 @@ returns-in-Written-clause-answer g c =
     let f = g.V.SiteView.templates fixed in
     let v = c.args.value.now in
     ok_then _ _ c.add_written.result (λ x adds. (bytes (written c.in-Written.writing (show v)), subst (λ m. Formatted s f m v (bytes (written c.in-Written.writing (show v)))) (sym c.in-Written.is) refl, adds)) c.add_written.ensures
+
+pub returns-in-Labelled-clause-answer : goal.returns-in-Labelled-clause-answer
+returns-in-Labelled-clause-answer g c =
+    let fixed = g.V.SiteView.fixed c.args.view.now in
+    let s = g.V.SiteView.site fixed in
+    let f = g.V.SiteView.templates fixed in
+    let v = c.args.value.now in
+    let linked = bytes (anchor (target v) c.in-Labelled.label) in
+    ok_then _ _ c.add_labelled.result (λ x adds. (linked, subst (λ m. Formatted s f m v linked) (sym c.in-Labelled.is) refl, adds)) c.add_labelled.ensures
 
 pub returns-in-Some-clause-answer : goal.returns-in-Some-clause-answer
 returns-in-Some-clause-answer g c =
