@@ -1,12 +1,13 @@
 -- A value without a key stands after those that have one; how many values there are, and the first of them.
 use Rattle.std.specs.Prelude.{◌≡◌, ◌⊎◌, List, [], ◌∷◌, Some, None, codes}
+use Rattle.std.specs.Fmt.{digits}
 use Rattle.std.specs.List.Sorted.{IsStrictlySortedBy}
 use Rattle.std.specs.declared.cmp.Ordering.TheVariants.{Greater}
 use Rattle.std.proofs.Common.{refl, sym, ap, subst, inl, inr, lit<, ◌∙◌}
 use Rattle.sd_value.specs.declared.Datum.TheVariants.{Node}
 use Rattle.sd_value.specs.declared.Value.{Value}
 use Rattle.sd_value.specs.declared.Value.TheVariants.{Data, Page}
-use Rattle.sd_value.specs.Order.{value_cmp}
+use Rattle.sd_value.specs.Order.{value_cmp, datum_cmp}
 use Rattle.sd_value.specs.OrderLaws.{value_cmp-total}
 use Rattle.std.proofs.lemmas.Cmp.{tied_itself}
 use Rattle.sd_value.specs.Members.{IsOneOf, IsOneOf-from_Contains}
@@ -114,10 +115,11 @@ only_value v (u, starts, (m, step, is)) =
     ]
 
 values_are : ListsExactly value_cmp (InRange site at_a ends) values
-unfolding IsStrictlySortedBy
+unfolding IsStrictlySortedBy value_cmp datum_cmp
 values_are =
     listed value_cmp (InRange site at_a ends) values ((refl, tt), (tt, tt))
     ((node a, refl, (node b, (0, lit< tt, refl), refl)), ((node a, refl, (node c, (1, lit< tt, refl), refl)), tt)) only_value
 
 pub two_of_them : Expands site no_templates at_a (count ends done) (bytes (codes "2"))
+unfolding digits
 two_of_them = (values, [], values_are, refl, refl)

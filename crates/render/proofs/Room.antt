@@ -1,5 +1,5 @@
 -- What a page has room for.
-use Rattle.std.proofs.Common.{◌≡◌, ◌⊎◌, ℕ, suc, ◌+◌, ◌<◌, ◌≤◌, List, [], ◌∷◌, ◌++◌, length, inl, inr, sym, ap, ◌∙◌, refl, subst, arith, Ok, Err, Result, IfOk, append_assoc, append-nil, length-append}
+use Rattle.std.proofs.Common.{◌≡◌, ℕ, suc, ◌+◌, ◌<◌, ◌≤◌, List, [], ◌∷◌, ◌++◌, length, inl, inr, sym, ap, ◌∙◌, refl, subst, arith, Ok, Err, Result, IfOk, append_assoc, append-nil, length-append}
 use Rattle.sd_value.specs.declared.Value.{Value}
 use Rattle.page_spec.specs.declared.Piece.{Piece}
 use Rattle.page_spec.specs.declared.Piece.TheVariants as piece

@@ -1,4 +1,4 @@
-use Rattle.std.proofs.Common.{List, ◌∙◌, sym, refl, arith, subst}
+use Rattle.std.proofs.Common.{◌≡◌, ℕ, List, ◌∙◌, sym, refl, arith, subst}
 use Rattle.std.proofs.lemmas.List.{take_all}
 use Rattle.sd_value.specs.declared.Value.{Value}
 use Rattle.page_spec.specs.declared.Bound.{Bound}
@@ -196,9 +196,11 @@ expand_part-returns-in_ok-values-in-Count-clause-answer g t c =
     let f = g.V.SiteView.templates fixed in
     let sc : Env = record { here = c.args.here.now; loops = c.args.loops.now } in
     let vs = c.in_ok-values-in-Count.values.items in
+    let count : c.len.result ≡ length vs = omega (arith, c.len.ensures, c.in_ok-values-in-Count.values.ok.0) in
+    let added = subst (λ (n : ℕ). IfOk c.add_count.result (λ _. Adds c.args.out.now c.add_count.new.out (bytes (decimal n)))) count c.add_count.ensures in
     ok_then _ _ c.add_count.result
     (λ _ adds. (bytes (decimal (length vs)), λ rest b h. rw c.in-Count.is (vs, b, c.in_ok-values-in-Count.ensures.answer, h, refl), adds))
-    c.add_count.ensures
+    added
 
 pub expand_part-returns-then-is_taken-clause-kept : goal.expand_part-returns-then-is_taken-clause-kept
 expand_part-returns-then-is_taken-clause-kept g t c =

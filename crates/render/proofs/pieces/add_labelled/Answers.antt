@@ -8,7 +8,7 @@ pub returns : goal.returns
 returns c =
     let linked = anchor (target c.args.value.now) c.args.label.now in
     let e : c.in_ok-of.field-0 ≡ linked =
-        c.in_ok-of.ensures ∙ c.in_ok-push_anchor.ensures
-        ∙ ap (λ (l : List ℕ). l ++ anchor (target c.args.value.now) c.bytes.result.now) c.in_ok-text.ensures.items
-        ∙ ap (λ (l : List ℕ). anchor (target c.args.value.now) l) c.bytes.ensures in
+    c.in_ok-of.ensures ∙ c.in_ok-push_anchor.ensures
+    ∙ ap (λ (l : List ℕ). l ++ anchor (target c.args.value.now) c.bytes.result.now) c.in_ok-text.ensures.items
+    ∙ ap (λ (l : List ℕ). anchor (target c.args.value.now) l) c.bytes.ensures in
     subst (λ (t : List ℕ). IfOk c.add_text.result (λ x. Adds c.args.out.now c.add_text.new.self (bytes t))) e c.add_text.ensures
