@@ -1,0 +1,16 @@
+-- What a search takes from its budget.
+use Rattle.std.specs.Prelude.{◌≡◌, ℕ, ◌+◌, ◌<◌, Option, Some, None, Result, Ok, Err, ⊤}
+use Rattle.certificate_search.specs.declared.budget.SearchStop.{SearchStop}
+use Rattle.certificate_search.specs.declared.budget.SearchStop.TheVariants.{TooLong, NoMemory}
+
+-- What is tried is taken from what was left, or that was less. Out of memory comes at any time.
+abbrev pub Spends : {X : Type 0} → (tried old new : ℕ) → Result X SearchStop → Type 0
+Spends tried old new (Ok x) = old ≡ tried + new
+Spends tried old new (Err TooLong) = old < tried
+Spends tried old new (Err NoMemory) = ⊤
+
+-- the answer, and none if the search was too long
+abbrev pub IsUnlessTooLong : {X : Type 0} → Result (Option X) SearchStop → Option X → Type 0
+IsUnlessTooLong (Ok found) answer = answer ≡ found
+IsUnlessTooLong (Err TooLong) answer = answer ≡ None
+IsUnlessTooLong (Err NoMemory) answer = ⊥
