@@ -5,6 +5,7 @@ ghost use Rattle.constraint_recheck.specs.Search.{search_budget};
 ghost use Rattle.certificate_search.specs.Budget.{Spends, IsUnlessTooLong};
 
 use sd_value::NoMemory;
+use std::alloc::AllocFailed;
 
 const SEARCH_BUDGET: usize = 10_000;
 
@@ -24,6 +25,17 @@ impl From<NoMemory> for SearchStop {
     ghost from_gives = { λ _ e. e ≡ stop.NoMemory };
 
     fn from(_: NoMemory) -> Self {
+        SearchStop::NoMemory
+    }
+}
+
+impl<T: Drop> From<AllocFailed<T>> for SearchStop {
+    ghost use Rattle.std.specs.Prelude.{◌≡◌};
+    ghost use Rattle.certificate_search.specs.declared.budget.SearchStop.TheVariants as stop;
+
+    ghost from_gives = { λ _ e. e ≡ stop.NoMemory };
+
+    fn from(_: AllocFailed<T>) -> Self {
         SearchStop::NoMemory
     }
 }
@@ -48,7 +60,7 @@ pub fn spend(left: &mut usize) -> Result<(), SearchStop>
 
 /// What was found, and nothing if the search was too long.
 pub fn unless_too_long<T>(found: Result<Option<T>, SearchStop>) -> Result<Option<T>, NoMemory>
-    ensures { IfOk result (IsUnlessTooLong found.entry) }
+    ensures { IfOk result (IsUnlessTooLong found) }
 {
     match found {
         Ok(found) => Ok(found),

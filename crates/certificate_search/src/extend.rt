@@ -7,7 +7,7 @@ ghost use Rattle.constraint_recheck.specs.Recheck.{same_sort};
 ghost use Rattle.constraint_recheck.specs.Search.{may_go_on, extend_tried};
 ghost use Rattle.constraint_recheck.specs.Search.{find_names as found, names_tried};
 ghost use Rattle.certificate_search.specs.LinkDepths.{depths_of};
-ghost use Rattle.certificate_search.specs.Extending.{IsExtended};
+ghost use Rattle.certificate_search.specs.Extending.{IsExtended, IsMapped};
 ghost use Rattle.certificate_search.specs.Budget.{Spends};
 
 use crate::budget::{SearchStop, spend};
@@ -15,13 +15,40 @@ use crate::due::goes_on;
 use crate::search::Search;
 use entailment::Judge;
 use query_spec::Variable;
-use sd_value::Str;
+use sd_value::{NoMemory, Str};
 use std::alloc::Global;
 
 fn has_sort(variable: &Variable, arc: bool) -> bool
     ensures { result ≡ same_sort variable.now.arc arc }
 {
     if variable.arc { arc } else { !arc }
+}
+
+// Maps the variable to the target behind the names, if that is allowed.
+fn maps<J: Judge>(
+    alloc: Global,
+    search: &Search<J>,
+    variable: &Variable,
+    target: &Variable,
+    names: &mut Vec<Str>,
+) -> Result<bool, NoMemory>
+    requires { search.now.depths.now ≡ depths_of search.now.variables.now
+        (map condition_of search.now.conditions.now) (link_of search.now.link.now) }
+    ensures { IfOk result (IsMapped (may_go_on search.now.variables.now
+        (J.tests search.now.judge.now) search.now.version (map condition_of search.now.given.now)
+        (map condition_of search.now.conditions.now) (link_of search.now.link.now)
+        (term_of search.now.source.now) (option_map term_of (option_copied search.now.target)))
+        variable.now target.now names.old.items names.new.items) }
+{
+    if !has_sort(target, variable.arc) {
+        return Ok(false);
+    }
+    names.push(target.name.copy(alloc)?)?;
+    if goes_on(alloc, search, names)? {
+        return Ok(true);
+    }
+    names.pop();
+    Ok(false)
 }
 
 // Goes on from the names, with one for each variable that is left.
@@ -50,9 +77,8 @@ fn extend<J: Judge>(
     };
     for target in search.targets {
         spend(budget)?;
-        if has_sort(target, variable.arc) {
-            names.push(target.name.copy(alloc)?)?;
-            if goes_on(alloc, search, names)? && extend(alloc, search, rest, budget, names)? {
+        if maps(alloc, search, variable, target, names)? {
+            if extend(alloc, search, rest, budget, names)? {
                 return Ok(true);
             }
             names.pop();
