@@ -256,5 +256,7 @@ pub fn add_sources<J: Judge>(
         return Ok(());
     };
     let source = without_args(alloc, made)?;
-    add_choices(alloc, query, given, seen, from, link, &source, &made.args, budget)
+    add_choices(
+        alloc, query, given, seen, from, link, &source, &made.args, budget,
+    )
 }

@@ -40,11 +40,10 @@ loop-link-preserved g c =
     let first = map reached_of c.args.seen.now.items in
     let now = map reached_of c.loop-link.seen.items in
     let one = over_one added tries now numbered_of links i c.link-item.result c.loop-link-test.true c.link-item.is in
-    let after = ap (λ r. tried_over added tries r (map numbered_of (drop (i + 1) links))) c.in_ok-add_sources.ensures.added in
-    (
+    let after = ap (λ r. tried_over added tries r (map numbered_of (drop (i + 1) links))) c.in_ok-add_sources.ensures.added in (
       ap (λ r. fold_over added r (map numbered_of (drop (i + 1) links))) c.in_ok-add_sources.ensures.added
-      ∙ sym (fold_one added now numbered_of links i c.link-item.result c.loop-link-test.true c.link-item.is)
-      ∙ c.loop-link.invariant.0,
+          ∙ sym (fold_one added now numbered_of links i c.link-item.result c.loop-link-test.true c.link-item.is)
+          ∙ c.loop-link.invariant.0,
       omega (arith, c.loop-link.invariant.1, c.in_ok-add_sources.ensures.spent, one, after),
     )
 

@@ -30,11 +30,10 @@ loop-choice-preserved g t c =
     let next = c.in_ok-add_choices.ensures.added ∙ ap (λ z. fold_over added now (with_args z cs)) c.in_ok-longer.ensures in
     let here = ap (λ z. tried_over added tries now (with_args z cs)) c.in_ok-longer.ensures in
     let one = choice_tried added tries now s cs operand_of xs i c.choice-item.result c.loop-choice-test.true c.choice-item.is in
-    let after = ap (λ r. tried_over added tries r more) next in
-    (
+    let after = ap (λ r. tried_over added tries r more) next in (
       ap (λ r. fold_over added r more) next
-      ∙ sym (choice_more added now s cs operand_of xs i c.choice-item.result c.loop-choice-test.true c.choice-item.is)
-      ∙ c.loop-choice.invariant.0,
+          ∙ sym (choice_more added now s cs operand_of xs i c.choice-item.result c.loop-choice-test.true c.choice-item.is)
+          ∙ c.loop-choice.invariant.0,
       omega (arith, c.loop-choice.invariant.1, c.in_ok-add_choices.ensures.spent, one, here, after),
     )
 

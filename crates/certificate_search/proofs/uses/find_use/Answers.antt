@@ -62,8 +62,7 @@ loop-link-preserved g c =
     let links = c.args.query.now.links.now in
     let i = c.loop-link.link-index in
     let one = until_one by tries numbered_of links i c.link-item.result c.loop-link-test.true c.link-item.is in
-    let none = ap (λ o. if_none o (tried_until by tries (map numbered_of (drop (i + 1) links)))) (sym c.in_ok-use_of.ensures.found ∙ c.in-None.is) in
-    (
+    let none = ap (λ o. if_none o (tried_until by tries (map numbered_of (drop (i + 1) links)))) (sym c.in_ok-use_of.ensures.found ∙ c.in-None.is) in (
       sym (first_none by numbered_of links i c.link-item.result c.loop-link-test.true c.link-item.is (sym c.in_ok-use_of.ensures.found ∙ c.in-None.is)) ∙ c.loop-link.invariant.0,
       omega (arith, c.loop-link.invariant.1, c.in_ok-use_of.ensures.spent, one, none),
     )
