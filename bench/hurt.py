@@ -33,7 +33,7 @@ def labelled(count):
 
 
 def argued(count):
-    """A page of so many arguments that a page of as many links to, and a constraint that asks for a way from elsewhere."""
+    """Pages of so many arguments that link to one another, and a constraint that asks for a way to them from elsewhere."""
     term = f"F(x0, {', '.join(f'x{n}' for n in range(1, count))})"
     conditions = ", ".join(f'x0 -> "a{n}" -> x{n}' for n in range(1, count))
     return f'INPUT D {{ CREATE Home() }} {{ WHERE C(x0), {conditions} CREATE {term} LINK {term} -> "next" -> {term} }} OUTPUT S', "REACHABLE F FROM Home\n"

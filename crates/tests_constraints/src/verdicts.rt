@@ -510,6 +510,14 @@ const MANY_AUTHORS: &str = "INPUT D \
     u -> \"by\" -> y17, u -> \"by\" -> y18, u -> \"by\" -> y19, u -> \"by\" -> y20, y1 -> \"page\" -> z \
     CREATE G(u) LINK F(u) -> \"to\" -> G(u) } OUTPUT S";
 
+// A page of nine arguments that links to such pages: the one that a link comes from is one of a thousand million terms.
+const NINE: &str = "INPUT D { CREATE Home() } \
+    { WHERE C(x0), x0 -> \"a1\" -> x1, x0 -> \"a2\" -> x2, x0 -> \"a3\" -> x3, x0 -> \"a4\" -> x4, \
+    x0 -> \"a5\" -> x5, x0 -> \"a6\" -> x6, x0 -> \"a7\" -> x7, x0 -> \"a8\" -> x8 \
+    CREATE F(x0, x1, x2, x3, x4, x5, x6, x7, x8) \
+    LINK F(x0, x1, x2, x3, x4, x5, x6, x7, x8) -> \"next\" -> F(x0, x1, x2, x3, x4, x5, x6, x7, x8) } \
+    OUTPUT S";
+
 // Constraints whose search for a certificate takes long.
 const LONG_VERDICTS: &[VerdictRow] = &[
     VerdictRow {
@@ -529,6 +537,12 @@ const LONG_VERDICTS: &[VerdictRow] = &[
         constraint: "ONE F LINKS \"to\"",
         yes: false,
         reason: "So it is of one link, whatever its target.",
+    },
+    VerdictRow {
+        query: NINE,
+        constraint: "REACHABLE F FROM Home",
+        yes: false,
+        reason: "Not all terms are tried that a link may come from.",
     },
     VerdictRow {
         query: MANY_AUTHORS,
