@@ -32,6 +32,13 @@ def labelled(count):
     return query, "<TEMPLATE R>" + "".join(f"<SFMT @l{n}>" for n in range(count)) + "</TEMPLATE>"
 
 
+def argued(count):
+    """Pages of so many arguments that link to one another, and a constraint that asks for a way to them from elsewhere."""
+    term = f"F(x0, {', '.join(f'x{n}' for n in range(1, count))})"
+    conditions = ", ".join(f'x0 -> "a{n}" -> x{n}' for n in range(1, count))
+    return f'INPUT D {{ CREATE Home() }} {{ WHERE C(x0), {conditions} CREATE {term} LINK {term} -> "next" -> {term} }} OUTPUT S', "REACHABLE F FROM Home\n"
+
+
 def nested(records, levels, key):
     """JSON records whose one value is that deep in objects of this key."""
     return "[" + ",".join(("{\"" + key + "\":") * levels + "1" + "}" * levels for _ in range(records)) + "]"
@@ -73,6 +80,10 @@ def bench_hurt(folder):
     rows += grown("one object in {} collections with as many directives and values", (1_000, 4_000), data(directed))
     rows += grown("`not(v in {{..}})` of {} constants over as many rows", (5_000, 20_000), rows_in)
     rows += grown("`lint` with {} labels and links", (2_500, 10_000), links)
+    for count, before in ((6, "before: 0.2 s"), (9, "before: hours")):
+        query, constraint = argued(count)
+        size = sized(f"{folder}/q", [query]) + sized(f"{folder}/c", [constraint])
+        rows.append((f"`check` of REACHABLE for a page of {count} arguments, {size:,} bytes", *least(["check", "q", "c"], folder, 1), before))
     for what, text, wanted in (
         ("JSON, 4,000 records of 120 levels", nested(4_000, 120, "k"), 0),
         ("JSON, 200 records of 100 levels with keys of 100 bytes", nested(200, 100, "k" * 100), 0),

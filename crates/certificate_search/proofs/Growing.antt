@@ -12,12 +12,13 @@ use Rattle.query_parts.specs.Same.{same_term}
 use Rattle.constraint_recheck.specs.Entails.{Tests}
 use Rattle.constraint_recheck.specs.Recheck.{is_of, zip_all}
 use Rattle.query_spec.specs.declared.Variable.{Variable}
-use Rattle.constraint_recheck.specs.Options.{fold_over}
-use Rattle.constraint_recheck.specs.Search.{Numbered, numbered_from, source_choices, Reached, add_found, add_source, add_sources, add_links, levels, find_names, may_go_on, due_condition, due_same, due_arg, ends_fit, extend}
+use Rattle.constraint_recheck.specs.Options.{fold_over, tried_over}
+use Rattle.constraint_recheck.specs.Search.{Numbered, numbered_from, source_choices, Reached, add_found, add_source, add_sources, add_links, levels, find_names, names_tried, source_tried, sources_tried, links_tried, levels_tried, may_go_on, due_condition, due_same, due_arg, ends_fit, extend}
 use Rattle.certificate_search.specs.declared.sources.ReachedTerm.{ReachedTerm}
 use Rattle.certificate_search.specs.Reaching.{reached_of, with_args}
 use Rattle.certificate_search.proofs.RenamedSteps.{dropped, and_false}
 use Rattle.certificate_search.proofs.Steps.{fold_joined}
+use Rattle.certificate_search.proofs.Spending.{over_joined}
 
 -- ---- growing
 
@@ -95,6 +96,32 @@ module _ (tests : Tests) (q : Scope) (S : List Condition) where
       let e : n - m ≡ suc (n - (m + 1)) = omega arith in
       ap (λ k. levels tests q S k place seen) e
 
+  pub levels_tried_more : (n m place : ℕ) (seen : List Reached) → m < n
+      → levels_tried tests q S (n - m) place seen
+      ≡ tried_over (add_links tests q S) (links_tried tests q S) seen (drop place seen) + levels_tried tests q S (n - (m + 1)) (length seen) (fold_over (add_links tests q S) seen (drop place seen))
+  levels_tried_more n m place seen lt =
+      let e : n - m ≡ suc (n - (m + 1)) = omega arith in
+      ap (λ k. levels_tried tests q S k place seen) e
+
+  -- how much is tried for one source
+  pub seen_tried : (e : Reached) (n : Numbered) (seen : List Reached) (s : SkolemTerm) → list_any (λ r. same_term r.term s) seen ≡ true → source_tried tests q S e n seen s ≡ 1
+  seen_tried e n seen s is = ap (λ b. suc (if b then 0 else names_tried tests q.version S n.link s (Some e.term))) is
+
+  pub new_tried : (e : Reached) (n : Numbered) (seen : List Reached) (s : SkolemTerm) → list_any (λ r. same_term r.term s) seen ≡ false → source_tried tests q S e n seen s ≡ 1 + names_tried tests q.version S n.link s (Some e.term)
+  new_tried e n seen s is =
+      let e : source_tried tests q S e n seen s ≡ suc (names_tried tests q.version S n.link s (Some e.term)) = ap (λ b. suc (if b then 0 else names_tried tests q.version S n.link s (Some e.term))) is in
+      omega (arith, e)
+
+  -- and for all sources of a link
+  pub other_tried : (e : Reached) (seen : List Reached) (n : Numbered) → is_of e.term.function n.link.link.target ≡ false → sources_tried tests q S e seen n ≡ 0
+  other_tried e seen n other =
+      ap (λ b. if b then tried_over (add_source tests q S e n) (source_tried tests q S e n) seen (source_choices (variables_of S) n.link.link.source) else 0) other
+
+  pub all_tried : (e : Reached) (seen : List Reached) (n : Numbered) → is_of e.term.function n.link.link.target ≡ true
+      → sources_tried tests q S e seen n ≡ tried_over (add_source tests q S e n) (source_tried tests q S e n) seen (source_choices (variables_of S) n.link.link.source)
+  all_tried e seen n same =
+      ap (λ b. if b then tried_over (add_source tests q S e n) (source_tried tests q S e n) seen (source_choices (variables_of S) n.link.link.source) else 0) same
+
 -- ---- the terms of a level
 
 -- what grew has its first terms still
@@ -127,10 +154,31 @@ choice_more h y s cs g xs i x lt at =
     ∙ fold_joined h y (with_args s (map (λ bs. g x ∷ bs) cs)) (with_args s rest)
     ∙ ap (λ zs. fold_over h (fold_over h y zs) (with_args s rest)) (with_one s (g x) cs)
 
+pub choice_tried : {Y X : Type 0} (h : Y → SkolemTerm → Y) (t : Y → SkolemTerm → ℕ) (y : Y) (s : SkolemTerm) (cs : List (List Operand)) (g : X → Operand) (xs : List X) (i : ℕ) (x : X) → i < length xs → x ≡ get_or xs i x
+    → tried_over h t y (with_args s (flat_map (λ a. map (λ bs. a ∷ bs) cs) (map g (drop i xs))))
+    ≡ tried_over h t y (with_args (record { function = s.function; args = s.args ++ g x ∷ [] }) cs)
+    + tried_over h t (fold_over h y (with_args (record { function = s.function; args = s.args ++ g x ∷ [] }) cs)) (with_args s (flat_map (λ a. map (λ bs. a ∷ bs) cs) (map g (drop (i + 1) xs))))
+choice_tried h t y s cs g xs i x lt at =
+    let rest = flat_map (λ a. map (λ bs. a ∷ bs) cs) (map g (drop (i + 1) xs)) in
+    ap (λ zs. tried_over h t y (with_args s (flat_map (λ a. map (λ bs. a ∷ bs) cs) (map g zs)))) (dropped xs i x lt at)
+    ∙ ap (λ zs. tried_over h t y zs) (map-append (λ more. record { function = s.function; args = s.args ++ more }) (map (λ bs. g x ∷ bs) cs) rest)
+    ∙ over_joined h t y (with_args s (map (λ bs. g x ∷ bs) cs)) (with_args s rest)
+    ∙ ap (λ zs. tried_over h t y zs + tried_over h t (fold_over h y zs) (with_args s rest)) (with_one s (g x) cs)
+
 -- no choice is left
 pub choice_end : {Y X : Type 0} (h : Y → SkolemTerm → Y) (y : Y) (s : SkolemTerm) (cs : List (List Operand)) (g : X → Operand) (xs : List X) (i : ℕ) → length xs ≤ i
     → fold_over h y (with_args s (flat_map (λ a. map (λ bs. a ∷ bs) cs) (map g (drop i xs)))) ≡ y
 choice_end h y s cs g xs i le = ap (λ zs. fold_over h y (with_args s (flat_map (λ a. map (λ bs. a ∷ bs) cs) (map g zs)))) (drop_all i xs le)
+
+pub choice_tried_end : {Y X : Type 0} (h : Y → SkolemTerm → Y) (t : Y → SkolemTerm → ℕ) (y : Y) (s : SkolemTerm) (cs : List (List Operand)) (g : X → Operand) (xs : List X) (i : ℕ) → length xs ≤ i
+    → tried_over h t y (with_args s (flat_map (λ a. map (λ bs. a ∷ bs) cs) (map g (drop i xs)))) ≡ 0
+choice_tried_end h t y s cs g xs i le = ap (λ zs. tried_over h t y (with_args s (flat_map (λ a. map (λ bs. a ∷ bs) cs) (map g zs)))) (drop_all i xs le)
+
+-- the term alone
+pub alone_tried : {Y : Type 0} (h : Y → SkolemTerm → Y) (t : Y → SkolemTerm → ℕ) (y : Y) (s : SkolemTerm) → tried_over h t y (with_args s ([] ∷ [])) ≡ t y s
+alone_tried h t y s =
+    let e = ap (λ zs. t y (record { function = s.function; args = zs })) (append-nil s.args) in
+    omega (arith, e)
 
 -- the first of what is left, and what is behind it
 pub left_first : {X : Type 0} (left : List X) (x : X) → 1 ≤ length left → x ≡ get_or left 0 x → left ≡ x ∷ take (length left - 1) (drop 1 left)

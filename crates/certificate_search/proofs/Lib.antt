@@ -4,3 +4,4 @@ pub mod Steps
 pub mod Deeper
 pub mod Extending
 pub mod RenamedSteps
+pub mod Spending

@@ -3,3 +3,4 @@ pub mod Reaching
 pub mod Uses
 pub mod Extending
 pub mod LinkDepths
+pub mod Budget

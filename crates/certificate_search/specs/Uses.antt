@@ -1,24 +1,24 @@
 -- Uses of one link from a mention's term.
-use Rattle.std.specs.Prelude.{ℕ, List, Bool, true, ◌&&◌, Option, Some, None, option_map}
-use Rattle.std.specs.Prelude.{if◌then◌else◌}
+use Rattle.std.specs.Prelude.{ℕ, Bool, true, Option, Some, None}
 use Rattle.sd_value.specs.Names.{Name, Label}
-use Rattle.query_spec.specs.Query.{Condition, SkolemTerm}
-use Rattle.constraint_spec.specs.Placed.{PlacedLink}
+use Rattle.site_spec.specs.Site.{Scope}
+use Rattle.constraint_spec.specs.Placed.{PlacedLink, Mention}
 use Rattle.constraint_spec.specs.Use.{LinkUse}
 use Rattle.constraint_recheck.specs.Entails.{Tests}
-use Rattle.constraint_recheck.specs.Recheck.{is_of, is_quoted}
-use Rattle.constraint_recheck.specs.Search.{Numbered, find_names}
+use Rattle.constraint_recheck.specs.Recheck.{is_of}
+use Rattle.constraint_recheck.specs.Search.{Numbered, names_tried, if_asked, use_by}
 
 -- the link's target is a term of the function, if one is asked for
 abbrev pub ends_at : Option Name → PlacedLink → Bool
 ends_at None = λ k. true
 ends_at (Some h) = λ k. is_of h k.link.target
 
--- under these conditions a use of the link from the term, if the link is by l and good
-abbrev pub use_by : Tests → ℕ → List Condition → SkolemTerm → Label → (PlacedLink → Bool) → Numbered
+-- a use of the link from the mention's term, if the link is by l and good
+abbrev pub asked_use : Tests → Scope → Label → (PlacedLink → Bool) → Mention → Numbered
     → Option LinkUse
-use_by tests version S t l good n =
-    if is_quoted l n.link.link.label && good n.link
-    then option_map (λ ys. record { link = n.number; names = ys })
-    (find_names tests version S n.link t None)
-    else None
+asked_use tests q l good m = if_asked l good (use_by tests q m) None
+
+-- how many names are tried for it
+abbrev pub asked_tried : Tests → Scope → Label → (PlacedLink → Bool) → Mention → Numbered → ℕ
+asked_tried tests q l good m =
+    if_asked l good (λ n. names_tried tests q.version m.conditions n.link m.term None) 0

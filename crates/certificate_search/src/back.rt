@@ -7,12 +7,15 @@ ghost use Rattle.query_spec.specs.Mentions.{chain_of};
 ghost use Rattle.struql_ast.specs.Reading.{term_of};
 ghost use Rattle.query_blocks.specs.Blocks.{scope_of};
 ghost use Rattle.query_parts.specs.Same.{same_term};
-ghost use Rattle.constraint_recheck.specs.Options.{first_of, fold_over};
+ghost use Rattle.constraint_recheck.specs.Options.{first_of, fold_over, tried_over};
 ghost use Rattle.constraint_recheck.specs.Search.{add_links as links_added, levels};
-ghost use Rattle.constraint_recheck.specs.Search.{find_back as found_back, root_term};
+ghost use Rattle.constraint_recheck.specs.Search.{links_tried, levels_tried, start_at};
+ghost use Rattle.constraint_recheck.specs.Search.{find_back as found_back, back_tried, root_term};
 ghost use Rattle.certificate_search.specs.Links.{AreLinks};
 ghost use Rattle.certificate_search.specs.Reaching.{reached_of};
+ghost use Rattle.certificate_search.specs.Budget.{Spends};
 
+use crate::budget::SearchStop;
 use crate::sources::{ReachedTerm, add_sources, copied_uses};
 use crate::uses::SearchedQuery;
 use constraint_spec::LinkUse;
@@ -29,15 +32,19 @@ fn add_links<J: Judge>(
     given: &Chain,
     seen: &mut Vec<ReachedTerm>,
     from: &ReachedTerm,
-) -> Result<(), NoMemory>
+    budget: &mut usize,
+) -> Result<(), SearchStop>
     requires chain { given.now ≡ chain_of query.now.blocks.now.version given.now.conditions }
     requires links { AreLinks query.now.blocks.now query.now.links.now }
-    ensures { OnOk result (map reached_of seen.new.items ≡ links_added
+    ensures added { OnOk result (map reached_of seen.new.items ≡ links_added
         (J.tests query.now.judge.now) (scope_of query.now.blocks.now) given.now.conditions
         (map reached_of seen.old.items) (reached_of from.now)) }
+    ensures spent { Spends (links_tried (J.tests query.now.judge.now)
+        (scope_of query.now.blocks.now) given.now.conditions (map reached_of seen.old.items)
+        (reached_of from.now)) budget.old budget.new result }
 {
     for link in query.links {
-        add_sources(alloc, query, given, seen, from, link)?;
+        add_sources(alloc, query, given, seen, from, link, budget)?;
     }
     Ok(())
 }
@@ -65,18 +72,24 @@ fn add_level<J: Judge>(
     given: &Chain,
     seen: &mut Vec<ReachedTerm>,
     place: usize,
-) -> Result<(), NoMemory>
+    budget: &mut usize,
+) -> Result<(), SearchStop>
     requires place { place ≤ length seen.old.items }
     requires chain { given.now ≡ chain_of query.now.blocks.now.version given.now.conditions }
     requires links { AreLinks query.now.blocks.now query.now.links.now }
-    ensures { OnOk result (map reached_of seen.new.items ≡ fold_over
+    ensures added { OnOk result (map reached_of seen.new.items ≡ fold_over
         (links_added (J.tests query.now.judge.now) (scope_of query.now.blocks.now)
         given.now.conditions) (map reached_of seen.old.items)
         (drop place (map reached_of seen.old.items))) }
+    ensures spent { Spends (tried_over
+        (links_added (J.tests query.now.judge.now) (scope_of query.now.blocks.now)
+        given.now.conditions) (links_tried (J.tests query.now.judge.now)
+        (scope_of query.now.blocks.now) given.now.conditions) (map reached_of seen.old.items)
+        (drop place (map reached_of seen.old.items))) budget.old budget.new result }
 {
     for from in place..seen.len() {
         let reached = copied_at(alloc, seen, from)?;
-        add_links(alloc, query, given, seen, &reached)?;
+        add_links(alloc, query, given, seen, &reached, budget)?;
     }
     Ok(())
 }
@@ -87,17 +100,21 @@ fn add_levels<J: Judge>(
     query: &SearchedQuery<J>,
     given: &Chain,
     seen: &mut Vec<ReachedTerm>,
-) -> Result<(), NoMemory>
+    budget: &mut usize,
+) -> Result<(), SearchStop>
     requires chain { given.now ≡ chain_of query.now.blocks.now.version given.now.conditions }
     requires links { AreLinks query.now.blocks.now query.now.links.now }
-    ensures { OnOk result (map reached_of seen.new.items ≡ levels
+    ensures added { OnOk result (map reached_of seen.new.items ≡ levels
         (J.tests query.now.judge.now) (scope_of query.now.blocks.now) given.now.conditions
         (length query.now.links.now) 0 (map reached_of seen.old.items)) }
+    ensures spent { Spends (levels_tried (J.tests query.now.judge.now)
+        (scope_of query.now.blocks.now) given.now.conditions (length query.now.links.now) 0
+        (map reached_of seen.old.items)) budget.old budget.new result }
 {
     let mut place = 0;
     for _level in 0..query.links.len() {
         let end = seen.len();
-        add_level(alloc, query, given, seen, place)?;
+        add_level(alloc, query, given, seen, place, budget)?;
         place = end;
     }
     Ok(())
@@ -136,7 +153,7 @@ fn uses_to_root(
 // The term itself, from which no use leads back.
 fn start(alloc: Global, term: &SkolemTerm) -> Result<Vec<ReachedTerm>, NoMemory>
     ensures { IfOk result (λ seen. map reached_of seen.items
-        ≡ record { term = term_of term.now; uses = [] } ∷ []) }
+        ≡ start_at (term_of term.now)) }
 {
     let mut seen = Vec::new(alloc);
     let term = copied_term(alloc, term)?;
@@ -154,14 +171,19 @@ pub fn find_back<J: Judge>(
     root: &Str,
     given: &Chain,
     term: &SkolemTerm,
-) -> Result<Option<Vec<LinkUse>>, NoMemory>
+    budget: &mut usize,
+) -> Result<Option<Vec<LinkUse>>, SearchStop>
     requires chain { given.now ≡ chain_of query.now.blocks.now.version given.now.conditions }
     requires links { AreLinks query.now.blocks.now query.now.links.now }
-    ensures { IfOk result (λ r. option_map (λ uses. uses.items) r ≡ found_back
+    ensures found { IfOk result (λ r. option_map (λ uses. uses.items) r ≡ found_back
         (J.tests query.now.judge.now) (scope_of query.now.blocks.now) given.now.conditions
         root.now (term_of term.now)) }
+    ensures spent { Spends (back_tried (J.tests query.now.judge.now)
+        (scope_of query.now.blocks.now) given.now.conditions (term_of term.now))
+        budget.old budget.new result }
 {
     let mut seen = start(alloc, term)?;
-    add_levels(alloc, query, given, &mut seen)?;
-    uses_to_root(alloc, &seen, root)
+    add_levels(alloc, query, given, &mut seen, budget)?;
+    let uses = uses_to_root(alloc, &seen, root)?;
+    Ok(uses)
 }

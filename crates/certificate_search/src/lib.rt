@@ -2,6 +2,7 @@
 #![tactic(auto)]
 
 mod back;
+mod budget;
 mod depths;
 mod due;
 mod extend;

@@ -9,6 +9,7 @@ ghost use Rattle.certificate_search.specs.Links.{AreLinks};
 ghost use Rattle.certificate_search.specs.Uses.{ends_at};
 
 use crate::back::find_back;
+use crate::budget::{unless_too_long, whole_budget};
 use crate::uses::{SearchedQuery, find_use};
 use constraint_spec::MentionProof;
 use entailment::{Judge, is_root};
@@ -17,7 +18,8 @@ use std::alloc::Global;
 use struql_ast::{Chain, SkolemTerm};
 
 /// What shows that pages of the mention have a link by the label, to a page of the function if one
-/// is asked for: one use of a link from the mention's term.
+/// is asked for: one use of a link from the mention's term. Nothing, if the search for it would try more
+/// than its budget.
 pub fn show_link<J: Judge>(
     alloc: Global,
     query: &SearchedQuery<J>,
@@ -34,7 +36,9 @@ pub fn show_link<J: Judge>(
           term = term_of term.now;
         })) }
 {
-    match find_use(alloc, query, label, function, given, term)? {
+    let mut budget = whole_budget();
+    let found = find_use(alloc, query, label, function, given, term, &mut budget);
+    match unless_too_long(found)? {
         None => Ok(None),
         Some(found) => {
             let mut uses = Vec::new(alloc);
@@ -45,7 +49,8 @@ pub fn show_link<J: Judge>(
 }
 
 /// What shows that links lead from the root's page to pages of the mention: uses that lead back
-/// from the mention's term to the root. To the root itself none is needed.
+/// from the mention's term to the root. To the root itself none is needed. Nothing, if the search for
+/// them would try more than its budget.
 pub fn show_reached<J: Judge>(
     alloc: Global,
     query: &SearchedQuery<J>,
@@ -63,7 +68,9 @@ pub fn show_reached<J: Judge>(
         })) }
 {
     if function != root {
-        return match find_back(alloc, query, root, given, term)? {
+        let mut budget = whole_budget();
+        let found = find_back(alloc, query, root, given, term, &mut budget);
+        return match unless_too_long(found)? {
             None => Ok(None),
             Some(uses) => Ok(Some(MentionProof::new(uses))),
         };

@@ -7,13 +7,16 @@ ghost use Rattle.query_spec.specs.Mentions.{chain_of};
 ghost use Rattle.struql_ast.specs.Reading.{operand_of, term_of};
 ghost use Rattle.query_blocks.specs.Blocks.{scope_of};
 ghost use Rattle.query_parts.specs.Same.{same_term};
-ghost use Rattle.constraint_recheck.specs.Options.{fold_over};
+ghost use Rattle.constraint_recheck.specs.Options.{fold_over, tried_over};
 ghost use Rattle.constraint_recheck.specs.Search.{choices, arg_choices as choices_of};
 ghost use Rattle.constraint_recheck.specs.Search.{add_source as source_added};
 ghost use Rattle.constraint_recheck.specs.Search.{add_sources as sources_added};
+ghost use Rattle.constraint_recheck.specs.Search.{source_tried, sources_tried};
 ghost use Rattle.certificate_search.specs.Links.{numbered_of, IsPrepared};
 ghost use Rattle.certificate_search.specs.Reaching.{reached_of, with_args};
+ghost use Rattle.certificate_search.specs.Budget.{Spends};
 
+use crate::budget::{SearchStop, spend};
 use crate::links::NumberedLink;
 use crate::uses::{SearchedQuery, names_of_use};
 use constraint_spec::LinkUse;
@@ -99,18 +102,25 @@ fn add_source<J: Judge>(
     from: &ReachedTerm,
     link: &NumberedLink,
     source: &SkolemTerm,
-) -> Result<(), NoMemory>
+    budget: &mut usize,
+) -> Result<(), SearchStop>
     requires chain { given.now ≡ chain_of query.now.blocks.now.version given.now.conditions }
     requires prepared { IsPrepared link.now }
-    ensures { OnOk result (map reached_of seen.new.items
+    ensures added { OnOk result (map reached_of seen.new.items
         ≡ source_added (J.tests query.now.judge.now) (scope_of query.now.blocks.now)
         given.now.conditions (reached_of from.now) (numbered_of link.now)
         (map reached_of seen.old.items) (term_of source.now)) }
+    ensures spent { Spends (source_tried (J.tests query.now.judge.now)
+        (scope_of query.now.blocks.now) given.now.conditions (reached_of from.now)
+        (numbered_of link.now) (map reached_of seen.old.items) (term_of source.now))
+        budget.old budget.new result }
 {
+    spend(budget)?;
     if is_seen(seen, source) {
         return Ok(());
     }
-    let Some(names) = names_of_use(alloc, query, given, link, source, Some(&from.term))? else {
+    let target = Some(&from.term);
+    let Some(names) = names_of_use(alloc, query, given, link, source, target, budget)? else {
         return Ok(());
     };
     seen.push(reached_by(alloc, from, link.number, source, names)?)?;
@@ -176,22 +186,30 @@ fn add_choices<J: Judge>(
     link: &NumberedLink,
     source: &SkolemTerm,
     left: &[Operand],
-) -> Result<(), NoMemory>
+    budget: &mut usize,
+) -> Result<(), SearchStop>
     requires chain { given.now ≡ chain_of query.now.blocks.now.version given.now.conditions }
     requires prepared { IsPrepared link.now }
-    ensures { OnOk result (map reached_of seen.new.items ≡ fold_over
+    ensures added { OnOk result (map reached_of seen.new.items ≡ fold_over
         (source_added (J.tests query.now.judge.now) (scope_of query.now.blocks.now)
         given.now.conditions (reached_of from.now) (numbered_of link.now))
         (map reached_of seen.old.items) (with_args (term_of source.now)
         (choices given.now.variables (map operand_of left.now)))) }
+    ensures spent { Spends (tried_over
+        (source_added (J.tests query.now.judge.now) (scope_of query.now.blocks.now)
+        given.now.conditions (reached_of from.now) (numbered_of link.now))
+        (source_tried (J.tests query.now.judge.now) (scope_of query.now.blocks.now)
+        given.now.conditions (reached_of from.now) (numbered_of link.now))
+        (map reached_of seen.old.items) (with_args (term_of source.now)
+        (choices given.now.variables (map operand_of left.now)))) budget.old budget.new result }
 {
     let [operand, rest @ ..] = left else {
-        return add_source(alloc, query, given, seen, from, link, source);
+        return add_source(alloc, query, given, seen, from, link, source, budget);
     };
     let choices = arg_choices(alloc, given, operand)?;
     for choice in &choices {
         let longer = with_arg(alloc, source, choice)?;
-        add_choices(alloc, query, given, seen, from, link, &longer, rest)?;
+        add_choices(alloc, query, given, seen, from, link, &longer, rest, budget)?;
     }
     Ok(())
 }
@@ -219,13 +237,17 @@ pub fn add_sources<J: Judge>(
     seen: &mut Vec<ReachedTerm>,
     from: &ReachedTerm,
     link: &NumberedLink,
-) -> Result<(), NoMemory>
+    budget: &mut usize,
+) -> Result<(), SearchStop>
     requires chain { given.now ≡ chain_of query.now.blocks.now.version given.now.conditions }
     requires prepared { IsPrepared link.now }
-    ensures { OnOk result (map reached_of seen.new.items
+    ensures added { OnOk result (map reached_of seen.new.items
         ≡ sources_added (J.tests query.now.judge.now) (scope_of query.now.blocks.now)
         given.now.conditions (reached_of from.now) (map reached_of seen.old.items)
         (numbered_of link.now)) }
+    ensures spent { Spends (sources_tried (J.tests query.now.judge.now)
+        (scope_of query.now.blocks.now) given.now.conditions (reached_of from.now)
+        (map reached_of seen.old.items) (numbered_of link.now)) budget.old budget.new result }
 {
     if !is_of(&link.link.target, &from.term.function) {
         return Ok(());
@@ -234,5 +256,7 @@ pub fn add_sources<J: Judge>(
         return Ok(());
     };
     let source = without_args(alloc, made)?;
-    add_choices(alloc, query, given, seen, from, link, &source, &made.args)
+    add_choices(
+        alloc, query, given, seen, from, link, &source, &made.args, budget,
+    )
 }

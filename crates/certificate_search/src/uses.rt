@@ -5,17 +5,20 @@ ghost use Rattle.query_spec.specs.Mentions.{chain_of};
 ghost use Rattle.struql_ast.specs.Reading.{label_of, term_of};
 ghost use Rattle.query_blocks.specs.Blocks.{scope_of};
 ghost use Rattle.constraint_recheck.specs.Recheck.{is_quoted as has_label};
-ghost use Rattle.constraint_recheck.specs.Search.{find_names as names_found, find_use as found};
+ghost use Rattle.constraint_recheck.specs.Search.{find_names as names_found, names_tried};
+ghost use Rattle.constraint_recheck.specs.Search.{find_use as found, use_tried};
 ghost use Rattle.certificate_search.specs.Links.{numbered_of, IsPrepared, AreLinks};
-ghost use Rattle.certificate_search.specs.Uses.{ends_at, use_by};
+ghost use Rattle.certificate_search.specs.Uses.{ends_at, asked_use, asked_tried};
+ghost use Rattle.certificate_search.specs.Budget.{Spends};
 
+use crate::budget::SearchStop;
 use crate::extend::find_names;
 use crate::links::NumberedLink;
 use crate::search::Search;
 use constraint_spec::LinkUse;
 use entailment::{Judge, is_of};
 use query_blocks::QueryBlocks;
-use sd_value::{NoMemory, Str};
+use sd_value::Str;
 use std::alloc::Global;
 use struql_ast::{Chain, LinkLabel, SkolemTerm};
 
@@ -38,13 +41,17 @@ pub fn names_of_use<'a, J: Judge>(
     link: &'a NumberedLink<'a>,
     source: &'a SkolemTerm,
     target: Option<&'a SkolemTerm>,
-) -> Result<Option<Vec<Str>>, NoMemory>
+    budget: &mut usize,
+) -> Result<Option<Vec<Str>>, SearchStop>
     requires chain { given.now ≡ chain_of query.now.blocks.now.version given.now.conditions }
     requires prepared { IsPrepared link.now }
-    ensures { IfOk result (λ r. option_map (λ names. names.items) r
+    ensures found { IfOk result (λ r. option_map (λ names. names.items) r
         ≡ names_found (J.tests query.now.judge.now) query.now.blocks.now.version
         given.now.conditions (numbered_of link.now).link (term_of source.now)
         (option_map term_of (option_copied target.entry))) }
+    ensures spent { Spends (names_tried (J.tests query.now.judge.now) query.now.blocks.now.version
+        given.now.conditions (numbered_of link.now).link (term_of source.now)
+        (option_map term_of (option_copied target.entry))) budget.old budget.new result }
 {
     let search = Search {
         judge: query.judge,
@@ -58,7 +65,7 @@ pub fn names_of_use<'a, J: Judge>(
         source,
         target,
     };
-    find_names(alloc, &search)
+    find_names(alloc, &search, budget)
 }
 
 fn is_quoted(label: &LinkLabel, text: &Str) -> bool
@@ -89,12 +96,20 @@ fn use_of<J: Judge>(
     given: &Chain,
     term: &SkolemTerm,
     link: &NumberedLink,
-) -> Result<Option<LinkUse>, NoMemory>
+    budget: &mut usize,
+) -> Result<Option<LinkUse>, SearchStop>
     requires chain { given.now ≡ chain_of query.now.blocks.now.version given.now.conditions }
     requires prepared { IsPrepared link.now }
-    ensures { IfOk result (λ r. r ≡ use_by (J.tests query.now.judge.now)
-        query.now.blocks.now.version given.now.conditions (term_of term.now) label.now
-        (ends_at (option_copied function.entry)) (numbered_of link.now)) }
+    ensures found { IfOk result (λ r. r ≡ asked_use (J.tests query.now.judge.now)
+        (scope_of query.now.blocks.now) label.now (ends_at (option_copied function.entry)) (record {
+          conditions = given.now.conditions;
+          term = term_of term.now;
+        }) (numbered_of link.now)) }
+    ensures spent { Spends (asked_tried (J.tests query.now.judge.now)
+        (scope_of query.now.blocks.now) label.now (ends_at (option_copied function.entry)) (record {
+          conditions = given.now.conditions;
+          term = term_of term.now;
+        }) (numbered_of link.now)) budget.old budget.new result }
 {
     if !is_quoted(&link.link.label, label) {
         return Ok(None);
@@ -102,7 +117,7 @@ fn use_of<J: Judge>(
     if !is_good(link, function) {
         return Ok(None);
     }
-    match names_of_use(alloc, query, given, link, term, None)? {
+    match names_of_use(alloc, query, given, link, term, None, budget)? {
         None => Ok(None),
         Some(names) => Ok(Some(LinkUse::new(link.number, names))),
     }
@@ -117,17 +132,23 @@ pub fn find_use<J: Judge>(
     function: Option<&Str>,
     given: &Chain,
     term: &SkolemTerm,
-) -> Result<Option<LinkUse>, NoMemory>
+    budget: &mut usize,
+) -> Result<Option<LinkUse>, SearchStop>
     requires chain { given.now ≡ chain_of query.now.blocks.now.version given.now.conditions }
     requires links { AreLinks query.now.blocks.now query.now.links.now }
-    ensures { IfOk result (λ r. r ≡ found (J.tests query.now.judge.now)
+    ensures found { IfOk result (λ r. r ≡ found (J.tests query.now.judge.now)
         (scope_of query.now.blocks.now) label.now (ends_at (option_copied function.entry)) (record {
           conditions = given.now.conditions;
           term = term_of term.now;
         })) }
+    ensures spent { Spends (use_tried (J.tests query.now.judge.now)
+        (scope_of query.now.blocks.now) label.now (ends_at (option_copied function.entry)) (record {
+          conditions = given.now.conditions;
+          term = term_of term.now;
+        })) budget.old budget.new result }
 {
     for link in query.links {
-        match use_of(alloc, query, label, function, given, term, link)? {
+        match use_of(alloc, query, label, function, given, term, link, budget)? {
             None => {}
             Some(found) => return Ok(Some(found)),
         }

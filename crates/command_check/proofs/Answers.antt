@@ -7,7 +7,7 @@ use Rattle.edge_io.specs.Sink.{Gains}
 use Rattle.query_spec.specs.Query as plain
 use Rattle.constraint_spec.specs.declared.Constraint.{Constraint}
 use Rattle.run_report.specs.declared.reports.Report.{Report}
-use Rattle.command_check.specs.Told.{HasCertificate, AreTold}
+use Rattle.command_check.specs.Told.{SomeIsFound, AreTold}
 use Rattle.command_check.proofs.Whole.{yes_is_shown, yes_is_met}
 use Rattle.run_report.specs.declared.status.Status.{Status}
 use Rattle.run_report.specs.declared.status.Status.TheVariants as status
@@ -27,7 +27,7 @@ use Rattle.command_check.proofs.Stopped.{then_next}
 
 -- the answer says whether each constraint has a certificate
 abbrev AnswerTaken : plain.Query → List Constraint → Result Bool Fault → Type 0
-AnswerTaken query constraints (Ok all_yes) = IsTrue all_yes ↔ All (HasCertificate query) constraints
+AnswerTaken query constraints (Ok all_yes) = IsTrue all_yes ↔ All (SomeIsFound query) constraints
 AnswerTaken query constraints (Err NoMemory) = ⊤
 AnswerTaken query constraints (Err fault) = ⊥
 
@@ -40,7 +40,7 @@ taken_answer query constraints (Err NotFound) t = t
 taken_answer query constraints (Err NoMemory) t = t
 
 answer_once : (query : plain.Query) (constraints : List Constraint) (one other : Result Bool Fault) → AnswerTaken query constraints one → AnswerTaken query constraints other → IsDecided one → IsDecided other → one ≡ other
-answer_once query constraints (Ok a) (Ok b) s t d e = ap Ok (same_test a b (All (HasCertificate query) constraints) s t)
+answer_once query constraints (Ok a) (Ok b) s t d e = ap Ok (same_test a b (All (SomeIsFound query) constraints) s t)
 answer_once query constraints (Err (Refused r)) other s t d e = absurd s
 answer_once query constraints (Err (Unread p)) other s t d e = absurd d
 answer_once query constraints (Err (Faulty term kind)) other s t d e = absurd s
@@ -82,7 +82,7 @@ module _ (map : FileMap) (query_path constraints_path : List ℕ) where
       answers_decide.once (all_yes_of one) (all_yes_of other) (answer_ends one s) (answer_ends other t) (decided_answer one d) (decided_answer other e)
 
   -- inputs that are accepted have an answer
-  pub inputs_answer : (query : plain.Query) (constraints : List Constraint) (all_yes : Bool) → AreInputs map query_path constraints_path query constraints → IsTrue all_yes ↔ All (HasCertificate query) constraints → AnswerEnds (Ok all_yes)
+  pub inputs_answer : (query : plain.Query) (constraints : List Constraint) (all_yes : Bool) → AreInputs map query_path constraints_path query constraints → IsTrue all_yes ↔ All (SomeIsFound query) constraints → AnswerEnds (Ok all_yes)
   inputs_answer query constraints all_yes inputs is =
       record { value = query; first = inputs.is_query; next = record { value = constraints; first = inputs.are_constraints; next = is } }
 

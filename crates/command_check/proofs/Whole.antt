@@ -7,7 +7,7 @@ use Rattle.query_spec.specs.Query.{Query}
 use Rattle.site_spec.specs.Site.{scope_of}
 use Rattle.constraint_spec.specs.declared.Constraint.{Constraint}
 use Rattle.command_check.specs.Told.{CheckAnswer, yes, no, unknown, is_yes, IsCheckAnswer, HoldsOfSites}
-use Rattle.command_check.specs.Told.{HasCertificate, IsMetOverAll, AreTold}
+use Rattle.command_check.specs.Told.{SomeIsFound, IsMetOverAll, AreTold}
 
 -- lists that belong together are of one length
 pub zip_length : {A B : Type 0} (R : A → B → Type 0) (xs : List A) (ys : List B) → AllZip R xs ys → length ys ≡ length xs
@@ -17,24 +17,24 @@ zip_length R (a ∷ xs) [] h = absurd h
 zip_length R (a ∷ xs) (b ∷ ys) h = ap suc (zip_length R xs ys h.1)
 
 module _ (q : Query) where
-  all_shown : (cs : List Constraint) (fs : List CheckAnswer) → AllZip (IsCheckAnswer (scope_of q)) cs fs → IsTrue (list_all is_yes fs) → All (HasCertificate q) cs
-  all_shown [] [] h t = All-nil (HasCertificate q)
+  all_shown : (cs : List Constraint) (fs : List CheckAnswer) → AllZip (IsCheckAnswer (scope_of q)) cs fs → IsTrue (list_all is_yes fs) → All (SomeIsFound q) cs
+  all_shown [] [] h t = All-nil (SomeIsFound q)
   all_shown [] (f ∷ fs) h t = absurd h
   all_shown (c ∷ cs) [] h t = absurd h
-  all_shown (c ∷ cs) (yes x ∷ fs) h t = All-cons (HasCertificate q) c cs (x, h.0) (all_shown cs fs h.1 t)
+  all_shown (c ∷ cs) (yes x ∷ fs) h t = All-cons (SomeIsFound q) c cs (x, h.0) (all_shown cs fs h.1 t)
   all_shown (c ∷ cs) (no G ∷ fs) h t = (let f : false ≡ true = t in let none : ⊥ = cc in absurd none)
   all_shown (c ∷ cs) (unknown ∷ fs) h t = (let f : false ≡ true = t in let none : ⊥ = cc in absurd none)
 
-  all_answered : (cs : List Constraint) (fs : List CheckAnswer) → AllZip (IsCheckAnswer (scope_of q)) cs fs → All (HasCertificate q) cs → IsTrue (list_all is_yes fs)
+  all_answered : (cs : List Constraint) (fs : List CheckAnswer) → AllZip (IsCheckAnswer (scope_of q)) cs fs → All (SomeIsFound q) cs → IsTrue (list_all is_yes fs)
   all_answered [] [] h t = refl
   all_answered [] (f ∷ fs) h t = absurd h
   all_answered (c ∷ cs) [] h t = absurd h
-  all_answered (c ∷ cs) (yes x ∷ fs) h t = all_answered cs fs h.1 (All-tail (HasCertificate q) c cs t)
+  all_answered (c ∷ cs) (yes x ∷ fs) h t = all_answered cs fs h.1 (All-tail (SomeIsFound q) c cs t)
   all_answered (c ∷ cs) (no G ∷ fs) h t =
-      let shown = All-head (HasCertificate q) c cs t in
+      let shown = All-head (SomeIsFound q) c cs t in
       absurd (h.0.0 shown.0 shown.1)
   all_answered (c ∷ cs) (unknown ∷ fs) h t =
-      let shown = All-head (HasCertificate q) c cs t in
+      let shown = All-head (SomeIsFound q) c cs t in
       absurd (h.0.0 shown.0 shown.1)
 
   all_met : (cs : List Constraint) (fs : List CheckAnswer) → AllZip (HoldsOfSites (scope_of q)) cs fs → IsTrue (list_all is_yes fs) → All (IsMetOverAll q) cs
@@ -45,7 +45,7 @@ module _ (q : Query) where
   all_met (c ∷ cs) (no G ∷ fs) h t = (let f : false ≡ true = t in let none : ⊥ = cc in absurd none)
   all_met (c ∷ cs) (unknown ∷ fs) h t = (let f : false ≡ true = t in let none : ⊥ = cc in absurd none)
 
-pub yes_is_shown : (q : Query) (cs : List Constraint) (text : List ℕ) (all_yes : Bool) → AreTold q cs text all_yes → IsTrue all_yes ↔ All (HasCertificate q) cs
+pub yes_is_shown : (q : Query) (cs : List Constraint) (text : List ℕ) (all_yes : Bool) → AreTold q cs text all_yes → IsTrue all_yes ↔ All (SomeIsFound q) cs
 yes_is_shown q cs text all_yes t =
     (λ answered. all_shown q cs t.findings t.exact (subst IsTrue t.all answered), λ shown. subst IsTrue (sym t.all) (all_answered q cs t.findings t.exact shown))
 

@@ -7,7 +7,7 @@ use Rattle.query_spec.specs.Query as plain
 use Rattle.site_spec.specs.Site.{scope_of}
 use Rattle.constraint_spec.specs.declared.Constraint.{Constraint}
 use Rattle.command_check.specs.Told.{CheckAnswer, finding_lines, IsCheckAnswer, HoldsOfSites}
-use Rattle.command_check.specs.Told.{HasCertificate, IsMetOverAll}
+use Rattle.command_check.specs.Told.{SomeIsFound, IsMetOverAll}
 use Rattle.run_report.specs.declared.status.Status.{Status}
 use Rattle.run_report.specs.declared.status.Status.TheVariants as status
 use Rattle.site_inputs.specs.declared.fault.Fault.{Fault}
@@ -24,20 +24,20 @@ module _ (map : FileMap) (query_path constraints_path : List ℕ) where
     pub is_query : QueryEnds map query_path (Ok query)
     pub are_constraints : ConstraintsEnd query map constraints_path (Ok constraints)
 
-  -- Where the inputs are read, they decide how the run ends that no failed put ends: with status 0 where
-  -- each constraint has a certificate, with 1 where some constraint has none, or with their refusal.
+  -- Where the inputs are read, they decide how the run ends that no failed put ends: with status 0 if a
+  -- certificate of each constraint is found, with 1 if none is of some constraint, or with their refusal.
   pub record CheckFollows (reached : Status) : Type 0 where
     pub all_shown : (query : plain.Query) (constraints : List Constraint)
-        → AreInputs query constraints → All (HasCertificate query) constraints
+        → AreInputs query constraints → All (SomeIsFound query) constraints
         → HasStatus status.Ok reached
     pub not_all_shown : (query : plain.Query) (constraints : List Constraint)
-        → AreInputs query constraints → ¬ All (HasCertificate query) constraints
+        → AreInputs query constraints → ¬ All (SomeIsFound query) constraints
         → HasStatus status.NotAllYes reached
     pub refused : (reason : Fault) → CheckEnds map query_path constraints_path (Err reason)
         → IsDecidedFault reason → HasStatus (status_of reason) reached
 
-  -- The output has gained the lines of what is found of the file's constraints: yes exactly where there
-  -- is a certificate, no exactly where there is none and some candidate breaks it. Each constraint that
+  -- The output has gained the lines of what is found of the file's constraints: yes exactly if a
+  -- certificate is found, no exactly if none is and some candidate breaks it. Each constraint that
   -- is answered yes is met in the query's site over every data graph, and at status 0 each of them is.
   -- Each that is answered no isn't met in its site over the graph whose text is shown.
   pub record FindingsHold (old new : Option (List ℕ)) (reached : Status) : Type 0 where

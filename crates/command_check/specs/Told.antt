@@ -1,6 +1,6 @@
--- What is told of a query's constraints: of each in order `K yes` with the lines of a certificate where
--- there is one. Where there is none, it is `K no` with the text of a data graph whose site breaks the
--- constraint, or `K unknown`.
+-- What is told of a query's constraints: of each in order `K yes` with the lines of a certificate, if one is
+-- found. If none is, it is `K no` with the text of a data graph whose site breaks the constraint, or
+-- `K unknown`.
 use Rattle.std.specs.Prelude.{◌≡◌, ℕ, suc, Bool, true, false, List, [], ◌∷◌, ◌++◌}
 use Rattle.std.specs.Prelude.{codes, nat_eq, if◌then◌else◌, Some, None, ⊤}
 use Rattle.std.specs.Fmt.{decimal}
@@ -9,8 +9,9 @@ use Rattle.graph_spec.specs.DataGraph.{DataGraph, IsWellFormed}
 use Rattle.query_spec.specs.Query.{Query}
 use Rattle.site_spec.specs.Site.{Scope, scope_of}
 use Rattle.constraint_spec.specs.declared.Constraint.{Constraint}
-use Rattle.constraint_spec.specs.Certificate.{Certificate, IsCertificate}
+use Rattle.constraint_spec.specs.Certificate.{Certificate}
 use Rattle.constraint_spec.specs.Meets.{Meets}
+use Rattle.constraint_prover.specs.Verdicts.{IsFound}
 use Rattle.counterexample_spec.specs.First.{IsFirstBroken}
 use Rattle.sd_graph.specs.ProgramLimits.{IsWithinProgram}
 use Rattle.sd_ddl.specs.Written.{graph_text}
@@ -25,16 +26,16 @@ pub data CheckAnswer : Type 0 where
   no : DataGraph → CheckAnswer
   unknown : CheckAnswer
 
--- no certificate shows the constraint
-abbrev pub HasNoCertificate : Scope → Constraint → Type 0
-HasNoCertificate q c = (x : Certificate) → IsCertificate q c x → ⊥
+-- no certificate of the constraint is found: there is none, or the search doesn't stay within its budget
+abbrev pub NoneIsFound : Scope → Constraint → Type 0
+NoneIsFound q c = (x : Certificate) → IsFound q c x → ⊥
 
--- A certificate of the constraint. If it has none, the first candidate within the program's limits
--- whose site breaks it, and unknown if there is no such candidate.
+-- A certificate of the constraint that is found. If none is, the first candidate within the program's
+-- limits whose site breaks it, and unknown if there is no such candidate.
 abbrev pub IsCheckAnswer : Scope → Constraint → CheckAnswer → Type 0
-IsCheckAnswer q c (yes x) = IsCertificate q c x
-IsCheckAnswer q c (no G) = HasNoCertificate q c × IsFirstBroken IsWithinProgram q c (Some G)
-IsCheckAnswer q c unknown = HasNoCertificate q c × IsFirstBroken IsWithinProgram q c None
+IsCheckAnswer q c (yes x) = IsFound q c x
+IsCheckAnswer q c (no G) = NoneIsFound q c × IsFirstBroken IsWithinProgram q c (Some G)
+IsCheckAnswer q c unknown = NoneIsFound q c × IsFirstBroken IsWithinProgram q c None
 
 -- a data graph as the program holds it, over which the query's site doesn't meet the constraint
 pub record IsBrokenOver (q : Scope) (c : Constraint) (G : DataGraph) : Type 0 where
@@ -103,7 +104,7 @@ finding_lines q number cs fs = []
 -- ---- what is told
 
 -- The text tells of each of the constraints, in order, what is found of it, and `all_yes` says whether
--- each has a certificate. What is found holds of the query's sites.
+-- a certificate of each is found. What is found holds of the query's sites.
 pub record AreTold (q : Query) (constraints : List Constraint) (text : List ℕ) (all_yes : Bool)
     : Type 0 where
   pub findings : List CheckAnswer
@@ -112,9 +113,9 @@ pub record AreTold (q : Query) (constraints : List Constraint) (text : List ℕ)
   pub told : text ≡ finding_lines q 1 constraints findings
   pub all : all_yes ≡ list_all is_yes findings
 
--- some certificate shows the constraint
-abbrev pub HasCertificate : Query → Constraint → Type 0
-HasCertificate q c = (x : Certificate) × IsCertificate (scope_of q) c x
+-- some certificate of the constraint is found
+abbrev pub SomeIsFound : Query → Constraint → Type 0
+SomeIsFound q c = (x : Certificate) × IsFound (scope_of q) c x
 
 -- over every data graph the query's site meets the constraint
 abbrev pub IsMetOverAll : Query → Constraint → Type 0

@@ -6,14 +6,14 @@ ghost use Rattle.query_spec.specs.Query.{Query};
 ghost use Rattle.constraint_spec.specs.declared.Constraint.{Constraint as TheConstraint};
 ghost use Rattle.graph_spec.specs.DataGraph.{DataGraph};
 ghost use Rattle.site_spec.specs.Site.{scope_of};
-ghost use Rattle.command_check.specs.Told.{AreTold, HasCertificate, IsMetOverAll};
+ghost use Rattle.command_check.specs.Told.{AreTold, SomeIsFound, IsMetOverAll};
 ghost use Rattle.command_check.specs.Told.{no, lines_of, HoldsOfSites, IsShownBroken};
 
-/// All are answered yes exactly where each has a certificate.
+/// All are answered yes exactly if a certificate of each is found.
 pub fn all_yes_means_certificates()
     ensures { (q : Query) (constraints : List TheConstraint) (text : List ℕ) (all_yes : Bool)
         → AreTold q constraints text all_yes
-        → IsTrue all_yes ↔ All (HasCertificate q) constraints }
+        → IsTrue all_yes ↔ All (SomeIsFound q) constraints }
 {}
 
 /// Where all are answered yes, the query's site over every data graph meets each of them.

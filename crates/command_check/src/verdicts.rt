@@ -38,9 +38,9 @@ fn are_all_yes(findings: &[CheckAnswer]) -> bool
 }
 
 /// For each of the constraints, in order and with its number from 1: `K yes` with the lines of a
-/// certificate where it has one; else `K no` with the text of the first of its candidates within the program's limits over
+/// certificate if one is found; else `K no` with the text of the first of its candidates within the program's limits over
 /// which the query's site breaks it, each line after two spaces; and `K unknown` where there is neither.
-/// And whether all of them have a certificate. The trial is one of the query.
+/// And whether all of them are answered yes. The trial is one of the query.
 /// # Errors
 /// Out of memory.
 pub fn verdicts_of<T: Oracle>(

@@ -1,6 +1,5 @@
 -- What a search finds is a verdict.
 use Rattle.std.proofs.Common.{◌≡◌, List, subst, sym}
-use Rattle.std.specs.Prelude.{Contains}
 use Rattle.std.specs.List.{AllZip}
 use Rattle.graph_spec.specs.DataGraph.{DataGraph}
 use Rattle.query_spec.specs.Query.{Query as PlainQuery}
@@ -14,7 +13,8 @@ use Rattle.constraint_spec.specs.declared.Constraint.{Constraint}
 use Rattle.constraint_spec.specs.Certificate.{Certificate, IsCertificate}
 use Rattle.constraint_spec.specs.Meets.{Meets}
 use Rattle.constraint_recheck.specs.Options.{Finds}
-use Rattle.constraint_recheck.specs.Search.{find_certificate}
+use Rattle.constraint_recheck.specs.Search.{find_certificate, StaysWithinBudget}
+use Rattle.constraint_recheck.proofs.Options.{finds_as}
 use Rattle.constraint_recheck.proofs.SearchLaws.{certificate_finds}
 use Rattle.constraint_spec.specs.declared.certificates.Verdict.{Verdict}
 use Rattle.constraint_spec.specs.declared.certificates.Verdict.TheVariants.{Yes, Unknown}
@@ -22,10 +22,10 @@ use Rattle.inclusion.specs.declared.table.Inclusions.{Inclusions}
 use Rattle.inclusion.specs.Answers.{tests_of, IsTableOf}
 use Rattle.query_blocks.specs.declared.QueryBlocks.{QueryBlocks}
 use Rattle.query_blocks.specs.Blocks as blocks
-use Rattle.constraint_prover.specs.Verdicts.{certificate_in, IsVerdict, AreFound, HoldsOverAll}
+use Rattle.constraint_prover.specs.Verdicts.{certificate_in, IsFound, IsVerdict, AreFound, HoldsOverAll}
 use Rattle.constraint_prover.proofs.Zipped.{zip_as}
 
-verdict_found : (q : Scope) (c : Constraint) (v : Verdict) → Finds (IsCertificate q c) (certificate_in v) → IsVerdict q c v
+verdict_found : (q : Scope) (c : Constraint) (v : Verdict) → Finds (IsFound q c) (certificate_in v) → IsVerdict q c v
 verdict_found q c (Yes x) h = h
 verdict_found q c Unknown h = h
 
@@ -33,7 +33,10 @@ verdict_found q c Unknown h = h
 pub found_exact : (q p : Scope) (t : Inclusions) (c : Constraint) (v : Verdict) → p ≡ q → IsTableOf p t → certificate_in v ≡ find_certificate (tests_of t) p c → IsVerdict q c v
 found_exact q p t c v same table e =
     subst (λ s. IsVerdict s c v) same
-    (verdict_found p c v (subst (Finds (IsCertificate p c)) (sym e) (certificate_finds (Contains table.known) (tests_of t) table.tests p table.all c)))
+    (verdict_found p c v
+    (subst (Finds (IsFound p c)) (sym e)
+    (finds_as (λ x. IsCertificate p c x × StaysWithinBudget p c) (IsFound p c) (λ x h. record { certificate = h.0; within = h.1 }) (λ x h. (h.certificate, h.within))
+    (find_certificate (tests_of t) p c) (certificate_finds table.known (tests_of t) table.tests p table.all c))))
 
 -- what certificates show of queries without faults
 abbrev pub CertificatesHold : Type 0
@@ -41,7 +44,7 @@ CertificatesHold =
     (q : Query) → IsFaultless (query_written q) → IsParsed (query_of q) → (c : Constraint) (x : Certificate) → IsCertificate (scope_of (query_of q)) c x → (G : DataGraph) → Meets G (scope_of (query_of q)) c
 
 verdict_holds : CertificatesHold → (q : Query) → IsFaultless (query_written q) → IsParsed (query_of q) → (c : Constraint) (v : Verdict) → IsVerdict (scope_of (query_of q)) c v → HoldsOverAll (scope_of (query_of q)) c v
-verdict_holds law q faultless parsed c (Yes x) h = law q faultless parsed c x h
+verdict_holds law q faultless parsed c (Yes x) h = law q faultless parsed c x h.certificate
 verdict_holds law q faultless parsed c Unknown h = tt
 
 -- a verdict of a query without faults holds over every data graph

@@ -6,7 +6,7 @@ use Rattle.site_spec.specs.Site.{Scope}
 use Rattle.constraint_spec.specs.declared.Constraint.{Constraint}
 use Rattle.constraint_spec.specs.Certificate.{Certificate, IsCertificate}
 use Rattle.constraint_spec.specs.Meets.{Meets}
-use Rattle.constraint_recheck.specs.Search.{find_certificate}
+use Rattle.constraint_recheck.specs.Search.{find_certificate, StaysWithinBudget}
 use Rattle.query_blocks.specs.declared.QueryBlocks.{QueryBlocks}
 use Rattle.query_blocks.specs.Blocks as blocks
 use Rattle.inclusion.specs.declared.table.Inclusions.{Inclusions}
@@ -19,10 +19,15 @@ abbrev pub certificate_in : Verdict → Option Certificate
 certificate_in (Yes x) = Some x
 certificate_in Unknown = None
 
--- a certificate of the constraint, or unknown where it has none
+-- a certificate of the constraint, the search for which stays within its budget
+pub record IsFound (q : Scope) (c : Constraint) (x : Certificate) : Type 0 where
+  pub certificate : IsCertificate q c x
+  pub within : StaysWithinBudget q c
+
+-- a certificate of the constraint that is found, or unknown if none is
 abbrev pub IsVerdict : Scope → Constraint → Verdict → Type 0
-IsVerdict q c (Yes x) = IsCertificate q c x
-IsVerdict q c Unknown = (x : Certificate) → IsCertificate q c x → ⊥
+IsVerdict q c (Yes x) = IsFound q c x
+IsVerdict q c Unknown = (x : Certificate) → IsFound q c x → ⊥
 
 -- at a yes, the query's site over every data graph meets the constraint
 abbrev pub HoldsOverAll : Scope → Constraint → Verdict → Type 0

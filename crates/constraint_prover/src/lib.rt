@@ -41,9 +41,9 @@ fn find_all(
     Ok(verdicts)
 }
 
-/// For each of the constraints, in order, a certificate, and unknown exactly where there is none. What is asked of the
-/// query alone, above all which of its expressions is included in which, is found out once. What has a certificate is
-/// met by the query's site over every data graph.
+/// For each of the constraints, in order, a certificate, and unknown exactly if there is none, or the search for one would
+/// try more than its budget. What is asked of the query alone, above all which of its expressions is included in which, is
+/// found out once. What has a certificate is met by the query's site over every data graph.
 pub fn prove_all(
     alloc: Global,
     query: &ScopedQuery,
@@ -67,8 +67,8 @@ pub fn prove_all(
     find_all(alloc, &searched, constraints)
 }
 
-/// A certificate of the constraint, and unknown exactly where there is none. What has a certificate
-/// is met by the query's site over every data graph.
+/// A certificate of the constraint, and unknown exactly if there is none, or the search for one would try
+/// more than its budget. What has a certificate is met by the query's site over every data graph.
 pub fn prove(
     alloc: Global,
     query: &ScopedQuery,

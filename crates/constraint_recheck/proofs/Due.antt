@@ -144,7 +144,7 @@ module _ (known : Regex → Type 0) (tests : Tests) (are : AreTests known tests)
   IsUseWith s t ys =
       IsUse version S k ys × (rename_target (naming k ys) k.link.source ≡ made s) × IfAsked t (rename_target (naming k ys) k.link.target)
 
-  step_decides : (s : SkolemTerm) (t : Option SkolemTerm) (ys : List Name) → Decides (may_go_on variables tests version S k.conditions k.link s t ys) (Due ys × Fits s t ys)
+  pub step_decides : (s : SkolemTerm) (t : Option SkolemTerm) (ys : List Name) → Decides (may_go_on variables tests version S k.conditions k.link s t ys) (Due ys × Fits s t ys)
   step_decides s t ys = both (list_all (due_condition variables tests version S ys) k.conditions) (ends_fit variables k.link s t ys) (due_decides ys) (fits_decides s t ys)
 
   fits_to : (ys : List Name) → length ys ≡ length variables → (s : SkolemTerm) (t : Option SkolemTerm) → ((n : ℕ) → n ≤ length ys → Fits s t (take n ys))

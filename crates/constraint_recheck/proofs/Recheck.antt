@@ -24,7 +24,7 @@ use Rattle.query_parts.proofs.Same.{name_decides, term_decides, target_decides}
 use Rattle.constraint_recheck.proofs.Links.{zip_in, filter_from, empty_decides, each_decides, implies, link_decides, made_decides, of_decides, quoted_decides, may_decides, use_decides, determined_decides}
 use Rattle.constraint_recheck.proofs.Single.{single_decides, to_number, from_number}
 
-le_decides : (m n : ℕ) → Decides (nat_le m n) (m ≤ n)
+pub le_decides : (m n : ℕ) → Decides (nat_le m n) (m ≤ n)
 le_decides m n = (λ t. grind (arith, nat_tests), λ e. grind (arith, nat_tests))
 
 module _ (known : Regex → Type 0) (tests : Tests) (are : AreTests known tests) (q : Scope) (ks : AreKnown known q) where

@@ -1,10 +1,13 @@
 -- The search for a certificate: variables are mapped one after another, and what a variable decides
 -- is tested as soon as it is mapped. For REACHABLE it goes back from the mention's term, level by
--- level, and keeps each term once.
-use Rattle.std.specs.Prelude.{ℕ, zero, suc, Bool, true, false, not, ◌&&◌, ◌||◌, ◌==◌, List, [], ◌∷◌}
-use Rattle.std.specs.Prelude.{◌++◌, length, map, drop, if◌then◌else◌, Option, Some, None, option_map}
+-- level, and keeps each term once. What is tried for one mention is counted: a name for a variable and
+-- a term for a link's source are one each. If it is more than the budget, nothing is found.
+use Rattle.std.specs.Prelude.{ℕ, zero, suc, ◌+◌, ◌≤◌, Bool, true, false, not, ◌&&◌, ◌||◌, ◌==◌, nat_le}
+use Rattle.std.specs.Prelude.{List, [], ◌∷◌, ◌++◌, length, map, drop, Contains, All, if◌then◌else◌}
+use Rattle.std.specs.Prelude.{Option, Some, None, option_map, ⊤}
 use Rattle.std.specs.List.{flat_map, list_any, list_all}
 use Rattle.sd_value.specs.Names.{Name, Label}
+use Rattle.rpe.specs.Regex.{Regex}
 use Rattle.query_spec.specs.declared.Variable.{Variable}
 use Rattle.query_spec.specs.Query.{Operand, variable, constant, Condition, SkolemTerm, Target, Link}
 use Rattle.query_spec.specs.Query.{plain, made}
@@ -17,10 +20,10 @@ use Rattle.constraint_spec.specs.Placed.{PlacedLink, Mention, links_of, mentions
 use Rattle.constraint_spec.specs.Use.{rename_operand, rename, name_for, LinkUse}
 use Rattle.constraint_spec.specs.Certificate.{Certificate}
 use Rattle.query_parts.specs.Same.{same_operand, same_term}
-use Rattle.constraint_recheck.specs.Entails.{Tests, entails}
+use Rattle.constraint_recheck.specs.Entails.{Tests, AreTests, AreKnown, entails}
 use Rattle.constraint_recheck.specs.Recheck.{zip_all, same_sort, is_of, is_quoted}
 use Rattle.constraint_recheck.specs.Recheck.{may_carry, single, determined, each_may}
-use Rattle.constraint_recheck.specs.Options.{first_of, for_each, fold_over}
+use Rattle.constraint_recheck.specs.Options.{first_of, for_each, fold_over, tried_until, tried_over}
 
 -- ---- which variables decide what
 
@@ -68,15 +71,26 @@ module _ (variables : List Variable) where
 
 -- ---- names for all variables
 
+-- what comes next with the variable v mapped to w, or the other if that isn't allowed
+abbrev pub mapped : {X : Type 0} → (List Name → Bool) → Variable → List Name → (List Name → X) → X
+    → Variable → X
+mapped test v ys next other w =
+    let more = ys ++ w.name ∷ [] in
+    if same_sort w.arc v.arc && test more then next more else other
+
 -- the names so far, with one for each variable that is left, under which the test is always passed
 abbrev pub extend : (List Name → Bool) → List Variable → List Variable → List Name
     → Option (List Name)
 extend test targets [] ys = Some ys
 extend test targets (v ∷ left) ys =
-    first_of
-    (λ w. let more = ys ++ w.name ∷ [] in
-    if same_sort w.arc v.arc && test more then extend test targets left more else None)
-    targets
+    first_of (mapped test v ys (extend test targets left) None) targets
+
+-- how many names it tries
+abbrev pub extend_tried : (List Name → Bool) → List Variable → List Variable → List Name → ℕ
+extend_tried test targets [] ys = 0
+extend_tried test targets (v ∷ left) ys =
+    tried_until (mapped test v ys (extend test targets left) None)
+    (λ w. suc (mapped test v ys (extend_tried test targets left) 0 w)) targets
 
 -- the names of a use of the link under S with these ends
 abbrev pub find_names : Tests → ℕ → List Condition → PlacedLink → SkolemTerm
@@ -85,6 +99,22 @@ find_names tests version S k s t =
     let variables = variables_of k.conditions in
     let test = may_go_on variables tests version S k.conditions k.link s t in
     if test [] then extend test (variables_of S) variables [] else None
+
+-- how many names are tried for it
+abbrev pub names_tried : Tests → ℕ → List Condition → PlacedLink → SkolemTerm
+    → Option SkolemTerm → ℕ
+names_tried tests version S k s t =
+    let variables = variables_of k.conditions in
+    let test = may_go_on variables tests version S k.conditions k.link s t in
+    if test [] then extend_tried test (variables_of S) variables [] else 0
+
+-- how much is tried at most for one mention
+abbrev pub search_budget : ℕ
+search_budget = 10000
+
+-- what was found, unless more was tried than the budget
+abbrev pub within_budget : {X : Type 0} → ℕ → Option X → Option X
+within_budget tried found = if nat_le tried search_budget then found else None
 
 -- ---- numbered links
 
@@ -123,6 +153,10 @@ pub record Reached : Type 0 where
   pub term : SkolemTerm
   pub uses : List LinkUse
 
+-- a mention's term itself, from which the search goes back
+abbrev pub start_at : SkolemTerm → List Reached
+start_at t = record { term = t; uses = [] } ∷ []
+
 -- the term of a function without arguments
 abbrev pub root_term : Name → SkolemTerm
 root_term root = record { function = root; args = [] }
@@ -157,34 +191,84 @@ module _ (tests : Tests) (q : Scope) (S : List Condition) where
   levels (suc n) place seen =
       levels n (length seen) (fold_over add_links seen (drop place seen))
 
+  -- how much is tried for them, level by level: for a source its term, and names if it is new
+  abbrev pub source_tried : Reached → Numbered → List Reached → SkolemTerm → ℕ
+  source_tried e n seen s =
+      suc (if list_any (λ r. same_term r.term s) seen then 0
+      else names_tried tests q.version S n.link s (Some e.term))
+
+  -- nothing where the link ends at no term of the function
+  abbrev pub sources_tried : Reached → List Reached → Numbered → ℕ
+  sources_tried e seen n =
+      if is_of e.term.function n.link.link.target
+      then tried_over (add_source e n) (source_tried e n) seen
+      (source_choices (variables_of S) n.link.link.source)
+      else 0
+
+  -- for all links
+  abbrev pub links_tried : List Reached → Reached → ℕ
+  links_tried seen e =
+      tried_over (add_sources e) (sources_tried e) seen (numbered_from 1 (links_of q))
+
+  -- for so many levels more
+  abbrev pub levels_tried : ℕ → ℕ → List Reached → ℕ
+  levels_tried zero place seen = 0
+  levels_tried (suc n) place seen =
+      tried_over add_links links_tried seen (drop place seen)
+      + levels_tried n (length seen) (fold_over add_links seen (drop place seen))
+
   -- the uses that lead back from the term to the root
   abbrev pub find_back : Name → SkolemTerm → Option (List LinkUse)
   find_back root t =
       first_of (λ r. if same_term r.term (root_term root) then Some r.uses else None)
-      (levels (length (links_of q)) 0 (record { term = t; uses = [] } ∷ []))
+      (levels (length (links_of q)) 0 (start_at t))
+
+  -- how much is tried for them
+  abbrev pub back_tried : SkolemTerm → ℕ
+  back_tried t = levels_tried (length (links_of q)) 0 (start_at t)
 
 -- ---- certificates
 
+-- what comes of a link by l that is good, or the other if it isn't one
+abbrev pub if_asked : {X : Type 0} → Label → (PlacedLink → Bool) → (Numbered → X) → X → Numbered → X
+if_asked l good next other n =
+    if is_quoted l n.link.link.label && good n.link then next n else other
+
 module _ (tests : Tests) (q : Scope) where
+  -- a use of the link from the mention's term
+  abbrev pub use_by : Mention → Numbered → Option LinkUse
+  use_by m n =
+      option_map (λ ys. record { link = n.number; names = ys })
+      (find_names tests q.version m.conditions n.link m.term None)
+
   -- the first use from the mention's term of a link by l that is good
   abbrev pub find_use : Label → (PlacedLink → Bool) → Mention → Option LinkUse
   find_use l good m =
-      first_of
-      (λ n. if is_quoted l n.link.link.label && good n.link
-      then option_map (λ ys. record { link = n.number; names = ys })
-      (find_names tests q.version m.conditions n.link m.term None)
-      else None)
+      first_of (if_asked l good (use_by m) None) (numbered_from 1 (links_of q))
+
+  -- how much is tried for it
+  abbrev pub use_tried : Label → (PlacedLink → Bool) → Mention → ℕ
+  use_tried l good m =
+      tried_until (if_asked l good (use_by m) None)
+      (if_asked l good (λ n. names_tried tests q.version m.conditions n.link m.term None) 0)
       (numbered_from 1 (links_of q))
 
   -- that use, as a list
   abbrev pub find_shown : Label → (PlacedLink → Bool) → Mention → Option (List LinkUse)
-  find_shown l good m = option_map (λ u. u ∷ []) (find_use l good m)
+  find_shown l good m =
+      within_budget (use_tried l good m) (option_map (λ u. u ∷ []) (find_use l good m))
 
-  -- the uses that show that the root reaches the mention's term
+  -- how much is tried for uses that show that the root reaches the mention's term
+  abbrev pub reached_tried : Name → Name → Mention → ℕ
+  reached_tried f root m =
+      if same_name f root then 0 else back_tried tests q m.conditions m.term
+
+  -- those uses
   abbrev pub find_reached : Name → Name → Mention → Option (List LinkUse)
   find_reached f root m =
-      if same_name f root then (if same_term m.term (root_term root) then Some [] else None)
-      else find_back tests q m.conditions root m.term
+      within_budget (reached_tried f root m)
+      (if same_name f root then (if same_term m.term (root_term root) then Some [] else None)
+      else find_back tests q m.conditions root m.term)
 
   -- a certificate of the constraint
   abbrev pub find_certificate : Constraint → Option Certificate
@@ -197,3 +281,22 @@ module _ (tests : Tests) (q : Scope) where
   find_certificate (One f l) =
       if single (may_carry tests q.version f l) determined (links_of q)
       then for_each (find_shown l (λ k. true)) (mentions_of q f) else None
+
+  -- for no mention of the constraint's function more is tried than the budget
+  abbrev pub IsWithinBudget : Constraint → Type 0
+  IsWithinBudget (Reachable f root) =
+      All (λ m. reached_tried f root m ≤ search_budget) (mentions_of q f)
+  IsWithinBudget (Each f l h) =
+      All (λ m. use_tried l (λ k. is_of h k.link.target) m ≤ search_budget) (mentions_of q f)
+  IsWithinBudget (Only f l h) = ⊤
+  IsWithinBudget (Never f l) = ⊤
+  IsWithinBudget (One f l) = All (λ m. use_tried l (λ k. true) m ≤ search_budget) (mentions_of q f)
+
+-- The search for a certificate of the constraint stays within the budget. So it does by all tests that
+-- decide inclusion between the query's expressions, if it does by some.
+pub record StaysWithinBudget (q : Scope) (c : Constraint) : Type 0 where
+  pub known : List Regex
+  pub tests : Tests
+  pub are : AreTests (Contains known) tests
+  pub all : AreKnown (Contains known) q
+  pub within : IsWithinBudget tests q c

@@ -1,6 +1,5 @@
-use Rattle.std.specs.Prelude.{Contains}
 use Rattle.constraint_recheck.proofs.SearchLaws.{certificate_finds}
 use Rattle.constraint_recheck.proofs.search.a_search_is_exact.Goals as goal
 
 pub returns : goal.returns
-returns c = λ E tests are q ks k. certificate_finds (Contains E) tests are q ks k
+returns c = λ E tests are q ks k. certificate_finds E tests are q ks k
