@@ -9,6 +9,7 @@ use Rattle.run_report.specs.Report.{line}
 use Rattle.run_report.specs.declared.status.Status.{Status}
 use Rattle.run_report.specs.declared.status.Status.TheVariants.{Usage, WriteFault, WireFault}
 use Rattle.run_report.specs.declared.status.Status.TheVariants as status
+use Rattle.command_spec.specs.AccessLog.{given_log}
 use Rattle.command_spec.specs.Inputs.{given_inputs}
 use Rattle.command_spec.specs.Waits.{given_waits}
 use Rattle.command_spec.specs.Words.{command}
@@ -39,6 +40,10 @@ status_without NoMemory = status.NoMemory
 -- how long the wire of a run waits
 abbrev pub waits_given : Words → ServeWaits
 waits_given words = given_waits (command_given words)
+
+-- the file that a line of each reply of a run is added to, if there is one
+abbrev pub log_given : Words → Option (List ℕ)
+log_given words = given_log (command_given words)
 
 -- what a run's files, outputs and wire have at one moment
 pub record Seen : Type 0 where

@@ -1,6 +1,7 @@
 // The words of a run, and what they give.
 ghost use Rattle.std.specs.Prelude.{◌≡◌, IfOk, IfSome, option_map};
 ghost use Rattle.command_spec.specs.Ranges.{IsInRange};
+ghost use Rattle.command_spec.specs.AccessLog.{given_log};
 ghost use Rattle.command_spec.specs.Waits.{default_waits, given_waits};
 ghost use Rattle.command_spec.specs.Words as specs;
 
@@ -65,6 +66,16 @@ impl GivenWords {
         match &self.command {
             Some(Command::Serve(command)) => command.options.waits,
             _ => default_waits(),
+        }
+    }
+
+    /// The file that a line of each reply is to be added to, if the words give `serve` and name one.
+    pub fn log(&self) -> Option<&Str>
+        ensures { option_map (λ path. path.now) result ≡ given_log (specs.command self.now) }
+    {
+        match &self.command {
+            Some(Command::Serve(command)) => command.log.as_ref(),
+            _ => None,
         }
     }
 }

@@ -1,8 +1,8 @@
 // The program from its words to its exit code.
-ghost use Rattle.std.specs.Prelude.{◌≡◌, ◌++◌, List};
+ghost use Rattle.std.specs.Prelude.{◌≡◌, ◌++◌, List, option_map};
 ghost use Rattle.happenings.specs.Happening.{Happening};
 ghost use Rattle.command_run.specs.IsRun.{IsRun};
-ghost use Rattle.command_run.specs.Main.{status_without, waits_given, seen};
+ghost use Rattle.command_run.specs.Main.{status_without, waits_given, log_given, seen};
 
 use crate::given::{GivenWords, default_waits};
 use crate::lent::line_lent;
@@ -12,6 +12,7 @@ use command_spec::ServeWaits;
 use edge_io::{Files, Sink};
 use happenings::Trace;
 use run_report::Status;
+use sd_value::Str;
 use std::alloc::Global;
 use wire::Wire;
 
@@ -23,6 +24,16 @@ pub fn waits_of(words: &Result<GivenWords, NoWords>) -> ServeWaits
     match words {
         Ok(words) => words.waits(),
         Err(_) => default_waits(),
+    }
+}
+
+/// The file that a line of each reply is to be added to, if its words give `serve` and name one.
+pub fn log_of(words: &Result<GivenWords, NoWords>) -> Option<&Str>
+    ensures { option_map (λ path. path.now) result ≡ log_given words.now }
+{
+    match words {
+        Ok(words) => words.log(),
+        Err(_) => None,
     }
 }
 

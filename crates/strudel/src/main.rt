@@ -1,10 +1,11 @@
-//! The program: `main` makes the system's files, outputs and sockets and an empty log, and calls
-//! `command_run::run_main` with them and its words.
+//! The program: `main` makes the system's files, outputs and sockets, an empty list of what happens,
+//! and the log of replies if there is one, and calls `command_run::run_main` with them and its words.
 #![tactic(auto)]
 
-use command_run::{GivenWords, NoWords, run_main, waits_of};
+use command_run::{GivenWords, NoWords, end_without_log, log_of, run_main, waits_of};
 use edge_io::{LockFile, RealFiles, RealOut};
 use happenings::{Log, Stream};
+use logged_wire::{FileLog, LoggedWire, open_log};
 use sd_value::Str;
 use std::net::Net;
 use std::process::ExitCode;
@@ -56,6 +57,20 @@ where
     )
 }
 
+// The file that a line of each reply is added to, if the words name one; or its path, if it can't be opened.
+fn given_log<'w, R: Files>(
+    rt: &R,
+    words: &'w Result<GivenWords, NoWords>,
+) -> Result<Option<FileLog<R::File>>, &'w Str> {
+    match log_of(words) {
+        None => Ok(None),
+        Some(path) => match open_log(rt, path) {
+            Ok(replies) => Ok(Some(replies)),
+            Err(_) => Err(path),
+        },
+    }
+}
+
 fn main(rt: HostRuntime) -> ExitCode {
     let words = given_words(&rt);
     let run = number_of_run(&rt);
@@ -63,7 +78,14 @@ fn main(rt: HostRuntime) -> ExitCode {
     let mut files = RealFiles::new(&rt, run);
     let mut out = RealOut::new(rt.stdout(), Stream::Output);
     let mut err = RealOut::new(rt.stderr(), Stream::Errors);
-    let mut wire = given_wire(&rt, run, &words);
+    let replies = match given_log(&rt, &words) {
+        Ok(replies) => replies,
+        Err(path) => {
+            let code = end_without_log(rt.alloc(), path, &mut log, &mut err);
+            return ExitCode::from(code);
+        }
+    };
+    let mut wire = LoggedWire::new(rt.alloc(), given_wire(&rt, run, &words), replies);
     let code = run_main(
         rt.alloc(),
         &words,

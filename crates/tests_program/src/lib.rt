@@ -23,6 +23,8 @@ mod lines;
 #[cfg(test)]
 mod lints;
 #[cfg(test)]
+mod logs;
+#[cfg(test)]
 mod pages;
 #[cfg(test)]
 mod refusing;

@@ -119,8 +119,8 @@ fn texts(alloc: Global, words: &[&str]) -> Result<Vec<Str>, NoMemory> {
     Ok(texts)
 }
 
-// The words of a run, with the command that they give.
-fn words_of(alloc: Global, words: &[&str]) -> Result<GivenWords, NoWords> {
+/// The words of a run, with the command that they give.
+pub fn words_of(alloc: Global, words: &[&str]) -> Result<GivenWords, NoWords> {
     let texts = texts(alloc, words)?;
     let words = GivenWords::read(alloc, texts)?;
     Ok(words)

@@ -628,6 +628,56 @@ const WORDS_WITH_OVER: &[&[&str]] = &[
     &["help", "--over=f"],
 ];
 
+// A log that is given.
+const WITH_LOG: &[CommandRow] = &[
+    CommandRow {
+        words: &["serve", "--log", "l", "q", "t", "d"],
+        command: "serve q t d 8080 4294967296 1 4294967296 256 67108864 5000 10000 16384 log l",
+    },
+    CommandRow {
+        words: &[
+            "serve",
+            "q",
+            "t",
+            "d",
+            "--log=/var/log/l=1",
+            "--host=a",
+            "--over=f",
+        ],
+        command: "serve q t d 8080 4294967296 1 4294967296 256 67108864 5000 10000 16384 host a log /var/log/l=1 over f",
+    },
+    CommandRow {
+        words: &["serve", "--log=l", "--watch=w", "q", "t", "d"],
+        command: "serve q t w d 8080 4294967296 1 4294967296 256 67108864 5000 10000 16384 1 log l",
+    },
+    CommandRow {
+        words: &["serve", "q", "t", "--", "--log=l"],
+        command: "serve q t --log=l 8080 4294967296 1 4294967296 256 67108864 5000 10000 16384",
+    },
+];
+
+// A log that isn't named, or is named twice, or of a command that has none.
+const WORDS_WITH_LOG: &[&[&str]] = &[
+    &["serve", "q", "t", "d", "--log"],
+    &["serve", "--log=", "q", "t", "d"],
+    &["serve", "--log", "--", "q", "t", "d"],
+    &["serve", "--log=l", "--log=l", "q", "t", "d"],
+    &["serve", "--Log=l", "q", "t", "d"],
+    &["--log=l", "serve", "q", "t", "d"],
+    &["replay", "--log=l", "q", "t", "s", "d"],
+    &["page", "--log=l", "q", "t", "a", "d"],
+    &["build", "--log=l", "q", "t", "o", "d"],
+    &["data", "--log=l", "d"],
+    &["explain", "--log=l", "q", "d"],
+    &["schema", "--log=l", "q"],
+    &["check", "--log=l", "q", "c"],
+    &["check", "--log=l", "--here", "q", "c", "d"],
+    &["lint", "--log=l", "q", "t", "d"],
+    &["trial", "--log=l", "1"],
+    &["help", "--log=l"],
+    &["version", "--log=l"],
+];
+
 // Data that are read leniently by a command that reads none, or the word given twice or with a value.
 const WORDS_WITH_LENIENT: &[&[&str]] = &[
     &["page", "--lenient", "--lenient", "q", "t", "a", "d"],
@@ -673,6 +723,12 @@ fn stray_words_give_no_command(rt: HostRuntime) -> Result<(), Fail> {
 #[test]
 fn a_first_query_is_named_once_and_where_there_is_one(rt: HostRuntime) -> Result<(), Fail> {
     check_no_commands(rt.alloc(), WORDS_WITH_OVER)
+}
+
+#[test]
+fn a_log_is_named_once_and_for_serve_alone(rt: HostRuntime) -> Result<(), Fail> {
+    check_commands(rt.alloc(), WITH_LOG)?;
+    check_no_commands(rt.alloc(), WORDS_WITH_LOG)
 }
 
 #[test]

@@ -99,6 +99,15 @@ fn hosts_text(mut text: Vec<u8>, limits: &RunLimits) -> Result<Vec<u8>, NoMemory
     Ok(text)
 }
 
+// With the file that a line of each reply is added to, if there is one.
+fn log_text(mut text: Vec<u8>, log: &Option<Str>) -> Result<Vec<u8>, NoMemory> {
+    if let Some(path) = log {
+        text.extend_from_slice(b" log ")?;
+        text.extend_from_slice(path.bytes())?;
+    }
+    Ok(text)
+}
+
 // The path of the watched file stands behind those of the query and the templates, and its number last.
 fn serve_text(alloc: Global, c: &ServeCommand) -> Result<Vec<u8>, NoMemory> {
     let limits = &c.options.limits;
@@ -199,8 +208,8 @@ fn report_command_text(alloc: Global, command: &ReportCommand) -> Result<Vec<u8>
     }
 }
 
-/// The command as a text: its paths as they are in it, behind them its numbers, then its hosts, then whether its data are read leniently, and
-/// last the file of a first query.
+/// The command as a text: its paths as they are in it, behind them its numbers, then its hosts, then its log, then whether its data
+/// are read leniently, and last the file of a first query.
 pub fn command_text(alloc: Global, command: &Command) -> Result<Vec<u8>, NoMemory> {
     match command {
         Command::Text(c) => text_command_text(alloc, c),
@@ -208,7 +217,7 @@ pub fn command_text(alloc: Global, command: &Command) -> Result<Vec<u8>, NoMemor
         Command::Build(c) => build_text(alloc, c),
         Command::Serve(c) => {
             let text = hosts_text(serve_text(alloc, c)?, &c.options.limits)?;
-            data_text(text, &c.sources, &c.over)
+            data_text(log_text(text, &c.log)?, &c.sources, &c.over)
         }
         Command::Replay(c) => replay_text(alloc, c),
     }

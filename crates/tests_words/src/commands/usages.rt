@@ -120,6 +120,7 @@ const ROWS: &[UsageRow] = &[
             ValueOption::Number(NumberOption::OpenAtOnce),
             ValueOption::Text(TextOption::Watch),
             ValueOption::Number(NumberOption::Every),
+            ValueOption::Text(TextOption::Log),
             ValueOption::Text(TextOption::Over),
         ],
         reads_data: true,
@@ -181,6 +182,7 @@ const OPTIONS: &[ValueOption] = &[
     ValueOption::Number(NumberOption::Stall),
     ValueOption::Number(NumberOption::OpenAtOnce),
     ValueOption::Text(TextOption::Watch),
+    ValueOption::Text(TextOption::Log),
     ValueOption::Text(TextOption::Over),
 ];
 
