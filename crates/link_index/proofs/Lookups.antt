@@ -86,9 +86,6 @@ module _ {X : Type 0} (key given : X → Name) (set : List Name) where
   abbrev pub IsPicked : List X → List Name → Type 0
   IsPicked xs found = (y : Name) → Contains found y ↔ ((x : X) × Contains xs x × Contains set (key x) × (given x ≡ y))
 
-  pub picked_none : IsPicked [] []
-  picked_none y = (λ h. absurd (Contains-nil y h), λ h. absurd (Contains-nil h.0 h.1))
-
   pub picked_in : (xs : List X) (i : ℕ) (x : X) (y : Name) (found more : List Name) → i < length xs → x ≡ get_or xs i x → IsPicked (take i xs) found → Contains set (key x) → y ≡ given x → more ≡ found ++ y ∷ [] → IsPicked (take (i + 1) xs) more
   picked_in xs i x y found more lt is before within gave pushed z =
       let step : take (i + 1) xs ≡ take i xs ++ x ∷ [] = take_more xs i x lt ∙ ap (λ w. take i xs ++ w ∷ []) (sym is) in (

@@ -159,22 +159,6 @@ module _ (q : Scope) where
 
 -- ---- what is found in a loop
 
-module _ {X : Type 0} (P : X → Type 0) where
-  -- none of the items so far, and one more
-  pub none_more : (xs : List X) (i : ℕ) (x : X) (b : Bool) → i < length xs → x ≡ get_or xs i x → (SomeOf P (take i xs) → ⊥) → IsTrue b ↔ P x → b ≡ false → SomeOf P (take (i + 1) xs) → ⊥
-  none_more xs i x b lt is before decided off s =
-      let step : take (i + 1) xs ≡ take i xs ++ x ∷ [] = take_more xs i x lt ∙ ap (λ w. take i xs ++ w ∷ []) (sym is) in
-      elim (Contains-push_cases (take i xs) x s.item (subst (λ l. Contains l s.item) step s.within)) [
-        | inl front ↦ before (record { item = s.item; within = front; holds = s.holds })
-        | inr e ↦ (let yes = decided.1 (subst P (sym e) s.holds) in cc)
-      ]
-
-  pub none_all : (xs : List X) (i : ℕ) → length xs ≤ i → (SomeOf P (take i xs) → ⊥) → IsTrue false ↔ SomeOf P xs
-  none_all xs i le before = (λ t. absurd cc, λ s. absurd (subst (λ l. SomeOf P l → ⊥) (take_all i xs le) before s))
-
-  pub one_found : (xs : List X) (i : ℕ) (x : X) (b : Bool) → i < length xs → x ≡ get_or xs i x → IsTrue b ↔ P x → b ≡ true → IsTrue true ↔ SomeOf P xs
-  one_found xs i x b lt is decided on = (λ t. record { item = x; within = (i, lt, sym is); holds = decided.0 on }, λ s. refl)
-
 -- the functions of links by variables that may carry one of the labels
 module _ (version : ℕ) (labels : List Label) where
   abbrev pub CarriesSome : ArcLink → Type 0
@@ -182,9 +166,6 @@ module _ (version : ℕ) (labels : List Label) where
 
   abbrev pub AreFound : List ArcLink → List Name → Type 0
   AreFound arcs found = (f : Name) → Contains found f ↔ ((a : ArcLink) × Contains arcs a × CarriesSome a × (a.function.now ≡ f))
-
-  pub found_none : AreFound [] []
-  found_none f = (λ h. absurd (Contains-nil f h), λ h. absurd (Contains-nil h.0 h.1))
 
   pub found_in : (xs : List ArcLink) (i : ℕ) (x : ArcLink) (y : Name) (found more : List Name) → i < length xs → x ≡ get_or xs i x → AreFound (take i xs) found → CarriesSome x → y ≡ x.function.now → more ≡ found ++ y ∷ [] → AreFound (take (i + 1) xs) more
   found_in xs i x y found more lt is before within gave pushed z =

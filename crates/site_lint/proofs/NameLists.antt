@@ -60,11 +60,6 @@ pub if_ok_and : (r : Result Bool NoMemory) (A B : Type 0) → B → IfOk r (λ b
 if_ok_and (Ok b) A B here h = (λ t. (h.0 t, here), λ p. h.1 p.0)
 if_ok_and (Err e) A B here h = tt
 
--- the same, with what is known before what is decided
-pub both_if_ok : (r : Result Bool NoMemory) (A B : Type 0) → A → IfOk r (λ b. IsTrue b ↔ B) → IfOk r (λ b. IsTrue b ↔ (A × B))
-both_if_ok (Ok b) A B here h = (λ t. (here, h.0 t), λ p. h.1 p.1)
-both_if_ok (Err e) A B here h = tt
-
 -- ---- of conditions
 
 or_grouped : (a b c : Bool) → (a || (b || c)) ≡ ((a || b) || c)
