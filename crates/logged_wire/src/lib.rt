@@ -1,8 +1,7 @@
 //! A wire that adds a line of each reply to a log.
 #![tactic(auto)]
 
-ghost use Rattle.std.specs.Prelude.{◌≡◌, ◌+◌, ℕ, List, [], ◌∷◌, ◌++◌, take, length, Option, Some, IfOk, OnOk, OnErr, IsErrOf, map};
-ghost use Rattle.std.specs.Prelude.{MatchResult, option_map};
+ghost use Rattle.std.specs.Prelude.{◌≡◌, ℕ, List, [], ◌∷◌, ◌++◌, take, IfOk, OnOk, OnErr, IsErrOf, MatchResult, option_map};
 ghost use Rattle.happenings.specs.Happening.{Happening, Watched, WatchFailed, Listened, ListenFailed, Given};
 ghost use Rattle.happenings.specs.Happening.{NextFailed, Sent, SendFailed, Closed, Finished};
 ghost use Rattle.edge_io.specs.Counts.{Rose};
@@ -54,7 +53,8 @@ impl<W: Wire, L: AccessLog> LoggedWire<W, L> {
 
     /// The log, if there is one.
     pub fn log(&self) -> Option<&L>
-        ensures { option_map (λ log. L.lines log.now) result ≡ option_map (λ log. log.lines) self.now.log }
+        ensures { option_map (λ log. L.lines log.now) result
+            ≡ option_map (λ log. log.lines) self.now.log }
     {
         match &self.log {
             Some(log) => Some(log.log()),
@@ -82,10 +82,12 @@ impl<W: Wire, L: AccessLog> Wire for LoggedWire<W, L> {
     fn listen(&mut self, port: u16, connections: u64) -> Result<(), Failed>
         ensures traced { MatchResult result
             (λ _. W.trace self.new.wire ≡ W.trace self.old.wire ++ Listened port connections ∷ [])
-            (λ _. W.trace self.new.wire ≡ W.trace self.old.wire ++ ListenFailed port connections ∷ []) }
+            (λ _. W.trace self.new.wire ≡ W.trace self.old.wire
+            ++ ListenFailed port connections ∷ []) }
         ensures listens { (W.told self.new.wire).listens
             ≡ add_listen (W.told self.old.wire).listens port connections }
-        ensures fine { OnOk result ((W.told self.new.wire).next_faults ≡ (W.told self.old.wire).next_faults) }
+        ensures fine { OnOk result ((W.told self.new.wire).next_faults
+            ≡ (W.told self.old.wire).next_faults) }
         ensures failed { OnErr result (Rose (W.told self.old.wire).next_faults
             (W.told self.new.wire).next_faults) }
         ensures stays { ((W.told self.new.wire).account ≡ (W.told self.old.wire).account)
@@ -103,13 +105,16 @@ impl<W: Wire, L: AccessLog> Wire for LoggedWire<W, L> {
     fn watch(&mut self, alloc: Global, path: &Str, every: u64) -> Result<(), WireEnd>
         ensures traced { MatchResult result
             (λ _. W.trace self.new.wire ≡ W.trace self.old.wire ++ Watched path.now every ∷ [])
-            (λ _. W.trace self.new.wire ≡ W.trace self.old.wire ++ WatchFailed path.now every ∷ []) }
-        ensures watches { IsWatched path.now every (W.told self.old.wire).watches (W.told self.new.wire).watches
-            result }
-        ensures fine { OnOk result ((W.told self.new.wire).next_faults ≡ (W.told self.old.wire).next_faults) }
+            (λ _. W.trace self.new.wire ≡ W.trace self.old.wire
+            ++ WatchFailed path.now every ∷ []) }
+        ensures watches { IsWatched path.now every (W.told self.old.wire).watches
+            (W.told self.new.wire).watches result }
+        ensures fine { OnOk result ((W.told self.new.wire).next_faults
+            ≡ (W.told self.old.wire).next_faults) }
         ensures failed { IsErrOf result WireEnd.Failed
             → Rose (W.told self.old.wire).next_faults (W.told self.new.wire).next_faults }
-        ensures short { IsErrOf result WireEnd.NoMemory → W.told self.new.wire ≡ W.told self.old.wire }
+        ensures short { IsErrOf result WireEnd.NoMemory
+            → W.told self.new.wire ≡ W.told self.old.wire }
         ensures stays { ((W.told self.new.wire).account ≡ (W.told self.old.wire).account)
             × ((W.told self.new.wire).faults ≡ (W.told self.old.wire).faults)
             × ((W.told self.new.wire).given ≡ (W.told self.old.wire).given)
@@ -132,7 +137,8 @@ impl<W: Wire, L: AccessLog> Wire for LoggedWire<W, L> {
             (W.told self.new.wire).left) }
         ensures err { OnErr result (((W.told self.new.wire).given ≡ (W.told self.old.wire).given)
             × ((W.told self.new.wire).left ≡ (W.told self.old.wire).left)) }
-        ensures fine { OnOk result ((W.told self.new.wire).next_faults ≡ (W.told self.old.wire).next_faults) }
+        ensures fine { OnOk result ((W.told self.new.wire).next_faults
+            ≡ (W.told self.old.wire).next_faults) }
         ensures failed { IsErrOf result WireEnd.Failed
             → Rose (W.told self.old.wire).next_faults (W.told self.new.wire).next_faults }
         ensures short { IsErrOf result WireEnd.NoMemory
@@ -157,7 +163,8 @@ impl<W: Wire, L: AccessLog> Wire for LoggedWire<W, L> {
         ensures traced { MatchResult result
             (λ _. W.trace self.new.wire ≡ W.trace self.old.wire ++ Sent connection bytes.now ∷ [])
             (λ _. (taken : ℕ)
-            × (W.trace self.new.wire ≡ W.trace self.old.wire ++ SendFailed connection bytes.now taken ∷ [])
+            × (W.trace self.new.wire ≡ W.trace self.old.wire
+            ++ SendFailed connection bytes.now taken ∷ [])
             × ((W.told self.new.wire).account connection
             ≡ send_to ((W.told self.old.wire).account connection) (take taken bytes.now))) }
         ensures ok { OnOk result ((W.told self.new.wire).account connection
@@ -166,8 +173,10 @@ impl<W: Wire, L: AccessLog> Wire for LoggedWire<W, L> {
             ≡ (W.told self.old.wire).faults connection) }
         ensures failed { OnErr result (Rose ((W.told self.old.wire).faults connection)
             ((W.told self.new.wire).faults connection)) }
-        ensures others { OtherAccountsStay connection (W.told self.old.wire) (W.told self.new.wire) }
-        ensures others_fine { OtherFaultsStay connection (W.told self.old.wire) (W.told self.new.wire) }
+        ensures others { OtherAccountsStay connection (W.told self.old.wire)
+            (W.told self.new.wire) }
+        ensures others_fine { OtherFaultsStay connection (W.told self.old.wire)
+            (W.told self.new.wire) }
         ensures stays { EventsStay (W.told self.old.wire) (W.told self.new.wire) }
         ensures noted { (h : Happening) × (W.trace self.new.wire ≡ W.trace self.old.wire ++ h ∷ [])
             × Logs h self.old.log self.new.log }
@@ -186,7 +195,8 @@ impl<W: Wire, L: AccessLog> Wire for LoggedWire<W, L> {
         ensures traced { W.trace self.new.wire ≡ W.trace self.old.wire ++ Closed connection ∷ [] }
         ensures closed { (W.told self.new.wire).account connection
             ≡ close_to ((W.told self.old.wire).account connection) }
-        ensures others { OtherAccountsStay connection (W.told self.old.wire) (W.told self.new.wire) }
+        ensures others { OtherAccountsStay connection (W.told self.old.wire)
+            (W.told self.new.wire) }
         ensures faults_stay { (other : ℕ)
             → (W.told self.new.wire).faults other ≡ (W.told self.old.wire).faults other }
         ensures stays { EventsStay (W.told self.old.wire) (W.told self.new.wire) }

@@ -271,7 +271,7 @@ fn a_wire_without_a_log_has_none(rt: HostRuntime) -> Result<(), Fail> {
     Ok(())
 }
 
-// A client of the wire at this port that asks for a page, and what it has of the reply in the end.
+// Nothing waits for so long.
 const WAITS: Waits = Waits {
     idle: 60_000,
     stall: 60_000,

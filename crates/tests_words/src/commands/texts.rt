@@ -208,8 +208,8 @@ fn report_command_text(alloc: Global, command: &ReportCommand) -> Result<Vec<u8>
     }
 }
 
-/// The command as a text: its paths as they are in it, behind them its numbers, then its hosts, then its log, then whether its data are read
-/// leniently, and last the file of a first query.
+/// The command as a text: its paths as they are in it, behind them its numbers, then its hosts, then its log, then whether its data
+/// are read leniently, and last the file of a first query.
 pub fn command_text(alloc: Global, command: &Command) -> Result<Vec<u8>, NoMemory> {
     match command {
         Command::Text(c) => text_command_text(alloc, c),
