@@ -10,6 +10,8 @@ mod included;
 #[cfg(test)]
 mod lines;
 #[cfg(test)]
+mod long;
+#[cfg(test)]
 mod texts;
 #[cfg(test)]
 mod verdicts;
