@@ -1,5 +1,5 @@
 -- What a search takes from its budget.
-use Rattle.std.specs.Prelude.{◌≡◌, ℕ, ◌+◌, ◌<◌, Option, Some, None, Result, Ok, Err, ⊤}
+use Rattle.std.specs.Prelude.{◌≡◌, ℕ, ◌+◌, ◌<◌, Option, None, Result, Ok, Err, ⊤}
 use Rattle.certificate_search.specs.declared.budget.SearchStop.{SearchStop}
 use Rattle.certificate_search.specs.declared.budget.SearchStop.TheVariants.{TooLong, NoMemory}
 

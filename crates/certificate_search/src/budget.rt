@@ -7,7 +7,7 @@ ghost use Rattle.certificate_search.specs.Budget.{Spends, IsUnlessTooLong};
 use sd_value::NoMemory;
 use std::alloc::AllocFailed;
 
-const SEARCH_BUDGET: usize = 10_000;
+const SEARCH_BUDGET: usize = 100_000;
 
 /// Why a search stops before its end.
 #[derive(Clone, Copy)]

@@ -110,7 +110,7 @@ names_tried tests version S k s t =
 
 -- how much is tried at most for one mention
 abbrev pub search_budget : ℕ
-search_budget = 10000
+search_budget = 100000
 
 -- what was found, unless more was tried than the budget
 abbrev pub within_budget : {X : Type 0} → ℕ → Option X → Option X

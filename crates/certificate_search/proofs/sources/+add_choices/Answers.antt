@@ -1,8 +1,7 @@
-use Rattle.std.proofs.Common.{◌≡◌, ◌+◌, ◌-◌, [], ◌∷◌, ◌++◌, length, take, drop, ap, sym, ◌∙◌, arith}
+use Rattle.std.proofs.Common.{◌+◌, ◌-◌, [], ◌∷◌, ◌++◌, length, take, drop, ap, sym, ◌∙◌, arith}
 use Rattle.std.specs.Prelude.{map}
 use Rattle.std.specs.List.{flat_map}
 use Rattle.std.proofs.lemmas.Result.{err_from_is_err_and}
-use Rattle.query_spec.specs.Query.{SkolemTerm}
 use Rattle.struql_ast.specs.Reading.{operand_of, term_of}
 use Rattle.query_blocks.specs.Blocks.{scope_of}
 use Rattle.constraint_recheck.specs.Options.{fold_over, tried_over}
