@@ -19,7 +19,9 @@ use query_scoping::scopes;
 use run_report::Report;
 use sd_graph::Graph;
 use sd_value::{NoMemory, Str};
-use site_lint::{LintedSite, blocks_without_rows, findings_of, has_active_end, is_note, names_of};
+use site_lint::{
+    LintedSite, blocks_without_rows, findings_of, has_active_end, is_note, links_of, names_of,
+};
 use std::alloc::Global;
 use text_claims::{claims_of_templates, further_labels};
 
@@ -73,19 +75,22 @@ pub(crate) fn report_of(
 {
     let items = text.items.as_slice();
     let further = further_labels(alloc, items)?;
+    let labels = further.as_slice();
     let has_active_end = has_active_end(alloc, graph.edges())?;
     let scopes = scopes(alloc, &query.checked)?;
     let store = IndexStore::of(alloc, graph)?;
     let mut asker = StoreAsker::of(store);
     let without_rows = blocks_without_rows(alloc, &mut asker, &scopes)?;
-    let links = QueryLinks::of(alloc, &scopes)?;
+    let answers = QueryLinks::of(alloc, &scopes)?;
     let names = names_of(alloc, &scopes, &text.templates)?;
+    let links = links_of(alloc, &answers, &scopes, &names.created, labels)?;
     let site = LintedSite {
         store: asker.store(),
+        answers: &answers,
         links: &links,
         blocks: &scopes,
         templates: &text.templates,
-        further: &further,
+        further: labels,
         names: &names,
         without_rows: &without_rows,
         has_active_end,
