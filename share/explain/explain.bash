@@ -16,7 +16,14 @@ explain() {
   case $line in
     "strudel: bad command line") explain_words "$@" ;;
     "strudel: cannot read "*) explain_unread "${line#strudel: cannot read }" ;;
-    "strudel: cannot write" | "strudel: cannot write "*) explain_unwritten "$@" ;;
+    "strudel: cannot write "*)
+      if [ "${1-}" = serve ]; then
+        echo "The file of --log can't be opened: its folder has to be there, and you have to be allowed to write the file."
+      else
+        explain_unwritten "$@"
+      fi
+      ;;
+    "strudel: cannot write") explain_unwritten "$@" ;;
     *"strudel: connection source failed") explain_port "$@" ;;
     "strudel: not found")
       echo "No page of the site has this address. A page's address is /F.html for F(), and /F/tSome~20text.html or /F/nname.html"
