@@ -16,9 +16,9 @@ use Rattle.template_reader.specs.Reading.{read_collection_head, read_function_he
 use Rattle.template_reader.specs.Reading.{read_head_rest, read_template, read_file}
 use Rattle.template_tags.specs.Reading.{read_mark, read_dotted, read_word, read_joined_word, read_here}
 use Rattle.template_tags.specs.Reading.{read_here_of, read_collection, read_of_loop, read_loop, read_place}
-use Rattle.template_tags.specs.Reading.{read_expr, read_key, read_order, read_delimiter, read_label, read_link}
+use Rattle.template_tags.specs.Reading.{read_expr, read_key, read_order, read_limit, read_delimiter, read_found, read_label, read_link}
 use Rattle.template_tags.specs.Reading.{read_close, read_next, read_settings}
-use Rattle.template_tags.specs.Terminals.{writing_word, is_later_word, setting_word, compare_word, keyword_of}
+use Rattle.template_tags.specs.Terminals.{writing_word, is_later_word, mode_word, setting_word, compare_word, keyword_of}
 use Rattle.template_reader.specs.Entries.{file_from, AreRead}
 use Rattle.template_layouts.specs.Together.{together}
 use Rattle.template_reader.specs.Faults.{Whole, met, templates_of, written, IsWholeAnswer, IsTemplatesAnswer}
@@ -59,13 +59,13 @@ unfolding plain
 are_plain = refl
 
 unfoldable entries : List Entry
-unfolding plain entries_or repeat writing_word is_later_word setting_word compare_word keyword_of read_text read_format read_leaf
+unfolding plain entries_or repeat writing_word is_later_word mode_word setting_word compare_word keyword_of read_text read_format read_leaf
     read_compared read_not_compared read_comparing read_comparison read_no_other read_other_branch read_ending
     read_branches read_tested read_negated read_choice_rest read_repeated read_repeat_rest read_choice
     read_repeat read_block read_part read_body_of read_body read_collection_head read_function_head
     read_named_head read_head_rest read_template read_file read_mark read_dotted read_word read_joined_word
     read_here read_here_of read_collection read_of_loop read_loop read_place read_expr read_key read_order
-    read_delimiter read_label read_link read_close read_next read_settings
+    read_limit read_delimiter read_found read_label read_link read_close read_next read_settings
 entries = entries_or (read_file plain)
 
 are_read : read_file plain ≡ Read entries []
@@ -94,13 +94,13 @@ made_or None = []
 made_or (Some found) = found
 
 unfoldable made : List Entry
-unfolding lists and_read read_alone made_or repeat writing_word is_later_word setting_word compare_word keyword_of read_text read_format
+unfolding lists and_read read_alone made_or repeat writing_word is_later_word mode_word setting_word compare_word keyword_of read_text read_format
     read_leaf read_compared read_not_compared read_comparing read_comparison read_no_other read_other_branch
     read_ending read_branches read_tested read_negated read_choice_rest read_repeated read_repeat_rest read_choice
     read_repeat read_block read_part read_body_of read_body read_collection_head read_function_head
     read_named_head read_head_rest read_template read_mark read_dotted read_word read_joined_word
     read_here read_here_of read_collection read_of_loop read_loop read_place read_expr read_key read_order
-    read_delimiter read_label read_link read_close read_next read_settings
+    read_limit read_delimiter read_found read_label read_link read_close read_next read_settings
 made = made_or (read_alone lists)
 
 are_alone : read_alone lists ≡ Some made
