@@ -18,5 +18,5 @@ returns c =
     let l = c.args.label.now in
     let k = placed a.chain.now.conditions a.link.now in
     let d = may_decides (Contains c.requires.known) tests c.requires.tests version f l k in
-    let is : c.may_carry.result ≡ may_carry tests version f l k = c.may_carry.ensures ∙ ap (λ (m : Name). may_carry tests version f m k) c.in_ok-label.ensures in
+    let is : c.may_carry-may.result ≡ may_carry tests version f l k = c.may_carry-may.ensures ∙ ap (λ (m : Name). may_carry tests version f m k) c.in_ok-label.ensures in
     (λ t. d.0 (sym is ∙ t), λ h. is ∙ d.1 h)
