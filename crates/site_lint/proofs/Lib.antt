@@ -1,4 +1,3 @@
 mod NameLists
 mod Data
 mod Marks
-mod LinkLaws

@@ -10,8 +10,6 @@ mod encodings;
 #[cfg(test)]
 mod inputs;
 #[cfg(test)]
-mod links;
-#[cfg(test)]
 mod looked;
 #[cfg(test)]
 mod plans;
