@@ -1,0 +1,9 @@
+pub mod Steps
+pub mod Left
+pub mod Parts
+pub mod Cuts
+pub mod Splits
+pub mod Colons
+pub mod Blanks
+pub mod Whole
+pub mod Saying

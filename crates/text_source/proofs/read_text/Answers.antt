@@ -1,0 +1,19 @@
+use Rattle.std.proofs.Common.{◌∷◌, [], sym, arith, length}
+use Rattle.std.proofs.lemmas.Result.{err_from_is_err_and}
+use Rattle.text_source.specs.Text.{file_steps, unmarked_steps}
+use Rattle.text_source.proofs.Whole.{mark_length, no_text_ends, text_ends}
+use Rattle.text_source.proofs.read_text.Goals as goal
+
+pub check_text-requires : goal.check_text-requires
+check_text-requires c = rw c.without_mark-text.ensures (mark_length c.args.bytes.now)
+
+pub returns-in_err-check_text : goal.returns-in_err-check_text
+returns-in_err-check_text c =
+    let p = err_from_is_err_and c.from_residual.result c.from_residual.ensures.1 in
+    ?
+
+pub add_file-requires : goal.add_file-requires
+add_file-requires c = rw c.without_mark-text.ensures (mark_length c.args.bytes.now)
+
+pub returns : goal.returns
+returns c = ?
