@@ -106,9 +106,13 @@ part_of (min_of v) = plain (variable v)
 part_of (max_of v) = plain (variable v)
 part_of (sum_of v x) = made (record { function = []; args = variable x ∷ variable v ∷ [] })
 
+-- the link, ending at this target in place of its own
+abbrev pub ended : Link → Target → Link
+ended k t = record { source = k.source; label = k.label; target = t }
+
 -- the link that ends at what its aggregate looks at
 abbrev pub part_link : Aggregate → Link → Link
-part_link a k = record { source = k.source; label = k.label; target = part_of a }
+part_link a k = ended k (part_of a)
 
 -- the number, if the second of two values is one
 abbrev pub second_number : List Datum → List ℤ
@@ -139,13 +143,17 @@ IsTold (sum_of y x) parts v =
     (flat_map pair_number parts ≢ []) × IsWord (total (flat_map pair_number parts))
     × (v ≡ Data (Int (total (flat_map pair_number parts))))
 
--- some rows give u and the label, and this is told of what the aggregate looks at in all of these
+-- of nothing at all nothing is told
+pub record IsToldOf (a : Aggregate) (parts : List Value) (v : Value) : Type 0 where
+  pub some : parts ≢ []
+  pub told : IsTold a parts v
+
+-- v is told of what the aggregate looks at in all rows that give u and the label
 pub record IsSummed (G : DataGraph) (c : Chain) (u : Value) (label : Label) (v : Value) (k : Link)
     (a : Aggregate) : Type 0 where
   pub parts : List Value
   pub all : ListsExactly value_cmp (λ w. IsRowJoined G c u label w (part_link a k)) parts
-  pub some : parts ≢ []
-  pub told : IsTold a parts v
+  pub told : IsToldOf a parts v
 
 -- the target is an aggregate, and tells v of the rows that give u and the label
 abbrev pub IsSum : DataGraph → Chain → Value → Label → Value → Link → Target → Type 0
