@@ -80,14 +80,14 @@ module _ (s r : Site) (n : Value) where
         is,
       )
 
-  arranged_to : (x : Use) (o : Order) → ((w : Word) → Contains (key_words o.keys.items) w → Contains x.onward w)
+  arranged_to : (x : Use) (o : Order) → ((w : Word) → Contains (key_words o.keys) w → Contains x.onward w)
       → UsesAlike s r n x → (e : Env) → e.here ≡ n → (vs : List Value) → Arranged s e x.expr o vs → Arranged r e x.expr
       o vs
   arranged_to x o inside a e at vs (rows, listing, is) = (
     rows,
     listed_as listing
-        (λ k h. (a.to.range e at k.value h.0, places_to x o.keys.items inside a k.value k.places h.1))
-        (λ k h. (a.from.range e at k.value h.0, places_from x o.keys.items inside a k.value k.places h.1)),
+        (λ k h. (a.to.range e at k.value h.0, places_to x o.keys inside a k.value k.places h.1))
+        (λ k h. (a.from.range e at k.value h.0, places_from x o.keys inside a k.value k.places h.1)),
     is,
   )
 
@@ -136,14 +136,14 @@ pub expands_to : (s r : Site) (n : Value) (f : TemplateFile) (t : Body)
 expands_to s r n f done alike e at ps h = h
 expands_to s r n f (text t rest) alike e at ps (b, h, is) = (b, expands_to s r n f rest alike e at b h, is)
 expands_to s r n f (format x m o rest) alike e at ps (vs, a, b, arranged, joined, h, is) =
-    let u : Use = record { expr = x; onward = key_words o.keys.items ++ link_words m; embeds = is_embed m } in
+    let u : Use = record { expr = x; onward = key_words o.keys ++ link_words m; embeds = is_embed m } in
     let here = alike u (Contains-here u (uses rest)) in (
       vs,
       a,
       b,
-      arranged_to s r n u o (λ w c. Contains-append_left (key_words o.keys.items) (link_words m) w c) here e at vs arranged,
+      arranged_to s r n u o (λ w c. Contains-append_left (key_words o.keys) (link_words m) w c) here e at vs arranged,
       joined_to (Formatted s f m) (Formatted r f m) (delimiter o.delimiter)
-          (formatted_to s r n f m u (λ w c. Contains-append_right (key_words o.keys.items) (link_words m) w c) here.plain here)
+          (formatted_to s r n f m u (λ w c. Contains-append_right (key_words o.keys) (link_words m) w c) here.plain here)
           vs a joined,
       expands_to s r n f rest (λ y c. alike y (Contains-there u (uses rest) y c)) e at b h,
       is,
@@ -189,7 +189,7 @@ expands_to s r n f (choice negated x test taken other rest) alike e at ps (a, b,
       is,
     )
 expands_to s r n f (repeat k x o body rest) alike e at ps (vs, a, b, arranged, joined, h, is) =
-    let u : Use = record { expr = x; onward = key_words o.keys.items; embeds = false } in
+    let u : Use = record { expr = x; onward = key_words o.keys; embeds = false } in
     let more : List Use = uses body ++ uses rest in
     let here = alike u (Contains-here u more) in (
       vs,
@@ -241,7 +241,7 @@ expands_bytes s f done bare e ps h = ([], h)
 expands_bytes s f (text t rest) bare e ps (b, h, is) = subst AreBytes (sym is)
     (joined_bytes (bytes t) b (t, refl) (expands_bytes s f rest bare e b h))
 expands_bytes s f (format x m o rest) bare e ps (vs, a, b, arranged, joined, h, is) =
-    let u : Use = record { expr = x; onward = key_words o.keys.items ++ link_words m; embeds = is_embed m } in
+    let u : Use = record { expr = x; onward = key_words o.keys ++ link_words m; embeds = is_embed m } in
     subst AreBytes (sym is)
     (joined_bytes a b
     (all_joined_bytes (Formatted s f m) (delimiter o.delimiter) (delimiter_bytes o.delimiter)
@@ -272,7 +272,7 @@ expands_bytes s f (choice negated x test taken other rest) bare e ps (a, b, bran
     (λ y c. later y (Contains-append_right (uses taken ++ uses other) (uses rest) y c)) e b
     h))
 expands_bytes s f (repeat k x o body rest) bare e ps (vs, a, b, arranged, joined, h, is) =
-    let u : Use = record { expr = x; onward = key_words o.keys.items; embeds = false } in
+    let u : Use = record { expr = x; onward = key_words o.keys; embeds = false } in
     let more : List Use = uses body ++ uses rest in
     subst AreBytes (sym is)
     (joined_bytes a b

@@ -27,7 +27,7 @@ part_first (Choice' negated x test m taken n other) rest =
     let inner : List Use = uses (row_body taken) ++ uses (row_body other) in
     ap (λ (l : List Use). own ++ (l ++ uses rest)) (sym (append-nil inner)) ∙ sym (append_assoc own (inner ++ []) (uses rest))
 part_first (Repeat' number x o n body) rest =
-    let u : Use = record { expr = x; onward = key_words o.keys.items; embeds = false } in
+    let u : Use = record { expr = x; onward = key_words o.keys; embeds = false } in
     ap (λ (l : List Use). u ∷ (l ++ uses rest)) (sym (append-nil (uses (row_body body))))
 
 body_push : (ps : List Part) (p : Part) → uses (body_of (ps ++ p ∷ [])) ≡ uses (body_of ps) ++ part_uses p
@@ -59,7 +59,7 @@ choice_uses : (x : choices.Choice) → part_uses (variants.Choice x)
 choice_uses x = ap uses (choice_body x done)
 
 repeat_uses : (x : repeats.Repeat) → part_uses (variants.Repeat x) ≡ record
-    { expr = x.values; onward = key_words x.order.keys.items; embeds = false } ∷ (uses (body_of x.body.items) ++ [])
+    { expr = x.values; onward = key_words x.order.keys; embeds = false } ∷ (uses (body_of x.body.items) ++ [])
 repeat_uses x = ap uses (repeat_body x done)
 
 pub ok_then : {X E : Type 0} (r : Result X E) (P Q : X → Type 0) → IfOk r P → ((x : X) → P x → Q x) → IfOk r Q
@@ -79,11 +79,11 @@ choice_adds x a b c d h k m =
     subst (AddsUses a d) (ap (λ (l : List Use). own ++ l) (sym (append-nil inner)) ∙ sym (choice_uses x)) whole
 
 pub repeat_adds : (x : repeats.Repeat) (a b c : List ExprUse) → AddsUses a b
-    (record { expr = x.values; onward = key_words x.order.keys.items; embeds = false } ∷ [])
+    (record { expr = x.values; onward = key_words x.order.keys; embeds = false } ∷ [])
     → AddsUses b c (uses (body_of x.body.items))
     → AddsUses a c (part_uses (variants.Repeat x))
 repeat_adds x a b c h k =
-    let u : Use = record { expr = x.values; onward = key_words x.order.keys.items; embeds = false } in
+    let u : Use = record { expr = x.values; onward = key_words x.order.keys; embeds = false } in
     let whole : AddsUses a c (u ∷ uses (body_of x.body.items)) = adds_then a b c (u ∷ []) (uses (body_of x.body.items))
     h k in
     subst (AddsUses a c) (ap (λ (l : List Use). u ∷ l) (sym (append-nil (uses (body_of x.body.items))))

@@ -59,13 +59,13 @@ abbrev pub uses : Body → List Use
 uses done = []
 uses (text t rest) = uses rest
 uses (format x m o rest) =
-    record { expr = x; onward = key_words o.keys.items ++ link_words m; embeds = is_embed m }
+    record { expr = x; onward = key_words o.keys ++ link_words m; embeds = is_embed m }
     ∷ uses rest
 uses (count x rest) = bare_use x ∷ uses rest
 uses (choice negated x test taken other rest) =
     test_uses x test ++ (uses taken ++ uses other ++ uses rest)
 uses (repeat k x o body rest) =
-    record { expr = x; onward = key_words o.keys.items; embeds = false }
+    record { expr = x; onward = key_words o.keys; embeds = false }
     ∷ (uses body ++ uses rest)
 
 -- a loop of a template, and the expression of whose values it goes

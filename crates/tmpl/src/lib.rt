@@ -5,7 +5,8 @@ ghost use Rattle.std.specs.Prelude.{All, ◌≡◌, ◌<◌, length};
 
 mod uses;
 
-use sd_value::{Str, Value};
+use sd_value::{NoMemory, Str, Value};
+use std::alloc::Global;
 use std::marker::Model;
 pub use uses::{ExprUse, uses_of};
 
@@ -58,12 +59,57 @@ pub struct SortKey {
     pub descend: bool,
 }
 
+/// The KEYs of a tag, in order.
+#[derive(Drop)]
+pub struct SortKeys {
+    list: Vec<SortKey>,
+}
+
+impl Model for SortKeys {
+    ghost use Rattle.std.specs.Prelude.{List};
+    ghost use Rattle.tmpl.specs.declared.SortKey.{SortKey};
+
+    ghost Value = { List SortKey };
+
+    ghost view = { λ k. k.list.items };
+}
+
+impl SortKeys {
+    ghost use Rattle.std.specs.Prelude.{◌≡◌, ◌++◌, ◌∷◌, [], OnOk};
+
+    /// No key. It takes no memory.
+    pub fn none(alloc: Global) -> SortKeys
+        ensures { result ≡ [] }
+    {
+        SortKeys {
+            list: Vec::new(alloc),
+        }
+    }
+
+    /// Puts a key after the others.
+    /// # Errors
+    /// Out of memory.
+    pub fn push(&mut self, key: SortKey) -> Result<(), NoMemory>
+        ensures { OnOk result (self.new ≡ self.old ++ key ∷ []) }
+    {
+        self.list.push(key)?;
+        Ok(())
+    }
+
+    /// The keys in their order.
+    pub fn list(&self) -> &[SortKey]
+        ensures { result.now ≡ self.now }
+    {
+        self.list.as_slice()
+    }
+}
+
 /// How the values of an expression are put in order, by their keys and at last by value, whether
 /// the whole order is turned round, how many of them are taken, all without a limit, and which text
 /// is between two of them.
 #[derive(Drop)]
 pub struct Order {
-    pub keys: Vec<SortKey>,
+    pub keys: SortKeys,
     pub descend: bool,
     pub limit: Option<usize>,
     pub delimiter: Option<Str>,

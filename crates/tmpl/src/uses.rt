@@ -40,13 +40,13 @@ fn push_format<'a>(found: &mut Vec<ExprUse<'a>>, format: &'a Format) -> Result<(
     ensures { IfOk result (λ _. AddsUses found.old.items found.new.items
         (record {
           expr = format.now.values;
-          onward = key_words format.now.order.keys.items ++ link_words format.now.mode;
+          onward = key_words format.now.order.keys ++ link_words format.now.mode;
           embeds = is_embed format.now.mode;
         } ∷ [])) }
 {
     found.push(ExprUse {
         values: &format.values,
-        keys: format.order.keys.as_slice(),
+        keys: format.order.keys.list(),
         label: label_of(&format.mode),
         embeds: is_embed(&format.mode),
     })?;
@@ -116,7 +116,7 @@ fn push_part<'a>(found: &mut Vec<ExprUse<'a>>, part: &'a Part) -> Result<(), NoM
             push_uses(found, choice.other.as_slice())
         }
         Part::Repeat(repeat) => {
-            push_values(found, &repeat.values, repeat.order.keys.as_slice())?;
+            push_values(found, &repeat.values, repeat.order.keys.list())?;
             push_uses(found, repeat.body.as_slice())
         }
     }

@@ -35,5 +35,5 @@ push_part-returns-in_ok-push_values-in-Repeat t c =
     ok_then c.push_uses-in-Repeat.result _ _ c.push_uses-in-Repeat.ensures
     (λ u h. subst (λ (p : Part). AddsUses a d (part_uses p)) (sym c.in-Repeat.is)
     (repeat_adds x a b d (subst (λ (k : List SortKey). AddsUses a b (record { expr = x.values; onward = key_words k; embeds = false } ∷ []))
-    c.as_slice-in-Repeat.ensures.value c.in_ok-push_values-in-Repeat.ensures)
-    (subst (λ (l : List Part). AddsUses b d (uses (body_of l))) c.as_slice-in-Repeat-2.ensures.value h)))
+    c.list.ensures c.in_ok-push_values-in-Repeat.ensures)
+    (subst (λ (l : List Part). AddsUses b d (uses (body_of l))) c.as_slice-in-Repeat.ensures.value h)))
