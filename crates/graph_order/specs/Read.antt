@@ -1,16 +1,9 @@
--- How an ORDER of the program reads, and how its texts are folded.
-use Rattle.std.specs.Prelude.{map, if◌then◌else◌}
-use Rattle.std.specs.Str.{is_utf8}
-use Rattle.sd_value.specs.Names.{Name}
-use Rattle.function_spec.specs.Folding.{fold}
+-- How an ORDER of the program reads.
+use Rattle.std.specs.Prelude.{map}
 use Rattle.order_spec.specs.Order.{Place, position, next, previous, page, Order}
 use Rattle.graph_order.specs.declared.Order.{Order as CodeOrder}
 use Rattle.graph_order.specs.declared.Place.{Place as CodePlace}
 use Rattle.graph_order.specs.declared.Place.TheVariants.{Position, Next, Previous, Page}
-
--- a text that is UTF-8 is folded, and other bytes stand as they are
-abbrev pub folded_text : Name → Name
-folded_text t = if is_utf8 t then fold t else t
 
 -- an edge that each member is given
 abbrev pub place_of : CodePlace → Place
