@@ -9,14 +9,15 @@ use Rattle.csv_source.specs.Once as csv_law
 use Rattle.json_source.specs.Once as json_law
 use Rattle.bibtex_source.specs.Once as bib_law
 use Rattle.sqlite_source.specs.Once as db_law
+use Rattle.text_source.specs.Once as text_law
 use Rattle.ddl_laws.specs.OneAnswer.{IsSettled}
 use Rattle.ddl_laws.proofs.DataText as ddl_law
 use Rattle.data_source.specs.declared.rules.SourceRules.{SourceRules}
 use Rattle.data_source.specs.declared.format.Format.{Format}
-use Rattle.data_source.specs.declared.format.Format.TheVariants.{DataText, Csv, Json, BibTex, Database}
+use Rattle.data_source.specs.declared.format.Format.TheVariants.{DataText, Csv, Json, BibTex, Database, Text}
 use Rattle.data_source.specs.declared.refusal.SourceRefusal.{SourceRefusal}
 use Rattle.data_source.specs.declared.refusal.SourceRefusal.TheVariants.{NoMemory}
-use Rattle.data_source.specs.Told.{ddl_told, csv_told, json_told, bib_told, db_told, answer_told}
+use Rattle.data_source.specs.Told.{ddl_told, csv_told, json_told, bib_told, db_told, text_file_told, answer_told}
 use Rattle.data_source.specs.Formats.{format_of}
 use Rattle.data_source.specs.Takes.{TakesAs}
 use Rattle.data_source.specs.OneAnswer.{HasOneAnswer}
@@ -44,6 +45,9 @@ as_one rules (BibTex stem) limit bytes b c d r s (p, reads, is) (q, reads2, is2)
 as_one rules (Database stem) limit bytes b c d r s (p, reads, is) (q, reads2, is2) left right =
     let both = db_law.has_one_answer stem bytes b c d p q reads reads2 (λ e. left (is ∙ ap (answer_told db_told) e)) (λ e. right (is2 ∙ ap (answer_told db_told) e)) in
     (both.0, is ∙ ap (answer_told db_told) both.1 ∙ sym is2)
+as_one rules (Text stem folder) limit bytes b c d r s (p, reads, is) (q, reads2, is2) left right =
+    let both = text_law.has_one_answer stem folder bytes b c d p q reads reads2 (λ e. left (is ∙ ap (answer_told text_file_told) e)) (λ e. right (is2 ∙ ap (answer_told text_file_told) e)) in
+    (both.0, is ∙ ap (answer_told text_file_told) both.1 ∙ sym is2)
 
 pub one_answer : (rules : SourceRules) (path : List ℕ) (limit : ℕ) (bytes : List ℕ) (b : Building) → HasOneAnswer rules path limit bytes b
 one_answer rules path limit bytes b = as_one rules (format_of rules path) limit bytes b

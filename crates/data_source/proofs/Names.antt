@@ -1,6 +1,6 @@
 -- Answers of the readers, and the format of a path.
-use Rattle.std.specs.Prelude.{◌≡◌, ◌||◌, ℕ, Bool, true, false, List, [], ◌∷◌, Err, if◌then◌else◌}
-use Rattle.std.proofs.Common.{refl, inl, inr}
+use Rattle.std.specs.Prelude.{◌≡◌, ◌≤◌, ◌||◌, ℕ, Bool, true, false, List, [], ◌∷◌, length, Err, if◌then◌else◌}
+use Rattle.std.proofs.Common.{refl, inl, inr, arith}
 use Rattle.std.specs.List.{list_any}
 use Rattle.sd_graph.specs.Statement.{Building}
 use Rattle.token_reader.specs.declared.refusal.TextRefusal.TheVariants as text
@@ -14,9 +14,11 @@ use Rattle.bibtex_source.specs.Text as bib_text
 use Rattle.sqlite_source.specs.declared.refusal.DbRefusal.TheVariants as db
 use Rattle.sqlite_source.specs.File.{is_headed}
 use Rattle.sqlite_source.specs.Reads as db_file
+use Rattle.text_source.specs.declared.refusal.TextFileRefusal.TheVariants as text_file
+use Rattle.text_source.specs.Text as text_steps
 use Rattle.data_source.specs.declared.rules.SourceRules.{SourceRules}
 use Rattle.data_source.specs.declared.format.Format.{Format}
-use Rattle.data_source.specs.declared.format.Format.TheVariants.{DataText, Csv, Json, BibTex, Database}
+use Rattle.data_source.specs.declared.format.Format.TheVariants.{DataText, Csv, Json, BibTex, Database, Text}
 use Rattle.data_source.specs.declared.refusal.SourceRefusal.TheVariants.{NoMemory}
 use Rattle.data_source.specs.Formats.{is_slash, behind_slashes}
 use Rattle.data_source.specs.Takes.{TakesAs}
@@ -27,6 +29,7 @@ no_memory_first rules DataText limit bytes b = (Err (ddl.Text text.NoMemory), in
 no_memory_first rules (Csv stem) limit bytes b = (Err csv.NoMemory, ([], csv_text.text_steps rules.csv stem bytes, refl, refl), refl)
 no_memory_first rules (Json stem) limit bytes b = (Err json.NoMemory, ([], json_text.text_steps rules.json stem bytes, refl, refl), refl)
 no_memory_first rules (BibTex stem) limit bytes b = (Err bib.NoMemory, ([], bib_text.text_steps stem bytes, refl, refl), refl)
+no_memory_first rules (Text stem folder) limit bytes b = (Err text_file.NoMemory, ([], text_steps.file_steps stem folder bytes, refl, refl), refl)
 no_memory_first rules (Database stem) limit bytes b = (Err db.NoMemory, by (is_headed bytes) refl, refl)
   where
     by : (headed : Bool) → is_headed bytes ≡ headed → db_file.Reads stem bytes b b (Err db.NoMemory)
@@ -52,3 +55,13 @@ name_start path = by (list_any is_slash path) refl
     by : (p : Bool) → list_any is_slash path ≡ p → name_so_far path path ≡ behind_slashes path
     by true is = rw is refl
     by false is = rw (is, behind_none path is) refl
+
+-- a name is no longer than its path
+pub name_length : (path : List ℕ) → length (behind_slashes path) ≤ length path
+name_length [] = omega arith
+name_length (b ∷ bs) = by (list_any is_slash bs) (is_slash b)
+  where
+    by : (p q : Bool) → length (if p then behind_slashes bs else if q then bs else b ∷ bs) ≤ length (b ∷ bs)
+    by true q = omega (arith, name_length bs)
+    by false true = omega arith
+    by false false = omega arith

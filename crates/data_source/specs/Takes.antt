@@ -6,12 +6,13 @@ use Rattle.csv_source.specs.Reads as csv
 use Rattle.json_source.specs.Reads as json
 use Rattle.bibtex_source.specs.Reads as bib
 use Rattle.sqlite_source.specs.Reads as db
+use Rattle.text_source.specs.Reads as text
 use Rattle.data_source.specs.declared.rules.SourceRules.{SourceRules}
 use Rattle.data_source.specs.declared.format.Format.{Format}
-use Rattle.data_source.specs.declared.format.Format.TheVariants.{DataText, Csv, Json, BibTex, Database}
+use Rattle.data_source.specs.declared.format.Format.TheVariants.{DataText, Csv, Json, BibTex, Database, Text}
 use Rattle.data_source.specs.declared.refusal.SourceRefusal.{SourceRefusal}
 use Rattle.data_source.specs.Formats.{format_of}
-use Rattle.data_source.specs.Told.{ddl_told, csv_told, json_told, bib_told, db_told, answer_told}
+use Rattle.data_source.specs.Told.{ddl_told, csv_told, json_told, bib_told, db_told, text_file_told, answer_told}
 
 -- the answer reports one of these answers of a reader
 abbrev pub Tells : {E : Type 0} → (Result ⊤ E → Type 0) → (E → SourceRefusal)
@@ -32,6 +33,8 @@ TakesAs rules (BibTex stem) limit bytes b c result =
     Tells (bib.Reads stem bytes b c) bib_told result
 TakesAs rules (Database stem) limit bytes b c result =
     Tells (db.Reads stem bytes b c) db_told result
+TakesAs rules (Text stem folder) limit bytes b c result =
+    Tells (text.Reads stem folder bytes b c) text_file_told result
 
 -- the bytes of the file of this path are read by its format
 abbrev pub Takes : SourceRules → List ℕ → ℕ → List ℕ → Building → Building

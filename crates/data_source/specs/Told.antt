@@ -11,6 +11,8 @@ use Rattle.bibtex_source.specs.declared.refusal.BibRefusal.{BibRefusal}
 use Rattle.bibtex_source.specs.declared.refusal.BibRefusal.TheVariants as bib
 use Rattle.sqlite_source.specs.declared.refusal.DbRefusal.{DbRefusal}
 use Rattle.sqlite_source.specs.declared.refusal.DbRefusal.TheVariants as db
+use Rattle.text_source.specs.declared.refusal.TextFileRefusal.{TextFileRefusal}
+use Rattle.text_source.specs.declared.refusal.TextFileRefusal.TheVariants as text
 use Rattle.data_source.specs.Numbered.{text_told}
 use Rattle.data_source.specs.declared.numbered.NumberedFault.{NumberedFault}
 use Rattle.data_source.specs.declared.refusal.SourceRefusal.{SourceRefusal}
@@ -61,6 +63,13 @@ db_told (db.NotUtf8 path) = Refused 41 (Path path)
 db_told (db.TooManyEdges path) = Refused 11 (Path path)
 db_told (db.TooManyNodes path) = Refused 12 (Path path)
 db_told db.NoMemory = NoMemory
+
+abbrev pub text_file_told : TextFileRefusal → SourceRefusal
+text_file_told (text.NotUtf8 at) = Refused 41 (At at)
+text_file_told (text.Expected at) = Refused 161 (At at)
+text_file_told (text.TooManyEdges at) = Refused 11 (At at)
+text_file_told (text.TooManyNodes at) = Refused 12 (At at)
+text_file_told text.NoMemory = NoMemory
 
 -- a reader's answer, with its refusal reported
 abbrev pub answer_told : {E : Type 0} → (E → SourceRefusal) → Result ⊤ E → Result ⊤ SourceRefusal

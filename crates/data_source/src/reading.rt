@@ -11,10 +11,11 @@ use sd_ddl::read_ddl;
 use sd_graph::GraphBuilder;
 use sd_value::Str;
 use sqlite_source::read_sqlite;
+use text_source::read_text;
 use std::alloc::Global;
 
 /// Adds what the file of this path and of these bytes states, read by its format and the rules:
-/// CSV, JSON, BibTeX and a database of SQLite by the end of the path, and else the data text, of at most `limit` bytes.
+/// CSV, JSON, BibTeX, a database of SQLite and a text by the end of the path, and else the data text, of at most `limit` bytes.
 /// What the graph holds after a refusal is as the reader says.
 pub fn read_source(
     alloc: Global,
@@ -31,6 +32,7 @@ pub fn read_source(
         Format::Csv(stem) => read_csv(alloc, rules.csv, &stem, bytes, graph)?,
         Format::Json(stem) => read_json(alloc, rules.json, &stem, bytes, graph)?,
         Format::BibTex(stem) => read_bibtex(alloc, &stem, bytes, graph)?,
+        Format::Text(stem, folder) => read_text(alloc, &stem, &folder, bytes, graph)?,
         Format::Database(stem) => {
             read_sqlite(alloc, &stem, bytes, graph)?;
             return Ok(());

@@ -1,6 +1,6 @@
 // The numbers and places of refusals.
 ghost use Rattle.std.specs.Prelude.{◌≡◌};
-ghost use Rattle.data_source.specs.Told.{ddl_told, csv_told, json_told, bib_told, db_told};
+ghost use Rattle.data_source.specs.Told.{ddl_told, csv_told, json_told, bib_told, db_told, text_file_told};
 ghost use Rattle.data_source.specs.declared.refusal.SourceRefusal.TheVariants.{NoMemory as OutOfMemory};
 
 use crate::numbered::told_of_text;
@@ -11,6 +11,7 @@ use run_report::Place;
 use sd_ddl::DdlRefusal;
 use sd_value::NoMemory;
 use sqlite_source::DbRefusal;
+use text_source::TextFileRefusal;
 use token_reader::TextRefusal;
 
 /// Why a data file is refused: the number of the refusal and its place.
@@ -116,6 +117,20 @@ impl From<DbRefusal> for SourceRefusal {
             DbRefusal::TooManyEdges(path) => refused(11, Place::Path(path)),
             DbRefusal::TooManyNodes(path) => refused(12, Place::Path(path)),
             DbRefusal::NoMemory => SourceRefusal::NoMemory,
+        }
+    }
+}
+
+impl From<TextFileRefusal> for SourceRefusal {
+    ghost from_gives = { λ e told. told ≡ text_file_told e };
+
+    fn from(refusal: TextFileRefusal) -> SourceRefusal {
+        match refusal {
+            TextFileRefusal::NotUtf8(at) => refused(41, Place::At(at)),
+            TextFileRefusal::Expected(at) => refused(161, Place::At(at)),
+            TextFileRefusal::TooManyEdges(at) => refused(11, Place::At(at)),
+            TextFileRefusal::TooManyNodes(at) => refused(12, Place::At(at)),
+            TextFileRefusal::NoMemory => SourceRefusal::NoMemory,
         }
     }
 }

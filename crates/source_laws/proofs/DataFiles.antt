@@ -14,19 +14,22 @@ use Rattle.bibtex_source.specs.declared.refusal.BibRefusal.{BibRefusal}
 use Rattle.bibtex_source.specs.declared.refusal.BibRefusal.TheVariants as bib
 use Rattle.sqlite_source.specs.declared.refusal.DbRefusal.{DbRefusal}
 use Rattle.sqlite_source.specs.declared.refusal.DbRefusal.TheVariants as db
+use Rattle.text_source.specs.declared.refusal.TextFileRefusal.{TextFileRefusal}
+use Rattle.text_source.specs.declared.refusal.TextFileRefusal.TheVariants as text_file
 use Rattle.data_source.specs.declared.rules.SourceRules.{SourceRules}
 use Rattle.data_source.specs.declared.format.Format.{Format}
-use Rattle.data_source.specs.declared.format.Format.TheVariants.{DataText, Csv, Json, BibTex, Database}
+use Rattle.data_source.specs.declared.format.Format.TheVariants.{DataText, Csv, Json, BibTex, Database, Text}
 use Rattle.data_source.specs.declared.refusal.SourceRefusal.{SourceRefusal}
 use Rattle.data_source.specs.declared.refusal.SourceRefusal.TheVariants.{NoMemory}
 use Rattle.data_source.specs.Formats.{format_of}
-use Rattle.data_source.specs.Told.{ddl_told, csv_told, json_told, bib_told, db_told, answer_told}
+use Rattle.data_source.specs.Told.{ddl_told, csv_told, json_told, bib_told, db_told, text_file_told, answer_told}
 use Rattle.data_source.specs.Takes.{TakesAs, Takes}
 use Rattle.source_laws.proofs.DataTexts.{data_answer}
 use Rattle.source_laws.proofs.Csv.{csv_answer}
 use Rattle.source_laws.proofs.Json.{json_answer}
 use Rattle.source_laws.proofs.Bibtex.{bibtex_answer}
 use Rattle.source_laws.proofs.Databases.{none_is_absurd}
+use Rattle.source_laws.proofs.Texts.{text_answer}
 
 -- ---- an answer that a reader reports is out of memory only where the reader's is
 
@@ -84,6 +87,14 @@ db_tells (Err (db.TooManyEdges path)) settled = λ e. cc
 db_tells (Err (db.TooManyNodes path)) settled = λ e. cc
 db_tells (Err db.NoMemory) settled = absurd (settled refl)
 
+text_tells : (r : Result ⊤ TextFileRefusal) → (r ≡ Err text_file.NoMemory → ⊥) → IsTold (answer_told text_file_told r)
+text_tells (Ok u) settled = λ e. cc
+text_tells (Err (text_file.NotUtf8 at)) settled = λ e. cc
+text_tells (Err (text_file.Expected at)) settled = λ e. cc
+text_tells (Err (text_file.TooManyEdges at)) settled = λ e. cc
+text_tells (Err (text_file.TooManyNodes at)) settled = λ e. cc
+text_tells (Err text_file.NoMemory) settled = absurd (settled refl)
+
 -- ---- the file
 
 module _ (rules : SourceRules) (limit : ℕ) (bytes : List ℕ) (b : Building) where
@@ -103,6 +114,9 @@ module _ (rules : SourceRules) (limit : ℕ) (bytes : List ℕ) (b : Building) w
   as_format (BibTex stem) other =
       let h = bibtex_answer stem bytes b in
       (h.0, answer_told bib_told h.1, bib_tells h.1 h.2, (h.1, h.3, refl))
+  as_format (Text stem folder) other =
+      let h = text_answer stem folder bytes b in
+      (h.0, answer_told text_file_told h.1, text_tells h.1 h.2, (h.1, h.3, refl))
   as_format (Database stem) other = absurd (other stem refl)
 
   -- the format has no answer
@@ -117,6 +131,7 @@ module _ (rules : SourceRules) (limit : ℕ) (bytes : List ℕ) (b : Building) w
   none_as (Csv name) none = against (Csv name) none (as_format (Csv name) (λ stem is. cc))
   none_as (Json name) none = against (Json name) none (as_format (Json name) (λ stem is. cc))
   none_as (BibTex name) none = against (BibTex name) none (as_format (BibTex name) (λ stem is. cc))
+  none_as (Text name folder) none = against (Text name folder) none (as_format (Text name folder) (λ stem is. cc))
   none_as (Database name) none =
       none_is_absurd name bytes b (λ c r told reads. none c (answer_told db_told r) (db_tells r told) (r, reads, refl))
 

@@ -1,7 +1,7 @@
 //! Each data file has an answer: the graph that it states, or its first fault.
 #![tactic(auto)]
 
-ghost use Rattle.std.specs.Prelude.{◌≡◌, ℕ, List, Result, Err, ⊤};
+ghost use Rattle.std.specs.Prelude.{◌≡◌, ℕ, List, Option, Result, Err, ⊤};
 ghost use Rattle.sd_graph.specs.Statement.{Building};
 ghost use Rattle.sd_ddl.specs.declared.refusal.DdlRefusal.{DdlRefusal};
 ghost use Rattle.sd_ddl.specs.Reads as ddl;
@@ -17,6 +17,9 @@ ghost use Rattle.json_source.specs.Reads as json;
 ghost use Rattle.bibtex_source.specs.declared.refusal.BibRefusal.{BibRefusal};
 ghost use Rattle.bibtex_source.specs.declared.refusal.BibRefusal.TheVariants as bib_refusal;
 ghost use Rattle.bibtex_source.specs.Reads as bibtex;
+ghost use Rattle.text_source.specs.declared.refusal.TextFileRefusal.{TextFileRefusal};
+ghost use Rattle.text_source.specs.declared.refusal.TextFileRefusal.TheVariants as text_refusal;
+ghost use Rattle.text_source.specs.Reads as text_file;
 ghost use Rattle.data_source.specs.declared.rules.SourceRules.{SourceRules};
 ghost use Rattle.data_source.specs.declared.refusal.SourceRefusal.{SourceRefusal};
 ghost use Rattle.data_source.specs.declared.refusal.SourceRefusal.TheVariants as source_refusal;
@@ -52,6 +55,13 @@ pub fn each_json_text_has_an_answer()
     ensures { (rules : JsonRules) (stem bytes : List ℕ) (b : Building) → (c : Building)
         × (r : Result ⊤ JsonRefusal) × (r ≡ Err json_refusal.NoMemory → ⊥)
         × json.Reads rules stem bytes b c r }
+{}
+
+/// So has each text file.
+pub fn each_text_file_has_an_answer()
+    ensures { (stem : List ℕ) (folder : Option (List ℕ)) (bytes : List ℕ) (b : Building) → (c : Building)
+        × (r : Result ⊤ TextFileRefusal) × (r ≡ Err text_refusal.NoMemory → ⊥)
+        × text_file.Reads stem folder bytes b c r }
 {}
 
 /// So has each BibTeX text.

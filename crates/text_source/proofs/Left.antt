@@ -1,5 +1,8 @@
 -- What is left of a text between two turns of a loop over its lines.
-use Rattle.std.specs.Prelude.{◌≡◌, ◌+◌, ℕ, List, ◌++◌, length, Option, Some, None, Result}
+use Rattle.std.specs.Prelude.{◌≡◌, ◌+◌, ◌<◌, ◌≤◌, ℕ, List, ◌++◌, length, Option, Some, None, IfSome, Result}
+use Rattle.std.specs.Borrow.{Bor}
+use Rattle.std.proofs.Common.{arith}
+use Rattle.text_source.specs.Scans.{now_of}
 use Rattle.text_source.specs.declared.facts.Fact.{Fact}
 use Rattle.text_source.specs.Front.{before}
 
@@ -16,3 +19,8 @@ pub record After (old now : List Fact) (all rest : Result (List Fact) ℕ) : Typ
   pub more : List Fact
   pub now_is : now ≡ old ++ more
   pub all_is : all ≡ before more rest
+
+-- what is left of a text isn't longer
+pub left_within : (left : Option (Bor (List ℕ))) (n size : ℕ) → IfSome left (λ rest. length rest.now < n) → n ≤ size → left_bytes (now_of left) ≤ size
+left_within None n size h k = omega arith
+left_within (Some rest) n size h k = omega (arith, h, k)

@@ -1,7 +1,8 @@
 -- What the lines of front matter say, line after line.
 use Rattle.std.specs.Prelude.{◌≡◌, ◌-◌, ◌≤◌, ◌<◌, ◌+◌, ℕ, true, false, List, [], ◌∷◌, ◌++◌, length, codes, Option, Some, None, Result, Ok, Err}
 use Rattle.std.specs.Str.{bytes_eq}
-use Rattle.std.proofs.Common.{refl, sym, ◌∙◌, ap, append_assoc, append_nil, arith}
+use Rattle.std.proofs.Common.{refl, sym, ◌∙◌, ap, append_assoc, arith}
+use Rattle.std.proofs.lemmas.List.{append-nil}
 use Rattle.graph_spec.specs.DataGraph.{Name}
 use Rattle.text_source.specs.declared.facts.Fact.{Fact}
 use Rattle.text_source.specs.declared.refusal.TextFileRefusal.{TextFileRefusal}
@@ -39,7 +40,7 @@ after_line size old now new all above below text first next more h cut line_is s
 }
 
 all_said : (old now : List Fact) (all rest : Result (List Fact) ℕ) → After old now all rest → rest ≡ Ok [] → SaysAll all old now (Ok tt)
-all_said old now all rest h e = (h.more, h.all_is ∙ rw e (ap Ok (append_nil h.more)), h.now_is)
+all_said old now all rest h e = (h.more, h.all_is ∙ rw e (ap Ok (append-nil h.more)), h.now_is)
 
 -- the closing fence
 pub at_fence : (size : ℕ) (old now : List Fact) (all : Result (List Fact) ℕ) (above : Option Name) (text first : List ℕ) (next : Option (List ℕ))

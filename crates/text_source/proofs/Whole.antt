@@ -29,17 +29,17 @@ mark_length (a ∷ b ∷ c ∷ rest) = by ((a == 239) && (b == 187) && (c == 191
 -- bytes that are no text
 pub no_text_ends : (stem : Name) (folder : Option Name) (bytes text : List ℕ) (b : Building) (e : TextFileRefusal) → text ≡ without_mark bytes → IsText (length bytes) text (Err e)
     → Ends b (file_steps stem folder bytes) b (text_ending (Err e))
-no_text_ends stem folder bytes text b e is (no, refused) = rw (← is, no, refused) ([], [], refl, refl)
+no_text_ends stem folder bytes text b e is (none, refused) = rw (← is, none, refused) ([], [], refl, refl)
 
 -- bytes that are one
 pub text_ends : (stem : Name) (folder : Option Name) (bytes text : List ℕ) (b c : Building) (r : Result ⊤ TextFileRefusal) → text ≡ without_mark bytes → is_utf8 text ≡ true
     → Ends b (lines_steps stem folder (lines_of (length bytes) text)) c (text_ending r) → Ends b (file_steps stem folder bytes) c (text_ending r)
-text_ends stem folder bytes text b c r is yes ends = rw (← is, yes) ends
+text_ends stem folder bytes text b c r is shown ends = rw (← is, shown) ends
 
 -- facts of a text, stated
 pub facts_end : (stem : Name) (folder : Option Name) (lines : List Line) (facts : List Fact) (b c : Building) (r : Result ⊤ TextFileRefusal) → AreFacts stem folder lines facts
     → Ends b (map (step_of stem) facts) c (text_ending r) → Ends b (lines_steps stem folder lines) c (text_ending r)
-facts_end stem folder lines facts b c r (front, found, are) ends = rw (found, ← are) ends
+facts_end stem folder lines facts b c r (front, found, are) ends = rw found (subst (λ (fs : List Fact). Ends b (map (step_of stem) fs) c (text_ending r)) are ends)
 
 -- front matter that is at fault
 pub fault_ends : (stem : Name) (folder : Option Name) (lines : List Line) (b : Building) (e : TextFileRefusal) → IsAtFault lines e → Ends b (lines_steps stem folder lines) b (text_ending (Err e))

@@ -135,7 +135,8 @@ fn take_line<'a>(
     line: &'a [u8],
     said: &mut Vec<Fact>,
 ) -> Result<Option<&'a [u8]>, TextFileRefusal>
-    ensures { TakesLine at (now_of above.entry) line.now said.old.items said.new.items result }
+    ensures { TakesLine at (now_of above.entry) line.now said.old.items said.new.items
+        result }
 {
     match kind_of(line) {
         Kind::Passed => Ok(above),
@@ -162,7 +163,8 @@ pub(crate) fn read_front(
     said: &mut Vec<Fact>,
 ) -> Result<(), TextFileRefusal>
     requires { length text.now ≤ size }
-    ensures { SaysAll (specs.said None (before_fence (lines_of size text.now))) said.old.items said.new.items result }
+    ensures { SaysAll (specs.said None (before_fence (lines_of size text.now)))
+        said.old.items said.new.items result }
 {
     let mut above = None;
     let mut left = Some(text);

@@ -33,7 +33,8 @@ fn without_return(line: &[u8]) -> &[u8]
 
 /// The first line of a text without its end, and what follows its end, where it has one.
 pub(crate) fn cut(text: &[u8]) -> (&[u8], Option<&[u8]>)
-    ensures cuts { (size : ℕ) → Cuts size text.now result.0.now (option_map (λ rest. rest.now) result.1) }
+    ensures cuts { (size : ℕ)
+        → Cuts size text.now result.0.now (option_map (λ rest. rest.now) result.1) }
     ensures shorter { IfSome result.1 (λ rest. length rest.now < length text.now) }
 {
     match after_feed(text) {
@@ -54,7 +55,8 @@ pub(crate) fn is_fence(line: &[u8]) -> bool
 
 // What follows the first fence of these lines, where there is one.
 fn after_fence(text: &[u8]) -> Option<Option<&[u8]>>
-    ensures { (size : ℕ) → Closes size text.now (option_map (option_map (λ rest. rest.now)) result) }
+    ensures { (size : ℕ)
+        → Closes size text.now (option_map (option_map (λ rest. rest.now)) result) }
 {
     let mut left = Some(text);
     'lines: while let Some(rest) = left {
@@ -69,7 +71,9 @@ fn after_fence(text: &[u8]) -> Option<Option<&[u8]>>
 
 /// The lines from the first of the front matter on, where there is one, and the text itself.
 pub(crate) fn split(text: &[u8]) -> (Option<&[u8]>, &[u8])
-    ensures { (size : ℕ) → Splits size text.now (option_map (λ front. front.now) result.0) result.1.now }
+    ensures splits { (size : ℕ)
+        → Splits size text.now (option_map (λ front. front.now) result.0) result.1.now }
+    ensures within { IfSome result.0 (λ front. length front.now < length text.now) }
 {
     let (line, next) = cut(text);
     if !is_fence(line) {

@@ -61,7 +61,8 @@ pub(crate) fn add_file(
     text: &[u8],
 ) -> Result<(), TextFileRefusal>
     requires { length text.now ≤ size }
-    ensures { Ends graph.old (lines_steps stem.now folder.now (lines_of size text.now)) graph.new (text_ending result) }
+    ensures { Ends graph.old (lines_steps stem.now folder.now (lines_of size text.now)) graph.new
+        (text_ending result) }
 {
     let facts = gather(alloc, stem, folder, size, text)?;
     state_all(alloc, graph, stem, facts.as_slice())
