@@ -1,4 +1,5 @@
 pub mod Runs
+pub mod Stems
 pub mod Sources
 pub mod Sites
 pub mod Values
