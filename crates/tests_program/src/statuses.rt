@@ -80,6 +80,18 @@ const FILES: &[FileRow] = &[
         path: "price.json",
         text: "[{\"price\": 3.5}]",
     },
+    FileRow {
+        path: "p/x.md",
+        text: "---\nn: 7\n---\nx",
+    },
+    FileRow {
+        path: "q/x.html",
+        text: "x",
+    },
+    FileRow {
+        path: "q/y.html",
+        text: "---\ny\n---\n",
+    },
 ];
 
 const RECORD_OF_CSV: &str =
@@ -94,6 +106,9 @@ const TWO_FORMATS: &str =
 const ENTRY: &str =
     "object \"k1\" in \"article\", \"b\" {\n  \"author\" \"Dan\"\n  \"author\" \"{Mary and Co}\"\n  \
         \"month\" \"jan\"\n  \"title\" \"A {B}ACM\"\n  \"year\" 1998\n}\n";
+
+const A_TEXT: &str =
+    "object \"a\" in \"C\" {\n  \"n\" 1\n}\nobject \"x\" in \"p\", \"texts\" {\n  \"n\" 7\n  \"name\" \"x\"\n  \"text\" \"x\"\n}\n";
 
 const PRINTED: &str = "object \"a\" in \"C\" {\n  \"n\" 1\n}\n";
 
@@ -200,6 +215,28 @@ const RUNS: &[Run] = &[
         code: 3,
         out: "",
         err: "strudel: cut.bib: 121 Expected at 7\n",
+        ..PLAIN
+    },
+    // A text is data, and no two have one name.
+    Run {
+        words: &["data", "a", "p/x.md"],
+        code: 0,
+        out: A_TEXT,
+        err: "",
+        ..PLAIN
+    },
+    Run {
+        words: &["data", "q/y.html", "p/x.md", "q/x.html"],
+        code: 3,
+        out: "",
+        err: "strudel: q/x.html: 164 Twice at 0\n",
+        ..PLAIN
+    },
+    Run {
+        words: &["data", "q/y.html"],
+        code: 3,
+        out: "",
+        err: "strudel: q/y.html: 161 Expected at 4\n",
         ..PLAIN
     },
     // Wrong words are refused.

@@ -206,6 +206,52 @@ const FORMATS: &[FormatRow] = &[
     },
 ];
 
+const TEXT_FORMATS: &[FormatRow] = &[
+    FormatRow {
+        path: "a/b.c/x.y.html",
+        strict: "text x.y in b.c",
+        lenient: Some("text x.y in b.c"),
+    },
+    FormatRow {
+        path: "./p.md",
+        strict: "text p",
+        lenient: None,
+    },
+    FormatRow {
+        path: "a/../p.md",
+        strict: "text p",
+        lenient: None,
+    },
+    FormatRow {
+        path: "/p.md",
+        strict: "text p",
+        lenient: None,
+    },
+    FormatRow {
+        path: "posts/p.MD",
+        strict: "data text",
+        lenient: Some("text p in posts"),
+    },
+    FormatRow {
+        path: "p.HTML",
+        strict: "data text",
+        lenient: Some("text p"),
+    },
+    FormatRow {
+        path: "posts/p.txt",
+        strict: "data text",
+        lenient: Some("data text"),
+    },
+];
+
+fn push_folder(folder: &Option<Str>, text: &mut Vec<u8>) -> Result<(), NoMemory> {
+    if let Some(name) = folder {
+        text.extend_from_slice(b" in ")?;
+        text.extend_from_slice(name.bytes())?;
+    }
+    Ok(())
+}
+
 // The name of the format, and its stem.
 fn name_of(alloc: Global, format: &Format) -> Result<Vec<u8>, NoMemory> {
     let (name, stem) = match format {
@@ -214,9 +260,13 @@ fn name_of(alloc: Global, format: &Format) -> Result<Vec<u8>, NoMemory> {
         Format::Json(stem) => (b"JSON ".as_slice(), stem.bytes()),
         Format::BibTex(stem) => (b"BibTeX ".as_slice(), stem.bytes()),
         Format::Database(stem) => (b"database ".as_slice(), stem.bytes()),
+        Format::Text(stem, _) => (b"text ".as_slice(), stem.bytes()),
     };
     let mut text = Vec::from_slice(alloc, name)?;
     text.extend_from_slice(stem)?;
+    if let Format::Text(_, folder) = format {
+        push_folder(folder, &mut text)?;
+    }
     Ok(text)
 }
 
@@ -234,6 +284,14 @@ fn check_format(alloc: Global, row: &FormatRow) -> Result<(), Fail> {
 #[test]
 fn each_path_gives_the_format_of_its_row(rt: HostRuntime) -> Result<(), Fail> {
     for row in FORMATS {
+        check_format(rt.alloc(), row)?;
+    }
+    Ok(())
+}
+
+#[test]
+fn each_path_of_a_text_gives_its_folder(rt: HostRuntime) -> Result<(), Fail> {
+    for row in TEXT_FORMATS {
         check_format(rt.alloc(), row)?;
     }
     Ok(())
