@@ -1,30 +1,9 @@
--- How an ORDER of the program reads, and how its texts are folded.
-use Rattle.std.specs.Prelude.{map, if◌then◌else◌}
+-- How the texts of an ORDER are folded.
+use Rattle.std.specs.Prelude.{if◌then◌else◌}
 use Rattle.std.specs.Str.{is_utf8}
 use Rattle.sd_value.specs.Names.{Name}
 use Rattle.function_spec.specs.Folding.{fold}
-use Rattle.order_spec.specs.Order.{Place, position, next, previous, page, Order}
-use Rattle.graph_order.specs.declared.Order.{Order as CodeOrder}
-use Rattle.graph_order.specs.declared.Place.{Place as CodePlace}
-use Rattle.graph_order.specs.declared.Place.TheVariants.{Position, Next, Previous, Page}
 
 -- a text that is UTF-8 is folded, and other bytes stand as they are
 abbrev pub folded_text : Name → Name
 folded_text t = if is_utf8 t then fold t else t
-
--- an edge that each member is given
-abbrev pub place_of : CodePlace → Place
-place_of (Position l) = position l
-place_of (Next l) = next l
-place_of (Previous l) = previous l
-place_of (Page l k) = page l k
-
--- the ORDER
-abbrev pub order_of : CodeOrder → Order
-order_of o = record {
-  collection = o.collection;
-  word = o.word.items;
-  fold = o.fold;
-  descend = o.descend;
-  places = map place_of o.places.items;
-}

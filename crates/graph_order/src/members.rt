@@ -8,7 +8,8 @@ ghost use Rattle.sd_value.specs.Ascending.{ListsExactly};
 ghost use Rattle.order_spec.specs.Order.{keyed_cmp, turned_cmp, in_order, nodes_in};
 ghost use Rattle.graph_order.specs.Known.{IsKnown};
 ghost use Rattle.graph_order.specs.Keys.{key_by, key_cmp, ranked, ranked_by, down_cmp, ranked_cmp};
-ghost use Rattle.graph_order.specs.Read.{folded_text, order_of};
+ghost use Rattle.graph_order.specs.Read.{folded_text};
+ghost use Rattle.order_spec.specs.Read.{order_of};
 ghost use Rattle.graph_order.specs.KeyLaws.{ranked_cmp-total, ranked_cmp-exact};
 
 use crate::Order;
