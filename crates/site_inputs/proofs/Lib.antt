@@ -8,5 +8,6 @@ pub mod DecidedInputs
 pub mod Endings
 pub mod SiteData
 pub mod ReadLemmas
+pub mod StemLemmas
 pub mod SiteReads
 pub mod WrittenQueries
