@@ -59,7 +59,7 @@ impl Listed for Link {
         _version: u8,
         tokens: &[Token],
     ) -> Result<(Link, &[Token]), Halt<Token>> {
-        link_at(alloc, tokens)
+        link_at(alloc, version, tokens)
     }
 
     ghost keeps = { link_keeps };
