@@ -42,9 +42,10 @@ returns-in_ok-others-in-Same-clause-answer g c =
     let one = c.as_slice-in-Same.ensures.value in
     let two = c.as_slice-in-Same-2.ensures.value in
     let both = c.have_common.ensures (subst (IsStrictlySortedBy value_cmp) (sym two) others.ascending) in
-    rw c.in-Same.is
-    (λ t. let q = both.0 t in (q.0, exact.sound q.0 (subst (λ (l : List Value). Contains l q.0) one q.1), others.sound q.0 (subst (λ (l : List Value). Contains l q.0) two q.2)),
-    λ (v, r, k). both.1 (v, subst (λ (l : List Value). Contains l v) (sym one) (exact.complete v r), subst (λ (l : List Value). Contains l v) (sym two) (others.complete v k)))
+    rw c.in-Same.is (
+      λ t. let q = both.0 t in (q.0, exact.sound q.0 (subst (λ (l : List Value). Contains l q.0) one q.1), others.sound q.0 (subst (λ (l : List Value). Contains l q.0) two q.2)),
+      λ (v, r, k). both.1 (v, subst (λ (l : List Value). Contains l v) (sym one) (exact.complete v r), subst (λ (l : List Value). Contains l v) (sym two) (others.complete v k)),
+    )
 
 pub returns-in_err-values-clause-kept : goal.returns-in_err-values-clause-kept
 returns-in_err-values-clause-kept g c =
