@@ -1,2 +1,2 @@
 pub mod Folds
-mod Ascending
+mod Lookups

@@ -24,9 +24,7 @@ use template_tags::{
     has_count, has_mark, has_not, has_same, has_text, in_at, int_at, mark_at, not_at, order_of,
     same_at, settings_at, shown, text_at, variable_at,
 };
-use tmpl::{
-    Against, Choice, Expr, Mode, Number, Order, Part, Repeat, SortKeys, Test, Writing,
-};
+use tmpl::{Against, Choice, Expr, Mode, Number, Order, Part, Repeat, SortKeys, Test, Writing};
 use token_reader::Halt;
 
 #[tactic(auto, unfolding(crate::specs::Reading::read_text))]
@@ -187,10 +185,7 @@ fn of_count_at<'a>(
     let (compare, rest) = compare_at(rest)?;
     let (constant, rest) = int_at(rest)?;
     let (_, rest) = mark_at(rest, Mark::Close)?;
-    Ok((
-        (values, Test::Counts(Number { compare, constant })),
-        rest,
-    ))
+    Ok(((values, Test::Counts(Number { compare, constant })), rest))
 }
 
 /// A test, and the end of the tag.
@@ -235,12 +230,7 @@ fn extended(alloc: Global, scope: &[Bound], name: Str, number: u32) -> Result<Ve
     Ok(bounds)
 }
 
-fn choice_of(
-    negated: bool,
-    tested: (Expr, Test),
-    taken: Vec<Part>,
-    other: Vec<Part>,
-) -> Part
+fn choice_of(negated: bool, tested: (Expr, Test), taken: Vec<Part>, other: Vec<Part>) -> Part
     ensures { single result ≡ choice negated tested.0 tested.1 (body_of taken.items)
         (body_of other.items) done }
 {

@@ -1,4 +1,4 @@
-use Rattle.sort_keys.proofs.Ascending.{among}
+use Rattle.sort_keys.proofs.Lookups.{among}
 use Rattle.sort_keys.proofs.ascending.is_among.Goals as goal
 
 pub returns : goal.returns
