@@ -25,7 +25,8 @@ use Rattle.page_spec.specs.Question.{Question, out, template, collected}
 use Rattle.page_spec.proofs.Unique.{template_unique}
 use Rattle.tmpl.specs.declared.Mode.TheVariants.{Written, Link as Linked_to}
 use Rattle.tmpl.specs.declared.Writing.TheVariants.{Escaped}
-use Rattle.site_spec.specs.Site.{InSite, Linked, SiteEdge, IsTermUnder, IsTargetUnder, Joins}
+use Rattle.site_spec.proofs.Sums.{per_row_joined}
+use Rattle.site_spec.specs.Site.{InSite, Linked, SiteEdge, IsTermUnder, IsTargetUnder, Joins, IsPerRow}
 use Rattle.weight_spec.specs.Site.{site_of}
 use Rattle.tmpl.specs.Expressions.{Use, uses}
 use Rattle.demand_spec.specs.Reads.{Begins, at_here, at_collected, at_loop, Passes, UsePasses, BodyAsks, Presents, IsDemanded, IsAsked, IsRead}
@@ -149,10 +150,30 @@ paper_of w (t, under, is) = is ∙ ap Page (by t.args refl)
 pub unlike_year : (s : Assignment) (k : Link) (t : SkolemTerm) → (codes "YearPage" ≡ t.function → ⊥) → k.source ≡ made t → IsTargetUnder s k.source (Page asked) → ⊥
 unlike_year s k t apart e h = apart (source_under s k t asked e h).function
 
+-- no link of the query ends at an aggregate
+per_row_papers : (k : Link) → IsOneOf papers.links k → IsPerRow k.target
+per_row_papers k (inl e) = subst (λ (z : Link). IsPerRow z.target) e tt
+per_row_papers k (inr (inl e)) = subst (λ (z : Link). IsPerRow z.target) e tt
+per_row_papers k (inr (inr none)) = absurd none
+
+per_row_years : (k : Link) → IsOneOf scoped_years.links k → IsPerRow k.target
+per_row_years k (inl e) = subst (λ (z : Link). IsPerRow z.target) e tt
+per_row_years k (inr (inl e)) = subst (λ (z : Link). IsPerRow z.target) e tt
+per_row_years k (inr (inr (inl e))) = subst (λ (z : Link). IsPerRow z.target) e tt
+per_row_years k (inr (inr (inr none))) = absurd none
+
+per_row : (b : Block) → IsOneOf scope.bodies b → (k : Link) → Contains b.links k → IsPerRow k.target
+per_row b (inl e) k among = absurd (Contains-nil k (subst (λ (z : Block). Contains z.links k) (sym e) among))
+per_row b (inr (inl e)) k among = per_row_papers k (IsOneOf-from_Contains papers.links k (subst (λ (z : Block). Contains z.links k) (sym e) among))
+per_row b (inr (inr (inl e))) k among = per_row_years k (IsOneOf-from_Contains scoped_years.links k (subst (λ (z : Block). Contains z.links k) (sym e) among))
+per_row b (inr (inr (inr none))) k among = absurd none
+
 its_paper_alone : (w : Value) → SiteEdge graph scope (Page asked) (codes "Paper") w → w ≡ Page its_paper
 its_paper_alone w (inr h) = absurd h
 its_paper_alone w (inl some) =
-    in_block some.item (IsOneOf-from_Contains scope.bodies some.item some.within) some.holds.item some.holds.within some.holds.holds.row some.holds.holds.is_row some.holds.holds.holds
+    let one = IsOneOf-from_Contains scope.bodies some.item some.within in
+    let r = per_row_joined graph (chain_at some.item) (Page asked) (codes "Paper") w some.holds.item (per_row some.item one some.holds.item some.holds.within) some.holds.holds in
+    in_block some.item one some.holds.item some.holds.within r.row r.is_row r.holds
   where
     in_years : (k : Link) → IsOneOf scoped_years.links k → (r : List Value) → IsRow graph chain r → Joins (value_in chain.variables r) k (Page asked) (codes "Paper") w → w ≡ Page its_paper
     in_years k (inl e) r is joins = absurd (names_differ (codes "Paper") (codes "Year") refl (subst (λ (z : Link). Joins (value_in chain.variables r) z (Page asked) (codes "Paper") w) (sym e) joins).by)
