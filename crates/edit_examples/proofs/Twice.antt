@@ -165,12 +165,12 @@ module _ (G : DataGraph) (declared : Contains G.nodes o) (member : Contains G.me
     holds = record {
       item = link;
       within = (0, lit< tt, refl);
-      holds = record {
+      holds = inl (record {
         row = row;
         is_row = has_row;
         holds =
             record { from = (term, record { function = refl; args = (refl, tt) }, refl); by = refl; to = refl };
-      };
+      });
     };
   }
 

@@ -66,8 +66,7 @@ other_end : (version : ℕ) (f : SkolemTerm) (ts : List Token) → is_sum versio
 other_end version f ts sums untold h =
     let s = arguments_spelt version f ts h in
     let w = s.0 in
-    let word : Word = record { text = f.function; span = h.0.span } in
-    (
+    let word : Word = record { text = f.function; span = h.0.span } in (
       tree.made w,
       (
         h.0 ∷ [],
@@ -186,22 +185,21 @@ module _ (f v : List ℕ) (make : Span → declared_aggregate.Aggregate) (a : Ag
           Variable f n.span,
           whole,
           (n, refl, operand_is 3 (variable f) n shows),
-          inl (subst (λ b. text.by_sum 3 b word (o ∷ (x ∷ (c ∷ []))) (tree.summed (make x.span) w.span)) (sym other)
-              (
-                o ∷ (x ∷ (c ∷ [])),
-                [],
-                w,
-                refl,
-                (
-                  o ∷ [],
-                  x ∷ (c ∷ []),
-                  o.span,
-                  refl,
-                  is_that signs.OpenParen o opens,
-                  inr (x ∷ [], c ∷ [], Variable v x.span ∷ [], refl, (x ∷ [], [], Variable v x.span, refl, (x, refl, operand_is 3 (variable v) x variable_shows), (0, (refl, refl))), (c ∷ [], [], c.span, refl, is_that signs.CloseParen c closes, (refl, refl))),
-                ),
-                (refl, told),
-              )),
+          inl (subst (λ b. text.by_sum 3 b word (o ∷ (x ∷ (c ∷ []))) (tree.summed (make x.span) w.span)) (sym other) (
+            o ∷ (x ∷ (c ∷ [])),
+            [],
+            w,
+            refl,
+            (
+              o ∷ [],
+              x ∷ (c ∷ []),
+              o.span,
+              refl,
+              is_that signs.OpenParen o opens,
+              inr (x ∷ [], c ∷ [], Variable v x.span ∷ [], refl, (x ∷ [], [], Variable v x.span, refl, (x, refl, operand_is 3 (variable v) x variable_shows), (0, (refl, refl))), (c ∷ [], [], c.span, refl, is_that signs.CloseParen c closes, (refl, refl))),
+            ),
+            (refl, told),
+          )),
         ),
         ap plain.summed (kept x.span),
       )
@@ -276,22 +274,21 @@ told_end v x ts (n, r0, e0, shows, (o, r1, e1, opens, (a, r2, e2, value_shows, (
         Variable (codes "sum") n.span,
         whole,
         (n, refl, operand_is 3 (variable (codes "sum")) n shows),
-        inl (subst (λ y. text.by_sum 3 y word (o ∷ inside) t) (sym sum_is)
-            (
-              o ∷ [],
-              inside,
-              o.span,
-              refl,
-              is_that signs.OpenParen o opens,
-              inr (
-                a ∷ [],
-                k ∷ (b ∷ (c ∷ [])),
-                Variable v a.span,
-                refl,
-                (a, refl, operand_is 3 (variable v) a value_shows),
-                inl (k ∷ [], b ∷ (c ∷ []), k.span, refl, is_word words.Of k (of_shown k of), (b ∷ [], c ∷ [], record { text = x; span = b.span }, refl, (b, refl, name_is 3 x b key_shows), (c ∷ [], [], c.span, refl, is_that signs.CloseParen c closes, (refl, refl)))),
-              ),
-            )),
+        inl (subst (λ y. text.by_sum 3 y word (o ∷ inside) t) (sym sum_is) (
+          o ∷ [],
+          inside,
+          o.span,
+          refl,
+          is_that signs.OpenParen o opens,
+          inr (
+            a ∷ [],
+            k ∷ (b ∷ (c ∷ [])),
+            Variable v a.span,
+            refl,
+            (a, refl, operand_is 3 (variable v) a value_shows),
+            inl (k ∷ [], b ∷ (c ∷ []), k.span, refl, is_word words.Of k (of_shown k of), (b ∷ [], c ∷ [], record { text = x; span = b.span }, refl, (b, refl, name_is 3 x b key_shows), (c ∷ [], [], c.span, refl, is_that signs.CloseParen c closes, (refl, refl)))),
+          ),
+        )),
       ),
       refl,
     )
