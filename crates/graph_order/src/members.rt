@@ -10,7 +10,7 @@ ghost use Rattle.order_spec.specs.Order.{in_order, nodes_in};
 ghost use Rattle.graph_order.specs.Known.{IsKnown};
 ghost use Rattle.sort_keys.specs.Keys.{key_cmp};
 ghost use Rattle.graph_order.specs.Keys.{key_by, ranked, ranked_by, down_cmp, ranked_cmp};
-ghost use Rattle.graph_order.specs.Read.{order_of};
+ghost use Rattle.order_spec.specs.Read.{order_of};
 ghost use Rattle.graph_order.specs.KeyLaws.{ranked_cmp-total, ranked_cmp-exact};
 
 use crate::Order;

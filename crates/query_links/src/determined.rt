@@ -33,6 +33,7 @@ fn has_variable(target: &Target, name: &Str) -> bool
     match target {
         Target::Plain(operand) => is_variable(operand, name),
         Target::Made(term) => some_variable(&term.args, name),
+        Target::Summed(_, _) => false,
     }
 }
 
@@ -54,12 +55,13 @@ fn are_in(source: &Target, args: &[Operand]) -> bool
     args.iter().all(|o| is_in(source, o))
 }
 
-/// Whether the variables of the link's target are all among its source's.
+/// Whether the link ends at no aggregate, and the variables of its target are all among its source's.
 pub fn is_determined(link: &Link) -> bool
     ensures { result ≡ has_target_in_source (link_of link.now) }
 {
     match &link.target {
         Target::Plain(operand) => is_in(&link.source, operand),
         Target::Made(term) => are_in(&link.source, &term.args),
+        Target::Summed(_, _) => false,
     }
 }

@@ -1,19 +1,24 @@
 //! Operands, terms, links and collections.
 
 ghost use Rattle.std.specs.Prelude.{◌≡◌, ◌++◌, IfOk, ℕ, List, map};
-ghost use Rattle.struql_ast.specs.Reading.{operand_of, term_of, target_of, label_of, link_of, collect_of};
+ghost use Rattle.struql_ast.specs.Reading.{operand_of, term_of, aggregate_of, target_of, label_of, link_of, collect_of};
 ghost use Rattle.struql_print.specs.Texts.{joined, value_text, operand_text, term_text, target_text, label_text, link_text, collect_text};
+ghost use Rattle.struql_print.specs.Texts.{applied, aggregate_text};
+ghost use Rattle.query_spec.specs.Query.{sum_of};
 
 use crate::collections::print_collection;
 use crate::listed::{Print, print_listed};
-use sd_value::{Datum, NoMemory, Value};
-use struql_ast::{Collect, Link, LinkLabel, Operand, SkolemTerm, Target};
+use sd_value::{Datum, NoMemory, Str, Value};
+use struql_ast::{Aggregate, Collect, Link, LinkLabel, Operand, SkolemTerm, Target};
 use token_writer::{put, put_int, put_quoted};
 
-impl Print for Value {
-    ghost text = { value_text };
+// Terms and links are printed alike in each version.
+const ANY_VERSION: u8 = 1;
 
-    fn print(&self, out: &mut Vec<u8>) -> Result<(), NoMemory> {
+impl Print for Value {
+    ghost text = { λ _. value_text };
+
+    fn print(&self, _version: u8, out: &mut Vec<u8>) -> Result<(), NoMemory> {
         match self {
             Value::Data(Datum::Int(n)) => put_int(*n, out),
             Value::Data(Datum::Text(text)) => put_quoted(text.bytes(), out),
@@ -26,31 +31,31 @@ impl Print for Value {
 }
 
 impl Print for Operand {
-    ghost text = { λ t. operand_text (operand_of t) };
+    ghost text = { λ _ t. operand_text (operand_of t) };
 
-    fn print(&self, out: &mut Vec<u8>) -> Result<(), NoMemory> {
+    fn print(&self, version: u8, out: &mut Vec<u8>) -> Result<(), NoMemory> {
         match self {
             Operand::Variable(name, _) => put(name.bytes(), out),
-            Operand::Constant(value, _) => value.print(out),
+            Operand::Constant(value, _) => value.print(version, out),
         }
     }
 }
 
 /// Appends the arguments of a term.
-fn print_arguments(args: &[Operand], out: &mut Vec<u8>) -> Result<(), NoMemory>
+fn print_arguments(version: u8, args: &[Operand], out: &mut Vec<u8>) -> Result<(), NoMemory>
     ensures { IfOk result (λ _. out.new.items
         ≡ out.old.items ++ joined (map operand_text (map operand_of args.now))) }
 {
-    print_listed(args, out)
+    print_listed(version, args, out)
 }
 
 impl Print for SkolemTerm {
-    ghost text = { λ t. term_text (term_of t) };
+    ghost text = { λ _ t. term_text (term_of t) };
 
-    fn print(&self, out: &mut Vec<u8>) -> Result<(), NoMemory> {
+    fn print(&self, version: u8, out: &mut Vec<u8>) -> Result<(), NoMemory> {
         put(self.function.bytes(), out)?;
         put(b"(", out)?;
-        print_arguments(self.args.as_slice(), out)?;
+        print_arguments(version, self.args.as_slice(), out)?;
         put(b")", out)
     }
 }
@@ -60,7 +65,39 @@ impl Print for SkolemTerm {
 pub fn print_term(term: &SkolemTerm, out: &mut Vec<u8>) -> Result<(), NoMemory>
     ensures { IfOk result (λ _. out.new.items ≡ out.old.items ++ term_text (term_of term.now)) }
 {
-    term.print(out)
+    term.print(ANY_VERSION, out)
+}
+
+fn print_applied(function: &[u8], name: &Str, out: &mut Vec<u8>) -> Result<(), NoMemory>
+    ensures { IfOk result (λ _. out.new.items ≡ out.old.items ++ applied function.now name.now) }
+{
+    put(function, out)?;
+    put(b"(", out)?;
+    put(name.bytes(), out)?;
+    put(b")", out)
+}
+
+fn print_sum(value: &Str, key: &Str, out: &mut Vec<u8>) -> Result<(), NoMemory>
+    ensures { IfOk result (λ _. out.new.items
+        ≡ out.old.items ++ aggregate_text (sum_of value.now key.now)) }
+{
+    put(b"sum(", out)?;
+    put(value.bytes(), out)?;
+    put(b" OF ", out)?;
+    put(key.bytes(), out)?;
+    put(b")", out)
+}
+
+fn print_aggregate(aggregate: &Aggregate, out: &mut Vec<u8>) -> Result<(), NoMemory>
+    ensures { IfOk result (λ _. out.new.items
+        ≡ out.old.items ++ aggregate_text (aggregate_of aggregate.now)) }
+{
+    match aggregate {
+        Aggregate::Count(name, _) => print_applied(b"count", name, out),
+        Aggregate::Min(name, _) => print_applied(b"min", name, out),
+        Aggregate::Max(name, _) => print_applied(b"max", name, out),
+        Aggregate::Sum { value, key, .. } => print_sum(value, key, out),
+    }
 }
 
 fn print_target(target: &Target, out: &mut Vec<u8>) -> Result<(), NoMemory>
@@ -68,8 +105,9 @@ fn print_target(target: &Target, out: &mut Vec<u8>) -> Result<(), NoMemory>
         ≡ out.old.items ++ target_text (target_of target.now)) }
 {
     match target {
-        Target::Plain(operand) => operand.print(out),
-        Target::Made(term) => term.print(out),
+        Target::Plain(operand) => operand.print(ANY_VERSION, out),
+        Target::Made(term) => term.print(ANY_VERSION, out),
+        Target::Summed(aggregate, _) => print_aggregate(aggregate, out),
     }
 }
 
@@ -95,18 +133,18 @@ pub fn print_link(link: &Link, out: &mut Vec<u8>) -> Result<(), NoMemory>
 }
 
 impl Print for Link {
-    ghost text = { λ k. link_text (link_of k) };
+    ghost text = { λ _ k. link_text (link_of k) };
 
-    fn print(&self, out: &mut Vec<u8>) -> Result<(), NoMemory> {
+    fn print(&self, _version: u8, out: &mut Vec<u8>) -> Result<(), NoMemory> {
         print_link(self, out)
     }
 }
 
 impl Print for Collect {
-    ghost text = { λ c. collect_text (collect_of c) };
+    ghost text = { λ version c. collect_text version (collect_of c) };
 
-    fn print(&self, out: &mut Vec<u8>) -> Result<(), NoMemory> {
-        print_collection(self.collection.bytes(), out)?;
+    fn print(&self, version: u8, out: &mut Vec<u8>) -> Result<(), NoMemory> {
+        print_collection(version, self.collection.bytes(), out)?;
         put(b"(", out)?;
         print_target(&self.target, out)?;
         put(b")", out)

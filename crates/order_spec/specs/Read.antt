@@ -1,9 +1,9 @@
 -- How an ORDER of the program reads.
 use Rattle.std.specs.Prelude.{map}
 use Rattle.order_spec.specs.Order.{Place, position, next, previous, page, Order}
-use Rattle.graph_order.specs.declared.Order.{Order as CodeOrder}
-use Rattle.graph_order.specs.declared.Place.{Place as CodePlace}
-use Rattle.graph_order.specs.declared.Place.TheVariants.{Position, Next, Previous, Page}
+use Rattle.order_spec.specs.declared.Order.{Order as CodeOrder}
+use Rattle.order_spec.specs.declared.Place.{Place as CodePlace}
+use Rattle.order_spec.specs.declared.Place.TheVariants.{Position, Next, Previous, Page}
 
 -- an edge that each member is given
 abbrev pub place_of : CodePlace → Place
