@@ -46,6 +46,9 @@ pub fn told(
             let greatest = value_at(alloc, parts, parts.len() - 1)?;
             Ok(greatest)
         }
-        Aggregate::Sum { .. } => Ok(sum(parts)),
+        Aggregate::Sum { .. } => match sum(parts) {
+            Some(sum) => Ok(Some(Value::Data(Datum::Int(sum)))),
+            None => Ok(None),
+        },
     }
 }
