@@ -78,16 +78,19 @@ def bench_hurt(folder):
         written(f"{folder}/t", ["<TEMPLATE R><SFMT @x></TEMPLATE>"])
         return (sized(f"{folder}/q", [listed(count)]), *least(["page", "q", "t", "/R.html", "d.ddl"], folder))
 
-    def links(count):
-        query, templates = labelled(count)
-        written(f"{folder}/d.ddl", [""])
-        return (sized(f"{folder}/q", [query]) + sized(f"{folder}/t", [templates]), *least(["lint", "q", "t", "d.ddl"], folder))
+    def links(made):
+        def run(count):
+            query, templates = made(count)
+            written(f"{folder}/d.ddl", [""])
+            return (sized(f"{folder}/q", [query]) + sized(f"{folder}/t", [templates]), *least(["lint", "q", "t", "d.ddl"], folder))
+
+        return run
 
     rows += grown("a directive, and one object in {} collections by as many statements", (2_500, 10_000), data(collected))
     rows += grown("one object in {} collections with as many directives and values", (1_000, 4_000), data(directed))
     rows += grown("`not(v in {{..}})` of {} constants over as many rows", (5_000, 20_000), rows_in)
     rows += grown("`lint` with {} labels and links", (2_500, 10_000), links(labelled))
-    rows += grown("`lint` with {} functions and labels", (300, 600), links(functions))
+    rows += grown("`lint` with {} functions and labels", (600, 6_000), links(functions))
     for count, before in ((6, "before: 0.2 s"), (9, "before: hours")):
         query, constraint = argued(count)
         size = sized(f"{folder}/q", [query]) + sized(f"{folder}/c", [constraint])
