@@ -28,10 +28,10 @@ use tmpl::Templates;
 /// and the labels by which their words go on, its names, for each block whether it has no row, and whether an edge of the
 /// data ends at an active address.
 #[derive(Drop)]
-pub struct LintedSite<'a, S, L> {
+pub struct LintedSite<'a, 'b, S, L> {
     pub store: &'a S,
     pub answers: &'a L,
-    pub links: &'a SiteLinks<'a>,
+    pub links: &'a SiteLinks<'b>,
     pub blocks: &'a QueryBlocks,
     pub templates: &'a Templates,
     pub further: &'a [Str],
