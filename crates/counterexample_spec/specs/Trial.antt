@@ -52,7 +52,7 @@ free_ways G conditions v =
 -- how many rows these conditions and any some of them have at most
 abbrev pub rows_bound : DataGraph → List Condition → ℕ
 rows_bound G conditions =
-    product (map (λ c. max 1 (ways G c)) conditions)
+    product (map (λ c. max (ways G c) 1) conditions)
     * product (map (free_ways G conditions) (variables_of conditions))
 
 -- the chains of the query have at most so many rows as the budget is
