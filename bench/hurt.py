@@ -39,6 +39,12 @@ def argued(count):
     return f'INPUT D {{ CREATE Home() }} {{ WHERE C(x0), {conditions} CREATE {term} LINK {term} -> "next" -> {term} }} OUTPUT S', "REACHABLE F FROM Home\n"
 
 
+def alike(count):
+    """A page whose block has so many conditions of one label, and a constraint that it breaks."""
+    conditions = ", ".join(f'x -> "by" -> x{n}' for n in range(count))
+    return f"INPUT D {{ CREATE Home() }} {{ WHERE C(x), {conditions} CREATE F(x) }} OUTPUT S", "REACHABLE F FROM Home\n"
+
+
 def functions(count):
     """As many functions as labels: each has a link to it and one by a label, and words go on from all by all labels."""
     query = "INPUT D CREATE R(), " + ", ".join(f"F{n}()" for n in range(count)) + " LINK "
@@ -95,6 +101,10 @@ def bench_hurt(folder):
         query, constraint = argued(count)
         size = sized(f"{folder}/q", [query]) + sized(f"{folder}/c", [constraint])
         rows.append((f"`check` of REACHABLE for a page of {count} arguments, {size:,} bytes", *least(["check", "q", "c"], folder, 1), before))
+    for count, before in ((6, "as before"), (9, "before: hours")):
+        query, constraint = alike(count)
+        size = sized(f"{folder}/q", [query]) + sized(f"{folder}/c", [constraint])
+        rows.append((f"`check` of a block with {count} conditions of one label, {size:,} bytes", *least(["check", "q", "c"], folder, 1), before))
     for what, text, wanted in (
         ("JSON, 4,000 records of 120 levels", nested(4_000, 120, "k"), 0),
         ("JSON, 200 records of 100 levels with keys of 100 bytes", nested(200, 100, "k" * 100), 0),
