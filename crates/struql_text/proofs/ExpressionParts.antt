@@ -14,7 +14,7 @@ use Rattle.grammar.specs.Reading.{Outcome}
 use Rattle.grammar.proofs.Laws.{Always, Stops}
 use Rattle.struql_text.specs.declared.keyword.Keyword.{Keyword}
 use Rattle.struql_text.specs.declared.keyword.Keyword.TheVariants as words
-use Rattle.struql_text.specs.Terminals.{from_to, is_name, is_name_kind, is_free, is_found, keyword_of}
+use Rattle.struql_text.specs.Terminals.{from_to, is_name, is_name_kind, is_free, is_found, in_version, keyword_of}
 use Rattle.token_reader.specs.Terminals.{is_sign, is_sign_kind, number}
 use Rattle.struql_text.specs.Expression.{sign, Leaf, Counted, Limits, bounded, unbounded, leaf_kind, leaf_value, leaf, empty_close, inner_close, paren, star_step, post, dot_step, seq, bar_step, alt, expression, expression_within, expression_spelled}
 use Rattle.struql_text.specs.Reading.{read_leaf, read_empty_close, read_within, read_paren, read_star_step, read_post, read_dot_step, read_seq, read_bar_step, read_alt, read_atom, read_expression}
@@ -41,16 +41,30 @@ leaf_not s span (kinds.Quoted q) v d e = refl
 leaf_not s span (kinds.Int i) v d e = refl
 leaf_not s span (kinds.Sign r) v d e = other_sign signs.Star s (kinds.Sign r) d (some_if (is_sign_kind signs.Star (kinds.Sign r)) (record { tree = star_of any; span = span }) v e)
 
-true_no_name : (o : Option Keyword) (x v : Leaf) → cond (is_found words.True o) (Some x) None ≡ Some v → is_free o ≡ false
-true_no_name None x v e = absurd cc
-true_no_name (Some k) x v e = refl
+true_no_name : (version : ℕ) (o : Option Keyword) (x v : Leaf) → cond (is_found words.True o) (Some x) None ≡ Some v → is_free (in_version version o) ≡ false
+true_no_name version None x v e = absurd cc
+true_no_name version (Some words.True) x v e = refl
+true_no_name version (Some words.Input) x v e = absurd cc
+true_no_name version (Some words.Output) x v e = absurd cc
+true_no_name version (Some words.Where) x v e = absurd cc
+true_no_name version (Some words.Create) x v e = absurd cc
+true_no_name version (Some words.Link) x v e = absurd cc
+true_no_name version (Some words.Collect) x v e = absurd cc
+true_no_name version (Some words.Not) x v e = absurd cc
+true_no_name version (Some words.In) x v e = absurd cc
+true_no_name version (Some words.NoneOf) x v e = absurd cc
+true_no_name version (Some words.Order) x v e = absurd cc
+true_no_name version (Some words.By) x v e = absurd cc
+true_no_name version (Some words.Of) x v e = absurd cc
+true_no_name version (Some words.Descend) x v e = absurd cc
+true_no_name version (Some words.Fold) x v e = absurd cc
 
 -- a leaf is no name
-leaf_no_name : (span : Span) (k : TokenKind) (v : Leaf) → leaf_kind span k ≡ Some v → is_name_kind k ≡ false
-leaf_no_name span (kinds.Name n) v e = true_no_name (keyword_of n) (record { tree = any; span = span }) v e
-leaf_no_name span (kinds.Quoted q) v e = refl
-leaf_no_name span (kinds.Int i) v e = refl
-leaf_no_name span (kinds.Sign r) v e = refl
+leaf_no_name : (version : ℕ) (span : Span) (k : TokenKind) (v : Leaf) → leaf_kind span k ≡ Some v → is_name_kind version k ≡ false
+leaf_no_name version span (kinds.Name n) v e = true_no_name version (keyword_of n) (record { tree = any; span = span }) v e
+leaf_no_name version span (kinds.Quoted q) v e = refl
+leaf_no_name version span (kinds.Int i) v e = refl
+leaf_no_name version span (kinds.Sign r) v e = refl
 
 -- behind a post no star stands, behind a seq no dot either, behind an alt no bar either
 abbrev pub AfterSeq : List Token → Type 0
@@ -150,15 +164,15 @@ expression_opens s d p (suc depth) n =
     alt_opens (λ n. either (paren (expression unbounded depth) n) (leaf n)) _ n
     (opens_either (paren (expression unbounded depth) n) (leaf n) _ (opens_then (sign signs.OpenParen) _ _ (sign_opens signs.OpenParen _ (λ t is. other_sign signs.OpenParen s t.kind p is))) (leaf_opens s d n))
 
-leaf_opens_no_name : (n : ℕ) → Opens (leaf n) (λ t. is_name t ≡ false)
-leaf_opens_no_name n = opens_then (one leaf_value) _ _ (opens_one leaf_value _ (λ t v e. leaf_no_name t.span t.kind v e))
+leaf_opens_no_name : (version n : ℕ) → Opens (leaf n) (λ t. is_name version t ≡ false)
+leaf_opens_no_name version n = opens_then (one leaf_value) _ _ (opens_one leaf_value _ (λ t v e. leaf_no_name version t.span t.kind v e))
 
 -- an expression opens with no name
-pub expression_opens_no_name : (depth n : ℕ) → Opens (expression unbounded depth n) (λ t. is_name t ≡ false)
-expression_opens_no_name zero n = alt_opens leaf _ n (leaf_opens_no_name n)
-expression_opens_no_name (suc depth) n =
+pub expression_opens_no_name : (version depth n : ℕ) → Opens (expression unbounded depth n) (λ t. is_name version t ≡ false)
+expression_opens_no_name version zero n = alt_opens leaf _ n (leaf_opens_no_name version n)
+expression_opens_no_name version (suc depth) n =
     alt_opens (λ n. either (paren (expression unbounded depth) n) (leaf n)) _ n
-    (opens_either (paren (expression unbounded depth) n) (leaf n) _ (opens_then (sign signs.OpenParen) _ _ (sign_opens signs.OpenParen _ (λ t. sign_no_name signs.OpenParen t.kind))) (leaf_opens_no_name n))
+    (opens_either (paren (expression unbounded depth) n) (leaf n) _ (opens_then (sign signs.OpenParen) _ _ (sign_opens signs.OpenParen _ (λ t. sign_no_name version signs.OpenParen t.kind))) (leaf_opens_no_name version n))
 
 paren_opens : (inner : ℕ → List Token → Counted → Type 0) (n : ℕ) → Opens (paren inner n) (λ t. is_sign signs.OpenParen t ≡ true)
 paren_opens inner n = opens_then (sign signs.OpenParen) _ _ (sign_opens signs.OpenParen _ (λ t is. is))

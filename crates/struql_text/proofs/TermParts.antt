@@ -1,5 +1,5 @@
 -- Terms, links and collections, with their readers.
-use Rattle.std.proofs.Common.{◌≡◌, Bool, true, false, List, [], ◌++◌, refl, sym, subst, inl}
+use Rattle.std.proofs.Common.{◌≡◌, ℕ, Bool, true, false, List, [], ◌++◌, refl, sym, subst, inl}
 use Rattle.sd_lex.specs.declared.token.Token.{Token}
 use Rattle.sd_lex.specs.declared.token.Sign.TheVariants as signs
 use Rattle.struql_ast.specs.declared.Operand.{Operand}
@@ -39,86 +39,88 @@ no_arguments_part f = do
   close ← sign_part signs.CloseParen refl
   give_part (term_of f [] close)
 
-some_arguments_part : (f : Word) → Part IsReal (some_arguments f) (some_arguments f) Always (read_applied f)
-unfolding read_applied
-some_arguments_part f =
-    then_opens (λ t. is_sign signs.CloseParen t ≡ true) (listed_part operand_part (λ _ _ _. tt))
-    (λ args. do
-      close ← sign_part signs.CloseParen refl
-      give_part (term_of f args close))
-    (λ args. opens_then (sign signs.CloseParen) _ _ (sign_opens signs.CloseParen _ (λ t is. is)))
-    (λ t later is. (tt, other_sign signs.CloseParen signs.Comma t.kind refl is))
-
-arguments_part : (f : Word) → Part IsReal (arguments f) (arguments f) Always (read_arguments f)
-unfolding read_arguments
-arguments_part f = do
-  _ ← sign_part signs.OpenParen refl
-  either_part (is_sign signs.CloseParen) (no_arguments_part f) (some_arguments_part f)
-      (opens_then (sign signs.CloseParen) _ _ (sign_opens signs.CloseParen _ (λ t is. is)))
-      (opens_then (listed operand) _ _ (opens_then operand _ _ (operand_opens_no_sign signs.CloseParen)))
-
-pub term_part : Part IsReal term term Always read_term
-unfolding read_term
-term_part = do
-  f ← name_part
-  arguments_part f
-
-made_part : (f : Word) → Part IsReal (made f) (made f) Always (read_made f)
-unfolding read_made
-made_part f = do
-  t ← arguments_part f
-  give_part (tree.made t)
-
 -- behind a name that is no function no parenthesis opens
 abbrev pub AfterTarget : List Token → Type 0
 AfterTarget = Stops (is_sign signs.OpenParen)
 
-named_target_part : (x : Word) → Part IsReal (named_target x) (named_target x) AfterTarget (read_named_target x)
-unfolding read_named_target
-named_target_part x =
-    maybe_part (is_sign signs.OpenParen) (tree.plain (variable_of x)) (weaken_part AfterTarget (λ _ _. tt) (made_part x))
-    (opens_then (arguments x) _ _ (opens_then (sign signs.OpenParen) _ _ (sign_opens signs.OpenParen _ (λ t is. is))))
-    (λ rest f. f)
-
-source_part : Part IsReal source source AfterTarget read_source
-unfolding read_source
-source_part = do
-  x ← name_part
-  named_target_part x
-
-operand_target_part : (o : Operand) → Part IsReal (operand_target o) (operand_target o) AfterTarget (read_operand_target o)
-unfolding read_operand_target
-operand_target_part (Variable x span) = named_target_part (record { text = x; span = span })
-operand_target_part (Constant v span) = weaken_part AfterTarget (λ _ _. tt) (give_part (tree.plain (Constant v span)))
-
-target_part : Part IsReal target target AfterTarget read_target
-unfolding read_target
-target_part = do
-  o ← operand_part
-  operand_target_part o
-
-pub link_part : Part IsReal link link AfterTarget read_link
-unfolding read_link
-link_part =
-    then_opens (λ t. is_sign signs.Arrow t ≡ true) source_part
-    (λ s. do
-      _ ← sign_part signs.Arrow refl
-      l ← label_part
-      _ ← sign_part signs.Arrow refl
-      then_part target_part
-          (λ t. weaken_part _ (λ _ _. tt) (give_part (record { source = s; label = l; target = t; span = from_to (target_span s) (target_span t) })))
-          (λ t y w rest h f. ends_with AfterTarget _ y w rest h f))
-    (λ s. opens_then (sign signs.Arrow) _ _ (sign_opens signs.Arrow _ (λ t is. is)))
-    (λ t later is. other_sign signs.Arrow signs.OpenParen t.kind refl is)
-
-pub collect_part : Part IsReal collect collect Always read_collect
-unfolding read_collect
-collect_part = do
-  c ← collection_part
-  _ ← sign_part signs.OpenParen refl
-  then_opens (λ t. is_sign signs.CloseParen t ≡ true) source_part
-      (λ t. do
+-- by the version
+module _ (version : ℕ) where
+  some_arguments_part : (f : Word) → Part IsReal (some_arguments version f) (some_arguments version f) Always (read_applied version f)
+  unfolding read_applied
+  some_arguments_part f =
+      then_opens (λ t. is_sign signs.CloseParen t ≡ true) (listed_part (operand_part version) (λ _ _ _. tt))
+      (λ args. do
         close ← sign_part signs.CloseParen refl
-        give_part (record { collection = c.text; target = t; span = from_to c.span close }))
-      (λ t. opens_then (sign signs.CloseParen) _ _ (sign_opens signs.CloseParen _ (λ t is. is)))
-      (λ t later is. other_sign signs.CloseParen signs.OpenParen t.kind refl is)
+        give_part (term_of f args close))
+      (λ args. opens_then (sign signs.CloseParen) _ _ (sign_opens signs.CloseParen _ (λ t is. is)))
+      (λ t later is. (tt, other_sign signs.CloseParen signs.Comma t.kind refl is))
+
+  arguments_part : (f : Word) → Part IsReal (arguments version f) (arguments version f) Always (read_arguments version f)
+  unfolding read_arguments
+  arguments_part f = do
+    _ ← sign_part signs.OpenParen refl
+    either_part (is_sign signs.CloseParen) (no_arguments_part f) (some_arguments_part f)
+        (opens_then (sign signs.CloseParen) _ _ (sign_opens signs.CloseParen _ (λ t is. is)))
+        (opens_then (listed (operand version)) _ _ (opens_then (operand version) _ _ (operand_opens_no_sign version signs.CloseParen)))
+
+  pub term_part : Part IsReal (term version) (term version) Always (read_term version)
+  unfolding read_term
+  term_part = do
+    f ← name_part version
+    arguments_part f
+
+  made_part : (f : Word) → Part IsReal (made version f) (made version f) Always (read_made version f)
+  unfolding read_made
+  made_part f = do
+    t ← arguments_part f
+    give_part (tree.made t)
+
+  named_target_part : (x : Word) → Part IsReal (named_target version x) (named_target version x) AfterTarget (read_named_target version x)
+  unfolding read_named_target
+  named_target_part x =
+      maybe_part (is_sign signs.OpenParen) (tree.plain (variable_of x)) (weaken_part AfterTarget (λ _ _. tt) (made_part x))
+      (opens_then (arguments version x) _ _ (opens_then (sign signs.OpenParen) _ _ (sign_opens signs.OpenParen _ (λ t is. is))))
+      (λ rest f. f)
+
+  source_part : Part IsReal (source version) (source version) AfterTarget (read_source version)
+  unfolding read_source
+  source_part = do
+    x ← name_part version
+    named_target_part x
+
+  operand_target_part : (o : Operand) → Part IsReal (operand_target version o) (operand_target version o) AfterTarget (read_operand_target version o)
+  unfolding read_operand_target
+  operand_target_part (Variable x span) = named_target_part (record { text = x; span = span })
+  operand_target_part (Constant v span) = weaken_part AfterTarget (λ _ _. tt) (give_part (tree.plain (Constant v span)))
+
+  target_part : Part IsReal (target version) (target version) AfterTarget (read_target version)
+  unfolding read_target
+  target_part = do
+    o ← operand_part version
+    operand_target_part o
+
+  pub link_part : Part IsReal (link version) (link version) AfterTarget (read_link version)
+  unfolding read_link
+  link_part =
+      then_opens (λ t. is_sign signs.Arrow t ≡ true) source_part
+      (λ s. do
+        _ ← sign_part signs.Arrow refl
+        l ← label_part version
+        _ ← sign_part signs.Arrow refl
+        then_part target_part
+            (λ t. weaken_part _ (λ _ _. tt) (give_part (record { source = s; label = l; target = t; span = from_to (target_span s) (target_span t) })))
+            (λ t y w rest h f. ends_with AfterTarget _ y w rest h f))
+      (λ s. opens_then (sign signs.Arrow) _ _ (sign_opens signs.Arrow _ (λ t is. is)))
+      (λ t later is. other_sign signs.Arrow signs.OpenParen t.kind refl is)
+
+  pub collect_part : Part IsReal (collect version) (collect version) Always (read_collect version)
+  unfolding read_collect
+  collect_part = do
+    c ← collection_part version
+    _ ← sign_part signs.OpenParen refl
+    then_opens (λ t. is_sign signs.CloseParen t ≡ true) source_part
+        (λ t. do
+          close ← sign_part signs.CloseParen refl
+          give_part (record { collection = c.text; target = t; span = from_to c.span close }))
+        (λ t. opens_then (sign signs.CloseParen) _ _ (sign_opens signs.CloseParen _ (λ t is. is)))
+        (λ t later is. other_sign signs.CloseParen signs.OpenParen t.kind refl is)

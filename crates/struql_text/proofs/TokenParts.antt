@@ -1,6 +1,6 @@
 -- Single tokens: their readers, and which of them differ.
-use Rattle.std.proofs.Common.{◌≡◌, ℕ, Bool, true, false, cond, nat_eq, List, [], ◌∷◌, Option, Some, None, refl, sym, ap, ◌∙◌}
-use Rattle.std.specs.Prelude.{codes, if◌then◌else◌}
+use Rattle.std.proofs.Common.{◌≡◌, ◌<◌, ◌≤◌, ℕ, Bool, true, false, cond, nat_eq, List, [], ◌∷◌, Option, Some, None, refl, sym, ap, ◌∙◌, arith}
+use Rattle.std.specs.Prelude.{codes, not, ◌&&◌, if◌then◌else◌}
 use Rattle.std.proofs.lemmas.Bool.{eqb-true}
 use Rattle.sd_value.specs.declared.Datum.TheVariants as datum
 use Rattle.sd_value.specs.declared.Value.TheVariants.{Data}
@@ -22,7 +22,7 @@ use Rattle.grammar.proofs.Laws.{Always}
 use Rattle.struql_text.specs.declared.keyword.Keyword.{Keyword}
 use Rattle.struql_text.specs.declared.keyword.Keyword.TheVariants as words
 use Rattle.struql_text.specs.declared.keyword.Word.{Word}
-use Rattle.struql_text.specs.Terminals.{sign_value, rank, is_name, is_name_kind, is_free, is_found, named, keyword_of, is_keyword, is_keyword_kind, keyword_value, name_kind_value, name_value, collection_value, operand_kind_value, operand_value, constant_value, label_value, op_value, op_kind_value, op_sign}
+use Rattle.struql_text.specs.Terminals.{sign_value, rank, is_name, is_name_kind, is_free, is_found, named, keyword_of, keyword_in, is_late, in_version, is_keyword, is_keyword_kind, keyword_value, name_kind_value, name_value, collection_value, operand_kind_value, operand_value, constant_value, label_value, op_value, op_kind_value, op_sign}
 use Rattle.token_reader.specs.Terminals.{is_sign, is_sign_kind, number}
 use Rattle.struql_text.specs.Expression.{sign, keyword}
 use Rattle.struql_text.specs.Grammar.{name, collection, operand}
@@ -50,11 +50,11 @@ is_that s t is = (t, refl, rw is refl)
 pub sign_opens : (s : Sign) (W : Token → Type 0) → ((t : Token) → is_sign s t ≡ true → W t) → Opens (sign s) W
 sign_opens s W known = opens_one (sign_value s) W (λ t v e. known t (guard (is_sign_kind s t.kind) t.span v e))
 
-pub sign_no_name : (s : Sign) (k : TokenKind) → is_sign_kind s k ≡ true → is_name_kind k ≡ false
-sign_no_name s (kinds.Name n) e = absurd cc
-sign_no_name s (kinds.Quoted n) e = absurd cc
-sign_no_name s (kinds.Int n) e = absurd cc
-sign_no_name s (kinds.Sign n) e = refl
+pub sign_no_name : (version : ℕ) (s : Sign) (k : TokenKind) → is_sign_kind s k ≡ true → is_name_kind version k ≡ false
+sign_no_name version s (kinds.Name n) e = absurd cc
+sign_no_name version s (kinds.Quoted n) e = absurd cc
+sign_no_name version s (kinds.Int n) e = absurd cc
+sign_no_name version s (kinds.Sign n) e = refl
 
 pub sign_no_keyword : (s : Sign) (w : Keyword) (k : TokenKind) → is_sign_kind s k ≡ true → is_keyword_kind w k ≡ false
 sign_no_keyword s w (kinds.Name n) e = absurd cc
@@ -106,20 +106,8 @@ x_is_free : keyword_of (codes "x") ≡ None
 unfolding keyword_of
 x_is_free = refl
 
-pub name_part : Part IsReal name name Always read_name
-name_part = one_part name_value (made (kinds.Name (codes "x"))) (record { text = codes "x"; span = somewhere }) (rw x_is_free refl) (codes "x", (refl, (refl, tt)))
-
-pub collection_part : Part IsReal collection collection Always read_collection
-collection_part = one_part collection_value (made (kinds.Quoted [])) (record { text = []; span = somewhere }) refl real_quoted
-
-pub operand_part : Part IsReal operand operand Always read_operand
-operand_part = one_part operand_value (made (kinds.Quoted [])) (Constant (Data (datum.Text [])) somewhere) refl real_quoted
-
 pub constant_part : Part IsReal (one constant_value) (one constant_value) Always (take_one true constant_value)
 constant_part = one_part constant_value (made (kinds.Quoted [])) (Data (datum.Text [])) refl real_quoted
-
-pub label_part : Part IsReal (one label_value) (one label_value) Always (take_one true label_value)
-label_part = one_part label_value (made (kinds.Quoted [])) (label.Quoted []) refl real_quoted
 
 pub op_part : Part IsReal (one op_value) (one op_value) Always (take_one true op_value)
 op_part = one_part op_value (made (kinds.Sign signs.Eq)) op.Eq refl (sign_text signs.Eq, refl)
@@ -127,37 +115,6 @@ op_part = one_part op_value (made (kinds.Sign signs.Eq)) op.Eq refl (sign_text s
 named_is_free : {A : Type 0} (x v : A) (o : Option Keyword) → named x o ≡ Some v → is_free o ≡ true
 named_is_free x v None e = refl
 named_is_free x v (Some k) e = absurd cc
-
-named_not_found : {A : Type 0} (x v : A) (w : Keyword) (o : Option Keyword) → named x o ≡ Some v → is_found w o ≡ false
-named_not_found x v w None e = refl
-named_not_found x v w (Some k) e = absurd cc
-
-name_is : (span : Span) (k : TokenKind) (v : Word) → name_kind_value span k ≡ Some v → is_name_kind k ≡ true
-name_is span (kinds.Name n) v e = named_is_free (record { text = n; span = span }) v (keyword_of n) e
-name_is span (kinds.Quoted n) v e = absurd cc
-name_is span (kinds.Int n) v e = absurd cc
-name_is span (kinds.Sign n) v e = absurd cc
-
-pub name_opens : Opens name (λ t. is_name t ≡ true)
-name_opens = opens_one name_value (λ t. is_name t ≡ true) (λ t v e. name_is t.span t.kind v e)
-
-operand_no_sign : (s : Sign) (span : Span) (k : TokenKind) (v : Operand) → operand_kind_value span k ≡ Some v → is_sign_kind s k ≡ false
-operand_no_sign s span (kinds.Name n) v e = refl
-operand_no_sign s span (kinds.Quoted n) v e = refl
-operand_no_sign s span (kinds.Int n) v e = refl
-operand_no_sign s span (kinds.Sign n) v e = absurd cc
-
-pub operand_opens_no_sign : (s : Sign) → Opens operand (λ t. is_sign s t ≡ false)
-operand_opens_no_sign s = opens_one operand_value _ (λ t v e. operand_no_sign s t.span t.kind v e)
-
-operand_no_keyword : (w : Keyword) (span : Span) (k : TokenKind) (v : Operand) → operand_kind_value span k ≡ Some v → is_keyword_kind w k ≡ false
-operand_no_keyword w span (kinds.Name n) v e = named_not_found (Variable n span) v w (keyword_of n) e
-operand_no_keyword w span (kinds.Quoted n) v e = refl
-operand_no_keyword w span (kinds.Int n) v e = refl
-operand_no_keyword w span (kinds.Sign n) v e = absurd cc
-
-pub operand_opens_no_keyword : (w : Keyword) → Opens operand (λ t. is_keyword w t ≡ false)
-operand_opens_no_keyword w = opens_one operand_value _ (λ t v e. operand_no_keyword w t.span t.kind v e)
 
 op_no_keyword : (w : Keyword) (k : TokenKind) (v : Op) → op_kind_value k ≡ Some v → is_keyword_kind w k ≡ false
 op_no_keyword w (kinds.Name n) v e = absurd cc
@@ -167,6 +124,101 @@ op_no_keyword w (kinds.Sign n) v e = refl
 
 pub op_opens_no_keyword : (w : Keyword) → Opens (one op_value) (λ t. is_keyword w t ≡ false)
 op_opens_no_keyword w = opens_one op_value _ (λ t v e. op_no_keyword w t.kind v e)
+
+-- a keyword of all versions has a small number
+early_rank : (w : Keyword) → is_late w ≡ false → rank w < 9
+early_rank words.Input e = omega arith
+early_rank words.Output e = omega arith
+early_rank words.Where e = omega arith
+early_rank words.Create e = omega arith
+early_rank words.Link e = omega arith
+early_rank words.Collect e = omega arith
+early_rank words.Not e = omega arith
+early_rank words.In e = omega arith
+early_rank words.True e = omega arith
+early_rank words.NoneOf e = absurd cc
+early_rank words.Order e = absurd cc
+early_rank words.By e = absurd cc
+early_rank words.Of e = absurd cc
+early_rank words.Descend e = absurd cc
+early_rank words.Fold e = absurd cc
+
+-- and one of version 3 a great one
+late_rank : (w : Keyword) → is_late w ≡ true → 9 ≤ rank w
+late_rank words.Input e = absurd cc
+late_rank words.Output e = absurd cc
+late_rank words.Where e = absurd cc
+late_rank words.Create e = absurd cc
+late_rank words.Link e = absurd cc
+late_rank words.Collect e = absurd cc
+late_rank words.Not e = absurd cc
+late_rank words.In e = absurd cc
+late_rank words.True e = absurd cc
+late_rank words.NoneOf e = omega arith
+late_rank words.Order e = omega arith
+late_rank words.By e = omega arith
+late_rank words.Of e = omega arith
+late_rank words.Descend e = omega arith
+late_rank words.Fold e = omega arith
+
+-- what isn't kept in a version is no keyword of all versions
+late_not_found : (w k : Keyword) → is_late w ≡ false → is_late k ≡ true → is_found w (Some k) ≡ false
+late_not_found w k early late =
+    differ (rank k) (rank w) (nat_eq (rank k) (rank w)) refl (early_rank w early) (late_rank k late)
+  where
+    differ : (n m : ℕ) (b : Bool) → nat_eq n m ≡ b → m < 9 → 9 ≤ n → b ≡ false
+    differ n m false is less more = refl
+    differ n m true is less more = let same = eqb-true n m is in absurd omega (arith, same, less, more)
+
+named_not_found : {A : Type 0} (x v : A) (version : ℕ) (w : Keyword) (o : Option Keyword) → is_late w ≡ false → named x (in_version version o) ≡ Some v → is_found w o ≡ false
+named_not_found x v version w None early e = refl
+named_not_found x v version w (Some k) early e = kept (is_late k) refl (nat_eq version 3) e
+  where
+    kept : (late : Bool) → is_late k ≡ late → (three : Bool) → named x (if late && not three then None else Some k) ≡ Some v → is_found w (Some k) ≡ false
+    kept false is three e = absurd cc
+    kept true is true e = absurd cc
+    kept true is false e = late_not_found w k early is
+
+-- by the version
+module _ (version : ℕ) where
+  pub name_part : Part IsReal (name version) (name version) Always (read_name version)
+  name_part = one_part (name_value version) (made (kinds.Name (codes "x"))) (record { text = codes "x"; span = somewhere }) (rw x_is_free refl) (codes "x", (refl, (refl, tt)))
+
+  pub collection_part : Part IsReal (collection version) (collection version) Always (read_collection version)
+  collection_part = one_part (collection_value version) (made (kinds.Quoted [])) (record { text = []; span = somewhere }) refl real_quoted
+
+  pub operand_part : Part IsReal (operand version) (operand version) Always (read_operand version)
+  operand_part = one_part (operand_value version) (made (kinds.Quoted [])) (Constant (Data (datum.Text [])) somewhere) refl real_quoted
+
+  pub label_part : Part IsReal (one (label_value version)) (one (label_value version)) Always (take_one true (label_value version))
+  label_part = one_part (label_value version) (made (kinds.Quoted [])) (label.Quoted []) refl real_quoted
+
+  name_is : (span : Span) (k : TokenKind) (v : Word) → name_kind_value version span k ≡ Some v → is_name_kind version k ≡ true
+  name_is span (kinds.Name n) v e = named_is_free (record { text = n; span = span }) v (keyword_in version n) e
+  name_is span (kinds.Quoted n) v e = absurd cc
+  name_is span (kinds.Int n) v e = absurd cc
+  name_is span (kinds.Sign n) v e = absurd cc
+
+  pub name_opens : Opens (name version) (λ t. is_name version t ≡ true)
+  name_opens = opens_one (name_value version) (λ t. is_name version t ≡ true) (λ t v e. name_is t.span t.kind v e)
+
+  operand_no_sign : (s : Sign) (span : Span) (k : TokenKind) (v : Operand) → operand_kind_value version span k ≡ Some v → is_sign_kind s k ≡ false
+  operand_no_sign s span (kinds.Name n) v e = refl
+  operand_no_sign s span (kinds.Quoted n) v e = refl
+  operand_no_sign s span (kinds.Int n) v e = refl
+  operand_no_sign s span (kinds.Sign n) v e = absurd cc
+
+  pub operand_opens_no_sign : (s : Sign) → Opens (operand version) (λ t. is_sign s t ≡ false)
+  operand_opens_no_sign s = opens_one (operand_value version) _ (λ t v e. operand_no_sign s t.span t.kind v e)
+
+  operand_no_keyword : (w : Keyword) → is_late w ≡ false → (span : Span) (k : TokenKind) (v : Operand) → operand_kind_value version span k ≡ Some v → is_keyword_kind w k ≡ false
+  operand_no_keyword w early span (kinds.Name n) v e = named_not_found (Variable n span) v version w (keyword_of n) early e
+  operand_no_keyword w early span (kinds.Quoted n) v e = refl
+  operand_no_keyword w early span (kinds.Int n) v e = refl
+  operand_no_keyword w early span (kinds.Sign n) v e = absurd cc
+
+  pub operand_opens_no_keyword : (w : Keyword) → is_late w ≡ false → Opens (operand version) (λ t. is_keyword w t ≡ false)
+  operand_opens_no_keyword w early = opens_one (operand_value version) _ (λ t v e. operand_no_keyword w early t.span t.kind v e)
 
 -- a comparison by its sign's number
 unfoldable op_numbered : ℕ → Option Op

@@ -49,19 +49,7 @@ listed P = do
   first ← P
   iterated (further P) (first ∷ [])
 
--- ---- terms, links and collections
-
--- a word that is no keyword
-abbrev pub name : List Token → Word → Type 0
-name = one name_value
-
--- a word that is no keyword, or a quoted text
-abbrev pub collection : List Token → Word → Type 0
-collection = one collection_value
-
--- a variable or a constant
-abbrev pub operand : List Token → Operand → Type 0
-operand = one operand_value
+-- ---- what no name is read in
 
 -- the term from the function's name to the closing parenthesis
 abbrev pub term_of : Word → List Operand → Span → Term
@@ -73,107 +61,19 @@ no_arguments f = do
   close ← sign signs.CloseParen
   nothing (term_of f [] close)
 
--- the arguments of a term, and its end
-abbrev pub some_arguments : Word → List Token → Term → Type 0
-some_arguments f = do
-  args ← listed operand
-  close ← sign signs.CloseParen
-  nothing (term_of f args close)
-
--- a function's arguments, which make its name a term
-abbrev pub arguments : Word → List Token → Term → Type 0
-arguments f = do
-  sign signs.OpenParen
-  either (no_arguments f) (some_arguments f)
-
--- a function's name and its arguments
-abbrev pub term : List Token → Term → Type 0
-term = do
-  f ← name
-  arguments f
-
--- arguments behind a name make a term
-abbrev pub made : Word → List Token → Target → Type 0
-made f = do
-  t ← arguments f
-  nothing (tree.made t)
-
 -- the name as a variable
 abbrev pub variable_of : Word → Operand
 variable_of x = Variable x.text x.span
-
--- behind a name: arguments, or nothing
-abbrev pub named_target : Word → List Token → Target → Type 0
-named_target x = either (made x) (nothing (tree.plain (variable_of x)))
-
--- a name or a term
-abbrev pub source : List Token → Target → Type 0
-source = do
-  x ← name
-  named_target x
-
--- behind an operand: a name may have arguments, and a constant has none
-abbrev pub operand_target : Operand → List Token → Target → Type 0
-operand_target (Variable x span) = named_target (record { text = x; span = span })
-operand_target (Constant v span) = nothing (tree.plain (Constant v span))
-
--- an operand or a term
-abbrev pub target : List Token → Target → Type 0
-target = do
-  o ← operand
-  operand_target o
 
 -- the place of a target
 abbrev pub target_span : Target → Span
 target_span (tree.plain o) = operand_span o
 target_span (tree.made t) = t.span
 
--- `source -> label -> target`
-abbrev pub link : List Token → Link → Type 0
-link = do
-  s ← source
-  sign signs.Arrow
-  l ← one label_value
-  sign signs.Arrow
-  t ← target
-  nothing (record {
-    source = s;
-    label = l;
-    target = t;
-    span = from_to (target_span s) (target_span t);
-  })
-
--- `C(target)`
-abbrev pub collect : List Token → Collect → Type 0
-collect = do
-  c ← collection
-  sign signs.OpenParen
-  t ← source
-  close ← sign signs.CloseParen
-  nothing (record { collection = c.text; target = t; span = from_to c.span close })
-
--- ---- conditions
-
 -- `isInt(x)` and its like where the name is a test's, else `C(x)`
 abbrev pub call_with : Option Test → Word → Word → Span → Condition
 call_with None c x close = tree.member c.text x.text x.span (from_to c.span close)
 call_with (Some test) c x close = tree.kind test x.text x.span (from_to c.span close)
-
--- `isInt(x)` and its like, or `C(x)`, behind what is before the parenthesis
-abbrev pub call : Option Test → Word → List Token → Condition → Type 0
-call test c = do
-  sign signs.OpenParen
-  x ← name
-  close ← sign signs.CloseParen
-  nothing (call_with test c x close)
-
--- the second operand of a test of two texts, from the comma on
-abbrev pub second : TextTest → Word → Operand → List Token → Condition → Type 0
-second test c t = do
-  sign signs.Comma
-  u ← operand
-  close ← sign signs.CloseParen
-  nothing (tree.compare t (Texts test) u (from_to c.span close))
 
 -- the end of `C(x)`
 abbrev pub call_end : Word → Word → List Token → Condition → Type 0
@@ -181,34 +81,9 @@ call_end c x = do
   close ← sign signs.CloseParen
   nothing (call_with None c x close)
 
--- after the first operand: the second one, or the end of `C(x)`
-abbrev pub pair_end : TextTest → Word → Operand → List Token → Condition → Type 0
-pair_end test c (Variable x span) =
-    either (second test c (Variable x span)) (call_end c (record { text = x; span = span }))
-pair_end test c (Constant v span) = second test c (Constant v span)
-
--- `starts(t, u)` and its like, or `C(x)`, after a name that may be either
-abbrev pub pair_or_call : TextTest → Word → List Token → Condition → Type 0
-pair_or_call test c = do
-  sign signs.OpenParen
-  t ← operand
-  pair_end test c t
-
--- what a name in front of a parenthesis makes, by the test of two texts that it is
-abbrev pub name_call : Option TextTest → Word → List Token → Condition → Type 0
-name_call None c = call (test_of c.text) c
-name_call (Some test) c = pair_or_call test c
-
 -- from the first operand to the last
 abbrev pub between : Operand → Operand → Span
 between t u = from_to (operand_span t) (operand_span u)
-
--- an operator, and the right side
-abbrev pub comparison : Operand → List Token → Condition → Type 0
-comparison t = do
-  o ← one op_value
-  u ← operand
-  nothing (tree.compare t o u (between t u))
 
 -- `in {..}`, with one constant or more
 abbrev pub membership : Operand → List Token → Condition → Type 0
@@ -219,23 +94,151 @@ membership t = do
   close ← sign signs.CloseBrace
   nothing (tree.one_of t vs (from_to (operand_span t) close))
 
--- an arc variable
-abbrev pub arc_step : List Token → Step → Type 0
-arc_step = do
-  x ← name
-  nothing (tree.arc_variable x.text x.span)
+-- ---- terms, links and collections, by the version
 
--- paths and what else relates operands, by what an expression is
-module _ (expression : List Token → Counted → Type 0) where
-  -- a path expression
-  abbrev pub expression_step : List Token → Step → Type 0
-  expression_step = do
-    e ← expression
-    nothing (tree.expression e.tree e.span)
+module _ (version : ℕ) where
+  -- a word that is no keyword
+  abbrev pub name : List Token → Word → Type 0
+  name = one (name_value version)
 
+  -- a word that is no keyword, or a quoted text
+  abbrev pub collection : List Token → Word → Type 0
+  collection = one (collection_value version)
+
+  -- a variable or a constant
+  abbrev pub operand : List Token → Operand → Type 0
+  operand = one (operand_value version)
+
+  -- the arguments of a term, and its end
+  abbrev pub some_arguments : Word → List Token → Term → Type 0
+  some_arguments f = do
+    args ← listed operand
+    close ← sign signs.CloseParen
+    nothing (term_of f args close)
+
+  -- a function's arguments, which make its name a term
+  abbrev pub arguments : Word → List Token → Term → Type 0
+  arguments f = do
+    sign signs.OpenParen
+    either (no_arguments f) (some_arguments f)
+
+  -- a function's name and its arguments
+  abbrev pub term : List Token → Term → Type 0
+  term = do
+    f ← name
+    arguments f
+
+  -- arguments behind a name make a term
+  abbrev pub made : Word → List Token → Target → Type 0
+  made f = do
+    t ← arguments f
+    nothing (tree.made t)
+
+  -- behind a name: arguments, or nothing
+  abbrev pub named_target : Word → List Token → Target → Type 0
+  named_target x = either (made x) (nothing (tree.plain (variable_of x)))
+
+  -- a name or a term
+  abbrev pub source : List Token → Target → Type 0
+  source = do
+    x ← name
+    named_target x
+
+  -- behind an operand: a name may have arguments, and a constant has none
+  abbrev pub operand_target : Operand → List Token → Target → Type 0
+  operand_target (Variable x span) = named_target (record { text = x; span = span })
+  operand_target (Constant v span) = nothing (tree.plain (Constant v span))
+
+  -- an operand or a term
+  abbrev pub target : List Token → Target → Type 0
+  target = do
+    o ← operand
+    operand_target o
+
+  -- `source -> label -> target`
+  abbrev pub link : List Token → Link → Type 0
+  link = do
+    s ← source
+    sign signs.Arrow
+    l ← one (label_value version)
+    sign signs.Arrow
+    t ← target
+    nothing (record {
+      source = s;
+      label = l;
+      target = t;
+      span = from_to (target_span s) (target_span t);
+    })
+
+  -- `C(target)`
+  abbrev pub collect : List Token → Collect → Type 0
+  collect = do
+    c ← collection
+    sign signs.OpenParen
+    t ← source
+    close ← sign signs.CloseParen
+    nothing (record { collection = c.text; target = t; span = from_to c.span close })
+
+  -- ---- conditions
+
+  -- `isInt(x)` and its like, or `C(x)`, behind what is before the parenthesis
+  abbrev pub call : Option Test → Word → List Token → Condition → Type 0
+  call test c = do
+    sign signs.OpenParen
+    x ← name
+    close ← sign signs.CloseParen
+    nothing (call_with test c x close)
+
+  -- the second operand of a test of two texts, from the comma on
+  abbrev pub second : TextTest → Word → Operand → List Token → Condition → Type 0
+  second test c t = do
+    sign signs.Comma
+    u ← operand
+    close ← sign signs.CloseParen
+    nothing (tree.compare t (Texts test) u (from_to c.span close))
+
+  -- after the first operand: the second one, or the end of `C(x)`
+  abbrev pub pair_end : TextTest → Word → Operand → List Token → Condition → Type 0
+  pair_end test c (Variable x span) =
+      either (second test c (Variable x span)) (call_end c (record { text = x; span = span }))
+  pair_end test c (Constant v span) = second test c (Constant v span)
+
+  -- `starts(t, u)` and its like, or `C(x)`, after a name that may be either
+  abbrev pub pair_or_call : TextTest → Word → List Token → Condition → Type 0
+  pair_or_call test c = do
+    sign signs.OpenParen
+    t ← operand
+    pair_end test c t
+
+  -- what a name in front of a parenthesis makes, by the test of two texts that it is
+  abbrev pub name_call : Option TextTest → Word → List Token → Condition → Type 0
+  name_call None c = call (test_of c.text) c
+  name_call (Some test) c = pair_or_call test c
+
+  -- an operator, and the right side
+  abbrev pub comparison : Operand → List Token → Condition → Type 0
+  comparison t = do
+    o ← one op_value
+    u ← operand
+    nothing (tree.compare t o u (between t u))
+
+  -- an arc variable
+  abbrev pub arc_step : List Token → Step → Type 0
+  arc_step = do
+    x ← name
+    nothing (tree.arc_variable x.text x.span)
+
+-- a path expression, by what an expression is
+abbrev pub expression_step : (List Token → Counted → Type 0) → List Token → Step → Type 0
+expression_step expression = do
+  e ← expression
+  nothing (tree.expression e.tree e.span)
+
+-- paths, what else relates operands, and conditions, by the version and by what an expression is
+module _ (version : ℕ) (expression : List Token → Counted → Type 0) where
   -- what is between the arrows of a path
   abbrev pub step : List Token → Step → Type 0
-  step = either arc_step expression_step
+  step = either (arc_step version) (expression_step expression)
 
   -- `-> step -> u`
   abbrev pub path : Operand → List Token → Condition → Type 0
@@ -243,31 +246,29 @@ module _ (expression : List Token → Counted → Type 0) where
     sign signs.Arrow
     s ← step
     sign signs.Arrow
-    u ← operand
+    u ← operand version
     nothing (tree.path t s u (between t u))
 
   -- behind the operand that begins a condition
   abbrev pub relation : Operand → List Token → Condition → Type 0
-  relation t = either (path t) (either (membership t) (comparison t))
+  relation t = either (path t) (either (membership t) (comparison version t))
 
--- conditions, by the version and by what an expression is
-module _ (version : ℕ) (expression : List Token → Counted → Type 0) where
   -- a name may be that of a test or of a collection, a quoted text that of a collection alone
   abbrev pub behind : Operand → List Token → Condition → Type 0
-  behind (Variable x span) = either (name_call (pair_test version x) (record {
+  behind (Variable x span) = either (name_call version (pair_test version x) (record {
     text = x;
     span = span;
-  })) (relation expression (Variable x span))
-  behind (Constant (Data (datum.Text q)) span) = either (call None (record {
+  })) (relation (Variable x span))
+  behind (Constant (Data (datum.Text q)) span) = either (call version None (record {
     text = q;
     span = span;
-  })) (relation expression (Constant (Data (datum.Text q)) span))
-  behind (Constant v span) = relation expression (Constant v span)
+  })) (relation (Constant (Data (datum.Text q)) span))
+  behind (Constant v span) = relation (Constant v span)
 
   -- a condition without `not`
   abbrev pub plain : List Token → Condition → Type 0
   plain = do
-    t ← operand
+    t ← operand version
     behind t
 
   -- `not(..)` of a condition without `not`

@@ -142,19 +142,7 @@ read_listed p = do
   first ← p
   iterate (is_sign signs.Comma) (read_further p) (first ∷ [])
 
--- ---- terms, links and collections
-
--- the reader of a name
-abbrev pub read_name : List Token → Outcome Token Word
-read_name = take_one true name_value
-
--- the reader of a collection's name
-abbrev pub read_collection : List Token → Outcome Token Word
-read_collection = take_one true collection_value
-
--- the reader of an operand
-abbrev pub read_operand : List Token → Outcome Token Operand
-read_operand = take_one true operand_value
+-- ---- what no name is read in
 
 -- the end of a term without arguments
 unfoldable pub read_nullary : Word → List Token → Outcome Token Term
@@ -162,126 +150,11 @@ read_nullary f = do
   close ← read_sign signs.CloseParen
   give (term_of f [] close)
 
--- the arguments of a term, and its end
-unfoldable pub read_applied : Word → List Token → Outcome Token Term
-read_applied f = do
-  args ← read_listed read_operand
-  close ← read_sign signs.CloseParen
-  give (term_of f args close)
-
--- a function's arguments
-unfoldable pub read_arguments : Word → List Token → Outcome Token Term
-read_arguments f = do
-  read_sign signs.OpenParen
-  choose (is_sign signs.CloseParen) (read_nullary f) (read_applied f)
-
--- a term
-unfoldable pub read_term : List Token → Outcome Token Term
-read_term = do
-  f ← read_name
-  read_arguments f
-
--- arguments behind a name
-unfoldable pub read_made : Word → List Token → Outcome Token Target
-read_made f = do
-  t ← read_arguments f
-  give (tree.made t)
-
--- behind a name: arguments, or nothing
-unfoldable pub read_named_target : Word → List Token → Outcome Token Target
-read_named_target x =
-    choose (is_sign signs.OpenParen) (read_made x) (give (tree.plain (variable_of x)))
-
--- a name or a term
-unfoldable pub read_source : List Token → Outcome Token Target
-read_source = do
-  x ← read_name
-  read_named_target x
-
--- behind an operand
-unfoldable pub read_operand_target : Operand → List Token → Outcome Token Target
-read_operand_target (Variable x span) = read_named_target (record { text = x; span = span })
-read_operand_target (Constant v span) = give (tree.plain (Constant v span))
-
--- an operand or a term
-unfoldable pub read_target : List Token → Outcome Token Target
-read_target = do
-  o ← read_operand
-  read_operand_target o
-
--- a link
-unfoldable pub read_link : List Token → Outcome Token Link
-read_link = do
-  s ← read_source
-  read_sign signs.Arrow
-  l ← take_one true label_value
-  read_sign signs.Arrow
-  t ← read_target
-  give (record {
-    source = s;
-    label = l;
-    target = t;
-    span = from_to (target_span s) (target_span t);
-  })
-
--- an item of COLLECT
-unfoldable pub read_collect : List Token → Outcome Token Collect
-read_collect = do
-  c ← read_collection
-  read_sign signs.OpenParen
-  t ← read_source
-  close ← read_sign signs.CloseParen
-  give (record { collection = c.text; target = t; span = from_to c.span close })
-
--- ---- conditions
-
--- a test, or a collection's member
-unfoldable pub read_call : Option Test → Word → List Token → Outcome Token Condition
-read_call test c = do
-  read_sign signs.OpenParen
-  x ← read_name
-  close ← read_sign signs.CloseParen
-  give (call_with test c x close)
-
--- the second operand of a test of two texts
-unfoldable pub read_second : TextTest → Word → Operand → List Token → Outcome Token Condition
-read_second test c t = do
-  read_sign signs.Comma
-  u ← read_operand
-  close ← read_sign signs.CloseParen
-  give (tree.compare t (Texts test) u (from_to c.span close))
-
 -- the end of `C(x)`
 unfoldable pub read_call_end : Word → Word → List Token → Outcome Token Condition
 read_call_end c x = do
   close ← read_sign signs.CloseParen
   give (call_with None c x close)
-
--- after the first operand
-unfoldable pub read_pair_end : TextTest → Word → Operand → List Token → Outcome Token Condition
-read_pair_end test c (Variable x span) =
-    choose (is_sign signs.Comma) (read_second test c (Variable x span))
-    (read_call_end c (record { text = x; span = span }))
-read_pair_end test c (Constant v span) = read_second test c (Constant v span)
-
--- a test of two texts, or a collection's member
-unfoldable pub read_pair_or_call : TextTest → Word → List Token → Outcome Token Condition
-read_pair_or_call test c = do
-  read_sign signs.OpenParen
-  t ← read_operand
-  read_pair_end test c t
-
--- what a name in front of a parenthesis makes
-unfoldable pub read_name_call : Option TextTest → Word → List Token → Outcome Token Condition
-read_name_call None c = read_call (test_of c.text) c
-read_name_call (Some test) c = read_pair_or_call test c
-
--- an operator, and the right side
-unfoldable pub read_comparison : Operand → List Token → Outcome Token Condition
-read_comparison t = do
-  o ← take_one true op_value
-  u ← read_operand
-  give (tree.compare t o u (between t u))
 
 -- `in {..}`
 unfoldable pub read_membership : Operand → List Token → Outcome Token Condition
@@ -292,67 +165,197 @@ read_membership t = do
   close ← read_sign signs.CloseBrace
   give (tree.one_of t vs (from_to (operand_span t) close))
 
--- an arc variable
-unfoldable pub read_arc_step : List Token → Outcome Token Step
-read_arc_step = do
-  x ← read_name
-  give (tree.arc_variable x.text x.span)
-
 -- a path expression
 unfoldable pub read_path_step : List Token → Outcome Token Step
 read_path_step = do
   e ← read_expression 64 0
   give (tree.expression e.tree e.span)
 
--- what is between arrows
-unfoldable pub read_step : List Token → Outcome Token Step
-read_step = choose is_name read_arc_step read_path_step
+-- ---- terms, links, collections and conditions, by the version
 
--- a path behind its first operand
-unfoldable pub read_path : Operand → List Token → Outcome Token Condition
-read_path t = do
-  read_sign signs.Arrow
-  s ← read_step
-  read_sign signs.Arrow
-  u ← read_operand
-  give (tree.path t s u (between t u))
+module _ (version : ℕ) where
+  -- the reader of a name
+  abbrev pub read_name : List Token → Outcome Token Word
+  read_name = take_one true (name_value version)
 
--- behind the operand that begins a condition
-unfoldable pub read_relation : Operand → List Token → Outcome Token Condition
-read_relation t =
-    choose (is_sign signs.Arrow) (read_path t)
-    (choose (is_keyword words.In) (read_membership t) (read_comparison t))
+  -- the reader of a collection's name
+  abbrev pub read_collection : List Token → Outcome Token Word
+  read_collection = take_one true (collection_value version)
 
--- behind a name, behind a quoted text, or behind a number
-unfoldable pub read_behind : ℕ → Operand → List Token → Outcome Token Condition
-read_behind version (Variable x span) =
-    choose (is_sign signs.OpenParen) (read_name_call (pair_test version x) (record {
-      text = x;
-      span = span;
-    })) (read_relation (Variable x span))
-read_behind version (Constant (Data (datum.Text q)) span) =
-    choose (is_sign signs.OpenParen) (read_call None (record {
-      text = q;
-      span = span;
-    })) (read_relation (Constant (Data (datum.Text q)) span))
-read_behind version (Constant v span) = read_relation (Constant v span)
+  -- the reader of an operand
+  abbrev pub read_operand : List Token → Outcome Token Operand
+  read_operand = take_one true (operand_value version)
 
--- a condition without `not`
-unfoldable pub read_plain : ℕ → List Token → Outcome Token Condition
-read_plain version = do
-  t ← read_operand
-  read_behind version t
+  -- the arguments of a term, and its end
+  unfoldable pub read_applied : Word → List Token → Outcome Token Term
+  read_applied f = do
+    args ← read_listed read_operand
+    close ← read_sign signs.CloseParen
+    give (term_of f args close)
 
--- `not(..)`
-unfoldable pub read_negated : ℕ → List Token → Outcome Token Condition
-read_negated version = do
-  n ← read_keyword words.Not
-  read_sign signs.OpenParen
-  c ← read_plain version
-  close ← read_sign signs.CloseParen
-  give (tree.negation c (from_to n close))
+  -- a function's arguments
+  unfoldable pub read_arguments : Word → List Token → Outcome Token Term
+  read_arguments f = do
+    read_sign signs.OpenParen
+    choose (is_sign signs.CloseParen) (read_nullary f) (read_applied f)
 
--- a condition
-unfoldable pub read_condition : ℕ → List Token → Outcome Token Condition
-read_condition version =
-    choose (is_keyword words.Not) (read_negated version) (read_plain version)
+  -- a term
+  unfoldable pub read_term : List Token → Outcome Token Term
+  read_term = do
+    f ← read_name
+    read_arguments f
+
+  -- arguments behind a name
+  unfoldable pub read_made : Word → List Token → Outcome Token Target
+  read_made f = do
+    t ← read_arguments f
+    give (tree.made t)
+
+  -- behind a name: arguments, or nothing
+  unfoldable pub read_named_target : Word → List Token → Outcome Token Target
+  read_named_target x =
+      choose (is_sign signs.OpenParen) (read_made x) (give (tree.plain (variable_of x)))
+
+  -- a name or a term
+  unfoldable pub read_source : List Token → Outcome Token Target
+  read_source = do
+    x ← read_name
+    read_named_target x
+
+  -- behind an operand
+  unfoldable pub read_operand_target : Operand → List Token → Outcome Token Target
+  read_operand_target (Variable x span) = read_named_target (record { text = x; span = span })
+  read_operand_target (Constant v span) = give (tree.plain (Constant v span))
+
+  -- an operand or a term
+  unfoldable pub read_target : List Token → Outcome Token Target
+  read_target = do
+    o ← read_operand
+    read_operand_target o
+
+  -- a link
+  unfoldable pub read_link : List Token → Outcome Token Link
+  read_link = do
+    s ← read_source
+    read_sign signs.Arrow
+    l ← take_one true (label_value version)
+    read_sign signs.Arrow
+    t ← read_target
+    give (record {
+      source = s;
+      label = l;
+      target = t;
+      span = from_to (target_span s) (target_span t);
+    })
+
+  -- an item of COLLECT
+  unfoldable pub read_collect : List Token → Outcome Token Collect
+  read_collect = do
+    c ← read_collection
+    read_sign signs.OpenParen
+    t ← read_source
+    close ← read_sign signs.CloseParen
+    give (record { collection = c.text; target = t; span = from_to c.span close })
+
+  -- ---- conditions
+
+  -- a test, or a collection's member
+  unfoldable pub read_call : Option Test → Word → List Token → Outcome Token Condition
+  read_call test c = do
+    read_sign signs.OpenParen
+    x ← read_name
+    close ← read_sign signs.CloseParen
+    give (call_with test c x close)
+
+  -- the second operand of a test of two texts
+  unfoldable pub read_second : TextTest → Word → Operand → List Token → Outcome Token Condition
+  read_second test c t = do
+    read_sign signs.Comma
+    u ← read_operand
+    close ← read_sign signs.CloseParen
+    give (tree.compare t (Texts test) u (from_to c.span close))
+
+  -- after the first operand
+  unfoldable pub read_pair_end : TextTest → Word → Operand → List Token → Outcome Token Condition
+  read_pair_end test c (Variable x span) =
+      choose (is_sign signs.Comma) (read_second test c (Variable x span))
+      (read_call_end c (record { text = x; span = span }))
+  read_pair_end test c (Constant v span) = read_second test c (Constant v span)
+
+  -- a test of two texts, or a collection's member
+  unfoldable pub read_pair_or_call : TextTest → Word → List Token → Outcome Token Condition
+  read_pair_or_call test c = do
+    read_sign signs.OpenParen
+    t ← read_operand
+    read_pair_end test c t
+
+  -- what a name in front of a parenthesis makes
+  unfoldable pub read_name_call : Option TextTest → Word → List Token → Outcome Token Condition
+  read_name_call None c = read_call (test_of c.text) c
+  read_name_call (Some test) c = read_pair_or_call test c
+
+  -- an operator, and the right side
+  unfoldable pub read_comparison : Operand → List Token → Outcome Token Condition
+  read_comparison t = do
+    o ← take_one true op_value
+    u ← read_operand
+    give (tree.compare t o u (between t u))
+
+  -- an arc variable
+  unfoldable pub read_arc_step : List Token → Outcome Token Step
+  read_arc_step = do
+    x ← read_name
+    give (tree.arc_variable x.text x.span)
+
+  -- what is between arrows
+  unfoldable pub read_step : List Token → Outcome Token Step
+  read_step = choose (is_name version) read_arc_step read_path_step
+
+  -- a path behind its first operand
+  unfoldable pub read_path : Operand → List Token → Outcome Token Condition
+  read_path t = do
+    read_sign signs.Arrow
+    s ← read_step
+    read_sign signs.Arrow
+    u ← read_operand
+    give (tree.path t s u (between t u))
+
+  -- behind the operand that begins a condition
+  unfoldable pub read_relation : Operand → List Token → Outcome Token Condition
+  read_relation t =
+      choose (is_sign signs.Arrow) (read_path t)
+      (choose (is_keyword words.In) (read_membership t) (read_comparison t))
+
+  -- behind a name, behind a quoted text, or behind a number
+  unfoldable pub read_behind : Operand → List Token → Outcome Token Condition
+  read_behind (Variable x span) =
+      choose (is_sign signs.OpenParen) (read_name_call (pair_test version x) (record {
+        text = x;
+        span = span;
+      })) (read_relation (Variable x span))
+  read_behind (Constant (Data (datum.Text q)) span) =
+      choose (is_sign signs.OpenParen) (read_call None (record {
+        text = q;
+        span = span;
+      })) (read_relation (Constant (Data (datum.Text q)) span))
+  read_behind (Constant v span) = read_relation (Constant v span)
+
+  -- a condition without `not`
+  unfoldable pub read_plain : List Token → Outcome Token Condition
+  read_plain = do
+    t ← read_operand
+    read_behind t
+
+  -- `not(..)`
+  unfoldable pub read_negated : List Token → Outcome Token Condition
+  read_negated = do
+    n ← read_keyword words.Not
+    read_sign signs.OpenParen
+    c ← read_plain
+    close ← read_sign signs.CloseParen
+    give (tree.negation c (from_to n close))
+
+  -- a condition
+  unfoldable pub read_condition : List Token → Outcome Token Condition
+  read_condition =
+      choose (is_keyword words.Not) read_negated read_plain

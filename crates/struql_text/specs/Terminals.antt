@@ -1,5 +1,5 @@
 -- Single tokens.
-use Rattle.std.specs.Prelude.{ℕ, Bool, true, false, ◌||◌, List, Option, Some, None, if◌then◌else◌, nat_eq, pos, codes}
+use Rattle.std.specs.Prelude.{ℕ, Bool, true, false, ◌||◌, ◌&&◌, not, List, Option, Some, None, if◌then◌else◌, nat_eq, pos, codes}
 use Rattle.std.specs.Str.{bytes_eq}
 use Rattle.std.specs.Ordering.{int_eq}
 use Rattle.sd_value.specs.declared.Datum.TheVariants as datum
@@ -34,7 +34,7 @@ from_to a b = record { start = a.start; «end» = b.«end» }
 abbrev pub sign_value : Sign → Token → Option Span
 sign_value s t = if is_sign_kind s t.kind then Some t.span else None
 
--- the keyword that a word is, in all upper or all lower case
+-- the keyword that a word is in some version, in all upper or all lower case
 unfoldable pub keyword_of : List ℕ → Option Keyword
 keyword_of w =
     if bytes_eq w (codes "INPUT") || bytes_eq w (codes "input") then Some words.Input
@@ -46,7 +46,32 @@ keyword_of w =
     else (if bytes_eq w (codes "NOT") || bytes_eq w (codes "not") then Some words.Not
     else (if bytes_eq w (codes "IN") || bytes_eq w (codes "in") then Some words.In
     else (if bytes_eq w (codes "TRUE") || bytes_eq w (codes "true") then Some words.True
-    else None))))))))
+    else (if bytes_eq w (codes "NONE") || bytes_eq w (codes "none") then Some words.NoneOf
+    else (if bytes_eq w (codes "ORDER") || bytes_eq w (codes "order") then Some words.Order
+    else (if bytes_eq w (codes "BY") || bytes_eq w (codes "by") then Some words.By
+    else (if bytes_eq w (codes "OF") || bytes_eq w (codes "of") then Some words.Of
+    else (if bytes_eq w (codes "DESCEND") || bytes_eq w (codes "descend") then Some words.Descend
+    else (if bytes_eq w (codes "FOLD") || bytes_eq w (codes "fold") then Some words.Fold
+    else None))))))))))))))
+
+-- the words that are keywords from version 3 on
+abbrev pub is_late : Keyword → Bool
+is_late words.NoneOf = true
+is_late words.Order = true
+is_late words.By = true
+is_late words.Of = true
+is_late words.Descend = true
+is_late words.Fold = true
+is_late k = false
+
+-- the keyword found, where it is one in the version
+abbrev pub in_version : ℕ → Option Keyword → Option Keyword
+in_version version None = None
+in_version version (Some k) = if is_late k && not (nat_eq version 3) then None else Some k
+
+-- the keyword that a word is in a version, in all upper or all lower case
+abbrev pub keyword_in : ℕ → List ℕ → Option Keyword
+keyword_in version w = in_version version (keyword_of w)
 
 -- a number for each keyword
 abbrev pub rank : Keyword → ℕ
@@ -59,6 +84,12 @@ rank words.Collect = 5
 rank words.Not = 6
 rank words.In = 7
 rank words.True = 8
+rank words.NoneOf = 9
+rank words.Order = 10
+rank words.By = 11
+rank words.Of = 12
+rank words.Descend = 13
+rank words.Fold = 14
 
 -- the keyword found is this one
 abbrev pub is_found : Keyword → Option Keyword → Bool
@@ -85,54 +116,67 @@ abbrev pub is_free : Option Keyword → Bool
 is_free None = true
 is_free (Some k) = false
 
--- the kind of a token is a word that is no keyword
-abbrev pub is_name_kind : TokenKind → Bool
-is_name_kind (kinds.Name n) = is_free (keyword_of n)
-is_name_kind (kinds.Quoted q) = false
-is_name_kind (kinds.Int i) = false
-is_name_kind (kinds.Sign r) = false
-
--- the token is a word that is no keyword
-abbrev pub is_name : Token → Bool
-is_name t = is_name_kind t.kind
-
 -- the value, where the word is no keyword
 abbrev pub named : {A : Type 0} → A → Option Keyword → Option A
 named v None = Some v
 named v (Some k) = None
 
--- the name that a token's kind is
-abbrev pub name_kind_value : Span → TokenKind → Option Word
-name_kind_value span (kinds.Name n) = named (record { text = n; span = span }) (keyword_of n)
-name_kind_value span (kinds.Quoted q) = None
-name_kind_value span (kinds.Int i) = None
-name_kind_value span (kinds.Sign r) = None
+-- names, by the version
+module _ (version : ℕ) where
+  -- the kind of a token is a word that is no keyword
+  abbrev pub is_name_kind : TokenKind → Bool
+  is_name_kind (kinds.Name n) = is_free (keyword_in version n)
+  is_name_kind (kinds.Quoted q) = false
+  is_name_kind (kinds.Int i) = false
+  is_name_kind (kinds.Sign r) = false
 
--- the name that a token is
-abbrev pub name_value : Token → Option Word
-name_value t = name_kind_value t.span t.kind
+  -- the token is a word that is no keyword
+  abbrev pub is_name : Token → Bool
+  is_name t = is_name_kind t.kind
 
--- the name of a collection that a token's kind is: a word that is no keyword, or any quoted text
-abbrev pub collection_kind_value : Span → TokenKind → Option Word
-collection_kind_value span (kinds.Name n) = named (record { text = n; span = span }) (keyword_of n)
-collection_kind_value span (kinds.Quoted q) = Some (record { text = q; span = span })
-collection_kind_value span (kinds.Int i) = None
-collection_kind_value span (kinds.Sign r) = None
+  -- the name that a token's kind is
+  abbrev pub name_kind_value : Span → TokenKind → Option Word
+  name_kind_value span (kinds.Name n) = named (record { text = n; span = span }) (keyword_in version n)
+  name_kind_value span (kinds.Quoted q) = None
+  name_kind_value span (kinds.Int i) = None
+  name_kind_value span (kinds.Sign r) = None
 
--- the name of a collection that a token is
-abbrev pub collection_value : Token → Option Word
-collection_value t = collection_kind_value t.span t.kind
+  -- the name that a token is
+  abbrev pub name_value : Token → Option Word
+  name_value t = name_kind_value t.span t.kind
 
--- a variable or a constant
-abbrev pub operand_kind_value : Span → TokenKind → Option Operand
-operand_kind_value span (kinds.Name n) = named (Variable n span) (keyword_of n)
-operand_kind_value span (kinds.Quoted q) = Some (Constant (Data (datum.Text q)) span)
-operand_kind_value span (kinds.Int i) = Some (Constant (Data (datum.Int i)) span)
-operand_kind_value span (kinds.Sign r) = None
+  -- the name of a collection that a token's kind is: a word that is no keyword, or any quoted text
+  abbrev pub collection_kind_value : Span → TokenKind → Option Word
+  collection_kind_value span (kinds.Name n) = named (record { text = n; span = span }) (keyword_in version n)
+  collection_kind_value span (kinds.Quoted q) = Some (record { text = q; span = span })
+  collection_kind_value span (kinds.Int i) = None
+  collection_kind_value span (kinds.Sign r) = None
 
--- the operand that a token is
-abbrev pub operand_value : Token → Option Operand
-operand_value t = operand_kind_value t.span t.kind
+  -- the name of a collection that a token is
+  abbrev pub collection_value : Token → Option Word
+  collection_value t = collection_kind_value t.span t.kind
+
+  -- a variable or a constant
+  abbrev pub operand_kind_value : Span → TokenKind → Option Operand
+  operand_kind_value span (kinds.Name n) = named (Variable n span) (keyword_in version n)
+  operand_kind_value span (kinds.Quoted q) = Some (Constant (Data (datum.Text q)) span)
+  operand_kind_value span (kinds.Int i) = Some (Constant (Data (datum.Int i)) span)
+  operand_kind_value span (kinds.Sign r) = None
+
+  -- the operand that a token is
+  abbrev pub operand_value : Token → Option Operand
+  operand_value t = operand_kind_value t.span t.kind
+
+  -- a link's label
+  abbrev pub label_kind_value : Span → TokenKind → Option LinkLabel
+  label_kind_value span (kinds.Name n) = named (label.Variable n span) (keyword_in version n)
+  label_kind_value span (kinds.Quoted q) = Some (label.Quoted q)
+  label_kind_value span (kinds.Int i) = None
+  label_kind_value span (kinds.Sign r) = None
+
+  -- the label that a token is
+  abbrev pub label_value : Token → Option LinkLabel
+  label_value t = label_kind_value t.span t.kind
 
 -- the place of an operand
 abbrev pub operand_span : Operand → Span
@@ -149,17 +193,6 @@ constant_kind_value (kinds.Sign r) = None
 -- the constant that a token is
 abbrev pub constant_value : Token → Option Value
 constant_value t = constant_kind_value t.kind
-
--- a link's label
-abbrev pub label_kind_value : Span → TokenKind → Option LinkLabel
-label_kind_value span (kinds.Name n) = named (label.Variable n span) (keyword_of n)
-label_kind_value span (kinds.Quoted q) = Some (label.Quoted q)
-label_kind_value span (kinds.Int i) = None
-label_kind_value span (kinds.Sign r) = None
-
--- the label that a token is
-abbrev pub label_value : Token → Option LinkLabel
-label_value t = label_kind_value t.span t.kind
 
 -- the operator that a sign is
 abbrev pub op_sign : Sign → Option Op

@@ -125,15 +125,16 @@ fn constants_at(alloc: Global, tokens: &[Token]) -> Result<(Vec<Value>, &[Token]
 #[tactic(auto, unfolding(crate::specs::Reading::read_call))]
 fn call_at(
     alloc: Global,
+    version: u8,
     test: Option<Test>,
     name: Word,
     tokens: &[Token],
 ) -> Result<(Condition, &[Token]), Halt<Token>>
     ensures { Gives (λ x. condition_written x.0) (λ x. x.1.now) result
-        (read_call test name tokens.now) }
+        (read_call version test name tokens.now) }
 {
     let (_, rest) = sign_at(tokens, Sign::OpenParen)?;
-    let (x, rest) = name_at(alloc, rest)?;
+    let (x, rest) = name_at(alloc, version, rest)?;
     let (close, rest) = sign_at(rest, Sign::CloseParen)?;
     let span = from_to(name.span, close);
     let variable_span = x.span;
@@ -159,16 +160,17 @@ fn call_at(
 #[tactic(auto, unfolding(crate::specs::Reading::read_second))]
 fn second_at(
     alloc: Global,
+    version: u8,
     test: TextTest,
     name: Word,
     left: Operand,
     tokens: &[Token],
 ) -> Result<(Condition, &[Token]), Halt<Token>>
     ensures { Gives (λ x. condition_written x.0) (λ x. x.1.now) result
-        (read_second test name left tokens.now) }
+        (read_second version test name left tokens.now) }
 {
     let (_, rest) = sign_at(tokens, Sign::Comma)?;
-    let (right, rest) = operand_at(alloc, rest)?;
+    let (right, rest) = operand_at(alloc, version, rest)?;
     let (close, rest) = sign_at(rest, Sign::CloseParen)?;
     let span = from_to(name.span, close);
     let op = Op::Texts(test);
@@ -206,24 +208,39 @@ fn call_end_at(name: Word, x: Word, tokens: &[Token]) -> Result<(Condition, &[To
 #[tactic(auto, unfolding(crate::specs::Reading::read_pair_end))]
 fn pair_end_at(
     alloc: Global,
+    version: u8,
     test: TextTest,
     name: Word,
     first: Operand,
     tokens: &[Token],
 ) -> Result<(Condition, &[Token]), Halt<Token>>
     ensures { Gives (λ x. condition_written x.0) (λ x. x.1.now) result
-        (read_pair_end test name first tokens.now) }
+        (read_pair_end version test name first tokens.now) }
 {
     match first {
         Operand::Variable(text, span) => {
             if has_sign(tokens, Sign::Comma) {
-                second_at(alloc, test, name, Operand::Variable(text, span), tokens)
+                second_at(
+                    alloc,
+                    version,
+                    test,
+                    name,
+                    Operand::Variable(text, span),
+                    tokens,
+                )
             } else {
                 call_end_at(name, Word { text, span }, tokens)
             }
         }
         Operand::Constant(value, span) => {
-            second_at(alloc, test, name, Operand::Constant(value, span), tokens)
+            second_at(
+                alloc,
+                version,
+                test,
+                name,
+                Operand::Constant(value, span),
+                tokens,
+            )
         }
     }
 }
@@ -232,16 +249,17 @@ fn pair_end_at(
 #[tactic(auto, unfolding(crate::specs::Reading::read_pair_or_call))]
 fn pair_or_call_at(
     alloc: Global,
+    version: u8,
     test: TextTest,
     name: Word,
     tokens: &[Token],
 ) -> Result<(Condition, &[Token]), Halt<Token>>
     ensures { Gives (λ x. condition_written x.0) (λ x. x.1.now) result
-        (read_pair_or_call test name tokens.now) }
+        (read_pair_or_call version test name tokens.now) }
 {
     let (_, rest) = sign_at(tokens, Sign::OpenParen)?;
-    let (first, rest) = operand_at(alloc, rest)?;
-    pair_end_at(alloc, test, name, first, rest)
+    let (first, rest) = operand_at(alloc, version, rest)?;
+    pair_end_at(alloc, version, test, name, first, rest)
 }
 
 /// What a name in front of a parenthesis makes.
@@ -253,13 +271,13 @@ fn name_call_at(
     tokens: &[Token],
 ) -> Result<(Condition, &[Token]), Halt<Token>>
     ensures { Gives (λ x. condition_written x.0) (λ x. x.1.now) result
-        (read_name_call (pair_test version name.text) name tokens.now) }
+        (read_name_call version (pair_test version name.text) name tokens.now) }
 {
     match pair_test(version, name.text.bytes()) {
-        Some(test) => pair_or_call_at(alloc, test, name, tokens),
+        Some(test) => pair_or_call_at(alloc, version, test, name, tokens),
         None => {
             let test = test_of(name.text.bytes());
-            call_at(alloc, test, name, tokens)
+            call_at(alloc, version, test, name, tokens)
         }
     }
 }
@@ -268,14 +286,15 @@ fn name_call_at(
 #[tactic(auto, unfolding(crate::specs::Reading::read_comparison))]
 fn comparison_at(
     alloc: Global,
+    version: u8,
     left: Operand,
     tokens: &[Token],
 ) -> Result<(Condition, &[Token]), Halt<Token>>
     ensures { Gives (λ x. condition_written x.0) (λ x. x.1.now) result
-        (read_comparison left tokens.now) }
+        (read_comparison version left tokens.now) }
 {
     let (op, rest) = op_at(tokens)?;
-    let (right, rest) = operand_at(alloc, rest)?;
+    let (right, rest) = operand_at(alloc, version, rest)?;
     let span = from_to(span_of(&left), span_of(&right));
     Ok((
         Condition::Compare {
@@ -316,11 +335,15 @@ fn membership_at(
 
 /// What is between the arrows of a path.
 #[tactic(auto, unfolding(crate::specs::Reading::read_step, crate::specs::Reading::read_arc_step, crate::specs::Reading::read_path_step))]
-fn step_at(alloc: Global, tokens: &[Token]) -> Result<(PathStep, &[Token]), Halt<Token>>
-    ensures { Gives (λ x. step_written x.0) (λ x. x.1.now) result (read_step tokens.now) }
+fn step_at(
+    alloc: Global,
+    version: u8,
+    tokens: &[Token],
+) -> Result<(PathStep, &[Token]), Halt<Token>>
+    ensures { Gives (λ x. step_written x.0) (λ x. x.1.now) result (read_step version tokens.now) }
 {
-    if has_name(tokens) {
-        let (name, rest) = name_at(alloc, tokens)?;
+    if has_name(version, tokens) {
+        let (name, rest) = name_at(alloc, version, tokens)?;
         return Ok((PathStep::ArcVariable(name.text, name.span), rest));
     }
     let (found, rest) = alt_at(alloc, 64, 0, tokens)?;
@@ -331,15 +354,16 @@ fn step_at(alloc: Global, tokens: &[Token]) -> Result<(PathStep, &[Token]), Halt
 #[tactic(auto, unfolding(crate::specs::Reading::read_path))]
 fn path_at(
     alloc: Global,
+    version: u8,
     from: Operand,
     tokens: &[Token],
 ) -> Result<(Condition, &[Token]), Halt<Token>>
-    ensures { Gives (λ x. condition_written x.0) (λ x. x.1.now) result (read_path from tokens.now) }
+    ensures { Gives (λ x. condition_written x.0) (λ x. x.1.now) result (read_path version from tokens.now) }
 {
     let (_, rest) = sign_at(tokens, Sign::Arrow)?;
-    let (step, rest) = step_at(alloc, rest)?;
+    let (step, rest) = step_at(alloc, version, rest)?;
     let (_, rest) = sign_at(rest, Sign::Arrow)?;
-    let (to, rest) = operand_at(alloc, rest)?;
+    let (to, rest) = operand_at(alloc, version, rest)?;
     let span = from_to(span_of(&from), span_of(&to));
     Ok((
         Condition::Path {
@@ -356,18 +380,19 @@ fn path_at(
 #[tactic(auto, unfolding(crate::specs::Reading::read_relation))]
 fn relation_at(
     alloc: Global,
+    version: u8,
     first: Operand,
     tokens: &[Token],
 ) -> Result<(Condition, &[Token]), Halt<Token>>
     ensures { Gives (λ x. condition_written x.0) (λ x. x.1.now) result
-        (read_relation first tokens.now) }
+        (read_relation version first tokens.now) }
 {
     if has_sign(tokens, Sign::Arrow) {
-        path_at(alloc, first, tokens)
+        path_at(alloc, version, first, tokens)
     } else if has_keyword(tokens, Keyword::In) {
         membership_at(alloc, first, tokens)
     } else {
-        comparison_at(alloc, first, tokens)
+        comparison_at(alloc, version, first, tokens)
     }
 }
 
@@ -387,7 +412,7 @@ fn behind_at(
             if has_sign(tokens, Sign::OpenParen) {
                 name_call_at(alloc, version, Word { text, span }, tokens)
             } else {
-                relation_at(alloc, Operand::Variable(text, span), tokens)
+                relation_at(alloc, version, Operand::Variable(text, span), tokens)
             }
         }
         Operand::Constant(value, span) => {
@@ -395,10 +420,10 @@ fn behind_at(
                 if has_sign(tokens, Sign::OpenParen) {
                     // A quoted text names a collection, never a test.
                     let text = text.copy(alloc)?;
-                    return call_at(alloc, None, Word { text, span }, tokens);
+                    return call_at(alloc, version, None, Word { text, span }, tokens);
                 }
             }
-            relation_at(alloc, Operand::Constant(value, span), tokens)
+            relation_at(alloc, version, Operand::Constant(value, span), tokens)
         }
     }
 }
@@ -413,7 +438,7 @@ fn plain_at(
     ensures { Gives (λ x. condition_written x.0) (λ x. x.1.now) result
         (read_plain version tokens.now) }
 {
-    let (first, rest) = operand_at(alloc, tokens)?;
+    let (first, rest) = operand_at(alloc, version, tokens)?;
     behind_at(alloc, version, first, rest)
 }
 

@@ -10,7 +10,7 @@ mod tokens;
 
 pub use conditions::{condition_at, test_of};
 pub use expression::from_to;
-pub use keyword::{Keyword, Word, keyword_of};
+pub use keyword::{Keyword, Word, keyword_in, keyword_of};
 pub use laws::conditions_are_read_as_spelled;
 pub use terms::{collect_at, link_at, term_at};
-pub use tokens::{has_keyword, keyword_at, name_at, sign_at};
+pub use tokens::{collection_at, has_keyword, keyword_at, name_at, sign_at};

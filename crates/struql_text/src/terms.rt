@@ -21,27 +21,32 @@ use token_reader::{Halt, has_sign};
 
 /// A comma and an operand.
 #[tactic(auto, unfolding(crate::specs::Reading::read_next))]
-fn next_operand_at(alloc: Global, tokens: &[Token]) -> Result<(Operand, &[Token]), Halt<Token>>
-    ensures { Gives (λ x. x.0) (λ x. x.1.now) result (read_next read_operand tokens.now) }
+fn next_operand_at(
+    alloc: Global,
+    version: u8,
+    tokens: &[Token],
+) -> Result<(Operand, &[Token]), Halt<Token>>
+    ensures { Gives (λ x. x.0) (λ x. x.1.now) result (read_next (read_operand version) tokens.now) }
 {
     let (_, rest) = sign_at(tokens, Sign::Comma)?;
-    operand_at(alloc, rest)
+    operand_at(alloc, version, rest)
 }
 
 /// This operand, and those behind it.
 fn operands_from(
     alloc: Global,
+    version: u8,
     first: Operand,
     tokens: &[Token],
 ) -> Result<(Vec<Operand>, &[Token]), Halt<Token>>
     ensures { Gives (λ x. x.0.items) (λ x. x.1.now) result
-        (iterate (is_sign sign_kinds.Comma) (read_further read_operand) (first ∷ []) tokens.now) }
+        (iterate (is_sign sign_kinds.Comma) (read_further (read_operand version)) (first ∷ []) tokens.now) }
 {
     let mut items = Vec::new(alloc);
     items.push(first)?;
     let mut rest = tokens;
     'list: while has_sign(rest, Sign::Comma) {
-        let (item, after) = next_operand_at(alloc, rest)?;
+        let (item, after) = next_operand_at(alloc, version, rest)?;
         items.push(item)?;
         rest = after;
     }
@@ -49,28 +54,33 @@ fn operands_from(
 }
 
 #[tactic(auto, unfolding(crate::specs::Reading::read_listed))]
-fn operands_at(alloc: Global, tokens: &[Token]) -> Result<(Vec<Operand>, &[Token]), Halt<Token>>
-    ensures { Gives (λ x. x.0.items) (λ x. x.1.now) result (read_listed read_operand tokens.now) }
+fn operands_at(
+    alloc: Global,
+    version: u8,
+    tokens: &[Token],
+) -> Result<(Vec<Operand>, &[Token]), Halt<Token>>
+    ensures { Gives (λ x. x.0.items) (λ x. x.1.now) result (read_listed (read_operand version) tokens.now) }
 {
-    let (first, rest) = operand_at(alloc, tokens)?;
-    operands_from(alloc, first, rest)
+    let (first, rest) = operand_at(alloc, version, tokens)?;
+    operands_from(alloc, version, first, rest)
 }
 
 /// The arguments of a function, which make its name a term.
 #[tactic(auto, unfolding(crate::specs::Reading::read_arguments, crate::specs::Reading::read_nullary, crate::specs::Reading::read_applied))]
 fn arguments_at(
     alloc: Global,
+    version: u8,
     function: Word,
     tokens: &[Token],
 ) -> Result<(SkolemTerm, &[Token]), Halt<Token>>
     ensures { Gives (λ x. term_written x.0) (λ x. x.1.now) result
-        (read_arguments function tokens.now) }
+        (read_arguments version function tokens.now) }
 {
     let (_, rest) = sign_at(tokens, Sign::OpenParen)?;
     let (args, rest) = if has_sign(rest, Sign::CloseParen) {
         (Vec::new(alloc), rest)
     } else {
-        operands_at(alloc, rest)?
+        operands_at(alloc, version, rest)?
     };
     let (close, rest) = sign_at(rest, Sign::CloseParen)?;
     let span = from_to(function.span, close);
@@ -87,25 +97,30 @@ fn arguments_at(
 
 /// A term.
 #[tactic(auto, unfolding(crate::specs::Reading::read_term))]
-pub fn term_at(alloc: Global, tokens: &[Token]) -> Result<(SkolemTerm, &[Token]), Halt<Token>>
-    ensures { Gives (λ x. term_written x.0) (λ x. x.1.now) result (read_term tokens.now) }
+pub fn term_at(
+    alloc: Global,
+    version: u8,
+    tokens: &[Token],
+) -> Result<(SkolemTerm, &[Token]), Halt<Token>>
+    ensures { Gives (λ x. term_written x.0) (λ x. x.1.now) result (read_term version tokens.now) }
 {
-    let (function, rest) = name_at(alloc, tokens)?;
-    arguments_at(alloc, function, rest)
+    let (function, rest) = name_at(alloc, version, tokens)?;
+    arguments_at(alloc, version, function, rest)
 }
 
 /// What a name is by what is behind it: a term or a variable.
 #[tactic(auto, unfolding(crate::specs::Reading::read_named_target, crate::specs::Reading::read_made))]
 fn named_target_at(
     alloc: Global,
+    version: u8,
     name: Word,
     tokens: &[Token],
 ) -> Result<(Target, &[Token]), Halt<Token>>
     ensures { Gives (λ x. target_written x.0) (λ x. x.1.now) result
-        (read_named_target name tokens.now) }
+        (read_named_target version name tokens.now) }
 {
     if has_sign(tokens, Sign::OpenParen) {
-        let (term, rest) = arguments_at(alloc, name, tokens)?;
+        let (term, rest) = arguments_at(alloc, version, name, tokens)?;
         Ok((Target::Made(term), rest))
     } else {
         let variable = Operand::Variable(name.text, name.span);
@@ -115,21 +130,29 @@ fn named_target_at(
 
 /// A name or a term.
 #[tactic(auto, unfolding(crate::specs::Reading::read_source))]
-fn source_at(alloc: Global, tokens: &[Token]) -> Result<(Target, &[Token]), Halt<Token>>
-    ensures { Gives (λ x. target_written x.0) (λ x. x.1.now) result (read_source tokens.now) }
+fn source_at(
+    alloc: Global,
+    version: u8,
+    tokens: &[Token],
+) -> Result<(Target, &[Token]), Halt<Token>>
+    ensures { Gives (λ x. target_written x.0) (λ x. x.1.now) result (read_source version tokens.now) }
 {
-    let (name, rest) = name_at(alloc, tokens)?;
-    named_target_at(alloc, name, rest)
+    let (name, rest) = name_at(alloc, version, tokens)?;
+    named_target_at(alloc, version, name, rest)
 }
 
 /// An operand or a term.
 #[tactic(auto, unfolding(crate::specs::Reading::read_target, crate::specs::Reading::read_operand_target))]
-fn target_at(alloc: Global, tokens: &[Token]) -> Result<(Target, &[Token]), Halt<Token>>
-    ensures { Gives (λ x. target_written x.0) (λ x. x.1.now) result (read_target tokens.now) }
+fn target_at(
+    alloc: Global,
+    version: u8,
+    tokens: &[Token],
+) -> Result<(Target, &[Token]), Halt<Token>>
+    ensures { Gives (λ x. target_written x.0) (λ x. x.1.now) result (read_target version tokens.now) }
 {
-    let (operand, rest) = operand_at(alloc, tokens)?;
+    let (operand, rest) = operand_at(alloc, version, tokens)?;
     match operand {
-        Operand::Variable(text, span) => named_target_at(alloc, Word { text, span }, rest),
+        Operand::Variable(text, span) => named_target_at(alloc, version, Word { text, span }, rest),
         Operand::Constant(value, span) => {
             Ok((Target::Plain(Operand::Constant(value, span)), rest))
         }
@@ -148,14 +171,18 @@ fn span_of(target: &Target) -> Span
 
 /// A link.
 #[tactic(auto, unfolding(crate::specs::Reading::read_link))]
-pub fn link_at(alloc: Global, tokens: &[Token]) -> Result<(Link, &[Token]), Halt<Token>>
-    ensures { Gives (λ x. link_written x.0) (λ x. x.1.now) result (read_link tokens.now) }
+pub fn link_at(
+    alloc: Global,
+    version: u8,
+    tokens: &[Token],
+) -> Result<(Link, &[Token]), Halt<Token>>
+    ensures { Gives (λ x. link_written x.0) (λ x. x.1.now) result (read_link version tokens.now) }
 {
-    let (source, rest) = source_at(alloc, tokens)?;
+    let (source, rest) = source_at(alloc, version, tokens)?;
     let (_, rest) = sign_at(rest, Sign::Arrow)?;
-    let (label, rest) = label_at(alloc, rest)?;
+    let (label, rest) = label_at(alloc, version, rest)?;
     let (_, rest) = sign_at(rest, Sign::Arrow)?;
-    let (target, rest) = target_at(alloc, rest)?;
+    let (target, rest) = target_at(alloc, version, rest)?;
     let span = from_to(span_of(&source), span_of(&target));
     Ok((
         Link {
@@ -170,12 +197,16 @@ pub fn link_at(alloc: Global, tokens: &[Token]) -> Result<(Link, &[Token]), Halt
 
 /// A value for a collection.
 #[tactic(auto, unfolding(crate::specs::Reading::read_collect))]
-pub fn collect_at(alloc: Global, tokens: &[Token]) -> Result<(Collect, &[Token]), Halt<Token>>
-    ensures { Gives (λ x. collect_written x.0) (λ x. x.1.now) result (read_collect tokens.now) }
+pub fn collect_at(
+    alloc: Global,
+    version: u8,
+    tokens: &[Token],
+) -> Result<(Collect, &[Token]), Halt<Token>>
+    ensures { Gives (λ x. collect_written x.0) (λ x. x.1.now) result (read_collect version tokens.now) }
 {
-    let (collection, rest) = collection_at(alloc, tokens)?;
+    let (collection, rest) = collection_at(alloc, version, tokens)?;
     let (_, rest) = sign_at(rest, Sign::OpenParen)?;
-    let (target, rest) = source_at(alloc, rest)?;
+    let (target, rest) = source_at(alloc, version, rest)?;
     let (close, rest) = sign_at(rest, Sign::CloseParen)?;
     let span = from_to(collection.span, close);
     let collection = collection.text;

@@ -7,7 +7,7 @@ ghost use Rattle.struql_text.specs.Terminals.{sign_value, keyword_value, is_keyw
 ghost use Rattle.struql_text.specs.Terminals.{collection_value, operand_value, constant_value, label_value, op_value};
 ghost use Rattle.token_reader.specs.Terminals.{is_sign};
 
-use crate::keyword::{Keyword, Word, keyword_of};
+use crate::keyword::{Keyword, Word, keyword_in, keyword_of};
 use query_spec::Op;
 use sd_lex::{Sign, Span, Token, TokenKind};
 use sd_value::{Datum, Value};
@@ -41,11 +41,11 @@ fn is_keyword(token: &Token, keyword: Keyword) -> bool
     }
 }
 
-fn is_name(token: &Token) -> bool
-    ensures { result ≡ is_name token.now }
+fn is_name(version: u8, token: &Token) -> bool
+    ensures { result ≡ is_name version token.now }
 {
     match &token.kind {
-        TokenKind::Name(text) => keyword_of(text.bytes()).is_none(),
+        TokenKind::Name(text) => keyword_in(version, text.bytes()).is_none(),
         _ => false,
     }
 }
@@ -74,22 +74,26 @@ pub fn has_keyword(tokens: &[Token], keyword: Keyword) -> bool
 }
 
 /// Whether a name is next.
-pub fn has_name(tokens: &[Token]) -> bool
-    ensures { result ≡ starts is_name tokens.now }
+pub fn has_name(version: u8, tokens: &[Token]) -> bool
+    ensures { result ≡ starts (is_name version) tokens.now }
 {
     match tokens {
         [] => false,
-        [first, ..] => is_name(first),
+        [first, ..] => is_name(version, first),
     }
 }
 
 /// A name at the front.
-pub fn name_at(alloc: Global, tokens: &[Token]) -> Result<(Word, &[Token]), Halt<Token>>
-    ensures { Gives (λ x. x.0) (λ x. x.1.now) result (take_one true name_value tokens.now) }
+pub fn name_at(
+    alloc: Global,
+    version: u8,
+    tokens: &[Token],
+) -> Result<(Word, &[Token]), Halt<Token>>
+    ensures { Gives (λ x. x.0) (λ x. x.1.now) result (take_one true (name_value version) tokens.now) }
 {
     if let [first, rest @ ..] = tokens {
         if let TokenKind::Name(text) = &first.kind {
-            if let None = keyword_of(text.bytes()) {
+            if let None = keyword_in(version, text.bytes()) {
                 let text = text.copy(alloc)?;
                 let span = first.span;
                 return Ok((Word { text, span }, rest));
@@ -100,15 +104,19 @@ pub fn name_at(alloc: Global, tokens: &[Token]) -> Result<(Word, &[Token]), Halt
 }
 
 /// The name of a collection at the front: a name, or a quoted text.
-pub fn collection_at(alloc: Global, tokens: &[Token]) -> Result<(Word, &[Token]), Halt<Token>>
-    ensures { Gives (λ x. x.0) (λ x. x.1.now) result (take_one true collection_value tokens.now) }
+pub fn collection_at(
+    alloc: Global,
+    version: u8,
+    tokens: &[Token],
+) -> Result<(Word, &[Token]), Halt<Token>>
+    ensures { Gives (λ x. x.0) (λ x. x.1.now) result (take_one true (collection_value version) tokens.now) }
 {
     let [first, rest @ ..] = tokens else {
         return Err(Halt::Expected(tokens));
     };
     let span = first.span;
     match &first.kind {
-        TokenKind::Name(text) => match keyword_of(text.bytes()) {
+        TokenKind::Name(text) => match keyword_in(version, text.bytes()) {
             Some(_) => Err(Halt::Expected(tokens)),
             None => {
                 let text = text.copy(alloc)?;
@@ -124,14 +132,18 @@ pub fn collection_at(alloc: Global, tokens: &[Token]) -> Result<(Word, &[Token])
 }
 
 /// A variable or a constant at the front.
-pub fn operand_at(alloc: Global, tokens: &[Token]) -> Result<(Operand, &[Token]), Halt<Token>>
-    ensures { Gives (λ x. x.0) (λ x. x.1.now) result (take_one true operand_value tokens.now) }
+pub fn operand_at(
+    alloc: Global,
+    version: u8,
+    tokens: &[Token],
+) -> Result<(Operand, &[Token]), Halt<Token>>
+    ensures { Gives (λ x. x.0) (λ x. x.1.now) result (take_one true (operand_value version) tokens.now) }
 {
     let [first, rest @ ..] = tokens else {
         return Err(Halt::Expected(tokens));
     };
     match &first.kind {
-        TokenKind::Name(text) => match keyword_of(text.bytes()) {
+        TokenKind::Name(text) => match keyword_in(version, text.bytes()) {
             Some(_) => Err(Halt::Expected(tokens)),
             None => Ok((Operand::Variable(text.copy(alloc)?, first.span), rest)),
         },
@@ -162,14 +174,18 @@ pub fn constant_at(alloc: Global, tokens: &[Token]) -> Result<(Value, &[Token]),
 }
 
 /// A link's label at the front.
-pub fn label_at(alloc: Global, tokens: &[Token]) -> Result<(LinkLabel, &[Token]), Halt<Token>>
-    ensures { Gives (λ x. x.0) (λ x. x.1.now) result (take_one true label_value tokens.now) }
+pub fn label_at(
+    alloc: Global,
+    version: u8,
+    tokens: &[Token],
+) -> Result<(LinkLabel, &[Token]), Halt<Token>>
+    ensures { Gives (λ x. x.0) (λ x. x.1.now) result (take_one true (label_value version) tokens.now) }
 {
     let [first, rest @ ..] = tokens else {
         return Err(Halt::Expected(tokens));
     };
     match &first.kind {
-        TokenKind::Name(text) => match keyword_of(text.bytes()) {
+        TokenKind::Name(text) => match keyword_in(version, text.bytes()) {
             Some(_) => Err(Halt::Expected(tokens)),
             None => Ok((LinkLabel::Variable(text.copy(alloc)?, first.span), rest)),
         },

@@ -12,13 +12,13 @@ use Rattle.struql_text.proofs.terms.operands_from.Goals as goal
 pub returns-in_err-item : goal.returns-in_err-item
 returns-in_err-item c =
     let p = err_from_is_err_and c.from_residual-in_err-item.result c.from_residual-in_err-item.ensures.1 in
-    rw (p.1, p.2) (list_ends (takes_keeps _ (one_takes operand_value)) c.in_err-item.field-0.0 c.list.items.items c.list.rest.now _ (sym c.has_sign.ensures ∙ c.list-test.true) c.in_err-item.ensures c.list.invariant)
+    rw (p.1, p.2) (list_ends (takes_keeps _ (one_takes (operand_value c.args.version))) c.in_err-item.field-0.0 c.list.items.items c.list.rest.now _ (sym c.has_sign.ensures ∙ c.list-test.true) c.in_err-item.ensures c.list.invariant)
 
 pub list-smaller : goal.list-smaller
-list-smaller c = list_smaller (takes_keeps _ (one_takes operand_value)) c.list.rest.now c.in_ok-item.item c.in_ok-item.after.now (sym c.has_sign.ensures ∙ c.list-test.true) c.in_ok-item.ensures
+list-smaller c = list_smaller (takes_keeps _ (one_takes (operand_value c.args.version))) c.list.rest.now c.in_ok-item.item c.in_ok-item.after.now (sym c.has_sign.ensures ∙ c.list-test.true) c.in_ok-item.ensures
 
 pub list-preserved : goal.list-preserved
-list-preserved c = rw c.in_ok-push-2.ensures.items (list_goes_on (takes_keeps _ (one_takes operand_value)) c.list.items.items c.list.rest.now c.in_ok-item.item c.in_ok-item.after.now _ (sym c.has_sign.ensures ∙ c.list-test.true) c.in_ok-item.ensures c.list.invariant)
+list-preserved c = rw c.in_ok-push-2.ensures.items (list_goes_on (takes_keeps _ (one_takes (operand_value c.args.version))) c.list.items.items c.list.rest.now c.in_ok-item.item c.in_ok-item.after.now _ (sym c.has_sign.ensures ∙ c.list-test.true) c.in_ok-item.ensures c.list.invariant)
 
 pub returns : goal.returns
-returns c = is_done (is_sign signs.Comma) (read_further read_operand) (list_shrinks (takes_keeps _ (one_takes operand_value))) c.list.items.items c.list.rest.now _ (sym c.has_sign.ensures ∙ c.list-test.false) c.list.invariant
+returns c = is_done (is_sign signs.Comma) (read_further (read_operand c.args.version)) (list_shrinks (takes_keeps _ (one_takes (operand_value c.args.version)))) c.list.items.items c.list.rest.now _ (sym c.has_sign.ensures ∙ c.list-test.false) c.list.invariant

@@ -6,7 +6,7 @@ use Rattle.struql_text.specs.Reading.{read_further, read_operand}
 use Rattle.struql_text.proofs.terms.operands_from.Given as goal
 
 abbrev pub invariant-list : goal.invariant-list
-invariant-list l = iterate (is_sign signs.Comma) (read_further read_operand) l.items.items l.rest ≡ iterate (is_sign signs.Comma) (read_further read_operand) (l.fn.first ∷ []) l.tokens
+invariant-list l = iterate (is_sign signs.Comma) (read_further (read_operand l.fn.version)) l.items.items l.rest ≡ iterate (is_sign signs.Comma) (read_further (read_operand l.fn.version)) (l.fn.first ∷ []) l.tokens
 
 abbrev pub decreases-list : goal.decreases-list
 decreases-list l = length l.rest
