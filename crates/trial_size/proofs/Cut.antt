@@ -1,6 +1,6 @@
 -- Numbers that are cut at the budget of a trial.
 use Rattle.std.proofs.Common.{arith, ◌≡◌, ◌↔◌, ℕ, ◌+◌, ◌*◌, ◌<◌, ◌≤◌, List, [], ◌∷◌, ◌++◌, refl, sym, ap, ◌∙◌, subst, length, get_or, take, mul_assoc, leb}
-use Rattle.std.specs.Prelude.{min, map, sum_by, Bool, IsTrue, true, false, ◌||◌, if◌then◌else◌}
+use Rattle.std.specs.Prelude.{min, map, sum_by, Bool, IsTrue, ◌||◌}
 use Rattle.std.specs.List.{list_any}
 use Rattle.std.proofs.lemmas.List.{take_more, take_all, map-append}
 use Rattle.std.proofs.lemmas.List.Sums.{sum_by-cons, sum_by_more}
@@ -65,16 +65,6 @@ sum_by-map f g [] = refl
 sum_by-map f g (x ∷ xs) = sum_by-cons f (g x) (map g xs) ∙ ap (λ n. f (g x) + n) (sum_by-map f g xs) ∙ sym (sum_by-cons (λ y. f (g y)) x xs)
 
 -- a list that is looked through
-any_mapped : {X Y : Type 0} (f : Y → Bool) (g : X → Y) (xs : List X) → list_any f (map g xs) ≡ list_any (λ x. f (g x)) xs
+pub any_mapped : {X Y : Type 0} (f : Y → Bool) (g : X → Y) (xs : List X) → list_any f (map g xs) ≡ list_any (λ x. f (g x)) xs
 any_mapped f g [] = refl
 any_mapped f g (x ∷ xs) = ap (λ b. f (g x) || b) (any_mapped f g xs)
-
-pub chosen : {X Y : Type 0} (f : Y → Bool) (g : X → Y) (xs : List X) (m n : ℕ) (b : Bool) → b ≡ list_any (λ x. f (g x)) xs → b ≡ true → m ≡ (if list_any f (map g xs) then m else n)
-chosen f g xs m n b is so = ap (λ z. if z then m else n) (sym so ∙ is ∙ sym (any_mapped f g xs))
-
-pub not_chosen : {X Y : Type 0} (f : Y → Bool) (g : X → Y) (xs : List X) (m n : ℕ) (b : Bool) → b ≡ list_any (λ x. f (g x)) xs → b ≡ false → n ≡ (if list_any f (map g xs) then m else n)
-not_chosen f g xs m n b is so = ap (λ z. if z then m else n) (sym so ∙ is ∙ sym (any_mapped f g xs))
-
-pub map-map : {X Y Z : Type 0} (f : Y → Z) (g : X → Y) (xs : List X) → map f (map g xs) ≡ map (λ x. f (g x)) xs
-map-map f g [] = refl
-map-map f g (x ∷ xs) = ap (λ l. f (g x) ∷ l) (map-map f g xs)

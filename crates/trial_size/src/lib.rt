@@ -1,13 +1,15 @@
 //! Whether the chains of a query have few enough rows over a graph for it to be tried.
 #![tactic(auto)]
 
-ghost use Rattle.std.specs.Prelude.{◌≡◌, ◌↔◌, ◌+◌, ◌*◌, ◌<◌, ℕ, IsTrue, length, map, max, count_by, sum_by};
+ghost use Rattle.std.specs.Prelude.{◌≡◌, ◌↔◌, ◌*◌, ◌<◌, ◌&&◌, ℕ, [], IsTrue, map, count_by, sum_by, if◌then◌else◌};
 ghost use Rattle.std.specs.List.{list_any};
+ghost use Rattle.std.specs.Bool.{MatchBool};
 ghost use Rattle.query_spec.specs.Mentions.{same_name, operand_names, variables_of};
 ghost use Rattle.struql_ast.specs.Reading.{condition_of, operand_of};
 ghost use Rattle.query_blocks.specs.Blocks.{scope_of, AreCheckedBlocks};
-ghost use Rattle.counterexample_spec.specs.Trial.{product, size as size_of, ways as ways_of, given_by};
-ghost use Rattle.counterexample_spec.specs.Trial.{free_ways, rows_bound, IsSmall, trial_budget};
+ghost use Rattle.counterexample_spec.specs.Trial.{product, size as size_of, members_of as members, edges_by as edges_of};
+ghost use Rattle.counterexample_spec.specs.Trial.{starting as starts, fan_out as fan, given_by, is_given as given, has_value as valued};
+ghost use Rattle.counterexample_spec.specs.Trial.{ways as ways_of, rows_after, free_ways, rows_bound, IsSmall};
 ghost use Rattle.trial_size.specs.Cut.{IsCut};
 
 use graph_spec::{Edge, Member};
@@ -18,8 +20,10 @@ use sd_graph::Graph;
 use sd_value::Str;
 use struql_ast::{Condition, Operand, PathStep};
 
-// How many rows the chains of all blocks together may have over a graph that is tried.
+// How many rows the chains of all blocks together may have over a graph that is tried, and how many edges it may have.
 const TRIAL_BUDGET: usize = 100_000;
+
+const TRIAL_EDGES: usize = 1_024;
 
 // So many rows, each in so many ways.
 fn times(rows: usize, ways: usize) -> usize
@@ -29,40 +33,58 @@ fn times(rows: usize, ways: usize) -> usize
     rows.saturating_mul(ways)
 }
 
-fn edges_by(edges: &[Edge], label: &Str) -> usize
-    ensures { result ≡ count_by (λ e. same_name e.label label.now) edges.now }
-{
-    edges.iter().filter(|edge| edge.label == *label).count()
-}
-
-fn members_of(members: &[Member], collection: &Str) -> usize
-    ensures { result ≡ count_by (λ m. same_name m.collection collection.now) members.now }
-{
-    members
-        .iter()
-        .filter(|member| member.collection == *collection)
-        .count()
-}
-
 fn size(graph: &Graph) -> usize
     ensures { result ≡ size_of graph.now }
 {
     graph.nodes().len() + graph.edges().len() + 1
 }
 
-// In how many ways at most the graph has what the condition asks for.
-fn ways(graph: &Graph, condition: &Condition) -> usize
-    ensures { result ≡ ways_of graph.now (condition_of condition.now) }
+fn members_of(pairs: &[Member], collection: &Str) -> usize
+    ensures { result ≡ count_by (λ m. same_name m.collection collection.now) pairs.now }
 {
-    match condition {
-        Condition::Member { collection, .. } => members_of(graph.member_pairs(), collection),
-        Condition::Path { step, .. } => match step {
-            PathStep::ArcVariable(_, _) => graph.edges().len(),
-            PathStep::Expression(Rpe::Label(label), _) => edges_by(graph.edges(), label),
-            PathStep::Expression(_, _) => size(graph),
-        },
-        _ => 1,
+    pairs
+        .iter()
+        .filter(|member| member.collection == *collection)
+        .count()
+}
+
+fn edges_by(edges: &[Edge], label: &Str) -> usize
+    ensures { result ≡ count_by (λ e. same_name e.label label.now) edges.now }
+{
+    edges.iter().filter(|edge| edge.label == *label).count()
+}
+
+// How many of the edges are by the label and start at the node.
+fn starting(edges: &[Edge], label: &Str, node: &Str) -> usize
+    ensures { result ≡ starts label.now node.now edges.now }
+{
+    edges
+        .iter()
+        .filter(|edge| edge.label == *label && edge.from == *node)
+        .count()
+}
+
+// How many of the edges are by the label and start where this one does, if it is by the label.
+fn starting_with(edges: &[Edge], label: &Str, edge: &Edge) -> usize
+    ensures { result ≡ (if same_name edge.now.label label.now
+        then starts label.now edge.now.from edges.now else 0) }
+{
+    if edge.label == *label {
+        starting(edges, label, &edge.from)
+    } else {
+        0
     }
+}
+
+// How many edges by the label start at one node at most.
+fn fan_out(edges: &[Edge], label: &Str) -> usize
+    ensures { result ≡ fan label.now edges.now }
+{
+    let mut most: usize = 0;
+    for edge in edges {
+        most = most.max(starting_with(edges, label, edge));
+    }
+    most
 }
 
 fn is_named(operand: &Operand, name: &Str) -> bool
@@ -74,7 +96,7 @@ fn is_named(operand: &Operand, name: &Str) -> bool
     }
 }
 
-// Whether the variable's values are among the condition's ways.
+// Whether the condition gives the variable values.
 fn gives(condition: &Condition, name: &Str) -> bool
     ensures { result ≡ list_any (same_name name.now) (given_by (condition_of condition.now)) }
 {
@@ -98,27 +120,80 @@ fn some_gives(conditions: &[Condition], name: &Str) -> bool
     conditions.iter().any(|condition| gives(condition, name))
 }
 
-// In how many ways the variable has a value beside those of the conditions.
+fn is_given(conditions: &[Condition], name: &Str) -> bool
+    ensures { result ≡ given (map condition_of conditions.now) name.now }
+{
+    some_gives(conditions, name)
+}
+
+// Whether the operand has a value after these conditions.
+fn has_value(before: &[Condition], operand: &Operand) -> bool
+    ensures { result ≡ valued (map condition_of before.now) (operand_of operand.now) }
+{
+    match operand {
+        Operand::Variable(variable, _) => is_given(before, variable),
+        Operand::Constant(_, _) => true,
+    }
+}
+
+// In how many ways at most the graph has a path by the label, after these conditions.
+fn label_ways(graph: &Graph, before: &[Condition], from: &Operand, label: &Str) -> usize
+    ensures { MatchBool (valued (map condition_of before.now) (operand_of from.now))
+        (result ≡ fan label.now graph.now.edges) (result ≡ edges_of label.now graph.now) }
+{
+    if has_value(before, from) {
+        fan_out(graph.edges(), label)
+    } else {
+        edges_by(graph.edges(), label)
+    }
+}
+
+// In how many ways at most the graph has what the condition asks for, after these conditions.
+fn ways(graph: &Graph, before: &[Condition], condition: &Condition) -> usize
+    ensures { result
+        ≡ ways_of graph.now (map condition_of before.now) (condition_of condition.now) }
+{
+    match condition {
+        Condition::Member {
+            collection,
+            variable,
+            ..
+        } => {
+            if is_given(before, variable) {
+                1
+            } else {
+                members_of(graph.member_pairs(), collection)
+            }
+        }
+        Condition::Path { from, step, .. } => match step {
+            PathStep::ArcVariable(_, _) => graph.edges().len(),
+            PathStep::Expression(Rpe::Label(label), _) => label_ways(graph, before, from, label),
+            PathStep::Expression(_, _) => size(graph),
+        },
+        _ => 1,
+    }
+}
+
+// How many rows these conditions have at most, one after another.
+fn condition_rows(graph: &Graph, conditions: &[Condition]) -> usize
+    ensures { IsCut (rows_after graph.now [] (map condition_of conditions.now)) result }
+{
+    let mut rows = 1;
+    for i in 0..conditions.len() {
+        rows = times(rows, ways(graph, &conditions[..i], &conditions[i]).max(1));
+    }
+    rows
+}
+
+// In how many ways the variable has a value beside those that the conditions give it.
 fn free(graph: &Graph, conditions: &[Condition], variable: &Variable) -> usize
     ensures { result ≡ free_ways graph.now (map condition_of conditions.now) variable.now }
 {
-    if some_gives(conditions, &variable.name) {
+    if is_given(conditions, &variable.name) {
         1
     } else {
         size(graph)
     }
-}
-
-// The ways of all conditions together.
-fn condition_ways(graph: &Graph, conditions: &[Condition]) -> usize
-    ensures { IsCut (product (map (λ k. max (ways_of graph.now (condition_of k)) 1) conditions.now))
-        result }
-{
-    let mut rows = 1;
-    for condition in conditions {
-        rows = times(rows, ways(graph, condition).max(1));
-    }
-    rows
 }
 
 // So many rows, each in all ways in which the variables have values beside those of the conditions.
@@ -145,18 +220,27 @@ fn rows(graph: &Graph, block: &QueryBlock) -> usize
     ensures { IsCut (rows_bound graph.now block.now.chain.conditions) result }
 {
     let conditions = block.chain.conditions();
-    let rows = condition_ways(graph, conditions);
+    let rows = condition_rows(graph, conditions);
     times_variables(rows, graph, conditions, block.chain.variables())
 }
 
-/// Whether the chains of the query have no more rows over the graph than the budget of a trial is.
-pub fn is_small(graph: &Graph, blocks: &QueryBlocks) -> bool
+// How many rows the chains of all blocks together have at most.
+fn all_rows(graph: &Graph, blocks: &QueryBlocks) -> usize
     requires { AreCheckedBlocks blocks.now.version blocks.now.blocks.items }
-    ensures { IsTrue result ↔ IsSmall (scope_of blocks.now) graph.now }
+    ensures { IsCut (sum_by (λ b. rows_bound graph.now b.conditions) (scope_of blocks.now).bodies)
+        result }
 {
     let mut all = 0;
     for block in &blocks.blocks {
         all = rows(graph, block).saturating_add(all);
     }
-    all <= TRIAL_BUDGET
+    all
+}
+
+/// Whether the graph has few edges, and the chains of the query have no more rows over it than the budget of a trial is.
+pub fn is_small(graph: &Graph, blocks: &QueryBlocks) -> bool
+    requires { AreCheckedBlocks blocks.now.version blocks.now.blocks.items }
+    ensures { IsTrue result ↔ IsSmall (scope_of blocks.now) graph.now }
+{
+    graph.edges().len() <= TRIAL_EDGES && all_rows(graph, blocks) <= TRIAL_BUDGET
 }

@@ -2,7 +2,7 @@ use Rattle.std.proofs.Common.{take}
 use Rattle.std.specs.Prelude.{sum_by}
 use Rattle.counterexample_spec.specs.Trial.{rows_bound}
 use Rattle.trial_size.specs.Cut.{IsCut}
-use Rattle.trial_size.proofs.is_small.Given as goal
+use Rattle.trial_size.proofs.all_rows.Given as goal
 
 abbrev pub invariant-loop-block : goal.invariant-loop-block
 invariant-loop-block l =

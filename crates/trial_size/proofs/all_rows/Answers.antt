@@ -1,13 +1,13 @@
 use Rattle.std.proofs.Common.{arith, ◌+◌, ◌-◌, ◌^◌, ℕ, List, ap, refl, sym, subst, take}
-use Rattle.std.specs.Prelude.{Contains, map, sum_by}
+use Rattle.std.specs.Prelude.{Contains, sum_by}
 use Rattle.sd_value.specs.Members.{among_at}
 use Rattle.query_spec.specs.Query.{Chain}
 use Rattle.query_blocks.specs.Blocks.{body_of}
 use Rattle.query_blocks.specs.declared.QueryBlock.{QueryBlock}
 use Rattle.counterexample_spec.specs.Trial.{rows_bound}
 use Rattle.trial_size.specs.Cut.{IsCut}
-use Rattle.trial_size.proofs.Cut.{sum_cut, one_more_term, all_terms, decided, sum_by-map}
-use Rattle.trial_size.proofs.is_small.Goals as goal
+use Rattle.trial_size.proofs.Cut.{sum_cut, one_more_term, all_terms, sum_by-map}
+use Rattle.trial_size.proofs.all_rows.Goals as goal
 
 pub rows-requires : goal.rows-requires
 rows-requires c =
@@ -27,6 +27,5 @@ loop-block-preserved c =
 pub returns : goal.returns
 returns c =
     let f : QueryBlock → ℕ = λ b. rows_bound c.args.graph.now b.chain.conditions in
-    decided (sum_by (λ b. rows_bound c.args.graph.now b.conditions) (map body_of c.args.blocks.now.blocks.items)) c.loop-block.all
-    (subst (λ (n : ℕ). IsCut n c.loop-block.all) (sym (sum_by-map (λ b. rows_bound c.args.graph.now b.conditions) body_of c.args.blocks.now.blocks.items))
-    (all_terms f c.args.blocks.now.blocks.items c.loop-block.block-index c.loop-block.all (rw (sym c.deref-block-items.ensures.value) c.loop-block-test.false) c.loop-block.invariant))
+    subst (λ (n : ℕ). IsCut n c.loop-block.all) (sym (sum_by-map (λ b. rows_bound c.args.graph.now b.conditions) body_of c.args.blocks.now.blocks.items))
+    (all_terms f c.args.blocks.now.blocks.items c.loop-block.block-index c.loop-block.all (rw (sym c.deref-block-items.ensures.value) c.loop-block-test.false) c.loop-block.invariant)
