@@ -35,9 +35,9 @@ unfolding read_query
 reads_all =
     then_closes read_head _
     (λ n. then_closes (read_keyword words.Input) _
-    (λ _. then_closes read_name _
+    (λ _. then_closes (read_name n) _
     (λ input. then_closes (iterate begins_item (read_item_step n) no_groups) _
-    (λ groups. then_closes (read_keyword words.Output) _ (λ _. then_closes read_name _ (λ output. finish_closes _))))))
+    (λ groups. then_closes (read_keyword words.Output) _ (λ _. then_closes (read_name n) _ (λ output. finish_closes _))))))
 
 module _ (limit : ℕ) (bytes : List ℕ) where
   abbrev HasAnswer : Type 0

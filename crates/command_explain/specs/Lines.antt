@@ -10,7 +10,7 @@ use Rattle.plan_spec.specs.declared.PlanStep.TheVariants.{Use, Domain}
 
 -- the text of the chain's condition of that number
 abbrev pub condition_at : Chain → ℕ → List ℕ
-condition_at c number = option_map_or condition_text (slice_get c.conditions number) []
+condition_at c number = option_map_or (condition_text c.version) (slice_get c.conditions number) []
 
 -- the name of the chain's variable of that number
 abbrev pub variable_at : Chain → ℕ → List ℕ

@@ -24,7 +24,7 @@ fn put_condition(chain: &Chain, number: u32, out: &mut Vec<u8>) -> Result<(), No
     ensures { IfOk result (λ _. out.new.items ≡ out.old.items ++ condition_at chain.now number) }
 {
     match chain.conditions().get(number as usize) {
-        Some(condition) => print_condition(condition, out),
+        Some(condition) => print_condition(chain.version(), condition, out),
         None => Ok(()),
     }
 }

@@ -11,8 +11,8 @@ use Rattle.graph_spec.specs.declared.Edge.{Edge}
 use Rattle.sd_graph.specs.Statement.{Building}
 use Rattle.sd_graph.specs.declared.GraphRefusal.{GraphRefusal}
 use Rattle.order_spec.specs.Order.{Place, edges_at, edges_along, first}
-use Rattle.graph_order.specs.Read.{place_of}
-use Rattle.graph_order.specs.declared.Place.{Place as CodePlace}
+use Rattle.order_spec.specs.Read.{place_of}
+use Rattle.order_spec.specs.declared.Place.{Place as CodePlace}
 use Rattle.graph_order.specs.Adding.{building_of, PutsIn, stated_edge}
 use Rattle.graph_order.proofs.Growth.{IsOver, over, over_more, building_append}
 

@@ -16,8 +16,9 @@ use Rattle.graph_order.specs.Numbers.{numbers_from, edges_of_member, numbered_cm
 use Rattle.graph_order.specs.declared.numbers.Numbered.{Numbered}
 use Rattle.graph_order.proofs.ByNode.{stated_members}
 use Rattle.sd_value.specs.Ascending.{ListsExactly}
-use Rattle.graph_order.specs.Read.{folded_text, order_of}
-use Rattle.graph_order.specs.declared.Order.{Order as CodeOrder}
+use Rattle.key_spec.specs.Keys.{folded_text}
+use Rattle.order_spec.specs.Read.{order_of}
+use Rattle.order_spec.specs.declared.Order.{Order as CodeOrder}
 use Rattle.graph_order.specs.declared.OrderFault.TheVariants.{TooManyEdges as Grows}
 use Rattle.graph_order.proofs.Growth.{IsOver, over}
 use Rattle.graph_order.proofs.Copies.{with_nodes, with_edges, with_members, nodes_put, edges_put, members_put, order_put}

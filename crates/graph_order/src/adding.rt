@@ -12,10 +12,10 @@ ghost use Rattle.order_spec.specs.Order.{edge_to, edges_at};
 ghost use Rattle.graph_order.specs.Adding.{PutsIn, IsCopy, stated_edge, stated_member};
 ghost use Rattle.graph_order.specs.Answers.{Fits};
 ghost use Rattle.graph_order.specs.Numbers.{AreBelow, edges_of_member};
-ghost use Rattle.graph_order.specs.Read.{place_of};
+ghost use Rattle.order_spec.specs.Read.{place_of};
 
-use crate::Place;
 use crate::numbers::{Numbered, name_before};
+use order_spec::Place;
 use sd_graph::{Edge, Graph, GraphBuilder, GraphRefusal, Limits, Member};
 use sd_value::{Datum, Str, Value};
 use std::alloc::Global;

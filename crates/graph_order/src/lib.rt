@@ -3,11 +3,10 @@
 
 ghost use Rattle.std.specs.Prelude.{map};
 ghost use Rattle.sd_graph.specs.ProgramLimits.{AreWithinProgram};
-ghost use Rattle.graph_order.specs.Read.{order_of};
+ghost use Rattle.order_spec.specs.Read.{order_of};
 ghost use Rattle.graph_order.specs.Answers.{Fits, AnswersOrder, AnswersOrders};
 
 mod adding;
-mod key;
 mod keys;
 mod members;
 mod numbers;
@@ -15,57 +14,9 @@ mod numbers;
 use adding::{add_along, builder_of};
 use members::members_in_order;
 use numbers::by_node;
+pub use order_spec::{Order, Place};
 use sd_graph::{Graph, GraphRefusal, Limits};
-use sd_value::Str;
 use std::alloc::Global;
-
-/// An edge that each member is given, by its label.
-#[derive(Debug)]
-pub enum Place {
-    /// To its number, from 1.
-    Position(Str),
-    /// To the member after it.
-    Next(Str),
-    /// To the member before it.
-    Previous(Str),
-    /// To the number of its page, from 1, where each page has this many members.
-    Page(Str, u64),
-}
-
-// Written out, so that it is proved here once, and not again in each crate that drops one.
-impl Drop for Place {
-    fn drop(self) {
-        match self {
-            Place::Position(_) => {}
-            Place::Next(_) => {}
-            Place::Previous(_) => {}
-            Place::Page(_, _) => {}
-        }
-    }
-}
-
-/// Of which collection, by which word, how, and what each member is given.
-#[derive(Debug)]
-pub struct Order {
-    pub collection: Str,
-    pub word: Vec<Str>,
-    pub fold: bool,
-    pub descend: bool,
-    pub places: Vec<Place>,
-}
-
-// Written out, so that it is proved here once, and not again in each crate that drops one.
-impl Drop for Order {
-    fn drop(self) {
-        let Order {
-            collection: _collection,
-            word: _word,
-            fold: _,
-            descend: _,
-            places: _places,
-        } = self;
-    }
-}
 
 /// Why a graph is not ordered.
 #[derive(Clone, Copy, Debug, PartialEq, Eq)]

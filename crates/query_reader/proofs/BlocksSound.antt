@@ -82,9 +82,9 @@ module _ (version : ℕ) (expression : List Token → Counted → Type 0) where
       let s1 = split_length tokens a1 b1 e1 in let s2 = split_length b1 a2 b2 e2 in let s3 = split_length b2 a3 b3 e3 in
       let s4 = split_length b3 a4 b4 e4 in let s5 = split_length b4 a5 b5 e5 in
       let c = optional_bounded one_each GoodCondition words.Where (condition version expression) (condition_bounded version expression) a1 cs p1 in
-      let t = optional_bounded one_each GoodTerm words.Create term term_bounded a2 ts p2 in
-      let k = optional_bounded link_size GoodLink words.Link link link_bounded a3 ks p3 in
-      let o = optional_bounded collect_size GoodCollect words.Collect collect collect_bounded a4 os p4 in
+      let t = optional_bounded one_each GoodTerm words.Create (term version) (term_bounded version) a2 ts p2 in
+      let k = optional_bounded link_size GoodLink words.Link (link version) (link_bounded version) a3 ks p3 in
+      let o = optional_bounded collect_size GoodCollect words.Collect (collect version) (collect_bounded version) a4 os p4 in
       let r = room_grows room inner bounded n no_blocks bs a5 turns in
       let same = ap body_size is in (
         omega (arith, s1, s2, s3, s4, s5, c.0, t.0, k.0, o.0, r.0, same),
@@ -177,9 +177,9 @@ item_grows m Q k item_of P bounded weight good g h tokens (a, b, place, e, (t, w
 module _ (version : ℕ) (expression : List Token → Counted → Type 0) (inner : Groups → List Token → Body → Type 0) (bounded : (g : Groups) → Bounded body_size GoodBody (inner g)) where
   step_grows : (g h : Groups) (tokens : List Token) → item_step version expression inner g tokens h → GroupsGrow g h (length tokens)
   step_grows g h tokens (inl step) = item_grows one_each GoodCondition words.Where conditions_item (condition version expression) (condition_bounded version expression) (λ xs. refl) (λ xs all. all) g h tokens step
-  step_grows g h tokens (inr (inl step)) = item_grows one_each GoodTerm words.Create creates_item term term_bounded (λ xs. refl) (λ xs all. all) g h tokens step
-  step_grows g h tokens (inr (inr (inl step))) = item_grows link_size GoodLink words.Link links_item link link_bounded (λ xs. refl) (λ xs all. all) g h tokens step
-  step_grows g h tokens (inr (inr (inr (inl step)))) = item_grows collect_size GoodCollect words.Collect collects_item collect collect_bounded (λ xs. refl) (λ xs all. all) g h tokens step
+  step_grows g h tokens (inr (inl step)) = item_grows one_each GoodTerm words.Create creates_item (term version) (term_bounded version) (λ xs. refl) (λ xs all. all) g h tokens step
+  step_grows g h tokens (inr (inr (inl step))) = item_grows link_size GoodLink words.Link links_item (link version) (link_bounded version) (λ xs. refl) (λ xs all. all) g h tokens step
+  step_grows g h tokens (inr (inr (inr (inl step)))) = item_grows collect_size GoodCollect words.Collect collects_item (collect version) (collect_bounded version) (λ xs. refl) (λ xs all. all) g h tokens step
   step_grows g h tokens (inr (inr (inr (inr (a, b, p, e, (c, d, opening, f, (t, sign, u), (i, j, found, k, phrase, (l, m, close, n, shut, (nil2, same_p)))), (nil, is)))))) =
       let whole = split_length tokens a b e in let two = split_length a c d f in let three = split_length d i j k in let one = ap length sign in
       let good = bounded g i found phrase in

@@ -20,7 +20,7 @@ use Rattle.struql_ast.specs.Reading.{operand_of}
 use Rattle.struql_ast.specs.Written as tree
 use Rattle.struql_text.specs.declared.keyword.Keyword.{Keyword}
 use Rattle.struql_text.specs.declared.keyword.Word.{Word}
-use Rattle.struql_text.specs.Terminals.{named, operand_kind_value, operand_value, constant_kind_value, constant_value, keyword_of, test_of, pair_test, from_to, operand_span}
+use Rattle.struql_text.specs.Terminals.{named, operand_kind_value, operand_value, constant_kind_value, constant_value, keyword_in, test_of, pair_test, from_to, operand_span}
 use Rattle.struql_text.specs.Expression.{Counted}
 use Rattle.struql_text.specs.Grammar.{operand, term_of, no_arguments, some_arguments, arguments, term, made, variable_of, named_target, source, operand_target, target, link, collect, call_with, call, membership, comparison, path, relation, behind, negated, condition}
 use Rattle.grammar.specs.Grammar.{one}
@@ -53,11 +53,11 @@ named_good : (v : Operand) (k : Option Keyword) (o : Operand) → GoodOperand v 
 named_good v None o good e = some_is GoodOperand v o e good
 named_good v (Some k) o good e = absurd (none_is o e)
 
-operand_kind : (span : Span) (k : TokenKind) (o : Operand) → operand_kind_value span k ≡ Some o → GoodOperand o
-operand_kind span (kinds.Name n) o e = named_good (Variable n span) (keyword_of n) o tt e
-operand_kind span (kinds.Quoted q) o e = some_is GoodOperand (Constant (Data (datum.Text q)) span) o e (tt, tt)
-operand_kind span (kinds.Int i) o e = some_is GoodOperand (Constant (Data (datum.Int i)) span) o e (tt, tt)
-operand_kind span (kinds.Sign s) o e = absurd (none_is o e)
+operand_kind : (version : ℕ) → (span : Span) (k : TokenKind) (o : Operand) → operand_kind_value version span k ≡ Some o → GoodOperand o
+operand_kind version span (kinds.Name n) o e = named_good (Variable n span) (keyword_in version n) o tt e
+operand_kind version span (kinds.Quoted q) o e = some_is GoodOperand (Constant (Data (datum.Text q)) span) o e (tt, tt)
+operand_kind version span (kinds.Int i) o e = some_is GoodOperand (Constant (Data (datum.Int i)) span) o e (tt, tt)
+operand_kind version span (kinds.Sign s) o e = absurd (none_is o e)
 
 constant_kind : (k : TokenKind) (v : Value) → constant_kind_value k ≡ Some v → IsWritable v
 constant_kind (kinds.Name n) v e = absurd (none_is v e)
@@ -65,8 +65,8 @@ constant_kind (kinds.Quoted q) v e = some_is IsWritable (Data (datum.Text q)) v 
 constant_kind (kinds.Int i) v e = some_is IsWritable (Data (datum.Int i)) v e tt
 constant_kind (kinds.Sign s) v e = absurd (none_is v e)
 
-pub operand_bounded : Bounded one_each GoodOperand operand
-operand_bounded tokens o (t, is, found) = (let e = ap length is in omega (arith, e), operand_kind t.span t.kind o found)
+pub operand_bounded : (version : ℕ) → Bounded one_each GoodOperand (operand version)
+operand_bounded version tokens o (t, is, found) = (let e = ap length is in omega (arith, e), operand_kind version t.span t.kind o found)
 
 constant_bounded : Bounded one_each IsWritable (one constant_value)
 constant_bounded tokens v (t, is, found) = (let e = ap length is in omega (arith, e), constant_kind t.kind v found)
@@ -80,33 +80,33 @@ args_good : (args : List Operand) → Each GoodOperand args → Writable (flat_m
 args_good [] all = tt
 args_good (o ∷ args) all = both_writable (operand_constants (operand_of o)) _ all.0 (args_good args all.1)
 
-arguments_good : (f : Word) (tokens : List Token) (t : tree.Term) → arguments f tokens t → GoodTerm t
-arguments_good f tokens t (front, back, span, split, opening, inl (c, d, close, parts, closing, (nil, is))) = subst GoodTerm (sym is) tt
-arguments_good f tokens t (front, back, span, split, opening, inr (c, d, args, parts, phrase, (g, h, close, more, closing, (nil, is)))) =
-    subst GoodTerm (sym is) (args_good args (list_bounded one_each GoodOperand operand operand_bounded c args phrase).1)
+arguments_good : (version : ℕ) → (f : Word) (tokens : List Token) (t : tree.Term) → arguments version f tokens t → GoodTerm t
+arguments_good version f tokens t (front, back, span, split, opening, inl (c, d, close, parts, closing, (nil, is))) = subst GoodTerm (sym is) tt
+arguments_good version f tokens t (front, back, span, split, opening, inr (c, d, args, parts, phrase, (g, h, close, more, closing, (nil, is)))) =
+    subst GoodTerm (sym is) (args_good args (list_bounded one_each GoodOperand (operand version) (operand_bounded version) c args phrase).1)
 
-pub term_bounded : Bounded one_each GoodTerm term
-term_bounded tokens t (front, back, f, split, (n, is, found), rest) =
-    (let e = split_length tokens front back split in let one = ap length is in omega (arith, e, one), arguments_good f back t rest)
+pub term_bounded : (version : ℕ) → Bounded one_each GoodTerm (term version)
+term_bounded version tokens t (front, back, f, split, (n, is, found), rest) =
+    (let e = split_length tokens front back split in let one = ap length is in omega (arith, e, one), arguments_good version f back t rest)
 
 -- ---- targets
 
 abbrev pub GoodTarget : tree.Target → Type 0
 GoodTarget t = Writable (target_constants (target_plain t))
 
-named_target_good : (x : Word) (tokens : List Token) (t : tree.Target) → named_target x tokens t → GoodTarget t
-named_target_good x tokens t (inl (front, back, made_term, split, phrase, (nil, is))) = subst GoodTarget (sym is) (arguments_good x front made_term phrase)
-named_target_good x tokens t (inr (nil, is)) = subst GoodTarget (sym is) tt
+named_target_good : (version : ℕ) → (x : Word) (tokens : List Token) (t : tree.Target) → named_target version x tokens t → GoodTarget t
+named_target_good version x tokens t (inl (front, back, made_term, split, phrase, (nil, is))) = subst GoodTarget (sym is) (arguments_good version x front made_term phrase)
+named_target_good version x tokens t (inr (nil, is)) = subst GoodTarget (sym is) tt
 
-source_good : (tokens : List Token) (t : tree.Target) → source tokens t → GoodTarget t
-source_good tokens t (front, back, x, split, named_it, rest) = named_target_good x back t rest
+source_good : (version : ℕ) → (tokens : List Token) (t : tree.Target) → source version tokens t → GoodTarget t
+source_good version tokens t (front, back, x, split, named_it, rest) = named_target_good version x back t rest
 
-behind_operand : (o : Operand) (tokens : List Token) (t : tree.Target) → GoodOperand o → operand_target o tokens t → GoodTarget t
-behind_operand (Variable x span) tokens t good rest = named_target_good (record { text = x; span = span }) tokens t rest
-behind_operand (Constant v span) tokens t good (nil, is) = subst GoodTarget (sym is) good
+behind_operand : (version : ℕ) → (o : Operand) (tokens : List Token) (t : tree.Target) → GoodOperand o → operand_target version o tokens t → GoodTarget t
+behind_operand version (Variable x span) tokens t good rest = named_target_good version (record { text = x; span = span }) tokens t rest
+behind_operand version (Constant v span) tokens t good (nil, is) = subst GoodTarget (sym is) good
 
-target_good : (tokens : List Token) (t : tree.Target) → target tokens t → GoodTarget t
-target_good tokens t (front, back, o, split, phrase, rest) = behind_operand o back t (operand_bounded front o phrase).1 rest
+target_good : (version : ℕ) → (tokens : List Token) (t : tree.Target) → target version tokens t → GoodTarget t
+target_good version tokens t (front, back, o, split, phrase, rest) = behind_operand version o back t (operand_bounded version front o phrase).1 rest
 
 one_term : (t : plain.Target) → length (target_terms t) ≤ 1
 one_term (plain.plain o) = omega arith
@@ -125,14 +125,14 @@ link_light k =
     let a = one_term (target_plain k.source) in let b = one_term (target_plain k.target) in
     let both = length-append (target_terms (target_plain k.source)) (target_terms (target_plain k.target)) in omega (arith, a, b, both)
 
-pub link_bounded : Bounded link_size GoodLink link
-link_bounded tokens k
+pub link_bounded : (version : ℕ) → Bounded link_size GoodLink (link version)
+link_bounded version tokens k
     (a, b, s, e, from, (c, d, first, f, (x, arrow, u), (g, h, l, i, (y, label, v), (m, n, second, o, (z, again, w), (p, q, t, r, to, (nil, is)))))) =
     let whole = split_length tokens a b e in let two = split_length b c d f in let three = split_length d g h i in let four = split_length h m n o in
     let one = ap length arrow in let other = ap length label in let last = ap length again in
     let light = link_light k in (
       omega (arith, whole, two, three, four, one, other, last, light),
-      subst GoodLink (sym is) (both_writable (target_constants (target_plain s)) (target_constants (target_plain t)) (source_good a s from) (target_good p t to)),
+      subst GoodLink (sym is) (both_writable (target_constants (target_plain s)) (target_constants (target_plain t)) (source_good version a s from) (target_good version p t to)),
     )
 
 abbrev pub GoodCollect : tree.Collect → Type 0
@@ -141,12 +141,12 @@ GoodCollect o = Writable (target_constants (collect_plain o).target)
 abbrev pub collect_size : tree.Collect → ℕ
 collect_size o = collect_weight (collect_plain o)
 
-pub collect_bounded : Bounded collect_size GoodCollect collect
-collect_bounded tokens o (a, b, name, e, (x, word, u), (c, d, opening, f, (y, paren, v), (g, h, t, i, phrase, (j, k, close, l, closing, (nil, is))))) =
+pub collect_bounded : (version : ℕ) → Bounded collect_size GoodCollect (collect version)
+collect_bounded version tokens o (a, b, name, e, (x, word, u), (c, d, opening, f, (y, paren, v), (g, h, t, i, phrase, (j, k, close, l, closing, (nil, is))))) =
     let whole = split_length tokens a b e in let two = split_length b c d f in
     let one = ap length word in let other = ap length paren in
     let light = one_term (target_plain o.target) in
-    (omega (arith, whole, two, one, other, light), subst GoodCollect (sym is) (source_good g t phrase))
+    (omega (arith, whole, two, one, other, light), subst GoodCollect (sym is) (source_good version g t phrase))
 
 -- ---- conditions
 
@@ -166,30 +166,30 @@ call_good None c x close = record { writable = tt; under_not = tt; flat = tt }
 call_good (Some test) c x close = record { writable = tt; under_not = tt; flat = tt }
 
 -- a test of two texts, from its comma on
-second_good : (test : TextTest) (n : Word) (t : Operand) (tokens : List Token) (c : tree.Condition) → GoodOperand t → grammar.second test n t tokens c → GoodPlain c
-second_good test n t tokens c good (a, b, s, e, comma, (d, f, u, g, other, (h, i, close, j, closing, (nil, is)))) =
-    subst GoodPlain (sym is) (record { writable = both_writable (operand_constants (operand_of t)) (operand_constants (operand_of u)) good (operand_bounded d u other).1; under_not = tt; flat = tt })
+second_good : (version : ℕ) → (test : TextTest) (n : Word) (t : Operand) (tokens : List Token) (c : tree.Condition) → GoodOperand t → grammar.second version test n t tokens c → GoodPlain c
+second_good version test n t tokens c good (a, b, s, e, comma, (d, f, u, g, other, (h, i, close, j, closing, (nil, is)))) =
+    subst GoodPlain (sym is) (record { writable = both_writable (operand_constants (operand_of t)) (operand_constants (operand_of u)) good (operand_bounded version d u other).1; under_not = tt; flat = tt })
 
-pair_end_good : (test : TextTest) (n : Word) (t : Operand) (tokens : List Token) (c : tree.Condition) → GoodOperand t → grammar.pair_end test n t tokens c → GoodPlain c
-pair_end_good test n (Variable x span) tokens c good (inl rest) = second_good test n (Variable x span) tokens c good rest
-pair_end_good test n (Variable x span) tokens c good (inr (a, b, close, e, closing, (nil, is))) = subst GoodPlain (sym is) (call_good None n (record { text = x; span = span }) close)
-pair_end_good test n (Constant v span) tokens c good rest = second_good test n (Constant v span) tokens c good rest
+pair_end_good : (version : ℕ) → (test : TextTest) (n : Word) (t : Operand) (tokens : List Token) (c : tree.Condition) → GoodOperand t → grammar.pair_end version test n t tokens c → GoodPlain c
+pair_end_good version test n (Variable x span) tokens c good (inl rest) = second_good version test n (Variable x span) tokens c good rest
+pair_end_good version test n (Variable x span) tokens c good (inr (a, b, close, e, closing, (nil, is))) = subst GoodPlain (sym is) (call_good None n (record { text = x; span = span }) close)
+pair_end_good version test n (Constant v span) tokens c good rest = second_good version test n (Constant v span) tokens c good rest
 
-name_call_good : (test : Option TextTest) (n : Word) (tokens : List Token) (c : tree.Condition) → grammar.name_call test n tokens c → GoodPlain c
-name_call_good None n tokens c (a, b, s, e, opening, (d, f, y, g, phrase, (h, i, close, j, closing, (nil, is)))) = subst GoodPlain (sym is) (call_good (test_of n.text) n y close)
-name_call_good (Some test) n tokens c (a, b, s, e, opening, (d, f, t, g, phrase, rest)) = pair_end_good test n t f c (operand_bounded d t phrase).1 rest
+name_call_good : (version : ℕ) → (test : Option TextTest) (n : Word) (tokens : List Token) (c : tree.Condition) → grammar.name_call version test n tokens c → GoodPlain c
+name_call_good version None n tokens c (a, b, s, e, opening, (d, f, y, g, phrase, (h, i, close, j, closing, (nil, is)))) = subst GoodPlain (sym is) (call_good (test_of n.text) n y close)
+name_call_good version (Some test) n tokens c (a, b, s, e, opening, (d, f, t, g, phrase, rest)) = pair_end_good version test n t f c (operand_bounded version d t phrase).1 rest
 
 module _ (version : ℕ) (expression : List Token → Counted → Type 0) where
-  relation_good : (t : Operand) (tokens : List Token) (c : tree.Condition) → GoodOperand t → relation expression t tokens c → GoodPlain c
+  relation_good : (t : Operand) (tokens : List Token) (c : tree.Condition) → GoodOperand t → relation version expression t tokens c → GoodPlain c
   relation_good t tokens c good (inl (a, b, span, e, arrow, (d, f, s, g, step, (h, i, span2, j, arrow2, (k, l, u, m, to, (nil, is)))))) =
-      subst GoodPlain (sym is) (record { writable = both_writable (operand_constants (operand_of t)) (operand_constants (operand_of u)) good (operand_bounded k u to).1; under_not = tt; flat = tt })
+      subst GoodPlain (sym is) (record { writable = both_writable (operand_constants (operand_of t)) (operand_constants (operand_of u)) good (operand_bounded version k u to).1; under_not = tt; flat = tt })
   relation_good t tokens c good (inr (inl (a, b, span, e, word, (d, f, span2, g, brace, (h, i, vs, j, phrase, (k, l, close, m, closing, (nil, is))))))) =
       subst GoodPlain (sym is) (record { writable = both_writable (operand_constants (operand_of t)) vs good (list_bounded one_each IsWritable (one constant_value) constant_bounded h vs phrase).1; under_not = tt; flat = tt })
   relation_good t tokens c good (inr (inr (a, b, op, e, sign, (d, f, u, g, to, (nil, is))))) =
-      subst GoodPlain (sym is) (record { writable = both_writable (operand_constants (operand_of t)) (operand_constants (operand_of u)) good (operand_bounded d u to).1; under_not = tt; flat = tt })
+      subst GoodPlain (sym is) (record { writable = both_writable (operand_constants (operand_of t)) (operand_constants (operand_of u)) good (operand_bounded version d u to).1; under_not = tt; flat = tt })
 
   behind_good : (t : Operand) (tokens : List Token) (c : tree.Condition) → GoodOperand t → behind version expression t tokens c → GoodPlain c
-  behind_good (Variable x span) tokens c good (inl rest) = name_call_good (pair_test version x) (record { text = x; span = span }) tokens c rest
+  behind_good (Variable x span) tokens c good (inl rest) = name_call_good version (pair_test version x) (record { text = x; span = span }) tokens c rest
   behind_good (Constant (Data (datum.Text q)) span) tokens c good (inl (a, b, s, e, opening, (d, f, y, g, phrase, (h, i, close, j, closing, (nil, is))))) =
       subst GoodPlain (sym is) (call_good None (record { text = q; span = span }) y close)
   behind_good (Constant (Data (datum.Text q)) span) tokens c good (inr rest) = relation_good (Constant (Data (datum.Text q)) span) tokens c good rest
@@ -202,7 +202,7 @@ module _ (version : ℕ) (expression : List Token → Counted → Type 0) where
 
   plain_good : (tokens : List Token) (c : tree.Condition) → grammar.plain version expression tokens c → (1 ≤ length tokens) × GoodPlain c
   plain_good tokens c (a, b, t, e, phrase, rest) =
-      let whole = split_length tokens a b e in let one = operand_bounded a t phrase in
+      let whole = split_length tokens a b e in let one = operand_bounded version a t phrase in
       (omega (arith, whole, one.0), behind_good t b c one.1 rest)
 
   pub condition_bounded : Bounded one_each GoodCondition (condition version expression)

@@ -32,9 +32,9 @@ rows_length n path conditions [] = refl
 rows_length n path conditions (k ∷ ks) = ap suc (rows_length (suc n) path conditions ks)
 
 -- the links of a block, by their rows
-pub rows_are : (n : ℕ) (path : List ℕ) (conditions : List Condition) (ks : List Link) → map row (edges_in n path conditions ks) ≡ rows_in n path (conditions_text conditions) ks
-rows_are n path conditions [] = refl
-rows_are n path conditions (k ∷ ks) = ap (λ rows. row_of n path (conditions_text conditions) k ∷ rows) (rows_are (suc n) path conditions ks)
+pub rows_are : (version n : ℕ) (path : List ℕ) (conditions : List Condition) (ks : List Link) → map (row version) (edges_in n path conditions ks) ≡ rows_in n path (conditions_text version conditions) ks
+rows_are version n path conditions [] = refl
+rows_are version n path conditions (k ∷ ks) = ap (λ rows. row_of n path (conditions_text version conditions) k ∷ rows) (rows_are version (suc n) path conditions ks)
 
 pub edges_length : (n : ℕ) (path : List ℕ) (conditions : List Condition) (ks : List Link) → length (edges_in n path conditions ks) ≡ length ks
 edges_length n path conditions [] = refl
@@ -74,12 +74,12 @@ row_more ks i k start found pushed new number path conditions long here f count 
 
 -- ---- one block more in the loop over blocks
 
-pub block_more : (paths : List (List ℕ)) (blocks : List QueryBlock) (i : ℕ) (path : List ℕ) (s : QueryBlock) (found new : List SchemaEdge) → length paths ≡ length blocks → i < length blocks
+pub block_more : (version : ℕ) (paths : List (List ℕ)) (blocks : List QueryBlock) (i : ℕ) (path : List ℕ) (s : QueryBlock) (found new : List SchemaEdge) → length paths ≡ length blocks → i < length blocks
     → path ≡ get_or paths i path → s ≡ get_or blocks i s
-    → found ≡ map row (edges_from 1 (take i paths) (map body_of (take i blocks)))
-    → new ≡ found ++ body_rows (length found + 1) path (body_of s)
-    → new ≡ map row (edges_from 1 (take (i + 1) paths) (map body_of (take (i + 1) blocks)))
-block_more paths blocks i path s found new same long at here f more =
+    → found ≡ map (row version) (edges_from 1 (take i paths) (map body_of (take i blocks)))
+    → new ≡ found ++ body_rows version (length found + 1) path (body_of s)
+    → new ≡ map (row version) (edges_from 1 (take (i + 1) paths) (map body_of (take (i + 1) blocks)))
+block_more version paths blocks i path s found new same long at here f more =
     let ps : take (i + 1) paths ≡ take i paths ++ path ∷ [] = take_more paths i path (omega (arith, same, long)) ∙ ap (λ p. take i paths ++ p ∷ []) (sym at) in
     let bs : take (i + 1) blocks ≡ take i blocks ++ s ∷ [] = take_more blocks i s long ∙ ap (λ (b : QueryBlock). take i blocks ++ b ∷ []) (sym here) in
     let bodies = map body_of (take i blocks) in
@@ -88,10 +88,10 @@ block_more paths blocks i path s found new same long at here f more =
     let edges = edges_from 1 (take i paths) bodies in
     let b = body_of s in
     let push = edges_push 1 (take i paths) bodies path b equal in
-    let count : length found + 1 ≡ 1 + length edges = omega (arith, ap length f, length-map edges row) in
-    let rows : body_rows (length found + 1) path b ≡ map row (edges_in (1 + length edges) path b.conditions b.links) =
-    ap (λ n. body_rows n path b) count ∙ sym (rows_are (1 + length edges) path b.conditions b.links) in
-    let left : new ≡ map row edges ++ map row (edges_in (1 + length edges) path b.conditions b.links) = more ∙ (ap (λ xs. xs ++ body_rows (length found + 1) path b) f ∙ ap (λ xs. map row edges ++ xs) rows) in
-    let right : map row (edges_from 1 (take (i + 1) paths) (map body_of (take (i + 1) blocks))) ≡ map row edges ++ map row (edges_in (1 + length edges) path b.conditions b.links) =
-    (λ j. map row (edges_from 1 (ps j) (ms j))) ∙ (ap (map row) push ∙ map-append row edges (edges_in (1 + length edges) path b.conditions b.links)) in
+    let count : length found + 1 ≡ 1 + length edges = omega (arith, ap length f, length-map edges (row version)) in
+    let rows : body_rows version (length found + 1) path b ≡ map (row version) (edges_in (1 + length edges) path b.conditions b.links) =
+    ap (λ n. body_rows version n path b) count ∙ sym (rows_are version (1 + length edges) path b.conditions b.links) in
+    let left : new ≡ map (row version) edges ++ map (row version) (edges_in (1 + length edges) path b.conditions b.links) = more ∙ (ap (λ xs. xs ++ body_rows version (length found + 1) path b) f ∙ ap (λ xs. map (row version) edges ++ xs) rows) in
+    let right : map (row version) (edges_from 1 (take (i + 1) paths) (map body_of (take (i + 1) blocks))) ≡ map (row version) edges ++ map (row version) (edges_in (1 + length edges) path b.conditions b.links) =
+    (λ j. map (row version) (edges_from 1 (ps j) (ms j))) ∙ (ap (map (row version)) push ∙ map-append (row version) edges (edges_in (1 + length edges) path b.conditions b.links)) in
     left ∙ sym right

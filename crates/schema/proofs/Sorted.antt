@@ -92,13 +92,13 @@ one_row : (f : Name) (t : Target) → IsMade t → is_eq (bytes_cmp (source_func
 one_row f (made t) h = refl
 one_row f (plain.plain operand) (t, h) = absurd cc
 
-pub rows_of_function : (f : Name) (edges : List spec.SchemaEdge) → ((e : spec.SchemaEdge) → Contains edges e → IsMade e.link.source)
-    → rows_from f (map row edges) ≡ map row (filter (starts_at f) edges)
-rows_of_function f [] all_made = refl
-rows_of_function f (e ∷ edges) all_made =
-    rw (one_row f e.link.source (all_made e (Contains-here e edges)), rows_of_function f edges (λ x h. all_made x (Contains-there e edges x h)))
+pub rows_of_function : (version : ℕ) (f : Name) (edges : List spec.SchemaEdge) → ((e : spec.SchemaEdge) → Contains edges e → IsMade e.link.source)
+    → rows_from f (map (row version) edges) ≡ map (row version) (filter (starts_at f) edges)
+rows_of_function version f [] all_made = refl
+rows_of_function version f (e ∷ edges) all_made =
+    rw (one_row f e.link.source (all_made e (Contains-here e edges)), rows_of_function version f edges (λ x h. all_made x (Contains-there e edges x h)))
     (by (starts_at f e))
   where
-    by : (b : Bool) → cond b (row e ∷ map row (filter (starts_at f) edges)) (map row (filter (starts_at f) edges)) ≡ map row (cond b (e ∷ filter (starts_at f) edges) (filter (starts_at f) edges))
+    by : (b : Bool) → cond b (row version e ∷ map (row version) (filter (starts_at f) edges)) (map (row version) (filter (starts_at f) edges)) ≡ map (row version) (cond b (e ∷ filter (starts_at f) edges) (filter (starts_at f) edges))
     by true = refl
     by false = refl

@@ -19,15 +19,15 @@ end_is : (t : Target) → end_word (target_function t) ≡ end_text t
 end_is (plain.plain operand) = refl
 end_is (made t) = refl
 
-line_is : (e : spec.SchemaEdge) → row_line (row e) ≡ edge_line e
-line_is e = rw (end_is e.link.target) refl
+line_is : (version : ℕ) (e : spec.SchemaEdge) → row_line (row version e) ≡ edge_line e
+line_is version e = rw (end_is e.link.target) refl
 
 name_is : (t : Target) → end_name (target_function t) ≡ end_node t
 name_is (plain.plain operand) = refl
 name_is (made t) = refl
 
-statement_is : (f : SchemaFunction) (e : spec.SchemaEdge) → row_statement f (row e) ≡ edge_statement f e
-statement_is f e = rw (name_is e.link.target) refl
+statement_is : (version : ℕ) (f : SchemaFunction) (e : spec.SchemaEdge) → row_statement f (row version e) ≡ edge_statement version f e
+statement_is version f e = rw (name_is e.link.target) refl
 
 mapped_texts : {X Y : Type 0} (g : X → Y) (a : Y → List ℕ) (b : X → List ℕ) (xs : List X) → ((x : X) → a (g x) ≡ b x) → flat_map a (map g xs) ≡ flat_map b xs
 mapped_texts g a b [] same = refl
@@ -39,10 +39,10 @@ same_texts a b (x ∷ xs) same = rw (same x, same_texts a b xs same) refl
 
 module _ (q : Query) (s : SiteSchema) (is : IsSchema q s) where
   lines_are : (f : SchemaFunction) → row_lines s.edges.items f ≡ function_lines (schema_edges q) f
-  lines_are f = rw (is.edges f.name, mapped_texts row row_line edge_line (filter (starts_at f.name) (schema_edges q)) line_is) refl
+  lines_are f = rw (is.edges f.name, mapped_texts (row q.version) row_line edge_line (filter (starts_at f.name) (schema_edges q)) (line_is q.version)) refl
 
-  statements_are : (f : SchemaFunction) → row_statements s.edges.items f ≡ function_statements (schema_edges q) f
-  statements_are f = rw (is.edges f.name, mapped_texts row (row_statement f) (edge_statement f) (filter (starts_at f.name) (schema_edges q)) (statement_is f)) refl
+  statements_are : (f : SchemaFunction) → row_statements s.edges.items f ≡ function_statements q.version (schema_edges q) f
+  statements_are f = rw (is.edges f.name, mapped_texts (row q.version) (row_statement f) (edge_statement q.version f) (filter (starts_at f.name) (schema_edges q)) (statement_is q.version f)) refl
 
   pub is_text : (old first new : List ℕ) → first ≡ old ++ codes "other\n" → new ≡ first ++ flat_map (row_lines s.edges.items) s.functions.items
       → (text : List ℕ) × IsSchemaText q text × (new ≡ old ++ text)
@@ -55,8 +55,8 @@ module _ (q : Query) (s : SiteSchema) (is : IsSchema q s) where
       → (text : List ℕ) × IsPicture q text × (new ≡ old ++ text)
   is_picture old first second new f m n =
       let head = codes "digraph site {\n  \"other\"\n" in
-      let lines = flat_map (function_statements (schema_edges q)) s.functions.items in
-      let all = same_texts (row_statements s.edges.items) (function_statements (schema_edges q)) s.functions.items statements_are in (
+      let lines = flat_map (function_statements q.version (schema_edges q)) s.functions.items in
+      let all = same_texts (row_statements s.edges.items) (function_statements q.version (schema_edges q)) s.functions.items statements_are in (
         head ++ (lines ++ codes "}\n"),
         (s.functions.items, is.functions, refl),
         rw (n, m, f, all) (append_assoc (old ++ head) lines (codes "}\n") ∙ append_assoc old head (lines ++ codes "}\n")),

@@ -54,13 +54,13 @@ sources_made version blocks checked b h k at =
 
 pub is_schema : (q : Query) (s : SiteSchema) (version : ℕ) (paths : List (List ℕ)) (blocks : List QueryBlock) (edges : List SchemaEdge)
     → paths ≡ paths_from [] 1 q.blocks → map body_of blocks ≡ blocks_in_scope q → AreCheckedBlocks version blocks
-    → ListsExactly function_cmp (IsFunctionIn (map body_of blocks)) s.functions.items → edges ≡ map row (edges_from 1 paths (map body_of blocks))
+    → ListsExactly function_cmp (IsFunctionIn (map body_of blocks)) s.functions.items → edges ≡ map (row q.version) (edges_from 1 paths (map body_of blocks))
     → IsSorted edge_cmp s.edges.items → IsStable edge_cmp edges s.edges.items → IsSchema q s
 is_schema q s version paths blocks edges e f checked functions rows sorted stable =
     let all : edges_from 1 paths (map body_of blocks) ≡ schema_edges q = (λ i. edges_from 1 (e i) (f i)) in
     let made = subst (λ (es : List spec.SchemaEdge). (x : spec.SchemaEdge) → Contains es x → IsMade x.link.source) all (all_made 1 paths (map body_of blocks) (sources_made version blocks checked)) in
     record {
       functions = subst (λ (bodies : List Body). ListsExactly function_cmp (IsFunctionIn bodies) s.functions.items) f functions;
-      edges = λ name. kept_in_order name edges s.edges.items stable ∙ ap (rows_from name) (rows ∙ ap (map row) all) ∙ rows_of_function name (schema_edges q) made;
+      edges = λ name. kept_in_order name edges s.edges.items stable ∙ ap (rows_from name) (rows ∙ ap (map (row q.version)) all) ∙ rows_of_function q.version name (schema_edges q) made;
       sorted = sorted;
     }

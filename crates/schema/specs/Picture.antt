@@ -25,21 +25,21 @@ end_node (made t) = node_text (term_function t)
 end_node (summed a) = quoted_text (codes "other")
 
 -- what stands at an edge: `N: LABEL`, and a line for each condition
-abbrev pub edge_label : SchemaEdge → List ℕ
-edge_label e =
-    decimal e.number ++ (codes ": " ++ (label_text e.link.label ++ conditions_text e.conditions))
+abbrev pub edge_label : ℕ → SchemaEdge → List ℕ
+edge_label version e =
+    decimal e.number ++ (codes ": " ++ (label_text e.link.label ++ conditions_text version e.conditions))
 
 -- `  "F/1" -> "G/0" [label="N: LABEL"]`, for a link that starts at the function
-abbrev pub edge_statement : SchemaFunction → SchemaEdge → List ℕ
-edge_statement f e =
+abbrev pub edge_statement : ℕ → SchemaFunction → SchemaEdge → List ℕ
+edge_statement version f e =
     (codes "  " ++ (node_text f ++ (codes " -> " ++ end_node e.link.target)))
-    ++ (codes " [label=" ++ (quoted_text (edge_label e) ++ codes "]\n"))
+    ++ (codes " [label=" ++ (quoted_text (edge_label version e) ++ codes "]\n"))
 
 -- the node of a function, and the edges of the links that start at it
-abbrev pub function_statements : List SchemaEdge → SchemaFunction → List ℕ
-function_statements edges f =
+abbrev pub function_statements : ℕ → List SchemaEdge → SchemaFunction → List ℕ
+function_statements version edges f =
     codes "  " ++ (node_text f
-    ++ (codes "\n" ++ flat_map (edge_statement f) (filter (starts_at f.name) edges)))
+    ++ (codes "\n" ++ flat_map (edge_statement version f) (filter (starts_at f.name) edges)))
 
 -- the whole picture
 abbrev pub IsPicture : Query → List ℕ → Type 0
@@ -47,4 +47,4 @@ IsPicture q text =
     (functions : List SchemaFunction)
     × ListsExactly function_cmp (IsFunctionIn (blocks_in_scope q)) functions
     × (text ≡ codes "digraph site {\n  \"other\"\n"
-    ++ (flat_map (function_statements (schema_edges q)) functions ++ codes "}\n"))
+    ++ (flat_map (function_statements q.version (schema_edges q)) functions ++ codes "}\n"))

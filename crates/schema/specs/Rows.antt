@@ -34,9 +34,9 @@ IsFunctionIn bodies f = SomeOf (λ (b : Body). SomeOf (IsOf f.name f.arity) b.cr
 
 -- ---- links
 
--- conditions, each behind a line feed
-abbrev pub conditions_text : List Condition → List ℕ
-conditions_text conditions = flat_map (λ c. codes "\n" ++ condition_text c) conditions
+-- conditions of a version, each behind a line feed
+abbrev pub conditions_text : ℕ → List Condition → List ℕ
+conditions_text version conditions = flat_map (λ c. codes "\n" ++ condition_text version c) conditions
 
 -- the function at which a link starts; links of checked queries start at terms
 abbrev pub source_function : Target → SchemaFunction
@@ -62,9 +62,9 @@ row_of number path conditions k = record {
   target = target_function k.target;
 }
 
--- a link of the schema with the texts of its parts
-abbrev pub row : spec.SchemaEdge → SchemaEdge
-row e = row_of e.number e.path (conditions_text e.conditions) e.link
+-- a link of the schema of a query of a version, with the texts of its parts
+abbrev pub row : ℕ → spec.SchemaEdge → SchemaEdge
+row version e = row_of e.number e.path (conditions_text version e.conditions) e.link
 
 -- the links of a block, the first with this number
 abbrev pub rows_in : ℕ → List ℕ → List ℕ → List Link → List SchemaEdge
@@ -72,8 +72,8 @@ rows_in number path conditions [] = []
 rows_in number path conditions (k ∷ links) =
     row_of number path conditions k ∷ rows_in (suc number) path conditions links
 
-abbrev pub body_rows : ℕ → List ℕ → Body → List SchemaEdge
-body_rows number path b = rows_in number path (conditions_text b.conditions) b.links
+abbrev pub body_rows : (version number : ℕ) → List ℕ → Body → List SchemaEdge
+body_rows version number path b = rows_in number path (conditions_text version b.conditions) b.links
 
 -- the links that start at the function
 abbrev pub rows_from : Name → List SchemaEdge → List SchemaEdge
@@ -84,5 +84,5 @@ rows_from f edges = filter (λ e. is_eq (bytes_cmp e.source.name f)) edges
 -- exactly the query's functions, ascending, and of each function exactly its links, in the order of the text
 pub record IsSchema (q : Query) (s : SiteSchema) : Type 0 where
   pub functions : ListsExactly function_cmp (IsFunctionIn (blocks_in_scope q)) s.functions.items
-  pub edges : (f : Name) → rows_from f s.edges.items ≡ map row (filter (starts_at f) (schema_edges q))
+  pub edges : (f : Name) → rows_from f s.edges.items ≡ map (row q.version) (filter (starts_at f) (schema_edges q))
   pub sorted : IsSorted edge_cmp s.edges.items

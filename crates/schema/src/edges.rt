@@ -17,13 +17,13 @@ use struql_print::{print_condition, print_link};
 use token_writer::{put, put_quoted};
 
 /// The conditions' texts, each behind a line feed.
-fn text_of_conditions(alloc: Global, conditions: &[Condition]) -> Result<Str, NoMemory>
-    ensures { IfOk result (λ text. text ≡ conditions_text (map condition_of conditions.now)) }
+fn text_of_conditions(alloc: Global, version: u8, conditions: &[Condition]) -> Result<Str, NoMemory>
+    ensures { IfOk result (λ text. text ≡ conditions_text version (map condition_of conditions.now)) }
 {
     let mut text = Vec::new(alloc);
     for condition in conditions {
         put(b"\n", &mut text)?;
-        print_condition(condition, &mut text)?;
+        print_condition(version, condition, &mut text)?;
     }
     Str::of(alloc, text)
 }
@@ -114,30 +114,32 @@ fn push_links(
 /// Adds the links of a block, with its conditions.
 fn push_block(
     alloc: Global,
+    version: u8,
     path: &Str,
     block: &QueryBlock,
     edges: &mut Vec<SchemaEdge>,
 ) -> Result<(), NoMemory>
     ensures { IfOk result (λ _. edges.new.items ≡ edges.old.items
-        ++ body_rows (length edges.old.items + 1) path.now (body_of block.now)) }
+        ++ body_rows version (length edges.old.items + 1) path.now (body_of block.now)) }
 {
-    let conditions = text_of_conditions(alloc, block.chain.conditions())?;
+    let conditions = text_of_conditions(alloc, version, block.chain.conditions())?;
     push_links(alloc, path, &conditions, &block.links, edges)
 }
 
-/// The links of all blocks, in the order of the text.
+/// The links of all blocks of a query of this version, in the order of the text.
 pub fn edges_of(
     alloc: Global,
+    version: u8,
     blocks: &[QueryBlock],
     paths: &[Str],
 ) -> Result<Vec<SchemaEdge>, NoMemory>
     requires { length paths.now ≡ length blocks.now }
     ensures { IfOk result (λ edges. edges.items
-        ≡ map row (edges_from 1 paths.now (map body_of blocks.now))) }
+        ≡ map (row version) (edges_from 1 paths.now (map body_of blocks.now))) }
 {
     let mut edges = Vec::new(alloc);
     for i in 0..blocks.len() {
-        push_block(alloc, &paths[i], &blocks[i], &mut edges)?;
+        push_block(alloc, version, &paths[i], &blocks[i], &mut edges)?;
     }
     Ok(edges)
 }

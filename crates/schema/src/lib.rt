@@ -97,7 +97,7 @@ pub fn schema(alloc: Global, checked: &Checked) -> Result<SiteSchema, NoMemory>
     let scopes = scopes(alloc, checked)?;
     let paths = paths_of(alloc, &checked.query().blocks)?;
     let functions = functions_of(alloc, &scopes.blocks)?;
-    let mut edges = edges_of(alloc, &scopes.blocks, &paths)?;
+    let mut edges = edges_of(alloc, scopes.version, &scopes.blocks, &paths)?;
     edges.sort()?;
     Ok(SiteSchema { functions, edges })
 }

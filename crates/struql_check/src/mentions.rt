@@ -9,7 +9,9 @@ ghost use Rattle.struql_check.specs.declared.mentions.Role.TheVariants.{Other};
 
 use sd_value::{NoMemory, Str};
 use std::alloc::Global;
-use struql_ast::{Aggregate, Collect, Condition, Link, LinkLabel, Operand, PathStep, SkolemTerm, Target};
+use struql_ast::{
+    Aggregate, Collect, Condition, Link, LinkLabel, Operand, PathStep, SkolemTerm, Target,
+};
 
 /// The part that a variable plays where it is.
 #[derive(Clone, Copy)]

@@ -145,16 +145,16 @@ module _ {A : Type 0} {P U : List Token → A → Type 0} {F : List Token → Ty
 wheres : (version : ℕ) → Part IsReal (optional words.Where (condition version E)) (optional words.Where (condition version S)) (Begins behind_where) (read_optional words.Where (read_condition version))
 wheres version = optional_part words.Where where_part (condition_part version) (λ _ _ _. tt) behind_where (λ _ _. tt) (no_sign_1 signs.Comma refl refl) (λ t. no_word_1 t words.Where refl refl refl)
 
-creates : Part IsReal (optional words.Create term) (optional words.Create term) (Begins behind_create) (read_optional words.Create read_term)
-creates = optional_part words.Create create_part term_part (λ _ _ _. tt) behind_create (λ _ _. tt) (no_sign_2 signs.Comma refl refl) (λ t. no_word_2 t words.Create refl refl)
+creates : (version : ℕ) → Part IsReal (optional words.Create (term version)) (optional words.Create (term version)) (Begins behind_create) (read_optional words.Create (read_term version))
+creates version = optional_part words.Create create_part (term_part version) (λ _ _ _. tt) behind_create (λ _ _. tt) (no_sign_2 signs.Comma refl refl) (λ t. no_word_2 t words.Create refl refl)
 
-links : Part IsReal (optional words.Link link) (optional words.Link link) (Begins behind_link) (read_optional words.Link read_link)
-links =
-    optional_part words.Link link_word_part link_part (λ t later is. other_sign signs.Comma signs.OpenParen t.kind refl is) behind_link
+links : (version : ℕ) → Part IsReal (optional words.Link (link version)) (optional words.Link (link version)) (Begins behind_link) (read_optional words.Link (read_link version))
+links version =
+    optional_part words.Link link_word_part (link_part version) (λ t later is. other_sign signs.Comma signs.OpenParen t.kind refl is) behind_link
     (stops_by behind_link (is_sign signs.OpenParen) (no_sign_3 signs.OpenParen refl refl)) (no_sign_3 signs.Comma refl refl) (λ t. no_word_3 t words.Link refl)
 
-collects : Part IsReal (optional words.Collect collect) (optional words.Collect collect) (Begins behind_collect) (read_optional words.Collect read_collect)
-collects = optional_part words.Collect collect_word_part collect_part (λ _ _ _. tt) behind_collect (λ _ _. tt) (no_sign_4 signs.Comma refl refl) (λ t. no_word_4 t words.Collect)
+collects : (version : ℕ) → Part IsReal (optional words.Collect (collect version)) (optional words.Collect (collect version)) (Begins behind_collect) (read_optional words.Collect (read_collect version))
+collects version = optional_part words.Collect collect_word_part (collect_part version) (λ _ _ _. tt) behind_collect (λ _ _. tt) (no_sign_4 signs.Comma refl refl) (λ t. no_word_4 t words.Collect)
 
 -- ---- blocks
 
@@ -260,18 +260,18 @@ begins_optional k P Q narrow wide word wider later y w rest h f = by h.4
         subst (λ x. Begins wide (x ++ rest)) (sym (h.3 ∙ ap (λ x. x ++ h.1) o.2)) (word o.0 o.3)
     by (inr c) = subst (λ x. Begins wide (x ++ rest)) (sym (h.3 ∙ ap (λ x. x ++ h.1) c.0)) (begins_by narrow wide wider (h.1 ++ rest) (later h.2 h.1 w rest h.5 f))
 
-module _ (V : List Token → Body → Type 0) where
+module _ (version : ℕ) (V : List Token → Body → Type 0) where
   abbrev tail_5 : List Condition → List Term → List Link → List Collect → List Token → Body → Type 0
   tail_5 cs ts ks os = grammar.◌>>=◌ (iterated (λ s. braces V s) no_blocks) (λ bs. nothing (record { clauses = record { conditions = cs; creates = ts; links = ks; collects = os }; blocks = bs }))
 
   abbrev tail_4 : List Condition → List Term → List Link → List Token → Body → Type 0
-  tail_4 cs ts ks = grammar.◌>>=◌ (optional words.Collect collect) (tail_5 cs ts ks)
+  tail_4 cs ts ks = grammar.◌>>=◌ (optional words.Collect (collect version)) (tail_5 cs ts ks)
 
   abbrev tail_3 : List Condition → List Term → List Token → Body → Type 0
-  tail_3 cs ts = grammar.◌>>=◌ (optional words.Link link) (tail_4 cs ts)
+  tail_3 cs ts = grammar.◌>>=◌ (optional words.Link (link version)) (tail_4 cs ts)
 
   abbrev tail_2 : List Condition → List Token → Body → Type 0
-  tail_2 cs = grammar.◌>>=◌ (optional words.Create term) (tail_3 cs)
+  tail_2 cs = grammar.◌>>=◌ (optional words.Create (term version)) (tail_3 cs)
 
   begins_5 : (cs : List Condition) (ts : List Term) (ks : List Link) (os : List Collect) (y : List Token) (w : Body) (rest : List Token) → tail_5 cs ts ks os y w → AfterBody rest → Begins behind_collect (y ++ rest)
   begins_5 cs ts ks os y w rest h f =
@@ -284,29 +284,29 @@ module _ (V : List Token → Body → Type 0) where
           subst (λ x. Begins behind_collect (x ++ rest)) (sym (k.3 ∙ ap (λ x. x ++ k.1) o.2)) (or_left (is_sign signs.OpenBrace o.0) (is_sign signs.CloseBrace o.0) o.3)
 
   begins_4 : (cs : List Condition) (ts : List Term) (ks : List Link) (y : List Token) (w : Body) (rest : List Token) → tail_4 cs ts ks y w → AfterBody rest → Begins behind_link (y ++ rest)
-  begins_4 cs ts ks = begins_optional words.Collect collect (tail_5 cs ts ks) behind_collect behind_link (λ t. or_left (is_keyword words.Collect t) (behind_collect t)) (λ t. or_right (is_keyword words.Collect t) (behind_collect t)) (begins_5 cs ts ks)
+  begins_4 cs ts ks = begins_optional words.Collect (collect version) (tail_5 cs ts ks) behind_collect behind_link (λ t. or_left (is_keyword words.Collect t) (behind_collect t)) (λ t. or_right (is_keyword words.Collect t) (behind_collect t)) (begins_5 cs ts ks)
 
   begins_3 : (cs : List Condition) (ts : List Term) (y : List Token) (w : Body) (rest : List Token) → tail_3 cs ts y w → AfterBody rest → Begins behind_create (y ++ rest)
-  begins_3 cs ts = begins_optional words.Link link (tail_4 cs ts) behind_link behind_create (λ t. or_left (is_keyword words.Link t) (behind_link t)) (λ t. or_right (is_keyword words.Link t) (behind_link t)) (begins_4 cs ts)
+  begins_3 cs ts = begins_optional words.Link (link version) (tail_4 cs ts) behind_link behind_create (λ t. or_left (is_keyword words.Link t) (behind_link t)) (λ t. or_right (is_keyword words.Link t) (behind_link t)) (begins_4 cs ts)
 
   begins_2 : (cs : List Condition) (y : List Token) (w : Body) (rest : List Token) → tail_2 cs y w → AfterBody rest → Begins behind_where (y ++ rest)
-  begins_2 cs = begins_optional words.Create term (tail_3 cs) behind_create behind_where (λ t. or_left (is_keyword words.Create t) (behind_create t)) (λ t. or_right (is_keyword words.Create t) (behind_create t)) (begins_3 cs)
+  begins_2 cs = begins_optional words.Create (term version) (tail_3 cs) behind_create behind_where (λ t. or_left (is_keyword words.Create t) (behind_create t)) (λ t. or_right (is_keyword words.Create t) (behind_create t)) (begins_3 cs)
 
 module _ (version : ℕ) (room : Bool) (I V : List Token → Body → Type 0) (read : List Token → Outcome Token Body) (blocks : Part IsReal (iterated (λ s. guarded room (braces I s)) no_blocks) (iterated (λ s. braces V s) no_blocks) AfterBody (read_blocks room read no_blocks)) where
   body_of_part : Part IsReal (body_of version E room I) (body_of version S true V) AfterBody (read_body_of version room read)
   unfolding read_body_of
   body_of_part =
       then_part (wheres version)
-      (λ cs. then_part creates
-      (λ ts. then_part links
-      (λ ks. then_part collects
+      (λ cs. then_part (creates version)
+      (λ ts. then_part (links version)
+      (λ ks. then_part (collects version)
       (λ os. then_part blocks
       (λ bs. weaken_part AfterBody (λ _ _. tt) (give_part (record { clauses = record { conditions = cs; creates = ts; links = ks; collects = os }; blocks = bs })))
       (λ bs y w rest h f. ends_with AfterBody _ y w rest h f))
-      (λ os y w rest h f. begins_5 V cs ts ks os y w rest h f))
-      (λ ks y w rest h f. begins_4 V cs ts ks y w rest h f))
-      (λ ts y w rest h f. begins_3 V cs ts y w rest h f))
-      (λ cs y w rest h f. begins_2 V cs y w rest h f)
+      (λ os y w rest h f. begins_5 version V cs ts ks os y w rest h f))
+      (λ ks y w rest h f. begins_4 version V cs ts ks y w rest h f))
+      (λ ts y w rest h f. begins_3 version V cs ts y w rest h f))
+      (λ cs y w rest h f. begins_2 version V cs y w rest h f)
 
 -- with so many blocks one within another at most within the limits, and more of them beyond
 pub body_part : (version depth deeper : ℕ) → depth < deeper → Part IsReal (body version E depth) (body version S deeper) AfterBody (read_body version depth)

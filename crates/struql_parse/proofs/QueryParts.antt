@@ -80,14 +80,14 @@ top_part version g = do
 wheres : (version : ℕ) (g : Groups) → Part IsReal (item words.Where conditions_item (condition version E) g) (item words.Where conditions_item (condition version S) g) AfterItem (read_item words.Where conditions_item (read_condition version) g)
 wheres version = item_part words.Where conditions_item where_part (condition_part version) (λ _ _ _. tt) (λ _ _. tt)
 
-creates : (g : Groups) → Part IsReal (item words.Create creates_item term g) (item words.Create creates_item term g) AfterItem (read_item words.Create creates_item read_term g)
-creates = item_part words.Create creates_item create_part term_part (λ _ _ _. tt) (λ _ _. tt)
+creates : (version : ℕ) (g : Groups) → Part IsReal (item words.Create creates_item (term version) g) (item words.Create creates_item (term version) g) AfterItem (read_item words.Create creates_item (read_term version) g)
+creates version = item_part words.Create creates_item create_part (term_part version) (λ _ _ _. tt) (λ _ _. tt)
 
-links : (g : Groups) → Part IsReal (item words.Link links_item link g) (item words.Link links_item link g) AfterItem (read_item words.Link links_item read_link g)
-links = item_part words.Link links_item link_word_part link_part (λ t later is. other_sign signs.Comma signs.OpenParen t.kind refl is) (λ rest f. f.0)
+links : (version : ℕ) (g : Groups) → Part IsReal (item words.Link links_item (link version) g) (item words.Link links_item (link version) g) AfterItem (read_item words.Link links_item (read_link version) g)
+links version = item_part words.Link links_item link_word_part (link_part version) (λ t later is. other_sign signs.Comma signs.OpenParen t.kind refl is) (λ rest f. f.0)
 
-collects : (g : Groups) → Part IsReal (item words.Collect collects_item collect g) (item words.Collect collects_item collect g) AfterItem (read_item words.Collect collects_item read_collect g)
-collects = item_part words.Collect collects_item collect_word_part collect_part (λ _ _ _. tt) (λ _ _. tt)
+collects : (version : ℕ) (g : Groups) → Part IsReal (item words.Collect collects_item (collect version) g) (item words.Collect collects_item (collect version) g) AfterItem (read_item words.Collect collects_item (read_collect version) g)
+collects version = item_part words.Collect collects_item collect_word_part (collect_part version) (λ _ _ _. tt) (λ _ _. tt)
 
 -- the sets that `begins_item` is made of
 
@@ -104,35 +104,35 @@ second t = or_right (is_keyword words.Where t) (is_keyword words.Create t || thi
 
 module _ (version : ℕ) (g : Groups) where
   abbrev from_collects : List Token → Groups → Type 0
-  from_collects = either (item words.Collect collects_item collect g) (top_braces (inner_spelled version g) g)
+  from_collects = either (item words.Collect collects_item (collect version) g) (top_braces (inner_spelled version g) g)
 
   abbrev from_links : List Token → Groups → Type 0
-  from_links = either (item words.Link links_item link g) from_collects
+  from_links = either (item words.Link links_item (link version) g) from_collects
 
   abbrev from_creates : List Token → Groups → Type 0
-  from_creates = either (item words.Create creates_item term g) from_links
+  from_creates = either (item words.Create creates_item (term version) g) from_links
 
   opens_4 : (W : Token → Type 0) → ((t : Token) → is_keyword words.Collect t ≡ true → W t) → ((t : Token) → is_sign signs.OpenBrace t ≡ true → W t) → Opens from_collects W
-  opens_4 W a b = opens_either (item words.Collect collects_item collect g) (top_braces (inner_spelled version g) g) W (item_opens words.Collect collects_item collect W a g) (top_opens W b version g)
+  opens_4 W a b = opens_either (item words.Collect collects_item (collect version) g) (top_braces (inner_spelled version g) g) W (item_opens words.Collect collects_item (collect version) W a g) (top_opens W b version g)
 
   opens_3 : (W : Token → Type 0) → ((t : Token) → is_keyword words.Link t ≡ true → W t) → ((t : Token) → is_keyword words.Collect t ≡ true → W t) → ((t : Token) → is_sign signs.OpenBrace t ≡ true → W t) → Opens from_links W
-  opens_3 W l a b = opens_either (item words.Link links_item link g) from_collects W (item_opens words.Link links_item link W l g) (opens_4 W a b)
+  opens_3 W l a b = opens_either (item words.Link links_item (link version) g) from_collects W (item_opens words.Link links_item (link version) W l g) (opens_4 W a b)
 
   opens_2 : (W : Token → Type 0) → ((t : Token) → is_keyword words.Create t ≡ true → W t) → ((t : Token) → is_keyword words.Link t ≡ true → W t) → ((t : Token) → is_keyword words.Collect t ≡ true → W t) → ((t : Token) → is_sign signs.OpenBrace t ≡ true → W t) → Opens from_creates W
-  opens_2 W c l a b = opens_either (item words.Create creates_item term g) from_links W (item_opens words.Create creates_item term W c g) (opens_3 W l a b)
+  opens_2 W c l a b = opens_either (item words.Create creates_item (term version) g) from_links W (item_opens words.Create creates_item (term version) W c g) (opens_3 W l a b)
 
   pub item_step_part : Part IsReal (item_step version E (inner_within version) g) (item_step version S (inner_spelled version) g) AfterItem (read_item_step version g)
   unfolding read_item_step
   item_step_part =
       either_part (is_keyword words.Where) (wheres version g)
-      (either_part (is_keyword words.Create) (creates g)
-      (either_part (is_keyword words.Link) (links g)
-      (either_part (is_keyword words.Collect) (collects g) (weaken_part AfterItem (λ _ _. tt) (top_part version g))
-      (item_opens words.Collect collects_item collect _ (λ t is. is) g)
+      (either_part (is_keyword words.Create) (creates version g)
+      (either_part (is_keyword words.Link) (links version g)
+      (either_part (is_keyword words.Collect) (collects version g) (weaken_part AfterItem (λ _ _. tt) (top_part version g))
+      (item_opens words.Collect collects_item (collect version) _ (λ t is. is) g)
       (top_opens _ (λ t. sign_no_keyword signs.OpenBrace words.Collect t.kind) version g))
-      (item_opens words.Link links_item link _ (λ t is. is) g)
+      (item_opens words.Link links_item (link version) _ (λ t is. is) g)
       (opens_4 _ (λ t. other_keyword words.Collect words.Link t.kind refl) (λ t. sign_no_keyword signs.OpenBrace words.Link t.kind)))
-      (item_opens words.Create creates_item term _ (λ t is. is) g)
+      (item_opens words.Create creates_item (term version) _ (λ t is. is) g)
       (opens_3 _ (λ t. other_keyword words.Link words.Create t.kind refl) (λ t. other_keyword words.Collect words.Create t.kind refl) (λ t. sign_no_keyword signs.OpenBrace words.Create t.kind)))
       (item_opens words.Where conditions_item (condition version S) _ (λ t is. is) g)
       (opens_2 _ (λ t. other_keyword words.Create words.Where t.kind refl) (λ t. other_keyword words.Link words.Where t.kind refl) (λ t. other_keyword words.Collect words.Where t.kind refl) (λ t. sign_no_keyword signs.OpenBrace words.Where t.kind))
@@ -193,15 +193,15 @@ item_opened version g t is = by_where (is_keyword words.Where t) refl
 
     by_collect : (b : Bool) → is_keyword words.Collect t ≡ b → (b || is_sign signs.OpenBrace t) ≡ true → (x : List Token) × (v : Groups) × item_step version S (inner_spelled version) g (t ∷ x) v × Every IsReal x
     by_collect false e o = by_brace o
-    by_collect true e o = let p = opened words.Collect collects_item (listed_part collect_part (λ _ _ _. tt)) g t e in (p.0, p.1, inr (inr (inr (inl p.2))), p.3)
+    by_collect true e o = let p = opened words.Collect collects_item (listed_part (collect_part version) (λ _ _ _. tt)) g t e in (p.0, p.1, inr (inr (inr (inl p.2))), p.3)
 
     by_link : (b : Bool) → is_keyword words.Link t ≡ b → (b || fourth t) ≡ true → (x : List Token) × (v : Groups) × item_step version S (inner_spelled version) g (t ∷ x) v × Every IsReal x
     by_link false e o = by_collect (is_keyword words.Collect t) refl o
-    by_link true e o = let p = opened words.Link links_item (listed_part link_part (λ t later is. other_sign signs.Comma signs.OpenParen t.kind refl is)) g t e in (p.0, p.1, inr (inr (inl p.2)), p.3)
+    by_link true e o = let p = opened words.Link links_item (listed_part (link_part version) (λ t later is. other_sign signs.Comma signs.OpenParen t.kind refl is)) g t e in (p.0, p.1, inr (inr (inl p.2)), p.3)
 
     by_create : (b : Bool) → is_keyword words.Create t ≡ b → (b || third t) ≡ true → (x : List Token) × (v : Groups) × item_step version S (inner_spelled version) g (t ∷ x) v × Every IsReal x
     by_create false e o = by_link (is_keyword words.Link t) refl o
-    by_create true e o = let p = opened words.Create creates_item (listed_part term_part (λ _ _ _. tt)) g t e in (p.0, p.1, inr (inl p.2), p.3)
+    by_create true e o = let p = opened words.Create creates_item (listed_part (term_part version) (λ _ _ _. tt)) g t e in (p.0, p.1, inr (inl p.2), p.3)
 
     by_where : (b : Bool) → is_keyword words.Where t ≡ b → (x : List Token) × (v : Groups) × item_step version S (inner_spelled version) g (t ∷ x) v × Every IsReal x
     by_where false e = by_create (is_keyword words.Create t) refl (behind_false (is_keyword words.Where t) (is_keyword words.Create t || third t) e is)
@@ -327,11 +327,11 @@ query_part =
     then_opens (λ t. is_keyword words.Input t ≡ true) head_part
     (λ n. do
       _ ← keyword_part words.Input (codes "INPUT") is_input (refl, (refl, (refl, (refl, (refl, tt)))))
-      input ← name_part
+      input ← name_part n
       then_opens (λ t. is_keyword words.Output t ≡ true) (items_part n)
           (λ groups. do
             _ ← keyword_part words.Output (codes "OUTPUT") is_output (refl, (refl, (refl, (refl, (refl, (refl, tt))))))
-            output ← name_part
+            output ← name_part n
             finish_part (record { version = n; input = input.text; blocks = grouped groups; output = output.text }))
           (λ groups. opens_then (keyword words.Output) _ _ (keyword_opens words.Output _ (λ t is. is)))
           (λ t later is. is))

@@ -66,9 +66,9 @@ module _ (version : ℕ) (expression : List Token → Counted → Type 0) where
   abbrev pub body_of : Bool → (List Token → Body → Type 0) → List Token → Body → Type 0
   body_of room inner = do
     cs ← optional words.Where (condition version expression)
-    ts ← optional words.Create term
-    ks ← optional words.Link link
-    os ← optional words.Collect collect
+    ts ← optional words.Create (term version)
+    ks ← optional words.Link (link version)
+    os ← optional words.Collect (collect version)
     bs ← iterated (λ so_far. guarded room (braces inner so_far)) no_blocks
     nothing (record {
       clauses = record { conditions = cs; creates = ts; links = ks; collects = os };
@@ -225,9 +225,9 @@ abbrev pub item_step : ℕ → (List Token → Counted → Type 0)
     → (Groups → List Token → Body → Type 0) → Groups → List Token → Groups → Type 0
 item_step version expression inner g =
     either (item words.Where conditions_item (condition version expression) g)
-    (either (item words.Create creates_item term g)
-    (either (item words.Link links_item link g)
-    (either (item words.Collect collects_item collect g)
+    (either (item words.Create creates_item (term version) g)
+    (either (item words.Link links_item (link version) g)
+    (either (item words.Collect collects_item (collect version) g)
     (top_braces (inner g) g))))
 
 -- at most 16 blocks are round a block's clauses: how many more may be opened in braces at the top
@@ -250,10 +250,10 @@ abbrev pub query_of : Bool → (List Token → Counted → Type 0)
 query_of all expression inner = do
   n ← head all
   keyword words.Input
-  input ← name
+  input ← name n
   groups ← iterated (item_step n expression (inner n)) no_groups
   keyword words.Output
-  output ← name
+  output ← name n
   nothing (record {
     version = n;
     input = input.text;

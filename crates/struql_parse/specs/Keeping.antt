@@ -9,11 +9,11 @@ use Rattle.struql_text.proofs.ConditionParts.{condition_part}
 pub condition_keeps : (version : ℕ) → Keeps (read_condition version)
 condition_keeps version = part_keeps (condition_part version)
 
-pub term_keeps : (version : ℕ) → Keeps read_term
-term_keeps version = part_keeps term_part
+pub term_keeps : (version : ℕ) → Keeps (read_term version)
+term_keeps version = part_keeps (term_part version)
 
-pub link_keeps : (version : ℕ) → Keeps read_link
-link_keeps version = part_keeps link_part
+pub link_keeps : (version : ℕ) → Keeps (read_link version)
+link_keeps version = part_keeps (link_part version)
 
-pub collect_keeps : (version : ℕ) → Keeps read_collect
-collect_keeps version = part_keeps collect_part
+pub collect_keeps : (version : ℕ) → Keeps (read_collect version)
+collect_keeps version = part_keeps (collect_part version)

@@ -44,9 +44,9 @@ unfoldable pub read_body_of : ℕ → Bool → (List Token → Outcome Token Bod
     → Outcome Token Body
 read_body_of version room inner = do
   cs ← read_optional words.Where (read_condition version)
-  ts ← read_optional words.Create read_term
-  ks ← read_optional words.Link read_link
-  os ← read_optional words.Collect read_collect
+  ts ← read_optional words.Create (read_term version)
+  ks ← read_optional words.Link (read_link version)
+  os ← read_optional words.Collect (read_collect version)
   bs ← read_blocks room inner no_blocks
   give (record {
     clauses = record { conditions = cs; creates = ts; links = ks; collects = os };
@@ -97,9 +97,9 @@ unfoldable pub read_item_step : ℕ → Groups → List Token → Outcome Token 
 read_item_step version g =
     choose (is_keyword words.Where)
     (read_item words.Where conditions_item (read_condition version) g)
-    (choose (is_keyword words.Create) (read_item words.Create creates_item read_term g)
-    (choose (is_keyword words.Link) (read_item words.Link links_item read_link g)
-    (choose (is_keyword words.Collect) (read_item words.Collect collects_item read_collect g)
+    (choose (is_keyword words.Create) (read_item words.Create creates_item (read_term version) g)
+    (choose (is_keyword words.Link) (read_item words.Link links_item (read_link version) g)
+    (choose (is_keyword words.Collect) (read_item words.Collect collects_item (read_collect version) g)
     (read_top_braces version g))))
 
 -- the token begins an item of the top
@@ -122,8 +122,8 @@ unfoldable pub read_query : List Token → Outcome Token Query
 read_query = do
   n ← read_head
   read_keyword words.Input
-  input ← read_name
+  input ← read_name n
   groups ← iterate begins_item (read_item_step n) no_groups
   read_keyword words.Output
-  output ← read_name
+  output ← read_name n
   finish (record { version = n; input = input.text; blocks = grouped groups; output = output.text })

@@ -34,14 +34,14 @@ impl Listed for SkolemTerm {
 
     ghost written = { tree.term_written };
 
-    ghost read = { λ _. read_term };
+    ghost read = { read_term };
 
     fn item_at(
         alloc: Global,
-        _version: u8,
+        version: u8,
         tokens: &[Token],
     ) -> Result<(SkolemTerm, &[Token]), Halt<Token>> {
-        term_at(alloc, tokens)
+        term_at(alloc, version, tokens)
     }
 
     ghost keeps = { term_keeps };
@@ -52,14 +52,14 @@ impl Listed for Link {
 
     ghost written = { tree.link_written };
 
-    ghost read = { λ _. read_link };
+    ghost read = { read_link };
 
     fn item_at(
         alloc: Global,
-        _version: u8,
+        version: u8,
         tokens: &[Token],
     ) -> Result<(Link, &[Token]), Halt<Token>> {
-        link_at(alloc, tokens)
+        link_at(alloc, version, tokens)
     }
 
     ghost keeps = { link_keeps };
@@ -70,14 +70,14 @@ impl Listed for Collect {
 
     ghost written = { tree.collect_written };
 
-    ghost read = { λ _. read_collect };
+    ghost read = { read_collect };
 
     fn item_at(
         alloc: Global,
-        _version: u8,
+        version: u8,
         tokens: &[Token],
     ) -> Result<(Collect, &[Token]), Halt<Token>> {
-        collect_at(alloc, tokens)
+        collect_at(alloc, version, tokens)
     }
 
     ghost keeps = { collect_keeps };

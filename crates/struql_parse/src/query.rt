@@ -419,10 +419,10 @@ fn whole_at(alloc: Global, tokens: &[Token]) -> Result<Query, Halt<Token>>
 {
     let (version, rest) = head_at(tokens)?;
     let (_, rest) = keyword_at(rest, Keyword::Input)?;
-    let (input, rest) = name_at(alloc, rest)?;
+    let (input, rest) = name_at(alloc, version, rest)?;
     let (groups, rest) = items_at(alloc, version, rest)?;
     let (_, rest) = keyword_at(rest, Keyword::Output)?;
-    let (output, rest) = name_at(alloc, rest)?;
+    let (output, rest) = name_at(alloc, version, rest)?;
     match rest {
         [] => {
             let blocks = grouped(groups)?;

@@ -16,19 +16,19 @@ map_twice f g [] = refl
 map_twice f g (x ∷ xs) = rw (map_twice f g xs) refl
 
 -- the first block's text, and those of the others
-pub first_text : (b : Block) (after : Blocks) → block_texts (block_onto b after) ≡ block_text b ∷ block_texts after
-first_text b after =
+pub first_text : (version : ℕ) (b : Block) (after : Blocks) → block_texts version (block_onto b after) ≡ block_text version b ∷ block_texts version after
+first_text version b after =
     rw (
       onto_fields b after,
-      map_twice condition_text condition_of (out-Block b).conditions.items,
+      map_twice (condition_text version) condition_of (out-Block b).conditions.items,
       map_twice term_text term_of (out-Block b).creates.items,
       map_twice link_text link_of (out-Block b).links.items,
-      map_twice collect_text collect_of (out-Block b).collects.items,
+      map_twice (collect_text version) collect_of (out-Block b).collects.items,
     ) refl
 
-pub texts_push : (bs : List Block) (b : Block) → block_texts (blocks_of (bs ++ b ∷ [])) ≡ block_texts (blocks_of bs) ++ block_text b ∷ []
-texts_push [] b = first_text b (blocks_of [])
-texts_push (c ∷ bs) b = first_text c (blocks_of (bs ++ b ∷ [])) ∙ ap (λ texts. block_text c ∷ texts) (texts_push bs b) ∙ ap (λ texts. texts ++ block_text b ∷ []) (sym (first_text c (blocks_of bs)))
+pub texts_push : (version : ℕ) (bs : List Block) (b : Block) → block_texts version (blocks_of (bs ++ b ∷ [])) ≡ block_texts version (blocks_of bs) ++ block_text version b ∷ []
+texts_push version [] b = first_text version b (blocks_of [])
+texts_push version (c ∷ bs) b = first_text version c (blocks_of (bs ++ b ∷ [])) ∙ ap (λ texts. block_text version c ∷ texts) (texts_push version bs b) ∙ ap (λ texts. texts ++ block_text version b ∷ []) (sym (first_text version c (blocks_of bs)))
 
 pub flat_push : {A : Type 0} (f : A → List ℕ) (xs : List A) (x : A) → flat_map f (xs ++ x ∷ []) ≡ flat_map f xs ++ f x
 flat_push f [] x = append-nil (f x)

@@ -6,18 +6,18 @@ use Rattle.struql_ast.specs.Reading.{condition_of, term_of, link_of, collect_of,
 use Rattle.struql_print.specs.Texts.{condition_text, term_text, link_text, collect_text, clause_text, block_texts}
 
 -- the text of a block's clauses
-abbrev pub clauses_text : Block → List ℕ
-clauses_text b =
+abbrev pub clauses_text : ℕ → Block → List ℕ
+clauses_text version b =
     clause_text (codes "WHERE")
-    (map (λ c. condition_text (condition_of c)) (out-Block b).conditions.items)
+    (map (λ c. condition_text version (condition_of c)) (out-Block b).conditions.items)
     ++ (clause_text (codes "CREATE") (map (λ t. term_text (term_of t)) (out-Block b).creates.items)
     ++ (clause_text (codes "LINK") (map (λ k. link_text (link_of k)) (out-Block b).links.items)
     ++ clause_text (codes "COLLECT")
-    (map (λ c. collect_text (collect_of c)) (out-Block b).collects.items)))
+    (map (λ c. collect_text version (collect_of c)) (out-Block b).collects.items)))
 
 -- the text of a block, with braces
-abbrev pub block_text : Block → List ℕ
-block_text b =
-    codes "{" ++ (clauses_text b
+abbrev pub block_text : ℕ → Block → List ℕ
+block_text version b =
+    codes "{" ++ (clauses_text version b
     ++ (flat_map (λ text. codes " " ++ text)
-    (block_texts (blocks_of (out-Block b).blocks.items)) ++ codes " }"))
+    (block_texts version (blocks_of (out-Block b).blocks.items)) ++ codes " }"))

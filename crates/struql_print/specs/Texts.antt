@@ -20,7 +20,7 @@ use Rattle.query_spec.specs.Query.{Operand, variable, constant, PathStep, arc_va
 use Rattle.query_spec.specs.Query.{path, compare, one_of, kind, negation, SkolemTerm, Target, plain, made, LinkLabel}
 use Rattle.query_spec.specs.Query.{Aggregate, count_of, min_of, max_of, sum_of, summed}
 use Rattle.query_spec.specs.Query.{quoted, label_variable, Link, Collect, Body, Blocks, no_blocks, block, Query}
-use Rattle.struql_text.specs.Terminals.{keyword_of, test_of}
+use Rattle.struql_text.specs.Terminals.{keyword_in, test_of}
 
 -- the texts, with commas between them
 abbrev pub further : List (List ℕ) → List ℕ
@@ -74,13 +74,13 @@ abbrev pub is_name : List ℕ → Bool
 is_name [] = false
 is_name (b ∷ bytes) = is_letter b && list_all is_name_byte bytes
 
--- as it is, it is read as a collection's name: it is a name, and neither a keyword nor a test
-abbrev pub is_bare : List ℕ → Bool
-is_bare c = is_name c && (is_none (keyword_of c) && is_none (test_of c))
+-- as it is, it is read as a collection's name: it is a name, and neither a keyword of the version nor a test
+abbrev pub is_bare : ℕ → List ℕ → Bool
+is_bare version c = is_name c && (is_none (keyword_in version c) && is_none (test_of c))
 
 -- a collection's name, in quotes where it would else be read as something else
-abbrev pub collection_text : List ℕ → List ℕ
-collection_text c = if is_bare c then c else quoted_text c
+abbrev pub collection_text : ℕ → List ℕ → List ℕ
+collection_text version c = if is_bare version c then c else quoted_text c
 
 -- ---- terms and links
 
@@ -135,9 +135,9 @@ link_text k =
     ++ (codes " -> " ++ (label_text k.label ++ (codes " -> " ++ target_text k.target)))
 
 -- `C(x)`
-abbrev pub collect_text : Collect → List ℕ
-collect_text c =
-    collection_text c.collection ++ (codes "(" ++ (target_text c.target ++ codes ")"))
+abbrev pub collect_text : ℕ → Collect → List ℕ
+collect_text version c =
+    collection_text version c.collection ++ (codes "(" ++ (target_text c.target ++ codes ")"))
 
 -- ---- conditions
 
@@ -183,16 +183,16 @@ test_text test.IsUrl = codes "isUrl"
 test_text test.IsFile = codes "isFile"
 test_text test.IsNode = codes "isNode"
 
--- the text of a condition
-abbrev pub condition_text : Condition → List ℕ
-condition_text (member c x) = collection_text c ++ (codes "(" ++ (x ++ codes ")"))
-condition_text (path t s u) =
+-- the text of a condition of a version
+abbrev pub condition_text : ℕ → Condition → List ℕ
+condition_text version (member c x) = collection_text version c ++ (codes "(" ++ (x ++ codes ")"))
+condition_text version (path t s u) =
     operand_text t ++ (codes " -> " ++ (step_text s ++ (codes " -> " ++ operand_text u)))
-condition_text (compare t o u) = comparison_text o (operand_text t) (operand_text u)
-condition_text (one_of t values) =
+condition_text version (compare t o u) = comparison_text o (operand_text t) (operand_text u)
+condition_text version (one_of t values) =
     operand_text t ++ (codes " in {" ++ (joined (map value_text values) ++ codes "}"))
-condition_text (kind test x) = test_text test ++ (codes "(" ++ (x ++ codes ")"))
-condition_text (negation c) = codes "not(" ++ (condition_text c ++ codes ")")
+condition_text version (kind test x) = test_text test ++ (codes "(" ++ (x ++ codes ")"))
+condition_text version (negation c) = codes "not(" ++ (condition_text version c ++ codes ")")
 
 -- ---- blocks and queries
 
@@ -202,20 +202,20 @@ clause_text word [] = []
 clause_text word (text ∷ texts) = codes " " ++ (word ++ (codes " " ++ joined (text ∷ texts)))
 
 -- the text of a block's body
-abbrev pub body_text : Body → List ℕ
-body_text b =
-    clause_text (codes "WHERE") (map condition_text b.conditions)
+abbrev pub body_text : ℕ → Body → List ℕ
+body_text version b =
+    clause_text (codes "WHERE") (map (condition_text version) b.conditions)
     ++ (clause_text (codes "CREATE") (map term_text b.creates)
     ++ (clause_text (codes "LINK") (map link_text b.links)
-    ++ clause_text (codes "COLLECT") (map collect_text b.collects)))
+    ++ clause_text (codes "COLLECT") (map (collect_text version) b.collects)))
 
 -- each block in braces: its clauses, and then the blocks in it, each behind a blank
-abbrev pub block_texts : Blocks → List (List ℕ)
-block_texts no_blocks = []
-block_texts (block b inner after) =
-    (codes "{" ++ (body_text b
-    ++ (flat_map (λ text. codes " " ++ text) (block_texts inner) ++ codes " }")))
-    ∷ block_texts after
+abbrev pub block_texts : ℕ → Blocks → List (List ℕ)
+block_texts version no_blocks = []
+block_texts version (block b inner after) =
+    (codes "{" ++ (body_text version b
+    ++ (flat_map (λ text. codes " " ++ text) (block_texts version inner) ++ codes " }")))
+    ∷ block_texts version after
 
 -- the line of a version that isn't the first
 abbrev pub version_text : ℕ → List ℕ
@@ -228,5 +228,5 @@ abbrev pub query_text : Query → List ℕ
 query_text q =
     version_text q.version
     ++ (codes "INPUT " ++ (q.input ++ (codes "\n"
-    ++ (flat_map (λ text. text ++ codes "\n") (block_texts q.blocks)
+    ++ (flat_map (λ text. text ++ codes "\n") (block_texts q.version q.blocks)
     ++ (codes "OUTPUT " ++ (q.output ++ codes "\n"))))))

@@ -71,22 +71,24 @@ fn print_applied(variable: &Str, out: &mut Vec<u8>) -> Result<(), NoMemory>
 }
 
 fn print_path(
+    version: u8,
     from: &Operand,
     step: &PathStep,
     to: &Operand,
     out: &mut Vec<u8>,
 ) -> Result<(), NoMemory>
     ensures { IfOk result (λ _. out.new.items ≡ out.old.items
-        ++ condition_text (path (operand_of from.now) (step_of step.now) (operand_of to.now))) }
+        ++ condition_text version (path (operand_of from.now) (step_of step.now) (operand_of to.now))) }
 {
-    from.print(out)?;
+    from.print(version, out)?;
     put(b" -> ", out)?;
     print_step(step, out)?;
     put(b" -> ", out)?;
-    to.print(out)
+    to.print(version, out)
 }
 
 fn print_pair(
+    version: u8,
     test: TextTest,
     left: &Operand,
     right: &Operand,
@@ -98,45 +100,58 @@ fn print_pair(
 {
     put(text_test_word(test), out)?;
     put(b"(", out)?;
-    left.print(out)?;
+    left.print(version, out)?;
     put(b", ", out)?;
-    right.print(out)?;
+    right.print(version, out)?;
     put(b")", out)
 }
 
 // The operator between the operands.
-fn print_infix(left: &Operand, op: Op, right: &Operand, out: &mut Vec<u8>) -> Result<(), NoMemory>
-    ensures { IfOk result (λ _. out.new.items ≡ out.old.items
-        ++ infix_text op (operand_text (operand_of left.now))
-        (operand_text (operand_of right.now))) }
-{
-    left.print(out)?;
-    put(b" ", out)?;
-    print_op(op, out)?;
-    put(b" ", out)?;
-    right.print(out)
-}
-
-fn print_comparison(
+fn print_infix(
+    version: u8,
     left: &Operand,
     op: Op,
     right: &Operand,
     out: &mut Vec<u8>,
 ) -> Result<(), NoMemory>
     ensures { IfOk result (λ _. out.new.items ≡ out.old.items
-        ++ condition_text (compare (operand_of left.now) op (operand_of right.now))) }
+        ++ infix_text op (operand_text (operand_of left.now))
+        (operand_text (operand_of right.now))) }
+{
+    left.print(version, out)?;
+    put(b" ", out)?;
+    print_op(op, out)?;
+    put(b" ", out)?;
+    right.print(version, out)
+}
+
+fn print_comparison(
+    version: u8,
+    left: &Operand,
+    op: Op,
+    right: &Operand,
+    out: &mut Vec<u8>,
+) -> Result<(), NoMemory>
+    ensures { IfOk result (λ _. out.new.items ≡ out.old.items
+        ++ condition_text version (compare (operand_of left.now) op (operand_of right.now))) }
 {
     match op {
-        Op::Texts(test) => print_pair(test, left, right, out),
-        Op::Eq | Op::Ne | Op::Lt | Op::Le | Op::Gt | Op::Ge => print_infix(left, op, right, out),
+        Op::Texts(test) => print_pair(version, test, left, right, out),
+        Op::Eq | Op::Ne | Op::Lt | Op::Le | Op::Gt | Op::Ge => print_infix(
+            version, left, op, right, out,
+        ),
     }
 }
 
-/// Appends a condition's canonical text, as `C(x)`, `x -> "a".true* -> y`, `x = 1`,
+/// Appends the canonical text of a condition of this version, as `C(x)`, `x -> "a".true* -> y`, `x = 1`,
 /// `x in {1, 2}`, `isInt(x)`, `starts(x, "a")` or `not(C(x))`. After `NoMemory` what `out` holds is not said.
-pub fn print_condition(condition: &Condition, out: &mut Vec<u8>) -> Result<(), NoMemory>
+pub fn print_condition(
+    version: u8,
+    condition: &Condition,
+    out: &mut Vec<u8>,
+) -> Result<(), NoMemory>
     ensures { IfOk result (λ _. out.new.items
-        ≡ out.old.items ++ condition_text (condition_of condition.now)) }
+        ≡ out.old.items ++ condition_text version (condition_of condition.now)) }
 {
     match condition {
         Condition::Member {
@@ -144,24 +159,24 @@ pub fn print_condition(condition: &Condition, out: &mut Vec<u8>) -> Result<(), N
             variable,
             ..
         } => {
-            print_collection(collection.bytes(), out)?;
+            print_collection(version, collection.bytes(), out)?;
             print_applied(variable, out)
         }
-        Condition::Path { from, step, to, .. } => print_path(from, step, to, out),
+        Condition::Path { from, step, to, .. } => print_path(version, from, step, to, out),
         Condition::Compare {
             left,
             op,
             right,
             ..
-        } => print_comparison(left, *op, right, out),
+        } => print_comparison(version, left, *op, right, out),
         Condition::OneOf {
             operand,
             constants,
             ..
         } => {
-            operand.print(out)?;
+            operand.print(version, out)?;
             put(b" in {", out)?;
-            print_listed(constants.items(), out)?;
+            print_listed(version, constants.items(), out)?;
             put(b"}", out)
         }
         Condition::Kind { test, variable, .. } => {
@@ -170,16 +185,16 @@ pub fn print_condition(condition: &Condition, out: &mut Vec<u8>) -> Result<(), N
         }
         Condition::Not(inner, _) => {
             put(b"not(", out)?;
-            print_condition(inner, out)?;
+            print_condition(version, inner, out)?;
             put(b")", out)
         }
     }
 }
 
 impl Print for Condition {
-    ghost text = { λ c. condition_text (condition_of c) };
+    ghost text = { λ version c. condition_text version (condition_of c) };
 
-    fn print(&self, out: &mut Vec<u8>) -> Result<(), NoMemory> {
-        print_condition(self, out)
+    fn print(&self, version: u8, out: &mut Vec<u8>) -> Result<(), NoMemory> {
+        print_condition(version, self, out)
     }
 }

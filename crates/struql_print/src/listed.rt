@@ -6,35 +6,35 @@ ghost use Rattle.struql_print.specs.Texts.{joined, further};
 use sd_value::NoMemory;
 use token_writer::put;
 
-/// What has a text of its own.
+/// What has a text of its own in each version.
 pub trait Print {
-    ghost text: { Self → List ℕ };
+    ghost text: { ℕ → Self → List ℕ };
 
     /// Appends its text.
-    fn print(&self, out: &mut Vec<u8>) -> Result<(), NoMemory>
-        ensures { IfOk result (λ _. out.new.items ≡ out.old.items ++ text self.now) };
+    fn print(&self, version: u8, out: &mut Vec<u8>) -> Result<(), NoMemory>
+        ensures { IfOk result (λ _. out.new.items ≡ out.old.items ++ text version self.now) };
 }
 
 /// Appends the items' texts, with commas between them.
-pub fn print_listed<T: Print>(items: &[T], out: &mut Vec<u8>) -> Result<(), NoMemory>
-    ensures { IfOk result (λ _. out.new.items ≡ out.old.items ++ joined (map T.text items.now)) }
+pub fn print_listed<T: Print>(version: u8, items: &[T], out: &mut Vec<u8>) -> Result<(), NoMemory>
+    ensures { IfOk result (λ _. out.new.items ≡ out.old.items ++ joined (map (T.text version) items.now)) }
 {
     match items {
         [] => Ok(()),
         [first, later @ ..] => {
-            first.print(out)?;
-            print_further(later, out)
+            first.print(version, out)?;
+            print_further(version, later, out)
         }
     }
 }
 
 /// Appends each item's text behind a comma.
-fn print_further<T: Print>(items: &[T], out: &mut Vec<u8>) -> Result<(), NoMemory>
-    ensures { IfOk result (λ _. out.new.items ≡ out.old.items ++ further (map T.text items.now)) }
+fn print_further<T: Print>(version: u8, items: &[T], out: &mut Vec<u8>) -> Result<(), NoMemory>
+    ensures { IfOk result (λ _. out.new.items ≡ out.old.items ++ further (map (T.text version) items.now)) }
 {
     for item in items {
         put(b", ", out)?;
-        item.print(out)?;
+        item.print(version, out)?;
     }
     Ok(())
 }

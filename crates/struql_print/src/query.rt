@@ -13,9 +13,14 @@ use struql_ast::{Block, Query};
 use token_writer::put;
 
 /// Appends a clause behind a blank, or nothing where it has no items.
-fn print_clause<T: Print>(word: &[u8], items: &[T], out: &mut Vec<u8>) -> Result<(), NoMemory>
+fn print_clause<T: Print>(
+    version: u8,
+    word: &[u8],
+    items: &[T],
+    out: &mut Vec<u8>,
+) -> Result<(), NoMemory>
     ensures { IfOk result (λ _. out.new.items
-        ≡ out.old.items ++ clause_text word.now (map T.text items.now)) }
+        ≡ out.old.items ++ clause_text word.now (map (T.text version) items.now)) }
 {
     if items.is_empty() {
         return Ok(());
@@ -23,51 +28,51 @@ fn print_clause<T: Print>(word: &[u8], items: &[T], out: &mut Vec<u8>) -> Result
     put(b" ", out)?;
     put(word, out)?;
     put(b" ", out)?;
-    print_listed(items, out)
+    print_listed(version, items, out)
 }
 
-fn print_clauses(block: &Block, out: &mut Vec<u8>) -> Result<(), NoMemory>
-    ensures { IfOk result (λ _. out.new.items ≡ out.old.items ++ clauses_text block.now) }
+fn print_clauses(version: u8, block: &Block, out: &mut Vec<u8>) -> Result<(), NoMemory>
+    ensures { IfOk result (λ _. out.new.items ≡ out.old.items ++ clauses_text version block.now) }
 {
-    print_clause(b"WHERE", block.conditions.as_slice(), out)?;
-    print_clause(b"CREATE", block.creates.as_slice(), out)?;
-    print_clause(b"LINK", block.links.as_slice(), out)?;
-    print_clause(b"COLLECT", block.collects.as_slice(), out)
+    print_clause(version, b"WHERE", block.conditions.as_slice(), out)?;
+    print_clause(version, b"CREATE", block.creates.as_slice(), out)?;
+    print_clause(version, b"LINK", block.links.as_slice(), out)?;
+    print_clause(version, b"COLLECT", block.collects.as_slice(), out)
 }
 
 /// Appends a block in braces, with the blocks in it.
 #[cycle(block)]
-fn print_block(block: &Block, out: &mut Vec<u8>) -> Result<(), NoMemory>
-    ensures { IfOk result (λ _. out.new.items ≡ out.old.items ++ block_text block.now) }
+fn print_block(version: u8, block: &Block, out: &mut Vec<u8>) -> Result<(), NoMemory>
+    ensures { IfOk result (λ _. out.new.items ≡ out.old.items ++ block_text version block.now) }
 {
     put(b"{", out)?;
-    print_clauses(block, out)?;
-    print_inner(block.blocks.as_slice(), out)?;
+    print_clauses(version, block, out)?;
+    print_inner(version, block.blocks.as_slice(), out)?;
     put(b" }", out)
 }
 
 /// Appends each block behind a blank.
 #[cycle(block)]
-fn print_inner(blocks: &[Block], out: &mut Vec<u8>) -> Result<(), NoMemory>
+fn print_inner(version: u8, blocks: &[Block], out: &mut Vec<u8>) -> Result<(), NoMemory>
     ensures { IfOk result (λ _. out.new.items
         ≡ out.old.items ++ flat_map (λ text. codes " " ++ text)
-        (block_texts (blocks_of blocks.now))) }
+        (block_texts version (blocks_of blocks.now))) }
 {
     for block in blocks {
         put(b" ", out)?;
-        print_block(block, out)?;
+        print_block(version, block, out)?;
     }
     Ok(())
 }
 
 /// Appends each block, and a line feed behind it.
-fn print_lines(blocks: &[Block], out: &mut Vec<u8>) -> Result<(), NoMemory>
+fn print_lines(version: u8, blocks: &[Block], out: &mut Vec<u8>) -> Result<(), NoMemory>
     ensures { IfOk result (λ _. out.new.items
         ≡ out.old.items ++ flat_map (λ text. text ++ codes "\n")
-        (block_texts (blocks_of blocks.now))) }
+        (block_texts version (blocks_of blocks.now))) }
 {
     for block in blocks {
-        print_block(block, out)?;
+        print_block(version, block, out)?;
         put(b"\n", out)?;
     }
     Ok(())
@@ -104,6 +109,6 @@ pub fn print(query: &Query, out: &mut Vec<u8>) -> Result<(), NoMemory>
 {
     print_version(query.version, out)?;
     print_line(b"INPUT ", &query.input, out)?;
-    print_lines(query.blocks.as_slice(), out)?;
+    print_lines(query.version, query.blocks.as_slice(), out)?;
     print_line(b"OUTPUT ", &query.output, out)
 }

@@ -12,10 +12,13 @@ use sd_value::{Datum, NoMemory, Str, Value};
 use struql_ast::{Aggregate, Collect, Link, LinkLabel, Operand, SkolemTerm, Target};
 use token_writer::{put, put_int, put_quoted};
 
-impl Print for Value {
-    ghost text = { value_text };
+// Terms and links are printed alike in each version.
+const ANY_VERSION: u8 = 1;
 
-    fn print(&self, out: &mut Vec<u8>) -> Result<(), NoMemory> {
+impl Print for Value {
+    ghost text = { λ _. value_text };
+
+    fn print(&self, _version: u8, out: &mut Vec<u8>) -> Result<(), NoMemory> {
         match self {
             Value::Data(Datum::Int(n)) => put_int(*n, out),
             Value::Data(Datum::Text(text)) => put_quoted(text.bytes(), out),
@@ -28,31 +31,31 @@ impl Print for Value {
 }
 
 impl Print for Operand {
-    ghost text = { λ t. operand_text (operand_of t) };
+    ghost text = { λ _ t. operand_text (operand_of t) };
 
-    fn print(&self, out: &mut Vec<u8>) -> Result<(), NoMemory> {
+    fn print(&self, version: u8, out: &mut Vec<u8>) -> Result<(), NoMemory> {
         match self {
             Operand::Variable(name, _) => put(name.bytes(), out),
-            Operand::Constant(value, _) => value.print(out),
+            Operand::Constant(value, _) => value.print(version, out),
         }
     }
 }
 
 /// Appends the arguments of a term.
-fn print_arguments(args: &[Operand], out: &mut Vec<u8>) -> Result<(), NoMemory>
+fn print_arguments(version: u8, args: &[Operand], out: &mut Vec<u8>) -> Result<(), NoMemory>
     ensures { IfOk result (λ _. out.new.items
         ≡ out.old.items ++ joined (map operand_text (map operand_of args.now))) }
 {
-    print_listed(args, out)
+    print_listed(version, args, out)
 }
 
 impl Print for SkolemTerm {
-    ghost text = { λ t. term_text (term_of t) };
+    ghost text = { λ _ t. term_text (term_of t) };
 
-    fn print(&self, out: &mut Vec<u8>) -> Result<(), NoMemory> {
+    fn print(&self, version: u8, out: &mut Vec<u8>) -> Result<(), NoMemory> {
         put(self.function.bytes(), out)?;
         put(b"(", out)?;
-        print_arguments(self.args.as_slice(), out)?;
+        print_arguments(version, self.args.as_slice(), out)?;
         put(b")", out)
     }
 }
@@ -62,7 +65,7 @@ impl Print for SkolemTerm {
 pub fn print_term(term: &SkolemTerm, out: &mut Vec<u8>) -> Result<(), NoMemory>
     ensures { IfOk result (λ _. out.new.items ≡ out.old.items ++ term_text (term_of term.now)) }
 {
-    term.print(out)
+    term.print(ANY_VERSION, out)
 }
 
 fn print_applied(function: &[u8], name: &Str, out: &mut Vec<u8>) -> Result<(), NoMemory>
@@ -102,8 +105,8 @@ fn print_target(target: &Target, out: &mut Vec<u8>) -> Result<(), NoMemory>
         ≡ out.old.items ++ target_text (target_of target.now)) }
 {
     match target {
-        Target::Plain(operand) => operand.print(out),
-        Target::Made(term) => term.print(out),
+        Target::Plain(operand) => operand.print(ANY_VERSION, out),
+        Target::Made(term) => term.print(ANY_VERSION, out),
         Target::Summed(aggregate, _) => print_aggregate(aggregate, out),
     }
 }
@@ -130,18 +133,18 @@ pub fn print_link(link: &Link, out: &mut Vec<u8>) -> Result<(), NoMemory>
 }
 
 impl Print for Link {
-    ghost text = { λ k. link_text (link_of k) };
+    ghost text = { λ _ k. link_text (link_of k) };
 
-    fn print(&self, out: &mut Vec<u8>) -> Result<(), NoMemory> {
+    fn print(&self, _version: u8, out: &mut Vec<u8>) -> Result<(), NoMemory> {
         print_link(self, out)
     }
 }
 
 impl Print for Collect {
-    ghost text = { λ c. collect_text (collect_of c) };
+    ghost text = { λ version c. collect_text version (collect_of c) };
 
-    fn print(&self, out: &mut Vec<u8>) -> Result<(), NoMemory> {
-        print_collection(self.collection.bytes(), out)?;
+    fn print(&self, version: u8, out: &mut Vec<u8>) -> Result<(), NoMemory> {
+        print_collection(version, self.collection.bytes(), out)?;
         put(b"(", out)?;
         print_target(&self.target, out)?;
         put(b")", out)

@@ -63,18 +63,18 @@ clause_gapped : (word : List ℕ) (texts : List (List ℕ)) → IsGapped (clause
 clause_gapped word [] = tt
 clause_gapped word (text ∷ texts) = (refl, refl, refl)
 
-abbrev inner_text : Blocks → List ℕ
-inner_text bs = flat_map (λ text. codes " " ++ text) (block_texts bs)
+abbrev inner_text : ℕ → Blocks → List ℕ
+inner_text version bs = flat_map (λ text. codes " " ++ text) (block_texts version bs)
 
 inner_gapped : (texts : List (List ℕ)) → IsGapped (flat_map (λ text. codes " " ++ text) texts)
 inner_gapped [] = tt
 inner_gapped (text ∷ texts) = (refl, refl, refl)
 
-expr_condition : (version : ℕ) (c : Condition) → IsCondition version c → Lexing (Spelt (text.condition version expression_within) condition_kept c) Safe (condition_text c)
+expr_condition : (version : ℕ) (c : Condition) → IsCondition version c → Lexing (Spelt (text.condition version expression_within) condition_kept c) Safe (condition_text version c)
 expr_condition version c is = shown (λ tokens h. condition_spelt version c tokens h) (condition_lexing version c is)
 
-expr_term : (t : SkolemTerm) → IsTerm t → Lexing (Spelt text.term term_kept t) Safe (term_text t)
-expr_term t is = before (λ later w. tt) (term_lexing t is)
+expr_term : (version : ℕ) → (t : SkolemTerm) → IsTerm version t → Lexing (Spelt (text.term version) term_kept t) Safe (term_text t)
+expr_term version t is = before (λ later w. tt) (term_lexing version t is)
 
 -- ---- blocks one after another
 
@@ -107,8 +107,8 @@ abbrev Is : AnySign → Token → Type 0
 Is s t = is_sign s t ≡ true
 
 -- its text
-abbrev pub braced_text : Body → Blocks → List ℕ
-braced_text b inner = codes "{" ++ (body_text b ++ (flat_map (λ text. codes " " ++ text) (block_texts inner) ++ codes " }"))
+abbrev pub braced_text : ℕ → Body → Blocks → List ℕ
+braced_text version b inner = codes "{" ++ (body_text version b ++ (flat_map (λ text. codes " " ++ text) (block_texts version inner) ++ codes " }"))
 
 module _ (version : ℕ) where
   abbrev inner_of : ℕ → List Token → blocks.Body → Type 0
@@ -133,9 +133,9 @@ module _ (version : ℕ) where
 
   body_spelt : (depth : ℕ) (b : Body) (inner : Blocks) (tokens : List Token)
       → Both (Spelt (blocks.optional words.Where (text.condition version expression_within)) (map condition_kept) b.conditions)
-      (Both (Spelt (blocks.optional words.Create text.term) (map term_kept) b.creates)
-      (Both (Spelt (blocks.optional words.Link text.link) (map link_kept) b.links)
-      (Both (Spelt (blocks.optional words.Collect text.collect) (map collect_kept) b.collects) (Behind depth inner)))) tokens
+      (Both (Spelt (blocks.optional words.Create (text.term version)) (map term_kept) b.creates)
+      (Both (Spelt (blocks.optional words.Link (text.link version)) (map link_kept) b.links)
+      (Both (Spelt (blocks.optional words.Collect (text.collect version)) (map collect_kept) b.collects) (Behind depth inner)))) tokens
       → IsBodyOf depth b inner tokens
   body_spelt depth b inner tokens (f1, b1, e1, (cs, c, kept1), (f2, b2, e2, (ts, t, kept2), (f3, b3, e3, (ks, k, kept3), (f4, b4, e4, (os, o, kept4), behind)))) =
       let all = behind tree.no_blocks in
@@ -146,33 +146,33 @@ module _ (version : ℕ) where
         all.2,
       )
 
-  body_lexing : (depth : ℕ) (b : Body) (inner : Blocks) → IsBody version b → Lexing (Behind depth inner) Safe (inner_text inner) → Lexing (IsBodyOf depth b inner) Safe (body_text b ++ inner_text inner)
+  body_lexing : (depth : ℕ) (b : Body) (inner : Blocks) → IsBody version b → Lexing (Behind depth inner) Safe (inner_text version inner) → Lexing (IsBodyOf depth b inner) Safe (body_text version b ++ inner_text version inner)
   body_lexing depth b inner is within =
-      let wheres = clause_text (codes "WHERE") (map condition_text b.conditions) in
+      let wheres = clause_text (codes "WHERE") (map (condition_text version) b.conditions) in
       let creates = clause_text (codes "CREATE") (map term_text b.creates) in
       let links = clause_text (codes "LINK") (map link_text b.links) in
-      let collects = clause_text (codes "COLLECT") (map collect_text b.collects) in
-      let last = inner_text inner in
-      let gap4 : IsGapped (collects ++ last) = gapped_both collects last (clause_gapped (codes "COLLECT") (map collect_text b.collects)) (inner_gapped (block_texts inner)) in
+      let collects = clause_text (codes "COLLECT") (map (collect_text version) b.collects) in
+      let last = inner_text version inner in
+      let gap4 : IsGapped (collects ++ last) = gapped_both collects last (clause_gapped (codes "COLLECT") (map (collect_text version) b.collects)) (inner_gapped (block_texts version inner)) in
       let gap3 : IsGapped (links ++ (collects ++ last)) = gapped_both links (collects ++ last) (clause_gapped (codes "LINK") (map link_text b.links)) gap4 in
       let gap2 : IsGapped (creates ++ (links ++ (collects ++ last))) = gapped_both creates (links ++ (collects ++ last)) (clause_gapped (codes "CREATE") (map term_text b.creates)) gap3 in
       let text_is : wheres ++ (creates ++ (links ++ (collects ++ last))) ≡ (wheres ++ (creates ++ (links ++ collects))) ++ last =
       sym (append_assoc wheres (creates ++ (links ++ collects)) last ∙ ap (λ x. wheres ++ x) (append_assoc creates (links ++ collects) last ∙ ap (λ x. creates ++ x) (append_assoc links collects last))) in
-      same_text (body_text b ++ inner_text inner) text_is
+      same_text (body_text version b ++ inner_text version inner) text_is
       (shown (body_spelt depth b inner)
-      (both (clause_lexing words.Where (codes "WHERE") (refl, (refl, (refl, (refl, (refl, tt))))) where_shown (text.condition version expression_within) condition_kept condition_text (IsCondition version) (expr_condition version) b.conditions is.0) (λ later w. gapped (creates ++ (links ++ (collects ++ last))) later gap2 w)
-      (both (clause_lexing words.Create (codes "CREATE") (refl, (refl, (refl, (refl, (refl, (refl, tt)))))) create_shown text.term term_kept term_text IsTerm expr_term b.creates is.1) (λ later w. gapped (links ++ (collects ++ last)) later gap3 w)
-      (both (clause_lexing words.Link (codes "LINK") (refl, (refl, (refl, (refl, tt)))) link_shown text.link link_kept link_text IsLink link_lexing b.links is.2) (λ later w. gapped (collects ++ last) later gap4 w)
-      (both (clause_lexing words.Collect (codes "COLLECT") (refl, (refl, (refl, (refl, (refl, (refl, (refl, tt))))))) collect_shown text.collect collect_kept collect_text IsCollect collect_lexing b.collects is.3) (λ later w. gapped (inner_text inner) later (inner_gapped (block_texts inner)) w)
+      (both (clause_lexing words.Where (codes "WHERE") (refl, (refl, (refl, (refl, (refl, tt))))) where_shown (text.condition version expression_within) condition_kept (condition_text version) (IsCondition version) (expr_condition version) b.conditions is.0) (λ later w. gapped (creates ++ (links ++ (collects ++ last))) later gap2 w)
+      (both (clause_lexing words.Create (codes "CREATE") (refl, (refl, (refl, (refl, (refl, (refl, tt)))))) create_shown (text.term version) term_kept term_text (IsTerm version) (expr_term version) b.creates is.1) (λ later w. gapped (links ++ (collects ++ last)) later gap3 w)
+      (both (clause_lexing words.Link (codes "LINK") (refl, (refl, (refl, (refl, tt)))) link_shown (text.link version) link_kept link_text (IsLink version) (link_lexing version) b.links is.2) (λ later w. gapped (collects ++ last) later gap4 w)
+      (both (clause_lexing words.Collect (codes "COLLECT") (refl, (refl, (refl, (refl, (refl, (refl, (refl, tt))))))) collect_shown (text.collect version) collect_kept (collect_text version) (IsCollect version) (collect_lexing version) b.collects is.3) (λ later w. gapped (inner_text version inner) later (inner_gapped (block_texts version inner)) w)
       within)))))
 
   -- a block in braces
   abbrev pub Braced : ℕ → Body → Blocks → List Token → Type 0
   Braced depth b inner = Cons (Is signs.OpenBrace) (Both (IsBodyOf depth b inner) (Cons (Is signs.CloseBrace) Nil))
 
-  braced_lexing : (depth : ℕ) (b : Body) (inner : Blocks) → IsBody version b → Lexing (Behind depth inner) Safe (inner_text inner) → Lexing (Braced depth b inner) Any (braced_text b inner)
+  braced_lexing : (depth : ℕ) (b : Body) (inner : Blocks) → IsBody version b → Lexing (Behind depth inner) Safe (inner_text version inner) → Lexing (Braced depth b inner) Any (braced_text version b inner)
   braced_lexing depth b inner is within =
-      same_text (braced_text b inner) (ap (λ x. codes "{" ++ x) (append_assoc (body_text b) (inner_text inner) (codes " }")))
+      same_text (braced_text version b inner) (ap (λ x. codes "{" ++ x) (append_assoc (body_text version b) (inner_text version inner) (codes " }")))
       (sign_then signs.OpenBrace (λ later w. tt) (both (body_lexing depth b inner is within) (λ later w. (refl, refl, refl)) (gap 32 refl (sign_last signs.CloseBrace (λ later w. tt)))))
 
   one_behind : (depth : ℕ) (b : Body) (inner after : Blocks) (tokens : List Token) → Both (Braced depth b inner) (Behind (suc depth) after) tokens → Behind (suc depth) (block b inner after) tokens
@@ -195,12 +195,12 @@ module _ (version : ℕ) where
         more.2 ∙ one_kept done w span b inner after same_clauses same_blocks,
       )
 
-  pub behind_lexing : (depth : ℕ) (bs : Blocks) → AreBlocks version depth bs → Lexing (Behind depth bs) Safe (inner_text bs)
+  pub behind_lexing : (depth : ℕ) (bs : Blocks) → AreBlocks version depth bs → Lexing (Behind depth bs) Safe (inner_text version bs)
   behind_lexing depth no_blocks is = shown (λ tokens none done. (done, (0, (none, refl)), sym (none_behind (blocks_kept done)))) nothing_more
   behind_lexing zero (block b inner after) is = absurd is
   behind_lexing (suc depth) (block b inner after) is =
       gap 32 refl (shown (one_behind depth b inner after)
       (both (braced_lexing depth b inner is.0 (behind_lexing depth inner is.1)) (λ later w. tt) (behind_lexing (suc depth) after is.2)))
 
-  pub block_lexing : (depth : ℕ) (b : Body) (inner : Blocks) → IsBody version b → AreBlocks version depth inner → Lexing (Braced depth b inner) Any (braced_text b inner)
+  pub block_lexing : (depth : ℕ) (b : Body) (inner : Blocks) → IsBody version b → AreBlocks version depth inner → Lexing (Braced depth b inner) Any (braced_text version b inner)
   block_lexing depth b inner is within = braced_lexing depth b inner is (behind_lexing depth inner within)

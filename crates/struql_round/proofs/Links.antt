@@ -29,19 +29,19 @@ use Rattle.struql_round.proofs.Texts.{word_then, name_then, collection_then, quo
 use Rattle.struql_round.proofs.QueryTerms.{Spelt, source_lexing, target_lexing, listed_lexing}
 
 -- a token that is this label
-abbrev IsLabelToken : LinkLabel → Token → Type 0
-IsLabelToken l t = (w : declared.LinkLabel) × (label_value t ≡ Some w) × (label_of w ≡ l)
+abbrev IsLabelToken : ℕ → LinkLabel → Token → Type 0
+IsLabelToken version l t = (w : declared.LinkLabel) × (label_value version t ≡ Some w) × (label_of w ≡ l)
 
-label_then : {T : List Token → Type 0} {W : List ℕ → Type 0} {others : List ℕ} (l : LinkLabel) → IsLabel l → ((later : List ℕ) → W later → Safe (others ++ later)) → Lexing T W others
-    → Lexing (Cons (IsLabelToken l) T) W (label_text l ++ others)
-label_then (quoted s) is ends h = cons_shown (λ t e. (label.Quoted s, rw e refl, refl)) (quoted_then s h)
-label_then (label_variable x) is ends h = cons_shown (λ t shows. (label.Variable x t.span, rw (shows.0, shows.1) refl, refl)) (name_then x is ends h)
+label_then : (version : ℕ) → {T : List Token → Type 0} {W : List ℕ → Type 0} {others : List ℕ} (l : LinkLabel) → IsLabel version l → ((later : List ℕ) → W later → Safe (others ++ later)) → Lexing T W others
+    → Lexing (Cons (IsLabelToken version l) T) W (label_text l ++ others)
+label_then version (quoted s) is ends h = cons_shown (λ t e. (label.Quoted s, rw e refl, refl)) (quoted_then s h)
+label_then version (label_variable x) is ends h = cons_shown (λ t shows. (label.Variable x t.span, rw (shows.0, shows.1) refl, refl)) (name_then version x is ends h)
 
 abbrev Arrow : Token → Type 0
 Arrow t = is_sign signs.Arrow t ≡ true
 
-link_spelt : (k : Link) (tokens : List Token) → Both (Spelt text.source target_kept k.source) (Cons Arrow (Cons (IsLabelToken k.label) (Cons Arrow (Spelt text.target target_kept k.target)))) tokens → Spelt text.link link_kept k tokens
-link_spelt k tokens (front, back, parts, (s, source, same_source), (a, rest, is, arrow, (l, rest2, is2, (w, label, same_label), (b, rest3, is3, arrow2, (t, target, same_target))))) =
+link_spelt : (version : ℕ) → (k : Link) (tokens : List Token) → Both (Spelt (text.source version) target_kept k.source) (Cons Arrow (Cons (IsLabelToken version k.label) (Cons Arrow (Spelt (text.target version) target_kept k.target)))) tokens → Spelt (text.link version) link_kept k tokens
+link_spelt version k tokens (front, back, parts, (s, source, same_source), (a, rest, is, arrow, (l, rest2, is2, (w, label, same_label), (b, rest3, is3, arrow2, (t, target, same_target))))) =
     let whole : tree.Link = record { source = s; label = w; target = t; span = from_to (text.target_span s) (text.target_span t) } in (
       whole,
       (
@@ -69,17 +69,17 @@ link_spelt k tokens (front, back, parts, (s, source, same_source), (a, rest, is,
       (λ i. record { source = same_source i; label = same_label i; target = same_target i }),
     )
 
-pub link_lexing : (k : Link) → IsLink k → Lexing (Spelt text.link link_kept k) Safe (link_text k)
-link_lexing k is =
-    shown (link_spelt k)
-    (both (source_lexing k.source is.0) (λ later w. (refl, refl, refl)) (gap 32 refl (sign_then signs.Arrow (λ later w. tt) (gap 32 refl
-    (label_then k.label is.1 (λ later w. (refl, refl, refl)) (gap 32 refl (sign_then signs.Arrow (λ later w. tt) (gap 32 refl (target_lexing k.target is.2)))))))))
+pub link_lexing : (version : ℕ) → (k : Link) → IsLink version k → Lexing (Spelt (text.link version) link_kept k) Safe (link_text k)
+link_lexing version k is =
+    shown (link_spelt version k)
+    (both (source_lexing version k.source is.0) (λ later w. (refl, refl, refl)) (gap 32 refl (sign_then signs.Arrow (λ later w. tt) (gap 32 refl
+    (label_then version k.label is.1 (λ later w. (refl, refl, refl)) (gap 32 refl (sign_then signs.Arrow (λ later w. tt) (gap 32 refl (target_lexing version k.target is.2)))))))))
 
 abbrev Sign : AnySign → Token → Type 0
 Sign s t = is_sign s t ≡ true
 
-collect_spelt : (c : Collect) (tokens : List Token) → Cons (ShowsCollection c.collection) (Cons (Sign signs.OpenParen) (Both (Spelt text.source target_kept c.target) (Cons (Sign signs.CloseParen) Nil))) tokens → Spelt text.collect collect_kept c tokens
-collect_spelt c tokens (n, rest, is, shows, (o, rest2, is2, opening, (front, back, parts, (t, target, same), (x, rest3, is3, closing, none)))) =
+collect_spelt : (version : ℕ) → (c : Collect) (tokens : List Token) → Cons (ShowsCollection version c.collection) (Cons (Sign signs.OpenParen) (Both (Spelt (text.source version) target_kept c.target) (Cons (Sign signs.CloseParen) Nil))) tokens → Spelt (text.collect version) collect_kept c tokens
+collect_spelt version c tokens (n, rest, is, shows, (o, rest2, is2, opening, (front, back, parts, (t, target, same), (x, rest3, is3, closing, none)))) =
     let whole : tree.Collect = record { collection = c.collection; target = t; span = from_to n.span x.span } in (
       whole,
       (
@@ -87,7 +87,7 @@ collect_spelt c tokens (n, rest, is, shows, (o, rest2, is2, opening, (front, bac
         rest,
         record { text = c.collection; span = n.span },
         is,
-        (n, refl, collection_is c.collection n shows),
+        (n, refl, collection_is version c.collection n shows),
         (
           o ∷ [],
           rest2,
@@ -100,10 +100,10 @@ collect_spelt c tokens (n, rest, is, shows, (o, rest2, is2, opening, (front, bac
       (λ i. record { collection = c.collection; target = same i }),
     )
 
-pub collect_lexing : (c : Collect) → IsCollect c → Lexing (Spelt text.collect collect_kept c) Safe (collect_text c)
-collect_lexing c is =
-    shown (collect_spelt c)
-    (collection_then c.collection (λ later w. (refl, refl, refl)) (sign_then signs.OpenParen (λ later w. tt) (both (source_lexing c.target is) (λ later w. (refl, refl, refl)) (sign_last signs.CloseParen (λ later w. tt)))))
+pub collect_lexing : (version : ℕ) → (c : Collect) → IsCollect version c → Lexing (Spelt (text.collect version) collect_kept c) Safe (collect_text version c)
+collect_lexing version c is =
+    shown (collect_spelt version c)
+    (collection_then version c.collection (λ later w. (refl, refl, refl)) (sign_then signs.OpenParen (λ later w. tt) (both (source_lexing version c.target is) (λ later w. (refl, refl, refl)) (sign_last signs.CloseParen (λ later w. tt)))))
 
 -- ---- clauses
 

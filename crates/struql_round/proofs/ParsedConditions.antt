@@ -33,13 +33,13 @@ PlainKept version c = IsPlain version (condition_kept c)
 abbrev pub ConditionKept : ℕ → tree.Condition → Type 0
 ConditionKept version c = IsCondition version (condition_kept c)
 
-abbrev StepKept : tree.Step → Type 0
-StepKept s = IsStep (step_kept s)
+abbrev StepKept : ℕ → tree.Step → Type 0
+StepKept version s = IsStep version (step_kept s)
 
-is_step : (ts : List Token) (s : tree.Step) → Real ts → text.step expression_within ts s → StepKept s
-is_step ts s real (inl (front, back, x, cut, named, (none, same))) =
-    subst StepKept (sym same) (is_word front x (front_real ts front back cut real) named)
-is_step ts s real (inr (front, back, e, cut, read, (none, same))) = subst StepKept (sym same) (expression_fits front e read)
+is_step : (version : ℕ) → (ts : List Token) (s : tree.Step) → Real ts → text.step version expression_within ts s → StepKept version s
+is_step version ts s real (inl (front, back, x, cut, named, (none, same))) =
+    subst (StepKept version) (sym same) (is_word version front x (front_real ts front back cut real) named)
+is_step version ts s real (inr (front, back, e, cut, read, (none, same))) = subst (StepKept version) (sym same) (expression_fits front e read)
 
 -- a sign is an operator of each version
 abbrev Operator : ℕ → Option Op → Type 0
@@ -73,57 +73,57 @@ third version w test e = by (nat_eq version 3) refl
     by false t = absurd (let g = rw t at e in cc)
 
 module _ (version : ℕ) where
-  called : (k : Option Test) (c x : Word) (close : Span) → IsWord x.text → PlainKept version (text.call_with k c x close)
+  called : (k : Option Test) (c x : Word) (close : Span) → IsWord version x.text → PlainKept version (text.call_with k c x close)
   called None c x close argument = argument
   called (Some t) c x close argument = argument
 
-  call_plain : (test : Option Test) (c : Word) (ts : List Token) (condition : tree.Condition) → Real ts → text.call test c ts condition → PlainKept version condition
+  call_plain : (test : Option Test) (c : Word) (ts : List Token) (condition : tree.Condition) → Real ts → text.call version test c ts condition → PlainKept version condition
   call_plain test c ts condition real (f1, b1, opening, cut1, sign1, (f2, b2, x, cut2, named, (f3, b3, close, cut3, sign2, (none, same)))) =
-      let argument = is_word f2 x (front_real b1 f2 b2 cut2 (back_real ts f1 b1 cut1 real)) named in
+      let argument = is_word version f2 x (front_real b1 f2 b2 cut2 (back_real ts f1 b1 cut1 real)) named in
       subst (PlainKept version) (sym same) (called test c x close argument)
 
-  second_plain : (test : TextTest) (c : Word) (t : Operand) → version ≡ 3 → OperandKept t → (ts : List Token) (condition : tree.Condition) → Real ts → text.second test c t ts condition → PlainKept version condition
+  second_plain : (test : TextTest) (c : Word) (t : Operand) → version ≡ 3 → OperandKept version t → (ts : List Token) (condition : tree.Condition) → Real ts → text.second version test c t ts condition → PlainKept version condition
   second_plain test c t known kept ts condition real (f1, b1, comma, cut1, sign1, (f2, b2, u, cut2, operand, (f3, b3, close, cut3, sign2, (none, same)))) =
-      let other = is_operand f2 u (front_real b1 f2 b2 cut2 (back_real ts f1 b1 cut1 real)) operand in
+      let other = is_operand version f2 u (front_real b1 f2 b2 cut2 (back_real ts f1 b1 cut1 real)) operand in
       subst (PlainKept version) (sym same) (known, kept, other)
 
-  pair_end_plain : (test : TextTest) (c : Word) (t : Operand) → version ≡ 3 → OperandKept t → (ts : List Token) (condition : tree.Condition) → Real ts → text.pair_end test c t ts condition → PlainKept version condition
+  pair_end_plain : (test : TextTest) (c : Word) (t : Operand) → version ≡ 3 → OperandKept version t → (ts : List Token) (condition : tree.Condition) → Real ts → text.pair_end version test c t ts condition → PlainKept version condition
   pair_end_plain test c (Variable x span) known kept ts condition real (inl h) = second_plain test c (Variable x span) known kept ts condition real h
   pair_end_plain test c (Variable x span) known kept ts condition real (inr (front, back, close, cut, is, (none, same))) = subst (PlainKept version) (sym same) kept
   pair_end_plain test c (Constant v span) known kept ts condition real h = second_plain test c (Constant v span) known kept ts condition real h
 
-  name_call_plain : (test : Option TextTest) (c : Word) → ((found : TextTest) → test ≡ Some found → version ≡ 3) → (ts : List Token) (condition : tree.Condition) → Real ts → text.name_call test c ts condition → PlainKept version condition
+  name_call_plain : (test : Option TextTest) (c : Word) → ((found : TextTest) → test ≡ Some found → version ≡ 3) → (ts : List Token) (condition : tree.Condition) → Real ts → text.name_call version test c ts condition → PlainKept version condition
   name_call_plain None c known ts condition real h = call_plain (test_of c.text) c ts condition real h
   name_call_plain (Some test) c known ts condition real (f1, b1, opening, cut1, sign1, (f2, b2, t, cut2, operand, rest)) =
       let real1 = back_real ts f1 b1 cut1 real in
-      let kept = is_operand f2 t (front_real b1 f2 b2 cut2 real1) operand in
+      let kept = is_operand version f2 t (front_real b1 f2 b2 cut2 real1) operand in
       pair_end_plain test c t (known test refl) kept b2 condition (back_real b1 f2 b2 cut2 real1) rest
 
-  comparison_plain : (t : Operand) → OperandKept t → (ts : List Token) (condition : tree.Condition) → Real ts → text.comparison t ts condition → PlainKept version condition
+  comparison_plain : (t : Operand) → OperandKept version t → (ts : List Token) (condition : tree.Condition) → Real ts → text.comparison version t ts condition → PlainKept version condition
   comparison_plain t kept ts condition real (f1, b1, o, cut1, op, (f2, b2, u, cut2, operand, (none, same))) =
-      let other = is_operand f2 u (front_real b1 f2 b2 cut2 (back_real ts f1 b1 cut1 real)) operand in
+      let other = is_operand version f2 u (front_real b1 f2 b2 cut2 (back_real ts f1 b1 cut1 real)) operand in
       subst (PlainKept version) (sym same) (one_operator version f1 o op, kept, other)
 
-  membership_plain : (t : Operand) → OperandKept t → (ts : List Token) (condition : tree.Condition) → Real ts → text.membership t ts condition → PlainKept version condition
+  membership_plain : (t : Operand) → OperandKept version t → (ts : List Token) (condition : tree.Condition) → Real ts → text.membership t ts condition → PlainKept version condition
   membership_plain t kept ts condition real (f1, b1, word, cut1, is, (f2, b2, opening, cut2, sign1, (f3, b3, vs, cut3, listed, (f4, b4, close, cut4, sign2, (none, same))))) =
       let real2 = back_real b1 f2 b2 cut2 (back_real ts f1 b1 cut1 real) in
       let values = listed_some (one constant_value) IsConstant is_constant f3 vs (front_real b2 f3 b3 cut3 real2) listed in
       subst (PlainKept version) (sym same) (kept, values)
 
-  path_plain : (t : Operand) → OperandKept t → (ts : List Token) (condition : tree.Condition) → Real ts → text.path expression_within t ts condition → PlainKept version condition
+  path_plain : (t : Operand) → OperandKept version t → (ts : List Token) (condition : tree.Condition) → Real ts → text.path version expression_within t ts condition → PlainKept version condition
   path_plain t kept ts condition real (f1, b1, arrow1, cut1, sign1, (f2, b2, s, cut2, step, (f3, b3, arrow2, cut3, sign2, (f4, b4, u, cut4, operand, (none, same))))) =
       let real1 = back_real ts f1 b1 cut1 real in
       let real3 = back_real b2 f3 b3 cut3 (back_real b1 f2 b2 cut2 real1) in
-      let step_is = is_step f2 s (front_real b1 f2 b2 cut2 real1) step in
-      let other = is_operand f4 u (front_real b3 f4 b4 cut4 real3) operand in
+      let step_is = is_step version f2 s (front_real b1 f2 b2 cut2 real1) step in
+      let other = is_operand version f4 u (front_real b3 f4 b4 cut4 real3) operand in
       subst (PlainKept version) (sym same) (kept, step_is, other)
 
-  relation_plain : (t : Operand) → OperandKept t → (ts : List Token) (condition : tree.Condition) → Real ts → text.relation expression_within t ts condition → PlainKept version condition
+  relation_plain : (t : Operand) → OperandKept version t → (ts : List Token) (condition : tree.Condition) → Real ts → text.relation version expression_within t ts condition → PlainKept version condition
   relation_plain t kept ts condition real (inl h) = path_plain t kept ts condition real h
   relation_plain t kept ts condition real (inr (inl h)) = membership_plain t kept ts condition real h
   relation_plain t kept ts condition real (inr (inr h)) = comparison_plain t kept ts condition real h
 
-  behind_plain : (t : Operand) → OperandKept t → (ts : List Token) (condition : tree.Condition) → Real ts → text.behind version expression_within t ts condition → PlainKept version condition
+  behind_plain : (t : Operand) → OperandKept version t → (ts : List Token) (condition : tree.Condition) → Real ts → text.behind version expression_within t ts condition → PlainKept version condition
   behind_plain (Variable x span) kept ts condition real (inl h) = name_call_plain (pair_test version x) (record { text = x; span = span }) (third version x) ts condition real h
   behind_plain (Variable x span) kept ts condition real (inr h) = relation_plain (Variable x span) kept ts condition real h
   behind_plain (Constant (Data (datum.Text q)) span) kept ts condition real (inl h) = call_plain None (record { text = q; span = span }) ts condition real h
@@ -136,7 +136,7 @@ module _ (version : ℕ) where
 
   is_plain : (ts : List Token) (condition : tree.Condition) → Real ts → text.plain version expression_within ts condition → PlainKept version condition
   is_plain ts condition real (front, back, t, cut, operand, rest) =
-      behind_plain t (is_operand front t (front_real ts front back cut real) operand) back condition (back_real ts front back cut real) rest
+      behind_plain t (is_operand version front t (front_real ts front back cut real) operand) back condition (back_real ts front back cut real) rest
 
   plain_condition : (c : plain.Condition) → IsPlain version c → IsCondition version c
   plain_condition (plain.member c x) h = h

@@ -62,12 +62,12 @@ module _ (version : ℕ) where
       let real3 = back_real b2 f3 b3 cut3 real2 in
       let real4 = back_real b3 f4 b4 cut4 real3 in
       let conditions = optional_every words.Where (text.condition version expression_within) (ConditionKept version) (is_condition version) f1 cs (front_real ts f1 b1 cut1 real) where' in
-      let creates = optional_every words.Create text.term TermKept is_term f2 ts2 (front_real b1 f2 b2 cut2 real1) create in
-      let links = optional_every words.Link text.link LinkKept is_link f3 ks (front_real b2 f3 b3 cut3 real2) link in
-      let collects = optional_every words.Collect text.collect CollectKept is_collect f4 os (front_real b3 f4 b4 cut4 real3) collect in
+      let creates = optional_every words.Create (text.term version) (TermKept version) (is_term version) f2 ts2 (front_real b1 f2 b2 cut2 real1) create in
+      let links = optional_every words.Link (text.link version) (LinkKept version) (is_link version) f3 ks (front_real b2 f3 b3 cut3 real2) link in
+      let collects = optional_every words.Collect (text.collect version) (CollectKept version) (is_collect version) f4 os (front_real b3 f4 b4 cut4 real3) collect in
       let inside = steps_keep IsReal (Inner room inner) (BlocksKept depth) keep k tree.no_blocks f5 bs (front_real b4 f5 b5 cut5 real4) first more in
       let clauses : IsBody version (clauses_kept (record { conditions = cs; creates = ts2; links = ks; collects = os })) =
-      (every_mapped (IsCondition version) condition_kept cs conditions, every_mapped IsTerm term_kept ts2 creates, every_mapped IsLink link_kept ks links, every_mapped IsCollect collect_kept os collects) in
+      (every_mapped (IsCondition version) condition_kept cs conditions, every_mapped (IsTerm version) term_kept ts2 creates, every_mapped (IsLink version) link_kept ks links, every_mapped (IsCollect version) collect_kept os collects) in
       subst (BodyKept depth) (sym same) (clauses, inside)
 
   no_room_keeps : (s : tree.Blocks) (ts : List Token) (s2 : tree.Blocks) → Real ts → BlocksKept 0 s → Inner false never s ts s2 → BlocksKept 0 s2
@@ -95,9 +95,9 @@ module _ (version : ℕ) where
 
   abbrev ItemKept : Item → Type 0
   ItemKept (blocks.conditions_item cs) = Every (IsCondition version) (map condition_kept cs)
-  ItemKept (blocks.creates_item ts) = Every IsTerm (map term_kept ts)
-  ItemKept (blocks.links_item ks) = Every IsLink (map link_kept ks)
-  ItemKept (blocks.collects_item os) = Every IsCollect (map collect_kept os)
+  ItemKept (blocks.creates_item ts) = Every (IsTerm version) (map term_kept ts)
+  ItemKept (blocks.links_item ks) = Every (IsLink version) (map link_kept ks)
+  ItemKept (blocks.collects_item os) = Every (IsCollect version) (map collect_kept os)
 
   with_item_kept : (c : tree.Clauses) (i : Item) → ClausesKept c → ItemKept i → ClausesKept (blocks.with_item c i)
   with_item_kept c (blocks.conditions_item cs) kept is = (is, kept.1, kept.2, kept.3)
@@ -132,20 +132,20 @@ module _ (version : ℕ) where
   conditions_kept : (ts : List Token) (cs : List tree.Condition) → Real ts → text.listed (text.condition version expression_within) ts cs → Every (IsCondition version) (map condition_kept cs)
   conditions_kept ts cs real h = every_mapped (IsCondition version) condition_kept cs (listed_every (text.condition version expression_within) (ConditionKept version) (is_condition version) ts cs real h)
 
-  creates_kept : (ts : List Token) (fs : List tree.Term) → Real ts → text.listed text.term ts fs → Every IsTerm (map term_kept fs)
-  creates_kept ts fs real h = every_mapped IsTerm term_kept fs (listed_every text.term TermKept is_term ts fs real h)
+  creates_kept : (ts : List Token) (fs : List tree.Term) → Real ts → text.listed (text.term version) ts fs → Every (IsTerm version) (map term_kept fs)
+  creates_kept ts fs real h = every_mapped (IsTerm version) term_kept fs (listed_every (text.term version) (TermKept version) (is_term version) ts fs real h)
 
-  links_kept : (ts : List Token) (ks : List tree.Link) → Real ts → text.listed text.link ts ks → Every IsLink (map link_kept ks)
-  links_kept ts ks real h = every_mapped IsLink link_kept ks (listed_every text.link LinkKept is_link ts ks real h)
+  links_kept : (ts : List Token) (ks : List tree.Link) → Real ts → text.listed (text.link version) ts ks → Every (IsLink version) (map link_kept ks)
+  links_kept ts ks real h = every_mapped (IsLink version) link_kept ks (listed_every (text.link version) (LinkKept version) (is_link version) ts ks real h)
 
-  collects_kept : (ts : List Token) (os : List tree.Collect) → Real ts → text.listed text.collect ts os → Every IsCollect (map collect_kept os)
-  collects_kept ts os real h = every_mapped IsCollect collect_kept os (listed_every text.collect CollectKept is_collect ts os real h)
+  collects_kept : (ts : List Token) (os : List tree.Collect) → Real ts → text.listed (text.collect version) ts os → Every (IsCollect version) (map collect_kept os)
+  collects_kept ts os real h = every_mapped (IsCollect version) collect_kept os (listed_every (text.collect version) (CollectKept version) (is_collect version) ts os real h)
 
   step_keeps : (g : Groups) (ts : List Token) (g2 : Groups) → Real ts → GroupsKept g → Step g ts g2 → GroupsKept g2
   step_keeps g ts g2 real kept (inl h) = item_kept words.Where blocks.conditions_item (text.condition version expression_within) conditions_kept g ts g2 real kept h
-  step_keeps g ts g2 real kept (inr (inl h)) = item_kept words.Create blocks.creates_item text.term creates_kept g ts g2 real kept h
-  step_keeps g ts g2 real kept (inr (inr (inl h))) = item_kept words.Link blocks.links_item text.link links_kept g ts g2 real kept h
-  step_keeps g ts g2 real kept (inr (inr (inr (inl h)))) = item_kept words.Collect blocks.collects_item text.collect collects_kept g ts g2 real kept h
+  step_keeps g ts g2 real kept (inr (inl h)) = item_kept words.Create blocks.creates_item (text.term version) creates_kept g ts g2 real kept h
+  step_keeps g ts g2 real kept (inr (inr (inl h))) = item_kept words.Link blocks.links_item (text.link version) links_kept g ts g2 real kept h
+  step_keeps g ts g2 real kept (inr (inr (inr (inl h)))) = item_kept words.Collect blocks.collects_item (text.collect version) collects_kept g ts g2 real kept h
   step_keeps g ts g2 real kept (inr (inr (inr (inr (front, back, p, cut, (f1, b1, opening, cut1, sign1, (f2, b2, b, cut2, read, (f3, b3, close, cut3, sign2, (none2, same2)))), (none, same)))))) =
       let real1 = back_real front f1 b1 cut1 (front_real ts front back cut real) in
       let is = is_body (blocks.levels g.bare) f2 b (front_real b1 f2 b2 cut2 real1) read in
@@ -192,8 +192,8 @@ query_spellable ts w real (f1, b1, n, cut1, head, (f2, b2, input_word, cut2, is2
     let real3 = back_real b2 f3 b3 cut3 real2 in
     let real4 = back_real b3 f4 b4 cut4 real3 in
     let real5 = back_real b4 f5 b5 cut5 real4 in
-    let input_kept = is_word f3 input (front_real b2 f3 b3 cut3 real2) named3 in
-    let output_kept = is_word f6 output (front_real b5 f6 b6 cut6 real5) named6 in
+    let input_kept = is_word version f3 input (front_real b2 f3 b3 cut3 real2) named3 in
+    let output_kept = is_word version f6 output (front_real b5 f6 b6 cut6 real5) named6 in
     let inside : GroupsKept n groups = steps_keep IsReal (Step n) (GroupsKept n) (step_keeps n) k blocks.no_groups f4 groups (front_real b3 f4 b4 cut4 real3) (tt, tt) more in
     subst SpellableKept (sym same) (record { version = head_version f1 n head; input = input_kept; blocks = grouped_kept n groups.closed groups.bare inside.0 inside.1; output = output_kept })
 

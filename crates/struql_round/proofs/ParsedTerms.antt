@@ -23,7 +23,7 @@ use Rattle.struql_ast.specs.Reading.{operand_of, label_of}
 use Rattle.struql_ast.specs.Written as tree
 use Rattle.struql_text.specs.declared.keyword.Keyword.{Keyword}
 use Rattle.struql_text.specs.declared.keyword.Word.{Word}
-use Rattle.struql_text.specs.Terminals.{keyword_of, named, name_kind_value, operand_kind_value, constant_kind_value, constant_value, label_kind_value, label_value}
+use Rattle.struql_text.specs.Terminals.{keyword_in, named, name_kind_value, operand_kind_value, constant_kind_value, constant_value, label_kind_value, label_value}
 use Rattle.struql_text.specs.Grammar as text
 use Rattle.struql_round.specs.ShownParts.{term_kept}
 use Rattle.struql_round.specs.Spellable.{Every, IsSome, IsWord, IsConstant, IsOperand, IsTerm, IsSource, IsTarget, IsLabel, IsLink, IsCollect}
@@ -77,39 +77,39 @@ int_small (b ∷ digits) z h = by_case (nat_eq b 45) refl
     by_case true e = let g = rw e at h in negative_small (decimal 0 digits) z g
     by_case false e = let g = rw e at h in positive_small (decimal 0 (b ∷ digits)) z g
 
-word_kind : (bytes : List ℕ) (k : TokenKind) (span : Span) (w : Word) → Spells bytes k → name_kind_value span k ≡ Some w → IsWord w.text
-word_kind bytes (kinds.Name n) span w s h =
+word_kind : (version : ℕ) → (bytes : List ℕ) (k : TokenKind) (span : Span) (w : Word) → Spells bytes k → name_kind_value version span k ≡ Some w → IsWord version w.text
+word_kind version bytes (kinds.Name n) span w s h =
     let word : Word = record { text = n; span = span } in
-    let f = named_free word (keyword_of n) w h in
-    subst (λ x. IsWord x.text) f.0 (s.1, f.1)
-word_kind bytes (kinds.Quoted q) span w s h = absurd cc
-word_kind bytes (kinds.Int i) span w s h = absurd cc
-word_kind bytes (kinds.Sign r) span w s h = absurd cc
+    let f = named_free word (keyword_in version n) w h in
+    subst (λ x. IsWord version x.text) f.0 (s.1, f.1)
+word_kind version bytes (kinds.Quoted q) span w s h = absurd cc
+word_kind version bytes (kinds.Int i) span w s h = absurd cc
+word_kind version bytes (kinds.Sign r) span w s h = absurd cc
 
-pub is_word : (ts : List Token) (w : Word) → Real ts → text.name ts w → IsWord w.text
-is_word ts w real h =
+pub is_word : (version : ℕ) → (ts : List Token) (w : Word) → Real ts → text.name version ts w → IsWord version w.text
+is_word version ts w real h =
     let r = (subst Real h.1 real).0 in
-    word_kind r.0 h.0.kind h.0.span w r.1 h.2
+    word_kind version r.0 h.0.kind h.0.span w r.1 h.2
 
-abbrev pub OperandKept : Operand → Type 0
-OperandKept o = IsOperand (operand_of o)
+abbrev pub OperandKept : ℕ → Operand → Type 0
+OperandKept version o = IsOperand version (operand_of o)
 
-operand_kind : (bytes : List ℕ) (k : TokenKind) (span : Span) (o : Operand) → Spells bytes k → operand_kind_value span k ≡ Some o → OperandKept o
-operand_kind bytes (kinds.Name n) span o s h =
-    let f = named_free (Variable n span) (keyword_of n) o h in
-    subst OperandKept f.0 (s.1, f.1)
-operand_kind bytes (kinds.Quoted q) span o s h =
+operand_kind : (version : ℕ) → (bytes : List ℕ) (k : TokenKind) (span : Span) (o : Operand) → Spells bytes k → operand_kind_value version span k ≡ Some o → OperandKept version o
+operand_kind version bytes (kinds.Name n) span o s h =
+    let f = named_free (Variable n span) (keyword_in version n) o h in
+    subst (OperandKept version) f.0 (s.1, f.1)
+operand_kind version bytes (kinds.Quoted q) span o s h =
     let same : Constant (Data (datum.Text q)) span ≡ o = cc in
-    subst OperandKept same tt
-operand_kind bytes (kinds.Int i) span o s h =
+    subst (OperandKept version) same tt
+operand_kind version bytes (kinds.Int i) span o s h =
     let same : Constant (Data (datum.Int i)) span ≡ o = cc in
-    subst OperandKept same (int_small bytes i s.1)
-operand_kind bytes (kinds.Sign r) span o s h = absurd cc
+    subst (OperandKept version) same (int_small bytes i s.1)
+operand_kind version bytes (kinds.Sign r) span o s h = absurd cc
 
-pub is_operand : (ts : List Token) (o : Operand) → Real ts → text.operand ts o → OperandKept o
-is_operand ts o real h =
+pub is_operand : (version : ℕ) → (ts : List Token) (o : Operand) → Real ts → text.operand version ts o → OperandKept version o
+is_operand version ts o real h =
     let r = (subst Real h.1 real).0 in
-    operand_kind r.0 h.0.kind h.0.span o r.1 h.2
+    operand_kind version r.0 h.0.kind h.0.span o r.1 h.2
 
 constant_kind : (bytes : List ℕ) (k : TokenKind) (v : Value) → Spells bytes k → constant_kind_value k ≡ Some v → IsConstant v
 constant_kind bytes (kinds.Name n) v s h = absurd cc
@@ -126,20 +126,20 @@ is_constant ts v real h =
     let r = (subst Real h.1 real).0 in
     constant_kind r.0 h.0.kind v r.1 h.2
 
-label_kind : (bytes : List ℕ) (k : TokenKind) (span : Span) (l : LinkLabel) → Spells bytes k → label_kind_value span k ≡ Some l → IsLabel (label_of l)
-label_kind bytes (kinds.Name n) span l s h =
-    let f = named_free (label.Variable n span) (keyword_of n) l h in
-    subst (λ x. IsLabel (label_of x)) f.0 (s.1, f.1)
-label_kind bytes (kinds.Quoted q) span l s h =
+label_kind : (version : ℕ) → (bytes : List ℕ) (k : TokenKind) (span : Span) (l : LinkLabel) → Spells bytes k → label_kind_value version span k ≡ Some l → IsLabel version (label_of l)
+label_kind version bytes (kinds.Name n) span l s h =
+    let f = named_free (label.Variable n span) (keyword_in version n) l h in
+    subst (λ x. IsLabel version (label_of x)) f.0 (s.1, f.1)
+label_kind version bytes (kinds.Quoted q) span l s h =
     let same : label.Quoted q ≡ l = cc in
-    subst (λ x. IsLabel (label_of x)) same tt
-label_kind bytes (kinds.Int i) span l s h = absurd cc
-label_kind bytes (kinds.Sign r) span l s h = absurd cc
+    subst (λ x. IsLabel version (label_of x)) same tt
+label_kind version bytes (kinds.Int i) span l s h = absurd cc
+label_kind version bytes (kinds.Sign r) span l s h = absurd cc
 
-is_label : (ts : List Token) (l : LinkLabel) → Real ts → one label_value ts l → IsLabel (label_of l)
-is_label ts l real h =
+is_label : (version : ℕ) → (ts : List Token) (l : LinkLabel) → Real ts → one (label_value version) ts l → IsLabel version (label_of l)
+is_label version ts l real h =
     let r = (subst Real h.1 real).0 in
-    label_kind r.0 h.0.kind h.0.span l r.1 h.2
+    label_kind version r.0 h.0.kind h.0.span l r.1 h.2
 
 -- ---- lists
 
@@ -159,69 +159,69 @@ module _ {A : Type 0} (P : List Token → A → Type 0) (Q : A → Type 0) (each
 
 -- ---- terms, links and collections
 
-abbrev pub TermKept : tree.Term → Type 0
-TermKept t = IsTerm (term_kept t)
+abbrev pub TermKept : ℕ → tree.Term → Type 0
+TermKept version t = IsTerm version (term_kept t)
 
-arguments_term : (f : Word) → IsWord f.text → (ts : List Token) (t : tree.Term) → Real ts → text.arguments f ts t → TermKept t
-arguments_term f word ts t real (front, back, opening, cut, sign, inl (f2, b2, close, cut2, sign2, (none, same))) =
-    subst TermKept (sym same) (word, tt)
-arguments_term f word ts t real (front, back, opening, cut, sign, inr (f2, b2, args, cut2, listed, (f3, b3, close, cut3, sign3, (none, same)))) =
+arguments_term : (version : ℕ) → (f : Word) → IsWord version f.text → (ts : List Token) (t : tree.Term) → Real ts → text.arguments version f ts t → TermKept version t
+arguments_term version f word ts t real (front, back, opening, cut, sign, inl (f2, b2, close, cut2, sign2, (none, same))) =
+    subst (TermKept version) (sym same) (word, tt)
+arguments_term version f word ts t real (front, back, opening, cut, sign, inr (f2, b2, args, cut2, listed, (f3, b3, close, cut3, sign3, (none, same)))) =
     let args_real = front_real back f2 b2 cut2 (back_real ts front back cut real) in
-    let all = listed_every text.operand OperandKept is_operand f2 args args_real listed in
-    subst TermKept (sym same) (word, every_mapped IsOperand operand_of args all)
+    let all = listed_every (text.operand version) (OperandKept version) (is_operand version) f2 args args_real listed in
+    subst (TermKept version) (sym same) (word, every_mapped (IsOperand version) operand_of args all)
 
-pub is_term : (ts : List Token) (t : tree.Term) → Real ts → text.term ts t → TermKept t
-is_term ts t real (front, back, f, cut, name, args) =
-    arguments_term f (is_word front f (front_real ts front back cut real) name) back t (back_real ts front back cut real) args
+pub is_term : (version : ℕ) → (ts : List Token) (t : tree.Term) → Real ts → text.term version ts t → TermKept version t
+is_term version ts t real (front, back, f, cut, name, args) =
+    arguments_term version f (is_word version front f (front_real ts front back cut real) name) back t (back_real ts front back cut real) args
 
-abbrev SourceKept : tree.Target → Type 0
-SourceKept t = IsSource (target_kept t)
+abbrev SourceKept : ℕ → tree.Target → Type 0
+SourceKept version t = IsSource version (target_kept t)
 
-abbrev TargetKept : tree.Target → Type 0
-TargetKept t = IsTarget (target_kept t)
+abbrev TargetKept : ℕ → tree.Target → Type 0
+TargetKept version t = IsTarget version (target_kept t)
 
-named_source : (x : Word) → IsWord x.text → (ts : List Token) (t : tree.Target) → Real ts → text.named_target x ts t → SourceKept t
-named_source x word ts t real (inl (front, back, m, cut, args, (none, same))) =
-    subst SourceKept (sym same) (arguments_term x word front m (front_real ts front back cut real) args)
-named_source x word ts t real (inr (none, same)) = subst SourceKept (sym same) word
+named_source : (version : ℕ) → (x : Word) → IsWord version x.text → (ts : List Token) (t : tree.Target) → Real ts → text.named_target version x ts t → SourceKept version t
+named_source version x word ts t real (inl (front, back, m, cut, args, (none, same))) =
+    subst (SourceKept version) (sym same) (arguments_term version x word front m (front_real ts front back cut real) args)
+named_source version x word ts t real (inr (none, same)) = subst (SourceKept version) (sym same) word
 
-named_target : (x : Word) → IsWord x.text → (ts : List Token) (t : tree.Target) → Real ts → text.named_target x ts t → TargetKept t
-named_target x word ts t real (inl (front, back, m, cut, args, (none, same))) =
-    subst TargetKept (sym same) (arguments_term x word front m (front_real ts front back cut real) args)
-named_target x word ts t real (inr (none, same)) = subst TargetKept (sym same) word
+named_target : (version : ℕ) → (x : Word) → IsWord version x.text → (ts : List Token) (t : tree.Target) → Real ts → text.named_target version x ts t → TargetKept version t
+named_target version x word ts t real (inl (front, back, m, cut, args, (none, same))) =
+    subst (TargetKept version) (sym same) (arguments_term version x word front m (front_real ts front back cut real) args)
+named_target version x word ts t real (inr (none, same)) = subst (TargetKept version) (sym same) word
 
-is_source : (ts : List Token) (t : tree.Target) → Real ts → text.source ts t → SourceKept t
-is_source ts t real (front, back, x, cut, name, rest) =
-    named_source x (is_word front x (front_real ts front back cut real) name) back t (back_real ts front back cut real) rest
+is_source : (version : ℕ) → (ts : List Token) (t : tree.Target) → Real ts → text.source version ts t → SourceKept version t
+is_source version ts t real (front, back, x, cut, name, rest) =
+    named_source version x (is_word version front x (front_real ts front back cut real) name) back t (back_real ts front back cut real) rest
 
-operand_target : (o : Operand) → OperandKept o → (ts : List Token) (t : tree.Target) → Real ts → text.operand_target o ts t → TargetKept t
-operand_target (Variable x span) kept ts t real h = named_target (record { text = x; span = span }) kept ts t real h
-operand_target (Constant v span) kept ts t real (none, same) = subst TargetKept (sym same) kept
+operand_target : (version : ℕ) → (o : Operand) → OperandKept version o → (ts : List Token) (t : tree.Target) → Real ts → text.operand_target version o ts t → TargetKept version t
+operand_target version (Variable x span) kept ts t real h = named_target version (record { text = x; span = span }) kept ts t real h
+operand_target version (Constant v span) kept ts t real (none, same) = subst (TargetKept version) (sym same) kept
 
-is_target : (ts : List Token) (t : tree.Target) → Real ts → text.target ts t → TargetKept t
-is_target ts t real (front, back, o, cut, operand, rest) =
-    operand_target o (is_operand front o (front_real ts front back cut real) operand) back t (back_real ts front back cut real) rest
+is_target : (version : ℕ) → (ts : List Token) (t : tree.Target) → Real ts → text.target version ts t → TargetKept version t
+is_target version ts t real (front, back, o, cut, operand, rest) =
+    operand_target version o (is_operand version front o (front_real ts front back cut real) operand) back t (back_real ts front back cut real) rest
 
-abbrev pub LinkKept : tree.Link → Type 0
-LinkKept k = IsLink (link_kept k)
+abbrev pub LinkKept : ℕ → tree.Link → Type 0
+LinkKept version k = IsLink version (link_kept k)
 
-pub is_link : (ts : List Token) (k : tree.Link) → Real ts → text.link ts k → LinkKept k
-is_link ts k real (f1, b1, s, cut1, source, (f2, b2, arrow1, cut2, sign1, (f3, b3, l, cut3, labelled, (f4, b4, arrow2, cut4, sign2, (f5, b5, t, cut5, target, (none, same)))))) =
+pub is_link : (version : ℕ) → (ts : List Token) (k : tree.Link) → Real ts → text.link version ts k → LinkKept version k
+is_link version ts k real (f1, b1, s, cut1, source, (f2, b2, arrow1, cut2, sign1, (f3, b3, l, cut3, labelled, (f4, b4, arrow2, cut4, sign2, (f5, b5, t, cut5, target, (none, same)))))) =
     let real1 = back_real ts f1 b1 cut1 real in
     let real2 = back_real b1 f2 b2 cut2 real1 in
     let real3 = back_real b2 f3 b3 cut3 real2 in
     let real4 = back_real b3 f4 b4 cut4 real3 in
-    let source_kept = is_source f1 s (front_real ts f1 b1 cut1 real) source in
-    let label_kept = is_label f3 l (front_real b2 f3 b3 cut3 real2) labelled in
-    let goal_kept = is_target f5 t (front_real b4 f5 b5 cut5 real4) target in
-    subst LinkKept (sym same) (source_kept, label_kept, goal_kept)
+    let source_kept = is_source version f1 s (front_real ts f1 b1 cut1 real) source in
+    let label_kept = is_label version f3 l (front_real b2 f3 b3 cut3 real2) labelled in
+    let goal_kept = is_target version f5 t (front_real b4 f5 b5 cut5 real4) target in
+    subst (LinkKept version) (sym same) (source_kept, label_kept, goal_kept)
 
-abbrev pub CollectKept : tree.Collect → Type 0
-CollectKept c = IsCollect (collect_kept c)
+abbrev pub CollectKept : ℕ → tree.Collect → Type 0
+CollectKept version c = IsCollect version (collect_kept c)
 
-pub is_collect : (ts : List Token) (c : tree.Collect) → Real ts → text.collect ts c → CollectKept c
-is_collect ts c real (f1, b1, name, cut1, named, (f2, b2, opening, cut2, sign1, (f3, b3, t, cut3, source, (f4, b4, close, cut4, sign2, (none, same))))) =
+pub is_collect : (version : ℕ) → (ts : List Token) (c : tree.Collect) → Real ts → text.collect version ts c → CollectKept version c
+is_collect version ts c real (f1, b1, name, cut1, named, (f2, b2, opening, cut2, sign1, (f3, b3, t, cut3, source, (f4, b4, close, cut4, sign2, (none, same))))) =
     let real1 = back_real ts f1 b1 cut1 real in
     let real2 = back_real b1 f2 b2 cut2 real1 in
-    let member = is_source f3 t (front_real b2 f3 b3 cut3 real2) source in
-    subst CollectKept (sym same) member
+    let member = is_source version f3 t (front_real b2 f3 b3 cut3 real2) source in
+    subst (CollectKept version) (sym same) member

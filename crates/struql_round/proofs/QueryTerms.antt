@@ -15,7 +15,7 @@ use Rattle.struql_ast.specs.declared.Operand.TheVariants.{Variable, Constant}
 use Rattle.struql_ast.specs.Written as tree
 use Rattle.struql_text.specs.declared.keyword.Keyword.{Keyword}
 use Rattle.struql_text.specs.declared.keyword.Word.{Word}
-use Rattle.struql_text.specs.Terminals.{keyword_of, operand_kind_value, name_kind_value, named}
+use Rattle.struql_text.specs.Terminals.{keyword_in, operand_kind_value, name_kind_value, named}
 use Rattle.struql_text.specs.Grammar as text
 use Rattle.struql_text.proofs.TokenParts.{is_that}
 use Rattle.struql_print.specs.Texts.{operand_text, further, joined, term_text, target_text}
@@ -31,23 +31,23 @@ use Rattle.struql_round.proofs.Texts.{name_then, operand_then, operand_last, fur
 abbrev pub Spelt : {A B : Type 0} → (List Token → A → Type 0) → (A → B) → B → List Token → Type 0
 Spelt {A} P kept v tokens = (w : A) × P tokens w × (kept w ≡ v)
 
-more_operands : (os : List Operand) → Every IsOperand os → Lexing (ShowsMoreOperands os) Safe (further (map operand_text os))
-more_operands [] is = nothing_more
-more_operands (o ∷ os) is =
+more_operands : (version : ℕ) → (os : List Operand) → Every (IsOperand version) os → Lexing (ShowsMoreOperands version os) Safe (further (map operand_text os))
+more_operands version [] is = nothing_more
+more_operands version (o ∷ os) is =
     shown (λ tokens c. (c.0, c.4.0, c.4.1, c.2 ∙ ap (λ x. c.0 ∷ x) c.4.2, c.3, c.4.3, c.4.4))
-    (sign_then signs.Comma (λ later w. tt) (gap 32 refl (operand_then o is.0 (λ later w. further_safe (map operand_text os) later w) (more_operands os is.1))))
+    (sign_then signs.Comma (λ later w. tt) (gap 32 refl (operand_then version o is.0 (λ later w. further_safe (map operand_text os) later w) (more_operands version os is.1))))
 
-arguments_lexing : (os : List Operand) → Every IsOperand os → Lexing (ShowsArguments os) Safe (joined (map operand_text os))
-arguments_lexing [] is = nothing_more
-arguments_lexing (o ∷ os) is = shown (λ tokens c. (c.0, c.1, c.2, c.3, c.4)) (operand_then o is.0 (λ later w. further_safe (map operand_text os) later w) (more_operands os is.1))
+arguments_lexing : (version : ℕ) → (os : List Operand) → Every (IsOperand version) os → Lexing (ShowsArguments version os) Safe (joined (map operand_text os))
+arguments_lexing version [] is = nothing_more
+arguments_lexing version (o ∷ os) is = shown (λ tokens c. (c.0, c.1, c.2, c.3, c.4)) (operand_then version o is.0 (λ later w. further_safe (map operand_text os) later w) (more_operands version os is.1))
 
-term_shown : (f : SkolemTerm) → IsTerm f → Lexing (ShowsTerm f) Any (term_text f)
-term_shown f is =
+term_shown : (version : ℕ) → (f : SkolemTerm) → IsTerm version f → Lexing (ShowsTerm version f) Any (term_text f)
+term_shown version f is =
     shown (λ tokens h. (h.0, h.4.0, h.4.4.0, h.4.4.4.0, h.2 ∙ ap (λ y. h.0 ∷ y) (h.4.2 ∙ ap (λ y. h.4.0 ∷ y) (h.4.4.2 ∙ ap (λ y. h.4.4.0 ++ y) (h.4.4.4.2 ∙ ap (λ y. h.4.4.4.0 ∷ y) h.4.4.4.4))), h.3, h.4.3, h.4.4.3, h.4.4.4.3))
-    (name_then f.function is.0 (λ later w. (refl, refl, refl)) (sign_then signs.OpenParen (λ later w. tt) (both (arguments_lexing f.args is.1) (λ later w. (refl, refl, refl)) (sign_last signs.CloseParen (λ later w. tt)))))
+    (name_then version f.function is.0 (λ later w. (refl, refl, refl)) (sign_then signs.OpenParen (λ later w. tt) (both (arguments_lexing version f.args is.1) (λ later w. (refl, refl, refl)) (sign_last signs.CloseParen (λ later w. tt)))))
 
-pub term_lexing : (f : SkolemTerm) → IsTerm f → Lexing (Spelt text.term term_kept f) Any (term_text f)
-term_lexing f is = shown (λ tokens h. term_spelt f tokens h) (term_shown f is)
+pub term_lexing : (version : ℕ) → (f : SkolemTerm) → IsTerm version f → Lexing (Spelt (text.term version) term_kept f) Any (term_text f)
+term_lexing version f is = shown (λ tokens h. term_spelt version f tokens h) (term_shown version f is)
 
 -- ---- targets
 
@@ -58,44 +58,44 @@ named_operand : (span : Span) (n : List ℕ) (w : Word) (k : Option Keyword) →
 named_operand span n w None e = let same : word_at n span ≡ w = cc in ap (λ (x : Word). Some (text.variable_of x)) same
 named_operand span n w (Some j) e = absurd cc
 
-kind_operand : (span : Span) (k : TokenKind) (w : Word) → name_kind_value span k ≡ Some w → operand_kind_value span k ≡ Some (text.variable_of w)
-kind_operand span (kinds.Name n) w e = named_operand span n w (keyword_of n) e
-kind_operand span (kinds.Quoted q) w e = absurd cc
-kind_operand span (kinds.Int i) w e = absurd cc
-kind_operand span (kinds.Sign s) w e = absurd cc
+kind_operand : (version : ℕ) → (span : Span) (k : TokenKind) (w : Word) → name_kind_value version span k ≡ Some w → operand_kind_value version span k ≡ Some (text.variable_of w)
+kind_operand version span (kinds.Name n) w e = named_operand span n w (keyword_in version n) e
+kind_operand version span (kinds.Quoted q) w e = absurd cc
+kind_operand version span (kinds.Int i) w e = absurd cc
+kind_operand version span (kinds.Sign s) w e = absurd cc
 
-made_source : (f : SkolemTerm) (tokens : List Token) → Spelt text.term term_kept f tokens → Spelt text.source target_kept (plain.made f) tokens
-made_source f tokens (w, (front, back, word, parts, name, arguments), kept) =
+made_source : (version : ℕ) → (f : SkolemTerm) (tokens : List Token) → Spelt (text.term version) term_kept f tokens → Spelt (text.source version) target_kept (plain.made f) tokens
+made_source version f tokens (w, (front, back, word, parts, name, arguments), kept) =
     (tree.made w, (front, back, word, parts, name, inl (back, [], w, sym (append-nil back), arguments, (refl, refl))), ap plain.made kept)
 
-made_target : (f : SkolemTerm) (tokens : List Token) → Spelt text.term term_kept f tokens → Spelt text.target target_kept (plain.made f) tokens
-made_target f tokens (w, (front, back, word, parts, name, arguments), kept) = (
+made_target : (version : ℕ) → (f : SkolemTerm) (tokens : List Token) → Spelt (text.term version) term_kept f tokens → Spelt (text.target version) target_kept (plain.made f) tokens
+made_target version f tokens (w, (front, back, word, parts, name, arguments), kept) = (
   tree.made w,
-  (front, back, text.variable_of word, parts, (name.0, name.1, kind_operand name.0.span name.0.kind word name.2), inl (back, [], w, sym (append-nil back), arguments, (refl, refl))),
+  (front, back, text.variable_of word, parts, (name.0, name.1, kind_operand version name.0.span name.0.kind word name.2), inl (back, [], w, sym (append-nil back), arguments, (refl, refl))),
   ap plain.made kept,
 )
 
-name_source : (x : List ℕ) (tokens : List Token) → Cons (ShowsName x) Nil tokens → Spelt text.source target_kept (plain.plain (variable x)) tokens
-name_source x tokens (t, rest, is, shows, none) = (
+name_source : (version : ℕ) → (x : List ℕ) (tokens : List Token) → Cons (ShowsName version x) Nil tokens → Spelt (text.source version) target_kept (plain.plain (variable x)) tokens
+name_source version x tokens (t, rest, is, shows, none) = (
   tree.plain (Variable x t.span),
-  (t ∷ [], [], record { text = x; span = t.span }, is ∙ ap (λ y. t ∷ y) none, (t, refl, name_is x t shows), inr (refl, refl)),
+  (t ∷ [], [], record { text = x; span = t.span }, is ∙ ap (λ y. t ∷ y) none, (t, refl, name_is version x t shows), inr (refl, refl)),
   refl,
 )
 
-operand_target : (o : Operand) (tokens : List Token) → Cons (ShowsOperand o) Nil tokens → Spelt text.target target_kept (plain.plain o) tokens
-operand_target (variable x) tokens (t, rest, is, shows, none) =
-    (tree.plain (Variable x t.span), (t ∷ [], [], Variable x t.span, is ∙ ap (λ y. t ∷ y) none, (t, refl, operand_is (variable x) t shows), inr (refl, refl)), refl)
-operand_target (constant v) tokens (t, rest, is, shows, none) =
-    (tree.plain (Constant v t.span), (t ∷ [], [], Constant v t.span, is ∙ ap (λ y. t ∷ y) none, (t, refl, operand_is (constant v) t shows), (refl, refl)), refl)
+operand_target : (version : ℕ) → (o : Operand) (tokens : List Token) → Cons (ShowsOperand version o) Nil tokens → Spelt (text.target version) target_kept (plain.plain o) tokens
+operand_target version (variable x) tokens (t, rest, is, shows, none) =
+    (tree.plain (Variable x t.span), (t ∷ [], [], Variable x t.span, is ∙ ap (λ y. t ∷ y) none, (t, refl, operand_is version (variable x) t shows), inr (refl, refl)), refl)
+operand_target version (constant v) tokens (t, rest, is, shows, none) =
+    (tree.plain (Constant v t.span), (t ∷ [], [], Constant v t.span, is ∙ ap (λ y. t ∷ y) none, (t, refl, operand_is version (constant v) t shows), (refl, refl)), refl)
 
-pub source_lexing : (t : Target) → IsSource t → Lexing (Spelt text.source target_kept t) Safe (target_text t)
-source_lexing (plain.plain (variable x)) is = shown (name_source x) (same_text x (append-nil x) (name_then {others = []} x is (λ later w. w) nothing_more))
-source_lexing (plain.plain (constant v)) is = absurd is
-source_lexing (plain.made f) is = before (λ later w. tt) (shown (made_source f) (term_lexing f is))
+pub source_lexing : (version : ℕ) → (t : Target) → IsSource version t → Lexing (Spelt (text.source version) target_kept t) Safe (target_text t)
+source_lexing version (plain.plain (variable x)) is = shown (name_source version x) (same_text x (append-nil x) (name_then version {others = []} x is (λ later w. w) nothing_more))
+source_lexing version (plain.plain (constant v)) is = absurd is
+source_lexing version (plain.made f) is = before (λ later w. tt) (shown (made_source version f) (term_lexing version f is))
 
-pub target_lexing : (t : Target) → IsTarget t → Lexing (Spelt text.target target_kept t) Safe (target_text t)
-target_lexing (plain.plain o) is = shown (operand_target o) (operand_last o is)
-target_lexing (plain.made f) is = before (λ later w. tt) (shown (made_target f) (term_lexing f is))
+pub target_lexing : (version : ℕ) → (t : Target) → IsTarget version t → Lexing (Spelt (text.target version) target_kept t) Safe (target_text t)
+target_lexing version (plain.plain o) is = shown (operand_target version o) (operand_last version o is)
+target_lexing version (plain.made f) is = before (λ later w. tt) (shown (made_target version f) (term_lexing version f is))
 
 -- ---- lists with commas between
 

@@ -27,7 +27,7 @@ use Rattle.query_spec.specs.declared.Test.{Test}
 use Rattle.query_spec.specs.declared.Test.TheVariants as test
 use Rattle.query_spec.specs.Query.{Operand, variable, constant, PathStep, arc_variable, expression, Condition, member, path, compare, one_of, kind, negation}
 use Rattle.struql_text.specs.declared.keyword.Keyword.TheVariants as words
-use Rattle.struql_text.specs.Terminals.{keyword_of, is_keyword, op_value, test_of, text_test_of, pair_test}
+use Rattle.struql_text.specs.Terminals.{keyword_of, keyword_in, is_keyword, op_value, test_of, text_test_of, pair_test}
 use Rattle.struql_print.specs.Texts.{is_alt, is_alt_or_seq, enclosed, regex_text, is_name, is_bare, collection_text, value_text, operand_text, further, joined, step_text, text_test_text, op_text, pair_text, infix_text, comparison_text, test_text, condition_text}
 use Rattle.struql_round.specs.Shown.{Wrapped, Shows}
 use Rattle.struql_round.specs.ShownParts.{ShowsName, ShowsCollection, ShowsValue, ShowsOperand, ShowsStep, ShowsMore, ShowsListed, ShowsPair, ShowsInfix, ShowsComparison, ShowsPlain, ShowsCondition}
@@ -43,9 +43,9 @@ pub word_then : {T : List Token → Type 0} {W : List ℕ → Type 0} {others : 
     → Lexing (Cons (λ t. t.kind ≡ kinds.Name x) T) W (x ++ others)
 word_then x is ends h = token_then (kinds.Name x) x (refl, is) (λ later w. (ends later w).0) h
 
-pub name_then : {T : List Token → Type 0} {W : List ℕ → Type 0} {others : List ℕ} (x : List ℕ) → IsWord x → ((later : List ℕ) → W later → Safe (others ++ later)) → Lexing T W others
-    → Lexing (Cons (ShowsName x) T) W (x ++ others)
-name_then x is ends h = cons_shown (λ t e. (e, is.1)) (word_then x is.0 ends h)
+pub name_then : (version : ℕ) → {T : List Token → Type 0} {W : List ℕ → Type 0} {others : List ℕ} (x : List ℕ) → IsWord version x → ((later : List ℕ) → W later → Safe (others ++ later)) → Lexing T W others
+    → Lexing (Cons (ShowsName version x) T) W (x ++ others)
+name_then version x is ends h = cons_shown (λ t e. (e, is.1)) (word_then x is.0 ends h)
 
 pub quoted_then : {T : List Token → Type 0} {W : List ℕ → Type 0} {others : List ℕ} (s : List ℕ) → Lexing T W others → Lexing (Cons (λ t. t.kind ≡ kinds.Quoted s) T) W (quoted_text s ++ others)
 quoted_then s h = token_then (kinds.Quoted s) (quoted_text s) (quoted_spells s) (λ later w. tt) h
@@ -64,18 +64,18 @@ none_is : {A : Type 0} (o : Option A) → is_none o ≡ true → o ≡ None
 none_is None e = refl
 none_is (Some a) e = absurd cc
 
-bare_then : {T : List Token → Type 0} {W : List ℕ → Type 0} {others : List ℕ} (c : List ℕ) (b : Bool) → is_bare c ≡ b → ((later : List ℕ) → W later → Safe (others ++ later)) → Lexing T W others
-    → Lexing (Cons (ShowsCollection c) T) W ((if b then c else quoted_text c) ++ others)
-bare_then c true e ends h =
-    let both = and_parts (is_name c) (is_none (keyword_of c) && is_none (test_of c)) e in
-    let free = and_parts (is_none (keyword_of c)) (is_none (test_of c)) both.1 in
-    let word : IsWord c = (name_is c both.0, none_is (keyword_of c) free.0) in
-    cons_shown (λ t shows. inr (shows, none_is (test_of c) free.1)) (name_then c word ends h)
-bare_then c false e ends h = cons_shown (λ t quoted. inl quoted) (quoted_then c h)
+bare_then : (version : ℕ) → {T : List Token → Type 0} {W : List ℕ → Type 0} {others : List ℕ} (c : List ℕ) (b : Bool) → is_bare version c ≡ b → ((later : List ℕ) → W later → Safe (others ++ later)) → Lexing T W others
+    → Lexing (Cons (ShowsCollection version c) T) W ((if b then c else quoted_text c) ++ others)
+bare_then version c true e ends h =
+    let both = and_parts (is_name c) (is_none (keyword_in version c) && is_none (test_of c)) e in
+    let free = and_parts (is_none (keyword_in version c)) (is_none (test_of c)) both.1 in
+    let word : IsWord version c = (name_is c both.0, none_is (keyword_in version c) free.0) in
+    cons_shown (λ t shows. inr (shows, none_is (test_of c) free.1)) (name_then version c word ends h)
+bare_then version c false e ends h = cons_shown (λ t quoted. inl quoted) (quoted_then c h)
 
-pub collection_then : {T : List Token → Type 0} {W : List ℕ → Type 0} {others : List ℕ} (c : List ℕ) → ((later : List ℕ) → W later → Safe (others ++ later)) → Lexing T W others
-    → Lexing (Cons (ShowsCollection c) T) W (collection_text c ++ others)
-collection_then c ends h = bare_then c (is_bare c) refl ends h
+pub collection_then : (version : ℕ) → {T : List Token → Type 0} {W : List ℕ → Type 0} {others : List ℕ} (c : List ℕ) → ((later : List ℕ) → W later → Safe (others ++ later)) → Lexing T W others
+    → Lexing (Cons (ShowsCollection version c) T) W (collection_text version c ++ others)
+collection_then version c ends h = bare_then version c (is_bare version c) refl ends h
 
 -- ---- values and operands
 
@@ -88,13 +88,13 @@ value_then (Data (datum.File s)) is ends h = absurd is
 value_then (Data (datum.Node s)) is ends h = absurd is
 value_then (Page p) is ends h = absurd is
 
-pub operand_then : {T : List Token → Type 0} {W : List ℕ → Type 0} {others : List ℕ} (o : Operand) → IsOperand o → ((later : List ℕ) → W later → Safe (others ++ later)) → Lexing T W others
-    → Lexing (Cons (ShowsOperand o) T) W (operand_text o ++ others)
-operand_then (variable x) is ends h = name_then x is ends h
-operand_then (constant v) is ends h = value_then v is ends h
+pub operand_then : (version : ℕ) → {T : List Token → Type 0} {W : List ℕ → Type 0} {others : List ℕ} (o : Operand) → IsOperand version o → ((later : List ℕ) → W later → Safe (others ++ later)) → Lexing T W others
+    → Lexing (Cons (ShowsOperand version o) T) W (operand_text o ++ others)
+operand_then version (variable x) is ends h = name_then version x is ends h
+operand_then version (constant v) is ends h = value_then v is ends h
 
-pub operand_last : (o : Operand) → IsOperand o → Lexing (Cons (ShowsOperand o) Nil) Safe (operand_text o)
-operand_last o is = same_text (operand_text o) (append-nil (operand_text o)) (operand_then {others = []} o is (λ later w. w) nothing_more)
+pub operand_last : (version : ℕ) → (o : Operand) → IsOperand version o → Lexing (Cons (ShowsOperand version o) Nil) Safe (operand_text o)
+operand_last version o is = same_text (operand_text o) (append-nil (operand_text o)) (operand_then version {others = []} o is (λ later w. w) nothing_more)
 
 -- what begins with a byte that makes no token longer
 comma_safe : (later : List ℕ) → Safe (44 ∷ later)
@@ -133,10 +133,10 @@ regex_lexing (star r) =
 
 -- ---- conditions
 
-step_lexing : (s : PathStep) → IsStep s → Lexing (ShowsStep s) Safe (step_text s)
-step_lexing (arc_variable x) is =
-    shown (λ tokens c. (c.0, c.2 ∙ ap (λ y. c.0 ∷ y) c.4, c.3)) (same_text x (append-nil x) (name_then {others = []} x is (λ later w. w) nothing_more))
-step_lexing (expression r) is = shown (λ tokens h. (h, is)) (regex_lexing r)
+step_lexing : (version : ℕ) → (s : PathStep) → IsStep version s → Lexing (ShowsStep version s) Safe (step_text s)
+step_lexing version (arc_variable x) is =
+    shown (λ tokens c. (c.0, c.2 ∙ ap (λ y. c.0 ∷ y) c.4, c.3)) (same_text x (append-nil x) (name_then version {others = []} x is (λ later w. w) nothing_more))
+step_lexing version (expression r) is = shown (λ tokens h. (h, is)) (regex_lexing r)
 
 more_lexing : (vs : List Value) → Every IsConstant vs → Lexing (ShowsMore vs) Safe (further (map value_text vs))
 more_lexing [] is = nothing_more
@@ -162,13 +162,13 @@ op_then op.Le is h = cons_shown (λ t e. rw e refl) (token_then (kinds.Sign sign
 op_then op.Gt is h = cons_shown (λ t e. rw e refl) (token_then (kinds.Sign signs.Gt) (codes ">") refl (λ later w. refl) (gap 32 refl h))
 op_then op.Ge is h = cons_shown (λ t e. rw e refl) (token_then (kinds.Sign signs.Ge) (codes ">=") refl (λ later w. tt) (gap 32 refl h))
 
-test_word : (k : Test) → IsWord (test_text k)
+test_word : (version : ℕ) → (k : Test) → IsWord version (test_text k)
 unfolding keyword_of
-test_word test.IsInt = ((refl, (refl, (refl, (refl, (refl, tt))))), refl)
-test_word test.IsText = ((refl, (refl, (refl, (refl, (refl, (refl, tt)))))), refl)
-test_word test.IsUrl = ((refl, (refl, (refl, (refl, (refl, tt))))), refl)
-test_word test.IsFile = ((refl, (refl, (refl, (refl, (refl, (refl, tt)))))), refl)
-test_word test.IsNode = ((refl, (refl, (refl, (refl, (refl, (refl, tt)))))), refl)
+test_word version test.IsInt = ((refl, (refl, (refl, (refl, (refl, tt))))), refl)
+test_word version test.IsText = ((refl, (refl, (refl, (refl, (refl, (refl, tt)))))), refl)
+test_word version test.IsUrl = ((refl, (refl, (refl, (refl, (refl, tt))))), refl)
+test_word version test.IsFile = ((refl, (refl, (refl, (refl, (refl, (refl, tt)))))), refl)
+test_word version test.IsNode = ((refl, (refl, (refl, (refl, (refl, (refl, tt)))))), refl)
 
 test_known : (k : Test) → test_of (test_text k) ≡ Some k
 unfolding test_of
@@ -186,11 +186,11 @@ not_shown : (t : Token) → t.kind ≡ kinds.Name (codes "not") → is_keyword w
 unfolding keyword_of
 not_shown t e = rw e refl
 
-text_test_word : (test : TextTest) → IsWord (text_test_text test)
+text_test_word : (version : ℕ) → (test : TextTest) → IsWord version (text_test_text test)
 unfolding keyword_of
-text_test_word Starts = ((refl, (refl, (refl, (refl, (refl, (refl, tt)))))), refl)
-text_test_word Ends = ((refl, (refl, (refl, (refl, tt)))), refl)
-text_test_word Has = ((refl, (refl, (refl, tt))), refl)
+text_test_word version Starts = ((refl, (refl, (refl, (refl, (refl, (refl, tt)))))), refl)
+text_test_word version Ends = ((refl, (refl, (refl, (refl, tt)))), refl)
+text_test_word version Has = ((refl, (refl, (refl, tt))), refl)
 
 text_test_known : (test : TextTest) → text_test_of (text_test_text test) ≡ Some test
 unfolding text_test_of
@@ -202,11 +202,11 @@ pair_known : (version : ℕ) (test : TextTest) → version ≡ 3 → pair_test v
 pair_known version test e = rw e (text_test_known test)
 
 -- the tokens of such a test, one after another
-abbrev PairTokens : TextTest → Operand → Operand → List Token → Type 0
-PairTokens test t u =
-    Cons (ShowsName (text_test_text test)) (Cons (λ k. is_sign signs.OpenParen k ≡ true) (Cons (ShowsOperand t) (Cons (λ k. is_sign signs.Comma k ≡ true) (Cons (ShowsOperand u) (Cons (λ k. is_sign signs.CloseParen k ≡ true) Nil)))))
+abbrev PairTokens : ℕ → TextTest → Operand → Operand → List Token → Type 0
+PairTokens version test t u =
+    Cons (ShowsName version (text_test_text test)) (Cons (λ k. is_sign signs.OpenParen k ≡ true) (Cons (ShowsOperand version t) (Cons (λ k. is_sign signs.Comma k ≡ true) (Cons (ShowsOperand version u) (Cons (λ k. is_sign signs.CloseParen k ≡ true) Nil)))))
 
-pair_shown : (version : ℕ) (test : TextTest) (t u : Operand) → version ≡ 3 → (tokens : List Token) → PairTokens test t u tokens → ShowsPair version test t u tokens
+pair_shown : (version : ℕ) (test : TextTest) (t u : Operand) → version ≡ 3 → (tokens : List Token) → PairTokens version test t u tokens → ShowsPair version test t u tokens
 pair_shown version test t u third tokens (name, r1, e1, shows, (opening, r2, e2, opens, (a, r3, e3, left, (comma, r4, e4, between, (b, r5, e5, right, (close, r6, e6, ends, none)))))) = (
   text_test_text test,
   name,
@@ -225,41 +225,41 @@ pair_shown version test t u third tokens (name, r1, e1, shows, (opening, r2, e2,
   ends,
 )
 
-pair_lexing : (version : ℕ) (test : TextTest) (t u : Operand) → version ≡ 3 → IsOperand t → IsOperand u → Lexing (ShowsPair version test t u) Safe (pair_text test (operand_text t) (operand_text u))
+pair_lexing : (version : ℕ) (test : TextTest) (t u : Operand) → version ≡ 3 → IsOperand version t → IsOperand version u → Lexing (ShowsPair version test t u) Safe (pair_text test (operand_text t) (operand_text u))
 pair_lexing version test t u third first second =
     shown (pair_shown version test t u third)
-    (name_then (text_test_text test) (text_test_word test) (λ later w. (refl, refl, refl)) (sign_then signs.OpenParen (λ later w. tt)
-    (operand_then t first (λ later w. (refl, refl, refl)) (sign_then signs.Comma (λ later w. tt) (gap 32 refl
-    (operand_then u second (λ later w. (refl, refl, refl)) (sign_last signs.CloseParen (λ later w. tt))))))))
+    (name_then version (text_test_text test) (text_test_word version test) (λ later w. (refl, refl, refl)) (sign_then signs.OpenParen (λ later w. tt)
+    (operand_then version t first (λ later w. (refl, refl, refl)) (sign_then signs.Comma (λ later w. tt) (gap 32 refl
+    (operand_then version u second (λ later w. (refl, refl, refl)) (sign_last signs.CloseParen (λ later w. tt))))))))
 
-infix_lexing : (t : Operand) (o : Op) (u : Operand) → IsSign o → IsOperand t → IsOperand u → Lexing (ShowsInfix o t u) Safe (infix_text o (operand_text t) (operand_text u))
-infix_lexing t o u sign first second =
+infix_lexing : (version : ℕ) → (t : Operand) (o : Op) (u : Operand) → IsSign o → IsOperand version t → IsOperand version u → Lexing (ShowsInfix version o t u) Safe (infix_text o (operand_text t) (operand_text u))
+infix_lexing version t o u sign first second =
     shown (λ tokens h. (h.0, h.4.0, h.4.4.0, h.2 ∙ ap (λ y. h.0 ∷ y) (h.4.2 ∙ ap (λ y. h.4.0 ∷ y) (h.4.4.2 ∙ ap (λ y. h.4.4.0 ∷ y) h.4.4.4)), h.3, h.4.3, h.4.4.3))
-    (operand_then t first (λ later w. (refl, refl, refl)) (gap 32 refl (op_then o sign (operand_last u second))))
+    (operand_then version t first (λ later w. (refl, refl, refl)) (gap 32 refl (op_then o sign (operand_last version u second))))
 
-comparison_lexing : (version : ℕ) (t : Operand) (o : Op) (u : Operand) → IsOperator version o → IsOperand t → IsOperand u → Lexing (ShowsComparison version o t u) Safe (comparison_text o (operand_text t) (operand_text u))
+comparison_lexing : (version : ℕ) (t : Operand) (o : Op) (u : Operand) → IsOperator version o → IsOperand version t → IsOperand version u → Lexing (ShowsComparison version o t u) Safe (comparison_text o (operand_text t) (operand_text u))
 comparison_lexing version t (op.Texts test) u known first second = pair_lexing version test t u known first second
-comparison_lexing version t o u known first second = infix_lexing t o u tt first second
+comparison_lexing version t o u known first second = infix_lexing version t o u tt first second
 
-plain_lexing : (version : ℕ) (k : Condition) → IsPlain version k → Lexing (ShowsPlain version k) Safe (condition_text k)
+plain_lexing : (version : ℕ) (k : Condition) → IsPlain version k → Lexing (ShowsPlain version k) Safe (condition_text version k)
 plain_lexing version (member c x) is =
     shown (λ tokens h. (h.0, h.4.0, h.4.4.0, h.4.4.4.0, h.2 ∙ ap (λ y. h.0 ∷ y) (h.4.2 ∙ ap (λ y. h.4.0 ∷ y) (h.4.4.2 ∙ ap (λ y. h.4.4.0 ∷ y) (h.4.4.4.2 ∙ ap (λ y. h.4.4.4.0 ∷ y) h.4.4.4.4))), h.3, h.4.3, h.4.4.3, h.4.4.4.3))
-    (collection_then c (λ later w. (refl, refl, refl)) (sign_then signs.OpenParen (λ later w. tt) (name_then x is (λ later w. (refl, refl, refl)) (sign_last signs.CloseParen (λ later w. tt)))))
+    (collection_then version c (λ later w. (refl, refl, refl)) (sign_then signs.OpenParen (λ later w. tt) (name_then version x is (λ later w. (refl, refl, refl)) (sign_last signs.CloseParen (λ later w. tt)))))
 plain_lexing version (kind k x) is =
     shown (λ tokens h. (test_text k, h.0, h.4.0, h.4.4.0, h.4.4.4.0, h.2 ∙ ap (λ y. h.0 ∷ y) (h.4.2 ∙ ap (λ y. h.4.0 ∷ y) (h.4.4.2 ∙ ap (λ y. h.4.4.0 ∷ y) (h.4.4.4.2 ∙ ap (λ y. h.4.4.4.0 ∷ y) h.4.4.4.4))), h.3, test_known k, h.4.3, h.4.4.3, h.4.4.4.3))
-    (name_then (test_text k) (test_word k) (λ later w. (refl, refl, refl)) (sign_then signs.OpenParen (λ later w. tt) (name_then x is (λ later w. (refl, refl, refl)) (sign_last signs.CloseParen (λ later w. tt)))))
+    (name_then version (test_text k) (test_word version k) (λ later w. (refl, refl, refl)) (sign_then signs.OpenParen (λ later w. tt) (name_then version x is (λ later w. (refl, refl, refl)) (sign_last signs.CloseParen (λ later w. tt)))))
 plain_lexing version (compare t o u) is = comparison_lexing version t o u is.0 is.1 is.2
 plain_lexing version (path t s u) is =
     shown (λ tokens h. (h.0, h.4.0, h.4.4.0, h.4.4.4.0, h.4.4.4.4.0, h.2 ∙ ap (λ y. h.0 ∷ y) (h.4.2 ∙ ap (λ y. h.4.0 ∷ y) (h.4.4.2 ∙ ap (λ y. h.4.4.0 ++ y) (h.4.4.4.2 ∙ ap (λ y. h.4.4.4.0 ∷ y) (h.4.4.4.4.2 ∙ ap (λ y. h.4.4.4.4.0 ∷ y) h.4.4.4.4.4)))), h.3, h.4.3, h.4.4.3, h.4.4.4.3, h.4.4.4.4.3))
-    (operand_then t is.0 (λ later w. (refl, refl, refl)) (gap 32 refl (sign_then signs.Arrow (λ later w. tt) (gap 32 refl
-    (both (step_lexing s is.1) (λ later w. (refl, refl, refl)) (gap 32 refl (sign_then signs.Arrow (λ later w. tt) (gap 32 refl (operand_last u is.2)))))))))
+    (operand_then version t is.0 (λ later w. (refl, refl, refl)) (gap 32 refl (sign_then signs.Arrow (λ later w. tt) (gap 32 refl
+    (both (step_lexing version s is.1) (λ later w. (refl, refl, refl)) (gap 32 refl (sign_then signs.Arrow (λ later w. tt) (gap 32 refl (operand_last version u is.2)))))))))
 plain_lexing version (one_of t vs) is =
     shown (λ tokens h. (h.0, h.4.0, h.4.4.0, h.4.4.4.0, h.4.4.4.4.0, h.2 ∙ ap (λ y. h.0 ∷ y) (h.4.2 ∙ ap (λ y. h.4.0 ∷ y) (h.4.4.2 ∙ ap (λ y. h.4.4.0 ∷ y) (h.4.4.4.2 ∙ ap (λ y. h.4.4.4.0 ++ y) (h.4.4.4.4.2 ∙ ap (λ y. h.4.4.4.4.0 ∷ y) h.4.4.4.4.4)))), h.3, in_shown h.4.0 h.4.3, h.4.4.3, h.4.4.4.3, h.4.4.4.4.3))
-    (operand_then t is.0 (λ later w. (refl, refl, refl)) (gap 32 refl (word_then (codes "in") (refl, (refl, tt)) (λ later w. (refl, refl, refl)) (gap 32 refl
+    (operand_then version t is.0 (λ later w. (refl, refl, refl)) (gap 32 refl (word_then (codes "in") (refl, (refl, tt)) (λ later w. (refl, refl, refl)) (gap 32 refl
     (sign_then signs.OpenBrace (λ later w. tt) (both (listed_lexing vs is.1) (λ later w. (refl, refl, refl)) (sign_last signs.CloseBrace (λ later w. tt))))))))
 plain_lexing version (negation c) is = absurd is
 
-pub condition_lexing : (version : ℕ) (k : Condition) → IsCondition version k → Lexing (ShowsCondition version k) Safe (condition_text k)
+pub condition_lexing : (version : ℕ) (k : Condition) → IsCondition version k → Lexing (ShowsCondition version k) Safe (condition_text version k)
 condition_lexing version (negation c) is =
     shown (λ tokens h. (h.0, h.4.0, h.4.4.0, h.4.4.4.0, h.2 ∙ ap (λ y. h.0 ∷ y) (h.4.2 ∙ ap (λ y. h.4.0 ∷ y) (h.4.4.2 ∙ ap (λ y. h.4.4.0 ++ y) (h.4.4.4.2 ∙ ap (λ y. h.4.4.4.0 ∷ y) h.4.4.4.4))), not_shown h.0 h.3, h.4.3, h.4.4.3, h.4.4.4.3))
     (word_then (codes "not") (refl, (refl, (refl, tt))) (λ later w. (refl, refl, refl)) (sign_then signs.OpenParen (λ later w. tt) (both (plain_lexing version c is) (λ later w. (refl, refl, refl)) (sign_last signs.CloseParen (λ later w. tt)))))

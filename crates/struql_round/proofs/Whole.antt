@@ -32,8 +32,8 @@ use Rattle.struql_round.proofs.Blocks.{appended, one_kept, none_behind, Braced, 
 abbrev closed : tree.Blocks → blocks.Groups
 closed bs = record { closed = bs; bare = None }
 
-abbrev lines_text : Blocks → List ℕ
-lines_text bs = flat_map (λ text. text ++ codes "\n") (block_texts bs)
+abbrev lines_text : ℕ → Blocks → List ℕ
+lines_text version bs = flat_map (λ text. text ++ codes "\n") (block_texts version bs)
 
 module _ (version : ℕ) where
   abbrev step : blocks.Groups → List Token → blocks.Groups → Type 0
@@ -56,12 +56,12 @@ module _ (version : ℕ) where
         more.2 ∙ one_kept done w span b inner after same_clauses same_blocks,
       )
 
-  line_lexing : (b : Body) (inner : Blocks) → IsBody version b → AreBlocks version 15 inner → Lexing (Braced version 15 b inner) Any (braced_text b inner ++ codes "\n")
+  line_lexing : (b : Body) (inner : Blocks) → IsBody version b → AreBlocks version 15 inner → Lexing (Braced version 15 b inner) Any (braced_text version b inner ++ codes "\n")
   line_lexing b inner is within =
       shown (λ tokens h. subst (Braced version 15 b inner) (sym (h.2 ∙ (ap (λ x. h.0 ++ x) h.4 ∙ append-nil h.0))) h.3)
       (both (block_lexing version 15 b inner is within) (λ later w. tt) (gap 10 refl nothing_more))
 
-  top_lexing : (bs : Blocks) → AreBlocks version 16 bs → Lexing (TopBehind bs) Any (lines_text bs)
+  top_lexing : (bs : Blocks) → AreBlocks version 16 bs → Lexing (TopBehind bs) Any (lines_text version bs)
   top_lexing no_blocks is = shown (λ tokens none done. (done, (0, (none, refl)), sym (none_behind (blocks_kept done)))) nothing_more
   top_lexing (block b inner after) is =
       shown (one_top b inner after) (both (line_lexing b inner is.0 is.1) (λ later w. tt) (top_lexing after is.2))
@@ -78,18 +78,18 @@ output_shown t e = rw e refl
 
 -- the words and names round the blocks
 abbrev Framed : Query → List Token → Type 0
-Framed q = Cons (λ t. t.kind ≡ kinds.Name (codes "INPUT")) (Cons (ShowsName q.input) (Both (TopBehind q.version q.blocks) (Cons (λ t. t.kind ≡ kinds.Name (codes "OUTPUT")) (Cons (ShowsName q.output) Nil))))
+Framed q = Cons (λ t. t.kind ≡ kinds.Name (codes "INPUT")) (Cons (ShowsName q.version q.input) (Both (TopBehind q.version q.blocks) (Cons (λ t. t.kind ≡ kinds.Name (codes "OUTPUT")) (Cons (ShowsName q.version q.output) Nil))))
 
 abbrev frame_text : Query → List ℕ
-frame_text q = codes "INPUT " ++ (q.input ++ (codes "\n" ++ (lines_text q.blocks ++ (codes "OUTPUT " ++ (q.output ++ codes "\n")))))
+frame_text q = codes "INPUT " ++ (q.input ++ (codes "\n" ++ (lines_text q.version q.blocks ++ (codes "OUTPUT " ++ (q.output ++ codes "\n")))))
 
 frame_lexing : (q : Query) → IsSpellable q → Lexing (Framed q) Any (frame_text q)
 frame_lexing q is =
     word_then (codes "INPUT") (refl, (refl, (refl, (refl, (refl, tt))))) (λ later w. (refl, refl, refl)) (gap 32 refl
-    (name_then q.input is.input (λ later w. (refl, refl, refl)) (gap 10 refl
+    (name_then q.version q.input is.input (λ later w. (refl, refl, refl)) (gap 10 refl
     (both (top_lexing q.version q.blocks is.blocks) (λ later w. tt)
     (word_then (codes "OUTPUT") (refl, (refl, (refl, (refl, (refl, (refl, tt)))))) (λ later w. (refl, refl, refl)) (gap 32 refl
-    (name_then q.output is.output (λ later w. (refl, refl, refl)) (gap 10 refl nothing_more))))))))
+    (name_then q.version q.output is.output (λ later w. (refl, refl, refl)) (gap 10 refl nothing_more))))))))
 
 abbrev SpeltQuery : Query → List Token → Type 0
 SpeltQuery q tokens = (w : tree.Query) × blocks.query_within tokens w × (query_kept w ≡ q)
@@ -120,7 +120,7 @@ framed_spelt q version tokens same (front, back, parts, head, (i, rest, is, inpu
             rest2,
             record { text = q.input; span = n.span },
             is2,
-            (n, refl, name_is q.input n named),
+            (n, refl, name_is q.version q.input n named),
             (
               f,
               k,
@@ -133,7 +133,7 @@ framed_spelt q version tokens same (front, back, parts, head, (i, rest, is, inpu
                 o.span,
                 is3,
                 keyword_is words.Output o (output_shown o output),
-                (m ∷ [], [], record { text = q.output; span = m.span }, is4 ∙ ap (λ y. m ∷ y) none, (m, refl, name_is q.output m called), (refl, refl)),
+                (m ∷ [], [], record { text = q.output; span = m.span }, is4 ∙ ap (λ y. m ∷ y) none, (m, refl, name_is q.version q.output m called), (refl, refl)),
               ),
             ),
           ),

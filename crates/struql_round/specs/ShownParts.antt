@@ -16,7 +16,7 @@ use Rattle.token_reader.specs.Terminals.{is_sign}
 use Rattle.struql_ast.specs.Reading.{operand_of}
 use Rattle.struql_ast.specs.Written as tree
 use Rattle.struql_text.specs.declared.keyword.Keyword.TheVariants as words
-use Rattle.struql_text.specs.Terminals.{is_keyword, keyword_of, op_value, test_of, pair_test}
+use Rattle.struql_text.specs.Terminals.{is_keyword, keyword_in, op_value, test_of, pair_test}
 use Rattle.struql_round.specs.Shown.{Shows, Fits}
 
 -- the parts without their places
@@ -34,12 +34,12 @@ condition_kept (tree.kind k x x_span span) = kind k x
 condition_kept (tree.negation c span) = negation (condition_kept c)
 
 -- a word that is no keyword
-abbrev pub ShowsName : List ℕ → Token → Type 0
-ShowsName x t = (t.kind ≡ kinds.Name x) × (keyword_of x ≡ None)
+abbrev pub ShowsName : ℕ → List ℕ → Token → Type 0
+ShowsName version x t = (t.kind ≡ kinds.Name x) × (keyword_in version x ≡ None)
 
 -- a collection's name: a quoted text, or a word that is neither a keyword nor a test
-abbrev pub ShowsCollection : List ℕ → Token → Type 0
-ShowsCollection c t = (t.kind ≡ kinds.Quoted c) ⊎ (ShowsName c t × (test_of c ≡ None))
+abbrev pub ShowsCollection : ℕ → List ℕ → Token → Type 0
+ShowsCollection version c t = (t.kind ≡ kinds.Quoted c) ⊎ (ShowsName version c t × (test_of c ≡ None))
 
 abbrev pub ShowsValue : Value → Token → Type 0
 ShowsValue (Data (datum.Int n)) t = t.kind ≡ kinds.Int n
@@ -49,13 +49,13 @@ ShowsValue (Data (datum.File s)) t = ⊥
 ShowsValue (Data (datum.Node s)) t = ⊥
 ShowsValue (Page p) t = ⊥
 
-abbrev pub ShowsOperand : Operand → Token → Type 0
-ShowsOperand (variable x) t = ShowsName x t
-ShowsOperand (constant v) t = ShowsValue v t
+abbrev pub ShowsOperand : ℕ → Operand → Token → Type 0
+ShowsOperand version (variable x) t = ShowsName version x t
+ShowsOperand version (constant v) t = ShowsValue v t
 
-abbrev pub ShowsStep : PathStep → List Token → Type 0
-ShowsStep (arc_variable x) tokens = (t : Token) × (tokens ≡ t ∷ []) × ShowsName x t
-ShowsStep (expression r) tokens = Shows r tokens × Fits r 0 64
+abbrev pub ShowsStep : ℕ → PathStep → List Token → Type 0
+ShowsStep version (arc_variable x) tokens = (t : Token) × (tokens ≡ t ∷ []) × ShowsName version x t
+ShowsStep version (expression r) tokens = Shows r tokens × Fits r 0 64
 
 -- values behind each other, each behind a comma
 abbrev pub ShowsMore : List Value → List Token → Type 0
@@ -74,43 +74,43 @@ ShowsListed (v ∷ values) tokens =
 abbrev pub ShowsPair : ℕ → TextTest → Operand → Operand → List Token → Type 0
 ShowsPair version test t u tokens =
     (w : List ℕ) × (name : Token) × (opening : Token) × (a : Token) × (comma : Token) × (b : Token)
-    × (close : Token) × (tokens ≡ name ∷ opening ∷ a ∷ comma ∷ b ∷ close ∷ []) × ShowsName w name
+    × (close : Token) × (tokens ≡ name ∷ opening ∷ a ∷ comma ∷ b ∷ close ∷ []) × ShowsName version w name
     × (pair_test version w ≡ Some test) × (is_sign signs.OpenParen opening ≡ true)
-    × ShowsOperand t a × (is_sign signs.Comma comma ≡ true) × ShowsOperand u b
+    × ShowsOperand version t a × (is_sign signs.Comma comma ≡ true) × ShowsOperand version u b
     × (is_sign signs.CloseParen close ≡ true)
 
 -- the operator between the operands
-abbrev pub ShowsInfix : Op → Operand → Operand → List Token → Type 0
-ShowsInfix o t u tokens =
-    (a : Token) × (b : Token) × (c : Token) × (tokens ≡ a ∷ b ∷ c ∷ []) × ShowsOperand t a
-    × (op_value b ≡ Some o) × ShowsOperand u c
+abbrev pub ShowsInfix : ℕ → Op → Operand → Operand → List Token → Type 0
+ShowsInfix version o t u tokens =
+    (a : Token) × (b : Token) × (c : Token) × (tokens ≡ a ∷ b ∷ c ∷ []) × ShowsOperand version t a
+    × (op_value b ≡ Some o) × ShowsOperand version u c
 
 -- a test of two texts, or the operator between the operands
 abbrev pub ShowsComparison : ℕ → Op → Operand → Operand → List Token → Type 0
 ShowsComparison version (Texts test) t u tokens = ShowsPair version test t u tokens
-ShowsComparison version o t u tokens = ShowsInfix o t u tokens
+ShowsComparison version o t u tokens = ShowsInfix version o t u tokens
 
 -- a condition that is no negation
 abbrev pub ShowsPlain : ℕ → Condition → List Token → Type 0
 ShowsPlain version (member c x) tokens =
     (name : Token) × (opening : Token) × (inner : Token) × (close : Token)
-    × (tokens ≡ name ∷ opening ∷ inner ∷ close ∷ []) × ShowsCollection c name
-    × (is_sign signs.OpenParen opening ≡ true) × ShowsName x inner
+    × (tokens ≡ name ∷ opening ∷ inner ∷ close ∷ []) × ShowsCollection version c name
+    × (is_sign signs.OpenParen opening ≡ true) × ShowsName version x inner
     × (is_sign signs.CloseParen close ≡ true)
 ShowsPlain version (kind k x) tokens =
     (w : List ℕ) × (name : Token) × (opening : Token) × (inner : Token) × (close : Token)
-    × (tokens ≡ name ∷ opening ∷ inner ∷ close ∷ []) × ShowsName w name × (test_of w ≡ Some k)
-    × (is_sign signs.OpenParen opening ≡ true) × ShowsName x inner
+    × (tokens ≡ name ∷ opening ∷ inner ∷ close ∷ []) × ShowsName version w name × (test_of w ≡ Some k)
+    × (is_sign signs.OpenParen opening ≡ true) × ShowsName version x inner
     × (is_sign signs.CloseParen close ≡ true)
 ShowsPlain version (compare t o u) tokens = ShowsComparison version o t u tokens
 ShowsPlain version (path t s u) tokens =
     (a : Token) × (first : Token) × (inner : List Token) × (second : Token) × (c : Token)
-    × (tokens ≡ a ∷ first ∷ (inner ++ second ∷ c ∷ [])) × ShowsOperand t a
-    × (is_sign signs.Arrow first ≡ true) × ShowsStep s inner × (is_sign signs.Arrow second ≡ true)
-    × ShowsOperand u c
+    × (tokens ≡ a ∷ first ∷ (inner ++ second ∷ c ∷ [])) × ShowsOperand version t a
+    × (is_sign signs.Arrow first ≡ true) × ShowsStep version s inner × (is_sign signs.Arrow second ≡ true)
+    × ShowsOperand version u c
 ShowsPlain version (one_of t values) tokens =
     (a : Token) × (word : Token) × (opening : Token) × (inner : List Token) × (close : Token)
-    × (tokens ≡ a ∷ word ∷ opening ∷ (inner ++ close ∷ [])) × ShowsOperand t a
+    × (tokens ≡ a ∷ word ∷ opening ∷ (inner ++ close ∷ [])) × ShowsOperand version t a
     × (is_keyword words.In word ≡ true) × (is_sign signs.OpenBrace opening ≡ true)
     × ShowsListed values inner × (is_sign signs.CloseBrace close ≡ true)
 ShowsPlain version (negation c) tokens = ⊥
@@ -128,24 +128,24 @@ ShowsCondition version (one_of t values) tokens = ShowsPlain version (one_of t v
 ShowsCondition version (kind k x) tokens = ShowsPlain version (kind k x) tokens
 
 -- operands behind each other, each behind a comma
-abbrev pub ShowsMoreOperands : List Operand → List Token → Type 0
-ShowsMoreOperands [] tokens = tokens ≡ []
-ShowsMoreOperands (o ∷ operands) tokens =
+abbrev pub ShowsMoreOperands : ℕ → List Operand → List Token → Type 0
+ShowsMoreOperands version [] tokens = tokens ≡ []
+ShowsMoreOperands version (o ∷ operands) tokens =
     (comma : Token) × (t : Token) × (rest : List Token) × (tokens ≡ comma ∷ t ∷ rest)
-    × (is_sign signs.Comma comma ≡ true) × ShowsOperand o t × ShowsMoreOperands operands rest
+    × (is_sign signs.Comma comma ≡ true) × ShowsOperand version o t × ShowsMoreOperands version operands rest
 
 -- operands with commas between them, or none
-abbrev pub ShowsArguments : List Operand → List Token → Type 0
-ShowsArguments [] tokens = tokens ≡ []
-ShowsArguments (o ∷ operands) tokens =
-    (t : Token) × (rest : List Token) × (tokens ≡ t ∷ rest) × ShowsOperand o t
-    × ShowsMoreOperands operands rest
+abbrev pub ShowsArguments : ℕ → List Operand → List Token → Type 0
+ShowsArguments version [] tokens = tokens ≡ []
+ShowsArguments version (o ∷ operands) tokens =
+    (t : Token) × (rest : List Token) × (tokens ≡ t ∷ rest) × ShowsOperand version o t
+    × ShowsMoreOperands version operands rest
 
-abbrev pub ShowsTerm : SkolemTerm → List Token → Type 0
-ShowsTerm f tokens =
+abbrev pub ShowsTerm : ℕ → SkolemTerm → List Token → Type 0
+ShowsTerm version f tokens =
     (name : Token) × (opening : Token) × (inner : List Token) × (close : Token)
-    × (tokens ≡ name ∷ opening ∷ (inner ++ close ∷ [])) × ShowsName f.function name
-    × (is_sign signs.OpenParen opening ≡ true) × ShowsArguments f.args inner
+    × (tokens ≡ name ∷ opening ∷ (inner ++ close ∷ [])) × ShowsName version f.function name
+    × (is_sign signs.OpenParen opening ≡ true) × ShowsArguments version f.args inner
     × (is_sign signs.CloseParen close ≡ true)
 
 abbrev pub term_kept : tree.Term → SkolemTerm

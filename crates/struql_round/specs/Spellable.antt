@@ -12,7 +12,7 @@ use Rattle.query_spec.specs.Mentions.{IsVersion}
 use Rattle.query_spec.specs.Query.{Operand, variable, constant, PathStep, arc_variable, expression, Condition, member}
 use Rattle.query_spec.specs.Query.{path, compare, one_of, kind, negation, SkolemTerm, Target, plain, made, LinkLabel}
 use Rattle.query_spec.specs.Query.{quoted, label_variable, Link, Collect, Body, Blocks, no_blocks, block, Query}
-use Rattle.struql_text.specs.Terminals.{keyword_of}
+use Rattle.struql_text.specs.Terminals.{keyword_in}
 use Rattle.struql_round.specs.Shown.{Fits}
 
 abbrev pub Every : {A : Type 0} → (A → Type 0) → List A → Type 0
@@ -20,8 +20,8 @@ Every P [] = Unit {0}
 Every P (x ∷ xs) = P x × Every P xs
 
 -- a name that is no keyword
-abbrev pub IsWord : List ℕ → Type 0
-IsWord x = IsName x × (keyword_of x ≡ None)
+abbrev pub IsWord : ℕ → List ℕ → Type 0
+IsWord version x = IsName x × (keyword_in version x ≡ None)
 
 abbrev pub IsConstant : Value → Type 0
 IsConstant (Data (datum.Int n)) = mag n < 2 ^ 63
@@ -31,13 +31,13 @@ IsConstant (Data (datum.File s)) = ⊥
 IsConstant (Data (datum.Node s)) = ⊥
 IsConstant (Page p) = ⊥
 
-abbrev pub IsOperand : Operand → Type 0
-IsOperand (variable x) = IsWord x
-IsOperand (constant v) = IsConstant v
+abbrev pub IsOperand : ℕ → Operand → Type 0
+IsOperand version (variable x) = IsWord version x
+IsOperand version (constant v) = IsConstant v
 
-abbrev pub IsStep : PathStep → Type 0
-IsStep (arc_variable x) = IsWord x
-IsStep (expression r) = Fits r 0 64
+abbrev pub IsStep : ℕ → PathStep → Type 0
+IsStep version (arc_variable x) = IsWord version x
+IsStep version (expression r) = Fits r 0 64
 
 abbrev pub IsSome : {A : Type 0} → (A → Type 0) → List A → Type 0
 IsSome P [] = ⊥
@@ -49,11 +49,11 @@ IsOperator version (Texts test) = version ≡ 3
 IsOperator version o = Unit {0}
 
 abbrev pub IsPlain : ℕ → Condition → Type 0
-IsPlain version (member c x) = IsWord x
-IsPlain version (path t s u) = IsOperand t × IsStep s × IsOperand u
-IsPlain version (compare t o u) = IsOperator version o × IsOperand t × IsOperand u
-IsPlain version (one_of t vs) = IsOperand t × IsSome IsConstant vs
-IsPlain version (kind k x) = IsWord x
+IsPlain version (member c x) = IsWord version x
+IsPlain version (path t s u) = IsOperand version t × IsStep version s × IsOperand version u
+IsPlain version (compare t o u) = IsOperator version o × IsOperand version t × IsOperand version u
+IsPlain version (one_of t vs) = IsOperand version t × IsSome IsConstant vs
+IsPlain version (kind k x) = IsWord version x
 IsPlain version (negation c) = ⊥
 
 abbrev pub IsCondition : ℕ → Condition → Type 0
@@ -64,34 +64,34 @@ IsCondition version (one_of t vs) = IsPlain version (one_of t vs)
 IsCondition version (kind k x) = IsPlain version (kind k x)
 IsCondition version (negation c) = IsPlain version c
 
-abbrev pub IsTerm : SkolemTerm → Type 0
-IsTerm f = IsWord f.function × Every IsOperand f.args
+abbrev pub IsTerm : ℕ → SkolemTerm → Type 0
+IsTerm version f = IsWord version f.function × Every (IsOperand version) f.args
 
 -- a name or a term
-abbrev pub IsSource : Target → Type 0
-IsSource (plain (variable x)) = IsWord x
-IsSource (plain (constant v)) = ⊥
-IsSource (made f) = IsTerm f
+abbrev pub IsSource : ℕ → Target → Type 0
+IsSource version (plain (variable x)) = IsWord version x
+IsSource version (plain (constant v)) = ⊥
+IsSource version (made f) = IsTerm version f
 
 -- an operand or a term
-abbrev pub IsTarget : Target → Type 0
-IsTarget (plain o) = IsOperand o
-IsTarget (made f) = IsTerm f
+abbrev pub IsTarget : ℕ → Target → Type 0
+IsTarget version (plain o) = IsOperand version o
+IsTarget version (made f) = IsTerm version f
 
-abbrev pub IsLabel : LinkLabel → Type 0
-IsLabel (quoted l) = Unit {0}
-IsLabel (label_variable x) = IsWord x
+abbrev pub IsLabel : ℕ → LinkLabel → Type 0
+IsLabel version (quoted l) = Unit {0}
+IsLabel version (label_variable x) = IsWord version x
 
-abbrev pub IsLink : Link → Type 0
-IsLink k = IsSource k.source × IsLabel k.label × IsTarget k.target
+abbrev pub IsLink : ℕ → Link → Type 0
+IsLink version k = IsSource version k.source × IsLabel version k.label × IsTarget version k.target
 
-abbrev pub IsCollect : Collect → Type 0
-IsCollect c = IsSource c.target
+abbrev pub IsCollect : ℕ → Collect → Type 0
+IsCollect version c = IsSource version c.target
 
 abbrev pub IsBody : ℕ → Body → Type 0
 IsBody version b =
-    Every (IsCondition version) b.conditions × Every IsTerm b.creates × Every IsLink b.links
-    × Every IsCollect b.collects
+    Every (IsCondition version) b.conditions × Every (IsTerm version) b.creates × Every (IsLink version) b.links
+    × Every (IsCollect version) b.collects
 
 -- blocks one within another, at most this many
 abbrev pub AreBlocks : ℕ → ℕ → Blocks → Type 0
@@ -102,6 +102,6 @@ AreBlocks version (suc depth) (block b inner after) =
 
 pub record IsSpellable (q : Query) : Type 0 where
   pub version : IsVersion q.version
-  pub input : IsWord q.input
+  pub input : IsWord q.version q.input
   pub blocks : AreBlocks q.version 16 q.blocks
-  pub output : IsWord q.output
+  pub output : IsWord q.version q.output

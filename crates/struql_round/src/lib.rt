@@ -34,8 +34,8 @@ pub fn conditions_are_read_again()
         × condition version expression_within tokens w × (condition_kept w ≡ k) }
 {}
 
-/// Tokens that show a term spell it, wherever they are.
+/// Tokens that show a term in a version spell it there, wherever they are.
 pub fn terms_are_read_again()
-    ensures { (f : SkolemTerm) (tokens : List Token) → ShowsTerm f tokens → (w : WrittenTerm)
-        × term tokens w × (term_kept w ≡ f) }
+    ensures { (version : ℕ) (f : SkolemTerm) (tokens : List Token) → ShowsTerm version f tokens
+        → (w : WrittenTerm) × term version tokens w × (term_kept w ≡ f) }
 {}

@@ -1,4 +1,4 @@
-use Rattle.graph_order.specs.Read.{order_of}
+use Rattle.order_spec.specs.Read.{order_of}
 use Rattle.graph_order.proofs.Whole.{next_made, grows_here, answered}
 use Rattle.graph_order.proofs.order_graph.Goals as goal
 

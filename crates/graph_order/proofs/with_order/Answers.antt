@@ -8,7 +8,7 @@ use Rattle.sd_graph.specs.Statement.{Building}
 use Rattle.graph_order.specs.Adding.{building_of, PutsIn, stated_edge}
 use Rattle.graph_order.specs.Answers.{Fits}
 use Rattle.graph_order.specs.Numbers.{numbers_from, edges_of_member, numbered_cmp}
-use Rattle.graph_order.specs.Read.{order_of, place_of}
+use Rattle.order_spec.specs.Read.{order_of, place_of}
 use Rattle.graph_order.specs.declared.numbers.Numbered.{Numbered}
 use Rattle.graph_order.proofs.ByNode.{numbers_below}
 use Rattle.graph_order.proofs.Whole.{along_made, along_refused, made}

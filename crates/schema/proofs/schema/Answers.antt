@@ -15,5 +15,5 @@ returns c =
     let paths = paths_are c.in_ok-paths.paths.items c.args.checked.now c.query.result.now c.deref.result.now c.in_ok-paths.ensures c.deref.ensures.value c.query.ensures.same in
     is_schema c.args.checked.now _ c.in_ok-scopes.scopes.version c.in_ok-paths.paths.items c.in_ok-scopes.scopes.blocks.items c.in_ok-edges.edges.items
     paths (ap (λ s. s.bodies) c.in_ok-scopes.ensures.scope) c.in_ok-scopes.ensures.scoped
-    (rw c.deref-2.ensures.value at c.in_ok-functions.ensures) (rw (c.deref-3.ensures.value, c.deref-4.ensures.value) at c.in_ok-edges.ensures)
+    (rw c.deref-2.ensures.value at c.in_ok-functions.ensures) (rw (c.deref-3.ensures.value, c.deref-4.ensures.value, ap (λ s. s.version) c.in_ok-scopes.ensures.scope) at c.in_ok-edges.ensures)
     c.in_ok-sort.ensures.sorted c.in_ok-sort.ensures.stable

@@ -73,7 +73,7 @@ fn parts_that_no_text_gave_are_printed(rt: HostRuntime) -> Result<(), Fail> {
     let alloc = rt.alloc();
     let mut out = Vec::new(alloc);
     let negated = Condition::Not(Box::new(alloc, some_path(alloc)?)?, NOWHERE);
-    print_condition(&negated, &mut out)?;
+    print_condition(1, &negated, &mut out)?;
     print_link(&some_link(alloc)?, &mut out)?;
     print(&some_query(alloc)?, &mut out)?;
     let wanted =

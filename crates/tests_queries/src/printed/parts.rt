@@ -432,7 +432,7 @@ fn check_part<R: AllocGlobal + Abort>(rt: &R, part: &str, row: &PartRow) -> Resu
     let mut out = Vec::new(alloc);
     if let Some(block) = query.blocks.first() {
         if let Some(condition) = block.conditions.first() {
-            print_condition(condition, &mut out)?;
+            print_condition(query.version, condition, &mut out)?;
         }
         if let Some(link) = block.links.first() {
             print_link(link, &mut out)?;

@@ -7,7 +7,7 @@ use Rattle.sd_value.specs.Names.{Name}
 use Rattle.order_spec.specs.Order.{edges_at}
 use Rattle.graph_order.specs.Adding.{building_of, PutsIn, stated_edge}
 use Rattle.graph_order.specs.Numbers.{name_before, edges_of_member}
-use Rattle.graph_order.specs.Read.{place_of}
+use Rattle.order_spec.specs.Read.{place_of}
 use Rattle.graph_order.specs.declared.numbers.Numbered.{Numbered}
 use Rattle.graph_order.proofs.Growth.{each_next, each_cut, each_end}
 use Rattle.graph_order.proofs.Along.{lent}

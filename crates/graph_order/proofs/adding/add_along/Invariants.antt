@@ -2,7 +2,7 @@ use Rattle.std.proofs.Common.{◌≡◌, map, take}
 use Rattle.std.specs.Prelude.{flat_map}
 use Rattle.graph_order.specs.Adding.{building_of, stated_edge}
 use Rattle.graph_order.specs.Numbers.{edges_of_member}
-use Rattle.graph_order.specs.Read.{place_of}
+use Rattle.order_spec.specs.Read.{place_of}
 use Rattle.graph_order.specs.declared.numbers.Numbered.{Numbered}
 use Rattle.graph_order.proofs.adding.add_along.Given as goal
 

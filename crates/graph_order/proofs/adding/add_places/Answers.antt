@@ -4,8 +4,8 @@ use Rattle.std.proofs.lemmas.Result.{err_from_is_err_and}
 use Rattle.graph_spec.specs.Statement.{Statement}
 use Rattle.order_spec.specs.Order.{Place, edges_at}
 use Rattle.graph_order.specs.Adding.{building_of, PutsIn, stated_edge}
-use Rattle.graph_order.specs.Read.{place_of}
-use Rattle.graph_order.specs.declared.Place.{Place as CodePlace}
+use Rattle.order_spec.specs.Read.{place_of}
+use Rattle.order_spec.specs.declared.Place.{Place as CodePlace}
 use Rattle.graph_order.proofs.Growth.{each_next, each_cut, each_end}
 use Rattle.graph_order.proofs.Along.{spread}
 use Rattle.graph_order.proofs.adding.add_places.Goals as goal

@@ -2,8 +2,8 @@ use Rattle.std.proofs.Common.{◌≡◌, map, take}
 use Rattle.std.specs.Prelude.{flat_map}
 use Rattle.std.specs.Option.{option_copied}
 use Rattle.graph_order.specs.Adding.{building_of, stated_edge}
-use Rattle.graph_order.specs.Read.{place_of}
-use Rattle.graph_order.specs.declared.Place.{Place as CodePlace}
+use Rattle.order_spec.specs.Read.{place_of}
+use Rattle.order_spec.specs.declared.Place.{Place as CodePlace}
 use Rattle.order_spec.specs.Order.{edges_at}
 use Rattle.graph_order.proofs.adding.add_places.Given as goal
 

@@ -4,7 +4,7 @@ use Rattle.sd_value.specs.Ascending.{ListsExactly}
 use Rattle.sd_value.specs.Names.{Name}
 use Rattle.order_spec.specs.Order.{nodes_in}
 use Rattle.graph_order.specs.Keys.{ranked_by, ranked_cmp}
-use Rattle.graph_order.specs.Read.{order_of}
+use Rattle.order_spec.specs.Read.{order_of}
 use Rattle.graph_order.specs.declared.members.Ranked.{Ranked}
 use Rattle.graph_order.proofs.Ranks.{rank, in_order_made}
 use Rattle.graph_order.proofs.members.members_in_order.Goals as goal

@@ -15,5 +15,5 @@ print_inner-loop-block-preserved t c =
     let i = c.loop-block.block-index in
     let b = c.block-item.result in
     let e : take (i + 1) bs ≡ take i bs ++ b ∷ [] = take_more bs i b (omega arith) ∙ ap (λ (y : Block). take i bs ++ y ∷ []) (sym c.block-item.is) in
-    rw (e, texts_push (take i bs) b, flat_push (λ (text : List ℕ). codes " " ++ text) (block_texts (blocks_of (take i bs))) (block_text b), c.in_ok-print_block.ensures, c.in_ok-put.ensures, c.loop-block.invariant)
-    (appended c.args.out.now.items (flat_map (λ (text : List ℕ). codes " " ++ text) (block_texts (blocks_of (take i bs)))) (codes " ") (block_text b))
+    rw (e, texts_push c.args.version (take i bs) b, flat_push (λ (text : List ℕ). codes " " ++ text) (block_texts c.args.version (blocks_of (take i bs))) (block_text c.args.version b), c.in_ok-print_block.ensures, c.in_ok-put.ensures, c.loop-block.invariant)
+    (appended c.args.out.now.items (flat_map (λ (text : List ℕ). codes " " ++ text) (block_texts c.args.version (blocks_of (take i bs)))) (codes " ") (block_text c.args.version b))

@@ -6,4 +6,4 @@ use Rattle.struql_print.specs.Texts.{block_texts}
 use Rattle.struql_print.proofs.query.+block.Given as goal
 
 abbrev pub invariant-print_inner-loop-block : goal.invariant-print_inner-loop-block
-invariant-print_inner-loop-block l = l.out.items ≡ l.initial.out.items ++ flat_map (λ text. codes " " ++ text) (block_texts (blocks_of (take l.block-index l.blocks)))
+invariant-print_inner-loop-block l = l.out.items ≡ l.initial.out.items ++ flat_map (λ text. codes " " ++ text) (block_texts l.fn.version (blocks_of (take l.block-index l.blocks)))

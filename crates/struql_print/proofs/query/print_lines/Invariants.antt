@@ -6,4 +6,4 @@ use Rattle.struql_print.specs.Texts.{block_texts}
 use Rattle.struql_print.proofs.query.print_lines.Given as goal
 
 abbrev pub invariant-loop-block : goal.invariant-loop-block
-invariant-loop-block l = l.out.items ≡ l.initial.out.items ++ flat_map (λ text. text ++ codes "\n") (block_texts (blocks_of (take l.block-index l.blocks)))
+invariant-loop-block l = l.out.items ≡ l.initial.out.items ++ flat_map (λ text. text ++ codes "\n") (block_texts l.fn.version (blocks_of (take l.block-index l.blocks)))

@@ -1,0 +1,4 @@
+pub mod Terminals
+pub mod Grammar
+pub mod Reading
+pub mod Ordered
