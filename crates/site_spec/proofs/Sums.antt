@@ -4,7 +4,7 @@ use Rattle.std.specs.Prelude.{◌≢◌, ◌-◌, zero, suc, ℕ, ℤ, Bool, tru
 use Rattle.std.specs.Bool.{MatchBool}
 use Rattle.std.specs.List.{AllZip}
 use Rattle.sd_value.specs.Ascending.{ListsExactly}
-use Rattle.sd_value.specs.AscendingLaws.{same_list}
+use Rattle.sd_value.specs.AscendingLaws.{one_list, listed_as}
 use Rattle.sd_value.specs.Members.{Contains-here, Contains-there}
 use Rattle.sd_value.specs.Names.{Name, Label}
 use Rattle.sd_value.specs.Order.{value_cmp}
@@ -54,9 +54,6 @@ joined_given G c u label v k (inr h) = target_given G c u label v k k.target h
 
 -- ---- sums rest on rows
 
-pub listed_as : {P Q : Value → Type 0} (xs : List Value) → ListsExactly value_cmp P xs → ((v : Value) → P v → Q v) → ((v : Value) → Q v → P v) → ListsExactly value_cmp Q xs
-listed_as xs h to from = record { ascending = h.ascending; sound = λ v c. to v (h.sound v c); complete = λ v q. h.complete v (from v q) }
-
 pub row_joined_to : (G H : DataGraph) (c : Chain) (u : Value) (label : Label) (v : Value) (k : Link) → ((row : List Value) → IsRow G c row → IsRow H c row) → IsRowJoined G c u label v k → IsRowJoined H c u label v k
 row_joined_to G H c u label v k to r = record { row = r.row; is_row = to r.row r.is_row; holds = r.holds }
 
@@ -64,7 +61,7 @@ pub sum_to : (G H : DataGraph) (c : Chain) (u : Value) (label : Label) (v : Valu
     → IsSummed G c u label v k a → IsSummed H c u label v k a
 sum_to G H c u label v k a to from h = record {
   parts = h.parts;
-  all = listed_as h.parts h.all (λ w r. row_joined_to G H c u label w (part_link a k) to r) (λ w r. row_joined_to H G c u label w (part_link a k) from r);
+  all = listed_as h.all (λ w r. row_joined_to G H c u label w (part_link a k) to r) (λ w r. row_joined_to H G c u label w (part_link a k) from r);
   told = h.told;
 }
 
@@ -94,7 +91,7 @@ told_once (sum_of y x) parts v w h g = h.2 ∙ sym g.2
 -- one end for each source, label and aggregate
 pub one_sum : (G : DataGraph) (c : Chain) (u : Value) (label : Label) (v w : Value) (k : Link) (a : Aggregate) → IsSummed G c u label v k a → IsSummed G c u label w k a → v ≡ w
 one_sum G c u label v w k a h g =
-    let same : g.parts ≡ h.parts = same_list value_cmp-total g.parts h.parts g.all.ascending h.all.ascending (λ z i. h.all.complete z (g.all.sound z i)) (λ z i. g.all.complete z (h.all.sound z i)) in
+    let same : g.parts ≡ h.parts = one_list value_cmp-total (λ w. IsRowJoined G c u label w (part_link a k)) g.parts h.parts g.all h.all in
     told_once a h.parts v w h.told.told (subst (λ ps. IsTold a ps w) same g.told.told)
 
 -- ---- values that aggregates tell
@@ -116,10 +113,10 @@ IsNoInt v = (n : ℤ) → v ≡ Data (Int n) → ⊥
 
 -- a number, or one of the values of rows
 pub told_part : (a : Aggregate) (parts : List Value) (v : Value) → IsNoInt v → IsTold a parts v → IsPart a parts v
-told_part (count_of x) parts v no h = absurd (no _ h)
-told_part (min_of x) parts v no h = record { name = x; is = refl; within = slice_in parts 0 v h }
-told_part (max_of x) parts v no h = record { name = x; is = refl; within = slice_in parts (length parts - 1) v h }
-told_part (sum_of y x) parts v no h = absurd (no _ h.2)
+told_part (count_of x) parts v other h = absurd (other _ h)
+told_part (min_of x) parts v other h = record { name = x; is = refl; within = slice_in parts 0 v h }
+told_part (max_of x) parts v other h = record { name = x; is = refl; within = slice_in parts (length parts - 1) v h }
+told_part (sum_of y x) parts v other h = absurd (other _ h.2)
 
 -- a value that is no number is that of a variable in a row
 pub record IsOfRow (G : DataGraph) (c : Chain) (v : Value) : Type 0 where
@@ -129,20 +126,20 @@ pub record IsOfRow (G : DataGraph) (c : Chain) (v : Value) : Type 0 where
   pub is : value_in c.variables row name ≡ Some v
 
 pub sum_of_row : (G : DataGraph) (c : Chain) (u : Value) (label : Label) (v : Value) (k : Link) (a : Aggregate) → IsNoInt v → IsSummed G c u label v k a → IsOfRow G c v
-sum_of_row G c u label v k a no h =
-    let part = told_part a h.parts v no h.told.told in
+sum_of_row G c u label v k a other h =
+    let part = told_part a h.parts v other h.told.told in
     let r = h.all.sound v part.within in
     record { row = r.row; is_row = r.is_row; name = part.name; is = subst (λ t. IsTargetUnder (value_in c.variables r.row) t v) part.is r.holds.to }
 
 target_of_row : (G : DataGraph) (c : Chain) (u : Value) (label : Label) (v : Value) (k : Link) (t : Target) → IsNoInt v → IsSum G c u label v k t → IsOfRow G c v
-target_of_row G c u label v k (plain o) no h = absurd h
-target_of_row G c u label v k (made t) no h = absurd h
-target_of_row G c u label v k (summed a) no h = sum_of_row G c u label v k a no h
+target_of_row G c u label v k (plain o) other h = absurd h
+target_of_row G c u label v k (made t) other h = absurd h
+target_of_row G c u label v k (summed a) other h = sum_of_row G c u label v k a other h
 
 -- what a link joins to, if it is no number, a row joins it to or is the value of a variable in a row
 pub joined_row : (G : DataGraph) (c : Chain) (u : Value) (label : Label) (v : Value) (k : Link) → IsNoInt v → IsJoined G c u label v k → IsRowJoined G c u label v k ⊎ IsOfRow G c v
-joined_row G c u label v k no (inl r) = inl r
-joined_row G c u label v k no (inr h) = inr (target_of_row G c u label v k k.target no h)
+joined_row G c u label v k other (inl r) = inl r
+joined_row G c u label v k other (inr h) = inr (target_of_row G c u label v k k.target other h)
 
 -- ---- no page is told
 
