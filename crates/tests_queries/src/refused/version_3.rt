@@ -49,6 +49,33 @@ const TEXTS: &[Refused] = &[
             "STRUQL 3 INPUT D OUTPUT ^ORDER",
         ],
     },
+    // What a link ends at.
+    Refused {
+        number: Some(61),
+        texts: &[
+            "STRUQL 3 INPUT D WHERE A(x) CREATE F(x) LINK F(x) -> 'n' -> count(^y) OUTPUT S",
+            "STRUQL 3 INPUT D WHERE A(x), x -> 'p' -> p CREATE F(x) LINK F(x) -> 'n' -> sum(p OF ^y) OUTPUT S",
+        ],
+    },
+    Refused {
+        number: Some(62),
+        texts: &[
+            "STRUQL 3 INPUT D WHERE A(x) CREATE F(x) LINK F(x) -> 'n' -> ^count(1) OUTPUT S",
+            "STRUQL 3 INPUT D WHERE A(x), x -> 'p' -> p CREATE F(x) LINK F(x) -> 'n' -> ^sum(p) OUTPUT S",
+            "STRUQL 3 INPUT D WHERE A(x) CREATE F(x) LINK F(x) -> 'n' -> ^sum(x, x) OUTPUT S",
+            "STRUQL 3 INPUT D WHERE A(x) CREATE F(x) LINK F(x) -> 'n' -> ^sum() OUTPUT S",
+            "STRUQL 2 INPUT D WHERE A(x) CREATE F(x) LINK F(x) -> 'n' -> ^count(x) OUTPUT S",
+        ],
+    },
+    Refused {
+        number: Some(71),
+        texts: &[
+            "STRUQL 3 INPUT D WHERE A(x), x -> 'p' -> p CREATE F(x) LINK F(x) -> 'n' -> count(p ^OF x) OUTPUT S",
+            "STRUQL 3 INPUT D WHERE A(x) CREATE F(x) LINK F(x) -> 'n' -> sum(1 ^OF x) OUTPUT S",
+            "STRUQL 3 INPUT D WHERE A(x) CREATE F(x) LINK F(x) -> 'n' -> sum(x OF ^1) OUTPUT S",
+            "STRUQL 2 INPUT D WHERE A(x) CREATE F(x) LINK F(x) -> 'n' -> sum(x ^OF x) OUTPUT S",
+        ],
+    },
     Refused {
         number: None,
         texts: &[

@@ -1,5 +1,5 @@
 use Rattle.struql_ast.specs.Reading.{aggregate_of, link_of}
-use Rattle.site_build.proofs.Sums.{sums_gained}
+use Rattle.site_build.proofs.SumLaws.{sums_gained}
 use Rattle.site_build.proofs.sums.add_summed.Goals as goal
 
 pub add_told-requires : goal.add_told-requires
