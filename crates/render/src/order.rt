@@ -112,7 +112,8 @@ fn places_of<V: SiteView>(
     ensures answer { IfOk result
         (λ ps. HasPlaces (V.site (V.fixed view.old)) keys.now value.now ps) }
 {
-    let mut list = Vec::new(alloc);
+    // Most keys give one place.
+    let mut list = Vec::with_capacity(alloc, keys.len())?;
     for key in keys {
         add_places(alloc, view, value, key, &mut list)?;
     }
