@@ -39,6 +39,12 @@ def argued(count):
     return f'INPUT D {{ CREATE Home() }} {{ WHERE C(x0), {conditions} CREATE {term} LINK {term} -> "next" -> {term} }} OUTPUT S', "REACHABLE F FROM Home\n"
 
 
+def alike(count):
+    """A page whose block has so many conditions of one label, and a constraint that it breaks."""
+    conditions = ", ".join(f'x -> "by" -> x{n}' for n in range(count))
+    return f"INPUT D {{ CREATE Home() }} {{ WHERE C(x), {conditions} CREATE F(x) }} OUTPUT S", "REACHABLE F FROM Home\n"
+
+
 def functions(count):
     """As many functions as labels: each has a link to it and one by a label, and words go on from all by all labels."""
     query = "INPUT D CREATE R(), " + ", ".join(f"F{n}()" for n in range(count)) + " LINK "
@@ -78,20 +84,27 @@ def bench_hurt(folder):
         written(f"{folder}/t", ["<TEMPLATE R><SFMT @x></TEMPLATE>"])
         return (sized(f"{folder}/q", [listed(count)]), *least(["page", "q", "t", "/R.html", "d.ddl"], folder))
 
-    def links(count):
-        query, templates = labelled(count)
-        written(f"{folder}/d.ddl", [""])
-        return (sized(f"{folder}/q", [query]) + sized(f"{folder}/t", [templates]), *least(["lint", "q", "t", "d.ddl"], folder))
+    def links(made):
+        def run(count):
+            query, templates = made(count)
+            written(f"{folder}/d.ddl", [""])
+            return (sized(f"{folder}/q", [query]) + sized(f"{folder}/t", [templates]), *least(["lint", "q", "t", "d.ddl"], folder))
+
+        return run
 
     rows += grown("a directive, and one object in {} collections by as many statements", (2_500, 10_000), data(collected))
     rows += grown("one object in {} collections with as many directives and values", (1_000, 4_000), data(directed))
     rows += grown("`not(v in {{..}})` of {} constants over as many rows", (5_000, 20_000), rows_in)
     rows += grown("`lint` with {} labels and links", (2_500, 10_000), links(labelled))
-    rows += grown("`lint` with {} functions and labels", (300, 600), links(functions))
+    rows += grown("`lint` with {} functions and labels", (600, 6_000), links(functions))
     for count, before in ((6, "before: 0.2 s"), (9, "before: hours")):
         query, constraint = argued(count)
         size = sized(f"{folder}/q", [query]) + sized(f"{folder}/c", [constraint])
         rows.append((f"`check` of REACHABLE for a page of {count} arguments, {size:,} bytes", *least(["check", "q", "c"], folder, 1), before))
+    for count, before in ((6, "as before"), (9, "before: hours")):
+        query, constraint = alike(count)
+        size = sized(f"{folder}/q", [query]) + sized(f"{folder}/c", [constraint])
+        rows.append((f"`check` of a block with {count} conditions of one label, {size:,} bytes", *least(["check", "q", "c"], folder, 1), before))
     for what, text, wanted in (
         ("JSON, 4,000 records of 120 levels", nested(4_000, 120, "k"), 0),
         ("JSON, 200 records of 100 levels with keys of 100 bytes", nested(200, 100, "k" * 100), 0),

@@ -1,8 +1,10 @@
 //! The sum of the numbers of pairs.
 ghost use Rattle.std.specs.Prelude.{◌≡◌, MatchOption, [], ◌∷◌};
-ghost use Rattle.sd_value.specs.declared.Value.{Value as AnyValue};
+ghost use Rattle.std.specs.Option.{SomeIff};
+ghost use Rattle.std.specs.Int.{w64};
+ghost use Rattle.std.specs.Int.RustNames.{FitsSigned};
 ghost use Rattle.site_spec.specs.Site.{pair_number};
-ghost use Rattle.aggregate_values.specs.Sums.{IsSumOf};
+ghost use Rattle.aggregate_values.specs.Sums.{HasSum, sum_of};
 
 use sd_value::{Datum, Value};
 
@@ -19,14 +21,24 @@ fn number_of(part: &Value) -> Option<i64>
     }
 }
 
+// The same number, if it has 64 bits.
+fn narrow(wide: i128) -> Option<i64>
+    ensures { SomeIff result (FitsSigned w64 wide) wide }
+{
+    match i64::try_from(wide) {
+        Ok(narrow) => Some(narrow),
+        Err(_) => None,
+    }
+}
+
 /// The sum of the numbers of the pairs, if there is one and the sum has 64 bits.
-pub(crate) fn sum(parts: &[Value]) -> Option<Value>
-    ensures { MatchOption result ((v : AnyValue) → IsSumOf parts.now v → ⊥) (λ v. IsSumOf parts.now v) }
+pub(crate) fn sum(parts: &[Value]) -> Option<i64>
+    ensures { SomeIff result (HasSum parts.now) (sum_of parts.now) }
 {
     let mut total: i128 = 0;
     let mut found = false;
-    for part in parts {
-        if let Some(number) = number_of(part) {
+    for i in 0..parts.len() {
+        if let Some(number) = number_of(&parts[i]) {
             total += number as i128;
             found = true;
         }
@@ -34,8 +46,6 @@ pub(crate) fn sum(parts: &[Value]) -> Option<Value>
     if !found {
         return None;
     }
-    match i64::try_from(total) {
-        Ok(total) => Some(Value::Data(Datum::Int(total))),
-        Err(_) => None,
-    }
+    let sum = narrow(total);
+    sum
 }

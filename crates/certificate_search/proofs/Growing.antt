@@ -4,7 +4,7 @@ use Rattle.std.specs.Prelude.{Bool, true, false, ◌&&◌, map, Option, Some, No
 use Rattle.std.specs.List.{list_any, list_all, flat_map}
 use Rattle.std.proofs.lemmas.List.{append-nil, map-append, length-map, get_or_append_left, drop_all, take_all, get_or-map}
 use Rattle.sd_value.specs.Names.{Name}
-use Rattle.query_spec.specs.Query.{Operand, Condition, SkolemTerm, Target, plain, made}
+use Rattle.query_spec.specs.Query.{Operand, Condition, SkolemTerm, Target, plain, made, summed}
 use Rattle.query_spec.specs.Mentions.{variables_of}
 use Rattle.site_spec.specs.Site.{Scope}
 use Rattle.constraint_spec.specs.Placed.{links_of}
@@ -69,6 +69,7 @@ module _ (tests : Tests) (q : Scope) (S : List Condition) where
     where
       other_target : (variables : List Variable) (target : Target) (t : SkolemTerm) → is_of t.function target ≡ false → due_same variables target t [] ≡ false
       other_target variables (plain o) t e = refl
+      other_target variables (summed a) t e = refl
       other_target variables (made m) t e = ap (λ b. b && zip_all (due_arg variables []) m.args t.args) e
 
   source_stays : (e : Reached) (n : Numbered) (seen : List Reached) (s : SkolemTerm) → is_of e.term.function n.link.link.target ≡ false → add_source tests q S e n seen s ≡ seen

@@ -14,6 +14,7 @@ use Rattle.constraint_spec.specs.Meets.{Meets}
 use Rattle.constraint_prover.specs.Verdicts.{IsFound}
 use Rattle.counterexample_spec.specs.First.{IsFirstBroken}
 use Rattle.sd_graph.specs.ProgramLimits.{IsWithinProgram}
+use Rattle.refute_site.specs.Trying.{IsTried}
 use Rattle.sd_ddl.specs.Written.{graph_text}
 use Rattle.ddl_laws.specs.RoundTrip.{HasI64s, IsReadAgain}
 use Rattle.certificate_text.specs.Lines.{yes_text, unknown_text}
@@ -30,12 +31,12 @@ pub data CheckAnswer : Type 0 where
 abbrev pub NoneIsFound : Scope → Constraint → Type 0
 NoneIsFound q c = (x : Certificate) → IsFound q c x → ⊥
 
--- A certificate of the constraint that is found. If none is, the first candidate within the program's
--- limits whose site breaks it, and unknown if there is no such candidate.
+-- A certificate of the constraint that is found. If none is, the first candidate that is tried and whose
+-- site breaks it, and unknown if there is no such candidate.
 abbrev pub IsCheckAnswer : Scope → Constraint → CheckAnswer → Type 0
 IsCheckAnswer q c (yes x) = IsFound q c x
-IsCheckAnswer q c (no G) = NoneIsFound q c × IsFirstBroken IsWithinProgram q c (Some G)
-IsCheckAnswer q c unknown = NoneIsFound q c × IsFirstBroken IsWithinProgram q c None
+IsCheckAnswer q c (no G) = NoneIsFound q c × IsFirstBroken (IsTried q) q c (Some G)
+IsCheckAnswer q c unknown = NoneIsFound q c × IsFirstBroken (IsTried q) q c None
 
 -- a data graph as the program holds it, over which the query's site doesn't meet the constraint
 pub record IsBrokenOver (q : Scope) (c : Constraint) (G : DataGraph) : Type 0 where

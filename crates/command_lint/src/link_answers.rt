@@ -4,10 +4,10 @@ ghost use Rattle.std.specs.Prelude.{◌≡◌, IfOk};
 ghost use Rattle.query_blocks.specs.Blocks.{scope_of};
 ghost use Rattle.command_lint.specs.Links.{query_of, IsTabled};
 
-use constraint_recheck::certificates_are_decided;
 use inclusion::Inclusions;
+use link_index::ArcLink;
 use query_blocks::QueryBlocks;
-use query_links::{AskedLabel, each_may};
+use query_links::{AskedLabel, may_carry};
 use sd_value::{NoMemory, Str};
 use site_lint::LinkAnswers;
 use std::alloc::Global;
@@ -47,10 +47,17 @@ impl LinkAnswers for QueryLinks<'_> {
 
     ghost Own = { IsTabled };
 
-    fn has_none(&self, alloc: Global, function: &Str, label: &Str) -> Result<bool, NoMemory> {
-        certificates_are_decided();
+    fn may_carry(&self, alloc: Global, link: &ArcLink, label: &Str) -> Result<bool, NoMemory> {
         let label = AskedLabel::new(alloc, label)?;
-        let none = each_may(alloc, &self.judge, self.blocks, function, &label, None)?;
-        Ok(none)
+        let version = self.blocks.version;
+        let may = may_carry(
+            &self.judge,
+            version,
+            link.function,
+            &label,
+            link.chain,
+            link.link,
+        );
+        Ok(may)
     }
 }

@@ -3,7 +3,11 @@ ghost use Rattle.std.specs.Prelude.{◌≡◌, ◌++◌, ℕ, List, All, IfOk};
 ghost use Rattle.std.specs.List.{flat_map};
 ghost use Rattle.template_items.specs.Scanning.{AreItems, EndsWithin};
 ghost use Rattle.text_claims.specs.Limits.{text_end};
-ghost use Rattle.lint_spec.specs.Findings.{are_notes};
+ghost use Rattle.lint_spec.specs.Findings.{AreFindings, are_notes};
+ghost use Rattle.lint_spec.specs.Mistakes.{IsMistake, has_active_end as has_active_end_of};
+ghost use Rattle.site_lint.specs.Judged.{AreWithoutRows};
+ghost use Rattle.query_blocks.specs.Blocks.{scope_of, AreCheckedBlocks};
+ghost use Rattle.lint_spec.specs.TemplateClaims.{template_claims, further_labels as further_of};
 ghost use Rattle.tmpl.specs.Reading.{file_of};
 ghost use Rattle.command_lint.specs.Lines.{finding_line};
 ghost use Rattle.command_lint.specs.Asks.{Asks};
@@ -15,11 +19,14 @@ use crate::link_answers::QueryLinks;
 use bindings::StoreAsker;
 use index_store::IndexStore;
 use lint_spec::Finding;
+use query_blocks::QueryBlocks;
 use query_scoping::scopes;
 use run_report::Report;
 use sd_graph::Graph;
 use sd_value::{NoMemory, Str};
-use site_lint::{LintedSite, blocks_without_rows, findings_of, has_active_end, is_note, names_of};
+use site_lint::{
+    LintedSite, blocks_without_rows, findings_of, has_active_end, is_note, links_of, names_of,
+};
 use std::alloc::Global;
 use text_claims::{claims_of_templates, further_labels};
 
@@ -53,6 +60,59 @@ fn report(
     })
 }
 
+/// The findings in a query, and those in its templates.
+#[derive(Drop)]
+struct Found {
+    in_query: Vec<Finding>,
+    in_templates: Vec<Finding>,
+}
+
+// What the claims of a query and of its templates find, where the data are in the store.
+fn found_in<'a>(
+    alloc: Global,
+    store: &'a IndexStore,
+    blocks: &'a QueryBlocks,
+    without_rows: &'a [bool],
+    has_active_end: bool,
+    query: &AskedQuery,
+    text: &'a ItemTemplates,
+) -> Result<Found, NoMemory>
+    requires within { All (EndsWithin text_end) text.now.items.items }
+    requires checked { AreCheckedBlocks blocks.now.version blocks.now.blocks.items }
+    requires rows { AreWithoutRows store.now blocks.now.blocks.items without_rows.now }
+    requires ends { has_active_end ≡ has_active_end_of store.now.edges }
+    ensures query { IfOk result (λ f. AreFindings (IsMistake store.now (scope_of blocks.now)
+        (file_of text.now.templates) (further_of text.now.items.items))
+        query.now.asked.items f.in_query.items) }
+    ensures templates { IfOk result (λ f. AreFindings (IsMistake store.now (scope_of blocks.now)
+        (file_of text.now.templates) (further_of text.now.items.items))
+        (template_claims text.now.items.items) f.in_templates.items) }
+{
+    let items = text.items.as_slice();
+    let further = further_labels(alloc, items)?;
+    let answers = QueryLinks::of(alloc, blocks)?;
+    let names = names_of(alloc, blocks, &text.templates)?;
+    let links = links_of(alloc, &answers, blocks, &names.created, &further)?;
+    let site = LintedSite {
+        store,
+        answers: &answers,
+        links: &links,
+        blocks,
+        templates: &text.templates,
+        further: &further,
+        names: &names,
+        without_rows,
+        has_active_end,
+    };
+    let in_query = findings_of(alloc, &site, &query.asked)?;
+    let asked = claims_of_templates(alloc, items)?;
+    let in_templates = findings_of(alloc, &site, &asked)?;
+    Ok(Found {
+        in_query,
+        in_templates,
+    })
+}
+
 /// What the texts of a query and of its templates ask for and isn't there, over the data.
 /// # Errors
 /// Out of memory.
@@ -71,27 +131,25 @@ pub(crate) fn report_of(
         (texts_of query_path.now bytes templates_path.now template_bytes)
         r.text r.passed) }
 {
-    let items = text.items.as_slice();
-    let further = further_labels(alloc, items)?;
     let has_active_end = has_active_end(alloc, graph.edges())?;
     let scopes = scopes(alloc, &query.checked)?;
     let store = IndexStore::of(alloc, graph)?;
     let mut asker = StoreAsker::of(store);
     let without_rows = blocks_without_rows(alloc, &mut asker, &scopes)?;
-    let links = QueryLinks::of(alloc, &scopes)?;
-    let names = names_of(alloc, &scopes, &text.templates)?;
-    let site = LintedSite {
-        store: asker.store(),
-        links: &links,
-        blocks: &scopes,
-        templates: &text.templates,
-        further: &further,
-        names: &names,
-        without_rows: &without_rows,
+    let found = found_in(
+        alloc,
+        asker.store(),
+        &scopes,
+        &without_rows,
         has_active_end,
-    };
-    let in_query = findings_of(alloc, &site, &query.asked)?;
-    let asked = claims_of_templates(alloc, items)?;
-    let in_templates = findings_of(alloc, &site, &asked)?;
-    report(alloc, query_path, &in_query, templates_path, &in_templates)
+        query,
+        text,
+    )?;
+    report(
+        alloc,
+        query_path,
+        &found.in_query,
+        templates_path,
+        &found.in_templates,
+    )
 }

@@ -2,3 +2,4 @@ pub mod Values
 pub mod Frozen
 pub mod Candidates
 pub mod First
+pub mod Trial

@@ -111,7 +111,7 @@ year_1998_links_its_paper = record {
   holds = record {
     item = record { source = made year_page; label = quoted (codes "Paper"); target = made paper_page };
     within = (1, lit< tt, refl);
-    holds = record {
+    holds = inl (record {
       row = row pub1 1998;
       is_row = has_1998;
       holds = record {
@@ -119,7 +119,7 @@ year_1998_links_its_paper = record {
         by = refl;
         to = (paper_term pub1, record { function = refl; args = (refl, tt) }, refl);
       };
-    };
+    });
   };
 }
 

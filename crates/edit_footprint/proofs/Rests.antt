@@ -5,7 +5,7 @@ use Rattle.std.proofs.Common.{refl, sym, ap, ◌∙◌, subst, inl, inr}
 use Rattle.std.proofs.lemmas.List.Elements.{Contains-append_left, Contains-append_right, Contains-append_cases}
 use Rattle.sd_value.specs.Members.{Contains-nil, Contains-cons_cases, Contains-here, Contains-flat_map, Contains-flat_mapped}
 use Rattle.graph_spec.specs.DataGraph.{Name}
-use Rattle.query_spec.specs.Query.{SkolemTerm, Target, plain, made, LinkLabel, quoted, label_variable, Link, Collect, Body as Block}
+use Rattle.query_spec.specs.Query.{SkolemTerm, Target, plain, made, summed, LinkLabel, quoted, label_variable, Link, Collect, Body as Block}
 use Rattle.query_spec.specs.Mentions.{same_name}
 use Rattle.site_spec.specs.Site.{SomeOf, target_terms, ends_of, terms_of}
 use Rattle.tmpl.specs.Body.{Body}
@@ -64,6 +64,7 @@ module _ (function : Name) where
   target_says : (target : Target) → Says (is_made_of function target) (SomeOf Names (target_terms target))
   unfolding Names
   target_says (plain operand) = (λ e. cc, λ h. absurd (Contains-nil h.item h.within))
+  target_says (summed a) = (λ e. cc, λ h. absurd (Contains-nil h.item h.within))
   target_says (made t) =
       told_as (same_name t.function function) (t.function ≡ function) (SomeOf Names (t ∷ [])) (same t.function function)
       (λ e. record { item = t; within = Contains-here t []; holds = e })
@@ -111,6 +112,7 @@ module _ (function : Name) where
   made_says : (target : Target) → Says (is_made_of function target) ((s : SkolemTerm) × (target ≡ made s)
       × (s.function ≡ function))
   made_says (plain operand) = (λ e. cc, λ (s, is, f). (let impossible : ⊥ = cc in absurd impossible))
+  made_says (summed a) = (λ e. cc, λ (s, is, f). (let impossible : ⊥ = cc in absurd impossible))
   made_says (made t) = (
     λ e. (t, refl, (same t.function function).0 e),
     λ (s, is, f). (same t.function function).1

@@ -31,16 +31,16 @@ module _ (Fits : DataGraph → Type 0) (q p t : Scope) (c : Constraint) (rest : 
     ),
   )
 
-  behind : (P : DataGraph → Type 0) → P empty_graph → (found : Option DataGraph) → IsFirstWithout Fits P rest found → IsFirstWithout Fits P (empty_graph ∷ rest) found
-  behind P p None all = All-cons (λ (z : DataGraph). Fits z → P z) empty_graph rest (λ fits. p) all
+  behind : (P : DataGraph → Type 0) → (Fits empty_graph → P empty_graph) → (found : Option DataGraph) → IsFirstWithout Fits P rest found → IsFirstWithout Fits P (empty_graph ∷ rest) found
+  behind P p None all = All-cons (λ (z : DataGraph). Fits z → P z) empty_graph rest p all
   behind P p (Some G) (before, after, e, all, fits, broken) =
-      (empty_graph ∷ before, after, ap (λ (l : List DataGraph). empty_graph ∷ l) e, All-cons (λ (z : DataGraph). Fits z → P z) empty_graph before (λ fits. p) all, fits, broken)
+      (empty_graph ∷ before, after, ap (λ (l : List DataGraph). empty_graph ∷ l) e, All-cons (λ (z : DataGraph). Fits z → P z) empty_graph before p all, fits, broken)
 
   -- the empty graph isn't, and what is found of the others
-  pub later : Meets E t c → (found : Option DataGraph) → IsFirstWithout Fits (λ G. Meets G t c) rest found → IsFirstBroken Fits q c found
+  pub later : (Fits E → Meets E t c) → (found : Option DataGraph) → IsFirstWithout Fits (λ G. Meets G t c) rest found → IsFirstBroken Fits q c found
   later met found h = (
     empty_graph ∷ rest,
     candidates,
-    behind (λ G. Meets G q c) (subst (λ (s : Scope). Meets empty_graph s c) tried (subst (λ (z : DataGraph). Meets z t c) (is_empty_graph E empty) met)) found
+    behind (λ G. Meets G q c) (λ fits. subst (λ (s : Scope). Meets empty_graph s c) tried (subst (λ (z : DataGraph). Meets z t c) (is_empty_graph E empty) (met (subst Fits (sym (is_empty_graph E empty)) fits)))) found
         (subst (λ (s : Scope). IsFirstWithout Fits (λ G. Meets G s c) rest found) tried h),
   )

@@ -4,6 +4,7 @@
 
 ghost use Rattle.std.specs.Prelude.{◌≡◌, IfOk, Some};
 ghost use Rattle.sd_graph.specs.ProgramLimits.{IsWithinProgram};
+ghost use Rattle.refute_site.specs.Trying.{IsTried};
 ghost use Rattle.site_spec.specs.Site.{scope_of, Scope};
 ghost use Rattle.graph_spec.specs.DataGraph.{DataGraph};
 ghost use Rattle.constraint_spec.specs.declared.Constraint.{Constraint as TheConstraint};
@@ -31,8 +32,8 @@ use sd_graph::{Graph, GraphBuilder, PROGRAM_LIMITS};
 use sd_value::NoMemory;
 use std::alloc::Global;
 
-/// The first of the constraint's candidates that are within the program's limits over which the query's site doesn't
-/// meet the constraint, and none exactly if it meets it over each of these. The candidates are made one after another.
+/// The first of the constraint's candidates that are tried over which the query's site doesn't meet the constraint, and
+/// none exactly if it meets it over each of these. The candidates are made one after another.
 /// # Errors
 /// Out of memory.
 pub fn first_broken<T: Oracle>(
@@ -46,19 +47,20 @@ pub fn first_broken<T: Oracle>(
     ensures own { T.Own trial.new }
     ensures scope { T.scope trial.new ≡ T.scope trial.old }
     ensures first { IfOk result
-        (IsFirstBroken IsWithinProgram (scope_of query.now) constraint.now) }
+        (IsFirstBroken (IsTried (scope_of query.now)) (scope_of query.now) constraint.now) }
 {
-    let candidates = candidates_of(alloc, query.blocks(), constraint)?;
+    let blocks = query.blocks();
+    let candidates = candidates_of(alloc, blocks, constraint)?;
     let empty = GraphBuilder::new(alloc, PROGRAM_LIMITS);
-    if let Some(refuted) = refuting(alloc, empty, constraint, trial)? {
+    if let Some(refuted) = refuting(alloc, blocks, empty, constraint, trial)? {
         return Ok(Some(refuted));
     }
-    first_refuting(alloc, &candidates, constraint, trial)
+    first_refuting(alloc, blocks, &candidates, constraint, trial)
 }
 
 /// The graph that is found is within the program's limits, and the query's site over it doesn't meet the constraint.
 pub fn what_is_found_is_a_counterexample()
     ensures { (q : Scope) (c : TheConstraint) (G : DataGraph)
-        → IsFirstBroken IsWithinProgram q c (Some G)
+        → IsFirstBroken (IsTried q) q c (Some G)
         → IsWithinProgram G × (Meets G q c → ⊥) }
 {}

@@ -6,32 +6,41 @@ ghost use Rattle.constraint_spec.specs.Meets.{Meets};
 ghost use Rattle.counterexample_spec.specs.First.{IsFirstWithout};
 ghost use Rattle.refute_site.specs.Candidates.{candidate_graph, HasItsVariables, HaveTheirVariables};
 ghost use Rattle.refute_site.specs.Refuting.{IsRefuting};
+ghost use Rattle.refute_site.specs.Trying.{IsTried};
+ghost use Rattle.query_blocks.specs.Blocks.{scope_of, AreCheckedBlocks};
 
 use crate::candidate::Candidate;
 use crate::oracle::Oracle;
 use constraint_spec::Constraint;
+use query_blocks::QueryBlocks;
 use sd_graph::{Graph, GraphBuilder};
 use sd_value::NoMemory;
 use std::alloc::Global;
+use trial_size::is_small;
 
-/// The graph that is built, if the query's site over it doesn't meet the constraint.
+/// The graph that is built, if it is tried and the query's site over it doesn't meet the constraint.
 /// # Errors
 /// Out of memory.
 pub(crate) fn refuting<T: Oracle>(
     alloc: Global,
+    blocks: &QueryBlocks,
     builder: GraphBuilder,
     constraint: &Constraint,
     trial: &mut T,
 ) -> Result<Option<Graph>, NoMemory>
     requires own { T.Own trial.old }
+    requires checked { AreCheckedBlocks blocks.now.version blocks.now.blocks.items }
     requires within { IsWithinProgram builder.graph }
     ensures own { T.Own trial.new }
     ensures scope { T.scope trial.new ≡ T.scope trial.old }
-    ensures first { IfOk result (IsRefuting IsWithinProgram
+    ensures first { IfOk result (IsRefuting (IsTried (scope_of blocks.now))
         (λ (G : DataGraph). Meets G (T.scope trial.old) constraint.now) builder.graph) }
 {
     let same = builder.copy(alloc)?;
     let graph = builder.finish(alloc)?;
+    if !is_small(&graph, blocks) {
+        return Ok(None);
+    }
     if trial.met(alloc, graph, constraint)? {
         return Ok(None);
     }
@@ -39,48 +48,52 @@ pub(crate) fn refuting<T: Oracle>(
     Ok(Some(graph))
 }
 
-// The candidate's graph, if it is within the program's limits and the query's site over it doesn't meet
+// The candidate's graph, if it is tried and the query's site over it doesn't meet
 // the constraint.
 fn refuting_candidate<T: Oracle>(
     alloc: Global,
+    blocks: &QueryBlocks,
     candidate: &Candidate,
     constraint: &Constraint,
     trial: &mut T,
 ) -> Result<Option<Graph>, NoMemory>
     requires own { T.Own trial.old }
+    requires checked { AreCheckedBlocks blocks.now.version blocks.now.blocks.items }
     requires variables { HasItsVariables candidate.now }
     ensures own { T.Own trial.new }
     ensures scope { T.scope trial.new ≡ T.scope trial.old }
-    ensures first { IfOk result (IsRefuting IsWithinProgram
+    ensures first { IfOk result (IsRefuting (IsTried (scope_of blocks.now))
         (λ (G : DataGraph). Meets G (T.scope trial.old) constraint.now)
         (candidate_graph candidate.now)) }
 {
     match candidate.graph(alloc)? {
         None => Ok(None),
-        Some(builder) => refuting(alloc, builder, constraint, trial),
+        Some(builder) => refuting(alloc, blocks, builder, constraint, trial),
     }
 }
 
-/// The graph of the first of the candidates that are within the program's limits over which the query's site doesn't
+/// The graph of the first of the candidates that are tried over which the query's site doesn't
 /// meet the constraint. No graph is made after it.
 /// # Errors
 /// Out of memory.
 pub(crate) fn first_refuting<T: Oracle>(
     alloc: Global,
+    blocks: &QueryBlocks,
     candidates: &[Candidate],
     constraint: &Constraint,
     trial: &mut T,
 ) -> Result<Option<Graph>, NoMemory>
     requires own { T.Own trial.old }
+    requires checked { AreCheckedBlocks blocks.now.version blocks.now.blocks.items }
     requires variables { HaveTheirVariables candidates.now }
     ensures own { T.Own trial.new }
     ensures scope { T.scope trial.new ≡ T.scope trial.old }
-    ensures first { IfOk result (IsFirstWithout IsWithinProgram
+    ensures first { IfOk result (IsFirstWithout (IsTried (scope_of blocks.now))
         (λ (G : DataGraph). Meets G (T.scope trial.old) constraint.now)
         (map candidate_graph candidates.now)) }
 {
     for candidate in candidates {
-        if let Some(refuted) = refuting_candidate(alloc, candidate, constraint, trial)? {
+        if let Some(refuted) = refuting_candidate(alloc, blocks, candidate, constraint, trial)? {
             return Ok(Some(refuted));
         }
     }

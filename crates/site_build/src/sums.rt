@@ -113,7 +113,8 @@ fn add_sum(
         made.old.keys made.new.keys) }
 {
     match &link.target {
-        Target::Plain(_) | Target::Made(_) => Ok(()),
+        Target::Plain(_) => Ok(()),
+        Target::Made(_) => Ok(()),
         Target::Summed(aggregate, _) => {
             add_summed(alloc, variables, rows, link, aggregate, made)?;
             Ok(())

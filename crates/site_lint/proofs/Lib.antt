@@ -1,3 +1,4 @@
 mod NameLists
 mod Data
 mod Marks
+mod LinkLaws

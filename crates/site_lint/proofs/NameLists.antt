@@ -60,11 +60,6 @@ pub if_ok_and : (r : Result Bool NoMemory) (A B : Type 0) → B → IfOk r (λ b
 if_ok_and (Ok b) A B here h = (λ t. (h.0 t, here), λ p. h.1 p.0)
 if_ok_and (Err e) A B here h = tt
 
--- the same, with what is known before what is decided
-pub both_if_ok : (r : Result Bool NoMemory) (A B : Type 0) → A → IfOk r (λ b. IsTrue b ↔ B) → IfOk r (λ b. IsTrue b ↔ (A × B))
-both_if_ok (Ok b) A B here h = (λ t. (here, h.0 t), λ p. h.1 p.1)
-both_if_ok (Err e) A B here h = tt
-
 -- ---- of conditions
 
 or_grouped : (a b c : Bool) → (a || (b || c)) ≡ ((a || b) || c)
@@ -89,3 +84,21 @@ pub some_has : (f : plain.Condition → List Name) (x : Name) (cs : List declare
 some_has f x cs all b same e =
     e ∙ (sym (any_mapped (λ c. list_any (same_name x) (f c)) condition_of cs)
     ∙ (sym (any_flat (same_name x) f (map condition_of cs)) ∙ ap (λ (ks : List plain.Condition). list_any (same_name x) (flat_map f ks)) same))
+
+-- ---- the same said of other names
+
+pub same_absent : {A B : Type 0} → (A ↔ B) → (A → ⊥) ↔ (B → ⊥)
+same_absent h = (λ n b. n (h.1 b), λ n a. n (h.0 a))
+
+pub other_last : {A B C : Type 0} (b : Bool) → IsTrue b ↔ (C × A) → (A ↔ B) → IsTrue b ↔ (C × B)
+other_last b h same = (λ t. (let p = h.0 t in (p.0, same.0 p.1)), λ p. h.1 (p.0, same.1 p.1))
+
+pub other_first : {A B C : Type 0} (b : Bool) → IsTrue b ↔ (A × C) → (A ↔ B) → IsTrue b ↔ (B × C)
+other_first b h same = (λ t. (let p = h.0 t in (same.0 p.0, p.1)), λ p. h.1 (same.1 p.0, p.1))
+
+pub first_if_ok : (A B C : Type 0) (r : Result Bool NoMemory) → IfOk r (λ b. IsTrue b ↔ (A × C)) → (A ↔ B) → IfOk r (λ b. IsTrue b ↔ (B × C))
+first_if_ok A B C (Ok b) h same = other_first b h same
+first_if_ok A B C (Err e) h same = tt
+
+pub other_all : {A B : Type 0} (b : Bool) → IsTrue b ↔ A → (A ↔ B) → IsTrue b ↔ B
+other_all b h same = (λ t. same.0 (h.0 t), λ z. h.1 (same.1 z))

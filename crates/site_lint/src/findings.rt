@@ -6,6 +6,7 @@ ghost use Rattle.tmpl.specs.Reading.{file_of};
 ghost use Rattle.lint_spec.specs.Mistakes.{IsMistake, has_active_end};
 ghost use Rattle.lint_spec.specs.Findings.{number_of, is_note, finding, AreFindings};
 ghost use Rattle.site_lint.specs.Judged.{HasNames, AreWithoutRows};
+ghost use Rattle.site_lint.specs.Links.{HasLinks};
 
 use crate::judged::{LintedSite, is_mistake};
 use crate::links::LinkAnswers;
@@ -65,8 +66,10 @@ pub fn findings_of<S: Store, L: LinkAnswers>(
     site: &LintedSite<S, L>,
     claims: &[Claim],
 ) -> Result<Vec<Finding>, NoMemory>
-    requires own { L.Own site.now.links.now }
-    requires links { L.query site.now.links.now ≡ scope_of site.now.blocks.now }
+    requires own { L.Own site.now.answers.now }
+    requires query { L.query site.now.answers.now ≡ scope_of site.now.blocks.now }
+    requires links { HasLinks (L.query site.now.answers.now) site.now.names.now.created
+        site.now.further.now site.now.links.now }
     requires checked { AreCheckedBlocks site.now.blocks.now.version
         site.now.blocks.now.blocks.items }
     requires names { HasNames (scope_of site.now.blocks.now).bodies

@@ -5,15 +5,18 @@ ghost use Rattle.std.specs.Prelude.{slice_get, Some, true, option_copied};
 ghost use Rattle.std.specs.List.{flat_map};
 ghost use Rattle.graph_spec.specs.DataGraph.{IsLabelOf};
 ghost use Rattle.query_spec.specs.Mentions.{arc_names};
+ghost use Rattle.site_spec.specs.Site.{Scope};
 ghost use Rattle.query_blocks.specs.Blocks.{scope_of, AreCheckedBlocks};
 ghost use Rattle.tmpl.specs.Reading.{file_of};
 ghost use Rattle.lint_spec.specs.Mistakes.{IsMistake, NoLinkOf, outright_names, OfBlock, has_active_end};
 ghost use Rattle.site_lint.specs.Judged.{HasNames, AreWithoutRows};
+ghost use Rattle.site_lint.specs.Links.{HasLinks, AreLabelsOf};
 
 use crate::conditions::{is_arc, is_unbounded};
-use crate::links::LinkAnswers;
+use crate::links::{LinkAnswers, SiteLinks, has_none, none_has};
 use crate::lookups::{has_unknown, is_absent, is_empty_collection, is_only_collected, is_unknown};
 use crate::names::SiteNames;
+use link_index::NameSet;
 use lint_spec::Asked;
 use query_blocks::{QueryBlock, QueryBlocks};
 use sd_value::{NoMemory, Str};
@@ -21,13 +24,14 @@ use std::alloc::Global;
 use store::Store;
 use tmpl::Templates;
 
-/// A site whose texts are judged: its data, what answers for its links, its blocks, its templates and
-/// the labels by which their words go on, its names, for each block whether it has no row, and whether
-/// an edge of the data ends at an active address.
+/// A site whose texts are judged: its data, what answers for the links of its query and these, its blocks, its templates
+/// and the labels by which their words go on, its names, for each block whether it has no row, and whether an edge of the
+/// data ends at an active address.
 #[derive(Drop)]
-pub struct LintedSite<'a, S, L> {
+pub struct LintedSite<'a, 'b, S, L> {
     pub store: &'a S,
-    pub links: &'a L,
+    pub answers: &'a L,
+    pub links: &'a SiteLinks<'b>,
     pub blocks: &'a QueryBlocks,
     pub templates: &'a Templates,
     pub further: &'a [Str],
@@ -83,82 +87,37 @@ fn is_other(root: &Option<Str>, function: &Str) -> bool
     }
 }
 
-// Whether no link of one of the functions may carry the label.
-fn none_has_link<L: LinkAnswers>(
-    alloc: Global,
-    links: &L,
-    functions: &[Str],
-    label: &Str,
-) -> Result<bool, NoMemory>
-    requires { L.Own links.now }
-    ensures { IfOk result (λ none. IsTrue none ↔ ((f : List ℕ) → Contains functions.now f
-        → NoLinkOf (L.query links.now) f label.now)) }
-{
-    for function in functions {
-        if !links.has_none(alloc, function, label)? {
-            return Ok(false);
-        }
-    }
-    Ok(true)
-}
-
 // Whether no link of one of the functions may carry the label, and no edge has it.
 fn is_unknown_step<S: Store, L: LinkAnswers>(
     alloc: Global,
     store: &S,
-    links: &L,
-    functions: &[Str],
+    answers: &L,
+    links: &SiteLinks,
+    functions: &NameSet,
     label: &Str,
 ) -> Result<bool, NoMemory>
-    requires { L.Own links.now }
+    requires own { L.Own answers.now }
+    requires index { links.now.index ≡ L.query answers.now }
+    requires labels { AreLabelsOf (L.query answers.now) functions.now links.now.created_labels }
     ensures { IfOk result (λ b. IsTrue b ↔ ((f : List ℕ) → Contains functions.now f
-        → NoLinkOf (L.query links.now) f label.now)
+        → NoLinkOf (L.query answers.now) f label.now)
         × (IsLabelOf (S.graph store.now) label.now → ⊥)) }
 {
     if is_unknown(store, label) {
-        none_has_link(alloc, links, functions, label)
+        none_has(alloc, answers, links, functions, label)
     } else {
         Ok(false)
     }
-}
-
-// Whether no link of the function may carry one of the labels.
-fn has_no_link<L: LinkAnswers>(
-    alloc: Global,
-    links: &L,
-    function: &Str,
-    labels: &[Str],
-) -> Result<bool, NoMemory>
-    requires { L.Own links.now }
-    ensures { IfOk result (λ none. IsTrue none ↔ ((l : List ℕ) → Contains labels.now l
-        → NoLinkOf (L.query links.now) function.now l)) }
-{
-    for label in labels {
-        if !links.has_none(alloc, function, label)? {
-            return Ok(false);
-        }
-    }
-    Ok(true)
 }
 
 // Whether no template presents the function's pages, and no word goes on from them.
-fn leads_nowhere<L: LinkAnswers>(
-    alloc: Global,
-    links: &L,
-    presented: &[Str],
-    further: &[Str],
-    function: &Str,
-) -> Result<bool, NoMemory>
-    requires { L.Own links.now }
-    ensures { IfOk result (λ b. IsTrue b ↔ (Contains presented.now function.now → ⊥)
-        × ((l : List ℕ) → Contains further.now l
-        → NoLinkOf (L.query links.now) function.now l)) }
+fn leads_nowhere(presented: &NameSet, links: &SiteLinks, function: &Str) -> bool
+    ensures { (q : Scope) (created further : List (List ℕ)) → HasLinks q created further links.now
+        → IsTrue result ↔ (Contains presented.now function.now → ⊥)
+        × ((l : List ℕ) → Contains further l → NoLinkOf q function.now l) }
 {
-    if is_absent(presented, function) {
-        has_no_link(alloc, links, function, further)
-    } else {
-        Ok(false)
-    }
+    is_absent(presented, function)
+        && (is_absent(&links.quoted_on, function) && is_absent(&links.arcs_on, function))
 }
 
 /// Whether what is asked for isn't there.
@@ -169,8 +128,10 @@ pub(crate) fn is_mistake<S: Store, L: LinkAnswers>(
     site: &LintedSite<S, L>,
     what: &Asked,
 ) -> Result<bool, NoMemory>
-    requires own { L.Own site.now.links.now }
-    requires links { L.query site.now.links.now ≡ scope_of site.now.blocks.now }
+    requires own { L.Own site.now.answers.now }
+    requires query { L.query site.now.answers.now ≡ scope_of site.now.blocks.now }
+    requires links { HasLinks (L.query site.now.answers.now) site.now.names.now.created
+        site.now.further.now site.now.links.now }
     requires checked { AreCheckedBlocks site.now.blocks.now.version
         site.now.blocks.now.blocks.items }
     requires names { HasNames (scope_of site.now.blocks.now).bodies
@@ -202,13 +163,20 @@ pub(crate) fn is_mistake<S: Store, L: LinkAnswers>(
         Asked::Created(function) => {
             Ok(is_absent(&names.reached, function) && is_other(&names.root, function))
         }
-        Asked::Linked(function) => {
-            leads_nowhere(alloc, site.links, &names.presented, site.further, function)
-        }
+        Asked::Linked(function) => { Ok(leads_nowhere(&names.presented, site.links, function)) }
         Asked::Presented(function) => Ok(is_absent(&names.created, function)),
-        Asked::LinkOf { function, label } => site.links.has_none(alloc, function, label),
+        Asked::LinkOf { function, label } => {
+            has_none(alloc, site.answers, site.links, function, label)
+        },
         Asked::Step(label) => {
-            is_unknown_step(alloc, site.store, site.links, &names.created, label)
+            is_unknown_step(
+                alloc,
+                site.store,
+                site.answers,
+                site.links,
+                &names.created,
+                label,
+            )
         }
         Asked::Tag | Asked::Shown => Ok(true),
         Asked::Targets => Ok(site.has_active_end),

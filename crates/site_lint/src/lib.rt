@@ -14,6 +14,6 @@ mod rows;
 pub use ends::has_active_end;
 pub use findings::{findings_of, is_note};
 pub use judged::LintedSite;
-pub use links::LinkAnswers;
+pub use links::{LinkAnswers, SiteLinks, links_of};
 pub use names::{SiteNames, names_of};
 pub use rows::blocks_without_rows;

@@ -1,26 +1,18 @@
 //! Names among lists of names, and labels and collections of the data.
 
-ghost use Rattle.std.specs.Prelude.{◌≡◌, ◌↔◌, ℕ, List, Contains, IsTrue};
-ghost use Rattle.std.specs.List.{list_any};
+ghost use Rattle.std.specs.Prelude.{◌↔◌, ℕ, List, Contains, IsTrue};
 ghost use Rattle.graph_spec.specs.DataGraph.{HasMember, IsLabelOf};
-ghost use Rattle.query_spec.specs.Mentions.{same_name};
 ghost use Rattle.site_spec.specs.Site.{SomeOf};
 
+use link_index::NameSet;
 use sd_value::Str;
 use store::Store;
 
-/// Whether the name is among these.
-pub(crate) fn is_among(names: &[Str], name: &Str) -> bool
-    ensures { result ≡ list_any (same_name name.now) names.now }
-{
-    names.iter().any(|n| name == n)
-}
-
 /// Whether the name isn't among these.
-pub(crate) fn is_absent(names: &[Str], name: &Str) -> bool
+pub(crate) fn is_absent(names: &NameSet, name: &Str) -> bool
     ensures { IsTrue result ↔ (Contains names.now name.now → ⊥) }
 {
-    !is_among(names, name)
+    !names.has(name)
 }
 
 // Whether the data have no member of the collection.
@@ -31,7 +23,7 @@ fn has_no_member<S: Store>(store: &S, name: &Str) -> bool
 }
 
 /// Whether the data have no member of the collection, and it isn't among those of COLLECTs.
-pub(crate) fn is_empty_collection<S: Store>(store: &S, collected: &[Str], name: &Str) -> bool
+pub(crate) fn is_empty_collection<S: Store>(store: &S, collected: &NameSet, name: &Str) -> bool
     ensures { IsTrue result ↔ ((n : List ℕ) → HasMember (S.graph store.now) name.now n → ⊥)
         × (Contains collected.now name.now → ⊥) }
 {
@@ -39,11 +31,11 @@ pub(crate) fn is_empty_collection<S: Store>(store: &S, collected: &[Str], name: 
 }
 
 /// Whether the data have no member of the collection, and it is among those of COLLECTs.
-pub(crate) fn is_only_collected<S: Store>(store: &S, collected: &[Str], name: &Str) -> bool
+pub(crate) fn is_only_collected<S: Store>(store: &S, collected: &NameSet, name: &Str) -> bool
     ensures { IsTrue result ↔ ((n : List ℕ) → HasMember (S.graph store.now) name.now n → ⊥)
         × Contains collected.now name.now }
 {
-    has_no_member(store, name) && is_among(collected, name)
+    has_no_member(store, name) && collected.has(name)
 }
 
 /// Whether no edge has the label.

@@ -7,6 +7,7 @@ ghost use Rattle.lint_spec.specs.Mistakes.{root_of as root_page};
 ghost use Rattle.site_lint.specs.Judged.{HasNames};
 
 use crate::gathered::{collected, created, presented, reached};
+use link_index::NameSet;
 use query_blocks::{QueryBlocks, root_of};
 use sd_value::{NoMemory, Str};
 use std::alloc::Global;
@@ -17,10 +18,10 @@ use tmpl::Templates;
 /// the function of the root page.
 #[derive(Drop)]
 pub struct SiteNames {
-    pub created: Vec<Str>,
-    pub collected: Vec<Str>,
-    pub reached: Vec<Str>,
-    pub presented: Vec<Str>,
+    pub created: NameSet,
+    pub collected: NameSet,
+    pub reached: NameSet,
+    pub presented: NameSet,
     pub root: Option<Str>,
 }
 
@@ -46,10 +47,10 @@ pub fn names_of(
     ensures { IfOk result
         (λ names. HasNames (scope_of blocks.now).bodies (file_of templates.now) names) }
 {
-    let created = created(alloc, blocks)?;
-    let collected = collected(alloc, blocks)?;
-    let reached = reached(alloc, blocks)?;
-    let presented = presented(alloc, templates)?;
+    let created = NameSet::of(created(alloc, blocks)?);
+    let collected = NameSet::of(collected(alloc, blocks)?);
+    let reached = NameSet::of(reached(alloc, blocks)?);
+    let presented = NameSet::of(presented(alloc, templates)?);
     let root = root(alloc, blocks)?;
     Ok(SiteNames {
         created,

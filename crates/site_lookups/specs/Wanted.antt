@@ -1,5 +1,5 @@
 -- The variables that a target is made of.
-use Rattle.std.specs.Prelude.{◌≡◌, ℕ, List, Bool, true, Contains, Some, length, slice_get}
+use Rattle.std.specs.Prelude.{◌≡◌, ℕ, List, [], Bool, true, Contains, Some, length, slice_get}
 use Rattle.std.specs.List.{flat_map}
 use Rattle.graph_spec.specs.DataGraph.{Name}
 use Rattle.query_spec.specs.declared.Variable.{Variable}

@@ -205,7 +205,11 @@ fn ends_of_link<A: Asker>(
             let ends = ends_by_sum(alloc, asker, chain, link, aggregate, term, label)?;
             Ok(ends)
         }
-        Target::Plain(_) | Target::Made(_) => {
+        Target::Plain(_) => {
+            let ends = ends_by_rows(alloc, asker, chain, link, &link.target, term, label)?;
+            Ok(ends)
+        }
+        Target::Made(_) => {
             let ends = ends_by_rows(alloc, asker, chain, link, &link.target, term, label)?;
             Ok(ends)
         }

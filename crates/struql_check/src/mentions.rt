@@ -144,9 +144,11 @@ fn push_aggregate(
         ≡ found.old.items ++ aggregate_mentions aggregate.now) }
 {
     match aggregate {
-        Aggregate::Count(name, span) | Aggregate::Min(name, span) | Aggregate::Max(name, span) => {
+        Aggregate::Count(name, span) => {
             push_mention(alloc, found, name, Role::Other, span.start)
         }
+        Aggregate::Min(name, span) => push_mention(alloc, found, name, Role::Other, span.start),
+        Aggregate::Max(name, span) => push_mention(alloc, found, name, Role::Other, span.start),
         Aggregate::Sum {
             value,
             value_span,

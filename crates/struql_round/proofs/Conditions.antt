@@ -70,7 +70,7 @@ value_is (Data (datum.File s)) t h = absurd h
 value_is (Data (datum.Node s)) t h = absurd h
 value_is (Page p) t h = absurd h
 
-is_word : (k : Keyword) (t : Token) → is_keyword k t ≡ true → keyword k (t ∷ []) t.span
+pub is_word : (k : Keyword) (t : Token) → is_keyword k t ≡ true → keyword k (t ∷ []) t.span
 is_word k t is = (t, refl, rw is refl)
 
 more_spelt : (done vs : List Value) (ts : List Token) → ShowsMore vs ts → iterated (text.further (one constant_value)) done ts (done ++ vs)

@@ -3,6 +3,7 @@ pub mod Conditions
 pub mod Terms
 pub mod Lexing
 pub mod Texts
+pub mod LinkEnds
 pub mod QueryTerms
 pub mod Links
 pub mod Blocks

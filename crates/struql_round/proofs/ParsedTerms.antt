@@ -1,7 +1,9 @@
 -- Names, constants, terms, links and conditions that were read can be spelled.
-use Rattle.std.proofs.Common.{◌≡◌, ℕ, zero, suc, ◌<◌, ◌≤◌, ◌^◌, ℤ, pos, Bool, true, false, List, [], ◌∷◌, ◌++◌, refl, sym, subst, arith, inl, inr}
-use Rattle.std.specs.Prelude.{nat_le, nat_eq, neg_ℤ, Option, Some, None}
-use Rattle.std.proofs.lemmas.Bool.{leb-true}
+use Rattle.std.proofs.Common.{◌≡◌, ℕ, zero, suc, ◌<◌, ◌≤◌, ◌^◌, ℤ, pos, Bool, true, false, List, [], ◌∷◌, ◌++◌, refl, sym, ap, subst, arith, inl, inr}
+use Rattle.std.specs.Prelude.{nat_le, nat_eq, neg_ℤ, Option, Some, None, map, codes, ◌&&◌, ◌||◌, if◌then◌else◌}
+use Rattle.std.specs.Str.{bytes_eq}
+use Rattle.std.proofs.lemmas.Slice.Eq.{bytes_eq-Decides}
+use Rattle.std.proofs.lemmas.Bool.{leb-true, and_parts, eqb-true}
 use Rattle.std.specs.Int.Signed.{mag}
 use Rattle.sd_value.specs.declared.Datum.TheVariants as datum
 use Rattle.sd_value.specs.declared.Value.{Value}
@@ -17,16 +19,18 @@ use Rattle.token_reader.specs.Gives.{IsReal}
 use Rattle.token_reader.proofs.Faults.{every_front, every_back}
 use Rattle.struql_ast.specs.declared.Operand.{Operand}
 use Rattle.struql_ast.specs.declared.Operand.TheVariants.{Variable, Constant}
+use Rattle.query_spec.specs.Query as plain
+use Rattle.struql_ast.specs.declared.Aggregate.TheVariants.{Count, Min, Max}
 use Rattle.struql_ast.specs.declared.LinkLabel.{LinkLabel}
 use Rattle.struql_ast.specs.declared.LinkLabel.TheVariants as label
 use Rattle.struql_ast.specs.Reading.{operand_of, label_of}
 use Rattle.struql_ast.specs.Written as tree
 use Rattle.struql_text.specs.declared.keyword.Keyword.{Keyword}
 use Rattle.struql_text.specs.declared.keyword.Word.{Word}
-use Rattle.struql_text.specs.Terminals.{keyword_in, named, name_kind_value, operand_kind_value, constant_kind_value, constant_value, label_kind_value, label_value}
+use Rattle.struql_text.specs.Terminals.{from_to, aggregate_named, is_sum, keyword_in, named, name_kind_value, operand_kind_value, constant_kind_value, constant_value, label_kind_value, label_value}
 use Rattle.struql_text.specs.Grammar as text
 use Rattle.struql_round.specs.ShownParts.{term_kept}
-use Rattle.struql_round.specs.Spellable.{Every, IsSome, IsWord, IsConstant, IsOperand, IsTerm, IsSource, IsTarget, IsLabel, IsLink, IsCollect}
+use Rattle.struql_round.specs.Spellable.{Every, IsSome, IsWord, IsConstant, IsOperand, is_summary, is_one_variable, is_told, IsTerm, IsSource, IsTarget, IsLabel, IsLink, IsCollect}
 use Rattle.struql_round.specs.Kept.{target_kept, link_kept, collect_kept}
 use Rattle.struql_round.proofs.Kept.{some_snoc, some_every, every_mapped, steps_keep}
 
@@ -185,17 +189,109 @@ named_source version x word ts t real (inl (front, back, m, cut, args, (none, sa
     subst (SourceKept version) (sym same) (arguments_term version x word front m (front_real ts front back cut real) args)
 named_source version x word ts t real (inr (none, same)) = subst (SourceKept version) (sym same) word
 
-named_target : (version : ℕ) → (x : Word) → IsWord version x.text → (ts : List Token) (t : tree.Target) → Real ts → text.named_target version x ts t → TargetKept version t
-named_target version x word ts t real (inl (front, back, m, cut, args, (none, same))) =
-    subst (TargetKept version) (sym same) (arguments_term version x word front m (front_real ts front back cut real) args)
-named_target version x word ts t real (inr (none, same)) = subst (TargetKept version) (sym same) word
+-- ---- what a link ends at
+
+last_false : (a b : Bool) → (a && (b && false)) ≡ false
+last_false true true = refl
+last_false true false = refl
+last_false false b = refl
+
+untold_before : (version : ℕ) (f : List ℕ) (os : List Operand) → nat_eq version 3 ≡ false → (nat_eq version 3 && (is_summary f && is_one_variable (map operand_of os))) ≡ false
+untold_before version f os e = ap (λ b. b && (is_summary f && is_one_variable (map operand_of os))) e
+
+no_summary : (a b x y z : Bool) → x ≡ false → y ≡ false → z ≡ false → (a && ((x || (y || z)) && b)) ≡ false
+no_summary true b x y z e f g = rw (e, f, g) refl
+no_summary false b x y z e f g = refl
+
+none_named : (version : ℕ) (w : tree.Term) (v : List ℕ) (span : Span) (os : List Operand) → version ≡ 3 → w.args ≡ Variable v span ∷ [] → TermKept version w → IsWord version v
+    → TargetKept version (text.aggregate_or (aggregate_named w.function v span) w)
+unfolding aggregate_named
+none_named version w v span os three args kept word = by (bytes_eq w.function (codes "count")) (bytes_eq w.function (codes "min")) (bytes_eq w.function (codes "max")) refl refl refl
+  where
+    by : (x y z : Bool) → bytes_eq w.function (codes "count") ≡ x → bytes_eq w.function (codes "min") ≡ y → bytes_eq w.function (codes "max") ≡ z
+        → TargetKept version (text.aggregate_or (if x then Some (Count v span) else (if y then Some (Min v span) else (if z then Some (Max v span) else None))) w)
+    by true y z e f g = (three, word)
+    by false true z e f g = (three, word)
+    by false false true e f g = (three, word)
+    by false false false e f g = (kept, other e f g)
+      where
+        other : bytes_eq w.function (codes "count") ≡ false → bytes_eq w.function (codes "min") ≡ false → bytes_eq w.function (codes "max") ≡ false → is_told version (term_kept w) ≡ false
+        other e f g = no_summary (nat_eq version 3) (is_one_variable (map operand_of w.args)) _ _ _ e f g
+
+called_kept : (version : ℕ) (w : tree.Term) → TermKept version w → TargetKept version (text.called version w)
+called_kept version w kept = by (nat_eq version 3) refl w.args refl
+  where
+    untold : (w : tree.Term) (args : List Operand) → w.args ≡ args → is_one_variable (map operand_of args) ≡ false → is_told version (term_kept w) ≡ false
+    untold w args is one = rw (is, one) (last_false (nat_eq version 3) (is_summary w.function))
+
+    first_word : {v : List ℕ} {span : Span} → w.args ≡ Variable v span ∷ [] → IsWord version v
+    first_word {v} {span} is = (subst (λ os. Every (IsOperand version) (map operand_of os)) is kept.1).0
+
+    by : (b : Bool) → nat_eq version 3 ≡ b → (args : List Operand) → w.args ≡ args → TargetKept version (text.aggregate_or (if b then text.aggregate_of w.function args else None) w)
+    by false e args is = (kept, untold_before version w.function w.args e)
+    by true e [] is = (kept, untold w [] is refl)
+    by true e (Variable v span ∷ []) is = none_named version w v span [] (eqb-true version 3 e) is kept (first_word is)
+    by true e (Variable v span ∷ (o ∷ os)) is = (kept, untold w (Variable v span ∷ (o ∷ os)) is refl)
+    by true e (Constant c span ∷ os) is = (kept, untold w (Constant c span ∷ os) is refl)
+
+-- `sum` is none of the three
+sum_untold : (version : ℕ) (f : List ℕ) (args : List plain.Operand) → is_sum version f ≡ true → is_told version (record { function = f; args = args }) ≡ false
+unfolding is_sum
+sum_untold version f args e =
+    let is : f ≡ codes "sum" = (bytes_eq-Decides f (codes "sum")).0 (and_parts (nat_eq version 3) (bytes_eq f (codes "sum")) e).1 in
+    rw is (never (nat_eq version 3) (is_one_variable args))
+  where
+    never : (a b : Bool) → (a && (false && b)) ≡ false
+    never true b = refl
+    never false b = refl
+
+sum_version : (version : ℕ) (f : List ℕ) → is_sum version f ≡ true → version ≡ 3
+unfolding is_sum
+sum_version version f e = eqb-true version 3 (and_parts (nat_eq version 3) (bytes_eq f (codes "sum")) e).0
+
+module _ (version : ℕ) (f : Word) (word : IsWord version f.text) (sums : is_sum version f.text ≡ true) where
+  sum_kept : (args : List Operand) (span : Span) → Every (IsOperand version) (map operand_of args) → TargetKept version (tree.made (record { function = f.text; args = args; span = span }))
+  sum_kept args span all = ((word, all), sum_untold version f.text (map operand_of args) sums)
+
+  term_end_kept : (first : Operand) → OperandKept version first → (ts : List Token) (t : tree.Target) → Real ts → text.sum_term_end version f first ts t → TargetKept version t
+  term_end_kept first is ts t real (inl (front, back, close, cut, sign, (none, same))) = subst (TargetKept version) (sym same) (sum_kept (first ∷ []) (from_to f.span close) (is, tt))
+  term_end_kept first is ts t real (inr (front, back, comma, cut, sign, (f2, b2, args, cut2, listed, (f3, b3, close, cut3, sign3, (none, same))))) =
+      let args_real = front_real back f2 b2 cut2 (back_real ts front back cut real) in
+      let all = listed_every (text.operand version) (OperandKept version) (is_operand version) f2 args args_real listed in
+      subst (TargetKept version) (sym same) (sum_kept (first ∷ args) (from_to f.span close) (is, every_mapped (IsOperand version) operand_of args all))
+
+  over_kept : (v : List ℕ) (v_span : Span) → IsWord version v → (ts : List Token) (t : tree.Target) → Real ts → text.sum_over version f v v_span ts t → TargetKept version t
+  over_kept v v_span is ts t real (front, back, of, cut, keyword, (f2, b2, x, cut2, name, (f3, b3, close, cut3, sign3, (none, same)))) =
+      let x_real = front_real back f2 b2 cut2 (back_real ts front back cut real) in
+      subst (TargetKept version) (sym same) (sum_version version f.text sums, (is, is_word version f2 x x_real name))
+
+  sum_end_kept : (first : Operand) → OperandKept version first → (ts : List Token) (t : tree.Target) → Real ts → text.sum_end version f first ts t → TargetKept version t
+  sum_end_kept (Variable v span) is ts t real (inl over) = over_kept v span is ts t real over
+  sum_end_kept (Variable v span) is ts t real (inr term) = term_end_kept (Variable v span) is ts t real term
+  sum_end_kept (Constant c span) is ts t real term = term_end_kept (Constant c span) is ts t real term
+
+  sum_target_kept : (ts : List Token) (t : tree.Target) → Real ts → text.sum_target version f ts t → TargetKept version t
+  sum_target_kept ts t real (front, back, opening, cut, sign, inl (f2, b2, m, cut2, (f3, b3, close, cut3, sign3, (none3, same3)), (none, same))) =
+      subst (TargetKept version) (sym same) (subst (λ (w : tree.Term). TargetKept version (tree.made w)) (sym same3) (sum_kept [] (from_to f.span close) tt))
+  sum_target_kept ts t real (front, back, opening, cut, sign, inr (f2, b2, first, cut2, operand, rest)) =
+      let inner = back_real ts front back cut real in
+      sum_end_kept first (is_operand version f2 first (front_real back f2 b2 cut2 inner) operand) b2 t (back_real back f2 b2 cut2 inner) rest
+
+by_sum_kept : (version : ℕ) (b : Bool) (f : Word) → is_sum version f.text ≡ b → IsWord version f.text → (ts : List Token) (t : tree.Target) → Real ts → text.by_sum version b f ts t → TargetKept version t
+by_sum_kept version true f e word ts t real h = sum_target_kept version f word e ts t real h
+by_sum_kept version false f e word ts t real (front, back, m, cut, args, (none, same)) =
+    subst (TargetKept version) (sym same) (called_kept version m (arguments_term version f word front m (front_real ts front back cut real) args))
+
+named_end : (version : ℕ) → (x : Word) → IsWord version x.text → (ts : List Token) (t : tree.Target) → Real ts → text.named_end version x ts t → TargetKept version t
+named_end version x word ts t real (inl h) = by_sum_kept version (is_sum version x.text) x refl word ts t real h
+named_end version x word ts t real (inr (none, same)) = subst (TargetKept version) (sym same) word
 
 is_source : (version : ℕ) → (ts : List Token) (t : tree.Target) → Real ts → text.source version ts t → SourceKept version t
 is_source version ts t real (front, back, x, cut, name, rest) =
     named_source version x (is_word version front x (front_real ts front back cut real) name) back t (back_real ts front back cut real) rest
 
 operand_target : (version : ℕ) → (o : Operand) → OperandKept version o → (ts : List Token) (t : tree.Target) → Real ts → text.operand_target version o ts t → TargetKept version t
-operand_target version (Variable x span) kept ts t real h = named_target version (record { text = x; span = span }) kept ts t real h
+operand_target version (Variable x span) kept ts t real h = named_end version (record { text = x; span = span }) kept ts t real h
 operand_target version (Constant v span) kept ts t real (none, same) = subst (TargetKept version) (sym same) kept
 
 is_target : (version : ℕ) → (ts : List Token) (t : tree.Target) → Real ts → text.target version ts t → TargetKept version t

@@ -21,6 +21,7 @@ use Rattle.struql_text.proofs.TokenParts.{is_that}
 use Rattle.struql_print.specs.Texts.{operand_text, further, joined, term_text, target_text}
 use Rattle.struql_round.specs.ShownParts.{ShowsName, ShowsOperand, ShowsMoreOperands, ShowsArguments, ShowsTerm, term_kept}
 use Rattle.struql_round.proofs.Conditions.{name_is, operand_is}
+use Rattle.struql_round.proofs.LinkEnds.{term_end, told_lexing}
 use Rattle.struql_round.proofs.Terms.{term_spelt}
 use Rattle.struql_round.specs.Spellable.{Every, IsOperand, IsTerm, IsSource, IsTarget}
 use Rattle.struql_round.specs.Kept.{target_kept}
@@ -68,13 +69,6 @@ made_source : (version : ℕ) → (f : SkolemTerm) (tokens : List Token) → Spe
 made_source version f tokens (w, (front, back, word, parts, name, arguments), kept) =
     (tree.made w, (front, back, word, parts, name, inl (back, [], w, sym (append-nil back), arguments, (refl, refl))), ap plain.made kept)
 
-made_target : (version : ℕ) → (f : SkolemTerm) (tokens : List Token) → Spelt (text.term version) term_kept f tokens → Spelt (text.target version) target_kept (plain.made f) tokens
-made_target version f tokens (w, (front, back, word, parts, name, arguments), kept) = (
-  tree.made w,
-  (front, back, text.variable_of word, parts, (name.0, name.1, kind_operand version name.0.span name.0.kind word name.2), inl (back, [], w, sym (append-nil back), arguments, (refl, refl))),
-  ap plain.made kept,
-)
-
 name_source : (version : ℕ) → (x : List ℕ) (tokens : List Token) → Cons (ShowsName version x) Nil tokens → Spelt (text.source version) target_kept (plain.plain (variable x)) tokens
 name_source version x tokens (t, rest, is, shows, none) = (
   tree.plain (Variable x t.span),
@@ -91,11 +85,13 @@ operand_target version (constant v) tokens (t, rest, is, shows, none) =
 pub source_lexing : (version : ℕ) → (t : Target) → IsSource version t → Lexing (Spelt (text.source version) target_kept t) Safe (target_text t)
 source_lexing version (plain.plain (variable x)) is = shown (name_source version x) (same_text x (append-nil x) (name_then version {others = []} x is (λ later w. w) nothing_more))
 source_lexing version (plain.plain (constant v)) is = absurd is
+source_lexing version (plain.summed a) is = absurd is
 source_lexing version (plain.made f) is = before (λ later w. tt) (shown (made_source version f) (term_lexing version f is))
 
 pub target_lexing : (version : ℕ) → (t : Target) → IsTarget version t → Lexing (Spelt (text.target version) target_kept t) Safe (target_text t)
+target_lexing version (plain.summed a) is = before (λ later w. tt) (told_lexing version a is.0 is.1)
 target_lexing version (plain.plain o) is = shown (operand_target version o) (operand_last version o is)
-target_lexing version (plain.made f) is = before (λ later w. tt) (shown (made_target version f) (term_lexing version f is))
+target_lexing version (plain.made f) is = before (λ later w. tt) (shown (term_end version f is.1) (term_shown version f is.0))
 
 -- ---- lists with commas between
 

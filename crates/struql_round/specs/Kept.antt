@@ -2,13 +2,14 @@
 use Rattle.std.specs.Prelude.{map}
 use Rattle.query_spec.specs.Query as plain
 use Rattle.query_spec.specs.Query.{Target, Link, Collect, Body, Blocks, Query}
-use Rattle.struql_ast.specs.Reading.{operand_of, label_of}
+use Rattle.struql_ast.specs.Reading.{operand_of, aggregate_of, label_of}
 use Rattle.struql_ast.specs.Written as tree
 use Rattle.struql_round.specs.ShownParts.{condition_kept, term_kept}
 
 abbrev pub target_kept : tree.Target → Target
 target_kept (tree.plain o) = plain.plain (operand_of o)
 target_kept (tree.made t) = plain.made (term_kept t)
+target_kept (tree.summed a span) = plain.summed (aggregate_of a)
 
 abbrev pub link_kept : tree.Link → Link
 link_kept k = record {

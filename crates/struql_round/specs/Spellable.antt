@@ -1,6 +1,7 @@
 -- Which queries the grammar can spell: names are names and no keywords, constants are numbers of 64 bits and texts, tests
 -- of two texts are in version 3 alone, and the limits are kept. A collection may have any name: where it is none of the grammar, it is quoted.
-use Rattle.std.specs.Prelude.{◌≡◌, ℕ, zero, suc, ◌<◌, ◌^◌, List, [], ◌∷◌, None}
+use Rattle.std.specs.Prelude.{◌≡◌, ℕ, zero, suc, ◌<◌, ◌^◌, Bool, true, false, ◌&&◌, ◌||◌, nat_eq, List, [], ◌∷◌, None, codes}
+use Rattle.std.specs.Str.{bytes_eq}
 use Rattle.std.specs.Int.Signed.{mag}
 use Rattle.sd_value.specs.declared.Datum.TheVariants as datum
 use Rattle.sd_value.specs.declared.Value.{Value}
@@ -11,6 +12,7 @@ use Rattle.query_spec.specs.declared.Op.TheVariants.{Texts}
 use Rattle.query_spec.specs.Mentions.{IsVersion}
 use Rattle.query_spec.specs.Query.{Operand, variable, constant, PathStep, arc_variable, expression, Condition, member}
 use Rattle.query_spec.specs.Query.{path, compare, one_of, kind, negation, SkolemTerm, Target, plain, made, LinkLabel}
+use Rattle.query_spec.specs.Query.{Aggregate, count_of, min_of, max_of, sum_of, summed}
 use Rattle.query_spec.specs.Query.{quoted, label_variable, Link, Collect, Body, Blocks, no_blocks, block, Query}
 use Rattle.struql_text.specs.Terminals.{keyword_in}
 use Rattle.struql_round.specs.Shown.{Fits}
@@ -67,16 +69,37 @@ IsCondition version (negation c) = IsPlain version c
 abbrev pub IsTerm : ℕ → SkolemTerm → Type 0
 IsTerm version f = IsWord version f.function × Every (IsOperand version) f.args
 
+-- `count`, `min` and `max`
+abbrev pub is_summary : List ℕ → Bool
+is_summary f = bytes_eq f (codes "count") || (bytes_eq f (codes "min") || bytes_eq f (codes "max"))
+
+-- one variable
+abbrev pub is_one_variable : List Operand → Bool
+is_one_variable (variable x ∷ []) = true
+is_one_variable os = false
+
+-- a term that version 3 reads as an aggregate at a link's end
+abbrev pub is_told : ℕ → SkolemTerm → Bool
+is_told version f = nat_eq version 3 && (is_summary f.function && is_one_variable f.args)
+
+abbrev pub IsAggregate : ℕ → Aggregate → Type 0
+IsAggregate version (count_of v) = IsWord version v
+IsAggregate version (min_of v) = IsWord version v
+IsAggregate version (max_of v) = IsWord version v
+IsAggregate version (sum_of v x) = IsWord version v × IsWord version x
+
 -- a name or a term
 abbrev pub IsSource : ℕ → Target → Type 0
 IsSource version (plain (variable x)) = IsWord version x
 IsSource version (plain (constant v)) = ⊥
 IsSource version (made f) = IsTerm version f
+IsSource version (summed a) = ⊥
 
--- an operand or a term
+-- an operand, a term, or in version 3 an aggregate
 abbrev pub IsTarget : ℕ → Target → Type 0
 IsTarget version (plain o) = IsOperand version o
-IsTarget version (made f) = IsTerm version f
+IsTarget version (made f) = IsTerm version f × (is_told version f ≡ false)
+IsTarget version (summed a) = (version ≡ 3) × IsAggregate version a
 
 abbrev pub IsLabel : ℕ → LinkLabel → Type 0
 IsLabel version (quoted l) = Unit {0}

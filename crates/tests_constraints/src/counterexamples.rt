@@ -1,6 +1,7 @@
 // Counterexamples of small queries, each beside the data text that was worked out by hand.
 use crate::checks::{check, check_text, scoped_query};
 use crate::lines::told;
+use crate::long::MANY_AUTHORS;
 use crate::verdicts::{VERDICTS, VerdictRow};
 use command_check::SiteOracle;
 use constraints::parse_constraints;
@@ -31,6 +32,18 @@ const TWO_STEPS: &str = "INPUT D WHERE C(x), x -> \"a\".\"b\"* -> y, isInt(y) \
 
 const LISTED_2: &str =
     "STRUQL 2 INPUT D WHERE C(x), x -> a -> y, a in {5} CREATE F(x) LINK F(x) -> a -> y OUTPUT S";
+
+// Five conditions of one label and three of another: 5^5 * 3^3 rows over a graph with as many edges, 84,375, and one
+// of the first block.
+const UNDER_THE_BUDGET: &str = "INPUT D { CREATE Home() } \
+    { WHERE C(x), x -> \"a\" -> a1, x -> \"a\" -> a2, x -> \"a\" -> a3, x -> \"a\" -> a4, x -> \"a\" -> a5, \
+    x -> \"b\" -> b1, x -> \"b\" -> b2, x -> \"b\" -> b3 CREATE F(x) } OUTPUT S";
+
+// Four of one label, three of another, and two of each of two: 4^4 * 3^3 * 2^2 * 2^2 rows, 110,592.
+const OVER_THE_BUDGET: &str = "INPUT D { CREATE Home() } \
+    { WHERE C(x), x -> \"a\" -> a1, x -> \"a\" -> a2, x -> \"a\" -> a3, x -> \"a\" -> a4, \
+    x -> \"b\" -> b1, x -> \"b\" -> b2, x -> \"b\" -> b3, x -> \"c\" -> c1, x -> \"c\" -> c2, \
+    x -> \"d\" -> d1, x -> \"d\" -> d2 CREATE F(x) } OUTPUT S";
 
 const COUNTEREXAMPLES: &[Counterexample] = &[
     Counterexample {
@@ -74,6 +87,29 @@ const COUNTEREXAMPLES: &[Counterexample] = &[
         constraint: "NONE F LINKS \"5\"",
         text: Some("object \"x\" in \"C\" {\n  \"5\" &\"y\"\n}\nobject \"y\" {\n}\n"),
         reason: "the label that is set has the text of the list's number",
+    },
+    Counterexample {
+        query: UNDER_THE_BUDGET,
+        constraint: "REACHABLE F FROM Home",
+        text: Some(
+            "object \"a1\" {\n}\nobject \"a2\" {\n}\nobject \"a3\" {\n}\nobject \"a4\" {\n}\nobject \"a5\" {\n}\n\
+            object \"b1\" {\n}\nobject \"b2\" {\n}\nobject \"b3\" {\n}\nobject \"x\" in \"C\" {\n  \
+            \"a\" &\"a1\"\n  \"a\" &\"a2\"\n  \"a\" &\"a3\"\n  \"a\" &\"a4\"\n  \"a\" &\"a5\"\n  \
+            \"b\" &\"b1\"\n  \"b\" &\"b2\"\n  \"b\" &\"b3\"\n}\n",
+        ),
+        reason: "84,376 rows are tried",
+    },
+    Counterexample {
+        query: OVER_THE_BUDGET,
+        constraint: "REACHABLE F FROM Home",
+        text: None,
+        reason: "110,593 rows are not tried, though the page isn't linked to",
+    },
+    Counterexample {
+        query: MANY_AUTHORS,
+        constraint: "EACH F LINKS \"to\" TO G",
+        text: None,
+        reason: "twenty conditions of one label have 2^20 rows over two edges, and are not tried",
     },
 ];
 

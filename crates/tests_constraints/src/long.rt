@@ -10,7 +10,7 @@ const FEW_AUTHORS: &str = "INPUT D \
     u -> \"by\" -> y5, u -> \"by\" -> y6, y1 -> \"page\" -> z \
     CREATE G(u) LINK F(u) -> \"to\" -> G(u) } OUTPUT S";
 
-const MANY_AUTHORS: &str = "INPUT D \
+pub(crate) const MANY_AUTHORS: &str = "INPUT D \
     { WHERE Book(x), x -> \"by\" -> a, x -> \"by\" -> b, b -> \"page\" -> p CREATE F(x) } \
     { WHERE Book(u), u -> \"by\" -> y1, u -> \"by\" -> y2, u -> \"by\" -> y3, u -> \"by\" -> y4, \
     u -> \"by\" -> y5, u -> \"by\" -> y6, u -> \"by\" -> y7, u -> \"by\" -> y8, \

@@ -516,6 +516,51 @@ fn each_constraint_has_its_verdict(rt: HostRuntime) -> Result<(), Fail> {
     check_verdicts(&rt, VERDICTS)
 }
 
+// No certificate uses a link that ends at an aggregate.
+const SUM_VERDICTS: &[VerdictRow] = &[
+    VerdictRow {
+        query: "STRUQL 3 INPUT D WHERE A(x), x -> \"p\" -> v CREATE F(v) LINK F(v) -> \"n\" -> sum(v OF v) OUTPUT S",
+        constraint: "ONE F LINKS \"n\"",
+        yes: false,
+        reason: "a page of a text has no such link",
+    },
+    VerdictRow {
+        query: "STRUQL 3 INPUT D WHERE A(x) CREATE F(x) LINK F(x) -> \"n\" -> count(x) OUTPUT S",
+        constraint: "ONE F LINKS \"n\"",
+        yes: false,
+        reason: "it holds, but no certificate says so",
+    },
+    VerdictRow {
+        query: "STRUQL 3 INPUT D WHERE A(x) CREATE F(x) LINK F(x) -> \"n\" -> count(x) OUTPUT S",
+        constraint: "ONLY F LINKS \"n\" TO F",
+        yes: false,
+        reason: "a number is no page",
+    },
+    VerdictRow {
+        query: "STRUQL 3 INPUT D WHERE A(x) CREATE F(x) LINK F(x) -> \"n\" -> max(x) OUTPUT S",
+        constraint: "EACH F LINKS \"n\" TO F",
+        yes: false,
+        reason: "a value of a row is no page",
+    },
+    VerdictRow {
+        query: "STRUQL 3 INPUT D WHERE A(x) CREATE F(x) LINK F(x) -> \"n\" -> min(x) OUTPUT S",
+        constraint: "NONE F LINKS \"n\"",
+        yes: false,
+        reason: "it is a link by this label",
+    },
+    VerdictRow {
+        query: "STRUQL 3 INPUT D WHERE A(x) CREATE F(x) LINK F(x) -> \"n\" -> min(x) OUTPUT S",
+        constraint: "NONE F LINKS \"m\"",
+        yes: true,
+        reason: "it is no link by this label",
+    },
+];
+
+#[test]
+fn no_certificate_uses_an_aggregate(rt: HostRuntime) -> Result<(), Fail> {
+    check_verdicts(&rt, SUM_VERDICTS)
+}
+
 #[test]
 fn tests_of_texts_entail_themselves_alone(rt: HostRuntime) -> Result<(), Fail> {
     check_verdicts(&rt, TEXT_VERDICTS)

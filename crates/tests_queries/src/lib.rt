@@ -10,6 +10,8 @@ mod encodings;
 #[cfg(test)]
 mod inputs;
 #[cfg(test)]
+mod links;
+#[cfg(test)]
 mod looked;
 #[cfg(test)]
 mod plans;

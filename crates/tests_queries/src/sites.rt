@@ -5,6 +5,7 @@ mod embeds;
 mod large;
 mod outcomes;
 mod shown;
+mod sums;
 mod texts;
 mod weight;
 
@@ -76,6 +77,7 @@ fn pages_of_each_kind(rt: HostRuntime) -> Result<(), Fail> {
         conditions::SITES,
         shown::SITES,
         embeds::SITES,
+        sums::SITES,
         texts::SITES,
     ] {
         check_sites(&rt, rows)?;

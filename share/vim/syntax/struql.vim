@@ -5,7 +5,7 @@ syntax keyword struqlClause WHERE where CREATE create LINK link COLLECT collect
 syntax keyword struqlOperator NOT not IN in
 syntax keyword struqlAny TRUE true
 syntax keyword struqlTest isInt isText isUrl isFile isNode
-syntax match struqlTest contained "\<\(starts\|ends\|has\)\ze\s*("
+syntax match struqlTest contained "\<\(starts\|ends\|has\|count\|min\|max\|sum\)\ze\s*("
 syntax match struqlCall "\<[A-Za-z_][A-Za-z0-9_]*\ze\s*(" contains=struqlTest,struqlOperator
 syntax match struqlArrow "->"
 syntax match struqlSign "[=<>|*.]\|!=\|<=\|>="

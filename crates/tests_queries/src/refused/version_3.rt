@@ -35,9 +35,54 @@ const TEXTS: &[Refused] = &[
             "STRUQL 3 INPUT D WHERE C(x) CREATE F() COLLECT ^'sum'(x) OUTPUT S",
         ],
     },
+    // Six words more are keywords there, wherever a name may stand.
+    Refused {
+        number: Some(71),
+        texts: &[
+            "STRUQL 3 INPUT D WHERE A(^order) CREATE F(order) OUTPUT S",
+            "STRUQL 3 INPUT D WHERE A(x), x -> ^BY -> y OUTPUT S",
+            "STRUQL 3 INPUT D WHERE ^OF(x) OUTPUT S",
+            "STRUQL 3 INPUT D CREATE ^descend() OUTPUT S",
+            "STRUQL 3 INPUT D WHERE A(x) CREATE F(x) LINK F(x) -> ^FOLD -> x OUTPUT S",
+            "STRUQL 3 INPUT D WHERE A(x) CREATE F(x) COLLECT ^none(x) OUTPUT S",
+            "STRUQL 3 INPUT ^none OUTPUT S",
+            "STRUQL 3 INPUT D OUTPUT ^ORDER",
+        ],
+    },
+    // What a link ends at.
+    Refused {
+        number: Some(61),
+        texts: &[
+            "STRUQL 3 INPUT D WHERE A(x) CREATE F(x) LINK F(x) -> 'n' -> count(^y) OUTPUT S",
+            "STRUQL 3 INPUT D WHERE A(x), x -> 'p' -> p CREATE F(x) LINK F(x) -> 'n' -> sum(p OF ^y) OUTPUT S",
+        ],
+    },
+    Refused {
+        number: Some(62),
+        texts: &[
+            "STRUQL 3 INPUT D WHERE A(x) CREATE F(x) LINK F(x) -> 'n' -> ^count(1) OUTPUT S",
+            "STRUQL 3 INPUT D WHERE A(x), x -> 'p' -> p CREATE F(x) LINK F(x) -> 'n' -> ^sum(p) OUTPUT S",
+            "STRUQL 3 INPUT D WHERE A(x) CREATE F(x) LINK F(x) -> 'n' -> ^sum(x, x) OUTPUT S",
+            "STRUQL 3 INPUT D WHERE A(x) CREATE F(x) LINK F(x) -> 'n' -> ^sum() OUTPUT S",
+            "STRUQL 2 INPUT D WHERE A(x) CREATE F(x) LINK F(x) -> 'n' -> ^count(x) OUTPUT S",
+        ],
+    },
+    Refused {
+        number: Some(71),
+        texts: &[
+            "STRUQL 3 INPUT D WHERE A(x), x -> 'p' -> p CREATE F(x) LINK F(x) -> 'n' -> count(p ^OF x) OUTPUT S",
+            "STRUQL 3 INPUT D WHERE A(x) CREATE F(x) LINK F(x) -> 'n' -> sum(1 ^OF x) OUTPUT S",
+            "STRUQL 3 INPUT D WHERE A(x) CREATE F(x) LINK F(x) -> 'n' -> sum(x OF ^1) OUTPUT S",
+            "STRUQL 2 INPUT D WHERE A(x) CREATE F(x) LINK F(x) -> 'n' -> sum(x ^OF x) OUTPUT S",
+        ],
+    },
     Refused {
         number: None,
         texts: &[
+            // In versions 1 and 2 they are names, and in version 3 in other cases, and quoted.
+            "INPUT order WHERE none(by), by -> of -> fold CREATE DESCEND(by) OUTPUT fold",
+            "STRUQL 2 INPUT D WHERE A(order) CREATE F(order) OUTPUT S",
+            "STRUQL 3 INPUT D WHERE 'order'(x), Order(x), x -> 'by' -> nonE CREATE Fold(x) OUTPUT S",
             "STRUQL 3 INPUT D OUTPUT S",
             "struql 003 INPUT D WHERE starts(x, 'a'), ends('a', x), has(1, 'a') OUTPUT S",
             "STRUQL 3 INPUT D WHERE not(has(x, y)) CREATE F(x, y) OUTPUT S",

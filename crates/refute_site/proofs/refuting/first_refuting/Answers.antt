@@ -1,16 +1,18 @@
 use Rattle.std.proofs.Common.{arith, ◌∙◌, subst}
 use Rattle.graph_spec.specs.DataGraph.{DataGraph}
-use Rattle.sd_graph.specs.ProgramLimits.{IsWithinProgram}
+use Rattle.query_blocks.specs.Blocks.{scope_of}
 use Rattle.site_spec.specs.Site.{Scope}
 use Rattle.constraint_spec.specs.Meets.{Meets}
 use Rattle.refute_site.specs.Candidates.{candidate_graph}
 use Rattle.refute_site.specs.Refuting.{IsRefuting}
+use Rattle.refute_site.specs.Trying.{IsTried}
 use Rattle.refute_site.proofs.Tried.{variables_at, none_met, some_met, one_more, first_here, none_left}
 use Rattle.refute_site.proofs.refuting.first_refuting.Goals as goal
 
 pub refuting_candidate-requires : goal.refuting_candidate-requires
 refuting_candidate-requires g c = record {
   own = c.loop-candidate.invariant.own;
+  checked = c.requires.checked;
   variables = variables_at c.args.candidates.now c.loop-candidate.candidate-index c.candidate-item.result (omega arith) c.candidate-item.is c.requires.variables;
 }
 
@@ -23,9 +25,9 @@ loop-candidate-preserved g c =
       own = c.in_ok-refuted.ensures.own;
       scope = c.in_ok-refuted.ensures.scope ∙ c.loop-candidate.invariant.scope;
       met =
-          one_more IsWithinProgram (λ (G : DataGraph). Meets G s k) candidate_graph c.args.candidates.now c.loop-candidate.candidate-index c.candidate-item.result (omega arith) c.candidate-item.is c.loop-candidate.invariant.met
-          (none_met IsWithinProgram (λ (G : DataGraph). Meets G s k) G c.in_ok-refuted.field-0 c.in_default.is
-          (subst (λ (t : Scope). IsRefuting IsWithinProgram (λ (G : DataGraph). Meets G t k) G c.in_ok-refuted.field-0) c.loop-candidate.invariant.scope c.in_ok-refuted.ensures.first));
+          one_more (IsTried (scope_of c.args.blocks.now)) (λ (G : DataGraph). Meets G s k) candidate_graph c.args.candidates.now c.loop-candidate.candidate-index c.candidate-item.result (omega arith) c.candidate-item.is c.loop-candidate.invariant.met
+          (none_met (IsTried (scope_of c.args.blocks.now)) (λ (G : DataGraph). Meets G s k) G c.in_ok-refuted.field-0 c.in_default.is
+          (subst (λ (t : Scope). IsRefuting (IsTried (scope_of c.args.blocks.now)) (λ (G : DataGraph). Meets G t k) G c.in_ok-refuted.field-0) c.loop-candidate.invariant.scope c.in_ok-refuted.ensures.first));
     }
 
 pub returns-in-Some-clause-first : goal.returns-in-Some-clause-first
@@ -33,10 +35,10 @@ returns-in-Some-clause-first g c =
     let G : DataGraph = candidate_graph c.candidate-item.result in
     let s : Scope = g.T.Oracle.scope c.args.trial.now in
     let k = c.args.constraint.now in
-    first_here IsWithinProgram (λ (G : DataGraph). Meets G s k) candidate_graph c.args.candidates.now c.loop-candidate.candidate-index c.candidate-item.result c.in-Some.refuted (omega arith) c.candidate-item.is c.loop-candidate.invariant.met
-    (some_met IsWithinProgram (λ (G : DataGraph). Meets G s k) G c.in-Some.refuted c.in_ok-refuted.field-0 c.in-Some.is
-    (subst (λ (t : Scope). IsRefuting IsWithinProgram (λ (G : DataGraph). Meets G t k) G c.in_ok-refuted.field-0) c.loop-candidate.invariant.scope c.in_ok-refuted.ensures.first))
+    first_here (IsTried (scope_of c.args.blocks.now)) (λ (G : DataGraph). Meets G s k) candidate_graph c.args.candidates.now c.loop-candidate.candidate-index c.candidate-item.result c.in-Some.refuted (omega arith) c.candidate-item.is c.loop-candidate.invariant.met
+    (some_met (IsTried (scope_of c.args.blocks.now)) (λ (G : DataGraph). Meets G s k) G c.in-Some.refuted c.in_ok-refuted.field-0 c.in-Some.is
+    (subst (λ (t : Scope). IsRefuting (IsTried (scope_of c.args.blocks.now)) (λ (G : DataGraph). Meets G t k) G c.in_ok-refuted.field-0) c.loop-candidate.invariant.scope c.in_ok-refuted.ensures.first))
 
 pub returns-clause-first : goal.returns-clause-first
 returns-clause-first g c =
-    none_left IsWithinProgram (λ (G : DataGraph). Meets G (g.T.Oracle.scope c.args.trial.now) c.args.constraint.now) candidate_graph c.args.candidates.now c.loop-candidate.candidate-index (omega arith) c.loop-candidate.invariant.met
+    none_left (IsTried (scope_of c.args.blocks.now)) (λ (G : DataGraph). Meets G (g.T.Oracle.scope c.args.trial.now) c.args.constraint.now) candidate_graph c.args.candidates.now c.loop-candidate.candidate-index (omega arith) c.loop-candidate.invariant.met

@@ -7,6 +7,6 @@ use Rattle.site_lint.proofs.judged.is_unknown_step.Goals as goal
 
 pub returns-then-is_unknown : goal.returns-then-is_unknown
 returns-then-is_unknown g c =
-    if_ok_and c.none_has_link.result ((f : List ℕ) → Contains c.args.functions.now f → NoLinkOf (g.L.LinkAnswers.query c.args.links.now) f c.args.label.now)
+    if_ok_and c.none_has.result ((f : List ℕ) → Contains c.args.functions.now f → NoLinkOf (g.L.LinkAnswers.query c.args.answers.now) f c.args.label.now)
     (IsLabelOf (g.S.Store.graph c.args.store.now) c.args.label.now → ⊥)
-    (c.is_unknown.ensures.0 c.if-is_unknown.true) c.none_has_link.ensures
+    (c.is_unknown.ensures.0 c.if-is_unknown.true) c.none_has.ensures

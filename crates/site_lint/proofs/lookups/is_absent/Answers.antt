@@ -1,5 +1,6 @@
-use Rattle.site_lint.proofs.NameLists.{not_among}
+use Rattle.std.specs.Prelude.{Contains}
+use Rattle.site_lint.proofs.NameLists.{turned}
 use Rattle.site_lint.proofs.lookups.is_absent.Goals as goal
 
 pub returns : goal.returns
-returns c = not_among c.is_among.result c.args.name.now c.args.names.now c.is_among.ensures
+returns c = turned c.has.result (Contains c.args.names.now c.args.name.now) c.has.ensures

@@ -2,15 +2,20 @@ use Rattle.site_lookups.proofs.Labels.{none_labelled, none_starts, starts_solved
 use Rattle.site_spec.specs.Site.{IsTermUnder}
 use Rattle.struql_ast.specs.Reading.{term_of, target_of, link_of, operand_of}
 use Rattle.sd_value.specs.Members.{Contains-here}
-use Rattle.std.proofs.Common.{◌≡◌, [], ap, sym, ◌∙◌}
-use Rattle.query_spec.specs.Query.{Operand, SkolemTerm, plain, made}
+use Rattle.std.proofs.Common.{◌≡◌, [], refl, ap, sym, ◌∙◌}
+use Rattle.struql_ast.specs.declared.SkolemTerm.{SkolemTerm as WrittenTerm}
+use Rattle.struql_ast.specs.declared.Target.{Target}
+use Rattle.struql_ast.specs.declared.Target.TheVariants.{Plain, Made, Summed}
+use Rattle.query_spec.specs.Query.{SkolemTerm, made}
 use Rattle.site_lookups.proofs.linked.bound_by.Goals as goal
 
-not_made : (o : Operand) (t : SkolemTerm) → plain o ≡ made t → ⊥
-not_made o t e = cc
+never_made : (t : Target) → ((w : WrittenTerm) → t ≡ Made w → ⊥) → (m : SkolemTerm) → target_of t ≡ made m → ⊥
+never_made (Plain o) n m e = cc
+never_made (Made w) n m e = n w refl
+never_made (Summed a span) n m e = cc
 
 pub returns-in_default : goal.returns-in_default
-returns-in_default c = absurd (not_made (operand_of c.in_default.field-0) c.requires.made.0 (sym (ap target_of c.in_default.is) ∙ c.requires.made.1))
+returns-in_default c = absurd (never_made c.args.link.now.source c.in_default.not-Made c.requires.made.0 c.requires.made.1)
 
 pub matches-requires : goal.matches-requires
 matches-requires c =
