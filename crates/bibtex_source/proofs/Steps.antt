@@ -1,5 +1,5 @@
 -- What the answers of this crate share.
-use Rattle.std.specs.Prelude.{◌≡◌, ◌≤◌, ◌<◌, ◌-◌, ◌==◌, ◌++◌, ℕ, zero, suc, ◌∷◌, [], List, length, map, Bool, true, false, nat_eq, Option, Some, None, if◌then◌else◌, Result, Err, ⊤}
+use Rattle.std.specs.Prelude.{◌≡◌, ◌≤◌, ◌<◌, ◌-◌, ◌==◌, ◌++◌, ℕ, zero, suc, ◌∷◌, [], List, length, Bool, true, false, nat_eq, Option, Some, None, if◌then◌else◌, Result, Err, ⊤}
 use Rattle.std.proofs.Common.{refl, sym, ◌∙◌, ap, subst, inl, inr, arith}
 use Rattle.std.proofs.lemmas.Bool.{eqb-true}
 use Rattle.grammar.specs.Reading.{Outcome, Read, Stuck, Past}
@@ -11,7 +11,7 @@ use Rattle.sd_graph.specs.declared.GraphRefusal.{GraphRefusal}
 use Rattle.bibtex_spec.specs.declared.Item.{Item}
 use Rattle.bibtex_source.specs.declared.refusal.BibRefusal.{BibRefusal}
 use Rattle.bibtex_source.specs.declared.refusal.BibRefusal.TheVariants.{Expected, UnknownMacro, TooDeep, TooLarge, TooManyEdges, TooManyNodes, NoMemory}
-use Rattle.bibtex_spec.specs.Bytes.{is_junk, is_name_byte, lower, run, behind}
+use Rattle.bibtex_spec.specs.Bytes.{is_junk, is_name_byte, run, behind}
 use Rattle.bibtex_spec.specs.Macros.{MacroTexts, text_of}
 use Rattle.bibtex_spec.specs.Reading.{read_item}
 use Rattle.bibtex_source.specs.Text.{BibStep, bib_ending, macro_fault, limit_fault, IsFaultOf, IsItemFault, item_steps, macros_behind, read_steps, marked_steps, steps_within}
@@ -42,9 +42,9 @@ limit_ends : (b : Building) (whole : ℕ) (macros : MacroTexts) (rest : List ℕ
 limit_ends b whole macros [] e is = macro_ends b (whole - 0) (text_of macros []) e is
 limit_ends b whole macros (x ∷ rest) e is = by (nat_eq 123 x) is
   where
-    by : (p : Bool) → e ≡ (if p then TooDeep (whole - length (x ∷ rest)) else macro_fault (whole - length (x ∷ rest)) (text_of macros (map lower (run is_name_byte (x ∷ rest))))) → Ends b (fails (if p then TooDeep (whole - length (x ∷ rest)) else macro_fault (whole - length (x ∷ rest)) (text_of macros (map lower (run is_name_byte (x ∷ rest))))) ∷ []) b (bib_ending (Err e))
+    by : (p : Bool) → e ≡ (if p then TooDeep (whole - length (x ∷ rest)) else macro_fault (whole - length (x ∷ rest)) (text_of macros (run is_name_byte (x ∷ rest)))) → Ends b (fails (if p then TooDeep (whole - length (x ∷ rest)) else macro_fault (whole - length (x ∷ rest)) (text_of macros (run is_name_byte (x ∷ rest)))) ∷ []) b (bib_ending (Err e))
     by true is = rw is ([], [], refl, refl)
-    by false is = macro_ends b (whole - length (x ∷ rest)) (text_of macros (map lower (run is_name_byte (x ∷ rest)))) e is
+    by false is = macro_ends b (whole - length (x ∷ rest)) (text_of macros (run is_name_byte (x ∷ rest))) e is
 
 fault_ends : (b : Building) (stem : Name) (whole : ℕ) (macros : MacroTexts) (later : MacroTexts → List ℕ → List BibStep) (read : Outcome ℕ Item) (e : BibRefusal) → IsFaultOf whole macros read e → Ends b (read_steps stem whole macros later read) b (bib_ending (Err e))
 fault_ends b stem whole macros later (Read item rest) e is = absurd is

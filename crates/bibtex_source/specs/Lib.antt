@@ -1,4 +1,5 @@
 pub mod Gives
+pub mod Rules
 pub mod Text
 pub mod Reads
 pub mod Spelled

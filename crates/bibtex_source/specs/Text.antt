@@ -1,10 +1,9 @@
 -- What a BibTeX text states of a data graph, step by step.
-use Rattle.std.specs.Prelude.{◌≡◌, ◌⊎◌, ◌-◌, ◌==◌, ℕ, zero, suc, false, List, [], ◌∷◌, ◌++◌, length, map, nat_eq, if◌then◌else◌, Option, Some, None, Result, Ok, Err, ⊤}
+use Rattle.std.specs.Prelude.{◌≡◌, ◌⊎◌, ◌-◌, ◌==◌, ℕ, zero, suc, false, List, [], ◌∷◌, ◌++◌, length, nat_eq, if◌then◌else◌, Option, Some, None, Result, Ok, Err, ⊤}
 use Rattle.grammar.specs.Reading.{Outcome, Read, Stuck, Past, starts}
 use Rattle.graph_spec.specs.DataGraph.{Name}
 use Rattle.sd_graph.specs.Statement.{a_node, a_member, an_edge}
 use Rattle.sd_graph.specs.Stating.{Step, says, fails, Ending, done, fault, too_many_nodes, too_many_edges, no_memory}
-use Rattle.source_steps.specs.Names.{without_mark}
 use Rattle.source_steps.specs.Fields.{value_of}
 use Rattle.bibtex_spec.specs.declared.Field.{Field}
 use Rattle.bibtex_spec.specs.declared.Entry.{Entry}
@@ -12,10 +11,12 @@ use Rattle.bibtex_spec.specs.declared.Item.{Item}
 use Rattle.bibtex_spec.specs.declared.Item.TheVariants.{Passes, Defines, Enters}
 use Rattle.bibtex_source.specs.declared.refusal.BibRefusal.{BibRefusal}
 use Rattle.bibtex_source.specs.declared.refusal.BibRefusal.TheVariants.{Expected, UnknownMacro, TooDeep, TooLarge, TooManyEdges, TooManyNodes, NoMemory}
-use Rattle.bibtex_spec.specs.Bytes.{is_junk, is_name_byte, lower, run, behind}
+use Rattle.bibtex_spec.specs.Bytes.{is_junk, is_name_byte, run, behind}
 use Rattle.bibtex_spec.specs.Values.{texts_of}
 use Rattle.bibtex_spec.specs.Macros.{MacroTexts, text_of, with_macro, months}
 use Rattle.bibtex_spec.specs.Reading.{read_item}
+use Rattle.bibtex_spec.specs.Clear.{cleared}
+use Rattle.bibtex_source.specs.declared.rules.BibRules.{BibRules}
 
 abbrev pub BibStep : Type 0
 BibStep = Step ℕ BibRefusal
@@ -63,7 +64,7 @@ macro_fault at None = UnknownMacro at
 abbrev pub limit_fault : ℕ → MacroTexts → List ℕ → BibRefusal
 limit_fault whole macros rest =
     if starts (nat_eq 123) rest then TooDeep (whole - length rest)
-    else macro_fault (whole - length rest) (text_of macros (map lower (run is_name_byte rest)))
+    else macro_fault (whole - length rest) (text_of macros (run is_name_byte rest))
 
 -- the fault of a reader that is left without an item
 abbrev pub IsFaultOf : ℕ → MacroTexts → Outcome ℕ Item → BibRefusal → Type 0
@@ -96,13 +97,17 @@ steps_within zero stem whole macros bytes = []
 steps_within (suc turns) stem whole macros bytes =
     marked_steps stem whole macros (steps_within turns stem whole) (behind is_junk bytes)
 
--- all items: there are at most as many as bytes
-abbrev pub items_steps : Name → List ℕ → List BibStep
-items_steps stem bytes = steps_within (length bytes) stem (length bytes) months bytes
+-- all items, with these macros at first: there are at most as many as bytes
+abbrev pub items_steps : Name → MacroTexts → List ℕ → List BibStep
+items_steps stem first bytes = steps_within (length bytes) stem (length bytes) first bytes
 
--- one byte order mark is dropped first, and places count from behind it
-abbrev pub text_steps : Name → List ℕ → List BibStep
-text_steps stem bytes = items_steps stem (without_mark bytes)
+-- the text that is read: by the rules, the bytes with blanks for what is passed over
+abbrev pub text_by : BibRules → List ℕ → List ℕ
+text_by rules bytes = if rules.comments then cleared bytes else bytes
+
+-- the items of the text that is read. A byte order mark is junk, and places count its bytes
+abbrev pub text_steps : BibRules → Name → List ℕ → List BibStep
+text_steps rules stem bytes = items_steps stem (months rules.names) (text_by rules bytes)
 
 abbrev pub bib_ending : Result ⊤ BibRefusal → Ending ℕ BibRefusal
 bib_ending (Ok u) = done

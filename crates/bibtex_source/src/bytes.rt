@@ -121,6 +121,37 @@ pub(crate) fn name_bytes(alloc: Global, bytes: &[u8]) -> Result<(Vec<u8>, &[u8])
     Ok((name, rest))
 }
 
+/// The longest run of a name's bytes as they are written, and the bytes behind it.
+pub(crate) fn written_bytes(alloc: Global, bytes: &[u8]) -> Result<(Vec<u8>, &[u8]), NoMemory>
+    ensures is { IfOk result (λ x. (x.0.items ≡ run specs.is_name_byte bytes.now)
+        × (x.1.now ≡ behind specs.is_name_byte bytes.now)) }
+    ensures shorter { IfOk result (λ x. length x.1.now ≤ length bytes.now) }
+{
+    let mut word = Vec::new(alloc);
+    let mut rest = bytes;
+    'written: while let [b, later @ ..] = rest {
+        if !is_name_byte(*b) {
+            return Ok((word, rest));
+        }
+        word.push(*b)?;
+        rest = later;
+    }
+    Ok((word, rest))
+}
+
+/// These bytes in lower case.
+pub(crate) fn lowered(alloc: Global, bytes: &[u8]) -> Result<Vec<u8>, NoMemory>
+    ensures { IfOk result (λ v. v.items ≡ map specs.lower bytes.now) }
+{
+    let mut word = Vec::new(alloc);
+    let mut rest = bytes;
+    'lowered: while let [b, later @ ..] = rest {
+        word.push(lower(*b))?;
+        rest = later;
+    }
+    Ok(word)
+}
+
 /// The longest run of a key's bytes, and the bytes behind it.
 pub(crate) fn key_bytes(alloc: Global, bytes: &[u8]) -> Result<(Vec<u8>, &[u8]), NoMemory>
     ensures is { IfOk result (λ x. (x.0.items ≡ run specs.is_key_byte bytes.now)

@@ -1,5 +1,5 @@
 // The items of a text, one behind the other.
-ghost use Rattle.std.specs.Prelude.{◌≡◌, ◌-◌, ◌<◌, IfOk, IfErr, OnOk, length, map};
+ghost use Rattle.std.specs.Prelude.{◌≡◌, ◌-◌, ◌<◌, IfOk, IfErr, OnOk, length};
 ghost use Rattle.grammar.specs.Reading.{Read};
 ghost use Rattle.sd_graph.specs.Stating.{Ends};
 ghost use Rattle.bibtex_source.specs.Text.{bib_ending, item_steps, items_steps, macros_behind, limit_fault, IsItemFault, macro_fault};
@@ -8,9 +8,9 @@ ghost use Rattle.bibtex_spec.specs.Bytes.{run};
 ghost use Rattle.bibtex_spec.specs.Macros.{text_of};
 ghost use Rattle.bibtex_spec.specs.Reading.{read_item};
 
-use crate::bytes::{behind_junk, name_bytes};
+use crate::bytes::{behind_junk, written_bytes};
 use crate::halt::Halt;
-use crate::macros::{Macros, months};
+use crate::macros::Macros;
 use crate::reading::item_at;
 use crate::refusal::BibRefusal;
 use crate::statements::add_entry;
@@ -34,11 +34,10 @@ fn macro_fault(
     rest: &[u8],
 ) -> Result<BibRefusal, NoMemory>
     ensures { IfOk result (λ e. e ≡ macro_fault (whole - length rest.now)
-        (text_of macros.now (map spec_bytes.lower (run spec_bytes.is_name_byte rest.now)))) }
+        (text_of macros.now (run spec_bytes.is_name_byte rest.now))) }
 {
-    let (word, _) = name_bytes(alloc, rest)?;
-    let name = Str::of(alloc, word)?;
-    match macros.text(&name) {
+    let (word, _) = written_bytes(alloc, rest)?;
+    match macros.text(alloc, word.as_slice())? {
         Some(_) => Ok(BibRefusal::TooLarge(place_of(whole, rest))),
         None => Ok(BibRefusal::UnknownMacro(place_of(whole, rest))),
     }
@@ -104,12 +103,13 @@ pub(crate) fn add_items(
     alloc: Global,
     graph: &mut GraphBuilder,
     stem: &Str,
+    macros: Macros,
     bytes: &[u8],
 ) -> Result<(), BibRefusal>
-    ensures { Ends graph.old (items_steps stem.now bytes.now) graph.new (bib_ending result) }
+    ensures { Ends graph.old (items_steps stem.now macros bytes.now) graph.new (bib_ending result) }
 {
     let whole = bytes.len() as u64;
-    let mut macros = months(alloc)?;
+    let mut macros = macros;
     let mut rest = bytes;
     'items: loop {
         let marked = behind_junk(rest);

@@ -33,7 +33,7 @@ with_names macros [] = macros
 with_names macros (name ∷ names) = with_names (with_macro macros name name) names
 
 -- the months, by their first three letters
-abbrev pub months : (stand : Bool) → MacroTexts
+unfoldable pub months : (stand : Bool) → MacroTexts
 months stand =
     with_names (record { known = []; stand = stand })
     (codes "jan" ∷ codes "feb" ∷ codes "mar" ∷ codes "apr" ∷ codes "may" ∷ codes "jun"

@@ -30,7 +30,7 @@ pub fn read_source(
         Format::DataText => read_ddl(alloc, bytes, limit, graph)?,
         Format::Csv(stem) => read_csv(alloc, rules.csv, &stem, bytes, graph)?,
         Format::Json(stem) => read_json(alloc, rules.json, &stem, bytes, graph)?,
-        Format::BibTex(stem) => read_bibtex(alloc, &stem, bytes, graph)?,
+        Format::BibTex(stem) => read_bibtex(alloc, rules.bibtex, &stem, bytes, graph)?,
         Format::Database(stem) => {
             read_sqlite(alloc, &stem, bytes, graph)?;
             return Ok(());

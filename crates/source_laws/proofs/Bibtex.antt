@@ -1,22 +1,22 @@
 -- Each BibTeX text has an answer over any graph. Its faults are those of the grammar.
 use Rattle.std.proofs.Common.{◌≡◌, ◌-◌, ℕ, zero, suc, List, [], ◌∷◌, length, refl, sym, subst, Result, Ok, Err}
-use Rattle.std.specs.Prelude.{◌==◌, Bool, true, false, nat_eq, map, Option, Some, None, ⊤, if◌then◌else◌}
+use Rattle.std.specs.Prelude.{◌==◌, Bool, true, false, nat_eq, Option, Some, None, ⊤, if◌then◌else◌}
 use Rattle.grammar.specs.Reading.{Outcome, Read, Stuck, Past, starts}
 use Rattle.graph_spec.specs.DataGraph.{Name}
 use Rattle.sd_graph.specs.Statement.{Building}
 use Rattle.sd_graph.specs.Stating.{Ending, done, fault, too_many_nodes, too_many_edges, no_memory, Ends}
-use Rattle.source_steps.specs.Names.{without_mark}
 use Rattle.bibtex_spec.specs.declared.Field.{Field}
 use Rattle.bibtex_spec.specs.declared.Item.{Item}
 use Rattle.bibtex_spec.specs.declared.Item.TheVariants.{Passes, Defines, Enters}
-use Rattle.bibtex_spec.specs.Bytes.{is_junk, is_name_byte, lower, run, behind}
+use Rattle.bibtex_spec.specs.Bytes.{is_junk, is_name_byte, run, behind}
 use Rattle.bibtex_spec.specs.Values.{texts_of}
 use Rattle.bibtex_spec.specs.Macros.{MacroTexts, text_of, months}
 use Rattle.bibtex_spec.specs.Reading.{read_item}
+use Rattle.bibtex_source.specs.declared.rules.BibRules.{BibRules}
 use Rattle.bibtex_source.specs.declared.refusal.BibRefusal.{BibRefusal}
 use Rattle.bibtex_source.specs.declared.refusal.BibRefusal.TheVariants.{TooDeep, TooManyEdges, TooManyNodes, NoMemory}
 use Rattle.bibtex_source.specs.Text.{BibStep, text_step, texts_steps, field_steps, fields_steps, item_steps, macros_behind, macro_fault, limit_fault}
-use Rattle.bibtex_source.specs.Text.{read_steps, marked_steps, steps_within, text_steps, bib_ending}
+use Rattle.bibtex_source.specs.Text.{read_steps, marked_steps, steps_within, text_by, text_steps, bib_ending}
 use Rattle.bibtex_source.specs.Reads.{Reads}
 use Rattle.source_laws.proofs.Steps.{FailAs, fail_append, fail_choice, IsToldAs, ended}
 
@@ -42,7 +42,7 @@ limit_fails : (whole : ℕ) (macros : MacroTexts) (rest : List ℕ) → IsItself
 limit_fails whole macros rest = by (starts (nat_eq 123) rest)
   where
     named : Option (List ℕ)
-    named = text_of macros (map lower (run is_name_byte rest))
+    named = text_of macros (run is_name_byte rest)
 
     by : (b : Bool) → IsItself (if b then TooDeep (whole - length rest) else macro_fault (whole - length rest) named)
     by true = refl
@@ -71,22 +71,22 @@ module _ (stem : Name) (whole : ℕ) where
   within_fails (suc turns) macros bytes =
       marked_fails macros (steps_within turns stem whole) (within_fails turns) (behind is_junk bytes)
 
-module _ (stem : Name) (bytes : List ℕ) (b : Building) where
+module _ (rules : BibRules) (stem : Name) (bytes : List ℕ) (b : Building) where
   abbrev HasAnswer : Type 0
-  HasAnswer = (c : Building) × (r : Result ⊤ BibRefusal) × (r ≡ Err NoMemory → ⊥) × Reads stem bytes b c r
+  HasAnswer = (c : Building) × (r : Result ⊤ BibRefusal) × (r ≡ Err NoMemory → ⊥) × Reads rules stem bytes b c r
 
   fault_told : (f : BibRefusal) → IsItself f → ◌≡◌ {A = Result ⊤ BibRefusal} (Err f) (Err NoMemory) → ⊥
   fault_told f is e = let other : bib_ending (Err f) ≡ bib_ending (Err NoMemory) = λ i. bib_ending (e i) in cc
 
-  of_ending : (c : Building) (e : Ending ℕ BibRefusal) → IsToldAs IsItself e → Ends b (text_steps stem bytes) c e → HasAnswer
+  of_ending : (c : Building) (e : Ending ℕ BibRefusal) → IsToldAs IsItself e → Ends b (text_steps rules stem bytes) c e → HasAnswer
   of_ending c done told h = (c, Ok tt, (λ none. cc), h)
-  of_ending c (fault f) told h = (c, Err f, fault_told f told, subst (Ends b (text_steps stem bytes) c) (sym told) h)
+  of_ending c (fault f) told h = (c, Err f, fault_told f told, subst (Ends b (text_steps rules stem bytes) c) (sym told) h)
   of_ending c (too_many_nodes k) told h = (c, Err (TooManyNodes k), (λ none. cc), h)
   of_ending c (too_many_edges k) told h = (c, Err (TooManyEdges k), (λ none. cc), h)
   of_ending c no_memory told h = absurd told
 
   pub bibtex_answer : HasAnswer
   bibtex_answer =
-      let text = without_mark bytes in
-      let e = ended IsItself b (text_steps stem bytes) (within_fails stem (length text) (length text) months text) in
+      let text = text_by rules bytes in
+      let e = ended IsItself b (text_steps rules stem bytes) (within_fails stem (length text) (length text) (months rules.names) text) in
       of_ending e.0 e.1 e.2 e.3
