@@ -1,5 +1,5 @@
-pub mod Runs
 pub mod Tidied
+pub mod Commas
 pub mod Loops
 pub mod Steps
 mod Cleared

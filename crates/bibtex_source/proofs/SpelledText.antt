@@ -45,7 +45,7 @@ name_first macros word later rest whole is all e ends =
     let run_is : run is_name_byte rest ≡ word = ap (run is_name_byte) e ∙ (run_exact is_name_byte word later all ends).0 in
     letter_first macros word later rest whole is e ∙ ap (λ x. macro_fault (whole - length rest) (text_of macros x)) run_is
 
-module _ (stem : Name) (first : MacroTexts) (bytes : List ℕ) where
+module _ (rules : BibRules) (stem : Name) (first : MacroTexts) (bytes : List ℕ) where
   abbrev before : List ℕ
   before = run is_junk bytes
 
@@ -79,11 +79,11 @@ module _ (stem : Name) (first : MacroTexts) (bytes : List ℕ) where
   limit_is : (macros : MacroTexts) (rest : List ℕ) → text_reader first bytes ≡ Past rest → IsFault first macros bytes rest (limit_fault (length bytes) macros rest)
   limit_is macros rest h = let a = is_passed first bytes rest h in limit_by macros rest a.0 a.1 a.2 a.3
 
-  because : (macros : MacroTexts) (rest : List ℕ) (e : BibRefusal) → IsEnd stem (length bytes) macros (items_reader first (length before) marked) rest e → IsFault first macros bytes rest e
+  because : (macros : MacroTexts) (rest : List ℕ) (e : BibRefusal) → IsEnd rules stem (length bytes) macros (items_reader first (length before) marked) rest e → IsFault first macros bytes rest e
   because macros rest e (inl h) = subst (IsFault first macros bytes rest) (sym h.1) (refl, is_first_fault first bytes rest (text_is ∙ h.0))
   because macros rest e (inr h) = subst (IsFault first macros bytes rest) (sym h.1) (limit_is macros rest (text_is ∙ h.0))
 
-  walked_text : (steps : List BibStep) → IsWalked stem (length bytes) first (length before) marked steps → IsSteps stem first bytes steps
+  walked_text : (steps : List BibStep) → IsWalked rules stem (length bytes) first (length before) marked steps → IsSteps rules stem first bytes steps
   walked_text steps (inl h) = inl (h.0, subst (λ x. text strict first x h.0) (sym (run_parts is_junk bytes)) (spelled marked h.0 h.1), h.2)
   walked_text steps (inr h) = inr (record {
     front = before ++ h.front;
@@ -98,11 +98,11 @@ module _ (stem : Name) (first : MacroTexts) (bytes : List ℕ) where
     because = because (macros_after first h.phrases) h.rest h.fault h.ends;
   })
 
-  pub is_steps : IsSteps stem first bytes (items_steps stem first bytes)
+  pub is_steps : IsSteps rules stem first bytes (items_steps rules stem first bytes)
   is_steps =
-      walked_text (items_steps stem first bytes)
-      (subst (IsWalked stem (length bytes) first (length before) marked) (junk_past stem (length bytes) (length bytes) first bytes)
-      (walk stem (length bytes) (length bytes) first (length before) marked (omega (arith, parts)) parts (behind_stops is_junk bytes)))
+      walked_text (items_steps rules stem first bytes)
+      (subst (IsWalked rules stem (length bytes) first (length before) marked) (junk_past rules stem (length bytes) (length bytes) first bytes)
+      (walk rules stem (length bytes) (length bytes) first (length before) marked (omega (arith, parts)) parts (behind_stops is_junk bytes)))
 
 pub tells : (rules : BibRules) (stem : Name) (bytes : List ℕ) (b c : Building) (result : Result ⊤ BibRefusal) → Reads rules stem bytes b c result → AnswersAsSpelled rules stem bytes b c result
-tells rules stem bytes b c result reads = (text_steps rules stem bytes, is_steps stem (months rules.names) (text_by rules bytes), reads)
+tells rules stem bytes b c result reads = (text_steps rules stem bytes, is_steps rules stem (months rules.names) (text_by rules bytes), reads)

@@ -17,14 +17,14 @@ use Rattle.bibtex_source.specs.Text.{BibStep, entry_steps, text_by, bib_ending}
 use Rattle.bibtex_source.specs.declared.rules.BibRules.{BibRules}
 
 -- an entry's statements; nothing else states any
-abbrev pub phrase_steps : Name → Phrase → List BibStep
-phrase_steps stem Passing = []
-phrase_steps stem (Defining word found) = []
-phrase_steps stem (Entering at class key fields) =
-    entry_steps stem at (record { class = class; key = key; left = 0; fields = fields })
+abbrev pub phrase_steps : BibRules → Name → Phrase → List BibStep
+phrase_steps rules stem Passing = []
+phrase_steps rules stem (Defining word found) = []
+phrase_steps rules stem (Entering at class key fields) =
+    entry_steps rules stem at (record { class = class; key = key; left = 0; fields = fields })
 
-abbrev pub phrases_steps : Name → List Phrase → List BibStep
-phrases_steps stem = flat_map (phrase_steps stem)
+abbrev pub phrases_steps : BibRules → Name → List Phrase → List BibStep
+phrases_steps rules stem = flat_map (phrase_steps rules stem)
 
 -- the name, as it is written, with which `rest` begins and passes a limit
 abbrev pub IsNameAt : MacroTexts → List ℕ → List ℕ → List ℕ → Type 0
@@ -57,7 +57,7 @@ macros_after macros (phrase ∷ phrases) = macros_after (macros_behind macros ph
 
 -- A text that is refused: its front spells these phrases, and they are stated before the fault. No further item stands
 -- behind them, up to an `@` or the end of the text.
-pub record IsCutShort (stem : Name) (first : MacroTexts) (bytes : List ℕ) (steps : List BibStep) : Type 0 where
+pub record IsCutShort (rules : BibRules) (stem : Name) (first : MacroTexts) (bytes : List ℕ) (steps : List BibStep) : Type 0 where
   pub front : List ℕ
   pub back : List ℕ
   pub phrases : List Phrase
@@ -68,17 +68,17 @@ pub record IsCutShort (stem : Name) (first : MacroTexts) (bytes : List ℕ) (ste
   pub no_more : (at : ℕ) (whole later : List ℕ) (phrase : Phrase) → back ≡ whole ++ later
       → starts is_junk later ≡ false
       → item (strict (macros_after first phrases)) at whole phrase → ⊥
-  pub steps_are : steps ≡ phrases_steps stem phrases ++ fails fault ∷ []
+  pub steps_are : steps ≡ phrases_steps rules stem phrases ++ fails fault ∷ []
   pub because : IsFault first (macros_after first phrases) bytes rest fault
 
 -- The steps of a text with these macros at first: those of the phrases that it spells, or of those before its first fault.
-abbrev pub IsSteps : Name → MacroTexts → List ℕ → List BibStep → Type 0
-IsSteps stem first bytes steps =
-    ((phrases : List Phrase) × text strict first bytes phrases × (steps ≡ phrases_steps stem phrases))
-    ⊎ IsCutShort stem first bytes steps
+abbrev pub IsSteps : BibRules → Name → MacroTexts → List ℕ → List BibStep → Type 0
+IsSteps rules stem first bytes steps =
+    ((phrases : List Phrase) × text strict first bytes phrases × (steps ≡ phrases_steps rules stem phrases))
+    ⊎ IsCutShort rules stem first bytes steps
 
 -- The steps that the grammar gives of the text that is read by the rules are taken from b, lead to c, and end with this answer.
 abbrev pub AnswersAsSpelled : BibRules → Name → List ℕ → Building → Building → Result ⊤ BibRefusal → Type 0
 AnswersAsSpelled rules stem bytes b c result =
-    (steps : List BibStep) × IsSteps stem (months rules.names) (text_by rules bytes) steps
+    (steps : List BibStep) × IsSteps rules stem (months rules.names) (text_by rules bytes) steps
     × Ends b steps c (bib_ending result)

@@ -4,8 +4,8 @@ ghost use Rattle.grammar.specs.Reading.{starts};
 ghost use Rattle.bibtex_spec.specs.Clear as specs;
 ghost use Rattle.bibtex_spec.specs.Reading.{nesting as nesting_by};
 
-use crate::bytes::{behind_blanks, is_blank, is_key_byte, is_letter, letters};
 use crate::reading::{has_letter, nesting};
+use bibtex_bytes::{behind_blanks, is_blank, is_key_byte, is_letter, letters};
 use bibtex_spec::{Nesting, Spot};
 use sd_value::NoMemory;
 use std::alloc::Global;

@@ -8,11 +8,12 @@ ghost use Rattle.bibtex_source.specs.Reads.{Reads, HasOneAnswer};
 ghost use Rattle.bibtex_source.specs.Spelled.{AnswersAsSpelled};
 ghost use Rattle.bibtex_source.specs.declared.rules.BibRules.{BibRules};
 
-mod bytes;
 mod clearing;
 mod halt;
 mod items;
 mod macros;
+mod people;
+mod readable;
 mod reading;
 mod refusal;
 mod rules;
@@ -40,10 +41,10 @@ fn add_text(
 {
     let macros = months(alloc, rules.names)?;
     if !rules.comments {
-        return add_items(alloc, graph, stem, macros, bytes);
+        return add_items(alloc, rules, graph, stem, macros, bytes);
     }
     let text = clear(alloc, bytes)?;
-    add_items(alloc, graph, stem, macros, text.as_slice())
+    add_items(alloc, rules, graph, stem, macros, text.as_slice())
 }
 
 /// Adds what a BibTeX text states, read by the rules. Each entry is the node of its key, a member of STEM and of its

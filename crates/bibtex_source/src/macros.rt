@@ -2,7 +2,7 @@
 ghost use Rattle.std.specs.Prelude.{◌≡◌, IfOk, OnOk, List, ℕ};
 ghost use Rattle.bibtex_spec.specs.Macros.{MacroTexts, text_of, with_macro, months as month_macros};
 
-use crate::bytes::lowered;
+use bibtex_bytes::lowered;
 use sd_value::{NoMemory, Str};
 use std::alloc::Global;
 use std::collections::BTreeMap;

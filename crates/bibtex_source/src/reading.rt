@@ -8,13 +8,13 @@ ghost use Rattle.bibtex_spec.specs.Reading.{nesting as nesting_by, opened, read_
 ghost use Rattle.bibtex_spec.specs.Reading.{read_further, read_value, read_field, read_fields, read_entry};
 ghost use Rattle.bibtex_spec.specs.Reading.{read_definition, read_preamble, read_rest, read_item};
 
-use crate::bytes::{
-    behind_blanks, digits, is_digit, is_key_byte, is_letter, key_bytes, letters, name_bytes,
-    written_bytes,
-};
 use crate::halt::Halt;
 use crate::macros::Macros;
 use crate::values::{has_room, tidy};
+use bibtex_bytes::{
+    behind_blanks, digits, is_digit, is_key_byte, is_letter, key_bytes, letters, name_bytes,
+    written_bytes,
+};
 use bibtex_spec::{Entry, Field, Fields, Item, Nesting};
 use sd_value::Str;
 use std::alloc::Global;

@@ -7,6 +7,10 @@ pub struct BibRules {
     pub names: bool,
     /// Comments within items, and each `@` that begins no item, are passed over.
     pub comments: bool,
+    /// Texts are those that TeX shows, and a month is its number.
+    pub readable: bool,
+    /// An entry has an edge `byline` to its people in their order.
+    pub bylines: bool,
 }
 
 impl BibRules {
@@ -14,11 +18,15 @@ impl BibRules {
     pub const STRICT: BibRules = BibRules {
         names: false,
         comments: false,
+        readable: false,
+        bylines: false,
     };
 
     /// Bibliographies as people have them.
     pub const LENIENT: BibRules = BibRules {
         names: true,
         comments: true,
+        readable: true,
+        bylines: true,
     };
 }
