@@ -11,3 +11,5 @@ mod lenient;
 mod refused;
 #[cfg(test)]
 mod stated;
+#[cfg(test)]
+mod titles;
