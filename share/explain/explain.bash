@@ -68,16 +68,27 @@ explain_refusal() {
   elif [ "$number" = 44 ]; then
     explain_json "$file" fault "$told"
   elif [[ $place =~ ^[0-9]+$ ]]; then
-    over place "$file" at="$place" told="$told" counts_mark="$([[ $file = *.bib ]] || echo 1)"
+    over place "$file" at="$place" told="$told"
+    [ "$number" != 21 ] || explain_ending "$file"
   elif [[ $place =~ ^(row|column)\ ([0-9]+)$ ]]; then
     if [ "${BASH_REMATCH[1]}" = row ]; then
-      over record "$file" record="${BASH_REMATCH[2]}" column=-1 told="$told" plain="$([ "$number" != 41 ] || echo 1)"
+      over record "$file" record="${BASH_REMATCH[2]}" column=-1 told="$told" plain="$([ "$number" != 41 ] || echo 1)" lenient="$lenient"
     else
       over record "$file" record=0 column="${BASH_REMATCH[2]}" told="$told"
     fi
   else
     explain_json "$file" "${place#\#}" "$told"
   fi
+}
+
+# That a file of data was read as a data text, where its ending is that of no format and of no other input.
+explain_ending() {
+  local name=${1##*/}
+  case $name in
+    *.ddl | *.struql | *.tmpl | *.constraints) ;;
+    *.CSV | *.JSON | *.BIB) echo "As data, a file that ends in .${name##*.} is read as a data text: --lenient takes the ending in capitals." ;;
+    *.*) echo "As data, a file that ends in .${name##*.} is read as a data text: CSV ends in .csv, JSON in .json, BibTeX in .bib, a database in .db or .sqlite." ;;
+  esac
 }
 
 # A place in a JSON file, where it isn't too large to be looked through.

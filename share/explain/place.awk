@@ -20,7 +20,7 @@ function show(number, text, byte,    before, behind, under) {
   printf "  %s%s\n  %s^\n", before, behind, under
 }
 
-NR == 1 && substr($0, 1, 3) == "\357\273\277" { $0 = substr($0, 4); if (at >= 3 && counts_mark) at -= 3 }
+NR == 1 && substr($0, 1, 3) == "\357\273\277" { $0 = substr($0, 4); if (at >= 3) at -= 3 }
 { if (at <= length($0)) { show(NR, $0, at); shown = 1; exit } at -= length($0) + 1; last = $0 }
 END {
   if (!shown && at == 0) { printf "%s:%d:1: %s (the file ends here)\n", file, NR + 1, told }

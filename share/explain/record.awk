@@ -1,6 +1,6 @@
 # Shows a record of a CSV file: FILE:LINE, how many fields it has next to the header, and its text.
 # Variables: `file`; `record`, its number from 0, which is the header; `column`, a field of the header from 0, or -1; `told`;
-# `plain`, 1 where bytes beyond ASCII aren't shown.
+# `plain`, 1 where bytes beyond ASCII aren't shown; `lenient`, 1 where the file was read by the lenient rules.
 
 # How many fields are in a record, and where each begins.
 function fields(text,    i, c, count, quoted) {
@@ -9,7 +9,7 @@ function fields(text,    i, c, count, quoted) {
   for (i = 1; i <= length(text); i++) {
     c = substr(text, i, 1)
     if (c == "\"") quoted = !quoted
-    else if (c == "," && !quoted) begins[count++] = i
+    else if (c == between && !quoted) begins[count++] = i
   }
   return count
 }
@@ -34,10 +34,17 @@ function show(    has, under) {
     printf "%s:%d: %s\n", file, line, told
     if (number > 0 && has != header) printf "it has %d field%s, and the header has %d:\n", has, has == 1 ? "" : "s", header
     printf "  %s\n", short(text)
+    if (number > 0 && has != header && names ~ /;/ && !lenient) print "The header has semicolons: with --lenient they separate the fields, if it has no comma."
   }
 }
 
-BEGIN { number = -1; open = 0 }
+# What separates the fields of a text with this header: by the lenient rules, if it has no comma, its first semicolon or tab.
+function separator(text) {
+  if (!lenient || text ~ /,/ || !match(text, /[;\t]/)) return ","
+  return substr(text, RSTART, 1)
+}
+
+BEGIN { number = -1; open = 0; between = "," }
 NR == 1 { sub(/^\357\273\277/, "") }
 {
   sub(/\r$/, "")
@@ -46,7 +53,7 @@ NR == 1 { sub(/^\357\273\277/, "") }
   open = (open + quotes($0)) % 2
   if (open) next
   number++
-  if (number == 0) header = fields(text)
+  if (number == 0) { between = separator(text); header = fields(text); names = text }
   if (number == record) { show(); shown = 1; exit }
 }
 END { if (!shown && open && number + 1 == record) { number++; show() } }

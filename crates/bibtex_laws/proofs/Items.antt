@@ -10,7 +10,7 @@ use Rattle.grammar.proofs.Parts.{Opens, opens_then}
 use Rattle.bibtex_laws.proofs.Laws.{Reads, weaken, restate, give_reads, then_reads, choose_reads}
 use Rattle.bibtex_laws.proofs.Parts.{Part, part_within, then_part}
 use Rattle.bibtex_spec.specs.Bytes.{is_letter, is_junk, behind}
-use Rattle.bibtex_spec.specs.Macros.{MacroTexts, months}
+use Rattle.bibtex_spec.specs.Macros.{MacroTexts}
 use Rattle.bibtex_laws.specs.Grammar.{Rules, strict, free, Phrase, Passing, each, mark, lower_word, sized, behind_word, item, macros_behind, items, text}
 use Rattle.bibtex_laws.specs.Limits.{IsByte, IsLimit}
 use Rattle.bibtex_laws.proofs.Words.{each_part}
@@ -167,8 +167,8 @@ items_part macros at = record {
 abbrev pub junk_reader : List ℕ → Outcome ℕ (List ℕ × ℕ)
 junk_reader = read_sized {Why = IsLimit} (each_part is_junk)
 
-abbrev pub text_reader : List ℕ → Outcome ℕ (List Phrase)
-text_reader ts = and_then (junk_reader ts) (λ junk. items_reader months junk.1)
+abbrev pub text_reader : MacroTexts → List ℕ → Outcome ℕ (List Phrase)
+text_reader first ts = and_then (junk_reader ts) (λ junk. items_reader first junk.1)
 
-pub text_part : Part IsByte IsLimit (text strict) (text free) AtEnd text_reader
-text_part = then_part (sized_part (each_part is_junk)) (λ junk. items_part months junk.1) (λ junk y w rest h f. items_stop months junk.1 y w rest h f)
+pub text_part : (first : MacroTexts) → Part IsByte IsLimit (text strict first) (text free first) AtEnd (text_reader first)
+text_part first = then_part (sized_part (each_part is_junk)) (λ junk. items_part first junk.1) (λ junk y w rest h f. items_stop first junk.1 y w rest h f)

@@ -1,6 +1,6 @@
 -- A macro's name within a value, and each piece of a value.
 use Rattle.std.proofs.Common.{◌≡◌, ◌<◌, ℕ, Bool, true, false, List, [], ◌∷◌, ◌++◌, Option, Some, None, refl, sym, ap, subst, ◌∙◌, inl, inr, arith}
-use Rattle.std.specs.Prelude.{◌⊎◌, map, nat_eq, codes, if◌then◌else◌}
+use Rattle.std.specs.Prelude.{◌⊎◌, nat_eq, codes, if◌then◌else◌}
 use Rattle.std.proofs.lemmas.List.{append-nil}
 use Rattle.std.proofs.lemmas.Bool.{eqb-true}
 use Rattle.grammar.specs.Fault.{Every}
@@ -11,19 +11,19 @@ use Rattle.grammar.proofs.Parts.{Opens, first_is}
 use Rattle.bibtex_laws.specs.Past.{IsPastAt}
 use Rattle.bibtex_laws.proofs.Laws.{End, Value, Unexpected, answer, Core, Reads, IsViable, IsPassed, weaken_core, choose_core, choose_viable, choose_past, more_viable, more_past, restate}
 use Rattle.bibtex_laws.proofs.Parts.{Part, part_within}
-use Rattle.bibtex_spec.specs.Bytes.{is_blank, is_letter, is_digit, is_name_byte, lower, run, behind}
+use Rattle.bibtex_spec.specs.Bytes.{is_blank, is_letter, is_digit, is_name_byte, run, behind}
 use Rattle.bibtex_spec.specs.Macros.{MacroTexts, text_of}
 use Rattle.bibtex_spec.specs.Values.{has_room}
-use Rattle.bibtex_spec.specs.Reading.{read_name, read_macro, read_piece, read_digits, read_enclosed, macro_read}
-use Rattle.bibtex_laws.specs.Grammar.{strict, free, or_empty, name, digits, delimited, macro, piece}
+use Rattle.bibtex_spec.specs.Reading.{read_written, read_macro, read_piece, read_digits, read_enclosed, macro_read}
+use Rattle.bibtex_laws.specs.Grammar.{strict, free, or_empty, written, digits, delimited, macro, piece}
 use Rattle.bibtex_laws.specs.Limits.{IsByte, IsLimit}
 use Rattle.bibtex_laws.proofs.Words.{Clear, run_every, run_parts, run_exact, behind_stops}
-use Rattle.bibtex_laws.proofs.Marks.{name_part, digits_part, digits_reader, delimited_part, delimited_reader, not_blank, letter_in_name}
+use Rattle.bibtex_laws.proofs.Marks.{written_part, digits_part, digits_reader, delimited_part, delimited_reader, not_blank, letter_in_name}
 
 module _ (macros : MacroTexts) (before : List ℕ) where
   -- by what the name was, and what it stands for
 
-  sound : (tokens : List ℕ) (o : Outcome ℕ (List ℕ)) → read_name tokens ≡ o → (v rest : List ℕ) → and_then o (λ n r. macro_read before tokens r (text_of macros n)) ≡ Read v rest → (front : List ℕ) × (tokens ≡ front ++ rest) × macro (strict macros) before front v
+  sound : (tokens : List ℕ) (o : Outcome ℕ (List ℕ)) → read_written tokens ≡ o → (v rest : List ℕ) → and_then o (λ n r. macro_read before tokens r (text_of macros n)) ≡ Read v rest → (front : List ℕ) × (tokens ≡ front ++ rest) × macro (strict macros) before front v
   sound tokens (Stuck r) is v rest e = absurd cc
   sound tokens (Past r) is v rest e = absurd cc
   sound tokens (Read n r) is v rest e = by (text_of macros n) refl e
@@ -35,12 +35,12 @@ module _ (macros : MacroTexts) (before : List ℕ) where
           fit : (p : Bool) → has_room before text ≡ p → (if p then Read text r else Past tokens) ≡ Read v rest → (front : List ℕ) × (tokens ≡ front ++ rest) × macro (strict macros) before front v
           fit false room e = absurd cc
           fit true room e =
-              let a = ((name_part {Why = IsLimit}).reads tokens).core.sound n r is in
+              let a = ((written_part {Why = IsLimit}).reads tokens).core.sound n r is in
               let left : r ≡ rest = cc in
               let same : text ≡ v = cc in
               (a.0, a.1 ∙ ap (λ x. a.0 ++ x) left, (n, a.2, (stands ∙ ap Some same, subst (λ x. has_room before x ≡ true) same room)))
 
-  at_name : (tokens n r : List ℕ) (o : Option (List ℕ)) → read_name tokens ≡ Read n r → text_of macros n ≡ o → read_macro macros before tokens ≡ macro_read before tokens r o
+  at_name : (tokens n r : List ℕ) (o : Option (List ℕ)) → read_written tokens ≡ Read n r → text_of macros n ≡ o → read_macro macros before tokens ≡ macro_read before tokens r o
   unfolding read_macro
   at_name tokens n r o is stands = rw (is, stands) refl
 
@@ -53,14 +53,14 @@ module _ (macros : MacroTexts) (before : List ℕ) where
 
   complete : (tokens front v rest : List ℕ) → tokens ≡ front ++ rest → macro (strict macros) before front v → Clear is_name_byte rest → read_macro macros before tokens ≡ Read v rest
   complete tokens front v rest e h f =
-      let a = ((name_part {Why = IsLimit}).reads tokens).core.complete front h.0 rest e h.1 f in
+      let a = ((written_part {Why = IsLimit}).reads tokens).core.complete front h.0 rest e h.1 f in
       at_name tokens h.0 rest (Some v) a h.2.0 ∙ roomy tokens rest v h.2.1
 
   accepts : (tokens front v rest : List ℕ) → tokens ≡ front ++ rest → macro (free macros) before front v → Clear is_name_byte rest → (read_macro macros before tokens ≡ Read v rest) ⊎ IsPast (read_macro macros before tokens)
   accepts tokens front v rest e h f = by (text_of macros h.0) refl h.2
     where
-      found : read_name tokens ≡ Read h.0 rest
-      found = ((name_part {Why = IsLimit}).reads tokens).core.complete front h.0 rest e h.1 f
+      found : read_written tokens ≡ Read h.0 rest
+      found = ((written_part {Why = IsLimit}).reads tokens).core.complete front h.0 rest e h.1 f
 
       by : (o : Option (List ℕ)) → text_of macros h.0 ≡ o → v ≡ or_empty o → (read_macro macros before tokens ≡ Read v rest) ⊎ IsPast (read_macro macros before tokens)
       by (Some text) stands same = fit (has_room before text) refl
@@ -70,14 +70,14 @@ module _ (macros : MacroTexts) (before : List ℕ) where
           fit false room = inr (tokens, at_name tokens h.0 rest (Some text) found stands ∙ crowded tokens rest text room)
       by None stands same = inr (tokens, at_name tokens h.0 rest None found stands)
 
-  local : (tokens : List ℕ) (o : Outcome ℕ (List ℕ)) → read_name tokens ≡ o → (front : List ℕ) (t : ℕ) (r s : List ℕ) (p : End (List ℕ)) → tokens ≡ front ++ (t ∷ r) → and_then o (λ n r. macro_read before tokens r (text_of macros n)) ≡ answer p (t ∷ r) → read_macro macros before (front ++ (t ∷ s)) ≡ answer p (t ∷ s)
+  local : (tokens : List ℕ) (o : Outcome ℕ (List ℕ)) → read_written tokens ≡ o → (front : List ℕ) (t : ℕ) (r s : List ℕ) (p : End (List ℕ)) → tokens ≡ front ++ (t ∷ r) → and_then o (λ n r. macro_read before tokens r (text_of macros n)) ≡ answer p (t ∷ r) → read_macro macros before (front ++ (t ∷ s)) ≡ answer p (t ∷ s)
   unfolding read_macro
   local tokens (Past r0) is front t r s (Value v) e h = absurd cc
   local tokens (Past r0) is front t r s Unexpected e h = absurd cc
   local tokens (Stuck r0) is front t r s (Value v) e h = absurd cc
   local tokens (Stuck r0) is front t r s Unexpected e h =
       let left : r0 ≡ t ∷ r = cc in
-      rw (((name_part {Why = IsLimit}).reads tokens).core.local front t r s Unexpected e (is ∙ ap Stuck left)) refl
+      rw (((written_part {Why = IsLimit}).reads tokens).core.local front t r s Unexpected e (is ∙ ap Stuck left)) refl
   local tokens (Read n r0) is front t r s p e h = by (text_of macros n) refl p h
     where
       by : (o : Option (List ℕ)) → text_of macros n ≡ o → (p : End (List ℕ)) → macro_read before tokens r0 o ≡ answer p (t ∷ r) → read_macro macros before (front ++ (t ∷ s)) ≡ answer p (t ∷ s)
@@ -92,28 +92,28 @@ module _ (macros : MacroTexts) (before : List ℕ) where
           fit true room (Value v) h =
               let left : r0 ≡ t ∷ r = cc in
               let same : text ≡ v = cc in
-              let a = ((name_part {Why = IsLimit}).reads tokens).core.local front t r s (Value n) e (is ∙ ap (Read n) left) in
+              let a = ((written_part {Why = IsLimit}).reads tokens).core.local front t r s (Value n) e (is ∙ ap (Read n) left) in
               at_name (front ++ (t ∷ s)) n (t ∷ s) (Some text) a stands ∙ roomy (front ++ (t ∷ s)) (t ∷ s) text room ∙ ap (λ x. Read x (t ∷ s)) same
 
   pub macro_core : (tokens : List ℕ) → Core (macro (strict macros) before) (macro (free macros) before) (Clear is_name_byte) (read_macro macros before) tokens
   unfolding read_macro
   macro_core tokens = record {
-    sound = sound tokens (read_name tokens) refl;
+    sound = sound tokens (read_written tokens) refl;
     complete = complete tokens;
     accepts = accepts tokens;
-    local = local tokens (read_name tokens) refl;
+    local = local tokens (read_written tokens) refl;
     within = λ x v h. (h.0, h.1, rw h.2.0 refl);
   }
 
   -- where it is stuck or past nothing was read
 
   -- what a name's reader does
-  named : (tokens : List ℕ) → starts is_letter tokens ≡ true → read_name tokens ≡ Read (map lower (run is_name_byte tokens)) (behind is_blank (behind is_name_byte tokens))
-  unfolding read_name
+  named : (tokens : List ℕ) → starts is_letter tokens ≡ true → read_written tokens ≡ Read (run is_name_byte tokens) (behind is_blank (behind is_name_byte tokens))
+  unfolding read_written
   named tokens is = rw is refl
 
-  unnamed : (tokens : List ℕ) → starts is_letter tokens ≡ false → read_name tokens ≡ Stuck tokens
-  unfolding read_name
+  unnamed : (tokens : List ℕ) → starts is_letter tokens ≡ false → read_written tokens ≡ Stuck tokens
+  unfolding read_written
   unnamed tokens is = rw is refl
 
   nought : piece (strict macros) before (48 ∷ []) (48 ∷ [])
@@ -127,18 +127,18 @@ module _ (macros : MacroTexts) (before : List ℕ) where
       by false is =
           let h : Stuck tokens ≡ Stuck rest = sym (ap (λ o. and_then o (λ n r. macro_read before tokens r (text_of macros n))) (unnamed tokens is)) ∙ e in
           ([], 48 ∷ [], 48 ∷ [], cc, nought, (omega arith, tt))
-      by true is = absurd (not (text_of macros (map lower (run is_name_byte tokens))) refl)
+      by true is = absurd (not (text_of macros (run is_name_byte tokens)) refl)
         where
-          not : (o : Option (List ℕ)) → text_of macros (map lower (run is_name_byte tokens)) ≡ o → ⊥
+          not : (o : Option (List ℕ)) → text_of macros (run is_name_byte tokens) ≡ o → ⊥
           not (Some text) stands = fit (has_room before text) refl
             where
               fit : (p : Bool) → has_room before text ≡ p → ⊥
-              fit true room = let h = sym (roomy tokens (behind is_blank (behind is_name_byte tokens)) text room) ∙ sym (at_name tokens (map lower (run is_name_byte tokens)) (behind is_blank (behind is_name_byte tokens)) (Some text) (named tokens is) stands) ∙ e in cc
-              fit false room = let h = sym (crowded tokens (behind is_blank (behind is_name_byte tokens)) text room) ∙ sym (at_name tokens (map lower (run is_name_byte tokens)) (behind is_blank (behind is_name_byte tokens)) (Some text) (named tokens is) stands) ∙ e in cc
-          not None stands = let h = sym (at_name tokens (map lower (run is_name_byte tokens)) (behind is_blank (behind is_name_byte tokens)) None (named tokens is) stands) ∙ e in cc
+              fit true room = let h = sym (roomy tokens (behind is_blank (behind is_name_byte tokens)) text room) ∙ sym (at_name tokens (run is_name_byte tokens) (behind is_blank (behind is_name_byte tokens)) (Some text) (named tokens is) stands) ∙ e in cc
+              fit false room = let h = sym (crowded tokens (behind is_blank (behind is_name_byte tokens)) text room) ∙ sym (at_name tokens (run is_name_byte tokens) (behind is_blank (behind is_name_byte tokens)) (Some text) (named tokens is) stands) ∙ e in cc
+          not None stands = let h = sym (at_name tokens (run is_name_byte tokens) (behind is_blank (behind is_name_byte tokens)) None (named tokens is) stands) ∙ e in cc
 
   -- a name that stands for nothing, or for a text for which there is no room
-  refused : (b : ℕ) (bytes : List ℕ) → is_letter b ≡ true → ((ts rs : List ℕ) → macro_read before ts rs (text_of macros (map lower (run is_name_byte (b ∷ bytes)))) ≡ Past ts)
+  refused : (b : ℕ) (bytes : List ℕ) → is_letter b ≡ true → ((ts rs : List ℕ) → macro_read before ts rs (text_of macros (run is_name_byte (b ∷ bytes))) ≡ Past ts)
       → IsPastAt IsByte IsLimit (piece (strict macros) before) (piece (free macros) before) (read_macro macros before) (b ∷ bytes) (b ∷ bytes)
   refused b bytes is passes =
       let belongs : is_name_byte b ≡ true = letter_in_name b is in
@@ -159,10 +159,10 @@ module _ (macros : MacroTexts) (before : List ℕ) where
         ends = behind_stops is_name_byte bytes;
         next = 32;
         others = [];
-        found = or_empty (text_of macros (map lower (b ∷ run is_name_byte bytes)));
+        found = or_empty (text_of macros (b ∷ run is_name_byte bytes));
         spelled = inr (inr (inr (
-          map lower (b ∷ run is_name_byte bytes),
-          (b ∷ run is_name_byte bytes, 32 ∷ [], map lower (b ∷ run is_name_byte bytes), refl, (is, all, refl), (32 ∷ [], [], 32 ∷ [], refl, ((refl, tt), refl), (refl, refl))),
+          b ∷ run is_name_byte bytes,
+          (b ∷ run is_name_byte bytes, 32 ∷ [], b ∷ run is_name_byte bytes, refl, (is, all, refl), (32 ∷ [], [], 32 ∷ [], refl, ((refl, tt), refl), (refl, refl))),
           refl,
         )));
         parted = refl;
@@ -173,8 +173,8 @@ module _ (macros : MacroTexts) (before : List ℕ) where
             let whole : List ℕ = b ∷ (run is_name_byte bytes ++ s) in
             let rest : List ℕ = behind is_blank (behind is_name_byte whole) in
             let same : run is_name_byte whole ≡ run is_name_byte (b ∷ bytes) = a.0 ∙ sym word in
-            at_name whole (map lower (run is_name_byte whole)) rest (text_of macros (map lower (run is_name_byte whole))) (named whole is) refl
-            ∙ ap (λ x. macro_read before whole rest (text_of macros (map lower x))) same ∙ passes whole rest;
+            at_name whole (run is_name_byte whole) rest (text_of macros (run is_name_byte whole)) (named whole is) refl
+            ∙ ap (λ x. macro_read before whole rest (text_of macros x)) same ∙ passes whole rest;
       }
 
   pub macro_past : (tokens : List ℕ) → IsPassed IsByte IsLimit (piece (strict macros) before) (piece (free macros) before) (read_macro macros before) tokens
@@ -186,19 +186,19 @@ module _ (macros : MacroTexts) (before : List ℕ) where
           let h : Stuck tokens ≡ Past rest = sym (ap (λ o. and_then o (λ n r. macro_read before tokens r (text_of macros n))) (unnamed tokens is)) ∙ e in
           absurd cc
       by [] true is e = absurd cc
-      by (b ∷ bytes) true is e = stood (text_of macros (map lower (run is_name_byte (b ∷ bytes)))) refl
+      by (b ∷ bytes) true is e = stood (text_of macros (run is_name_byte (b ∷ bytes))) refl
         where
-          at_word : ((ts rs : List ℕ) → macro_read before ts rs (text_of macros (map lower (run is_name_byte (b ∷ bytes)))) ≡ Past ts) → IsPastAt IsByte IsLimit (piece (strict macros) before) (piece (free macros) before) (read_macro macros before) (b ∷ bytes) rest
+          at_word : ((ts rs : List ℕ) → macro_read before ts rs (text_of macros (run is_name_byte (b ∷ bytes))) ≡ Past ts) → IsPastAt IsByte IsLimit (piece (strict macros) before) (piece (free macros) before) (read_macro macros before) (b ∷ bytes) rest
           at_word passes =
               let later : List ℕ = behind is_blank (behind is_name_byte (b ∷ bytes)) in
-              let h : Past (b ∷ bytes) ≡ Past rest = sym (passes (b ∷ bytes) later) ∙ sym (at_name (b ∷ bytes) (map lower (run is_name_byte (b ∷ bytes))) later (text_of macros (map lower (run is_name_byte (b ∷ bytes)))) (named (b ∷ bytes) is) refl) ∙ e in
+              let h : Past (b ∷ bytes) ≡ Past rest = sym (passes (b ∷ bytes) later) ∙ sym (at_name (b ∷ bytes) (run is_name_byte (b ∷ bytes)) later (text_of macros (run is_name_byte (b ∷ bytes))) (named (b ∷ bytes) is) refl) ∙ e in
               let left : b ∷ bytes ≡ rest = cc in
               subst (IsPastAt IsByte IsLimit (piece (strict macros) before) (piece (free macros) before) (read_macro macros before) (b ∷ bytes)) left (refused b bytes is passes)
 
-          stood : (o : Option (List ℕ)) → text_of macros (map lower (run is_name_byte (b ∷ bytes))) ≡ o → IsPastAt IsByte IsLimit (piece (strict macros) before) (piece (free macros) before) (read_macro macros before) (b ∷ bytes) rest
+          stood : (o : Option (List ℕ)) → text_of macros (run is_name_byte (b ∷ bytes)) ≡ o → IsPastAt IsByte IsLimit (piece (strict macros) before) (piece (free macros) before) (read_macro macros before) (b ∷ bytes) rest
           stood None stands = at_word (λ ts rs. rw stands refl)
           stood (Some text) stands = fit (has_room before text) refl
             where
               fit : (p : Bool) → has_room before text ≡ p → IsPastAt IsByte IsLimit (piece (strict macros) before) (piece (free macros) before) (read_macro macros before) (b ∷ bytes) rest
-              fit true room = absurd (let h = sym (roomy (b ∷ bytes) (behind is_blank (behind is_name_byte (b ∷ bytes))) text room) ∙ sym (at_name (b ∷ bytes) (map lower (run is_name_byte (b ∷ bytes))) (behind is_blank (behind is_name_byte (b ∷ bytes))) (Some text) (named (b ∷ bytes) is) stands) ∙ e in cc)
+              fit true room = absurd (let h = sym (roomy (b ∷ bytes) (behind is_blank (behind is_name_byte (b ∷ bytes))) text room) ∙ sym (at_name (b ∷ bytes) (run is_name_byte (b ∷ bytes)) (behind is_blank (behind is_name_byte (b ∷ bytes))) (Some text) (named (b ∷ bytes) is) stands) ∙ e in cc)
               fit false room = at_word (λ ts rs. rw stands (crowded ts rs text room))

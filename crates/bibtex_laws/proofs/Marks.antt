@@ -9,8 +9,8 @@ use Rattle.grammar.proofs.Parts.{Opens, opens_one, opens_then}
 use Rattle.bibtex_laws.proofs.Parts.{Part, ◌>>=◌, one_part, weaken_part}
 use Rattle.bibtex_spec.specs.Bytes.{is_blank, is_letter, is_digit, is_name_byte, is_key_byte, lower, behind}
 use Rattle.bibtex_spec.specs.Macros.{MacroTexts}
-use Rattle.bibtex_spec.specs.Reading.{spaced as read_spaced, same_byte, closing, read_mark, read_open, read_name, read_key, enclosed as read_up_to}
-use Rattle.bibtex_laws.specs.Grammar.{strict, free, mark, opening, name, key, digits, word, lower_word, spaced, delimited}
+use Rattle.bibtex_spec.specs.Reading.{spaced as read_spaced, same_byte, closing, read_mark, read_open, read_name, read_written, read_key, enclosed as read_up_to}
+use Rattle.bibtex_laws.specs.Grammar.{strict, free, mark, opening, name, written, key, digits, word, lower_word, spaced, delimited}
 use Rattle.bibtex_laws.specs.Limits.{IsByte, IsLimit, none}
 use Rattle.bibtex_laws.proofs.Words.{Clear, read_word, mapped_word_part, spaced_part}
 use Rattle.bibtex_laws.proofs.Enclosed.{enclosed_part}
@@ -93,6 +93,10 @@ module _ {Why : List ℕ → (ℕ → Bool) → Type 0} where
   pub name_part : Part IsByte Why name name (Clear is_name_byte) read_name
   unfolding read_name
   name_part = spaced_part is_name_byte name_apart (mapped_word_part is_letter is_name_byte (map lower) letter_in_name 97 refl (omega arith))
+
+  pub written_part : Part IsByte Why written written (Clear is_name_byte) read_written
+  unfolding read_written
+  written_part = spaced_part is_name_byte name_apart (mapped_word_part is_letter is_name_byte (λ x. x) letter_in_name 97 refl (omega arith))
 
   pub key_part : Part IsByte Why key key (Clear is_key_byte) read_key
   unfolding read_key

@@ -13,7 +13,7 @@ use Rattle.bibtex_laws.proofs.Parts.{Part, part_within}
 use Rattle.bibtex_spec.specs.Bytes.{is_blank, is_letter, is_digit, is_name_byte}
 use Rattle.bibtex_spec.specs.Macros.{MacroTexts}
 use Rattle.bibtex_spec.specs.Reading.{same_byte, read_macro, read_piece, read_digits, read_enclosed}
-use Rattle.bibtex_laws.specs.Grammar.{strict, free, digits, delimited, macro, name, piece, word, lower_word}
+use Rattle.bibtex_laws.specs.Grammar.{strict, free, digits, delimited, macro, name, written, piece, word, lower_word}
 use Rattle.bibtex_laws.specs.Limits.{IsByte, IsLimit, none}
 use Rattle.bibtex_laws.proofs.Words.{Clear}
 use Rattle.bibtex_laws.proofs.Marks.{digits_part, digits_reader, delimited_part, delimited_reader, same_byte_is, not_blank, digit_apart, letter_apart}
@@ -29,6 +29,9 @@ digits_open W known = opens_then (word is_digit is_digit) _ W (word_opens is_dig
 
 pub name_opens : (W : ℕ → Type 0) → ((b : ℕ) → is_letter b ≡ true → W b) → Opens name W
 name_opens W known = opens_then (lower_word is_letter is_name_byte) _ W (word_opens is_letter is_name_byte _ W known)
+
+written_opens : (W : ℕ → Type 0) → ((b : ℕ) → is_letter b ≡ true → W b) → Opens written W
+written_opens W known = opens_then (word is_letter is_name_byte) _ W (word_opens is_letter is_name_byte (λ x. x) W known)
 
 -- bytes that differ
 
@@ -70,7 +73,7 @@ module _ (macros : MacroTexts) (before : List ℕ) where
   delimited_opens start close W here = opens_then _ _ W (opens_then (one (same_byte start)) _ W (opens_one (same_byte start) W (λ t v e. subst W (sym (same_byte_is start t v e).0) here)))
 
   macro_opens : (W : ℕ → Type 0) → ((b : ℕ) → is_letter b ≡ true → W b) → Opens (macro (free macros) before) W
-  macro_opens W known x v h = name_opens W known x h.0 h.1
+  macro_opens W known x v h = written_opens W known x h.0 h.1
 
   -- a byte that begins a piece
   pub piece_opens : (W : ℕ → Type 0) → ((b : ℕ) → is_digit b ≡ true → W b) → W 123 → W 34 → ((b : ℕ) → is_letter b ≡ true → W b) → Opens (piece (free macros) before) W

@@ -19,7 +19,7 @@ use Rattle.grammar.specs.Reading.{starts}
 use Rattle.bibtex_spec.specs.declared.Field.{Field}
 use Rattle.bibtex_spec.specs.Bytes.{is_blank, is_letter, is_digit, is_name_byte, is_key_byte, is_junk, lower}
 use Rattle.bibtex_spec.specs.Values.{tidy, has_room}
-use Rattle.bibtex_spec.specs.Macros.{MacroTexts, text_of, with_macro, months}
+use Rattle.bibtex_spec.specs.Macros.{MacroTexts, text_of, with_macro}
 use Rattle.bibtex_spec.specs.Reading.{same_byte, closing}
 use Rattle.bibtex_laws.specs.Braces.{IsEnclosed, IsShallow}
 
@@ -29,7 +29,7 @@ pub record Rules : Type 1 where
   pub stands : (before name text : List ℕ) → Type 0
   pub fits : List ℕ → Type 0
 
--- a name stands for the text that it was defined as, for which there is room, and no text has more than 64 open braces
+-- a name stands for its text by the macros, for which there is room, and no text has more than 64 open braces
 abbrev pub strict : MacroTexts → Rules
 strict macros = record {
   stands = λ before name text. (text_of macros name ≡ Some text) × (has_room before text ≡ true);
@@ -40,7 +40,7 @@ abbrev pub or_empty : Option (List ℕ) → List ℕ
 or_empty (Some text) = text
 or_empty None = []
 
--- The rules aside: every name stands for some text, the empty one where it wasn't defined, and no text is too deep or
+-- The rules aside: every name stands for some text, the empty one where it stands for none, and no text is too deep or
 -- too large.
 abbrev pub free : MacroTexts → Rules
 free macros = record {
@@ -93,6 +93,10 @@ opening = spaced (one closing)
 abbrev pub name : List ℕ → List ℕ → Type 0
 name = spaced (lower_word is_letter is_name_byte)
 
+-- a name as it is written
+abbrev pub written : List ℕ → List ℕ → Type 0
+written = spaced (word is_letter is_name_byte)
+
 abbrev pub key : List ℕ → List ℕ → Type 0
 key = spaced (word is_key_byte is_key_byte)
 
@@ -111,7 +115,7 @@ delimited rules start close = spaced (one (same_byte start) >> enclosed rules cl
 
 abbrev pub macro : Rules → List ℕ → List ℕ → List ℕ → Type 0
 macro rules before bytes text =
-    (word : List ℕ) × name bytes word × rules.stands before word text
+    (word : List ℕ) × written bytes word × rules.stands before word text
 
 abbrev pub piece : Rules → List ℕ → List ℕ → List ℕ → Type 0
 piece rules before =
@@ -218,6 +222,6 @@ items rules macros at bytes (phrase ∷ phrases) =
     × item (rules macros) at front phrase
     × items rules (macros_behind macros phrase) (at + length front) back phrases
 
--- a text, at first with the months as macros
-abbrev pub text : (MacroTexts → Rules) → List ℕ → List Phrase → Type 0
-text rules = sized (each is_junk) >>= λ junk. items rules months junk.1
+-- a text, with these macros at first
+abbrev pub text : (MacroTexts → Rules) → MacroTexts → List ℕ → List Phrase → Type 0
+text rules first = sized (each is_junk) >>= λ junk. items rules first junk.1

@@ -1,6 +1,7 @@
-pub mod Runs
 pub mod Tidied
+pub mod Commas
 pub mod Loops
 pub mod Steps
+mod Cleared
 mod Spelled
 mod SpelledText

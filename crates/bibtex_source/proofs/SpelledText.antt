@@ -1,13 +1,12 @@
 -- The steps of a whole text are those that its grammar gives.
 use Rattle.std.proofs.Common.{◌≡◌, ◌+◌, ◌-◌, ℕ, Bool, true, false, List, [], ◌∷◌, ◌++◌, length, length-append, refl, sym, ap, subst, ◌∙◌, append_assoc, inl, inr, arith}
-use Rattle.std.specs.Prelude.{nat_eq, map, Option, Some, None, Result, ⊤}
+use Rattle.std.specs.Prelude.{nat_eq, Option, Some, None, Result, ⊤}
 use Rattle.std.proofs.lemmas.Bool.{eqb-true}
 use Rattle.grammar.specs.Fault.{Every}
 use Rattle.grammar.specs.Reading.{Past, starts}
 use Rattle.graph_spec.specs.DataGraph.{Name}
 use Rattle.sd_graph.specs.Statement.{Building}
-use Rattle.source_steps.specs.Names.{without_mark}
-use Rattle.bibtex_spec.specs.Bytes.{is_letter, is_name_byte, is_junk, lower, run, behind}
+use Rattle.bibtex_spec.specs.Bytes.{is_letter, is_name_byte, is_junk, run, behind}
 use Rattle.bibtex_spec.specs.Macros.{MacroTexts, text_of, months}
 use Rattle.bibtex_laws.specs.Grammar.{Phrase, strict, items, text}
 use Rattle.bibtex_laws.specs.Limits.{IsLimit, none}
@@ -17,7 +16,8 @@ use Rattle.bibtex_laws.proofs.Items.{items_reader, text_reader}
 use Rattle.bibtex_laws.proofs.Whole.{is_first_fault, is_passed}
 use Rattle.bibtex_source.specs.declared.refusal.BibRefusal.{BibRefusal}
 use Rattle.bibtex_source.specs.declared.refusal.BibRefusal.TheVariants.{UnknownMacro, TooDeep, TooLarge}
-use Rattle.bibtex_source.specs.Text.{BibStep, macro_fault, limit_fault, items_steps, text_steps}
+use Rattle.bibtex_source.specs.Text.{BibStep, macro_fault, limit_fault, items_steps, text_by, text_steps}
+use Rattle.bibtex_source.specs.declared.rules.BibRules.{BibRules}
 use Rattle.bibtex_source.specs.Reads.{Reads}
 use Rattle.bibtex_source.specs.Spelled.{IsNameAt, IsFault, IsSteps, macros_after, AnswersAsSpelled}
 use Rattle.bibtex_source.proofs.Spelled.{IsEnd, IsWalked, junk_past, walk}
@@ -35,17 +35,17 @@ not_brace b is = by (nat_eq 123 b) refl
     by true e = absurd (let same : is_letter 123 ≡ is_letter b = ap is_letter (eqb-true 123 b e) in cc)
 
 letter_first : (macros : MacroTexts) (word later rest : List ℕ) (whole : ℕ) → starts is_letter word ≡ true → rest ≡ word ++ later
-    → limit_fault whole macros rest ≡ macro_fault (whole - length rest) (text_of macros (map lower (run is_name_byte rest)))
+    → limit_fault whole macros rest ≡ macro_fault (whole - length rest) (text_of macros (run is_name_byte rest))
 letter_first macros [] later rest whole is e = absurd cc
 letter_first macros (b ∷ word) later rest whole is e = rw (e, not_brace b is) refl
 
 name_first : (macros : MacroTexts) (word later rest : List ℕ) (whole : ℕ) → starts is_letter word ≡ true → Every (λ b. is_name_byte b ≡ true) word → rest ≡ word ++ later → starts is_name_byte later ≡ false
-    → limit_fault whole macros rest ≡ macro_fault (whole - length rest) (text_of macros (map lower word))
+    → limit_fault whole macros rest ≡ macro_fault (whole - length rest) (text_of macros word)
 name_first macros word later rest whole is all e ends =
     let run_is : run is_name_byte rest ≡ word = ap (run is_name_byte) e ∙ (run_exact is_name_byte word later all ends).0 in
-    letter_first macros word later rest whole is e ∙ ap (λ x. macro_fault (whole - length rest) (text_of macros (map lower x))) run_is
+    letter_first macros word later rest whole is e ∙ ap (λ x. macro_fault (whole - length rest) (text_of macros x)) run_is
 
-module _ (stem : Name) (bytes : List ℕ) where
+module _ (rules : BibRules) (stem : Name) (first : MacroTexts) (bytes : List ℕ) where
   abbrev before : List ℕ
   before = run is_junk bytes
 
@@ -55,36 +55,36 @@ module _ (stem : Name) (bytes : List ℕ) where
   parts : length before + length marked ≡ length bytes
   parts = omega (arith, ap length (run_parts is_junk bytes), length-append before marked)
 
-  spelled : (front : List ℕ) (phrases : List Phrase) → items strict months (length before) front phrases → text strict (before ++ front) phrases
+  spelled : (front : List ℕ) (phrases : List Phrase) → items strict first (length before) front phrases → text strict first (before ++ front) phrases
   spelled front phrases h = (before, front, (before, length before), refl, ((run_every is_junk bytes, refl), refl), h)
 
-  text_is : text_reader bytes ≡ items_reader months (length before) marked
+  text_is : text_reader first bytes ≡ items_reader first (length before) marked
   text_is =
       let size : length bytes - length marked ≡ length before = omega (arith, parts) in
-      ap (λ n. items_reader months n marked) size
+      ap (λ n. items_reader first n marked) size
 
-  name_fault : (macros : MacroTexts) (rest name : List ℕ) (o : Option (List ℕ)) → text_of macros name ≡ o → IsNameAt bytes rest name → IsFault macros bytes rest (macro_fault (length bytes - length rest) o)
+  name_fault : (macros : MacroTexts) (rest name : List ℕ) (o : Option (List ℕ)) → text_of macros name ≡ o → IsNameAt first bytes rest name → IsFault first macros bytes rest (macro_fault (length bytes - length rest) o)
   name_fault macros rest name None is at = (refl, (name, at, is))
   name_fault macros rest name (Some text) is at = (refl, (name, text, at, is))
 
-  limit_by : (macros : MacroTexts) (rest word : List ℕ) (stops : ℕ → Bool) → IsLimit word stops → IsPassedBy word stops bytes rest → IsFault macros bytes rest (limit_fault (length bytes) macros rest)
+  limit_by : (macros : MacroTexts) (rest word : List ℕ) (stops : ℕ → Bool) → IsLimit word stops → IsPassedBy first word stops bytes rest → IsFault first macros bytes rest (limit_fault (length bytes) macros rest)
   limit_by macros rest word stops (inl brace) passed =
-      let now : IsPassedBy (123 ∷ []) none bytes rest = subst (λ w. IsPassedBy w none bytes rest) brace.0 (subst (λ s. IsPassedBy word s bytes rest) brace.1 passed) in
-      subst (IsFault macros bytes rest) (sym (brace_first macros now.later rest (length bytes) now.is)) (refl, now)
+      let now : IsPassedBy first (123 ∷ []) none bytes rest = subst (λ w. IsPassedBy first w none bytes rest) brace.0 (subst (λ s. IsPassedBy first word s bytes rest) brace.1 passed) in
+      subst (IsFault first macros bytes rest) (sym (brace_first macros now.later rest (length bytes) now.is)) (refl, now)
   limit_by macros rest word stops (inr name) passed =
-      let now : IsPassedBy word is_name_byte bytes rest = subst (λ s. IsPassedBy word s bytes rest) name.2 passed in
-      subst (IsFault macros bytes rest) (sym (name_first macros word now.later rest (length bytes) name.0 name.1 now.is now.ends))
-      (name_fault macros rest (map lower word) (text_of macros (map lower word)) refl (word, name.0, name.1, refl, now))
+      let now : IsPassedBy first word is_name_byte bytes rest = subst (λ s. IsPassedBy first word s bytes rest) name.2 passed in
+      subst (IsFault first macros bytes rest) (sym (name_first macros word now.later rest (length bytes) name.0 name.1 now.is now.ends))
+      (name_fault macros rest word (text_of macros word) refl (name.0, name.1, now))
 
-  limit_is : (macros : MacroTexts) (rest : List ℕ) → text_reader bytes ≡ Past rest → IsFault macros bytes rest (limit_fault (length bytes) macros rest)
-  limit_is macros rest h = let a = is_passed bytes rest h in limit_by macros rest a.0 a.1 a.2 a.3
+  limit_is : (macros : MacroTexts) (rest : List ℕ) → text_reader first bytes ≡ Past rest → IsFault first macros bytes rest (limit_fault (length bytes) macros rest)
+  limit_is macros rest h = let a = is_passed first bytes rest h in limit_by macros rest a.0 a.1 a.2 a.3
 
-  because : (macros : MacroTexts) (rest : List ℕ) (e : BibRefusal) → IsEnd stem (length bytes) macros (items_reader months (length before) marked) rest e → IsFault macros bytes rest e
-  because macros rest e (inl h) = subst (IsFault macros bytes rest) (sym h.1) (refl, is_first_fault bytes rest (text_is ∙ h.0))
-  because macros rest e (inr h) = subst (IsFault macros bytes rest) (sym h.1) (limit_is macros rest (text_is ∙ h.0))
+  because : (macros : MacroTexts) (rest : List ℕ) (e : BibRefusal) → IsEnd rules stem (length bytes) macros (items_reader first (length before) marked) rest e → IsFault first macros bytes rest e
+  because macros rest e (inl h) = subst (IsFault first macros bytes rest) (sym h.1) (refl, is_first_fault first bytes rest (text_is ∙ h.0))
+  because macros rest e (inr h) = subst (IsFault first macros bytes rest) (sym h.1) (limit_is macros rest (text_is ∙ h.0))
 
-  walked_text : (steps : List BibStep) → IsWalked stem (length bytes) months (length before) marked steps → IsSteps stem bytes steps
-  walked_text steps (inl h) = inl (h.0, subst (λ x. text strict x h.0) (sym (run_parts is_junk bytes)) (spelled marked h.0 h.1), h.2)
+  walked_text : (steps : List BibStep) → IsWalked rules stem (length bytes) first (length before) marked steps → IsSteps rules stem first bytes steps
+  walked_text steps (inl h) = inl (h.0, subst (λ x. text strict first x h.0) (sym (run_parts is_junk bytes)) (spelled marked h.0 h.1), h.2)
   walked_text steps (inr h) = inr (record {
     front = before ++ h.front;
     back = h.back;
@@ -95,14 +95,14 @@ module _ (stem : Name) (bytes : List ℕ) where
     spelled = spelled h.front h.phrases h.spelled;
     no_more = h.no_more;
     steps_are = h.steps_are;
-    because = because (macros_after months h.phrases) h.rest h.fault h.ends;
+    because = because (macros_after first h.phrases) h.rest h.fault h.ends;
   })
 
-  pub is_steps : IsSteps stem bytes (items_steps stem bytes)
+  pub is_steps : IsSteps rules stem first bytes (items_steps rules stem first bytes)
   is_steps =
-      walked_text (items_steps stem bytes)
-      (subst (IsWalked stem (length bytes) months (length before) marked) (junk_past stem (length bytes) (length bytes) months bytes)
-      (walk stem (length bytes) (length bytes) months (length before) marked (omega (arith, parts)) parts (behind_stops is_junk bytes)))
+      walked_text (items_steps rules stem first bytes)
+      (subst (IsWalked rules stem (length bytes) first (length before) marked) (junk_past rules stem (length bytes) (length bytes) first bytes)
+      (walk rules stem (length bytes) (length bytes) first (length before) marked (omega (arith, parts)) parts (behind_stops is_junk bytes)))
 
-pub tells : (stem : Name) (bytes : List ℕ) (b c : Building) (result : Result ⊤ BibRefusal) → Reads stem bytes b c result → AnswersAsSpelled stem bytes b c result
-tells stem bytes b c result reads = (text_steps stem bytes, is_steps stem (without_mark bytes), reads)
+pub tells : (rules : BibRules) (stem : Name) (bytes : List ℕ) (b c : Building) (result : Result ⊤ BibRefusal) → Reads rules stem bytes b c result → AnswersAsSpelled rules stem bytes b c result
+tells rules stem bytes b c result reads = (text_steps rules stem bytes, is_steps rules stem (months rules.names) (text_by rules bytes), reads)

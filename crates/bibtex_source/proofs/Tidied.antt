@@ -11,15 +11,15 @@ abbrev pub begun : List ℕ → List (List ℕ) → List (List ℕ)
 begun [] parts = parts
 begun (b ∷ part) parts = grow b (begun part parts)
 
-begun_more : (part : List ℕ) (b : ℕ) (ps : List (List ℕ)) → begun (part ++ b ∷ []) ps ≡ begun part (grow b ps)
+pub begun_more : (part : List ℕ) (b : ℕ) (ps : List (List ℕ)) → begun (part ++ b ∷ []) ps ≡ begun part (grow b ps)
 begun_more [] b ps = refl
 begun_more (x ∷ part) b ps = ap (grow x) (begun_more part b ps)
 
-begun_ends : (part : List ℕ) → begun part ([] ∷ []) ≡ part ∷ []
+pub begun_ends : (part : List ℕ) → begun part ([] ∷ []) ≡ part ∷ []
 begun_ends [] = refl
 begun_ends (b ∷ part) = ap (grow b) (begun_ends part)
 
-begun_splits : (part : List ℕ) (ps : List (List ℕ)) → begun part ([] ∷ ps) ≡ part ∷ ps
+pub begun_splits : (part : List ℕ) (ps : List (List ℕ)) → begun part ([] ∷ ps) ≡ part ∷ ps
 begun_splits [] ps = refl
 begun_splits (b ∷ part) ps = ap (grow b) (begun_splits part ps)
 
@@ -61,7 +61,7 @@ split_at_and found part rest behind text tidied depth none is left made (so_far,
     fewer_left (a ∷ b ∷ c ∷ []) behind left = omega (arith, ap length left)
     fewer_left (a ∷ b ∷ c ∷ d ∷ rest) behind left = omega (arith, ap length left)
 
-goes_deeper : (depth b : ℕ) → depth_behind depth b ≤ depth + 1
+pub goes_deeper : (depth b : ℕ) → depth_behind depth b ≤ depth + 1
 goes_deeper depth b = by (nat_eq b 123) (nat_eq b 125)
   where
     by : (p q : Bool) → (if p then depth + 1 else if q then depth - 1 else depth) ≤ depth + 1

@@ -1,4 +1,6 @@
 pub mod Gives
+pub mod Rules
+pub mod Readable
 pub mod Text
 pub mod Reads
 pub mod Spelled

@@ -7,6 +7,7 @@ use Rattle.sd_graph.specs.Stating.{Ending, done, fault, too_many_nodes, too_many
 use Rattle.source_steps.specs.Once.{IsTold, ends_once}
 use Rattle.bibtex_source.specs.declared.refusal.BibRefusal.{BibRefusal}
 use Rattle.bibtex_source.specs.declared.refusal.BibRefusal.TheVariants.{Expected, UnknownMacro, TooDeep, TooLarge, TooManyEdges, TooManyNodes, NoMemory}
+use Rattle.bibtex_source.specs.declared.rules.BibRules.{BibRules}
 use Rattle.bibtex_source.specs.Text.{text_steps, bib_ending}
 use Rattle.bibtex_source.specs.Reads.{HasOneAnswer}
 
@@ -38,8 +39,9 @@ told (Err (TooManyEdges k)) h = tt
 told (Err (TooManyNodes k)) h = tt
 told (Err NoMemory) h = h refl
 
-pub has_one_answer : (stem : Name) (bytes : List ℕ) (b : Building) → HasOneAnswer stem bytes b
-has_one_answer stem bytes b c d r s h k left right =
-    let same = ends_once b c d (text_steps stem bytes) (bib_ending r) (bib_ending s)
+pub has_one_answer : (rules : BibRules) (stem : Name) (bytes : List ℕ) (b : Building)
+    → HasOneAnswer rules stem bytes b
+has_one_answer rules stem bytes b c d r s h k left right =
+    let same = ends_once b c d (text_steps rules stem bytes) (bib_ending r) (bib_ending s)
     (told r left) (told s right) h k in
     (same.0, sym (answer_back r) ∙ ap answer_of same.1 ∙ answer_back s)

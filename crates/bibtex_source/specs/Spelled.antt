@@ -1,54 +1,54 @@
 -- What a text states by its grammar, or why it is refused.
-use Rattle.std.specs.Prelude.{◌≡◌, ◌-◌, ◌⊎◌, ℕ, true, false, List, [], ◌∷◌, ◌++◌, length, map, Some, None, Result, ⊤}
+use Rattle.std.specs.Prelude.{◌≡◌, ◌-◌, ◌⊎◌, ℕ, true, false, List, [], ◌∷◌, ◌++◌, length, Some, None, Result, ⊤}
 use Rattle.std.specs.List.{flat_map}
 use Rattle.grammar.specs.Fault.{Every}
 use Rattle.grammar.specs.Reading.{starts}
 use Rattle.graph_spec.specs.DataGraph.{Name}
 use Rattle.sd_graph.specs.Statement.{Building}
 use Rattle.sd_graph.specs.Stating.{fails, Ends}
-use Rattle.source_steps.specs.Names.{without_mark}
-use Rattle.bibtex_spec.specs.Bytes.{is_letter, is_name_byte, is_junk, lower}
+use Rattle.bibtex_spec.specs.Bytes.{is_letter, is_name_byte, is_junk}
 use Rattle.bibtex_spec.specs.Macros.{MacroTexts, text_of, months}
 use Rattle.bibtex_laws.specs.Grammar.{Phrase, Passing, Defining, Entering, strict, item, macros_behind, text}
 use Rattle.bibtex_laws.specs.Limits.{none}
 use Rattle.bibtex_laws.specs.Faults.{IsFirstFault, IsPassedBy}
 use Rattle.bibtex_source.specs.declared.refusal.BibRefusal.{BibRefusal}
 use Rattle.bibtex_source.specs.declared.refusal.BibRefusal.TheVariants.{Expected, UnknownMacro, TooDeep, TooLarge, TooManyEdges, TooManyNodes, NoMemory}
-use Rattle.bibtex_source.specs.Text.{BibStep, entry_steps, bib_ending}
+use Rattle.bibtex_source.specs.Text.{BibStep, entry_steps, text_by, bib_ending}
+use Rattle.bibtex_source.specs.declared.rules.BibRules.{BibRules}
 
 -- an entry's statements; nothing else states any
-abbrev pub phrase_steps : Name → Phrase → List BibStep
-phrase_steps stem Passing = []
-phrase_steps stem (Defining word found) = []
-phrase_steps stem (Entering at class key fields) =
-    entry_steps stem at (record { class = class; key = key; left = 0; fields = fields })
+abbrev pub phrase_steps : BibRules → Name → Phrase → List BibStep
+phrase_steps rules stem Passing = []
+phrase_steps rules stem (Defining word found) = []
+phrase_steps rules stem (Entering at class key fields) =
+    entry_steps rules stem at (record { class = class; key = key; left = 0; fields = fields })
 
-abbrev pub phrases_steps : Name → List Phrase → List BibStep
-phrases_steps stem = flat_map (phrase_steps stem)
+abbrev pub phrases_steps : BibRules → Name → List Phrase → List BibStep
+phrases_steps rules stem = flat_map (phrase_steps rules stem)
 
--- the macro's name, in lower case, with which `rest` begins and passes a limit
-abbrev pub IsNameAt : List ℕ → List ℕ → List ℕ → Type 0
-IsNameAt bytes rest name =
-    (word : List ℕ) × (starts is_letter word ≡ true) × Every (λ b. is_name_byte b ≡ true) word
-    × (name ≡ map lower word) × IsPassedBy word is_name_byte bytes rest
+-- the name, as it is written, with which `rest` begins and passes a limit
+abbrev pub IsNameAt : MacroTexts → List ℕ → List ℕ → List ℕ → Type 0
+IsNameAt first bytes rest name =
+    (starts is_letter name ≡ true) × Every (λ b. is_name_byte b ≡ true) name
+    × IsPassedBy first name is_name_byte bytes rest
 
--- The text is refused where `rest` begins: at the first byte that doesn't fit, at a name that was defined by nothing
--- before, at a name that was and whose text makes its value too large, or at the brace that is open within 64.
-abbrev pub IsFault : MacroTexts → List ℕ → List ℕ → BibRefusal → Type 0
-IsFault macros bytes rest (Expected at) =
-    (at ≡ length bytes - length rest) × IsFirstFault bytes rest
-IsFault macros bytes rest (UnknownMacro at) =
+-- The text is refused where `rest` begins: at the first byte that doesn't fit, at a name that stands for no text, at
+-- one whose text makes its value too large, or at the brace that is open within 64.
+abbrev pub IsFault : MacroTexts → MacroTexts → List ℕ → List ℕ → BibRefusal → Type 0
+IsFault first macros bytes rest (Expected at) =
+    (at ≡ length bytes - length rest) × IsFirstFault first bytes rest
+IsFault first macros bytes rest (UnknownMacro at) =
     (at ≡ length bytes - length rest)
-    × ((name : List ℕ) × IsNameAt bytes rest name × (text_of macros name ≡ None))
-IsFault macros bytes rest (TooLarge at) =
+    × ((name : List ℕ) × IsNameAt first bytes rest name × (text_of macros name ≡ None))
+IsFault first macros bytes rest (TooLarge at) =
     (at ≡ length bytes - length rest)
-    × ((name : List ℕ) × (text : List ℕ) × IsNameAt bytes rest name
+    × ((name : List ℕ) × (text : List ℕ) × IsNameAt first bytes rest name
     × (text_of macros name ≡ Some text))
-IsFault macros bytes rest (TooDeep at) =
-    (at ≡ length bytes - length rest) × IsPassedBy (123 ∷ []) none bytes rest
-IsFault macros bytes rest (TooManyEdges at) = ⊥
-IsFault macros bytes rest (TooManyNodes at) = ⊥
-IsFault macros bytes rest NoMemory = ⊥
+IsFault first macros bytes rest (TooDeep at) =
+    (at ≡ length bytes - length rest) × IsPassedBy first (123 ∷ []) none bytes rest
+IsFault first macros bytes rest (TooManyEdges at) = ⊥
+IsFault first macros bytes rest (TooManyNodes at) = ⊥
+IsFault first macros bytes rest NoMemory = ⊥
 
 -- the macros that phrases leave
 abbrev pub macros_after : MacroTexts → List Phrase → MacroTexts
@@ -57,27 +57,28 @@ macros_after macros (phrase ∷ phrases) = macros_after (macros_behind macros ph
 
 -- A text that is refused: its front spells these phrases, and they are stated before the fault. No further item stands
 -- behind them, up to an `@` or the end of the text.
-pub record IsCutShort (stem : Name) (bytes : List ℕ) (steps : List BibStep) : Type 0 where
+pub record IsCutShort (rules : BibRules) (stem : Name) (first : MacroTexts) (bytes : List ℕ) (steps : List BibStep) : Type 0 where
   pub front : List ℕ
   pub back : List ℕ
   pub phrases : List Phrase
   pub rest : List ℕ
   pub fault : BibRefusal
   pub parts : bytes ≡ front ++ back
-  pub spelled : text strict front phrases
+  pub spelled : text strict first front phrases
   pub no_more : (at : ℕ) (whole later : List ℕ) (phrase : Phrase) → back ≡ whole ++ later
       → starts is_junk later ≡ false
-      → item (strict (macros_after months phrases)) at whole phrase → ⊥
-  pub steps_are : steps ≡ phrases_steps stem phrases ++ fails fault ∷ []
-  pub because : IsFault (macros_after months phrases) bytes rest fault
+      → item (strict (macros_after first phrases)) at whole phrase → ⊥
+  pub steps_are : steps ≡ phrases_steps rules stem phrases ++ fails fault ∷ []
+  pub because : IsFault first (macros_after first phrases) bytes rest fault
 
--- The steps of a text: those of the phrases that it spells, or of those before its first fault.
-abbrev pub IsSteps : Name → List ℕ → List BibStep → Type 0
-IsSteps stem bytes steps =
-    ((phrases : List Phrase) × text strict bytes phrases × (steps ≡ phrases_steps stem phrases))
-    ⊎ IsCutShort stem bytes steps
+-- The steps of a text with these macros at first: those of the phrases that it spells, or of those before its first fault.
+abbrev pub IsSteps : BibRules → Name → MacroTexts → List ℕ → List BibStep → Type 0
+IsSteps rules stem first bytes steps =
+    ((phrases : List Phrase) × text strict first bytes phrases × (steps ≡ phrases_steps rules stem phrases))
+    ⊎ IsCutShort rules stem first bytes steps
 
--- The steps that the grammar gives of the text are taken from b, lead to c, and end with this answer.
-abbrev pub AnswersAsSpelled : Name → List ℕ → Building → Building → Result ⊤ BibRefusal → Type 0
-AnswersAsSpelled stem bytes b c result =
-    (steps : List BibStep) × IsSteps stem (without_mark bytes) steps × Ends b steps c (bib_ending result)
+-- The steps that the grammar gives of the text that is read by the rules are taken from b, lead to c, and end with this answer.
+abbrev pub AnswersAsSpelled : BibRules → Name → List ℕ → Building → Building → Result ⊤ BibRefusal → Type 0
+AnswersAsSpelled rules stem bytes b c result =
+    (steps : List BibStep) × IsSteps rules stem (months rules.names) (text_by rules bytes) steps
+    × Ends b steps c (bib_ending result)

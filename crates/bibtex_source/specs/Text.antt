@@ -1,10 +1,9 @@
 -- What a BibTeX text states of a data graph, step by step.
-use Rattle.std.specs.Prelude.{◌≡◌, ◌⊎◌, ◌-◌, ◌==◌, ℕ, zero, suc, false, List, [], ◌∷◌, ◌++◌, length, map, nat_eq, if◌then◌else◌, Option, Some, None, Result, Ok, Err, ⊤}
+use Rattle.std.specs.Prelude.{◌≡◌, ◌⊎◌, ◌-◌, ◌==◌, ℕ, zero, suc, false, List, [], ◌∷◌, ◌++◌, length, codes, nat_eq, if◌then◌else◌, Option, Some, None, Result, Ok, Err, ⊤}
 use Rattle.grammar.specs.Reading.{Outcome, Read, Stuck, Past, starts}
 use Rattle.graph_spec.specs.DataGraph.{Name}
 use Rattle.sd_graph.specs.Statement.{a_node, a_member, an_edge}
 use Rattle.sd_graph.specs.Stating.{Step, says, fails, Ending, done, fault, too_many_nodes, too_many_edges, no_memory}
-use Rattle.source_steps.specs.Names.{without_mark}
 use Rattle.source_steps.specs.Fields.{value_of}
 use Rattle.bibtex_spec.specs.declared.Field.{Field}
 use Rattle.bibtex_spec.specs.declared.Entry.{Entry}
@@ -12,10 +11,12 @@ use Rattle.bibtex_spec.specs.declared.Item.{Item}
 use Rattle.bibtex_spec.specs.declared.Item.TheVariants.{Passes, Defines, Enters}
 use Rattle.bibtex_source.specs.declared.refusal.BibRefusal.{BibRefusal}
 use Rattle.bibtex_source.specs.declared.refusal.BibRefusal.TheVariants.{Expected, UnknownMacro, TooDeep, TooLarge, TooManyEdges, TooManyNodes, NoMemory}
-use Rattle.bibtex_spec.specs.Bytes.{is_junk, is_name_byte, lower, run, behind}
-use Rattle.bibtex_spec.specs.Values.{texts_of}
+use Rattle.bibtex_spec.specs.Bytes.{is_junk, is_name_byte, run, behind}
 use Rattle.bibtex_spec.specs.Macros.{MacroTexts, text_of, with_macro, months}
 use Rattle.bibtex_spec.specs.Reading.{read_item}
+use Rattle.bibtex_spec.specs.Clear.{cleared}
+use Rattle.bibtex_source.specs.Readable.{field_texts, byline}
+use Rattle.bibtex_source.specs.declared.rules.BibRules.{BibRules}
 
 abbrev pub BibStep : Type 0
 BibStep = Step ℕ BibRefusal
@@ -30,24 +31,32 @@ texts_steps at key label [] = []
 texts_steps at key label (text ∷ texts) =
     text_step at key label text ++ texts_steps at key label texts
 
-abbrev pub field_steps : ℕ → Name → Field → List BibStep
-field_steps at key field = texts_steps at key field.name (texts_of field.name field.text)
+abbrev pub field_steps : BibRules → ℕ → Name → Field → List BibStep
+field_steps rules at key field =
+    texts_steps at key field.name (field_texts rules field.name field.text)
 
-abbrev pub fields_steps : ℕ → Name → List Field → List BibStep
-fields_steps at key [] = []
-fields_steps at key (field ∷ fields) = field_steps at key field ++ fields_steps at key fields
+abbrev pub fields_steps : BibRules → ℕ → Name → List Field → List BibStep
+fields_steps rules at key [] = []
+fields_steps rules at key (field ∷ fields) =
+    field_steps rules at key field ++ fields_steps rules at key fields
 
--- an entry: its node, a member of the file's collection and of its type's, and its fields in this order
-abbrev pub entry_steps : Name → ℕ → Entry → List BibStep
-entry_steps stem at entry =
+-- by the rules, the people of an entry in their order
+abbrev pub byline_steps : BibRules → ℕ → Name → List Field → List BibStep
+byline_steps rules at key fields =
+    if rules.bylines then text_step at key (codes "byline") (byline fields) else []
+
+-- an entry: its node, a member of the file's collection and of its type's, its fields in this order, and its people
+abbrev pub entry_steps : BibRules → Name → ℕ → Entry → List BibStep
+entry_steps rules stem at entry =
     says at (a_node entry.key) ∷ says at (a_member stem entry.key)
-    ∷ says at (a_member entry.class entry.key) ∷ fields_steps at entry.key entry.fields
+    ∷ says at (a_member entry.class entry.key)
+    ∷ (fields_steps rules at entry.key entry.fields ++ byline_steps rules at entry.key entry.fields)
 
 -- what an item of a text of `whole` bytes states
-abbrev pub item_steps : Name → ℕ → Item → List BibStep
-item_steps stem whole Passes = []
-item_steps stem whole (Defines name text) = []
-item_steps stem whole (Enters entry) = entry_steps stem (whole - entry.left) entry
+abbrev pub item_steps : BibRules → Name → ℕ → Item → List BibStep
+item_steps rules stem whole Passes = []
+item_steps rules stem whole (Defines name text) = []
+item_steps rules stem whole (Enters entry) = entry_steps rules stem (whole - entry.left) entry
 
 abbrev pub macros_behind : MacroTexts → Item → MacroTexts
 macros_behind macros Passes = macros
@@ -63,7 +72,7 @@ macro_fault at None = UnknownMacro at
 abbrev pub limit_fault : ℕ → MacroTexts → List ℕ → BibRefusal
 limit_fault whole macros rest =
     if starts (nat_eq 123) rest then TooDeep (whole - length rest)
-    else macro_fault (whole - length rest) (text_of macros (map lower (run is_name_byte rest)))
+    else macro_fault (whole - length rest) (text_of macros (run is_name_byte rest))
 
 -- the fault of a reader that is left without an item
 abbrev pub IsFaultOf : ℕ → MacroTexts → Outcome ℕ Item → BibRefusal → Type 0
@@ -76,33 +85,38 @@ abbrev pub IsItemFault : ℕ → MacroTexts → Outcome ℕ Item → BibRefusal 
 IsItemFault whole macros read e = (e ≡ NoMemory) ⊎ IsFaultOf whole macros read e
 
 -- an item, and what is behind it; or its fault
-abbrev pub read_steps : Name → ℕ → MacroTexts → (MacroTexts → List ℕ → List BibStep)
+abbrev pub read_steps : BibRules → Name → ℕ → MacroTexts → (MacroTexts → List ℕ → List BibStep)
     → Outcome ℕ Item → List BibStep
-read_steps stem whole macros later (Read item rest) =
-    item_steps stem whole item ++ later (macros_behind macros item) rest
-read_steps stem whole macros later (Stuck rest) = fails (Expected (whole - length rest)) ∷ []
-read_steps stem whole macros later (Past rest) = fails (limit_fault whole macros rest) ∷ []
+read_steps rules stem whole macros later (Read item rest) =
+    item_steps rules stem whole item ++ later (macros_behind macros item) rest
+read_steps rules stem whole macros later (Stuck rest) = fails (Expected (whole - length rest)) ∷ []
+read_steps rules stem whole macros later (Past rest) = fails (limit_fault whole macros rest) ∷ []
 
 -- from an `@` on
-abbrev pub marked_steps : Name → ℕ → MacroTexts → (MacroTexts → List ℕ → List BibStep) → List ℕ
+abbrev pub marked_steps : BibRules → Name → ℕ → MacroTexts → (MacroTexts → List ℕ → List BibStep) → List ℕ
     → List BibStep
-marked_steps stem whole macros later [] = []
-marked_steps stem whole macros later (b ∷ bytes) =
-    read_steps stem whole macros later (read_item macros (b ∷ bytes))
+marked_steps rules stem whole macros later [] = []
+marked_steps rules stem whole macros later (b ∷ bytes) =
+    read_steps rules stem whole macros later (read_item macros (b ∷ bytes))
 
 -- at most `turns` items, each behind bytes other than `@`
-abbrev pub steps_within : ℕ → Name → ℕ → MacroTexts → List ℕ → List BibStep
-steps_within zero stem whole macros bytes = []
-steps_within (suc turns) stem whole macros bytes =
-    marked_steps stem whole macros (steps_within turns stem whole) (behind is_junk bytes)
+abbrev pub steps_within : ℕ → BibRules → Name → ℕ → MacroTexts → List ℕ → List BibStep
+steps_within zero rules stem whole macros bytes = []
+steps_within (suc turns) rules stem whole macros bytes =
+    marked_steps rules stem whole macros (steps_within turns rules stem whole) (behind is_junk bytes)
 
--- all items: there are at most as many as bytes
-abbrev pub items_steps : Name → List ℕ → List BibStep
-items_steps stem bytes = steps_within (length bytes) stem (length bytes) months bytes
+-- all items, with these macros at first: there are at most as many as bytes
+abbrev pub items_steps : BibRules → Name → MacroTexts → List ℕ → List BibStep
+items_steps rules stem first bytes =
+    steps_within (length bytes) rules stem (length bytes) first bytes
 
--- one byte order mark is dropped first, and places count from behind it
-abbrev pub text_steps : Name → List ℕ → List BibStep
-text_steps stem bytes = items_steps stem (without_mark bytes)
+-- the text that is read: by the rules, the bytes with blanks for what is passed over
+abbrev pub text_by : BibRules → List ℕ → List ℕ
+text_by rules bytes = if rules.comments then cleared bytes else bytes
+
+-- the items of the text that is read. A byte order mark is junk, and places count its bytes
+abbrev pub text_steps : BibRules → Name → List ℕ → List BibStep
+text_steps rules stem bytes = items_steps rules stem (months rules.names) (text_by rules bytes)
 
 abbrev pub bib_ending : Result ⊤ BibRefusal → Ending ℕ BibRefusal
 bib_ending (Ok u) = done

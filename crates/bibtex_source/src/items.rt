@@ -1,5 +1,5 @@
 // The items of a text, one behind the other.
-ghost use Rattle.std.specs.Prelude.{◌≡◌, ◌-◌, ◌<◌, IfOk, IfErr, OnOk, length, map};
+ghost use Rattle.std.specs.Prelude.{◌≡◌, ◌-◌, ◌<◌, IfOk, IfErr, OnOk, length};
 ghost use Rattle.grammar.specs.Reading.{Read};
 ghost use Rattle.sd_graph.specs.Stating.{Ends};
 ghost use Rattle.bibtex_source.specs.Text.{bib_ending, item_steps, items_steps, macros_behind, limit_fault, IsItemFault, macro_fault};
@@ -8,12 +8,13 @@ ghost use Rattle.bibtex_spec.specs.Bytes.{run};
 ghost use Rattle.bibtex_spec.specs.Macros.{text_of};
 ghost use Rattle.bibtex_spec.specs.Reading.{read_item};
 
-use crate::bytes::{behind_junk, name_bytes};
 use crate::halt::Halt;
-use crate::macros::{Macros, months};
+use crate::macros::Macros;
 use crate::reading::item_at;
 use crate::refusal::BibRefusal;
+use crate::rules::BibRules;
 use crate::statements::add_entry;
+use bibtex_bytes::{behind_junk, written_bytes};
 use bibtex_spec::Item;
 use sd_graph::GraphBuilder;
 use sd_value::{NoMemory, Str};
@@ -34,11 +35,10 @@ fn macro_fault(
     rest: &[u8],
 ) -> Result<BibRefusal, NoMemory>
     ensures { IfOk result (λ e. e ≡ macro_fault (whole - length rest.now)
-        (text_of macros.now (map spec_bytes.lower (run spec_bytes.is_name_byte rest.now)))) }
+        (text_of macros.now (run spec_bytes.is_name_byte rest.now))) }
 {
-    let (word, _) = name_bytes(alloc, rest)?;
-    let name = Str::of(alloc, word)?;
-    match macros.text(&name) {
+    let (word, _) = written_bytes(alloc, rest)?;
+    match macros.text(alloc, word.as_slice())? {
         Some(_) => Ok(BibRefusal::TooLarge(place_of(whole, rest))),
         None => Ok(BibRefusal::UnknownMacro(place_of(whole, rest))),
     }
@@ -80,13 +80,14 @@ fn next_item<'a>(
 // What an item of a text of `whole` bytes states or defines.
 fn add_item(
     alloc: Global,
+    rules: BibRules,
     graph: &mut GraphBuilder,
     stem: &Str,
     whole: u64,
     macros: &mut Macros,
     item: Item,
 ) -> Result<(), BibRefusal>
-    ensures states { Ends graph.old (item_steps stem.now whole item) graph.new (bib_ending result) }
+    ensures states { Ends graph.old (item_steps rules stem.now whole item) graph.new (bib_ending result) }
     ensures defines { OnOk result (macros.new ≡ macros_behind macros.old item) }
 {
     match item {
@@ -94,7 +95,7 @@ fn add_item(
         Item::Defines(name, text) => Ok(macros.define(name, text)?),
         Item::Enters(entry) => {
             let at = whole.saturating_sub(entry.left);
-            add_entry(alloc, graph, stem, at, &entry)
+            add_entry(alloc, rules, graph, stem, at, &entry)
         }
     }
 }
@@ -102,14 +103,16 @@ fn add_item(
 /// The items of a text.
 pub(crate) fn add_items(
     alloc: Global,
+    rules: BibRules,
     graph: &mut GraphBuilder,
     stem: &Str,
+    macros: Macros,
     bytes: &[u8],
 ) -> Result<(), BibRefusal>
-    ensures { Ends graph.old (items_steps stem.now bytes.now) graph.new (bib_ending result) }
+    ensures { Ends graph.old (items_steps rules stem.now macros bytes.now) graph.new (bib_ending result) }
 {
     let whole = bytes.len() as u64;
-    let mut macros = months(alloc)?;
+    let mut macros = macros;
     let mut rest = bytes;
     'items: loop {
         let marked = behind_junk(rest);
@@ -117,7 +120,7 @@ pub(crate) fn add_items(
             return Ok(());
         }
         let (item, after) = next_item(alloc, whole, &macros, marked)?;
-        add_item(alloc, graph, stem, whole, &mut macros, item)?;
+        add_item(alloc, rules, graph, stem, whole, &mut macros, item)?;
         rest = after;
     }
 }

@@ -1,46 +1,78 @@
 //! BibTeX read into a data graph.
 #![tactic(auto)]
 
-ghost use Rattle.std.specs.Prelude.{List, ℕ};
+ghost use Rattle.std.specs.Prelude.{◌≡◌, List, ℕ, length};
+ghost use Rattle.bibtex_spec.specs.Clear.{cleared};
 ghost use Rattle.sd_graph.specs.Statement.{Building};
 ghost use Rattle.bibtex_source.specs.Reads.{Reads, HasOneAnswer};
 ghost use Rattle.bibtex_source.specs.Spelled.{AnswersAsSpelled};
+ghost use Rattle.bibtex_source.specs.declared.rules.BibRules.{BibRules};
 
-mod bytes;
+mod clearing;
 mod halt;
 mod items;
 mod macros;
+mod people;
+mod readable;
 mod reading;
 mod refusal;
+mod rules;
 mod statements;
 mod values;
 
+use clearing::clear;
 use items::add_items;
+use macros::months;
 pub use refusal::BibRefusal;
+pub use rules::BibRules;
 use sd_graph::GraphBuilder;
 use sd_value::Str;
-use source_steps::without_mark;
 use std::alloc::Global;
 
-/// Adds what a BibTeX text states. Each entry is the node of its key, a member of STEM and of its
-/// type, with an edge for each field that isn't empty and one for each author and editor. After a
-/// refusal the graph has what the entries before its place state, and where there is no room in it or memory also what
-/// the entry at hand states before the part that wanted it. Places count from behind a byte order mark, which is
-/// dropped.
-#[tactic(auto, using(crate::proofs::SpelledText::tells))]
-pub fn read_bibtex(
+// The items of the text that is read by the rules.
+fn add_text(
     alloc: Global,
+    rules: BibRules,
     stem: &Str,
     bytes: &[u8],
     graph: &mut GraphBuilder,
 ) -> Result<(), BibRefusal>
-    ensures reads { Reads stem.now bytes.now graph.old graph.new result }
-    ensures spelled { AnswersAsSpelled stem.now bytes.now graph.old graph.new result }
+    ensures { Reads rules stem.now bytes.now graph.old graph.new result }
 {
-    add_items(alloc, graph, stem, without_mark(bytes))
+    let macros = months(alloc, rules.names)?;
+    if !rules.comments {
+        return add_items(alloc, rules, graph, stem, macros, bytes);
+    }
+    let text = clear(alloc, bytes)?;
+    add_items(alloc, rules, graph, stem, macros, text.as_slice())
 }
+
+/// Adds what a BibTeX text states, read by the rules. Each entry is the node of its key, a member of STEM and of its
+/// type, with an edge for each field that isn't empty and one for each author and editor. After a
+/// refusal the graph has what the entries before its place state, and where there is no room in it or memory also what
+/// the entry at hand states before the part that wanted it. Places count each
+/// byte, also those of a byte order mark.
+#[tactic(auto, using(crate::proofs::SpelledText::tells))]
+pub fn read_bibtex(
+    alloc: Global,
+    rules: BibRules,
+    stem: &Str,
+    bytes: &[u8],
+    graph: &mut GraphBuilder,
+) -> Result<(), BibRefusal>
+    ensures reads { Reads rules stem.now bytes.now graph.old graph.new result }
+    ensures spelled { AnswersAsSpelled rules stem.now bytes.now graph.old graph.new result }
+{
+    add_text(alloc, rules, stem, bytes, graph)
+}
+
+/// The text that a lenient reader reads has each byte at its place in the file.
+pub fn cleared_texts_keep_places()
+    ensures { (bytes : List ℕ) → length (cleared bytes) ≡ length bytes }
+{}
 
 /// A text read into a graph has one answer, besides out of memory, and leaves one graph with it.
 pub fn texts_have_one_answer()
-    ensures { (stem bytes : List ℕ) (b : Building) → HasOneAnswer stem bytes b }
+    ensures { (rules : BibRules) (stem bytes : List ℕ) (b : Building)
+        → HasOneAnswer rules stem bytes b }
 {}

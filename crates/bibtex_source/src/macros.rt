@@ -1,30 +1,39 @@
 // Macros by their names.
-ghost use Rattle.std.specs.Prelude.{◌≡◌, IfOk, OnOk, option_map, List, ℕ};
+ghost use Rattle.std.specs.Prelude.{◌≡◌, IfOk, OnOk, List, ℕ};
 ghost use Rattle.bibtex_spec.specs.Macros.{MacroTexts, text_of, with_macro, months as month_macros};
 
+use bibtex_bytes::lowered;
 use sd_value::{NoMemory, Str};
 use std::alloc::Global;
 use std::collections::BTreeMap;
 use std::marker::Model;
 
-/// The texts that names were defined as.
+/// The texts that names were defined as, and whether any other name stands for itself.
 #[derive(Drop)]
 pub(crate) struct Macros {
     of: BTreeMap<Str, Str>,
+    stand: bool,
 }
 
 impl Model for Macros {
     ghost Value = { MacroTexts };
 
-    ghost view = { λ m. m.of.entries };
+    ghost view = { λ m. record { known = m.of.entries; stand = m.stand } };
 }
 
 impl Macros {
-    /// The text of a name, if it was defined.
-    pub(crate) fn text(&self, name: &Str) -> Option<&Str>
-        ensures { option_map (λ s. s.now) result ≡ text_of self.now name.now }
+    /// The text that a name stands for as it is written, if it stands for one.
+    pub(crate) fn text(&self, alloc: Global, written: &[u8]) -> Result<Option<Str>, NoMemory>
+        ensures { IfOk result (λ text. text ≡ text_of self.now written.now) }
     {
-        self.of.get(name)
+        let name = Str::of(alloc, lowered(alloc, written)?)?;
+        if let Some(text) = self.of.get(&name) {
+            return Ok(Some(text.copy(alloc)?));
+        }
+        if self.stand {
+            return Ok(Some(Str::new(alloc, written)?));
+        }
+        Ok(None)
     }
 
     /// Defines a name, perhaps anew.
@@ -44,12 +53,14 @@ impl Macros {
     }
 }
 
-/// The months, by their first three letters.
-pub(crate) fn months(alloc: Global) -> Result<Macros, NoMemory>
-    ensures { IfOk result (λ macros. macros ≡ month_macros) }
+/// The months, by their first three letters; other names stand for themselves or for nothing.
+#[tactic(auto, unfolding(bibtex_spec::specs::Macros::months))]
+pub(crate) fn months(alloc: Global, stand: bool) -> Result<Macros, NoMemory>
+    ensures { IfOk result (λ macros. macros ≡ month_macros stand) }
 {
     let mut macros = Macros {
         of: BTreeMap::new(alloc),
+        stand,
     };
     macros.define_month(alloc, b"jan")?;
     macros.define_month(alloc, b"feb")?;

@@ -3,22 +3,23 @@ ghost use Rattle.std.specs.Prelude.{◌≡◌, ◌<◌, ◌≤◌, ◌++◌, IfO
 ghost use Rattle.grammar.specs.Reading.{iterate, starts};
 ghost use Rattle.bibtex_spec.specs.Bytes as specs;
 ghost use Rattle.bibtex_source.specs.Gives.{GivesPhrase};
-ghost use Rattle.bibtex_spec.specs.Reading.{read_mark, read_open, read_class, read_name, read_key, read_digits};
+ghost use Rattle.bibtex_spec.specs.Reading.{read_mark, read_open, read_class, read_name, read_written, read_key, read_digits};
 ghost use Rattle.bibtex_spec.specs.Reading.{nesting as nesting_by, opened, read_enclosed, read_macro, read_piece};
 ghost use Rattle.bibtex_spec.specs.Reading.{read_further, read_value, read_field, read_fields, read_entry};
 ghost use Rattle.bibtex_spec.specs.Reading.{read_definition, read_preamble, read_rest, read_item};
 
-use crate::bytes::{
-    behind_blanks, digits, is_digit, is_key_byte, is_letter, key_bytes, letters, name_bytes,
-};
 use crate::halt::Halt;
 use crate::macros::Macros;
 use crate::values::{has_room, tidy};
+use bibtex_bytes::{
+    behind_blanks, digits, is_digit, is_key_byte, is_letter, key_bytes, letters, name_bytes,
+    written_bytes,
+};
 use bibtex_spec::{Entry, Field, Fields, Item, Nesting};
 use sd_value::Str;
 use std::alloc::Global;
 
-/// Whether this byte is next.
+// Whether this byte is next.
 fn has_mark(bytes: &[u8], mark: u8) -> bool
     ensures { result ≡ starts (nat_eq mark) bytes.now }
 {
@@ -28,7 +29,7 @@ fn has_mark(bytes: &[u8], mark: u8) -> bool
     }
 }
 
-fn has_letter(bytes: &[u8]) -> bool
+pub(crate) fn has_letter(bytes: &[u8]) -> bool
     ensures { result ≡ starts specs.is_letter bytes.now }
 {
     match bytes {
@@ -108,6 +109,19 @@ fn name_at(alloc: Global, bytes: &[u8]) -> Result<(Str, &[u8]), Halt>
     Ok((name, behind_blanks(rest)))
 }
 
+/// A name as it is written.
+#[tactic(auto, unfolding(bibtex_spec::specs::Reading::read_written))]
+fn written_at(alloc: Global, bytes: &[u8]) -> Result<(Vec<u8>, &[u8]), Halt>
+    ensures is { GivesPhrase (λ x. x.0.items) (λ x. x.1.now) result (read_written bytes.now) }
+    ensures shorter { IfOk result (λ x. length x.1.now ≤ length bytes.now) }
+{
+    if !has_letter(bytes) {
+        return Err(Halt::Expected(bytes));
+    }
+    let (word, rest) = written_bytes(alloc, bytes)?;
+    Ok((word, behind_blanks(rest)))
+}
+
 /// A key.
 #[tactic(auto, unfolding(bibtex_spec::specs::Reading::read_key))]
 fn key_at(alloc: Global, bytes: &[u8]) -> Result<(Str, &[u8]), Halt>
@@ -132,8 +146,8 @@ fn digits_at(alloc: Global, bytes: &[u8]) -> Result<(Str, &[u8]), Halt>
     Ok((text, behind_blanks(rest)))
 }
 
-// What a byte does to a text that `close` closes, where `depth` are open.
-fn nesting(close: u8, depth: u64, b: u8) -> Nesting
+/// What a byte does to a text that `close` closes, where `depth` are open.
+pub(crate) fn nesting(close: u8, depth: u64, b: u8) -> Nesting
     ensures { result ≡ nesting_by close depth b }
 {
     if depth == 1 && b == close {
@@ -202,9 +216,9 @@ fn macro_at<'a>(
         (read_macro macros.now before.now bytes.now) }
     ensures shorter { IfOk result (λ x. length x.1.now ≤ length bytes.now) }
 {
-    let (name, rest) = name_at(alloc, bytes)?;
-    match macros.text(&name) {
-        Some(text) if has_room(before, text.bytes()) => Ok((text.copy(alloc)?, rest)),
+    let (name, rest) = written_at(alloc, bytes)?;
+    match macros.text(alloc, name.as_slice())? {
+        Some(text) if has_room(before, text.bytes()) => Ok((text, rest)),
         _ => Err(Halt::Limit(bytes)),
     }
 }

@@ -1,12 +1,14 @@
 // What entries state of a graph.
-ghost use Rattle.std.specs.Prelude.{◌≡◌, ◌∷◌, []};
+ghost use Rattle.std.specs.Prelude.{◌≡◌, ◌∷◌, ◌++◌, []};
 ghost use Rattle.sd_graph.specs.Statement.{a_node, a_member, an_edge, IsData};
 ghost use Rattle.sd_graph.specs.Stating.{says, Ends};
 ghost use Rattle.sd_graph.specs.StatingLaws.{ending_at};
-ghost use Rattle.bibtex_source.specs.Text.{bib_ending, text_step, texts_steps, field_steps, fields_steps, entry_steps};
+ghost use Rattle.bibtex_source.specs.Text.{bib_ending, text_step, texts_steps, field_steps, fields_steps, byline_steps, entry_steps};
 
+use crate::people::byline;
+use crate::readable::field_texts;
 use crate::refusal::BibRefusal;
-use crate::values::texts_of;
+use crate::rules::BibRules;
 use bibtex_spec::{Entry, Field};
 use sd_graph::{GraphBuilder, GraphRefusal};
 use sd_value::{Str, Value};
@@ -102,46 +104,85 @@ fn add_texts(
 
 fn add_field(
     alloc: Global,
+    rules: BibRules,
     graph: &mut GraphBuilder,
     at: u64,
     key: &Str,
     field: &Field,
 ) -> Result<(), BibRefusal>
-    ensures { Ends graph.old (field_steps at key.now field.now) graph.new (bib_ending result) }
+    ensures { Ends graph.old (field_steps rules at key.now field.now) graph.new (bib_ending result) }
 {
-    let texts = texts_of(alloc, field)?;
+    let texts = field_texts(alloc, rules, field)?;
     add_texts(alloc, graph, at, key, &field.name, texts.as_slice())
 }
 
 fn add_fields(
     alloc: Global,
+    rules: BibRules,
     graph: &mut GraphBuilder,
     at: u64,
     key: &Str,
     fields: &[Field],
 ) -> Result<(), BibRefusal>
-    ensures { Ends graph.old (fields_steps at key.now fields.now) graph.new (bib_ending result) }
+    ensures { Ends graph.old (fields_steps rules at key.now fields.now) graph.new (bib_ending result) }
 {
     let mut left = fields;
     'fields: while let Some((field, more)) = left.split_first() {
-        add_field(alloc, graph, at, key, field)?;
+        add_field(alloc, rules, graph, at, key, field)?;
         left = more;
     }
     Ok(())
 }
 
+// By the rules, the people of an entry in their order.
+fn add_byline(
+    alloc: Global,
+    rules: BibRules,
+    graph: &mut GraphBuilder,
+    at: u64,
+    key: &Str,
+    fields: &[Field],
+) -> Result<(), BibRefusal>
+    ensures { Ends graph.old (byline_steps rules at key.now fields.now) graph.new (bib_ending result) }
+{
+    if !rules.bylines {
+        return Ok(());
+    }
+    let names = byline(alloc, fields)?;
+    let label = Str::new(alloc, b"byline")?;
+    add_text(alloc, graph, at, key, &label, &names)
+}
+
+// The fields of an entry, and its people.
+fn add_texts_of_entry(
+    alloc: Global,
+    rules: BibRules,
+    graph: &mut GraphBuilder,
+    at: u64,
+    key: &Str,
+    fields: &[Field],
+) -> Result<(), BibRefusal>
+    ensures { Ends graph.old
+        (fields_steps rules at key.now fields.now ++ byline_steps rules at key.now fields.now)
+        graph.new (bib_ending result) }
+{
+    add_fields(alloc, rules, graph, at, key, fields)?;
+    add_byline(alloc, rules, graph, at, key, fields)
+}
+
 /// An entry whose key is at this byte.
 pub(crate) fn add_entry(
     alloc: Global,
+    rules: BibRules,
     graph: &mut GraphBuilder,
     stem: &Str,
     at: u64,
     entry: &Entry,
 ) -> Result<(), BibRefusal>
-    ensures { Ends graph.old (entry_steps stem.now at entry.now) graph.new (bib_ending result) }
+    ensures { Ends graph.old (entry_steps rules stem.now at entry.now) graph.new (bib_ending result) }
 {
     state_node(alloc, graph, at, &entry.key)?;
     state_member(alloc, graph, at, stem, &entry.key)?;
     state_member(alloc, graph, at, &entry.class, &entry.key)?;
-    add_fields(alloc, graph, at, &entry.key, entry.fields.items())
+    add_texts_of_entry(alloc, rules, graph, at, &entry.key, entry.fields.items())
 }

@@ -2,7 +2,7 @@
 ghost use Rattle.std.specs.Prelude.{◌≡◌, ◌<◌, ◌-◌, ◌^◌, ◌++◌, ◌∷◌, ◌&&◌, nat_eq, ◌≤◌, IsTrue, length, IfOk, OnOk, List, ℕ, map};
 ghost use Rattle.bibtex_spec.specs.Values as specs;
 
-use crate::bytes::{behind_blanks, is_blank};
+use bibtex_bytes::{behind_blanks, is_blank};
 use bibtex_spec::Field;
 use sd_value::{NoMemory, Str};
 use std::alloc::Global;
@@ -64,7 +64,8 @@ fn begins_and(bytes: &[u8]) -> bool
     }
 }
 
-fn depth_behind(depth: u64, b: u8) -> u64
+/// How many braces are open behind a byte.
+pub(crate) fn depth_behind(depth: u64, b: u8) -> u64
     requires { depth < 2 ^ 64 - 1 }
     ensures { result ≡ specs.depth_behind depth b }
 {

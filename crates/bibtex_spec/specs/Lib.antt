@@ -2,3 +2,4 @@ pub mod Bytes
 pub mod Values
 pub mod Macros
 pub mod Reading
+pub mod Clear

@@ -9,7 +9,7 @@
 --   piece := digits | "{" balanced "}" | quote | name
 --
 -- Blanks may stand between all of these. A reader is stuck at the first byte with which no item goes on, and is past
--- a limit at a macro that isn't defined or makes its value too large, or at the brace that is open within 64 others.
+-- a limit at a name that stands for no text, or whose text makes its value too large, or at the brace that is open within 64 others.
 use Rattle.std.specs.Prelude.{◌+◌, ◌-◌, ◌==◌, ◌&&◌, ℕ, zero, suc, Bool, true, false, List, [], ◌∷◌, ◌++◌, length}
 use Rattle.std.specs.Prelude.{codes, nat_eq, nat_lt, map, if◌then◌else◌, Option, Some, None}
 use Rattle.std.specs.Str.{bytes_eq}
@@ -62,6 +62,10 @@ read_class = spaced (choose is_letter (read_lower is_letter) stuck)
 unfoldable pub read_name : List ℕ → Outcome ℕ (List ℕ)
 read_name = spaced (choose is_letter (read_lower is_name_byte) stuck)
 
+-- a name as it is written
+unfoldable pub read_written : List ℕ → Outcome ℕ (List ℕ)
+read_written = spaced (choose is_letter (read_run is_name_byte) stuck)
+
 unfoldable pub read_key : List ℕ → Outcome ℕ (List ℕ)
 read_key = spaced (choose is_key_byte (read_run is_key_byte) stuck)
 
@@ -109,7 +113,7 @@ macro_read before bytes rest None = Past bytes
 
 unfoldable pub read_macro : MacroTexts → List ℕ → List ℕ → Outcome ℕ (List ℕ)
 read_macro macros before bytes =
-    and_then (read_name bytes) (λ name rest. macro_read before bytes rest (text_of macros name))
+    and_then (read_written bytes) (λ name rest. macro_read before bytes rest (text_of macros name))
 
 unfoldable pub read_piece : MacroTexts → List ℕ → List ℕ → Outcome ℕ (List ℕ)
 read_piece macros before =

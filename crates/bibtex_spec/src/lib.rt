@@ -72,3 +72,20 @@ pub enum Nesting {
     /// The text goes on, with so many open.
     Goes(u64),
 }
+
+/// Where in a text a byte is.
+#[derive(Clone, Copy)]
+pub enum Spot {
+    /// Outside of all items.
+    Outside,
+    /// Behind the `@` of an item, up to the byte that opens it; whether a key comes next.
+    Word(bool),
+    /// Before the key of an item that this byte closes.
+    BeforeKey(u8),
+    /// In the key of an item that this byte closes.
+    Key(u8),
+    /// Behind the key of an item that this byte closes, outside of texts.
+    Body(u8),
+    /// In a text that the first byte closes, with so many open, of an item that the second byte closes.
+    Text(u8, u64, u8),
+}

@@ -40,7 +40,7 @@ as_one rules (Json stem) limit bytes b c d r s (p, reads, is) (q, reads2, is2) l
     let both = json_law.has_one_answer rules.json stem bytes b c d p q reads reads2 (λ e. left (is ∙ ap (answer_told json_told) e)) (λ e. right (is2 ∙ ap (answer_told json_told) e)) in
     (both.0, is ∙ ap (answer_told json_told) both.1 ∙ sym is2)
 as_one rules (BibTex stem) limit bytes b c d r s (p, reads, is) (q, reads2, is2) left right =
-    let both = bib_law.has_one_answer stem bytes b c d p q reads reads2 (λ e. left (is ∙ ap (answer_told bib_told) e)) (λ e. right (is2 ∙ ap (answer_told bib_told) e)) in
+    let both = bib_law.has_one_answer rules.bibtex stem bytes b c d p q reads reads2 (λ e. left (is ∙ ap (answer_told bib_told) e)) (λ e. right (is2 ∙ ap (answer_told bib_told) e)) in
     (both.0, is ∙ ap (answer_told bib_told) both.1 ∙ sym is2)
 as_one rules (Database stem) limit bytes b c d r s (p, reads, is) (q, reads2, is2) left right =
     let both = db_law.has_one_answer stem bytes b c d p q reads reads2 (λ e. left (is ∙ ap (answer_told db_told) e)) (λ e. right (is2 ∙ ap (answer_told db_told) e)) in

@@ -28,7 +28,7 @@ pub no_memory_first : (rules : SourceRules) (format : Format) (limit : ℕ) (byt
 no_memory_first rules DataText limit bytes b = (Err (ddl.Text text.NoMemory), inl refl, refl)
 no_memory_first rules (Csv stem) limit bytes b = (Err csv.NoMemory, ([], csv_text.text_steps rules.csv stem bytes, refl, refl), refl)
 no_memory_first rules (Json stem) limit bytes b = (Err json.NoMemory, ([], json_text.text_steps rules.json stem bytes, refl, refl), refl)
-no_memory_first rules (BibTex stem) limit bytes b = (Err bib.NoMemory, ([], bib_text.text_steps stem bytes, refl, refl), refl)
+no_memory_first rules (BibTex stem) limit bytes b = (Err bib.NoMemory, ([], bib_text.text_steps rules.bibtex stem bytes, refl, refl), refl)
 no_memory_first rules (Text stem folder) limit bytes b = (Err text_file.NoMemory, ([], text_steps.file_steps stem folder bytes, refl, refl), refl)
 no_memory_first rules (Database stem) limit bytes b = (Err db.NoMemory, by (is_headed bytes) refl, refl)
   where

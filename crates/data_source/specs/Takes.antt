@@ -30,7 +30,7 @@ TakesAs rules (Csv stem) limit bytes b c result =
 TakesAs rules (Json stem) limit bytes b c result =
     Tells (json.Reads rules.json stem bytes b c) json_told result
 TakesAs rules (BibTex stem) limit bytes b c result =
-    Tells (bib.Reads stem bytes b c) bib_told result
+    Tells (bib.Reads rules.bibtex stem bytes b c) bib_told result
 TakesAs rules (Database stem) limit bytes b c result =
     Tells (db.Reads stem bytes b c) db_told result
 TakesAs rules (Text stem folder) limit bytes b c result =

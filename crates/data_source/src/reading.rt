@@ -31,7 +31,7 @@ pub fn read_source(
         Format::DataText => read_ddl(alloc, bytes, limit, graph)?,
         Format::Csv(stem) => read_csv(alloc, rules.csv, &stem, bytes, graph)?,
         Format::Json(stem) => read_json(alloc, rules.json, &stem, bytes, graph)?,
-        Format::BibTex(stem) => read_bibtex(alloc, &stem, bytes, graph)?,
+        Format::BibTex(stem) => read_bibtex(alloc, rules.bibtex, &stem, bytes, graph)?,
         Format::Text(stem, folder) => read_text(alloc, &stem, &folder, bytes, graph)?,
         Format::Database(stem) => {
             read_sqlite(alloc, &stem, bytes, graph)?;

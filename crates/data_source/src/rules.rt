@@ -2,16 +2,18 @@
 ghost use Rattle.std.specs.Prelude.{◌≡◌};
 ghost use Rattle.data_source.specs.Rules.{rules_of as rules_by};
 
+use bibtex_source::BibRules;
 use csv_source::CsvRules;
 use json_source::JsonRules;
 
-/// How data files are read. There is one way to read the data text and BibTeX.
+/// How data files are read. There is one way to read the data text and databases.
 #[derive(Clone, Copy, Debug, PartialEq, Eq)]
 pub struct SourceRules {
     /// The end of a file's name counts in capitals too.
     pub capitals: bool,
     pub csv: CsvRules,
     pub json: JsonRules,
+    pub bibtex: BibRules,
 }
 
 impl SourceRules {
@@ -20,13 +22,15 @@ impl SourceRules {
         capitals: false,
         csv: CsvRules::STRICT,
         json: JsonRules::STRICT,
+        bibtex: BibRules::STRICT,
     };
 
-    /// CSV and JSON as people have them.
+    /// CSV, JSON and BibTeX as people have them.
     pub const LENIENT: SourceRules = SourceRules {
         capitals: true,
         csv: CsvRules::LENIENT,
         json: JsonRules::LENIENT,
+        bibtex: BibRules::LENIENT,
     };
 
     /// The lenient rules if that is asked for, and else the strict ones.

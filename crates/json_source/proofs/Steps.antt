@@ -19,7 +19,7 @@ use Rattle.json_source.specs.Names.{Pointer, item_place, item_name, member_place
 use Rattle.json_source.specs.Document.{value_of}
 use Rattle.json_source.specs.Tables.{is_table, are_objects, is_collection}
 use Rattle.json_source.specs.declared.rules.JsonRules.{JsonRules}
-use Rattle.json_source.specs.Text.{json_ending, JsonStep, record_steps, records_steps, collection_steps, collections_steps, text_steps, steps_of, value_steps, items_steps, members_steps}
+use Rattle.json_source.specs.Text.{json_ending, JsonStep, record_steps, records_steps, collection_steps, collections_steps, text_steps, steps_of, order_steps, value_steps, items_steps, members_steps}
 use Rattle.json_source.specs.declared.refusal.JsonRefusal.{JsonRefusal}
 use Rattle.json_source.specs.declared.refusal.JsonRefusal.TheVariants.{NotJson, NotInteger, NotRecords, TooManyEdges, TooManyNodes, NoMemory}
 
@@ -83,30 +83,35 @@ items_stop rules b c d steps at node label child i items x place name e lt is p 
 
 next_members : (rules : JsonRules) (at : Pointer) (node : Name) (entries left : List Entry) (key : Text Global) (v : Json) (label place name : List ℕ)
     → entries ≡ (key, v) ∷ left → label ≡ string_bytes key → place ≡ member_place at label → name ≡ member_name node label
-    → members_steps rules at node (members_view entries) ≡ value_steps rules place node label name (view v) ++ members_steps rules at node (members_view left)
+    → members_steps rules at node (members_view entries) ≡ value_steps rules place node label name (view v) ++ (order_steps rules place node label (view v) ++ members_steps rules at node (members_view left))
 next_members rules at node entries left key v label place name split l p n =
     ap (λ es. members_steps rules at node (members_view es)) split
-    ∙ ap (λ q. value_steps rules (member_place at q) node q (member_name node q) (view v) ++ members_steps rules at node (members_view left)) (sym l)
-    ∙ ap (λ q. value_steps rules q node label (member_name node label) (view v) ++ members_steps rules at node (members_view left)) (sym p)
-    ∙ ap (λ q. value_steps rules place node label q (view v) ++ members_steps rules at node (members_view left)) (sym n)
+    ∙ ap (λ q. value_steps rules (member_place at q) node q (member_name node q) (view v) ++ (order_steps rules (member_place at q) node q (view v) ++ members_steps rules at node (members_view left))) (sym l)
+    ∙ ap (λ q. value_steps rules q node label (member_name node label) (view v) ++ (order_steps rules q node label (view v) ++ members_steps rules at node (members_view left))) (sym p)
+    ∙ ap (λ q. value_steps rules place node label q (view v) ++ (order_steps rules place node label (view v) ++ members_steps rules at node (members_view left))) (sym n)
 
-pub members_step : (rules : JsonRules) (b c d : Building) (steps : List JsonStep) (at : Pointer) (node : Name) (entries left : List Entry) (key : Text Global) (v : Json) (label place name : List ℕ)
-    → entries ≡ (key, v) ∷ left → label ≡ string_bytes key → place ≡ member_place at label → name ≡ member_name node label
-    → Continues b steps c (members_steps rules at node (members_view entries))
-    → Leads c (value_steps rules place node label name (view v)) d
-    → Continues b steps d (members_steps rules at node (members_view left))
-members_step rules b c d steps at node entries left key v label place name split l p n whole leads =
-    Continues-step b c d steps (value_steps rules place node label name (view v)) (members_steps rules at node (members_view left))
-    (subst (λ rest. Continues b steps c rest) (next_members rules at node entries left key v label place name split l p n) whole) leads
+module _ (rules : JsonRules) (b c d : Building) (steps : List JsonStep) (at : Pointer) (node : Name) (entries left : List Entry) (key : Text Global) (v : Json) (label place name : List ℕ)
+    (split : entries ≡ (key, v) ∷ left) (l : label ≡ string_bytes key) (p : place ≡ member_place at label) (n : name ≡ member_name node label)
+    (whole : Continues b steps c (members_steps rules at node (members_view entries))) where
+  -- the value comes next
+  value_next : Continues b steps c (value_steps rules place node label name (view v) ++ (order_steps rules place node label (view v) ++ members_steps rules at node (members_view left)))
+  value_next = subst (λ rest. Continues b steps c rest) (next_members rules at node entries left key v label place name split l p n) whole
 
-pub members_stop : (rules : JsonRules) (b c d : Building) (steps : List JsonStep) (at : Pointer) (node : Name) (entries left : List Entry) (key : Text Global) (v : Json) (label place name : List ℕ) (e : JsonRefusal)
-    → entries ≡ (key, v) ∷ left → label ≡ string_bytes key → place ≡ member_place at label → name ≡ member_name node label
-    → Continues b steps c (members_steps rules at node (members_view entries))
-    → Ends c (value_steps rules place node label name (view v)) d (json_ending (Err e))
-    → Ends b steps d (json_ending (Err e))
-members_stop rules b c d steps at node entries left key v label place name e split l p n whole ends =
-    stop b c d steps (value_steps rules place node label name (view v)) (members_steps rules at node (members_view left)) e
-    (subst (λ rest. Continues b steps c rest) (next_members rules at node entries left key v label place name split l p n) whole) ends
+  pub members_stop : (e : JsonRefusal) → Ends c (value_steps rules place node label name (view v)) d (json_ending (Err e)) → Ends b steps d (json_ending (Err e))
+  members_stop e ends =
+      stop b c d steps (value_steps rules place node label name (view v)) (order_steps rules place node label (view v) ++ members_steps rules at node (members_view left)) e value_next ends
+
+  module _ (leads : Leads c (value_steps rules place node label name (view v)) d) where
+    -- and then its order
+    order_next : Continues b steps d (order_steps rules place node label (view v) ++ members_steps rules at node (members_view left))
+    order_next =
+        Continues-step b c d steps (value_steps rules place node label name (view v)) (order_steps rules place node label (view v) ++ members_steps rules at node (members_view left)) value_next leads
+
+    pub order_stop : (f : Building) (e : JsonRefusal) → Ends d (order_steps rules place node label (view v)) f (json_ending (Err e)) → Ends b steps f (json_ending (Err e))
+    order_stop f e ends = stop b d f steps (order_steps rules place node label (view v)) (members_steps rules at node (members_view left)) e order_next ends
+
+    pub members_step : (f : Building) → Leads d (order_steps rules place node label (view v)) f → Continues b steps f (members_steps rules at node (members_view left))
+    members_step f ordered = Continues-step b d f steps (order_steps rules place node label (view v)) (members_steps rules at node (members_view left)) order_next ordered
 
 pub no_record : (rules : JsonRules) (at : Pointer) (c n : Name) (d : Data) → ◌≡◌ {A = Option Members} None (as_object d) → record_steps rules at c n d ≡ fails (NotRecords at) ∷ []
 no_record rules at c n (object os) h = cc

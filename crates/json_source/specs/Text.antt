@@ -1,5 +1,5 @@
 -- What a JSON text states of a data graph, step by step.
-use Rattle.std.specs.Prelude.{◌+◌, ℕ, ℤ, Bool, List, [], ◌∷◌, ◌++◌, codes, if◌then◌else◌, Option, Some, None, Result, Ok, Err, ⊤}
+use Rattle.std.specs.Prelude.{◌+◌, ◌&&◌, ℕ, ℤ, Bool, false, List, [], ◌∷◌, ◌++◌, codes, if◌then◌else◌, Option, Some, None, Result, Ok, Err, ⊤}
 use Rattle.serde_json.specs.Data.{Data, null, boolean, number, string, array, object, Items, no_items, item, Members, no_members, member}
 use Rattle.serde_json.specs.Find.{as_i64}
 use Rattle.sd_value.specs.declared.Value.TheVariants.{Data as a_datum}
@@ -11,6 +11,7 @@ use Rattle.source_steps.specs.Links.{text_value}
 use Rattle.json_source.specs.Names.{Pointer, item_place, member_place, item_name, member_name}
 use Rattle.json_source.specs.Document.{value_of}
 use Rattle.json_source.specs.Tables.{is_collection, holds_collections}
+use Rattle.json_source.specs.Orders.{has_order, order_text}
 use Rattle.json_source.specs.declared.rules.JsonRules.{JsonRules}
 use Rattle.json_source.specs.declared.refusal.JsonRefusal.{JsonRefusal}
 use Rattle.json_source.specs.declared.refusal.JsonRefusal.TheVariants.{NotJson, NotInteger, NotRecords, TooManyEdges}
@@ -26,6 +27,12 @@ boolean_text b = if b then codes "true" else codes "false"
 abbrev pub number_steps : Pointer → Name → Name → Option ℤ → List JsonStep
 number_steps at node label (Some z) = says at (an_edge node label (a_datum (Int z))) ∷ []
 number_steps at node label None = fails (NotInteger at) ∷ []
+
+-- by the rules, the order of a list that is a key's own value
+abbrev pub order_steps : JsonRules → Pointer → Name → Name → Data → List JsonStep
+order_steps rules at node key d =
+    if rules.orders && has_order d
+    then says at (an_edge node (key ++ codes "_list") (text_value false (order_text d))) ∷ [] else []
 
 module _ (rules : JsonRules) where
   -- what a value at a place states of the node that has it under a label. An object there is the node `child`
@@ -48,11 +55,12 @@ module _ (rules : JsonRules) where
         value_steps (item_place at index) node label (item_name child index) d
         ++ items_steps at node label child (index + 1) ds
 
-    -- the members of a node's object, by ascending key: each under its key
+    -- the members of a node's object, by ascending key: each under its key, and then its order
     pub members_steps : Pointer → Name → Members → List JsonStep
     members_steps at node no_members = []
     members_steps at node (member key d ms) = value_steps (member_place at key) node key
-        (member_name node key) d ++ members_steps at node ms
+        (member_name node key) d
+        ++ (order_steps rules (member_place at key) node key d ++ members_steps at node ms)
 
   -- a record: a node of the collection, and its members
   abbrev pub record_statements : Pointer → Name → Name → Members → List JsonStep

@@ -7,6 +7,7 @@ ghost use Rattle.json_source.specs.Reads.{Reads, HasOneAnswer};
 
 mod document;
 mod names;
+mod orders;
 mod records;
 mod refusal;
 mod rules;

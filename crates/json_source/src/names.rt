@@ -1,5 +1,5 @@
 // Places of values, and names of objects that are nodes.
-ghost use Rattle.std.specs.Prelude.{◌≡◌, ◌++◌, ◌<◌, IfOk, OnOk};
+ghost use Rattle.std.specs.Prelude.{◌≡◌, ◌++◌, ◌<◌, codes, IfOk, OnOk};
 ghost use Rattle.std.specs.List.{flat_map};
 ghost use Rattle.json_source.specs.Names.{member_place, item_place, member_name, pointer_byte, name_byte};
 ghost use Rattle.json_source.specs.Names.{is_kept as is_kept_byte, hexadecimal as hexadecimal_code};
@@ -101,4 +101,13 @@ pub(crate) fn name_of_member(alloc: Global, name: &Str, key: &Str) -> Result<Str
     member.extend_from_slice(b"_")?;
     push_name_key(&mut member, key.bytes())?;
     Str::of(alloc, member)
+}
+
+/// The label of the order of a list that has this key.
+pub(crate) fn name_of_list(alloc: Global, key: &Str) -> Result<Str, NoMemory>
+    ensures { IfOk result (λ s. s ≡ key.now ++ codes "_list") }
+{
+    let mut label = Vec::from_slice(alloc, key.bytes())?;
+    label.extend_from_slice(b"_list")?;
+    Str::of(alloc, label)
 }

@@ -10,6 +10,9 @@ pub struct JsonRules {
     pub tables: bool,
     /// A text that begins with `http://` or `https://` is a URL.
     pub links: bool,
+    /// A list of two or more texts and numbers that is a key's own value has also an edge `KEY_list`
+    /// to the text of its items in their order, with `, ` between them.
+    pub orders: bool,
 }
 
 impl JsonRules {
@@ -19,6 +22,7 @@ impl JsonRules {
         spelled_numbers: false,
         tables: false,
         links: false,
+        orders: false,
     };
 
     /// JSON as people have it.
@@ -26,5 +30,6 @@ impl JsonRules {
         spelled_numbers: true,
         tables: true,
         links: true,
+        orders: true,
     };
 }

@@ -1,9 +1,10 @@
 // What a value under a label states, and what is in it.
 ghost use Rattle.sd_graph.specs.Stating.{Ends};
 ghost use Rattle.serde_json.specs.View.{view, items_view, members_view};
-ghost use Rattle.json_source.specs.Text.{json_ending, value_steps, items_steps, members_steps};
+ghost use Rattle.json_source.specs.Text.{json_ending, order_steps, value_steps, items_steps, members_steps};
 
-use crate::names::{name_of_member, place_of_item, place_of_member};
+use crate::names::{name_of_list, name_of_member, place_of_item, place_of_member};
+use crate::orders::{has_order, order_text};
 use crate::refusal::JsonRefusal;
 use crate::rules::JsonRules;
 use crate::statements::{state_child, state_number, state_text};
@@ -12,6 +13,27 @@ use sd_value::Str;
 use serde_json::{Map, Value as Json};
 use source_steps::numbered_name;
 use std::alloc::Global;
+
+// By the rules, the order of a list that is a key's own value.
+fn add_order(
+    value: &Json,
+    alloc: Global,
+    rules: JsonRules,
+    graph: &mut GraphBuilder,
+    at: &Str,
+    node: &Str,
+    key: &Str,
+) -> Result<(), JsonRefusal>
+    ensures { Ends graph.old (order_steps rules at.now node.now key.now (view value.now)) graph.new
+        (json_ending result) }
+{
+    if !(rules.orders && has_order(value)) {
+        return Ok(());
+    }
+    let text = order_text(alloc, value)?;
+    let label = name_of_list(alloc, key)?;
+    state_text(alloc, false, graph, at, node, &label, text.bytes())
+}
 
 // A value under a label. An object is the node `child`.
 #[cycle(add_value)]
@@ -77,7 +99,7 @@ fn add_items(
     Ok(())
 }
 
-/// The members of a node's object, each under its key.
+/// The members of a node's object, each under its key, and the order of those that are lists.
 #[cycle(add_value)]
 pub(crate) fn add_members(
     members: &Map<String, Json>,
@@ -96,6 +118,7 @@ pub(crate) fn add_members(
         let place = place_of_member(alloc, at, &label)?;
         let name = name_of_member(alloc, node, &label)?;
         add_value(member, alloc, rules, graph, &place, node, &label, &name)?;
+        add_order(member, alloc, rules, graph, &place, node, &label)?;
     }
     Ok(())
 }

@@ -112,7 +112,7 @@ module _ (rules : SourceRules) (limit : ℕ) (bytes : List ℕ) (b : Building) w
       let h = json_answer rules.json stem bytes b in
       (h.0, answer_told json_told h.1, json_tells h.1 h.2, (h.1, h.3, refl))
   as_format (BibTex stem) other =
-      let h = bibtex_answer stem bytes b in
+      let h = bibtex_answer rules.bibtex stem bytes b in
       (h.0, answer_told bib_told h.1, bib_tells h.1 h.2, (h.1, h.3, refl))
   as_format (Text stem folder) other =
       let h = text_answer stem folder bytes b in

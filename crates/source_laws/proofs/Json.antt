@@ -1,7 +1,7 @@
 -- Each JSON text has an answer over any graph: its faults are that it is no JSON, and those of a number or of a value that
 -- is no record.
 use Rattle.std.proofs.Common.{◌≡◌, ◌+◌, ℕ, ℤ, List, [], refl, sym, subst, Option, Some, None, Result, Ok, Err}
-use Rattle.std.specs.Prelude.{⊤, if◌then◌else◌}
+use Rattle.std.specs.Prelude.{◌&&◌, ⊤, if◌then◌else◌}
 use Rattle.serde_json.specs.Data.{Data, null, boolean, number, string, array, object, Items, no_items, item, Members, no_members, member}
 use Rattle.serde_json.specs.Find.{as_i64}
 use Rattle.graph_spec.specs.DataGraph.{Name}
@@ -10,10 +10,11 @@ use Rattle.sd_graph.specs.Stating.{Ending, done, fault, too_many_nodes, too_many
 use Rattle.json_source.specs.Names.{Pointer, item_place, member_place, item_name, member_name}
 use Rattle.json_source.specs.Document.{value_of}
 use Rattle.json_source.specs.Tables.{is_collection, holds_collections}
+use Rattle.json_source.specs.Orders.{has_order}
 use Rattle.json_source.specs.declared.rules.JsonRules.{JsonRules}
 use Rattle.json_source.specs.declared.refusal.JsonRefusal.{JsonRefusal}
 use Rattle.json_source.specs.declared.refusal.JsonRefusal.TheVariants.{TooManyEdges, TooManyNodes, NoMemory}
-use Rattle.json_source.specs.Text.{JsonStep, number_steps, value_steps, items_steps, members_steps, record_steps, records_steps}
+use Rattle.json_source.specs.Text.{JsonStep, number_steps, order_steps, value_steps, items_steps, members_steps, record_steps, records_steps}
 use Rattle.json_source.specs.Text.{collection_steps, collections_steps, object_steps, top_steps, steps_of, text_steps, json_ending}
 use Rattle.json_source.specs.Reads.{Reads}
 use Rattle.source_laws.proofs.Steps.{FailAs, fail_append, fail_choice, IsToldAs, ended}
@@ -25,6 +26,9 @@ IsItself f = json_ending (Err f) ≡ fault f
 number_fails : (at : Pointer) (node label : Name) (n : Option ℤ) → FailAs IsItself (number_steps at node label n)
 number_fails at node label (Some z) = tt
 number_fails at node label None = (refl, tt)
+
+order_fails : (rules : JsonRules) (at : Pointer) (node key : Name) (d : Data) → FailAs IsItself (order_steps rules at node key d)
+order_fails rules at node key d = fail_choice IsItself (rules.orders && has_order d) _ _ tt tt
 
 module _ (rules : JsonRules) where
   mutual
@@ -46,7 +50,8 @@ module _ (rules : JsonRules) where
     members_fail at node no_members = tt
     members_fail at node (member key d ms) =
         fail_append IsItself (value_steps rules (member_place at key) node key (member_name node key) d) _
-        (value_fails (member_place at key) node key (member_name node key) d) (members_fail at node ms)
+        (value_fails (member_place at key) node key (member_name node key) d)
+        (fail_append IsItself (order_steps rules (member_place at key) node key d) _ (order_fails rules (member_place at key) node key d) (members_fail at node ms))
 
   record_fails : (at : Pointer) (collection node : Name) (d : Data) → FailAs IsItself (record_steps rules at collection node d)
   record_fails at collection node null = (refl, tt)

@@ -14,6 +14,7 @@ ghost use Rattle.json_source.specs.declared.rules.JsonRules.{JsonRules};
 ghost use Rattle.json_source.specs.declared.refusal.JsonRefusal.{JsonRefusal};
 ghost use Rattle.json_source.specs.declared.refusal.JsonRefusal.TheVariants as json_refusal;
 ghost use Rattle.json_source.specs.Reads as json;
+ghost use Rattle.bibtex_source.specs.declared.rules.BibRules.{BibRules};
 ghost use Rattle.bibtex_source.specs.declared.refusal.BibRefusal.{BibRefusal};
 ghost use Rattle.bibtex_source.specs.declared.refusal.BibRefusal.TheVariants as bib_refusal;
 ghost use Rattle.bibtex_source.specs.Reads as bibtex;
@@ -66,9 +67,9 @@ pub fn each_text_file_has_an_answer()
 
 /// So has each BibTeX text.
 pub fn each_bibtex_text_has_an_answer()
-    ensures { (stem bytes : List ℕ) (b : Building) → (c : Building)
+    ensures { (rules : BibRules) (stem bytes : List ℕ) (b : Building) → (c : Building)
         × (r : Result ⊤ BibRefusal) × (r ≡ Err bib_refusal.NoMemory → ⊥)
-        × bibtex.Reads stem bytes b c r }
+        × bibtex.Reads rules stem bytes b c r }
 {}
 
 /// Each data text has an answer besides out of memory, whatever graph it is read into, and leaves a

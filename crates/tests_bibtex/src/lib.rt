@@ -6,6 +6,10 @@ mod checks;
 #[cfg(test)]
 mod graphs;
 #[cfg(test)]
+mod lenient;
+#[cfg(test)]
 mod refused;
 #[cfg(test)]
 mod stated;
+#[cfg(test)]
+mod titles;

@@ -1,7 +1,7 @@
 // BibTeX texts that are refused, with their places worked out by hand.
 use crate::checks::check;
 use crate::graphs::{check_graph, graph_for};
-use bibtex_source::{BibRefusal, read_bibtex};
+use bibtex_source::{BibRefusal, BibRules, read_bibtex};
 use sd_value::{NoMemory, Str};
 use std::alloc::Global;
 use std::test::Fail;
@@ -323,7 +323,7 @@ const REFUSALS: &[RefusalRow] = &[
         text: b"\xEF\xBB\xBF@misc{k",
         nodes: 9,
         edges: 9,
-        refusal: Some(BibRefusal::Expected(7)),
+        refusal: Some(BibRefusal::Expected(10)),
     },
     RefusalRow {
         text: b"@misc{\xFF, a = {\xFE}}",
@@ -372,7 +372,7 @@ const REFUSALS: &[RefusalRow] = &[
 fn answer(alloc: Global, row: &RefusalRow) -> Result<Option<BibRefusal>, NoMemory> {
     let stem = Str::new(alloc, b"b")?;
     let mut graph = graph_for(alloc, row.nodes, row.edges);
-    Ok(read_bibtex(alloc, &stem, row.text, &mut graph).err())
+    Ok(read_bibtex(alloc, BibRules::STRICT, &stem, row.text, &mut graph).err())
 }
 
 #[test]
@@ -388,7 +388,7 @@ fn check_left(alloc: Global, text: &[u8], wanted: &[u8]) -> Result<(), Fail> {
     let stem = Str::new(alloc, b"b")?;
     let mut graph = graph_for(alloc, 9, 6);
     check(
-        read_bibtex(alloc, &stem, text, &mut graph).is_err(),
+        read_bibtex(alloc, BibRules::STRICT, &stem, text, &mut graph).is_err(),
         "not refused",
     )?;
     check_graph(alloc, graph, wanted)

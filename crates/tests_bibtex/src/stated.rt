@@ -1,6 +1,6 @@
 // BibTeX texts, and the graphs that they state, worked out by hand.
 use crate::graphs::{check_graph, graph_for};
-use bibtex_source::read_bibtex;
+use bibtex_source::{BibRules, read_bibtex};
 use sd_value::Str;
 use std::alloc::Global;
 use std::test::Fail;
@@ -8,7 +8,7 @@ use std::test::Fail;
 fn check_stated(alloc: Global, text: &[u8], wanted: &[u8]) -> Result<(), Fail> {
     let stem = Str::new(alloc, b"b")?;
     let mut graph = graph_for(alloc, 9, 99);
-    read_bibtex(alloc, &stem, text, &mut graph)?;
+    read_bibtex(alloc, BibRules::STRICT, &stem, text, &mut graph)?;
     check_graph(alloc, graph, wanted)
 }
 

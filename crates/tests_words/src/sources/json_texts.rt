@@ -159,7 +159,10 @@ const ROWS: &[Row] = &[
     Row {
         text: b"{\"name\": \"x\", \"tags\": [1, 2]}",
         rules: JsonRules::LENIENT,
-        graph: Some("object \"p_1\" in \"p\" {\n  \"name\" \"x\"\n  \"tags\" 1\n  \"tags\" 2\n}\n"),
+        graph: Some(
+            "object \"p_1\" in \"p\" {\n  \"name\" \"x\"\n  \"tags\" 1\n  \"tags\" 2\n  \
+            \"tags_list\" \"1, 2\"\n}\n",
+        ),
         ..ROW
     },
     Row {
@@ -224,6 +227,65 @@ const ROWS: &[Row] = &[
     },
 ];
 
+// Lists that keep their order, and lists without items.
+const ORDERS: &[Row] = &[
+    Row {
+        text: b"[{\"au\": [\"Bo\", \"Abel\", 3], \"one\": [\"x\"], \"b\": [\"x\", true]}]",
+        rules: JsonRules::LENIENT,
+        graph: Some(
+            "object \"p_1\" in \"p\" {\n  \"au\" 3\n  \"au\" \"Abel\"\n  \"au\" \"Bo\"\n  \"au_list\" \"Bo, \
+            Abel, 3\"\n  \"b\" \"true\"\n  \"b\" \"x\"\n  \"one\" \"x\"\n}\n",
+        ),
+        ..ROW
+    },
+    Row {
+        text: b"[{\"a\": [[\"x\", \"y\"], \"z\"], \"b\": [1, 2], \"c\": [1.50, \"u\"]}]",
+        rules: JsonRules::LENIENT,
+        graph: Some(
+            "object \"p_1\" in \"p\" {\n  \"a\" \"x\"\n  \"a\" \"y\"\n  \"a\" \"z\"\n  \"b\" 1\n  \"b\" 2\n  \
+            \"b_list\" \"1, 2\"\n  \"c\" \"1.50\"\n  \"c\" \"u\"\n  \"c_list\" \"1.50, u\"\n}\n",
+        ),
+        ..ROW
+    },
+    // Both items are URLs, and the list is a text. Strictly there is no list.
+    Row {
+        text: b"[{\"u\": [\"http://b\", \"http://a\"]}]",
+        rules: JsonRules::LENIENT,
+        graph: Some(
+            "object \"p_1\" in \"p\" {\n  \"u\" url \"http://a\"\n  \"u\" url \"http://b\"\n  \"u_list\" \
+            \"http://b, http://a\"\n}\n",
+        ),
+        ..ROW
+    },
+    Row {
+        text: b"[{\"b\": [-2, 1]}]",
+        graph: Some("object \"p_1\" in \"p\" {\n  \"b\" -2\n  \"b\" 1\n}\n"),
+        ..ROW
+    },
+    // There is room for two edges and the record's member, and none for the list.
+    Row {
+        text: b"[{\"b\": [-2, 1]}]",
+        edges: 3,
+        rules: JsonRules::LENIENT,
+        number: 11,
+        place: Some("/0/b"),
+        graph: Some("object \"p_1\" in \"p\" {\n  \"b\" -2\n  \"b\" 1\n}\n"),
+        ..ROW
+    },
+    Row {
+        text: b"{\"a\": [], \"b\": []}",
+        rules: JsonRules::LENIENT,
+        graph: Some(""),
+        ..ROW
+    },
+    Row {
+        text: b"{\"count\": 0, \"rows\": []}",
+        rules: JsonRules::LENIENT,
+        graph: Some("object \"p_1\" in \"p\" {\n  \"count\" 0\n}\n"),
+        ..ROW
+    },
+];
+
 // The number and the place of a refusal.
 fn reported(end: &Result<(), JsonRefusal>) -> (u32, &[u8]) {
     match end {
@@ -252,6 +314,14 @@ fn check_row(alloc: Global, row: &Row) -> Result<(), Fail> {
 #[test]
 fn each_json_text_is_read_as_its_row_says(rt: HostRuntime) -> Result<(), Fail> {
     for row in ROWS {
+        check_row(rt.alloc(), row)?;
+    }
+    Ok(())
+}
+
+#[test]
+fn each_list_keeps_its_order_as_its_row_says(rt: HostRuntime) -> Result<(), Fail> {
+    for row in ORDERS {
         check_row(rt.alloc(), row)?;
     }
     Ok(())

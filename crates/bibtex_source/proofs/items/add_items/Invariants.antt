@@ -5,7 +5,7 @@ use Rattle.bibtex_source.proofs.items.add_items.Given as goal
 
 abbrev pub invariant-items : goal.invariant-items
 invariant-items l =
-    IsReached l.stem l.whole l.fn.graph (items_steps l.stem l.bytes) l.graph l.macros l.rest
+    IsReached l.rules l.stem l.whole l.fn.graph (items_steps l.rules l.stem l.fn.macros l.bytes) l.graph l.macros l.rest
     × (length l.rest ≤ length l.bytes)
 
 abbrev pub decreases-items : goal.decreases-items

@@ -9,7 +9,7 @@ use Rattle.sd_graph.specs.Statement.{an_edge}
 use Rattle.sd_graph.specs.Stating.{says}
 use Rattle.sd_graph.specs.StatingLaws.{Ends-after, Ends-before}
 use Rattle.json_source.specs.Text.{items_steps, members_steps, json_ending}
-use Rattle.json_source.proofs.Steps.{items_step, items_stop, members_step, members_stop, cuts, view_string}
+use Rattle.json_source.proofs.Steps.{items_step, items_stop, members_step, members_stop, order_stop, cuts, view_string}
 use Rattle.json_source.proofs.values.+add_value.Goals as goal
 
 pub add_items-returns-in_err-add_value : goal.add_items-returns-in_err-add_value
@@ -41,8 +41,19 @@ add_members-returns-in_err-add_value t c =
     (members_stop c.args.rules c.args.graph.now c.loop-key.graph c.add_value.new.graph
     (members_steps c.args.rules c.args.at.now c.args.node.now (members_view c.args.members.now.entries))
     c.args.at.now c.args.node.now c.loop-key.key-iterator c.next.new.self c.in-Some.key.now c.in-Some.member.now
-    c.in_ok-label.label c.in_ok-place.place c.in_ok-name.name c.in_err-add_value.field-0.0
-    c.in-Some.ensures.steps (c.in_ok-label.ensures ∙ c.as_bytes.ensures.value) c.in_ok-place.ensures c.in_ok-name.ensures c.loop-key.invariant c.in_err-add_value.ensures)
+    c.in_ok-label.label c.in_ok-place.place c.in_ok-name.name
+    c.in-Some.ensures.steps (c.in_ok-label.ensures ∙ c.as_bytes.ensures.value) c.in_ok-place.ensures c.in_ok-name.ensures c.loop-key.invariant c.in_err-add_value.field-0.0 c.in_err-add_value.ensures)
+
+pub add_members-returns-in_err-add_order : goal.add_members-returns-in_err-add_order
+add_members-returns-in_err-add_order t c =
+    let p = err_from_is_err_and c.from_residual-in_err-add_order.result c.from_residual-in_err-add_order.ensures.1 in
+    rw (p.1, p.2)
+    (order_stop c.args.rules c.args.graph.now c.loop-key.graph c.add_value.new.graph
+    (members_steps c.args.rules c.args.at.now c.args.node.now (members_view c.args.members.now.entries))
+    c.args.at.now c.args.node.now c.loop-key.key-iterator c.next.new.self c.in-Some.key.now c.in-Some.member.now
+    c.in_ok-label.label c.in_ok-place.place c.in_ok-name.name
+    c.in-Some.ensures.steps (c.in_ok-label.ensures ∙ c.as_bytes.ensures.value) c.in_ok-place.ensures c.in_ok-name.ensures c.loop-key.invariant c.in_ok-add_value.ensures
+    c.add_order.new.graph c.in_err-add_order.field-0.0 c.in_err-add_order.ensures)
 
 pub add_members-loop-key-preserved : goal.add_members-loop-key-preserved
 add_members-loop-key-preserved t c =
@@ -51,6 +62,7 @@ add_members-loop-key-preserved t c =
     c.args.at.now c.args.node.now c.loop-key.key-iterator c.next.new.self c.in-Some.key.now c.in-Some.member.now
     c.in_ok-label.label c.in_ok-place.place c.in_ok-name.name
     c.in-Some.ensures.steps (c.in_ok-label.ensures ∙ c.as_bytes.ensures.value) c.in_ok-place.ensures c.in_ok-name.ensures c.loop-key.invariant c.in_ok-add_value.ensures
+    c.add_order.new.graph c.in_ok-add_order.ensures
 
 pub add_value-returns-in_err-state_child-in-Object : goal.add_value-returns-in_err-state_child-in-Object
 add_value-returns-in_err-state_child-in-Object t c =

@@ -1,0 +1,12 @@
+-- How BibTeX texts are read.
+use Rattle.std.specs.Prelude.{true, false}
+use Rattle.bibtex_source.specs.declared.rules.BibRules.{BibRules}
+
+-- each name is a macro, and each byte of an item is one of its grammar
+abbrev pub strict : BibRules
+strict = record { names = false; comments = false; readable = false; bylines = false }
+
+-- other names stand for themselves; comments within items, and each `@` that begins no item, are passed over; texts are
+-- what TeX shows, and the people of an entry keep their order
+abbrev pub lenient : BibRules
+lenient = record { names = true; comments = true; readable = true; bylines = true }

@@ -1,0 +1,32 @@
+// How BibTeX texts are read.
+
+/// How a BibTeX text is read.
+#[derive(Clone, Copy, Debug, PartialEq, Eq)]
+pub struct BibRules {
+    /// A name that no `@string` defines stands for itself, as it is written.
+    pub names: bool,
+    /// Comments within items, and each `@` that begins no item, are passed over.
+    pub comments: bool,
+    /// Texts are those that TeX shows, and a month is its number.
+    pub readable: bool,
+    /// An entry has an edge `byline` to its people in their order.
+    pub bylines: bool,
+}
+
+impl BibRules {
+    /// The profile as it is defined.
+    pub const STRICT: BibRules = BibRules {
+        names: false,
+        comments: false,
+        readable: false,
+        bylines: false,
+    };
+
+    /// Bibliographies as people have them.
+    pub const LENIENT: BibRules = BibRules {
+        names: true,
+        comments: true,
+        readable: true,
+        bylines: true,
+    };
+}

@@ -1,0 +1,212 @@
+// BibTeX texts that are read by lenient rules, worked out by hand.
+use crate::checks::{check, check_text};
+use crate::graphs::{check_graph, graph_for};
+use bibtex_source::{BibRefusal, BibRules, read_bibtex};
+use sd_value::Str;
+use std::alloc::Global;
+use std::test::Fail;
+
+// Names stand for themselves, and what is in no item is passed over.
+const PASSING: BibRules = BibRules {
+    names: true,
+    comments: true,
+    ..BibRules::STRICT
+};
+
+// A text, how it is read, why it is refused, and the data text of what is stated.
+struct Row {
+    text: &'static [u8],
+    rules: BibRules,
+    refusal: Option<BibRefusal>,
+    graph: &'static [u8],
+}
+
+// What most rows have.
+const ROW: Row = Row {
+    text: b"",
+    rules: PASSING,
+    refusal: None,
+    graph: b"",
+};
+
+const ROWS: &[Row] = &[
+    // A name that nothing defines is itself, as it is written.
+    Row {
+        text: b"@a{k, journal = JACM # { 7}}",
+        graph: b"object \"k\" in \"a\", \"b\" {\n  \"journal\" \"JACM 7\"\n}\n",
+        ..ROW
+    },
+    Row {
+        text: b"@a{k, journal = JACM}",
+        rules: BibRules::STRICT,
+        refusal: Some(BibRefusal::UnknownMacro(16)),
+        ..ROW
+    },
+    // One that is defined is its text, in any case.
+    Row {
+        text: b"@string{Ab = \"x\"} @a{k, n = aB # Cd # MAR}",
+        graph: b"object \"k\" in \"a\", \"b\" {\n  \"n\" \"xCdmar\"\n}\n",
+        ..ROW
+    },
+    // Comments within an item, and an address of mail.
+    Row {
+        text: b"me@x.org\n@misc{k, % note\n note = {50 % kept}, % c }\n year = 1999}",
+        graph: b"object \"k\" in \"b\", \"misc\" {\n  \"note\" \"50 % kept\"\n  \"year\" 1999\n}\n",
+        ..ROW
+    },
+    Row {
+        text: b"me@x.org\n@misc{k}",
+        rules: BibRules::STRICT,
+        refusal: Some(BibRefusal::Expected(4)),
+        ..ROW
+    },
+    Row {
+        text: b"@misc{k, % note\n note = 1}",
+        rules: BibRules::STRICT,
+        refusal: Some(BibRefusal::Expected(9)),
+        ..ROW
+    },
+    // Before the key, within it, and in a quote that has braces.
+    Row {
+        text: b"@misc{% c\r a%b, note = \"{%\"} 5%\" % }\n}",
+        graph: b"object \"a%b\" in \"b\", \"misc\" {\n  \"note\" \"{%\\\"} 5%\"\n}\n",
+        ..ROW
+    },
+    // In items without a key, and in parentheses.
+    Row {
+        text: b"@string(a = % c\n \"% x\") @preamble{% }\n \"%\"} @misc(k, n = a % )\n)",
+        graph: b"object \"k\" in \"b\", \"misc\" {\n  \"n\" \"% x\"\n}\n",
+        ..ROW
+    },
+    // What stands outside of items is no comment, and an item in it is read.
+    Row {
+        text: b"% @misc{k}\n@comment{x} @ % @misc {l} % @misc",
+        graph: b"object \"k\" in \"b\", \"misc\" {\n}\nobject \"l\" in \"b\", \"misc\" {\n}\n",
+        ..ROW
+    },
+    // An item that isn't whole is refused, at its place in the file.
+    Row {
+        text: b"me@x.org @misc{k, a}",
+        refusal: Some(BibRefusal::Expected(19)),
+        ..ROW
+    },
+    Row {
+        text: b"@misc{k, a = {x}",
+        refusal: Some(BibRefusal::Expected(16)),
+        ..ROW
+    },
+    // A byte order mark is three bytes of it.
+    Row {
+        text: b"\xef\xbb\xbf@misc{k, a}",
+        refusal: Some(BibRefusal::Expected(13)),
+        ..ROW
+    },
+    Row {
+        text: b"\xef\xbb\xbf@misc{k, a}",
+        rules: BibRules::STRICT,
+        refusal: Some(BibRefusal::Expected(13)),
+        ..ROW
+    },
+];
+
+// Texts as people read them, and people in their order.
+const READABLE: &[Row] = &[
+    Row {
+        text: b"@misc{k, title = {G{\\\"o}del, {\\'E}mile, Fran{\\c{c}}ois, Stra{\\ss}e, {\\O}re, \\aa, \\~n, \\v{s}}}",
+        rules: BibRules::LENIENT,
+        graph: b"object \"k\" in \"b\", \"misc\" {\n  \"title\" \"G\xc3\xb6del, \xc3\x89mile, Fran\xc3\xa7ois, Stra\xc3\x9fe, \
+            \xc3\x98re, \xc3\xa5, \xc3\xb1, \xc5\xa1\"\n}\n",
+        ..ROW
+    },
+    Row {
+        text: b"@misc{k, title = \"a -- b --- c \\& 50\\% ``q'' {Keep} Case\"}",
+        rules: BibRules::LENIENT,
+        graph: b"object \"k\" in \"b\", \"misc\" {\n  \"title\" \"a \xe2\x80\x93 b \xe2\x80\x94 c & 50% \xe2\x80\x9cq\xe2\x80\x9d Keep Case\"\n}\n",
+        ..ROW
+    },
+    Row {
+        text: b"@article{k, author = {G{\\\"o}del, Kurt and Ada Lovelace and Knuth, Donald E.}, month = mar, journal = jacm}",
+        rules: BibRules::LENIENT,
+        graph: b"object \"k\" in \"article\", \"b\" {\n  \"author\" \"Ada Lovelace\"\n  \"author\" \"G\xc3\xb6del, Kurt\"\n  \
+            \"author\" \"Knuth, Donald E.\"\n  \"byline\" \"Kurt G\xc3\xb6del, Ada Lovelace and Donald E. Knuth\"\n  \
+            \"journal\" \"jacm\"\n  \"month\" 3\n}\n",
+        ..ROW
+    },
+    Row {
+        text: b"@book{k, editor = \"A B and C D\"}",
+        rules: BibRules::LENIENT,
+        graph: b"object \"k\" in \"b\", \"book\" {\n  \"byline\" \"A B and C D\"\n  \"editor\" \"A B\"\n  \"editor\" \"C D\"\n}\n",
+        ..ROW
+    },
+    Row {
+        text: b"@misc{k, title = {\\emph{x} \\LaTeX y \\url{u} \\textbf {z}}}",
+        rules: BibRules::LENIENT,
+        graph: b"object \"k\" in \"b\", \"misc\" {\n  \"title\" \"x LaTeX y u textbf z\"\n}\n",
+        ..ROW
+    },
+    Row {
+        text: b"@a{k1, month = {March}} @a{k2, month = {Sep.}} @a{k3, month = 7} @a{k4, month = {Sept}} @a{k5, month = \"1 May\"}",
+        rules: BibRules::LENIENT,
+        graph: b"object \"k1\" in \"a\", \"b\" {\n  \"month\" 3\n}\nobject \"k2\" in \"a\", \"b\" {\n  \"month\" 9\n}\n\
+            object \"k3\" in \"a\", \"b\" {\n  \"month\" 7\n}\nobject \"k4\" in \"a\", \"b\" {\n  \"month\" \"Sept\"\n}\n\
+            object \"k5\" in \"a\", \"b\" {\n  \"month\" \"1 May\"\n}\n",
+        ..ROW
+    },
+    Row {
+        text: b"@book{k, author = {von der X, Y and Last, Jr, First}}",
+        rules: BibRules::LENIENT,
+        graph: b"object \"k\" in \"b\", \"book\" {\n  \"author\" \"Last, Jr, First\"\n  \"author\" \"von der X, Y\"\n  \
+            \"byline\" \"Y von der X and First Last Jr\"\n}\n",
+        ..ROW
+    },
+    Row {
+        text: b"@book{k, author = {Knuth, Donald E.}, editor = {A B}}",
+        rules: BibRules::LENIENT,
+        graph: b"object \"k\" in \"b\", \"book\" {\n  \"author\" \"Knuth, Donald E.\"\n  \"byline\" \"Donald E. Knuth\"\n  \
+            \"editor\" \"A B\"\n}\n",
+        ..ROW
+    },
+    // A group's name is one, and others are et al.
+    Row {
+        text: b"@a{k, author = {{Group, of and} and Bo, A and others}}",
+        rules: BibRules::LENIENT,
+        graph: b"object \"k\" in \"a\", \"b\" {\n  \"author\" \"Bo, A\"\n  \"author\" \"Group, of and\"\n  \"author\" \
+            \"others\"\n  \"byline\" \"Group, of and, A Bo et al.\"\n}\n",
+        ..ROW
+    },
+    // The nearer of two accents comes first, dotless letters, blanks behind a letter's name, a sign over nothing.
+    Row {
+        text: b"@a{k, t = {Vi\\d{\\^e}t, na\\\"\\i ve, \\'{\\i}, \\ae sir, \\^ o, \\~{}me, \\c c\\k a\\H{o}\\r u\\=a\\.z, \\i}}",
+        rules: BibRules::LENIENT,
+        graph: b"object \"k\" in \"a\", \"b\" {\n  \"t\" \"Vi\xe1\xbb\x87t, na\xc3\xafve, \xc3\xad, \xc3\xa6sir, \xc3\xb4, ~me, \
+            \xc3\xa7\xc4\x85\xc5\x91\xc5\xaf\xc4\x81\xc5\xbc, \xc4\xb1\"\n}\n",
+        ..ROW
+    },
+];
+
+fn check_row(alloc: Global, row: &Row) -> Result<(), Fail> {
+    let stem = Str::new(alloc, b"b")?;
+    let mut graph = graph_for(alloc, 9, 99);
+    let refusal = read_bibtex(alloc, row.rules, &stem, row.text, &mut graph).err();
+    if refusal != row.refusal {
+        check_text(b"another answer", row.text)?;
+    }
+    check(refusal == row.refusal, "another answer")?;
+    check_graph(alloc, graph, row.graph)
+}
+
+#[test]
+fn each_text_is_read_as_its_row_says(rt: HostRuntime) -> Result<(), Fail> {
+    for row in ROWS {
+        check_row(rt.alloc(), row)?;
+    }
+    Ok(())
+}
+
+#[test]
+fn each_text_is_shown_as_its_row_says(rt: HostRuntime) -> Result<(), Fail> {
+    for row in READABLE {
+        check_row(rt.alloc(), row)?;
+    }
+    Ok(())
+}
