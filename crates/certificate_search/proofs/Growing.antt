@@ -4,7 +4,7 @@ use Rattle.std.specs.Prelude.{Bool, true, false, ◌&&◌, map, Option, Some, No
 use Rattle.std.specs.List.{list_any, list_all, flat_map}
 use Rattle.std.proofs.lemmas.List.{append-nil, map-append, length-map, get_or_append_left, drop_all, take_all, get_or-map}
 use Rattle.sd_value.specs.Names.{Name}
-use Rattle.query_spec.specs.Query.{Operand, Condition, SkolemTerm, Target, plain, made}
+use Rattle.query_spec.specs.Query.{Operand, Condition, SkolemTerm, Target, plain, made, summed}
 use Rattle.query_spec.specs.Mentions.{variables_of}
 use Rattle.site_spec.specs.Site.{Scope}
 use Rattle.constraint_spec.specs.Placed.{links_of}

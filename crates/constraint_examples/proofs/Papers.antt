@@ -103,6 +103,7 @@ single_year = record {
   link = link_3;
   may = record { numbered = record { from_one = lit≤ tt; within = lit≤ tt; there = refl }; starts = (site.year_page, refl, refl); label = refl };
   alone = three_alone;
+  per_row = tt;
   determined = λ x m. m;
 }
 

@@ -17,6 +17,7 @@ use Rattle.query_spec.specs.declared.Variable.{Variable}
 use Rattle.query_spec.specs.Query.{Link, Body as Block}
 use Rattle.query_spec.specs.Holds.{Holds}
 use Rattle.query_spec.specs.Rows.{IsRow, value_in}
+use Rattle.site_spec.proofs.Sums.{per_row_joined}
 use Rattle.site_spec.specs.Site.{SomeOf, chain, IsJoined, Joins, InSite, Linked, SiteEdge}
 use Rattle.weight_spec.specs.Site.{site_of}
 use Rattle.page_spec.specs.declared.Outcome.TheVariants.{Page as Whole}
@@ -164,12 +165,12 @@ module _ (G : DataGraph) (declared : Contains G.nodes o) (member : Contains G.me
     holds = record {
       item = link;
       within = (0, lit< tt, refl);
-      holds = record {
+      holds = inl (record {
         row = row;
         is_row = has_row;
         holds =
             record { from = (term, record { function = refl; args = (refl, tt) }, refl); by = refl; to = refl };
-      };
+      });
     };
   }
 
@@ -192,7 +193,8 @@ joined_ends : (v w : Value) (l : Name) (k : Link) → link ≡ k → IsJoined be
 joined_ends v w l k e j =
     let at : IsJoined before (chain scope block) v l w link = subst (IsJoined before (chain scope block) v l w) (sym e)
     j in
-    by at.row at.is_row at.holds
+    let r = per_row_joined before (chain scope block) v l w link tt at in
+    by r.row r.is_row r.holds
   where
     by : (r : List Value) → IsRow before (chain scope block) r → Joins (value_in (chain scope block).variables r) link v
         l w → IsValueOf before w × ((p : _) × (v ≡ Page p))

@@ -5,7 +5,7 @@ use Rattle.std.proofs.Common.{refl, sym, ap, ◌∙◌, subst, inl, inr}
 use Rattle.std.proofs.lemmas.List.Elements.{Contains-append_left, Contains-append_right, Contains-append_cases}
 use Rattle.sd_value.specs.Members.{Contains-nil, Contains-cons_cases, Contains-here, Contains-flat_map, Contains-flat_mapped}
 use Rattle.graph_spec.specs.DataGraph.{Name}
-use Rattle.query_spec.specs.Query.{SkolemTerm, Target, plain, made, LinkLabel, quoted, label_variable, Link, Collect, Body as Block}
+use Rattle.query_spec.specs.Query.{SkolemTerm, Target, plain, made, summed, LinkLabel, quoted, label_variable, Link, Collect, Body as Block}
 use Rattle.query_spec.specs.Mentions.{same_name}
 use Rattle.site_spec.specs.Site.{SomeOf, target_terms, ends_of, terms_of}
 use Rattle.tmpl.specs.Body.{Body}

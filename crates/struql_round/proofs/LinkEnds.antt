@@ -1,6 +1,6 @@
 -- The canonical texts of what links end at spell it: a term in place of which version 3 reads no aggregate, and aggregates.
 use Rattle.std.proofs.Common.{◌≡◌, ℕ, Bool, true, false, List, [], ◌∷◌, ◌++◌, Some, None, refl, sym, ap, subst, ◌∙◌, append_assoc, inl, inr}
-use Rattle.std.specs.Prelude.{map, codes, Option, nat_eq, ◌&&◌, ◌||◌, if◌then◌else◌}
+use Rattle.std.specs.Prelude.{map, codes, nat_eq, ◌&&◌, ◌||◌, if◌then◌else◌}
 use Rattle.std.proofs.lemmas.List.{append-nil}
 use Rattle.sd_lex.specs.declared.token.Token.{Token}
 use Rattle.sd_lex.specs.declared.token.Span.{Span}
@@ -18,7 +18,7 @@ use Rattle.struql_ast.specs.Reading.{operand_of, aggregate_of}
 use Rattle.struql_ast.specs.Written as tree
 use Rattle.struql_text.specs.declared.keyword.Keyword.TheVariants as words
 use Rattle.struql_text.specs.declared.keyword.Word.{Word}
-use Rattle.struql_text.specs.Terminals.{keyword_of, keyword_in, from_to, is_keyword, is_keyword_kind, aggregate_named, is_sum}
+use Rattle.struql_text.specs.Terminals.{keyword_of, from_to, is_keyword, is_keyword_kind, aggregate_named, is_sum}
 use Rattle.struql_text.specs.Grammar as text
 use Rattle.struql_text.proofs.TokenParts.{is_that}
 use Rattle.struql_print.specs.Texts.{aggregate_text}
@@ -66,8 +66,7 @@ other_end : (version : ℕ) (f : SkolemTerm) (ts : List Token) → is_sum versio
 other_end version f ts sums untold h =
     let s = arguments_spelt version f ts h in
     let w = s.0 in
-    let word : Word = record { text = f.function; span = h.0.span } in
-    (
+    let word : Word = record { text = f.function; span = h.0.span } in (
       tree.made w,
       (
         h.0 ∷ [],
@@ -186,22 +185,21 @@ module _ (f v : List ℕ) (make : Span → declared_aggregate.Aggregate) (a : Ag
           Variable f n.span,
           whole,
           (n, refl, operand_is 3 (variable f) n shows),
-          inl (subst (λ b. text.by_sum 3 b word (o ∷ (x ∷ (c ∷ []))) (tree.summed (make x.span) w.span)) (sym other)
-              (
-                o ∷ (x ∷ (c ∷ [])),
-                [],
-                w,
-                refl,
-                (
-                  o ∷ [],
-                  x ∷ (c ∷ []),
-                  o.span,
-                  refl,
-                  is_that signs.OpenParen o opens,
-                  inr (x ∷ [], c ∷ [], Variable v x.span ∷ [], refl, (x ∷ [], [], Variable v x.span, refl, (x, refl, operand_is 3 (variable v) x variable_shows), (0, (refl, refl))), (c ∷ [], [], c.span, refl, is_that signs.CloseParen c closes, (refl, refl))),
-                ),
-                (refl, told),
-              )),
+          inl (subst (λ b. text.by_sum 3 b word (o ∷ (x ∷ (c ∷ []))) (tree.summed (make x.span) w.span)) (sym other) (
+            o ∷ (x ∷ (c ∷ [])),
+            [],
+            w,
+            refl,
+            (
+              o ∷ [],
+              x ∷ (c ∷ []),
+              o.span,
+              refl,
+              is_that signs.OpenParen o opens,
+              inr (x ∷ [], c ∷ [], Variable v x.span ∷ [], refl, (x ∷ [], [], Variable v x.span, refl, (x, refl, operand_is 3 (variable v) x variable_shows), (0, (refl, refl))), (c ∷ [], [], c.span, refl, is_that signs.CloseParen c closes, (refl, refl))),
+            ),
+            (refl, told),
+          )),
         ),
         ap plain.summed (kept x.span),
       )
@@ -276,22 +274,21 @@ told_end v x ts (n, r0, e0, shows, (o, r1, e1, opens, (a, r2, e2, value_shows, (
         Variable (codes "sum") n.span,
         whole,
         (n, refl, operand_is 3 (variable (codes "sum")) n shows),
-        inl (subst (λ y. text.by_sum 3 y word (o ∷ inside) t) (sym sum_is)
-            (
-              o ∷ [],
-              inside,
-              o.span,
-              refl,
-              is_that signs.OpenParen o opens,
-              inr (
-                a ∷ [],
-                k ∷ (b ∷ (c ∷ [])),
-                Variable v a.span,
-                refl,
-                (a, refl, operand_is 3 (variable v) a value_shows),
-                inl (k ∷ [], b ∷ (c ∷ []), k.span, refl, is_word words.Of k (of_shown k of), (b ∷ [], c ∷ [], record { text = x; span = b.span }, refl, (b, refl, name_is 3 x b key_shows), (c ∷ [], [], c.span, refl, is_that signs.CloseParen c closes, (refl, refl)))),
-              ),
-            )),
+        inl (subst (λ y. text.by_sum 3 y word (o ∷ inside) t) (sym sum_is) (
+          o ∷ [],
+          inside,
+          o.span,
+          refl,
+          is_that signs.OpenParen o opens,
+          inr (
+            a ∷ [],
+            k ∷ (b ∷ (c ∷ [])),
+            Variable v a.span,
+            refl,
+            (a, refl, operand_is 3 (variable v) a value_shows),
+            inl (k ∷ [], b ∷ (c ∷ []), k.span, refl, is_word words.Of k (of_shown k of), (b ∷ [], c ∷ [], record { text = x; span = b.span }, refl, (b, refl, name_is 3 x b key_shows), (c ∷ [], [], c.span, refl, is_that signs.CloseParen c closes, (refl, refl)))),
+          ),
+        )),
       ),
       refl,
     )

@@ -199,6 +199,10 @@ last_false false b = refl
 untold_before : (version : ℕ) (f : List ℕ) (os : List Operand) → nat_eq version 3 ≡ false → (nat_eq version 3 && (is_summary f && is_one_variable (map operand_of os))) ≡ false
 untold_before version f os e = ap (λ b. b && (is_summary f && is_one_variable (map operand_of os))) e
 
+no_summary : (a b x y z : Bool) → x ≡ false → y ≡ false → z ≡ false → (a && ((x || (y || z)) && b)) ≡ false
+no_summary true b x y z e f g = rw (e, f, g) refl
+no_summary false b x y z e f g = refl
+
 none_named : (version : ℕ) (w : tree.Term) (v : List ℕ) (span : Span) (os : List Operand) → version ≡ 3 → w.args ≡ Variable v span ∷ [] → TermKept version w → IsWord version v
     → TargetKept version (text.aggregate_or (aggregate_named w.function v span) w)
 unfolding aggregate_named
@@ -214,25 +218,21 @@ none_named version w v span os three args kept word = by (bytes_eq w.function (c
         other : bytes_eq w.function (codes "count") ≡ false → bytes_eq w.function (codes "min") ≡ false → bytes_eq w.function (codes "max") ≡ false → is_told version (term_kept w) ≡ false
         other e f g = no_summary (nat_eq version 3) (is_one_variable (map operand_of w.args)) _ _ _ e f g
 
-        no_summary : (a b x y z : Bool) → x ≡ false → y ≡ false → z ≡ false → (a && ((x || (y || z)) && b)) ≡ false
-        no_summary true b x y z e f g = rw (e, f, g) refl
-        no_summary false b x y z e f g = refl
-
 called_kept : (version : ℕ) (w : tree.Term) → TermKept version w → TargetKept version (text.called version w)
 called_kept version w kept = by (nat_eq version 3) refl w.args refl
   where
+    untold : (w : tree.Term) (args : List Operand) → w.args ≡ args → is_one_variable (map operand_of args) ≡ false → is_told version (term_kept w) ≡ false
+    untold w args is one = rw (is, one) (last_false (nat_eq version 3) (is_summary w.function))
+
+    first_word : {v : List ℕ} {span : Span} → w.args ≡ Variable v span ∷ [] → IsWord version v
+    first_word {v} {span} is = (subst (λ os. Every (IsOperand version) (map operand_of os)) is kept.1).0
+
     by : (b : Bool) → nat_eq version 3 ≡ b → (args : List Operand) → w.args ≡ args → TargetKept version (text.aggregate_or (if b then text.aggregate_of w.function args else None) w)
     by false e args is = (kept, untold_before version w.function w.args e)
     by true e [] is = (kept, untold w [] is refl)
     by true e (Variable v span ∷ []) is = none_named version w v span [] (eqb-true version 3 e) is kept (first_word is)
     by true e (Variable v span ∷ (o ∷ os)) is = (kept, untold w (Variable v span ∷ (o ∷ os)) is refl)
     by true e (Constant c span ∷ os) is = (kept, untold w (Constant c span ∷ os) is refl)
-
-    untold : (w : tree.Term) (args : List Operand) → w.args ≡ args → is_one_variable (map operand_of args) ≡ false → is_told version (term_kept w) ≡ false
-    untold w args is one = rw (is, one) (last_false (nat_eq version 3) (is_summary w.function))
-
-    first_word : {v : List ℕ} {span : Span} → w.args ≡ Variable v span ∷ [] → IsWord version v
-    first_word {v} {span} is = (subst (λ os. Every (IsOperand version) (map operand_of os)) is kept.1).0
 
 -- `sum` is none of the three
 sum_untold : (version : ℕ) (f : List ℕ) (args : List plain.Operand) → is_sum version f ≡ true → is_told version (record { function = f; args = args }) ≡ false

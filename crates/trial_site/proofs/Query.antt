@@ -18,7 +18,8 @@ use Rattle.struql_text.specs.Reading.{read_link, read_collect, read_call, read_c
 use Rattle.struql_text.specs.Reading.{read_second, read_call_end, read_pair_end, read_pair_or_call, read_name_call}
 use Rattle.struql_text.specs.Reading.{read_arc_step, read_path_step, read_step, read_path, read_relation}
 use Rattle.struql_text.specs.Reading.{read_behind, read_plain, read_negated, read_condition}
-use Rattle.struql_text.specs.Terminals.{keyword_of, test_of, text_test_of}
+use Rattle.struql_text.specs.Reading.{read_called_target, read_by_sum, read_applied_target, read_named_end}
+use Rattle.struql_text.specs.Terminals.{keyword_of, test_of, text_test_of, is_sum}
 use Rattle.struql_parse.proofs.Whole.{is_spelled}
 use Rattle.struql_check.specs.Faults.{IsFaultless, is_test, is_index}
 use Rattle.command_spec.specs.Limits.{text_limit}
@@ -49,7 +50,8 @@ query_or (Stuck rest) = record { version = 0; input = []; blocks = no_blocks; ou
 query_or (Past rest) = record { version = 0; input = []; blocks = no_blocks; output = [] }
 
 unfoldable query : Query
-unfolding tokens query_or iterate keyword_of test_of text_test_of read_clause read_optional read_braces read_body_of
+unfolding tokens query_or iterate keyword_of test_of text_test_of is_sum read_called_target read_by_sum
+    read_applied_target read_named_end read_clause read_optional read_braces read_body_of
     read_body read_block read_item read_top_braces read_item_step read_version read_head read_query read_leaf
     read_empty_close read_within read_paren read_star_step read_post read_dot_step read_seq read_bar_step
     read_alt read_atom read_next read_further read_listed read_nullary read_applied read_arguments
