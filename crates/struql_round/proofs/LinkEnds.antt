@@ -1,6 +1,6 @@
 -- The canonical texts of what links end at spell it: a term in place of which version 3 reads no aggregate, and aggregates.
 use Rattle.std.proofs.Common.{◌≡◌, ℕ, Bool, true, false, List, [], ◌∷◌, ◌++◌, Some, None, refl, sym, ap, subst, ◌∙◌, append_assoc, inl, inr}
-use Rattle.std.specs.Prelude.{map, codes, Option, nat_eq, ◌&&◌, ◌||◌, if◌then◌else◌}
+use Rattle.std.specs.Prelude.{map, codes, nat_eq, ◌&&◌, ◌||◌, if◌then◌else◌}
 use Rattle.std.proofs.lemmas.List.{append-nil}
 use Rattle.sd_lex.specs.declared.token.Token.{Token}
 use Rattle.sd_lex.specs.declared.token.Span.{Span}
@@ -18,7 +18,7 @@ use Rattle.struql_ast.specs.Reading.{operand_of, aggregate_of}
 use Rattle.struql_ast.specs.Written as tree
 use Rattle.struql_text.specs.declared.keyword.Keyword.TheVariants as words
 use Rattle.struql_text.specs.declared.keyword.Word.{Word}
-use Rattle.struql_text.specs.Terminals.{keyword_of, keyword_in, from_to, is_keyword, is_keyword_kind, aggregate_named, is_sum}
+use Rattle.struql_text.specs.Terminals.{keyword_of, from_to, is_keyword, is_keyword_kind, aggregate_named, is_sum}
 use Rattle.struql_text.specs.Grammar as text
 use Rattle.struql_text.proofs.TokenParts.{is_that}
 use Rattle.struql_print.specs.Texts.{aggregate_text}

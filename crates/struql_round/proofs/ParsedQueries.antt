@@ -192,8 +192,8 @@ query_spellable ts w real (f1, b1, n, cut1, head, (f2, b2, input_word, cut2, is2
     let real3 = back_real b2 f3 b3 cut3 real2 in
     let real4 = back_real b3 f4 b4 cut4 real3 in
     let real5 = back_real b4 f5 b5 cut5 real4 in
-    let input_kept = is_word version f3 input (front_real b2 f3 b3 cut3 real2) named3 in
-    let output_kept = is_word version f6 output (front_real b5 f6 b6 cut6 real5) named6 in
+    let input_kept = is_word n f3 input (front_real b2 f3 b3 cut3 real2) named3 in
+    let output_kept = is_word n f6 output (front_real b5 f6 b6 cut6 real5) named6 in
     let inside : GroupsKept n groups = steps_keep IsReal (Step n) (GroupsKept n) (step_keeps n) k blocks.no_groups f4 groups (front_real b3 f4 b4 cut4 real3) (tt, tt) more in
     subst SpellableKept (sym same) (record { version = head_version f1 n head; input = input_kept; blocks = grouped_kept n groups.closed groups.bare inside.0 inside.1; output = output_kept })
 

@@ -203,44 +203,47 @@ no_summary : (a b x y z : Bool) → x ≡ false → y ≡ false → z ≡ false 
 no_summary true b x y z e f g = rw (e, f, g) refl
 no_summary false b x y z e f g = refl
 
-none_named : (version : ℕ) (w : tree.Term) (v : List ℕ) (span : Span) → version ≡ 3 → TermKept version w → IsWord version v
+none_named : (version : ℕ) (w : tree.Term) (v : List ℕ) (span : Span) (os : List Operand) → version ≡ 3 → w.args ≡ Variable v span ∷ [] → TermKept version w → IsWord version v
     → TargetKept version (text.aggregate_or (aggregate_named w.function v span) w)
 unfolding aggregate_named
-none_named version w v span three kept word = by (bytes_eq w.function (codes "count")) (bytes_eq w.function (codes "min")) (bytes_eq w.function (codes "max")) refl refl refl
+none_named version w v span os three args kept word = by (bytes_eq w.function (codes "count")) (bytes_eq w.function (codes "min")) (bytes_eq w.function (codes "max")) refl refl refl
   where
     by : (x y z : Bool) → bytes_eq w.function (codes "count") ≡ x → bytes_eq w.function (codes "min") ≡ y → bytes_eq w.function (codes "max") ≡ z
         → TargetKept version (text.aggregate_or (if x then Some (Count v span) else (if y then Some (Min v span) else (if z then Some (Max v span) else None))) w)
     by true y z e f g = (three, word)
     by false true z e f g = (three, word)
     by false false true e f g = (three, word)
-    by false false false e f g = (kept, no_summary (nat_eq version 3) (is_one_variable (map operand_of w.args)) _ _ _ e f g)
-
-untold : (version : ℕ) (w : tree.Term) (args : List Operand) → w.args ≡ args → is_one_variable (map operand_of args) ≡ false → is_told version (term_kept w) ≡ false
-untold version w args is one = rw (is, one) (last_false (nat_eq version 3) (is_summary w.function))
-
-first_word : (version : ℕ) (w : tree.Term) (v : List ℕ) (span : Span) → TermKept version w → w.args ≡ Variable v span ∷ [] → IsWord version v
-first_word version w v span kept is = (subst (λ (os : List Operand). Every (IsOperand version) (map operand_of os)) is kept.1).0
+    by false false false e f g = (kept, other e f g)
+      where
+        other : bytes_eq w.function (codes "count") ≡ false → bytes_eq w.function (codes "min") ≡ false → bytes_eq w.function (codes "max") ≡ false → is_told version (term_kept w) ≡ false
+        other e f g = no_summary (nat_eq version 3) (is_one_variable (map operand_of w.args)) _ _ _ e f g
 
 called_kept : (version : ℕ) (w : tree.Term) → TermKept version w → TargetKept version (text.called version w)
 called_kept version w kept = by (nat_eq version 3) refl w.args refl
   where
+    untold : (w : tree.Term) (args : List Operand) → w.args ≡ args → is_one_variable (map operand_of args) ≡ false → is_told version (term_kept w) ≡ false
+    untold w args is one = rw (is, one) (last_false (nat_eq version 3) (is_summary w.function))
+
+    first_word : {v : List ℕ} {span : Span} → w.args ≡ Variable v span ∷ [] → IsWord version v
+    first_word {v} {span} is = (subst (λ os. Every (IsOperand version) (map operand_of os)) is kept.1).0
+
     by : (b : Bool) → nat_eq version 3 ≡ b → (args : List Operand) → w.args ≡ args → TargetKept version (text.aggregate_or (if b then text.aggregate_of w.function args else None) w)
     by false e args is = (kept, untold_before version w.function w.args e)
-    by true e [] is = (kept, untold version w [] is refl)
-    by true e (Variable v span ∷ []) is = none_named version w v span (eqb-true version 3 e) kept (first_word version w v span kept is)
-    by true e (Variable v span ∷ (o ∷ os)) is = (kept, untold version w (Variable v span ∷ (o ∷ os)) is refl)
-    by true e (Constant c span ∷ os) is = (kept, untold version w (Constant c span ∷ os) is refl)
-
-middle_false : (a b : Bool) → (a && (false && b)) ≡ false
-middle_false true b = refl
-middle_false false b = refl
+    by true e [] is = (kept, untold w [] is refl)
+    by true e (Variable v span ∷ []) is = none_named version w v span [] (eqb-true version 3 e) is kept (first_word is)
+    by true e (Variable v span ∷ (o ∷ os)) is = (kept, untold w (Variable v span ∷ (o ∷ os)) is refl)
+    by true e (Constant c span ∷ os) is = (kept, untold w (Constant c span ∷ os) is refl)
 
 -- `sum` is none of the three
 sum_untold : (version : ℕ) (f : List ℕ) (args : List plain.Operand) → is_sum version f ≡ true → is_told version (record { function = f; args = args }) ≡ false
 unfolding is_sum
 sum_untold version f args e =
     let is : f ≡ codes "sum" = (bytes_eq-Decides f (codes "sum")).0 (and_parts (nat_eq version 3) (bytes_eq f (codes "sum")) e).1 in
-    rw is (middle_false (nat_eq version 3) (is_one_variable args))
+    rw is (never (nat_eq version 3) (is_one_variable args))
+  where
+    never : (a b : Bool) → (a && (false && b)) ≡ false
+    never true b = refl
+    never false b = refl
 
 sum_version : (version : ℕ) (f : List ℕ) → is_sum version f ≡ true → version ≡ 3
 unfolding is_sum
