@@ -149,15 +149,15 @@ paper_of w (t, under, is) = is ∙ ap Page (by t.args refl)
 pub unlike_year : (s : Assignment) (k : Link) (t : SkolemTerm) → (codes "YearPage" ≡ t.function → ⊥) → k.source ≡ made t → IsTargetUnder s k.source (Page asked) → ⊥
 unlike_year s k t apart e h = apart (source_under s k t asked e h).function
 
+-- a link that ends at an aggregate; none of the query does
+abbrev Summed : Value → Chain → Link → Type 0
+Summed w c k = sites.IsSum graph c (Page asked) (codes "Paper") w k k.target
+
 its_paper_alone : (w : Value) → SiteEdge graph scope (Page asked) (codes "Paper") w → w ≡ Page its_paper
 its_paper_alone w (inr h) = absurd h
 its_paper_alone w (inl some) =
     joined_in some.item (IsOneOf-from_Contains scope.bodies some.item some.within) some.holds.item some.holds.within some.holds.holds
   where
-    -- no link of the query ends at an aggregate
-    abbrev Summed : Chain → Link → Type 0
-    Summed c k = sites.IsSum graph c (Page asked) (codes "Paper") w k k.target
-
     in_years : (k : Link) → IsOneOf scoped_years.links k → (r : List Value) → IsRow graph chain r → Joins (value_in chain.variables r) k (Page asked) (codes "Paper") w → w ≡ Page its_paper
     in_years k (inl e) r is joins = absurd (names_differ (codes "Paper") (codes "Year") refl (subst (λ (z : Link). Joins (value_in chain.variables r) z (Page asked) (codes "Paper") w) (sym e) joins).by)
     in_years k (inr (inl e)) r is joins =
@@ -181,21 +181,21 @@ its_paper_alone w (inl some) =
         (subst (λ (z : Block). Joins (value_in (chain_at z).variables r) k (Page asked) (codes "Paper") w) (sym e) joins)
     in_block b (inr (inr (inr none))) k among r is joins = absurd none
 
-    as_link : (c : Chain) (x k : Link) → x ≡ k → (Summed c x → ⊥) → Summed c k → ⊥
-    as_link c x k e none s = none (subst (Summed c) (sym e) s)
+    as_link : (c : Chain) (x k : Link) → x ≡ k → (Summed w c x → ⊥) → Summed w c k → ⊥
+    as_link c x k e none s = none (subst (Summed w c) (sym e) s)
 
-    no_sum_of_years : (c : Chain) (k : Link) → IsOneOf scoped_years.links k → Summed c k → ⊥
+    no_sum_of_years : (c : Chain) (k : Link) → IsOneOf scoped_years.links k → Summed w c k → ⊥
     no_sum_of_years c k (inl e) s = as_link c _ k e (λ f. f) s
     no_sum_of_years c k (inr (inl e)) s = as_link c _ k e (λ f. f) s
     no_sum_of_years c k (inr (inr (inl e))) s = as_link c _ k e (λ f. f) s
     no_sum_of_years c k (inr (inr (inr none))) s = none
 
-    no_sum_of_papers : (c : Chain) (k : Link) → IsOneOf papers.links k → Summed c k → ⊥
+    no_sum_of_papers : (c : Chain) (k : Link) → IsOneOf papers.links k → Summed w c k → ⊥
     no_sum_of_papers c k (inl e) s = as_link c _ k e (λ f. f) s
     no_sum_of_papers c k (inr (inl e)) s = as_link c _ k e (λ f. f) s
     no_sum_of_papers c k (inr (inr none)) s = none
 
-    no_sum : (b : Block) → IsOneOf scope.bodies b → (k : Link) → Contains b.links k → (c : Chain) → Summed c k → ⊥
+    no_sum : (b : Block) → IsOneOf scope.bodies b → (k : Link) → Contains b.links k → (c : Chain) → Summed w c k → ⊥
     no_sum b (inl e) k among c s = Contains-nil k (subst (λ (z : Block). Contains z.links k) (sym e) among)
     no_sum b (inr (inl e)) k among c s = no_sum_of_papers c k (IsOneOf-from_Contains papers.links k (subst (λ (z : Block). Contains z.links k) (sym e) among)) s
     no_sum b (inr (inr (inl e))) k among c s = no_sum_of_years c k (IsOneOf-from_Contains scoped_years.links k (subst (λ (z : Block). Contains z.links k) (sym e) among)) s
