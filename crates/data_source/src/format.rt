@@ -96,10 +96,7 @@ fn text_format(alloc: Global, front: &[u8]) -> Result<Format, NoMemory>
         None => None,
         Some(name) => Some(Str::new(alloc, name)?),
     };
-    Ok(Format::Text(
-        Str::new(alloc, behind_slashes(front))?,
-        folder,
-    ))
+    Ok(Format::Text(Str::new(alloc, behind_slashes(front))?, folder))
 }
 
 /// The format that a path's end reports: `.csv`, `.json`, `.bib`, a database's `.db`, `.sqlite` or

@@ -11,8 +11,8 @@ use sd_ddl::read_ddl;
 use sd_graph::GraphBuilder;
 use sd_value::Str;
 use sqlite_source::read_sqlite;
-use text_source::read_text;
 use std::alloc::Global;
+use text_source::read_text;
 
 /// Adds what the file of this path and of these bytes states, read by its format and the rules:
 /// CSV, JSON, BibTeX, a database of SQLite and a text by the end of the path, and else the data text, of at most `limit` bytes.
