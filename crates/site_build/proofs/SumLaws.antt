@@ -1,6 +1,6 @@
 -- What aggregates tell of the ends of links, page by page and label by label.
 use Rattle.std.proofs.Common.{◌≡◌, ◌≤◌, ◌-◌, ◌∙◌, List, [], length, inl, refl, sym, subst, arith}
-use Rattle.std.specs.Prelude.{Contains, Option, Some, None, Bool, true, IsTrue}
+use Rattle.std.specs.Prelude.{Contains, Option, Some, Bool, true, IsTrue}
 use Rattle.std.specs.Option.{MatchOption}
 use Rattle.std.proofs.Math.ListN.{get_or}
 use Rattle.std.specs.Ordering.{eq_by_cmp, is_eq}
@@ -10,15 +10,12 @@ use Rattle.sd_value.specs.Ascending.{ListsExactly}
 use Rattle.sd_value.specs.AscendingLaws.{listed_as}
 use Rattle.sd_value.specs.Order.{bytes_cmp, term_cmp, value_cmp}
 use Rattle.sd_value.specs.OrderLaws.{bytes_cmp-exact, term_cmp-exact}
-use Rattle.sd_value.specs.Names.{Name}
-use Rattle.sd_value.specs.declared.Term.{Term}
 use Rattle.sd_value.specs.declared.Value.{Value}
 use Rattle.query_spec.specs.declared.Variable.{Variable}
 use Rattle.query_spec.specs.Query.{Aggregate, Link, Target}
 use Rattle.query_spec.specs.Rows.{value_in}
-use Rattle.site_spec.specs.Site.{SomeOf, IsToldOf, ended, part_of, part_link}
+use Rattle.site_spec.specs.Site.{SomeOf, ended, part_of, part_link}
 use Rattle.site_spec.proofs.Sums.{first_of}
-use Rattle.aggregate_values.specs.Told.{TellsOf}
 use Rattle.aggregate_values.proofs.Telling.{told_same, tells_as, tells_list}
 use Rattle.site_build.specs.declared.ordered.Joined.{Joined}
 use Rattle.site_build.specs.Gains.{Gains}
