@@ -1,7 +1,8 @@
 -- What aggregates tell of the ends of links, page by page and label by label.
-use Rattle.std.proofs.Common.{◌≡◌, ◌∙◌, List, [], inl, refl, sym, subst}
-use Rattle.std.specs.Prelude.{Contains, Option, Some, None, Bool, true, IsTrue}
+use Rattle.std.proofs.Common.{◌≡◌, ◌≤◌, ◌-◌, ◌∙◌, List, [], length, inl, refl, sym, subst, arith}
+use Rattle.std.specs.Prelude.{Contains, Option, Some, Bool, true, IsTrue}
 use Rattle.std.specs.Option.{MatchOption}
+use Rattle.std.proofs.Math.ListN.{get_or}
 use Rattle.std.specs.Ordering.{eq_by_cmp, is_eq}
 use Rattle.std.specs.declared.cmp.Ordering.{Ordering}
 use Rattle.std.specs.declared.cmp.Ordering.TheVariants.{Less, Equal, Greater}
@@ -9,22 +10,20 @@ use Rattle.sd_value.specs.Ascending.{ListsExactly}
 use Rattle.sd_value.specs.AscendingLaws.{listed_as}
 use Rattle.sd_value.specs.Order.{bytes_cmp, term_cmp, value_cmp}
 use Rattle.sd_value.specs.OrderLaws.{bytes_cmp-exact, term_cmp-exact}
-use Rattle.sd_value.specs.Names.{Name}
-use Rattle.sd_value.specs.declared.Term.{Term}
 use Rattle.sd_value.specs.declared.Value.{Value}
 use Rattle.query_spec.specs.declared.Variable.{Variable}
-use Rattle.query_spec.specs.Query.{Aggregate, Link, Target, plain, made, summed}
+use Rattle.query_spec.specs.Query.{Aggregate, Link, Target}
 use Rattle.query_spec.specs.Rows.{value_in}
-use Rattle.site_spec.specs.Site.{SomeOf, IsToldOf, part_link}
+use Rattle.site_spec.specs.Site.{SomeOf, ended, part_of, part_link}
 use Rattle.site_spec.proofs.Sums.{first_of}
-use Rattle.aggregate_values.specs.Told.{TellsOf}
 use Rattle.aggregate_values.proofs.Telling.{told_same, tells_as, tells_list}
 use Rattle.site_build.specs.declared.ordered.Joined.{Joined}
 use Rattle.site_build.specs.Gains.{Gains}
-use Rattle.site_build.specs.Materialised.{IsJoin, ToldOf, SumsUnder, IsSumUnder}
+use Rattle.site_build.specs.Materialised.{IsJoin, ToldOf, SumsUnder}
 use Rattle.site_build.specs.Ordered.{joined_cmp}
 use Rattle.site_build.specs.Sums.{StartAlike, ToldHere, IsToldAt}
-use Rattle.site_build.proofs.Growing.{gains_none, gains_as, gains_one, gained_to}
+use Rattle.site_build.proofs.Growing.{gains_as, gains_one, gained_to}
+use Rattle.site_lookups.proofs.Some.{item_in}
 
 tie : (o : Ordering) → is_eq o ≡ true → o ≡ Equal
 tie Less e = cc
@@ -99,17 +98,22 @@ all_told a parts old new g = gains_as (λ j. SomeOf (λ p. ToldHere a parts p j)
     record { item = end_at j one.0; within = h.1.sound one.0 one.1; holds = record { alike = record { from = refl; label = refl }; told = h } })
 
 -- of the links of the rows
-pub sums_gained : (a : Aggregate) (k : Link) (vs : List Variable) (rows : List (List Value)) (keys parts : List Joined) (old new : List Joined) → Gains (λ j. SomeOf (λ row. IsJoin (part_link a k) (value_in vs row) j) rows) [] keys
-    → ListsExactly joined_cmp (Contains keys) parts → Gains (ToldOf a parts) old new → Gains (SumsUnder vs rows k a) old new
-sums_gained a k vs rows keys parts old new g exact told =
+pub sums_gained : (a : Aggregate) (k : Link) (t : Target) (vs : List Variable) (rows : List (List Value)) (start keys parts slice : List Joined) (old new : List Joined) → t ≡ part_of a → start ≡ []
+    → Gains (λ j. SomeOf (λ row. IsJoin (ended k t) (value_in vs row) j) rows) start keys
+    → ListsExactly joined_cmp (Contains keys) parts → slice ≡ parts → Gains (ToldOf a slice) old new → Gains (SumsUnder vs rows k a) old new
+sums_gained a k t vs rows start keys parts slice old new part none g exact same told =
     let to : (j : Joined) → Contains parts j → SomeOf (λ row. IsJoin (part_link a k) (value_in vs row) j) rows = λ j c. gained_all j (exact.sound j c) in
-    let from : (j : Joined) → SomeOf (λ row. IsJoin (part_link a k) (value_in vs row) j) rows → Contains parts j = λ j s. exact.complete j (g.gained j s) in
-    gains_as (ToldOf a parts) (SumsUnder vs rows k a) old new told
+    let from : (j : Joined) → SomeOf (λ row. IsJoin (part_link a k) (value_in vs row) j) rows → Contains parts j = λ j s. exact.complete j (of_part.gained j s) in
+    gains_as (ToldOf a parts) (SumsUnder vs rows k a) old new (subst (λ (ps : List Joined). Gains (ToldOf a ps) old new) same told)
     (λ j h. tells_as a (λ v. Contains parts (end_at j v)) (λ v. SomeOf (λ row. IsJoin (part_link a k) (value_in vs row) (end_at j v)) rows) j.to (λ v c. to (end_at j v) c) (λ v s. from (end_at j v) s) h)
     (λ j h. tells_as a (λ v. SomeOf (λ row. IsJoin (part_link a k) (value_in vs row) (end_at j v)) rows) (λ v. Contains parts (end_at j v)) j.to (λ v s. from (end_at j v) s) (λ v c. to (end_at j v) c) h)
   where
-    gained_all : (j : Joined) → Contains keys j → SomeOf (λ row. IsJoin (part_link a k) (value_in vs row) j) rows
-    gained_all j c = gained_to (λ j. SomeOf (λ row. IsJoin (part_link a k) (value_in vs row) j) rows) [] keys refl g j c
+    of_part : Gains (λ j. SomeOf (λ row. IsJoin (part_link a k) (value_in vs row) j) rows) start keys
+    of_part = subst (λ (u : Target). Gains (λ j. SomeOf (λ row. IsJoin (ended k u) (value_in vs row) j) rows) start keys) part g
 
-pub no_sum_plain : (vs : List Variable) (rows : List (List Value)) (k : Link) (t : Target) (old : List Joined) → ((j : Joined) → IsSumUnder vs rows k t j → ⊥) → Gains (IsSumUnder vs rows k t) old old
-no_sum_plain vs rows k t old none = gains_none (IsSumUnder vs rows k t) old none
+    gained_all : (j : Joined) → Contains keys j → SomeOf (λ row. IsJoin (part_link a k) (value_in vs row) j) rows
+    gained_all j c = gained_to (λ j. SomeOf (λ row. IsJoin (part_link a k) (value_in vs row) j) rows) start keys none of_part j c
+
+-- the last of a list is in it
+pub last_in : {X : Type 0} (xs : List X) (x : X) → 1 ≤ length xs → x ≡ get_or xs (length xs - 1) x → Contains xs x
+last_in xs x le is = item_in xs (length xs - 1) x (omega (arith, le)) is

@@ -1,8 +1,7 @@
-use Rattle.std.proofs.Common.{List, subst, take}
+use Rattle.std.proofs.Common.{take}
 use Rattle.struql_ast.specs.Reading.{aggregate_of}
-use Rattle.site_spec.specs.Site.{SomeOf}
 use Rattle.site_build.specs.declared.ordered.Joined.{Joined}
-use Rattle.site_build.specs.Sums.{StartAlike, ToldHere}
+use Rattle.site_build.specs.Sums.{ToldHere}
 use Rattle.site_build.proofs.Growing.{gains_nil, gains_next, gains_end}
 use Rattle.site_build.proofs.SumLaws.{here_gained, here_again, all_told}
 use Rattle.site_build.proofs.sums.add_told.Goals as goal
