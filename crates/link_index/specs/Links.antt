@@ -2,7 +2,7 @@
 use Rattle.std.specs.Prelude.{ℕ, List, [], ◌∷◌}
 use Rattle.std.specs.List.{flat_map}
 use Rattle.sd_value.specs.Names.{Name, Label}
-use Rattle.query_spec.specs.Query.{Target, plain, made, LinkLabel, quoted, label_variable}
+use Rattle.query_spec.specs.Query.{Target, plain, made, summed, LinkLabel, quoted, label_variable}
 use Rattle.site_spec.specs.Site.{Scope}
 use Rattle.constraint_spec.specs.Placed.{PlacedLink, links_of}
 use Rattle.constraint_spec.specs.Certificate.{IsOf, MayBe}
@@ -12,6 +12,7 @@ abbrev pub quoted_by : Target → LinkLabel → List (Name × Label)
 quoted_by (made t) (quoted l) = (t.function, l) ∷ []
 quoted_by (made t) (label_variable a) = []
 quoted_by (plain o) label = []
+quoted_by (summed a) label = []
 
 abbrev pub quoted_of : PlacedLink → List (Name × Label)
 quoted_of k = quoted_by k.link.source k.link.label
@@ -21,6 +22,7 @@ abbrev pub arc_by : PlacedLink → Target → LinkLabel → List (Name × Placed
 arc_by k (made t) (label_variable a) = (t.function, k) ∷ []
 arc_by k (made t) (quoted l) = []
 arc_by k (plain o) label = []
+arc_by k (summed a) label = []
 
 abbrev pub arc_of : PlacedLink → List (Name × PlacedLink)
 arc_of k = arc_by k k.link.source k.link.label
