@@ -5,7 +5,7 @@ use Rattle.std.proofs.lemmas.List.{take_more, take_all}
 use Rattle.std.proofs.lemmas.List.Elements.{Contains-push_cases, Contains-push, Contains-append_left}
 use Rattle.sd_value.specs.Names.{Name, Label}
 use Rattle.sd_value.specs.Members.{Contains-nil, Contains-here, Contains-cons_cases, Contains-map, Contains-mapped, Contains-flat_map, Contains-flat_mapped}
-use Rattle.query_spec.specs.Query.{Target, plain, made, LinkLabel, quoted, label_variable}
+use Rattle.query_spec.specs.Query.{Target, plain, made, summed, LinkLabel, quoted, label_variable}
 use Rattle.site_spec.specs.Site.{Scope, SomeOf}
 use Rattle.constraint_spec.specs.Placed.{PlacedLink, links_of}
 use Rattle.constraint_spec.specs.Certificate.{IsOf, MayBe}
@@ -28,6 +28,7 @@ quoted_back (made t) (quoted m) f l h =
 quoted_back (made t) (label_variable a) f l h = absurd (Contains-nil _ h)
 quoted_back (plain o) (quoted m) f l h = absurd (Contains-nil _ h)
 quoted_back (plain o) (label_variable a) f l h = absurd (Contains-nil _ h)
+quoted_back (summed s) label f l h = absurd (Contains-nil _ h)
 
 arc_back : (j : PlacedLink) (t : Target) (label : LinkLabel) (f : Name) (k : PlacedLink) → Contains (arc_by j t label) (f, k) → j ≡ k
 arc_back j (made t) (label_variable a) f k h =
@@ -36,6 +37,7 @@ arc_back j (made t) (label_variable a) f k h =
 arc_back j (made t) (quoted m) f k h = absurd (Contains-nil _ h)
 arc_back j (plain o) (quoted m) f k h = absurd (Contains-nil _ h)
 arc_back j (plain o) (label_variable a) f k h = absurd (Contains-nil _ h)
+arc_back j (summed s) label f k h = absurd (Contains-nil _ h)
 
 -- a link that may carry the label is one of them
 one_of_both : (version : ℕ) (k : PlacedLink) (t : Target) (label : LinkLabel) (f : Name) (l : Label) → IsOf f t → MayBe version l k.conditions label → Contains (quoted_by t label) (f, l) ⊎ Contains (arc_by k t label) (f, k)
@@ -52,6 +54,7 @@ one_of_both version k (made t) (label_variable a) f l of may =
     let e : (t.function, k) ≡ (f, k) = λ i. (fn i, k) in
     inr (subst (Contains ((t.function, k) ∷ [])) e (Contains-here (t.function, k) []))
 one_of_both version k (plain o) label f l of may = let is = of.1 in absurd cc
+one_of_both version k (summed s) label f l of may = let is = of.1 in absurd cc
 
 module _ (q : Scope) where
   carried : (f : Name) (l : Label) (k : PlacedLink) → NoLinkOf q f l → Contains (links_of q) k → Carries q.version f l k → ⊥
