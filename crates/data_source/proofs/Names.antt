@@ -59,9 +59,9 @@ name_start path = by (list_any is_slash path) refl
 -- a name is no longer than its path
 pub name_length : (path : List ℕ) → length (behind_slashes path) ≤ length path
 name_length [] = omega arith
-name_length (b ∷ bs) = by (list_any is_slash bs) (is_slash b)
+name_length (b ∷ bs) = by (list_any is_slash bs) (is_slash b) (name_length bs)
   where
-    by : (p q : Bool) → length (if p then behind_slashes bs else if q then bs else b ∷ bs) ≤ length (b ∷ bs)
-    by true q = omega (arith, name_length bs)
-    by false true = omega arith
-    by false false = omega arith
+    by : (p q : Bool) → length (behind_slashes bs) ≤ length bs → length (if p then behind_slashes bs else if q then bs else b ∷ bs) ≤ length (b ∷ bs)
+    by true q shorter = omega (arith, shorter)
+    by false true shorter = omega arith
+    by false false shorter = omega arith
