@@ -1,5 +1,5 @@
 -- The bytes of the inputs decide one end of each of them.
-use Rattle.std.proofs.Common.{◌≡◌, ℕ, List, [], ◌∷◌, refl, sym, ap, ◌∙◌, arith}
+use Rattle.std.proofs.Common.{◌≡◌, ℕ, List, [], ◌∷◌, sym, ap, ◌∙◌, arith}
 use Rattle.std.specs.Prelude.{Result, Ok, Err, Option, Some, None, ⊤}
 use Rattle.std.specs.Option.{IsSomeAnd}
 use Rattle.edge_io.specs.Files.{FileMap}
@@ -30,7 +30,6 @@ use Rattle.data_source.specs.declared.numbered.NumberedFault.{NumberedFault}
 use Rattle.site_inputs.specs.Runs.{FileEnds, IsDecided, Decides}
 use Rattle.command_spec.specs.Limits.{data_limit}
 use Rattle.command_spec.specs.declared.DataFiles.{DataFiles}
-use Rattle.site_inputs.specs.Stems.{StemsEnd}
 use Rattle.site_inputs.specs.Sources.{empty_building, IsRefusedFor, TextTaken, SourceEnds, FilesEnd, GraphEnds}
 use Rattle.command_spec.specs.Limits.{text_limit}
 use Rattle.site_inputs.specs.Sites.{query_told, QueryTaken, QueryEnds, DataInputsEnd, TemplatesTaken, TemplatesEnd, InputsEnd, templates_told}
@@ -136,26 +135,8 @@ files_decide rules map b (path ∷ paths) =
     (then_decides (FileEnds data_limit map path) (TextTaken rules path b) (file_decides data_limit map path) (λ bytes. record { once = text_once rules path b bytes }))
     (λ c. files_decide rules map c paths)
 
-stems_once : (rules : SourceRules) (paths : List (List ℕ)) (one other : Result ⊤ Fault) → StemsEnd rules paths one → StemsEnd rules paths other → IsDecided one → IsDecided other → one ≡ other
-stems_once rules paths (Ok u) (Ok v) s t _ _ = refl
-stems_once rules paths (Ok u) (Err (Refused g)) s (path, found, is) _ _ = absurd (let e = sym s ∙ found in cc)
-stems_once rules paths (Err (Refused f)) (Ok v) (path, found, is) t _ _ = absurd (let e = sym t ∙ found in cc)
-stems_once rules paths (Err (Refused f)) (Err (Refused g)) (path, found, is) (path2, found2, is2) _ _ =
-    let same : path ≡ path2 = cc in
-    ap (λ r. Err (Refused r)) (is ∙ ap (λ (p : List ℕ). record { file = p; number = 164; place = At 0 }) same ∙ sym is2)
-stems_once rules paths (Err (Unread p)) other s t d e = absurd d
-stems_once rules paths (Err NoMemory) other s t d e = absurd d
-stems_once rules paths (Err NotFound) other s t d e = absurd s
-stems_once rules paths (Err (Faulty term kind)) other s t d e = absurd s
-stems_once rules paths one (Err (Unread p)) s t d e = absurd e
-stems_once rules paths one (Err NoMemory) s t d e = absurd e
-stems_once rules paths one (Err NotFound) s t d e = absurd t
-stems_once rules paths one (Err (Faulty term kind)) s t d e = absurd t
-
 pub graph_decides : (map : FileMap) (b : Building) (sources : DataFiles) → Decides (GraphEnds map b sources)
-graph_decides map b sources =
-    then_decides (StemsEnd (rules_of sources.lenient) sources.paths) (λ u. FilesEnd (rules_of sources.lenient) map b sources.paths)
-    (record { once = stems_once (rules_of sources.lenient) sources.paths }) (λ u. files_decide (rules_of sources.lenient) map b sources.paths)
+graph_decides map b sources = files_decide (rules_of sources.lenient) map b sources.paths
 
 -- ---- queries
 

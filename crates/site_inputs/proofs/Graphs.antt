@@ -32,16 +32,15 @@ graph_fault rules map b sources i path fault within is source =
     rw split (inl source)
 
 -- where all files are taken, it may be out of memory behind them
-pub files_no_memory : (rules : SourceRules) (map : FileMap) (b : Building) (paths : List (List ℕ)) (G : DataGraph) → FilesEnd rules map b paths (Ok G) → FilesEnd rules map b paths (Err NoMemory)
-files_no_memory rules map b [] G h = inr refl
-files_no_memory rules map b (path ∷ paths) G h =
-    inr (record { value = h.value; first = h.first; next = files_no_memory rules map h.value paths G h.next })
-
--- the same of the data files of a command
-pub graph_no_memory : (map : FileMap) (b : Building) (sources : DataFiles) (G : DataGraph) → GraphEnds map b sources (Ok G) → GraphEnds map b sources (Err NoMemory)
-graph_no_memory map b sources G h =
-    inr (record { value = h.value; first = h.first; next = files_no_memory (rules_of sources.lenient) map b sources.paths G h.next })
+pub graph_no_memory : (rules : SourceRules) (map : FileMap) (b : Building) (paths : List (List ℕ)) (G : DataGraph) → FilesEnd rules map b paths (Ok G) → FilesEnd rules map b paths (Err NoMemory)
+graph_no_memory rules map b [] G h = inr refl
+graph_no_memory rules map b (path ∷ paths) G h =
+    inr (record { value = h.value; first = h.first; next = graph_no_memory rules map h.value paths G h.next })
 
 -- it may be out of memory before any file is read
+none_read : (rules : SourceRules) (map : FileMap) (b : Building) (paths : List (List ℕ)) → FilesEnd rules map b paths (Err NoMemory)
+none_read rules map b [] = inr refl
+none_read rules map b (path ∷ paths) = inl (inl tt)
+
 pub no_memory_first : (map : FileMap) (b : Building) (sources : DataFiles) → GraphEnds map b sources (Err NoMemory)
-no_memory_first map b sources = inl tt
+no_memory_first map b sources = none_read (rules_of sources.lenient) map b sources.paths

@@ -8,6 +8,5 @@ pub mod DecidedInputs
 pub mod Endings
 pub mod SiteData
 pub mod ReadLemmas
-pub mod StemLemmas
 pub mod SiteReads
 pub mod WrittenQueries

@@ -1,5 +1,4 @@
 pub mod Runs
-pub mod Stems
 pub mod Sources
 pub mod Sites
 pub mod Values

@@ -13,7 +13,6 @@ use Rattle.site_inputs.specs.declared.fault.Fault.{Fault}
 use Rattle.site_inputs.specs.declared.fault.Fault.TheVariants.{Refused, NoMemory}
 use Rattle.site_inputs.specs.declared.fault.Refusal.{Refusal}
 use Rattle.site_inputs.specs.Runs.{Then, EndsWith, FileEnds}
-use Rattle.site_inputs.specs.Stems.{StemsEnd}
 
 -- a graph in which nothing is stated, with the program's limits
 abbrev pub empty_building : Building
@@ -47,11 +46,9 @@ module _ (rules : SourceRules) where
   FilesEnd map b [] = EndsWith b.graph
   FilesEnd map b (path ∷ paths) = Then (SourceEnds map path b) (λ c. FilesEnd map c paths)
 
--- How the data files of a command end: their stems are looked at, and then each is read as the command says.
+-- How the data files of a command end: each is read as the command says.
 abbrev pub GraphEnds : FileMap → Building → DataFiles → Result DataGraph Fault → Type 0
-GraphEnds map b files =
-    Then (StemsEnd (rules_of files.lenient) files.paths)
-    (λ u. FilesEnd (rules_of files.lenient) map b files.paths)
+GraphEnds map b files = FilesEnd (rules_of files.lenient) map b files.paths
 
 -- the building that a file leaves, with how it ended
 abbrev pub with_building : Building → Result ⊤ Fault → Result Building Fault

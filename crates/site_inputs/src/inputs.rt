@@ -7,7 +7,6 @@ ghost use Rattle.site_inputs.specs.Sources.{TextTaken, SourceEnds, FilesEnd, Gra
 ghost use Rattle.site_inputs.specs.Sources.{graph_result, with_building};
 
 use crate::fault::{Fault, refused, unread};
-use crate::stems::check_stems;
 use command_spec::{DATA_LIMIT, DataFiles};
 use data_source::{SourceRefusal, SourceRules, read_source};
 use edge_io::{Files, ReadEnd};
@@ -110,7 +109,7 @@ fn gather_files<F: Files>(
 
 /// What the data files state together, gathered.
 /// # Errors
-/// The first text file whose stem an earlier one has; else the first file in their order that is refused or unread, or out of memory.
+/// The first file in their order that is refused or unread, or out of memory.
 pub(crate) fn gather<F: Files>(
     alloc: Global,
     files: &mut F,
@@ -127,14 +126,12 @@ pub(crate) fn gather<F: Files>(
     ensures writes { F.failed_writes files.new ≡ F.failed_writes files.old }
 {
     let rules = SourceRules::of(sources.lenient);
-    check_stems(alloc, rules, sources.paths.items())?;
-    let gathered = gather_files(alloc, files, rules, sources.paths.items())?;
-    Ok(gathered)
+    gather_files(alloc, files, rules, sources.paths.items())
 }
 
 /// The union of what the data files state.
 /// # Errors
-/// The first text file whose stem an earlier one has; else the first file in their order that is refused or unread, or out of memory.
+/// The first file in their order that is refused or unread, or out of memory.
 pub fn load_graph<F: Files>(
     alloc: Global,
     files: &mut F,

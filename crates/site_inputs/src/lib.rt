@@ -6,7 +6,6 @@ mod data;
 mod fault;
 mod inputs;
 mod site;
-mod stems;
 mod told;
 
 pub use data::{DataInputs, load_data};

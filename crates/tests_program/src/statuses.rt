@@ -85,10 +85,6 @@ const FILES: &[FileRow] = &[
         text: "---\nn: 7\n---\nx",
     },
     FileRow {
-        path: "q/x.html",
-        text: "x",
-    },
-    FileRow {
         path: "q/y.html",
         text: "---\ny\n---\n",
     },
@@ -217,19 +213,12 @@ const RUNS: &[Run] = &[
         err: "strudel: cut.bib: 121 Expected at 7\n",
         ..PLAIN
     },
-    // A text is data, and no two have one name.
+    // A text is data.
     Run {
         words: &["data", "a", "p/x.md"],
         code: 0,
         out: A_TEXT,
         err: "",
-        ..PLAIN
-    },
-    Run {
-        words: &["data", "q/y.html", "p/x.md", "q/x.html"],
-        code: 3,
-        out: "",
-        err: "strudel: q/x.html: 164 Twice at 0\n",
         ..PLAIN
     },
     Run {
