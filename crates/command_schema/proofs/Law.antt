@@ -30,7 +30,7 @@ one_text : (dot : Bool) (query : plain.Query) (text other : List ℕ) → IsSche
 one_text false query text other (fs, h, is) (gs, k, is2) =
     is ∙ ap (λ (xs : List SchemaFunction). codes "other\n" ++ flat_map (function_lines (schema_edges query)) xs) (same_functions query fs gs h k) ∙ sym is2
 one_text true query text other (fs, h, is) (gs, k, is2) =
-    is ∙ ap (λ (xs : List SchemaFunction). codes "digraph site {\n  \"other\"\n" ++ (flat_map (function_statements (schema_edges query)) xs ++ codes "}\n")) (same_functions query fs gs h k) ∙ sym is2
+    is ∙ ap (λ (xs : List SchemaFunction). codes "digraph site {\n  \"other\"\n" ++ (flat_map (function_statements query.version (schema_edges query)) xs ++ codes "}\n")) (same_functions query fs gs h k) ∙ sym is2
 
 module _ (dot : Bool) (query : plain.Query) where
   schema_once : (one other : Result (List ℕ) Fault) → SchemaTaken dot query one → SchemaTaken dot query other → IsDecided one → IsDecided other → one ≡ other
